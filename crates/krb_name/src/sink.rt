@@ -1,0 +1,107 @@
+//! What bytes are written to.
+
+ghost use Rattle.std.specs.Prelude.{◌≡◌, ◌+◌, ◌-◌, ◌^◌, ◌<◌, ◌≤◌, ℕ, List, Option, Some, None, IfOk, is_ok, length, if◌then◌else◌};
+ghost use Rattle.std.specs.Io.{WritesAtMost};
+ghost use Rattle.std.specs.Io.KnownBytes.{WriteAppends};
+
+use std::io::Write;
+use thiserror::Error;
+
+/// A write failed; the sink's count of failures has grown by one.
+#[derive(Clone, Copy, Debug, PartialEq, Eq, Error)]
+#[error("the sink could not be written")]
+pub struct SinkFailed;
+
+/// What bytes are written to, piece by piece. It counts the writes that failed.
+pub trait Sink {
+    /// The bytes that it took, where the sink tells them.
+    ghost taken: { Self → Option (List ℕ) } = { λ _. None };
+
+    /// How many writes have failed.
+    ghost failure_count: { Self → ℕ };
+
+    /// Answers how many writes have failed.
+    fn failures(&self) -> u64
+        ensures { result ≡ failure_count self.now };
+
+    /// Takes the front of `bytes` and answers how many bytes it took: at most all of them, and at
+    /// least one where there is one. The count of failures grows by one with each `Err`, at which
+    /// no byte was taken, and not otherwise.
+    fn write(&mut self, bytes: &[u8]) -> Result<usize, SinkFailed>
+        requires { failure_count self.old < 2 ^ 64 - 1 }
+        ensures bound { WritesAtMost result bytes.now }
+        ensures some { IfOk result (λ count. 0 < length bytes.now → 0 < count) }
+        ensures bytes { WriteAppends (taken self.old) (taken self.new) result bytes.now }
+        ensures failed { failure_count self.new
+            ≡ failure_count self.old + (if is_ok result then 0 else 1) };
+}
+
+impl<S: Sink> Sink for &mut S {
+    ghost taken = { λ sink. S.taken sink.now };
+
+    ghost failure_count = { λ sink. S.failure_count sink.now };
+
+    fn failures(&self) -> u64 {
+        Sink::failures(&**self)
+    }
+
+    fn write(&mut self, bytes: &[u8]) -> Result<usize, SinkFailed> {
+        Sink::write(&mut **self, bytes)
+    }
+}
+
+/// Makes a sink of any writer. Every error of the writer counts as a failed write, and so does an
+/// `Ok(0)` where there was a byte to write.
+#[derive(Drop)]
+pub struct WriteSink<W> {
+    writer: W,
+    failures: u64,
+}
+
+impl<W: Write> WriteSink<W> {
+    ghost use Rattle.krb_name.specs.Flow.{sink_writer, sink_failures};
+
+    /// Writes to `writer`; no write has failed yet.
+    pub fn new(writer: W) -> Self
+        ensures writer { sink_writer result ≡ writer }
+        ensures failures { sink_failures result ≡ 0 }
+    {
+        WriteSink {
+            writer,
+            failures: 0,
+        }
+    }
+
+    /// Gives the writer back.
+    pub fn into_inner(self) -> W
+        ensures { result ≡ sink_writer self }
+    {
+        let WriteSink {
+            writer,
+            failures: _,
+        } = self;
+        writer
+    }
+}
+
+impl<W: Write> Sink for WriteSink<W> {
+    ghost use Rattle.krb_name.specs.Flow.{sink_writer, sink_failures};
+
+    ghost taken = { λ sink. W.contents (sink_writer sink) };
+
+    ghost failure_count = { sink_failures };
+
+    fn failures(&self) -> u64 {
+        self.failures
+    }
+
+    fn write(&mut self, bytes: &[u8]) -> Result<usize, SinkFailed> {
+        match self.writer.write(bytes) {
+            Ok(count) if count > 0 || bytes.is_empty() => Ok(count),
+            _ => {
+                self.failures += 1;
+                Err(SinkFailed)
+            }
+        }
+    }
+}

@@ -1,0 +1,94 @@
+//! What bytes are read from.
+
+ghost use Rattle.std.specs.Prelude.{◌≡◌, ◌+◌, ◌-◌, ◌^◌, ◌<◌, ℕ, List, Option, Some, None, is_ok, if◌then◌else◌};
+ghost use Rattle.std.specs.Io.{ReadsAtMost};
+ghost use Rattle.std.specs.Io.KnownBytes.{ReadConsumes};
+
+use std::io::Read;
+use thiserror::Error;
+
+/// A read failed; the source's count of failures has grown by one.
+#[derive(Clone, Copy, Debug, PartialEq, Eq, Error)]
+#[error("the source could not be read")]
+pub struct SourceFailed;
+
+/// What bytes are read from, piece by piece. It counts the reads that failed.
+pub trait Source {
+    /// The bytes that are still to come, where the source tells them.
+    ghost remaining: { Self → Option (List ℕ) } = { λ _. None };
+
+    /// How many reads have failed.
+    ghost failure_count: { Self → ℕ };
+
+    /// Answers how many reads have failed.
+    fn failures(&self) -> u64
+        ensures { result ≡ failure_count self.now };
+
+    /// Reads into the front of `buffer` and answers how many bytes came: at most as many as the
+    /// buffer has room for. Where it has room, `Ok(0)` is the end of the bytes. The count of
+    /// failures grows by one with each `Err`, at which no byte is lost, and not otherwise.
+    fn read(&mut self, buffer: &mut [u8]) -> Result<usize, SourceFailed>
+        requires { failure_count self.old < 2 ^ 64 - 1 }
+        ensures bound { ReadsAtMost result buffer.new }
+        ensures bytes { ReadConsumes (remaining self.old) (remaining self.new) result buffer.new }
+        ensures failed { failure_count self.new
+            ≡ failure_count self.old + (if is_ok result then 0 else 1) };
+}
+
+impl<S: Source> Source for &mut S {
+    ghost remaining = { λ source. S.remaining source.now };
+
+    ghost failure_count = { λ source. S.failure_count source.now };
+
+    fn failures(&self) -> u64 {
+        Source::failures(&**self)
+    }
+
+    fn read(&mut self, buffer: &mut [u8]) -> Result<usize, SourceFailed> {
+        Source::read(&mut **self, buffer)
+    }
+}
+
+/// Makes a source of any reader. Every error of the reader counts as a failed read.
+#[derive(Drop)]
+pub struct ReadSource<R> {
+    reader: R,
+    failures: u64,
+}
+
+impl<R: Read> ReadSource<R> {
+    ghost use Rattle.krb_name.specs.Flow.{source_reader, source_failures};
+
+    /// Reads from `reader`; no read has failed yet.
+    pub fn new(reader: R) -> Self
+        ensures reader { source_reader result ≡ reader }
+        ensures failures { source_failures result ≡ 0 }
+    {
+        ReadSource {
+            reader,
+            failures: 0,
+        }
+    }
+}
+
+impl<R: Read> Source for ReadSource<R> {
+    ghost use Rattle.krb_name.specs.Flow.{source_reader, source_failures};
+
+    ghost remaining = { λ source. R.remaining (source_reader source) };
+
+    ghost failure_count = { source_failures };
+
+    fn failures(&self) -> u64 {
+        self.failures
+    }
+
+    fn read(&mut self, buffer: &mut [u8]) -> Result<usize, SourceFailed> {
+        match self.reader.read(buffer) {
+            Ok(count) => Ok(count),
+            Err(_) => {
+                self.failures += 1;
+                Err(SourceFailed)
+            }
+        }
+    }
+}
