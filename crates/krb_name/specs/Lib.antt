@@ -1,2 +1,5 @@
 pub mod Name
 pub mod Flow
+pub mod Cursor
+pub mod Text
+pub mod Inner

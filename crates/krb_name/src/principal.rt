@@ -1,10 +1,11 @@
 //! A principal's name.
 
-ghost use Rattle.std.specs.Prelude.{◌≡◌, ◌↔◌, IsTrue, IfOk};
+ghost use Rattle.std.specs.Prelude.{◌≡◌, ◌↔◌, IsTrue, IfOk, string_bytes};
 
 use crate::bytes::Bytes;
 use crate::components::Components;
-use std::alloc::AllocError;
+use crate::text::{write_components, write_escaped};
+use std::alloc::{AllocError, Global};
 
 /// A principal: a realm, and a name of a type and some components (RFC 4120, sections 5.2.2 and 6).
 ///
@@ -21,6 +22,7 @@ pub struct Principal {
 
 impl Principal {
     ghost use Rattle.krb_name.specs.Name.{SameName};
+    ghost use Rattle.krb_name.specs.Text.{text_of};
 
     /// Answers whether `self` and `other` name the same principal: the realms and the components are
     /// equal, byte for byte. Name types aren't compared (RFC 4120, section 6.2).
@@ -28,6 +30,22 @@ impl Principal {
         ensures { IsTrue result ↔ SameName self.now other.now }
     {
         self.realm == other.realm && self.components == other.components
+    }
+
+    /// Writes the name as text: the components with a `/` between each two, then `@` and the realm.
+    ///
+    /// In components and realm a `/`, `@` or `\` is written with a backslash before it, and a byte
+    /// outside 0x21 to 0x7e as `\x` and two hexadecimal digits in lower case. A name without
+    /// components is written like one with a single empty component. The form is the one of RFC
+    /// 1964, section 2.1.1, with all that isn't printable in hexadecimal.
+    pub fn to_text(&self, alloc: Global) -> Result<String, AllocError>
+        ensures { IfOk result (λ text. string_bytes text ≡ text_of self.now) }
+    {
+        let mut text = String::new(alloc);
+        write_components(&mut text, self.components.as_slice())?;
+        text.push('@')?;
+        write_escaped(&mut text, self.realm.as_slice())?;
+        Ok(text)
     }
 }
 

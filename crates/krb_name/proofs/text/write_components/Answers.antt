@@ -1,0 +1,11 @@
+use Rattle.std.proofs.Common.{ap, ◌∙◌, ◌++◌, string_bytes}
+use Rattle.std.proofs.lemmas.Result.{IfOk-equal}
+use Rattle.krb_name.specs.Text.{escaped}
+use Rattle.krb_name.proofs.TextLaws.{components_written}
+use Rattle.krb_name.proofs.text.write_components.Goals as goal
+
+pub returns : goal.returns
+returns c =
+    let written = c.in_ok-write_escaped.ensures ∙ ap (λ first. string_bytes c.args.text.now ++ escaped first) c.as_slice.ensures in
+    let parts = c.in-Some.ensures.cases.0 in
+    IfOk-equal c.write_others.result _ _ _ c.write_others.ensures (components_written (string_bytes c.args.text.now) _ c.in-Some.first.now c.in-Some.others.now _ written parts)

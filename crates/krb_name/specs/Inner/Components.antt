@@ -1,0 +1,8 @@
+-- How the text of the components is written one after the other.
+use Rattle.std.specs.Prelude.{ℕ, List, ◌∷◌}
+use Rattle.std.specs.List.{flat_map}
+use Rattle.krb_name.specs.Text.{escaped}
+
+-- the components, each behind a `/`
+abbrev pub behind_slashes : List (List ℕ) → List ℕ
+behind_slashes components = flat_map (λ component. 0x2f ∷ escaped component) components
