@@ -1,5 +1,8 @@
 -- What sources and sinks are made of, and what moves through them.
-use Rattle.std.specs.Prelude.{ℕ}
+use Rattle.std.specs.Prelude.{ℕ, List, take, Option, Result, Ok, Err}
+use Rattle.std.specs.Io.KnownBytes.{Appends}
+use Rattle.krb_name.specs.declared.reading.ReadFault.{ReadFault}
+use Rattle.krb_name.specs.declared.reading.ReadFault.TheVariants.{Read as ReadFailed, OutOfMemory}
 use Rattle.krb_name.specs.declared.source.ReadSource.{ReadSource}
 use Rattle.krb_name.specs.declared.sink.WriteSink.{WriteSink}
 
@@ -16,3 +19,13 @@ sink_writer s = s.writer
 
 abbrev pub sink_failures : {W : Type 0} → WriteSink W → ℕ
 sink_failures s = s.failures
+
+-- a sink took a beginning of these bytes
+abbrev pub AppendsBeginning : Option (List ℕ) → Option (List ℕ) → List ℕ → Type 0
+AppendsBeginning old new bytes = (count : ℕ) × Appends old new (take count bytes)
+
+-- how many failed reads an answer tells of
+abbrev pub failed_reads : {T : Type 0} → Result T ReadFault → ℕ
+failed_reads (Ok _) = 0
+failed_reads (Err ReadFailed) = 1
+failed_reads (Err OutOfMemory) = 0

@@ -2,4 +2,5 @@ pub mod Name
 pub mod Flow
 pub mod Cursor
 pub mod Text
+pub mod Pieces
 pub mod Inner

@@ -1,0 +1,53 @@
+//! A source over bytes in memory.
+
+ghost use Rattle.std.specs.Prelude.{◌≡◌, ◌+◌, ◌^◌, ◌<◌, ◌-◌, ℕ, List, Some, IsOk, is_ok, if◌then◌else◌};
+ghost use Rattle.std.specs.Io.{ReadsAtMost};
+ghost use Rattle.std.specs.Io.KnownBytes.{ReadConsumes};
+
+use crate::source::{Source, SourceFailed};
+use std::marker::Model;
+
+/// A source over bytes in memory, which tells them and never fails. A contract sees it as the list of
+/// the bytes that are still to come.
+#[derive(Drop)]
+pub struct SliceSource<'a> {
+    rest: &'a [u8],
+}
+
+impl<'a> Model for SliceSource<'a> {
+    ghost Value = { List ℕ };
+
+    ghost view = { λ s. s.rest.now };
+}
+
+impl<'a> SliceSource<'a> {
+    /// Gives `bytes`.
+    pub fn new(bytes: &'a [u8]) -> Self
+        ensures { result ≡ bytes.now }
+    {
+        SliceSource { rest: bytes }
+    }
+}
+
+impl Source for SliceSource<'_> {
+    ghost remaining = { λ bytes. Some bytes };
+
+    ghost failure_count = { λ _. 0 };
+
+    fn failures(&self) -> u64 {
+        0
+    }
+
+    fn read(&mut self, buffer: &mut [u8]) -> Result<usize, SourceFailed>
+        ensures bound { ReadsAtMost result buffer.new }
+        ensures bytes { ReadConsumes (Some self.old) (Some self.new) result buffer.new }
+        ensures failed { 0 ≡ 0 + (if is_ok result then 0 else 1) }
+        ensures ok { IsOk result }
+    {
+        let count = buffer.len().min(self.rest.len());
+        let (front, rest) = self.rest.split_at(count);
+        buffer[..count].copy_from_slice(front);
+        self.rest = rest;
+        Ok(count)
+    }
+}
