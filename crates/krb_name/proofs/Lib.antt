@@ -1,3 +1,4 @@
 pub mod Names
 pub mod TextLaws
 pub mod Moves
+pub mod CursorLaws

@@ -1,6 +1,7 @@
 pub mod Name
 pub mod Flow
 pub mod Cursor
+pub mod Field
 pub mod Text
 pub mod Pieces
 pub mod Inner

@@ -4,6 +4,7 @@
 mod bytes;
 mod components;
 mod cursor;
+pub mod laws;
 mod pieces;
 mod principal;
 mod reading;
