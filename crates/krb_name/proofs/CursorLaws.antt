@@ -56,13 +56,15 @@ bytes_take count place x behind fits e =
     let long : count ≤ length place.rest = leb-true _ _ g.0 in
     let made : List ℕ × Place = (take count place.rest, record { at = place.at + count; rest = drop count place.rest }) in
     let len : length (take count place.rest) ≡ count = omega (arith, length-take count place.rest) in
-    subst (λ (p : List ℕ × Place). Takes place p.0 p.1 × (length p.0 ≡ count)) g.1
-    (record {
-       parts = sym (take-append-drop count place.rest);
-       at = ap (λ (n : ℕ). place.at + n) (sym len);
-       text_fits = IsBytes-take count place.rest fits;
-       rest_fits = IsBytes-drop count place.rest fits;
-     }, len)
+    subst (λ (p : List ℕ × Place). Takes place p.0 p.1 × (length p.0 ≡ count)) g.1 (
+      record {
+        parts = sym (take-append-drop count place.rest);
+        at = ap (λ (n : ℕ). place.at + n) (sym len);
+        text_fits = IsBytes-take count place.rest fits;
+        rest_fits = IsBytes-drop count place.rest fits;
+      },
+      len,
+    )
 
 bytes_again : (count at : ℕ) (x rest : List ℕ) → length x ≡ count → bytes_at count (record { at = at; rest = x ++ rest }) ≡ Some (x, record { at = at + length x; rest = rest })
 unfolding bytes_at

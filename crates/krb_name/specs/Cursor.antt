@@ -17,8 +17,8 @@ read >>= others = option_and_then others read
 unfoldable pub bytes_at : ℕ → Place → Option (List ℕ × Place)
 bytes_at count place =
     if nat_le count (length place.rest)
-      then Some (take count place.rest, record { at = place.at + count; rest = drop count place.rest })
-      else None
+    then Some (take count place.rest, record { at = place.at + count; rest = drop count place.rest })
+    else None
 
 unfoldable pub number_at : Width → Place → Option (ℕ × Place)
 number_at w place = do

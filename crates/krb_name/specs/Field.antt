@@ -16,6 +16,6 @@ pub record Takes (place : Place) (text : List ℕ) (behind : Place) : Type 0 whe
 -- what is read at a place is spelled there and is in range, and what is in range and spelled there is read
 pub record IsField {X : Type 0} (read : Place → Option (X × Place)) (spelled : X → List ℕ) (InRange : X → Type 0) : Type 0 where
   pub takes : (place : Place) (x : X) (behind : Place) → IsBytes place.rest → read place ≡ Some (x, behind)
-    → Takes place (spelled x) behind × InRange x
+      → Takes place (spelled x) behind × InRange x
   pub again : (at : ℕ) (x : X) (rest : List ℕ) → InRange x
-    → read (record { at = at; rest = spelled x ++ rest }) ≡ Some (x, record { at = at + length (spelled x); rest = rest })
+      → read (record { at = at; rest = spelled x ++ rest }) ≡ Some (x, record { at = at + length (spelled x); rest = rest })

@@ -24,8 +24,8 @@ hex_escape byte = 0x5c ∷ 0x78 ∷ hex_digit (byte / 16) ∷ hex_digit (byte % 
 abbrev pub escaped_byte : ℕ → List ℕ
 escaped_byte byte =
     if is_special byte
-      then 0x5c ∷ byte ∷ []
-      else (if is_printable byte then byte ∷ [] else hex_escape byte)
+    then 0x5c ∷ byte ∷ []
+    else (if is_printable byte then byte ∷ [] else hex_escape byte)
 
 abbrev pub escaped : List ℕ → List ℕ
 escaped bytes = flat_map escaped_byte bytes

@@ -1,4 +1,24 @@
-//! Names.
+//! Kerberos names, and what the crates above share to read and write files.
+//!
+//! A [`Principal`] is a realm, a name type and components (RFC 4120, sections 5.2.2 and 6). It says
+//! whether another one has the same name, and writes itself as text.
+//!
+//! A [`Source`] gives bytes and a [`Sink`] takes them; both count their failures. Any reader is a
+//! source and any writer a sink. A [`FileCursor`] reads big-endian fields off bytes, takes no memory
+//! and knows its place.
+//!
+//! ```rust
+//! let mut components = Components::new(alloc);
+//! components.push(Bytes::from_slice(alloc, b"host")?)?;
+//! components.push(Bytes::from_slice(alloc, b"web")?)?;
+//! let principal = Principal {
+//!     realm: Bytes::from_slice(alloc, b"EX")?,
+//!     name_type: 3,
+//!     components,
+//! };
+//! let text = principal.to_text(alloc)?; // host/web@EX
+//! write_all(&mut WriteSink::new(io::writer(rt)), text.as_bytes())?;
+//! ```
 #![tactic(auto)]
 
 mod bytes;
@@ -24,3 +44,8 @@ pub use sink::{Sink, SinkFailed, WriteSink};
 pub use slice_source::SliceSource;
 pub use source::{ReadSource, Source, SourceFailed};
 pub use writing::write_all;
+
+#[cfg(test)]
+mod flow_tests;
+#[cfg(test)]
+mod tests;

@@ -23,7 +23,11 @@ impl<'a> Model for PieceSource<'a> {
     ghost Value = { Pieces };
 
     ghost view = { λ s. record {
-        bytes = s.rest.now; piece = s.piece; fails_in = s.fails_in; failures = s.failures } };
+      bytes = s.rest.now;
+      piece = s.piece;
+      fails_in = s.fails_in;
+      failures = s.failures;
+    } };
 
     ghost invariant = { λ s. 0 < s.piece };
 }
@@ -34,7 +38,11 @@ impl<'a> PieceSource<'a> {
         requires piece { 0 < piece }
         requires failing { ForSome failing (λ k. 0 < k) }
         ensures { result ≡ record {
-            bytes = bytes.now; piece = piece; fails_in = failing; failures = 0 } }
+          bytes = bytes.now;
+          piece = piece;
+          fails_in = failing;
+          failures = 0;
+        } }
     {
         PieceSource {
             rest: bytes,
@@ -94,12 +102,14 @@ impl<'a> Model for PieceSink<'a> {
     ghost Value = { SinkPieces };
 
     ghost view = { λ s. record {
-        pieces = record {
-            bytes = take s.len s.room.now;
-            piece = s.piece;
-            fails_in = s.fails_in;
-            failures = s.failures };
-        size = length s.room.now } };
+      pieces = record {
+        bytes = take s.len s.room.now;
+        piece = s.piece;
+        fails_in = s.fails_in;
+        failures = s.failures;
+      };
+      size = length s.room.now;
+    } };
 
     ghost invariant = { λ s. (0 < s.piece) × (s.len ≤ length s.room.now) };
 }
@@ -111,8 +121,9 @@ impl<'a> PieceSink<'a> {
         requires piece { 0 < piece }
         requires failing { ForSome failing (λ k. 0 < k) }
         ensures { result ≡ record {
-            pieces = record { bytes = []; piece = piece; fails_in = failing; failures = 0 };
-            size = length room.old } }
+          pieces = record { bytes = []; piece = piece; fails_in = failing; failures = 0 };
+          size = length room.old;
+        } }
     {
         PieceSink {
             room,

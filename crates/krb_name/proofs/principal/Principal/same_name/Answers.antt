@@ -7,9 +7,10 @@ returns-then-eq c =
     let one = c.args.self.now in
     let other = c.args.other.now in
     let realms = bytes_decided one.realm other.realm in
-    let components = components_decided one.components other.components in
-    (λ t. record {
-       realm = realms.0 (sym c.eq.ensures ∙ c.if-eq.true);
-       components = components.0 (sym c.eq-then-eq.ensures ∙ t);
-     },
-     λ same. c.eq-then-eq.ensures ∙ components.1 same.components)
+    let components = components_decided one.components other.components in (
+      λ t. record {
+        realm = realms.0 (sym c.eq.ensures ∙ c.if-eq.true);
+        components = components.0 (sym c.eq-then-eq.ensures ∙ t);
+      },
+      λ same. c.eq-then-eq.ensures ∙ components.1 same.components,
+    )

@@ -1,0 +1,121 @@
+use super::*;
+use std::alloc::Global;
+use std::test::*;
+
+fn name_of(alloc: Global, realm: &[u8], components: &[&[u8]]) -> Result<Principal, Fail> {
+    let mut made = Components::new(alloc);
+    for component in components {
+        made.push(Bytes::from_slice(alloc, component)?)?;
+    }
+    Ok(Principal {
+        realm: Bytes::from_slice(alloc, realm)?,
+        name_type: 1,
+        components: made,
+    })
+}
+
+// The texts were written by hand from the rules in the doc comment of `to_text`.
+#[test]
+fn texts(rt: HostRuntime) -> Result<(), Fail> {
+    let alloc = rt.alloc();
+    let table: [(&[u8], &[&[u8]], &str); 10] = [
+        (b"EX", &[b"alice"], "alice@EX"),
+        (b"EX", &[b"host", b"web"], "host/web@EX"),
+        (b"E@X", &[b"a/b"], "a\\/b@E\\@X"),
+        (b"EX", &[b" "], "\\x20@EX"),
+        (b"EX", &[], "@EX"),
+        (b"EX", &[b""], "@EX"),
+        (b"", &[b"", b""], "/@"),
+        (b"EX", &[b"a\\x"], "a\\\\x@EX"),
+        (
+            b"EX",
+            &[&[0x00, 0x0a, 0x7f, 0xab, 0xff]],
+            "\\x00\\x0a\\x7f\\xab\\xff@EX",
+        ),
+        (b"!~", &[b"!\"#0:A[]az{~"], "!\"#0:A[]az{~@!~"),
+    ];
+    for (realm, components, text) in table {
+        let principal = name_of(alloc, realm, components)?;
+        assert_eq!(rt; principal.to_text(alloc)?.as_str(), text);
+    }
+    Ok(())
+}
+
+#[test]
+fn names_compared(rt: HostRuntime) -> Result<(), Fail> {
+    let alloc = rt.alloc();
+    let alice = name_of(alloc, b"EX", &[b"alice"])?;
+    let mut other_type = alice.clone()?;
+    other_type.name_type = 2;
+    assert!(rt;
+        alice.same_name(&other_type),
+        "the name type is no part of the name"
+    );
+    let others: [(&[u8], &[&[u8]]); 6] = [
+        (b"EY", &[b"alice"]),
+        (b"ex", &[b"alice"]),
+        (b"EX", &[b"alicia"]),
+        (b"EX", &[b"alice", b""]),
+        (b"EX", &[b"al", b"ice"]),
+        (b"EX", &[]),
+    ];
+    for (realm, components) in others {
+        let other = name_of(alloc, realm, components)?;
+        assert!(rt; !alice.same_name(&other), "{other:?}");
+    }
+    Ok(())
+}
+
+#[test]
+fn bytes_and_components(rt: HostRuntime) -> Result<(), Fail> {
+    let alloc = rt.alloc();
+    let mut bytes = Bytes::new(alloc);
+    assert!(rt; bytes.is_empty());
+    bytes.push(b'a')?;
+    assert_eq!(rt; bytes.len(), 1);
+    assert_eq!(rt; bytes.as_slice(), b"a".as_slice());
+    assert!(rt; bytes == Bytes::from(b"a".to_vec(alloc)?));
+    let mut components = Components::new(alloc);
+    assert!(rt; components.is_empty());
+    components.push(bytes)?;
+    assert_eq!(rt; components.len(), 1);
+    assert!(rt; components == components.clone()?);
+    for component in components.as_slice() {
+        assert_eq!(rt; component.as_slice(), b"a".as_slice());
+    }
+    Ok(())
+}
+
+// Two's complement by RFC 4506, section 4.1: ff fe is -2 and ff ff ff fd is -3.
+#[test]
+fn fields(rt: HostRuntime) -> Result<(), Fail> {
+    let bytes = [
+        0x05, 0x01, 0x02, 0xa1, 0xa2, 0xa3, 0xa4, 0xff, 0xfe, 0xff, 0xff, 0xff, 0xfd, 0, 2, 7, 8,
+        0, 0, 0, 1, 9, 1,
+    ];
+    let mut cursor = FileCursor::new(&bytes);
+    assert_eq!(rt; cursor.read_u8()?, 5);
+    assert_eq!(rt; cursor.read_u16()?, 0x0102);
+    assert_eq!(rt; cursor.read_u32()?, 0xa1a2_a3a4);
+    assert_eq!(rt; cursor.read_i16()?, -2);
+    assert_eq!(rt; cursor.read_i32()?, -3);
+    assert_eq!(rt; cursor.read_data16()?, [7, 8].as_slice());
+    assert_eq!(rt; cursor.read_data32()?, [9].as_slice());
+    assert_eq!(rt; cursor.at(), 22);
+    assert_eq!(rt; cursor.read_u16(), Err(Short));
+    assert_eq!(rt; cursor.rest(), [1].as_slice());
+    assert!(rt; !cursor.is_at_end());
+    assert_eq!(rt; cursor.read_bytes(1)?, [1].as_slice());
+    assert!(rt; cursor.is_at_end());
+    Ok(())
+}
+
+// Data whose length passes the end leaves the cursor before the length.
+#[test]
+fn short_data(rt: HostRuntime) {
+    let mut cursor = FileCursor::new(&[0, 3, 7, 8]);
+    assert_eq!(rt; cursor.read_data16(), Err(Short));
+    assert_eq!(rt; cursor.at(), 0);
+    assert_eq!(rt; cursor.read_data32(), Err(Short));
+    assert_eq!(rt; cursor.at(), 0);
+}
