@@ -1,3 +1,3 @@
 mod Blocks
 mod Derived
-mod Lengths
+pub mod Lengths

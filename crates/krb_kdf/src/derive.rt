@@ -1,6 +1,6 @@
 ghost use Rattle.std.specs.Prelude.{◌≡◌, ◌≤◌, take};
 ghost use Rattle.krb_kdf.specs.Hmac.{sha256_hash, sha384_hash};
-ghost use Rattle.krb_kdf.specs.Kdf.{kdf, kdf_text, label, purpose_byte, purpose_of};
+ghost use Rattle.krb_kdf.specs.Kdf.{kdf, kdf_text, label, purpose_of};
 ghost use Rattle.krb_kdf.specs.declared.purpose.Purpose.TheVariants.{Ke};
 
 use crate::hmac::{hmac_sha256, hmac_sha384};

@@ -1,4 +1,4 @@
-ghost use Rattle.std.specs.Prelude.{◌≡◌, ◌++◌, ◌∷◌, []};
+ghost use Rattle.std.specs.Prelude.{◌≡◌};
 
 /// What a key of encryption type 19 is derived for (RFC 8009, section 5).
 #[derive(Clone, Copy, Debug, PartialEq, Eq)]
