@@ -2,3 +2,8 @@ pub mod Names
 pub mod TextLaws
 pub mod Moves
 pub mod CursorLaws
+pub mod EscapeLaws
+pub mod NameReading
+pub mod Symbols
+pub mod NameSymbols
+pub mod NameAnswers

@@ -32,6 +32,8 @@ mod sink;
 mod slice_source;
 mod source;
 mod text;
+mod text_cursor;
+mod text_fault;
 mod writing;
 
 pub use bytes::Bytes;
@@ -43,6 +45,7 @@ pub use reading::{ReadFault, read_to_limit};
 pub use sink::{Sink, SinkFailed, WriteSink};
 pub use slice_source::SliceSource;
 pub use source::{ReadSource, Source, SourceFailed};
+pub use text_fault::TextFault;
 pub use writing::write_all;
 
 #[cfg(test)]
