@@ -7,3 +7,7 @@ pub mod NameReading
 pub mod Symbols
 pub mod NameSymbols
 pub mod NameAnswers
+pub mod NameStops
+pub mod NamesBack
+pub mod OneAnswer
+pub mod Repeated

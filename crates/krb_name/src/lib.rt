@@ -1,7 +1,7 @@
 //! Kerberos names, and what the crates above share to read and write files.
 //!
 //! A [`Principal`] is a realm, a name type and components (RFC 4120, sections 5.2.2 and 6). It says
-//! whether another one has the same name, and writes itself as text.
+//! whether another one has the same name, writes itself as text and is read from text.
 //!
 //! A [`Source`] gives bytes and a [`Sink`] takes them; both count their failures. Any reader is a
 //! source and any writer a sink. A [`FileCursor`] reads big-endian fields off bytes, takes no memory

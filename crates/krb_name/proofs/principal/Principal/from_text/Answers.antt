@@ -1,7 +1,7 @@
 use Rattle.std.proofs.Common.{Ok, Err}
 use Rattle.std.proofs.lemmas.Result.{err_from_is_err_and}
 use Rattle.krb_name.proofs.NameAnswers.{components_refused, realm_refused, name_read}
-use Rattle.krb_name.proofs.NameSymbols.{one_answer}
+use Rattle.krb_name.proofs.OneAnswer.{one_answer}
 use Rattle.krb_name.proofs.principal.Principal.from_text.Goals as goal
 
 pub returns-in_err-components-clause-only : goal.returns-in_err-components-clause-only
