@@ -14,7 +14,8 @@ use crate::text_fault::TextFault;
 
 /// Says that so many bytes are read as they are spelled.
 pub fn bytes_are_fields()
-    ensures { (count : ℕ) → IsField (bytes_at count) (λ bytes. bytes) (λ bytes. length bytes ≡ count) }
+    ensures { (count : ℕ)
+        → IsField (bytes_at count) (λ bytes. bytes) (λ bytes. length bytes ≡ count) }
 {}
 
 /// Says that unsigned numbers are read as they are spelled, big-endian.

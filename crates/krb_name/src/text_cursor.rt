@@ -79,7 +79,8 @@ impl<'a> TextCursor<'a> {
 
     // Steps over a separator, where one stands here.
     fn next_separator(&mut self) -> Option<u8>
-        ensures some { IfSome result (λ byte. Advances self.old (byte ∷ []) self.new × ((byte ≡ 0x2f) ⊎ (byte ≡ 0x40))) }
+        ensures some { IfSome result (λ byte. Advances self.old (byte ∷ []) self.new
+            × ((byte ≡ 0x2f) ⊎ (byte ≡ 0x40))) }
         ensures none { IfNone result (AtEnd self.old.rest → self.old.rest ≡ []) }
         ensures stays { IfNone result (self.new ≡ self.old) }
     {
