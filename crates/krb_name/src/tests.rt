@@ -154,7 +154,7 @@ fn names_read(rt: HostRuntime) -> Result<(), Fail> {
         let name = Principal::from_text(alloc, text, 3)?;
         assert!(rt;
             name.same_name(&name_of(alloc, realm, components)?),
-            "{text}"
+            "{name:?}"
         );
         assert_eq!(rt; name.name_type, 3);
         assert_eq!(rt; name.to_text(alloc)?.as_str(), text);
