@@ -2,3 +2,12 @@ pub mod Names
 pub mod TextLaws
 pub mod Moves
 pub mod CursorLaws
+pub mod EscapeLaws
+pub mod NameReading
+pub mod Symbols
+pub mod NameSymbols
+pub mod NameAnswers
+pub mod NameStops
+pub mod NamesBack
+pub mod OneAnswer
+pub mod Repeated

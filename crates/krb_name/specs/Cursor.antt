@@ -1,5 +1,5 @@
 -- What is read at a place in the bytes of a file. Numbers are big-endian, signed ones in two's complement.
-use Rattle.std.specs.Prelude.{ℕ, ◌+◌, ℤ, List, ◌++◌, length, take, drop, Option, Some, None, option_and_then, nat_le, if◌then◌else◌}
+use Rattle.std.specs.Prelude.{ℕ, zero, suc, ◌+◌, ℤ, List, [], ◌∷◌, ◌++◌, length, take, drop, Option, Some, None, option_and_then, nat_le, if◌then◌else◌}
 use Rattle.std.specs.Int.{Width, byte_len, to_be_bytes, from_be_bytes, cast_signed, cast_unsigned}
 
 -- how many bytes lie before a place, and the bytes from there on
@@ -35,6 +35,14 @@ unfoldable pub data_at : Width → Place → Option (List ℕ × Place)
 data_at w place = do
   count ← number_at w place
   bytes_at count.0 count.1
+
+-- so many fields of one kind, one behind the other
+unfoldable pub times_at : {X : Type 0} → (Place → Option (X × Place)) → ℕ → Place → Option (List X × Place)
+times_at read zero place = Some ([], place)
+times_at read (suc count) place = do
+  first ← read place
+  others ← times_at read count first.1
+  Some (first.0 ∷ others.0, others.1)
 
 -- ---- how it is spelled
 

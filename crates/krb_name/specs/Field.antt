@@ -1,5 +1,6 @@
 -- What it means that a way of reading is the inverse of a way of spelling.
 use Rattle.std.specs.Prelude.{◌≡◌, ℕ, ◌+◌, ◌<◌, List, ◌++◌, length, slice_index, Option, Some}
+use Rattle.std.specs.List.{AllByRecursion}
 use Rattle.krb_name.specs.Cursor.{Place}
 
 -- each number of the list is a byte
@@ -19,3 +20,7 @@ pub record IsField {X : Type 0} (read : Place → Option (X × Place)) (spelled 
       → Takes place (spelled x) behind × InRange x
   pub again : (at : ℕ) (x : X) (rest : List ℕ) → InRange x
       → read (record { at = at; rest = spelled x ++ rest }) ≡ Some (x, record { at = at + length (spelled x); rest = rest })
+
+-- so many strings of bytes, each shorter than the limit
+abbrev pub AreDataOf : ℕ → ℕ → List (List ℕ) → Type 0
+AreDataOf count limit strings = (length strings ≡ count) × AllByRecursion (λ bytes. length bytes < limit) strings

@@ -1,2 +1,4 @@
 pub mod Components
+pub mod Escapes
+pub mod Names
 pub mod Pieces

@@ -1,13 +1,21 @@
 //! Laws over the definitions, for proofs to cite. Each function does nothing: its contract is the law.
 
-ghost use Rattle.std.specs.Prelude.{◌≡◌, ◌<◌, ◌^◌, ℕ, length, FitsSigned};
+ghost use Rattle.std.specs.Prelude.{◌≡◌, ◌<◌, ◌^◌, ℕ, List, [], ◌∷◌, Result, length, FitsSigned};
 ghost use Rattle.std.specs.Int.{w8, w16, w32};
-ghost use Rattle.krb_name.specs.Cursor.{bytes_at, number_at, signed_at, data_at, number_bytes, signed_bytes, data_bytes};
-ghost use Rattle.krb_name.specs.Field.{IsField};
+ghost use Rattle.std.specs.List.{flat_map};
+ghost use Rattle.krb_name.specs.Name.{SameName};
+ghost use Rattle.krb_name.specs.Text.{text_of};
+ghost use Rattle.krb_name.specs.Reading.{AreComponents, IsReadAs, SameAnswer};
+ghost use Rattle.krb_name.specs.Cursor.{times_at, bytes_at, number_at, signed_at, data_at, number_bytes, signed_bytes, data_bytes};
+ghost use Rattle.krb_name.specs.Field.{IsBytes, IsField, AreDataOf};
+
+use crate::principal::Principal;
+use crate::text_fault::TextFault;
 
 /// Says that so many bytes are read as they are spelled.
 pub fn bytes_are_fields()
-    ensures { (count : ℕ) → IsField (bytes_at count) (λ bytes. bytes) (λ bytes. length bytes ≡ count) }
+    ensures { (count : ℕ)
+        → IsField (bytes_at count) (λ bytes. bytes) (λ bytes. length bytes ≡ count) }
 {}
 
 /// Says that unsigned numbers are read as they are spelled, big-endian.
@@ -27,4 +35,30 @@ pub fn signed_numbers_are_fields()
 pub fn data_are_fields()
     ensures data16 { IsField (data_at w16) (data_bytes w16) (λ bytes. length bytes < 2 ^ 16) }
     ensures data32 { IsField (data_at w32) (data_bytes w32) (λ bytes. length bytes < 2 ^ 32) }
+{}
+
+/// Says that so many data behind their lengths are read as they are spelled, one behind the other.
+pub fn repeated_data_are_fields()
+    ensures data16 { (count : ℕ) → IsField (times_at (data_at w16) count)
+        (flat_map (data_bytes w16)) (AreDataOf count (2 ^ 16)) }
+    ensures data32 { (count : ℕ) → IsField (times_at (data_at w32) count)
+        (flat_map (data_bytes w32)) (AreDataOf count (2 ^ 32)) }
+{}
+
+/// Says that a text is read in one way only.
+pub fn a_text_has_one_answer()
+    ensures { (text : List ℕ) (one other : Result Principal TextFault)
+        → IsReadAs text one → IsReadAs text other → SameAnswer one other }
+{}
+
+/// Says that names with components that have the same text are the same, and that a name without
+/// components has the text of one with a single empty component.
+pub fn a_text_has_one_name()
+    ensures name { (one other : Principal)
+        → AreComponents one.components → IsBytes one.realm
+        → AreComponents other.components → IsBytes other.realm
+        → text_of one ≡ text_of other → SameName one other }
+    ensures empty { (principal : Principal)
+        → text_of (record principal { components = [] })
+        ≡ text_of (record principal { components = [] ∷ [] }) }
 {}

@@ -1,7 +1,7 @@
 //! Kerberos names, and what the crates above share to read and write files.
 //!
 //! A [`Principal`] is a realm, a name type and components (RFC 4120, sections 5.2.2 and 6). It says
-//! whether another one has the same name, and writes itself as text.
+//! whether another one has the same name, writes itself as text and is read from text.
 //!
 //! A [`Source`] gives bytes and a [`Sink`] takes them; both count their failures. Any reader is a
 //! source and any writer a sink. A [`FileCursor`] reads big-endian fields off bytes, takes no memory
@@ -32,6 +32,8 @@ mod sink;
 mod slice_source;
 mod source;
 mod text;
+mod text_cursor;
+mod text_fault;
 mod writing;
 
 pub use bytes::Bytes;
@@ -43,6 +45,7 @@ pub use reading::{ReadFault, read_to_limit};
 pub use sink::{Sink, SinkFailed, WriteSink};
 pub use slice_source::SliceSource;
 pub use source::{ReadSource, Source, SourceFailed};
+pub use text_fault::TextFault;
 pub use writing::write_all;
 
 #[cfg(test)]

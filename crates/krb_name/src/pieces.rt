@@ -1,6 +1,6 @@
 //! Sources and sinks for tests: they move a few bytes a call and fail when told to.
 
-ghost use Rattle.std.specs.Prelude.{◌≡◌, ◌+◌, ◌-◌, ◌^◌, ◌<◌, ◌≤◌, ◌↔◌, min, Some, None, IfOk, IsErr, is_ok, length, take, [], if◌then◌else◌};
+ghost use Rattle.std.specs.Prelude.{◌≡◌, ◌≢◌, ◌+◌, ◌-◌, ◌^◌, ◌<◌, ◌≤◌, ◌↔◌, min, Some, None, IfOk, IsErr, IsOk, is_ok, length, take, [], if◌then◌else◌};
 ghost use Rattle.std.specs.Option.{ForSome};
 ghost use Rattle.std.specs.Io.{ReadsAtMost, WritesAtMost};
 ghost use Rattle.std.specs.Io.KnownBytes.{ReadConsumes, WriteAppends};
@@ -151,7 +151,23 @@ impl Sink for PieceSink<'_> {
         self.failures
     }
 
-    fn write(&mut self, bytes: &[u8]) -> Result<usize, SinkFailed> {
+    fn write(&mut self, bytes: &[u8]) -> Result<usize, SinkFailed>
+        requires { self.old.pieces.failures < 2 ^ 64 - 1 }
+        ensures bound { WritesAtMost result bytes.now }
+        ensures some { IfOk result (λ count. 0 < length bytes.now → 0 < count) }
+        ensures bytes { WriteAppends (Some self.old.pieces.bytes) (Some self.new.pieces.bytes)
+            result bytes.now }
+        ensures failed { self.new.pieces.failures
+            ≡ self.old.pieces.failures + (if is_ok result then 0 else 1) }
+        ensures fails { self.old.pieces.fails_in ≡ Some 1 → IsErr result }
+        ensures goes { self.old.pieces.fails_in ≢ Some 1
+            → length self.old.pieces.bytes < self.old.size → IsOk result }
+        ensures count { IfOk result (λ n. n ≡ min (min self.old.pieces.piece (length bytes.now))
+            (self.old.size - length self.old.pieces.bytes)) }
+        ensures next { self.new.pieces.fails_in ≡ fails_next self.old.pieces.fails_in }
+        ensures piece { self.new.pieces.piece ≡ self.old.pieces.piece }
+        ensures size { self.new.size ≡ self.old.size }
+    {
         let fails = self.fails_in == Some(1);
         self.fails_in = counted_down(self.fails_in);
         let room = self.room.len() - self.len;

@@ -1,10 +1,12 @@
 //! A principal's name.
 
-ghost use Rattle.std.specs.Prelude.{◌≡◌, ◌↔◌, IsTrue, IfOk, string_bytes};
+ghost use Rattle.std.specs.Prelude.{◌≡◌, ◌↔◌, Result, IsTrue, IfOk, string_bytes};
 
 use crate::bytes::Bytes;
 use crate::components::Components;
 use crate::text::{write_components, write_escaped};
+use crate::text_cursor::TextCursor;
+use crate::text_fault::TextFault;
 use std::alloc::{AllocError, Global};
 
 /// A principal: a realm, and a name of a type and some components (RFC 4120, sections 5.2.2 and 6).
@@ -46,6 +48,36 @@ impl Principal {
         text.push('@')?;
         write_escaped(&mut text, self.realm.as_slice())?;
         Ok(text)
+    }
+}
+
+impl Principal {
+    ghost use Rattle.krb_name.specs.Reading.{IsReadAs, SameAnswer};
+
+    /// Reads a name off the text that `to_text` writes for it, and gives it `name_type`.
+    ///
+    /// A text is read exactly where it is the text of a name with at least one component.
+    ///
+    /// # Errors
+    /// - `BadText`, at the offset of the first offence from the left: a byte outside 0x21 to 0x7e, a
+    ///   backslash that begins no escape that `to_text` writes, or a bare `/` or `@` behind the
+    ///   first bare `@`.
+    /// - `NoRealm`: there is no offence, and no bare `@` either.
+    /// - `OutOfMemory`: there was no room for the name.
+    pub fn from_text(alloc: Global, text: &str, name_type: i32) -> Result<Principal, TextFault>
+        ensures read { IsReadAs text.now result }
+        ensures only { (answer : Result Principal TextFault)
+            → IsReadAs text.now answer → SameAnswer result answer }
+        ensures name_type { IfOk result (λ principal. principal.name_type ≡ name_type) }
+    {
+        let mut cursor = TextCursor::new(text);
+        let components = cursor.read_components(alloc)?;
+        let realm = cursor.read_realm(alloc)?;
+        Ok(Principal {
+            realm,
+            name_type,
+            components,
+        })
     }
 }
 

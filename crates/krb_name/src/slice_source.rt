@@ -1,6 +1,6 @@
 //! A source over bytes in memory.
 
-ghost use Rattle.std.specs.Prelude.{◌≡◌, ◌+◌, ◌^◌, ◌<◌, ◌-◌, ℕ, List, Some, IsOk, is_ok, if◌then◌else◌};
+ghost use Rattle.std.specs.Prelude.{◌≡◌, ◌+◌, ◌^◌, ◌<◌, ◌-◌, ℕ, List, Some, Ok, is_ok, length, min, if◌then◌else◌};
 ghost use Rattle.std.specs.Io.{ReadsAtMost};
 ghost use Rattle.std.specs.Io.KnownBytes.{ReadConsumes};
 
@@ -42,7 +42,7 @@ impl Source for SliceSource<'_> {
         ensures bound { ReadsAtMost result buffer.new }
         ensures bytes { ReadConsumes (Some self.old) (Some self.new) result buffer.new }
         ensures failed { 0 ≡ 0 + (if is_ok result then 0 else 1) }
-        ensures ok { IsOk result }
+        ensures count { result ≡ Ok (min (length buffer.old) (length self.old)) }
     {
         let count = buffer.len().min(self.rest.len());
         let (front, rest) = self.rest.split_at(count);

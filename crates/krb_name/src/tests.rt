@@ -119,3 +119,93 @@ fn short_data(rt: HostRuntime) {
     assert_eq!(rt; cursor.read_data32(), Err(Short));
     assert_eq!(rt; cursor.at(), 0);
 }
+
+// The texts of the next three tests were read by a script of regular expressions.
+#[test]
+fn names_read(rt: HostRuntime) -> Result<(), Fail> {
+    let alloc = rt.alloc();
+    let table: [(&str, &[&[u8]], &[u8]); 20] = [
+        ("a\\/b@E\\@X", &[b"a/b"], b"E@X"),
+        ("\\x20@EX", &[b"\x20"], b"EX"),
+        ("alice@EX", &[b"alice"], b"EX"),
+        ("host/web@EX", &[b"host", b"web"], b"EX"),
+        ("@EX", &[b""], b"EX"),
+        ("@", &[b""], b""),
+        ("/@", &[b"", b""], b""),
+        ("a@", &[b"a"], b""),
+        ("a/@EX", &[b"a", b""], b"EX"),
+        ("/a@EX", &[b"", b"a"], b"EX"),
+        ("//@", &[b"", b"", b""], b""),
+        ("a\\\\@EX", &[b"a\\"], b"EX"),
+        ("a\\@b@EX", &[b"a@b"], b"EX"),
+        ("\\/@\\/", &[b"/"], b"/"),
+        ("!~@!~", &[b"!~"], b"!~"),
+        (
+            "\\x00\\x0a\\x7f\\xab\\xff@EX",
+            &[b"\x00\x0a\x7f\xab\xff"],
+            b"EX",
+        ),
+        ("a@\\x1f", &[b"a"], b"\x1f"),
+        ("a@\\x80b", &[b"a"], b"\x80b"),
+        ("a@b\\/c", &[b"a"], b"b/c"),
+        ("a\\x20b/c@d", &[b"a\x20b", b"c"], b"d"),
+    ];
+    for (text, components, realm) in table {
+        let name = Principal::from_text(alloc, text, 3)?;
+        assert!(rt;
+            name.same_name(&name_of(alloc, realm, components)?),
+            "{name:?}"
+        );
+        assert_eq!(rt; name.name_type, 3);
+        assert_eq!(rt; name.to_text(alloc)?.as_str(), text);
+    }
+    Ok(())
+}
+
+#[test]
+fn bad_texts(rt: HostRuntime) {
+    let table: [(&str, usize); 27] = [
+        ("a\\q@EX", 1),
+        ("a@b@c", 3),
+        ("a b@EX", 1),
+        ("a@b c", 3),
+        ("a\\", 1),
+        ("a\\x", 1),
+        ("a\\x4", 1),
+        ("a\\x2", 1),
+        ("\\x41@EX", 0),
+        ("\\x21@EX", 0),
+        ("\\x7e@EX", 0),
+        ("\\x7F@EX", 0),
+        ("\\xAB@EX", 0),
+        ("\\xaB@EX", 0),
+        ("\\Xab@EX", 0),
+        ("\\x0g@EX", 0),
+        ("\\xg0@EX", 0),
+        ("a@\\x41", 2),
+        ("a@b/c", 3),
+        ("a@/", 2),
+        ("a@@", 2),
+        ("a@b\\q@", 3),
+        ("a/b\\", 3),
+        ("é@EX", 0),
+        ("a@é", 2),
+        ("a\t@EX", 1),
+        ("a\x7f@EX", 1),
+    ];
+    for (text, at) in table {
+        let read = Principal::from_text(rt.alloc(), text, 1);
+        assert!(rt;
+            matches!(read, Err(TextFault::BadText { at: found }) if found == at),
+            "{text}"
+        );
+    }
+}
+
+#[test]
+fn texts_without_realm(rt: HostRuntime) {
+    for text in ["alice", "", "\\x20", "a\\/b", "a/b", "/", "a\\@b"] {
+        let read = Principal::from_text(rt.alloc(), text, 1);
+        assert!(rt; matches!(read, Err(TextFault::NoRealm)), "{text}");
+    }
+}

@@ -1,4 +1,4 @@
-use Rattle.std.proofs.Common.{◌≡◌, ◌+◌, ◌≤◌, ◌-◌, arith, length, ◌∙◌, add-zero}
+use Rattle.std.proofs.Common.{arith, ◌∙◌, add-zero}
 use Rattle.std.proofs.lemmas.List.{length-take, length-drop}
 use Rattle.krb_name.proofs.Moves.{Appends-more}
 use Rattle.krb_name.proofs.writing.write_all.Goals as goal
