@@ -31,10 +31,7 @@ impl KeySchedule {
     pub fn new_128(key: &[u8; 16]) -> KeySchedule
         ensures { result ≡ key.now }
     {
-        KeySchedule {
-            words: expand(key),
-            key_len: 16,
-        }
+        KeySchedule::of_key(key)
     }
 
     /// Expands a key of 32 bytes to the 15 round keys of AES-256.
@@ -43,10 +40,7 @@ impl KeySchedule {
     pub fn new_256(key: &[u8; 32]) -> KeySchedule
         ensures { result ≡ key.now }
     {
-        KeySchedule {
-            words: expand(key),
-            key_len: 32,
-        }
+        KeySchedule::of_key(key)
     }
 
     /// Encrypts a block in place: CIPHER under this key, in 10 or 14 rounds.
@@ -55,6 +49,7 @@ impl KeySchedule {
     pub fn encrypt_block(&self, block: &mut [u8; 16])
         ensures key { IsKey self.now }
         ensures block { block.new ≡ cipher self.now block.old }
+        ensures undone { inv_cipher self.now block.new ≡ block.old }
     {
         plain::encrypt_block(self, block);
     }
@@ -65,8 +60,20 @@ impl KeySchedule {
     pub fn decrypt_block(&self, block: &mut [u8; 16])
         ensures key { IsKey self.now }
         ensures block { block.new ≡ inv_cipher self.now block.old }
+        ensures undone { cipher self.now block.new ≡ block.old }
     {
         plain::decrypt_block(self, block);
+    }
+
+    #[tactic(auto, using(crate::proofs::ExpansionRules::schedule_of))]
+    fn of_key(key: &[u8]) -> KeySchedule
+        requires { IsKey key.now }
+        ensures { result ≡ key.now }
+    {
+        KeySchedule {
+            words: expand(key),
+            key_len: key.len(),
+        }
     }
 
     // The number of rounds.
