@@ -1,5 +1,5 @@
 -- Which lists hold bytes, and which states.
-use Rattle.std.proofs.Common.{◌≡◌, ℕ, zero, suc, ◌+◌, ◌-◌, ◌*◌, ◌/◌, ◌%◌, ◌<◌, Bool, true, false, List, [], ◌∷◌, ◌&&◌, length, get_or, drop, All, refl, ap, arith, lit<, inl, inr}
+use Rattle.std.proofs.Common.{◌⊎◌, ◌≡◌, ℕ, zero, suc, ◌+◌, ◌-◌, ◌*◌, ◌/◌, ◌%◌, ◌<◌, Bool, true, false, List, [], ◌∷◌, ◌&&◌, length, get_or, drop, All, refl, ap, arith, lit<, inl, inr}
 use Rattle.std.specs.Prelude.{◌==◌, nat_lt}
 use Rattle.std.proofs.lemmas.Bool.{cases_lt}
 use Rattle.std.proofs.lemmas.List.{get_or_past}
@@ -8,7 +8,7 @@ use Rattle.std.proofs.lemmas.Nat.{xor_of_8}
 use Rattle.krb_aes.specs.Field.{carryless, remainder, product, inverse, number_with}
 use Rattle.krb_aes.specs.SBox.{affine, s_box, inv_s_box}
 use Rattle.krb_aes.specs.State.{at, state_of, row_times_column}
-use Rattle.krb_aes.specs.KeyExpansion.{word_of, word, rot_word, sub_word, sum_of_words, x_to_the, rcon, changed_word, first_words, key_expansion, key_words, round_key}
+use Rattle.krb_aes.specs.KeyExpansion.{IsKey, word_of, word, rot_word, sub_word, sum_of_words, x_to_the, rcon, changed_word, first_words, key_expansion, key_words, round_key}
 use Rattle.krb_aes.specs.Cipher.{IsBlock}
 use Rattle.krb_aes.proofs.ByteTests.{same_on, same_below}
 
@@ -176,4 +176,10 @@ pub block_of_array : (s : List ℕ) → length s ≡ 16 → ((i : ℕ) → get_o
 block_of_array s size fits = record {
   size = size;
   bytes = All-from_get_or (λ byte. byte < 256) s 0 (λ i within. fits i);
+}
+
+pub key_of_array : (s : List ℕ) → (length s ≡ 16) ⊎ (length s ≡ 32) → ((i : ℕ) → get_or s i 0 < 256) → IsKey s
+key_of_array s size fits = record {
+  size = size;
+  bytes = All-from_get_or (λ byte. byte < 256) s 0 (λ i within. fits i)
 }

@@ -92,11 +92,12 @@ round_key-take words n j within =
     let rest = drop-take (16 * j) (n - 16 * j) words in
     (rw parts at (ap (take 16) rest)) ∙ take-take 16 (n - 16 * j) (drop (16 * j) words) (omega arith)
 
-pub schedule_of : (key words : List ℕ) → IsKey key → take (length key) words ≡ key →
-    take (4 * length key + 112) words ≡ key_expansion key → IsSchedule (length key) words
-schedule_of key words is front all =
+pub schedule_of : (n : ℕ) (key words : List ℕ) → length key ≡ n → IsKey key → take (length key) words ≡ key →
+    take (4 * length key + 112) words ≡ key_expansion key → IsSchedule n words
+schedule_of n key words size is front all =
     let P : List ℕ → Type 0 = λ k. IsKey k in
-    record {
+    let Q : ℕ → Type 0 = λ m. IsSchedule m words in
+    subst Q size record {
       key_size = ap length front;
       key = subst P (sym front) is;
       expanded = all ∙ ap key_expansion (sym front);

@@ -31,7 +31,10 @@ impl KeySchedule {
     pub fn new_128(key: &[u8; 16]) -> KeySchedule
         ensures { result ≡ key.now }
     {
-        KeySchedule::of_key(key)
+        KeySchedule {
+            words: expand(key),
+            key_len: 16,
+        }
     }
 
     /// Expands a key of 32 bytes to the 15 round keys of AES-256.
@@ -40,7 +43,10 @@ impl KeySchedule {
     pub fn new_256(key: &[u8; 32]) -> KeySchedule
         ensures { result ≡ key.now }
     {
-        KeySchedule::of_key(key)
+        KeySchedule {
+            words: expand(key),
+            key_len: 32,
+        }
     }
 
     /// Encrypts a block in place: CIPHER under this key, in 10 or 14 rounds.
@@ -63,17 +69,6 @@ impl KeySchedule {
         ensures undone { cipher self.now block.new ≡ block.old }
     {
         plain::decrypt_block(self, block);
-    }
-
-    #[tactic(auto, using(crate::proofs::ExpansionRules::schedule_of))]
-    fn of_key(key: &[u8]) -> KeySchedule
-        requires { IsKey key.now }
-        ensures { result ≡ key.now }
-    {
-        KeySchedule {
-            words: expand(key),
-            key_len: key.len(),
-        }
     }
 
     // The number of rounds.
