@@ -1,5 +1,5 @@
 -- Which lists hold bytes, and which states.
-use Rattle.std.proofs.Common.{◌⊎◌, ◌≡◌, ℕ, zero, suc, ◌+◌, ◌-◌, ◌*◌, ◌/◌, ◌%◌, ◌<◌, Bool, true, false, List, [], ◌∷◌, ◌&&◌, length, get_or, drop, All, refl, ap, arith, lit<, inl, inr}
+use Rattle.std.proofs.Common.{Fits, w8, ◌⊎◌, ◌≡◌, ℕ, zero, suc, ◌+◌, ◌-◌, ◌*◌, ◌/◌, ◌%◌, ◌<◌, Bool, true, false, List, [], ◌∷◌, ◌&&◌, length, get_or, drop, All, refl, ap, arith, lit<, inl, inr}
 use Rattle.std.specs.Prelude.{◌==◌, nat_lt}
 use Rattle.std.proofs.lemmas.Bool.{cases_lt}
 use Rattle.std.proofs.lemmas.List.{get_or_past}
@@ -183,3 +183,6 @@ key_of_array s size fits = record {
   size = size;
   bytes = All-from_get_or (λ byte. byte < 256) s 0 (λ i within. fits i)
 }
+
+pub bytes_of_slice : (s : List ℕ) → ((i : ℕ) → Fits w8 (get_or s i 0)) → AreBytes s
+bytes_of_slice s fits = All-from_get_or (λ byte. byte < 256) s 0 (λ i within. (fits i).fits)

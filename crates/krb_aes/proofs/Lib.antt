@@ -10,3 +10,6 @@ pub mod MixLaws
 pub mod StateLaws
 pub mod RoundLaws
 pub mod LawRules
+pub mod LaneRules
+pub mod LaneTests
+pub mod LaneRounds

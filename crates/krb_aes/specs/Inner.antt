@@ -1,2 +1,3 @@
 pub mod Schedule
 pub mod Columns
+pub mod Tower

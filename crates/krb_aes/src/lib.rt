@@ -14,11 +14,13 @@
 #![tactic(auto)]
 
 mod expansion;
+mod lanes;
 pub mod laws;
 pub mod plain;
 mod schedule;
 mod tables;
 #[cfg(test)]
 mod tests;
+mod tower;
 
 pub use schedule::KeySchedule;

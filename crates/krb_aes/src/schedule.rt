@@ -4,7 +4,7 @@ ghost use Rattle.krb_aes.specs.Cipher.{cipher, inv_cipher};
 ghost use Rattle.krb_aes.specs.Inner.Schedule.{IsSchedule};
 
 use crate::expansion::{EXPANDED_LEN, expand};
-use crate::plain;
+use crate::lanes;
 use std::marker::Model;
 
 /// A key of 128 or 256 bits with its round keys, ready to turn blocks either way.
@@ -57,7 +57,7 @@ impl KeySchedule {
         ensures block { block.new ≡ cipher self.now block.old }
         ensures undone { inv_cipher self.now block.new ≡ block.old }
     {
-        plain::encrypt_block(self, block);
+        lanes::encrypt_block(self, block);
     }
 
     /// Decrypts a block in place: INVCIPHER under this key, in 10 or 14 rounds.
@@ -68,7 +68,7 @@ impl KeySchedule {
         ensures block { block.new ≡ inv_cipher self.now block.old }
         ensures undone { cipher self.now block.new ≡ block.old }
     {
-        plain::decrypt_block(self, block);
+        lanes::decrypt_block(self, block);
     }
 
     // The number of rounds.
