@@ -181,7 +181,7 @@ block_of_array s size fits = record {
 pub key_of_array : (s : List ℕ) → (length s ≡ 16) ⊎ (length s ≡ 32) → ((i : ℕ) → get_or s i 0 < 256) → IsKey s
 key_of_array s size fits = record {
   size = size;
-  bytes = All-from_get_or (λ byte. byte < 256) s 0 (λ i within. fits i)
+  bytes = All-from_get_or (λ byte. byte < 256) s 0 (λ i within. fits i);
 }
 
 pub bytes_of_slice : (s : List ℕ) → ((i : ℕ) → Fits w8 (get_or s i 0)) → AreBytes s

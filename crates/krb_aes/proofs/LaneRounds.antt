@@ -1,5 +1,5 @@
 -- The rounds on 16 lanes: each lane is the byte of the state at its place.
-use Rattle.std.proofs.Common.{◌≡◌, ℕ, zero, suc, ◌+◌, ◌-◌, ◌*◌, ◌%◌, ◌<◌, List, [], ◌∷◌, ◌++◌, length, get_or, map, refl, sym, ap, ◌∙◌, subst, arith, bit_xor, lit<}
+use Rattle.std.proofs.Common.{◌≡◌, ℕ, zero, suc, ◌+◌, ◌*◌, ◌%◌, ◌<◌, List, [], ◌∷◌, ◌++◌, length, map, refl, sym, ap, ◌∙◌, subst, arith, bit_xor}
 use Rattle.std.specs.Simd.Lanes.{zip2, pick_l, chunk}
 use Rattle.std.specs.Int.Bits.{xor_assoc}
 use Rattle.std.proofs.lemmas.Nat.{xor_comm}
@@ -15,7 +15,7 @@ use Rattle.krb_aes.proofs.ProductRules.{product_by_01, product_by_03}
 pub lanes_of_block : (s : List ℕ) → IsBlock s → LanesBelow 256 s
 lanes_of_block s block = record {
   size = block.size;
-  each = Each1-from_get_or (λ x. x < 256) s 0 (λ i within. place s i block.bytes)
+  each = Each1-from_get_or (λ x. x < 256) s 0 (λ i within. place s i block.bytes);
 }
 
 -- ---- sums in another order
@@ -56,15 +56,15 @@ mixed_lane_is (suc (suc zero)) y k small bytes =
     rw (product_by_03 (y 3) (bytes 3), product_by_01 (y 0) (bytes 0), product_by_01 (y 1) (bytes 1))
     (in_pairs_with (product 0x02 (y 2)) (bit_xor (product 0x02 (y 3)) (y 3)) (y 0) (y 1) k
     ∙ ap (λ x. bit_xor x k)
-        (turned (product 0x02 (y 2)) (bit_xor (product 0x02 (y 3)) (y 3)) (y 0) (y 1)
-        ∙ turned (y 1) (product 0x02 (y 2)) (bit_xor (product 0x02 (y 3)) (y 3)) (y 0)))
+    (turned (product 0x02 (y 2)) (bit_xor (product 0x02 (y 3)) (y 3)) (y 0) (y 1)
+    ∙ turned (y 1) (product 0x02 (y 2)) (bit_xor (product 0x02 (y 3)) (y 3)) (y 0)))
 mixed_lane_is (suc (suc (suc zero))) y k small bytes =
     rw (product_by_03 (y 0) (bytes 0), product_by_01 (y 1) (bytes 1), product_by_01 (y 2) (bytes 2))
     (in_pairs_with (product 0x02 (y 3)) (bit_xor (product 0x02 (y 0)) (y 0)) (y 1) (y 2) k
     ∙ ap (λ x. bit_xor x k)
-        (turned (product 0x02 (y 3)) (bit_xor (product 0x02 (y 0)) (y 0)) (y 1) (y 2)
-        ∙ turned (y 2) (product 0x02 (y 3)) (bit_xor (product 0x02 (y 0)) (y 0)) (y 1)
-        ∙ turned (y 1) (y 2) (product 0x02 (y 3)) (bit_xor (product 0x02 (y 0)) (y 0))))
+    (turned (product 0x02 (y 3)) (bit_xor (product 0x02 (y 0)) (y 0)) (y 1) (y 2)
+    ∙ turned (y 2) (product 0x02 (y 3)) (bit_xor (product 0x02 (y 0)) (y 0)) (y 1)
+    ∙ turned (y 1) (y 2) (product 0x02 (y 3)) (bit_xor (product 0x02 (y 0)) (y 0))))
 mixed_lane_is (suc (suc (suc (suc r)))) y k small bytes = absurd (omega arith)
 
 abbrev inv_mixed_lane : ℕ → (ℕ → ℕ) → ℕ
@@ -135,19 +135,19 @@ pub round_lanes : (s key doubled once : List ℕ) → IsBlock s → length key �
 unfolding add_round_key mix_columns shift_rows sub_bytes
 round_lanes s key doubled once block size doubled_is once_is =
     let P : List ℕ → List ℕ → Type 0 = λ t k.
-        round_of (map (λ x. product 0x02 (s_box x)) t) (map s_box t) k ≡ add_round_key (mix_columns (shift_rows (sub_bytes t))) k in
+    round_of (map (λ x. product 0x02 (s_box x)) t) (map s_box t) k ≡ add_round_key (mix_columns (shift_rows (sub_bytes t))) k in
     let column : ℕ → ℕ → ℕ = λ c j. s_box (at s j ((c + j) % 4)) in
     (λ i. round_of (doubled_is i) (once_is i) key)
     ∙ at_16 P s key block.size size
-        (same_state (λ r c. mixed_lane r (column c) (at key r c)) (λ r c. bit_xor (row_times_column mix r (column c)) (at key r c))
-        (λ r c small. mixed_lane_is r (column c) (at key r c) small (λ j. s_box_byte _ (place s (j + 4 * ((c + j) % 4)) block.bytes))))
+    (same_state (λ r c. mixed_lane r (column c) (at key r c)) (λ r c. bit_xor (row_times_column mix r (column c)) (at key r c))
+    (λ r c small. mixed_lane_is r (column c) (at key r c) small (λ j. s_box_byte _ (place s (j + 4 * ((c + j) % 4)) block.bytes))))
 
 pub last_round_lanes : (s key once : List ℕ) → IsBlock s → length key ≡ 16 → once ≡ map s_box s →
     zip2 bit_xor (picked once shifted) (chunk 0 16 key) ≡ add_round_key (shift_rows (sub_bytes s)) key
 unfolding add_round_key shift_rows sub_bytes
 last_round_lanes s key once block size once_is =
     let P : List ℕ → List ℕ → Type 0 = λ t k.
-        zip2 bit_xor (picked (map s_box t) shifted) (chunk 0 16 k) ≡ add_round_key (shift_rows (sub_bytes t)) k in
+    zip2 bit_xor (picked (map s_box t) shifted) (chunk 0 16 k) ≡ add_round_key (shift_rows (sub_bytes t)) k in
     (λ i. zip2 bit_xor (picked (once_is i) shifted) (chunk 0 16 key)) ∙ at_16 P s key block.size size refl
 
 pub inv_last_round_lanes : (s key once : List ℕ) → IsBlock s → length key ≡ 16 → once ≡ map inv_s_box s →
@@ -155,7 +155,7 @@ pub inv_last_round_lanes : (s key once : List ℕ) → IsBlock s → length key 
 unfolding add_round_key inv_shift_rows inv_sub_bytes
 inv_last_round_lanes s key once block size once_is =
     let P : List ℕ → List ℕ → Type 0 = λ t k.
-        zip2 bit_xor (picked (map inv_s_box t) unshifted) (chunk 0 16 k) ≡ add_round_key (inv_sub_bytes (inv_shift_rows t)) k in
+    zip2 bit_xor (picked (map inv_s_box t) unshifted) (chunk 0 16 k) ≡ add_round_key (inv_sub_bytes (inv_shift_rows t)) k in
     (λ i. zip2 bit_xor (picked (once_is i) unshifted) (chunk 0 16 key)) ∙ at_16 P s key block.size size refl
 
 pub inv_mix_lanes : (s e b d n : List ℕ) → IsBlock s →
@@ -164,12 +164,12 @@ pub inv_mix_lanes : (s e b d n : List ℕ) → IsBlock s →
 unfolding inv_mix_columns
 inv_mix_lanes s e b d n block e_is b_is d_is n_is =
     let P : List ℕ → Type 0 = λ t.
-        zip2 bit_xor (zip2 bit_xor (map (product 0x0e) t) (picked (map (product 0x0b) t) turned_1))
-        (zip2 bit_xor (picked (map (product 0x0d) t) turned_2) (picked (map (product 0x09) t) turned_3)) ≡ inv_mix_columns t in
+    zip2 bit_xor (zip2 bit_xor (map (product 0x0e) t) (picked (map (product 0x0b) t) turned_1))
+    (zip2 bit_xor (picked (map (product 0x0d) t) turned_2) (picked (map (product 0x09) t) turned_3)) ≡ inv_mix_columns t in
     (λ i. zip2 bit_xor (zip2 bit_xor (e_is i) (picked (b_is i) turned_1)) (zip2 bit_xor (picked (d_is i) turned_2) (picked (n_is i) turned_3)))
     ∙ subst P (state_of-at s block.size)
-        (same_state (λ r c. inv_mixed_lane r (λ j. at s j c)) (λ r c. row_times_column inv_mix r (λ j. at s j c))
-        (λ r c small. inv_mixed_lane_is r (λ j. at s j c) small))
+    (same_state (λ r c. inv_mixed_lane r (λ j. at s j c)) (λ r c. row_times_column inv_mix r (λ j. at s j c))
+    (λ r c small. inv_mixed_lane_is r (λ j. at s j c) small))
 
 pub first_key_lanes : (s key : List ℕ) → length s ≡ 16 → length key ≡ 16 → zip2 bit_xor s (chunk 0 16 key) ≡ add_round_key s key
 unfolding add_round_key

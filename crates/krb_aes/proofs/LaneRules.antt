@@ -1,9 +1,8 @@
 -- Look-ups on 16 lanes, lane by lane.
-use Rattle.std.proofs.Common.{◌≡◌, ◌⊎◌, ℕ, zero, suc, ◌+◌, ◌*◌, ◌/◌, ◌^◌, ◌<◌, ◌≤◌, ◌||◌, Bool, true, T, IsTrue, cond, List, [], ◌∷◌, length, get_or, map, replicate, refl, sym, ap, ◌∙◌, subst, arith, bit_and, bit_xor, nat_le, nat_lt, w8}
-use Rattle.std.specs.Simd.Lanes.{Each1, Each2, zip2}
+use Rattle.std.proofs.Common.{◌≡◌, ℕ, suc, ◌+◌, ◌*◌, ◌/◌, ◌^◌, ◌<◌, ◌≤◌, ◌||◌, Bool, true, T, IsTrue, List, [], ◌∷◌, length, map, replicate, refl, sym, ap, ◌∙◌, subst, arith, bit_and, bit_xor, nat_le, nat_lt, w8}
+use Rattle.std.specs.Simd.Lanes.{Each1, zip2}
 use Rattle.std.proofs.lemmas.Bool.{agree_below, agree_below_at, or_right, lt-ltb, ltb-true}
 use Rattle.std.proofs.lemmas.Float.{T_from_true}
-use Rattle.std.proofs.lemmas.Nat.{xor_lt}
 use Rattle.std.proofs.lemmas.Simd.{swz_l, SwzOk, SwzOk-from_Each1, Each1-weaker, Each1-zip2, Each2-of, length-zip2, zip2_splat, zip2_of_maps}
 use Rattle.krb_aes.specs.State.{at, state_of}
 use Rattle.krb_aes.specs.Inner.Tower.{ArePlaces, LanesBelow, looked_up, by_nibbles, io_of, jo_of}
@@ -32,7 +31,7 @@ swz_is_map table ps are = looked_up_lanes table ps 0 (omega (arith, are.size))
 pub places_below : (ps : List ℕ) → LanesBelow 16 ps → ArePlaces ps
 places_below ps below = record {
   size = below.size;
-  each = Each1-weaker (λ p. p < 16) (λ p. IsTrue (is_place p)) (λ p small. or_right (nat_le 128 p) (nat_lt p 16) (lt-ltb p 16 small)) ps below.each
+  each = Each1-weaker (λ p. p < 16) (λ p. IsTrue (is_place p)) (λ p small. or_right (nat_le 128 p) (nat_lt p 16) (lt-ltb p 16 small)) ps below.each;
 }
 
 -- 16 lanes with a fact of each of two by two
@@ -49,14 +48,14 @@ length-map_lanes g (x ∷ xs) = ap suc (length-map_lanes g xs)
 pub places_of_bytes : (g : ℕ → ℕ) → agree_below (λ x. is_place (g x)) (λ _. true) 256 ≡ true → (v : List ℕ) → LanesBelow 256 v → ArePlaces (map g v)
 places_of_bytes g ok v below = record {
   size = length-map_lanes g v ∙ below.size;
-  each = below_by_test is_place g ok v below.each
+  each = below_by_test is_place g ok v below.each;
 }
 
 pub nibbles_of_bytes : (g : ℕ → ℕ) → agree_below (λ x. nat_lt (g x) 16) (λ _. true) 256 ≡ true → (v : List ℕ) → LanesBelow 256 v → LanesBelow 16 (map g v)
 nibbles_of_bytes g ok v below = record {
   size = length-map_lanes g v ∙ below.size;
   each = Each1-weaker (λ y. IsTrue (nat_lt y 16)) (λ y. y < 16) (λ y e. ltb-true y 16 e) (map g v)
-    (below_by_test (λ y. nat_lt y 16) g ok v below.each)
+      (below_by_test (λ y. nat_lt y 16) g ok v below.each);
 }
 
 pub places_of_nibbles : (f : ℕ → ℕ → ℕ) →
@@ -65,11 +64,11 @@ pub places_of_nibbles : (f : ℕ → ℕ → ℕ) →
 places_of_nibbles f ok xs ys xs_below ys_below = record {
   size = length-zip2 f xs ys (xs_below.size ∙ sym ys_below.size) ∙ xs_below.size;
   each = Each1-zip2 f (λ p. IsTrue (is_place p)) xs ys
-    (Each2-of (λ x. x < 16) (λ y. y < 16) (λ x y. IsTrue (is_place (f x y)))
-    (λ x y x_small y_small.
-        agree_below_at (λ k. is_place (f x k)) (λ _. true) 16 y
-        (agree_below_at (λ i. agree_below (λ k. is_place (f i k)) (λ _. true) 16) (λ _. true) 16 x ok x_small) y_small)
-    xs ys xs_below.each ys_below.each)
+      (Each2-of (λ x. x < 16) (λ y. y < 16) (λ x y. IsTrue (is_place (f x y)))
+      (λ x y x_small y_small.
+      agree_below_at (λ k. is_place (f x k)) (λ _. true) 16 y
+      (agree_below_at (λ i. agree_below (λ k. is_place (f i k)) (λ _. true) 16) (λ _. true) 16 x ok x_small) y_small)
+      xs ys xs_below.each ys_below.each);
 }
 
 -- ---- one lane's value for all lanes
@@ -88,8 +87,8 @@ pub by_nibbles_lanes : (low high v p q : List ℕ) → length v ≡ 16 →
     zip2 bit_xor p q ≡ map (by_nibbles low high) v
 by_nibbles_lanes low high v p q size p_is q_is =
     let P : List ℕ → Type 0 = λ w.
-        zip2 bit_xor (map (looked_up low) (zip2 bit_and w (replicate 16 15)))
-            (map (looked_up high) (zip2 (λ a b. a / 2 ^ b) w (replicate 16 4))) ≡ map (by_nibbles low high) w in
+    zip2 bit_xor (map (looked_up low) (zip2 bit_and w (replicate 16 15)))
+    (map (looked_up high) (zip2 (λ a b. a / 2 ^ b) w (replicate 16 4))) ≡ map (by_nibbles low high) w in
     rw (p_is, q_is) (lanes_16 P (λ f. refl) v size)
 
 pub low_halves : (v : List ℕ) → length v ≡ 16 → zip2 bit_and v (replicate 16 15) ≡ map (λ x. bit_and x 15) v
@@ -104,7 +103,7 @@ pub joined_lanes : (s t f g : ℕ → ℕ) (c : ℕ) (v : List ℕ) → length v
     ≡ map (λ x. bit_xor (bit_xor (s (f x)) c) (t (g x))) v
 joined_lanes s t f g c =
     lanes_16 (λ w. zip2 bit_xor (zip2 bit_xor (map s (map f w)) (replicate 16 c)) (map t (map g w))
-        ≡ map (λ x. bit_xor (bit_xor (s (f x)) c) (t (g x))) w) (λ f. refl)
+    ≡ map (λ x. bit_xor (bit_xor (s (f x)) c) (t (g x))) w) (λ f. refl)
 
 -- ---- the inverse of k + i * s
 
@@ -132,7 +131,7 @@ pub jo_places : (i k p a : List ℕ) → LanesBelow 16 i → LanesBelow 16 k →
     p ≡ map (looked_up INVERSES) (zip2 bit_xor i k) → a ≡ map (looked_up A_OVER) k → ArePlaces (zip2 bit_xor p a)
 jo_places i k p a i_below k_below p_is a_is =
     subst ArePlaces (sym ((λ j. zip2 bit_xor (p_is j) (a_is j))
-        ∙ zip2-map_of_zip2 bit_xor bit_xor (looked_up INVERSES) (looked_up A_OVER) i k))
+    ∙ zip2-map_of_zip2 bit_xor bit_xor (looked_up INVERSES) (looked_up A_OVER) i k))
     (places_of_nibbles (λ x y. bit_xor (looked_up INVERSES (bit_xor x y)) (looked_up A_OVER y)) refl i k i_below k_below)
 
 io_all : (i k : List ℕ) →

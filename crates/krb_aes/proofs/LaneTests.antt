@@ -1,5 +1,5 @@
 -- What the tables of 16 bytes give for each byte.
-use Rattle.std.proofs.Common.{◌≡◌, ℕ, ◌/◌, ◌^◌, ◌<◌, true, refl, bit_and, bit_xor, nat_lt}
+use Rattle.std.proofs.Common.{◌≡◌, ℕ, ◌<◌, refl, bit_xor}
 use Rattle.krb_aes.specs.Field.{carryless, remainder, product, inverse, number_with}
 use Rattle.krb_aes.specs.SBox.{affine, s_box, inv_s_box}
 use Rattle.krb_aes.specs.Inner.Tower.{looked_up, by_nibbles, io_of, jo_of}

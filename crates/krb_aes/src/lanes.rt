@@ -6,13 +6,16 @@ ghost use Rattle.krb_aes.specs.KeyExpansion.{IsKey};
 ghost use Rattle.krb_aes.specs.Cipher.{IsBlock, cipher, inv_cipher};
 
 use crate::KeySchedule;
-use crate::tower::{inv_substituted, substituted, times_09, times_0b, times_0d, times_0e};
+use crate::tower::{inv_substituted, substituted, times_0b, times_0d, times_0e, times_09};
 use std::simd::prelude::*;
 
 // ShiftRows, and then each column turned up by 0 to 3 places.
 const SHIFTED: [usize; 16] = [0, 5, 10, 15, 4, 9, 14, 3, 8, 13, 2, 7, 12, 1, 6, 11];
+
 const SHIFTED_TURNED_1: [usize; 16] = [5, 10, 15, 0, 9, 14, 3, 4, 13, 2, 7, 8, 1, 6, 11, 12];
+
 const SHIFTED_TURNED_2: [usize; 16] = [10, 15, 0, 5, 14, 3, 4, 9, 2, 7, 8, 13, 6, 11, 12, 1];
+
 const SHIFTED_TURNED_3: [usize; 16] = [15, 0, 5, 10, 3, 4, 9, 14, 7, 8, 13, 2, 11, 12, 1, 6];
 
 // InvShiftRows.
@@ -20,7 +23,9 @@ const UNSHIFTED: [usize; 16] = [0, 13, 10, 7, 4, 1, 14, 11, 8, 5, 2, 15, 12, 9, 
 
 // Each column turned up by 1 to 3 places.
 const TURNED_1: [usize; 16] = [1, 2, 3, 0, 5, 6, 7, 4, 9, 10, 11, 8, 13, 14, 15, 12];
+
 const TURNED_2: [usize; 16] = [2, 3, 0, 1, 6, 7, 4, 5, 10, 11, 8, 9, 14, 15, 12, 13];
+
 const TURNED_3: [usize; 16] = [3, 0, 1, 2, 7, 4, 5, 6, 11, 8, 9, 10, 15, 12, 13, 14];
 
 // A round of the cipher.

@@ -9,8 +9,12 @@
 //! ```
 //!
 //! The contracts speak of the definitions `cipher` and `inv_cipher` of `specs/Cipher`, which are the
-//! standard's CIPHER and INVCIPHER over the field of the bytes. In a clause a `KeySchedule` is the
-//! list of its key's bytes. No call takes memory or fails.
+//! standard's CIPHER and INVCIPHER over the field of the bytes, and say that each direction undoes
+//! the other. In a clause a `KeySchedule` is the list of its key's bytes. No call takes memory,
+//! fails, or asks anything of its arguments.
+//!
+//! The blocks are turned on 16 lanes. `plain` has the same calls byte by byte, under the same
+//! contracts, and `laws` what holds for all keys and blocks.
 #![tactic(auto)]
 
 mod expansion;

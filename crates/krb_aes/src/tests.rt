@@ -94,3 +94,32 @@ fn random_blocks_128(rt: HostRuntime) {
 fn random_blocks_256(rt: HostRuntime) {
     turn_rows_256(&rt, &RANDOM_256);
 }
+
+// The two bodies give one block, either way.
+fn bodies_agree(rt: &impl Abort, schedule: &KeySchedule, block: [u8; 16]) {
+    let mut lanes = block;
+    let mut bytes = block;
+    schedule.encrypt_block(&mut lanes);
+    plain::encrypt_block(schedule, &mut bytes);
+    assert_eq!(rt; lanes, bytes, "encrypting {block:?}");
+    lanes = block;
+    bytes = block;
+    schedule.decrypt_block(&mut lanes);
+    plain::decrypt_block(schedule, &mut bytes);
+    assert_eq!(rt; lanes, bytes, "decrypting {block:?}");
+}
+
+// The block of FIPS 197, appendix C.1, under its two keys, with each first byte.
+#[test]
+fn bodies_agree_at_each_first_byte(rt: HostRuntime) {
+    let [key, plain, _] = STANDARD_128[1];
+    let [high, low, _, _] = STANDARD_256[0];
+    let short = KeySchedule::new_128(&key.to_be_bytes());
+    let long = KeySchedule::new_256(&key_of_halves(high, low));
+    for first in 0..=255u8 {
+        let mut block = plain.to_be_bytes();
+        block[0] = first;
+        bodies_agree(&rt, &short, block);
+        bodies_agree(&rt, &long, block);
+    }
+}

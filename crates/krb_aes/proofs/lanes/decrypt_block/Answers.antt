@@ -1,6 +1,6 @@
-use Rattle.std.proofs.Common.{◌≡◌, ◌+◌, ◌-◌, ◌≤◌, ◌∙◌, ap, sym, subst, arith}
+use Rattle.std.proofs.Common.{◌≡◌, ◌-◌, ◌∙◌, ap, sym, subst, arith}
 use Rattle.krb_aes.specs.State.{add_round_key}
-use Rattle.krb_aes.specs.KeyExpansion.{key_expansion, round_key, round_count}
+use Rattle.krb_aes.specs.KeyExpansion.{key_expansion, round_key}
 use Rattle.krb_aes.specs.Cipher.{IsBlock, inv_rounds, inv_cipher}
 use Rattle.krb_aes.proofs.Bytes.{block_of_array, round_key_bytes}
 use Rattle.krb_aes.proofs.LaneRounds.{first_key_lanes}
@@ -15,11 +15,11 @@ loop-at-init c =
     let block = block_of_array c.args.block.now c.told-block c.fits-block in
     let k = round_key (key_expansion c.args.schedule.now) in
     let keyed = first_key_lanes c.args.block.now c.round_key.result.now c.told-block c.round_key.ensures.len
-        ∙ ap (add_round_key c.args.block.now) c.round_key.ensures.value in
+    ∙ ap (add_round_key c.args.block.now) c.round_key.ensures.value in
     record {
       value = cc keyed;
       block = subst IsBlock (sym keyed) (IsBlock-add_round_key c.args.block.now (k c.rounds-last.result) block
-        (round_key_bytes c.args.schedule.now c.rounds-last.result c.rounds-last.ensures.key.bytes))
+          (round_key_bytes c.args.schedule.now c.rounds-last.result c.rounds-last.ensures.key.bytes));
     }
 
 pub loop-at-preserved : goal.loop-at-preserved
@@ -27,7 +27,7 @@ loop-at-preserved c =
     let k = round_key (key_expansion c.args.schedule.now) in
     record {
       value = cc (inv_rounds_before k c.loop-at.state (c.loop-at.at - 1) (omega arith), c.loop-at.invariant.value);
-      block = c.inv_mix_columns-next.ensures.block
+      block = c.inv_mix_columns-next.ensures.block;
     }
 
 pub returns-clause-block : goal.returns-clause-block

@@ -7,5 +7,5 @@ use Rattle.krb_aes.proofs.lanes.decrypt_block.Given as goal
 abbrev pub invariant-loop-at : goal.invariant-loop-at
 invariant-loop-at l = record {
   value : inv_rounds (round_key (key_expansion l.schedule)) (l.at - 1) l.state ≡ inv_cipher l.schedule l.block;
-  block : IsBlock l.state
+  block : IsBlock l.state;
 }

@@ -1,4 +1,4 @@
-use Rattle.std.proofs.Common.{◌≡◌, ◌+◌, ◌-◌, ◌≤◌, ◌∙◌, ap, sym, subst, arith}
+use Rattle.std.proofs.Common.{◌≡◌, ◌+◌, ◌-◌, ◌∙◌, ap, sym, subst, arith}
 use Rattle.krb_aes.specs.State.{add_round_key}
 use Rattle.krb_aes.specs.KeyExpansion.{key_expansion, round_key}
 use Rattle.krb_aes.specs.Cipher.{IsBlock, rounds, cipher}
@@ -15,11 +15,11 @@ loop-at-init c =
     let block = block_of_array c.args.block.now c.told-block c.fits-block in
     let k = round_key (key_expansion c.args.schedule.now) in
     let keyed = first_key_lanes c.args.block.now c.round_key.result.now c.told-block c.round_key.ensures.len
-        ∙ ap (add_round_key c.args.block.now) c.round_key.ensures.value in
+    ∙ ap (add_round_key c.args.block.now) c.round_key.ensures.value in
     record {
       value = keyed;
       block = subst IsBlock (sym keyed) (IsBlock-add_round_key c.args.block.now (k 0) block
-        (round_key_bytes c.args.schedule.now 0 c.rounds-last.ensures.key.bytes))
+          (round_key_bytes c.args.schedule.now 0 c.rounds-last.ensures.key.bytes));
     }
 
 pub loop-at-preserved : goal.loop-at-preserved
@@ -28,7 +28,7 @@ loop-at-preserved c =
     let same : c.loop-at.at + 1 - 1 ≡ c.loop-at.at = omega arith in
     record {
       value = rw same (cc (rounds_after k c.args.block.now c.loop-at.at (omega arith), c.loop-at.invariant.value));
-      block = c.round-next.ensures.block
+      block = c.round-next.ensures.block;
     }
 
 pub returns-clause-block : goal.returns-clause-block

@@ -17,4 +17,4 @@ pub returns-clause-block : goal.returns-clause-block
 returns-clause-block c =
     subst IsBlock (sym (returns-clause-value c))
     (IsBlock-add_round_key _ c.args.key.now (IsBlock-restored c.args.state c.requires.state)
-        (bytes_of_slice c.args.key.now c.type_inv.key))
+    (bytes_of_slice c.args.key.now c.type_inv.key))

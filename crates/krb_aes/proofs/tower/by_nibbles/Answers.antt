@@ -1,4 +1,4 @@
-use Rattle.std.proofs.Common.{refl, sym, subst, ◌≡◌, ℕ, List}
+use Rattle.std.proofs.Common.{refl, sym, subst}
 use Rattle.krb_aes.specs.Inner.Tower.{ArePlaces}
 use Rattle.krb_aes.proofs.LaneRules.{by_nibbles_lanes, low_halves, high_halves, places_of_bytes}
 use Rattle.krb_aes.proofs.tower.by_nibbles.Goals as goal

@@ -1,4 +1,4 @@
-use Rattle.std.proofs.Common.{◌≡◌, ◌∙◌, ℕ, List, map, refl, sym, subst, ap, bit_xor}
+use Rattle.std.proofs.Common.{◌∙◌, refl, sym, subst}
 use Rattle.krb_aes.specs.Inner.Tower.{ArePlaces, LanesBelow, looked_up, io_of, jo_of}
 use Rattle.krb_aes.specs.declared.tower.TheConstants.{SUB_IO, SUB_JO, DOUBLED_IO, DOUBLED_JO}
 use Rattle.krb_aes.proofs.LaneRules.{map_same, nibbles_of_bytes, places_of_bytes, pairs_lanes, joined_lanes}

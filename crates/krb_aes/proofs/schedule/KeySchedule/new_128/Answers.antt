@@ -1,4 +1,4 @@
-use Rattle.std.proofs.Common.{rules, inl}
+use Rattle.std.proofs.Common.{inl}
 use Rattle.krb_aes.proofs.Bytes.{key_of_array}
 use Rattle.krb_aes.proofs.ExpansionRules.{schedule_of}
 use Rattle.krb_aes.proofs.schedule.KeySchedule.new_128.Goals as goal

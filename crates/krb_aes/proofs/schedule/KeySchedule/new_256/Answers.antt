@@ -1,4 +1,4 @@
-use Rattle.std.proofs.Common.{rules, inr}
+use Rattle.std.proofs.Common.{inr}
 use Rattle.krb_aes.proofs.Bytes.{key_of_array}
 use Rattle.krb_aes.proofs.ExpansionRules.{schedule_of}
 use Rattle.krb_aes.proofs.schedule.KeySchedule.new_256.Goals as goal
