@@ -1,5 +1,5 @@
 -- The key expansion, as far as the code has come.
-use Rattle.std.proofs.Common.{subst, ◌≡◌, ℕ, zero, suc, ◌<◌, ◌≤◌, ◌-◌, ◌+◌, ◌*◌, ◌/◌, ◌%◌, ◌&&◌, List, refl, arith, length, length-append, take, drop, ap, sym, ◌∙◌, inl, inr}
+use Rattle.std.proofs.Common.{◌++◌, subst, ◌≡◌, ℕ, zero, suc, ◌<◌, ◌≤◌, ◌-◌, ◌+◌, ◌*◌, ◌/◌, ◌%◌, ◌&&◌, List, refl, arith, length, length-append, take, drop, ap, sym, ◌∙◌, inl, inr}
 use Rattle.std.proofs.lemmas.List.{get_or-take, take-take, take-append-le, take_all, drop-take}
 use Rattle.std.proofs.lemmas.Slice.{take-put_mid}
 use Rattle.std.specs.Prelude.{◌==◌, nat_lt}
@@ -66,7 +66,11 @@ first_words_more key words next i is after room so_far is_next =
     let one_more : i + 1 - key_words key ≡ suc (i - key_words key) = omega arith in
     let place : key_words key + (i - key_words key) ≡ i = omega arith in
     let taken = take-put_mid (4 * i) (4 * i + 4 - 4 * i) words next (4 * (i + 1)) (omega arith) (omega arith) in
-    rw (one_more, place) (taken ∙ rw (so_far, is_next, ← next_word-take (key_words key) i words some after, so_far) refl)
+    let last : next ≡ next_word (key_words key) i (first_words key (i - key_words key)) =
+    is_next
+    ∙ sym (next_word-take (key_words key) i words some after)
+    ∙ ap (next_word (key_words key) i) so_far in
+    rw (one_more, place, taken, so_far) (ap (λ t. first_words key (i - key_words key) ++ t) last)
 
 -- all words
 pub key_expansion_all : (key words : List ℕ) (i : ℕ) → IsKey key → i ≡ 4 * (key_words key + 7) →

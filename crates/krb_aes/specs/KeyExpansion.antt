@@ -9,22 +9,22 @@ pub record IsKey (key : List ℕ) : Type 0 where
   pub size : (length key ≡ 16) ⊎ (length key ≡ 32)
   pub bytes : All (λ byte. byte < 256) key
 
--- Nk, the words of the key, and Nr, the rounds: 4 and 10, or 8 and 14 (section 5, table 3)
+-- Nk, the words of the key, and Nr, the rounds: 4 and 10, or 8 and 14 (section 5)
 abbrev pub key_words : List ℕ → ℕ
 key_words key = length key / 4
 
 abbrev pub round_count : List ℕ → ℕ
 round_count key = key_words key + 6
 
--- the word of four bytes
+-- the word with the bytes f 0 to f 3
 abbrev pub word_of : (ℕ → ℕ) → List ℕ
 word_of f = f 0 ∷ f 1 ∷ f 2 ∷ f 3 ∷ []
 
--- w[i]
+-- w[i], in the list of the words' bytes
 abbrev pub word : List ℕ → ℕ → List ℕ
 word w i = word_of (λ r. slice_index w (4 * i + r))
 
--- ROTWORD and SUBWORD (5.2, (5.10) and (5.11))
+-- ROTWORD and SUBWORD (5.2)
 abbrev pub rot_word : List ℕ → List ℕ
 rot_word t = word_of (λ r. slice_index t ((r + 1) % 4))
 
@@ -40,17 +40,18 @@ unfoldable pub x_to_the : ℕ → ℕ
 x_to_the zero = 1
 x_to_the (suc n) = product 0x02 (x_to_the n)
 
--- Rcon[j]: x^(j - 1) and three zeros (5.2, table 5)
+-- Rcon[j]: x^(j - 1) and three zeros (5.2)
 abbrev pub rcon : ℕ → List ℕ
 rcon j = x_to_the (j - 1) ∷ 0 ∷ 0 ∷ 0 ∷ []
 
--- what is added to w[i - Nk], from the word t = w[i - 1] (algorithm 2, lines 8 to 13)
+-- what is added to w[i - Nk], from the word t = w[i - 1]: where Nk divides i, where Nk is above 6 and
+-- i is 4 above a multiple of it, and else (5.2, algorithm 2)
 abbrev pub changed_word : Bool → Bool → ℕ → List ℕ → List ℕ
-changed_word true four j t = sum_of_words (sub_word (rot_word t)) (rcon j)
+changed_word true fourth j t = sum_of_words (sub_word (rot_word t)) (rcon j)
 changed_word false true j t = sub_word t
 changed_word false false j t = t
 
--- w[i], from the words before it (algorithm 2, line 14)
+-- w[i], from the words before it (5.2, algorithm 2)
 abbrev pub next_word : ℕ → ℕ → List ℕ → List ℕ
 next_word nk i w =
     sum_of_words (word w (i - nk))

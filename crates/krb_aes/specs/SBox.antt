@@ -3,7 +3,7 @@ use Rattle.std.specs.Prelude.{ℕ, zero, suc, ◌+◌, ◌*◌, ◌%◌, ◌^◌
 use Rattle.std.specs.Int.{bit_at}
 use Rattle.krb_aes.specs.Field.{inverse, number_with}
 
--- bit i of the affine transformation of the byte b, with the constant byte c = 63 (5.1.1, (5.2))
+-- bit i of the affine transformation of the byte b, with the constant byte c = 63 (5.1.1)
 abbrev pub affine_bit : ℕ → ℕ → ℕ
 affine_bit b i =
     (bit_at b i + bit_at b ((i + 4) % 8) + bit_at b ((i + 5) % 8) + bit_at b ((i + 6) % 8)

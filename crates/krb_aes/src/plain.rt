@@ -1,4 +1,5 @@
-//! The cipher byte by byte, over tables of 256 bytes.
+//! The cipher byte by byte, over tables of 256 bytes: the same calls as those of `KeySchedule`, as a
+//! second body under the same contracts.
 
 ghost use Rattle.std.specs.Prelude.{◌≡◌, ℕ, List, [], ◌∷◌, length};
 ghost use Rattle.krb_aes.specs.Field.{product};
@@ -197,6 +198,7 @@ fn inv_mix_columns(s: &Block) -> Block
 pub fn encrypt_block(schedule: &KeySchedule, block: &mut [u8; 16])
     ensures key { IsKey schedule.now }
     ensures block { block.new ≡ cipher schedule.now block.old }
+    // Decryption gives the old block back.
     ensures undone { inv_cipher schedule.now block.new ≡ block.old }
 {
     let last = schedule.rounds();
@@ -215,6 +217,7 @@ pub fn encrypt_block(schedule: &KeySchedule, block: &mut [u8; 16])
 pub fn decrypt_block(schedule: &KeySchedule, block: &mut [u8; 16])
     ensures key { IsKey schedule.now }
     ensures block { block.new ≡ inv_cipher schedule.now block.old }
+    // Encryption gives the old block back.
     ensures undone { cipher schedule.now block.new ≡ block.old }
 {
     let last = schedule.rounds();

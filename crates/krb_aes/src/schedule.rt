@@ -55,6 +55,7 @@ impl KeySchedule {
     pub fn encrypt_block(&self, block: &mut [u8; 16])
         ensures key { IsKey self.now }
         ensures block { block.new ≡ cipher self.now block.old }
+        // Decryption gives the old block back.
         ensures undone { inv_cipher self.now block.new ≡ block.old }
     {
         lanes::encrypt_block(self, block);
@@ -66,6 +67,7 @@ impl KeySchedule {
     pub fn decrypt_block(&self, block: &mut [u8; 16])
         ensures key { IsKey self.now }
         ensures block { block.new ≡ inv_cipher self.now block.old }
+        // Encryption gives the old block back.
         ensures undone { cipher self.now block.new ≡ block.old }
     {
         lanes::decrypt_block(self, block);
