@@ -1,0 +1,177 @@
+-- The rounds on 16 lanes: each lane is the byte of the state at its place.
+use Rattle.std.proofs.Common.{◌≡◌, ℕ, zero, suc, ◌+◌, ◌*◌, ◌%◌, ◌<◌, List, [], ◌∷◌, ◌++◌, length, map, refl, sym, ap, ◌∙◌, subst, arith, bit_xor}
+use Rattle.std.specs.Simd.Lanes.{zip2, pick_l, chunk}
+use Rattle.std.specs.Int.Bits.{xor_assoc}
+use Rattle.std.proofs.lemmas.Nat.{xor_comm}
+use Rattle.std.proofs.lemmas.Simd.{Each1-from_get_or}
+use Rattle.krb_aes.specs.Field.{product}
+use Rattle.krb_aes.specs.SBox.{s_box, inv_s_box}
+use Rattle.krb_aes.specs.State.{at, state_of, row_times_column, mix, inv_mix, sub_bytes, inv_sub_bytes, shift_rows, inv_shift_rows, mix_columns, inv_mix_columns, add_round_key}
+use Rattle.krb_aes.specs.Cipher.{IsBlock}
+use Rattle.krb_aes.specs.Inner.Tower.{LanesBelow}
+use Rattle.krb_aes.proofs.Bytes.{place, s_box_byte, state_of-at, same_state}
+use Rattle.krb_aes.proofs.ProductRules.{product_by_01, product_by_03}
+
+pub lanes_of_block : (s : List ℕ) → IsBlock s → LanesBelow 256 s
+lanes_of_block s block = record {
+  size = block.size;
+  each = Each1-from_get_or (λ x. x < 256) s 0 (λ i within. place s i block.bytes);
+}
+
+-- ---- sums in another order
+
+abbrev sum4 : ℕ → ℕ → ℕ → ℕ → ℕ
+sum4 a b c d = bit_xor (bit_xor (bit_xor a b) c) d
+
+turned : (a b c d : ℕ) → sum4 a b c d ≡ sum4 d a b c
+turned a b c d =
+    xor_comm (bit_xor (bit_xor a b) c) d
+    ∙ sym (xor_assoc d (bit_xor a b) c)
+    ∙ ap (λ x. bit_xor x c) (sym (xor_assoc d a b))
+
+in_pairs : (a b c d : ℕ) → bit_xor (bit_xor a b) (bit_xor c d) ≡ sum4 a b c d
+in_pairs a b c d = sym (xor_assoc (bit_xor a b) c d)
+
+in_pairs_with : (a b c d k : ℕ) → bit_xor (bit_xor a b) (bit_xor (bit_xor c d) k) ≡ bit_xor (sum4 a b c d) k
+in_pairs_with a b c d k =
+    sym (xor_assoc (bit_xor a b) (bit_xor c d) k) ∙ ap (λ x. bit_xor x k) (in_pairs a b c d)
+
+-- ---- MixColumns, from row r of the column y on
+
+abbrev mixed_lane : ℕ → (ℕ → ℕ) → ℕ → ℕ
+mixed_lane r y k =
+    bit_xor (bit_xor (product 0x02 (y r)) (bit_xor (product 0x02 (y ((r + 1) % 4))) (y ((r + 1) % 4))))
+    (bit_xor (bit_xor (y ((r + 2) % 4)) (y ((r + 3) % 4))) k)
+
+mixed_lane_is : (r : ℕ) (y : ℕ → ℕ) (k : ℕ) → r < 4 → ((j : ℕ) → y j < 256) →
+    mixed_lane r y k ≡ bit_xor (row_times_column mix r y) k
+mixed_lane_is zero y k small bytes =
+    rw (product_by_03 (y 1) (bytes 1), product_by_01 (y 2) (bytes 2), product_by_01 (y 3) (bytes 3))
+    (in_pairs_with (product 0x02 (y 0)) (bit_xor (product 0x02 (y 1)) (y 1)) (y 2) (y 3) k)
+mixed_lane_is (suc zero) y k small bytes =
+    rw (product_by_03 (y 2) (bytes 2), product_by_01 (y 3) (bytes 3), product_by_01 (y 0) (bytes 0))
+    (in_pairs_with (product 0x02 (y 1)) (bit_xor (product 0x02 (y 2)) (y 2)) (y 3) (y 0) k
+    ∙ ap (λ x. bit_xor x k) (turned (product 0x02 (y 1)) (bit_xor (product 0x02 (y 2)) (y 2)) (y 3) (y 0)))
+mixed_lane_is (suc (suc zero)) y k small bytes =
+    rw (product_by_03 (y 3) (bytes 3), product_by_01 (y 0) (bytes 0), product_by_01 (y 1) (bytes 1))
+    (in_pairs_with (product 0x02 (y 2)) (bit_xor (product 0x02 (y 3)) (y 3)) (y 0) (y 1) k
+    ∙ ap (λ x. bit_xor x k)
+    (turned (product 0x02 (y 2)) (bit_xor (product 0x02 (y 3)) (y 3)) (y 0) (y 1)
+    ∙ turned (y 1) (product 0x02 (y 2)) (bit_xor (product 0x02 (y 3)) (y 3)) (y 0)))
+mixed_lane_is (suc (suc (suc zero))) y k small bytes =
+    rw (product_by_03 (y 0) (bytes 0), product_by_01 (y 1) (bytes 1), product_by_01 (y 2) (bytes 2))
+    (in_pairs_with (product 0x02 (y 3)) (bit_xor (product 0x02 (y 0)) (y 0)) (y 1) (y 2) k
+    ∙ ap (λ x. bit_xor x k)
+    (turned (product 0x02 (y 3)) (bit_xor (product 0x02 (y 0)) (y 0)) (y 1) (y 2)
+    ∙ turned (y 2) (product 0x02 (y 3)) (bit_xor (product 0x02 (y 0)) (y 0)) (y 1)
+    ∙ turned (y 1) (y 2) (product 0x02 (y 3)) (bit_xor (product 0x02 (y 0)) (y 0))))
+mixed_lane_is (suc (suc (suc (suc r)))) y k small bytes = absurd (omega arith)
+
+abbrev inv_mixed_lane : ℕ → (ℕ → ℕ) → ℕ
+inv_mixed_lane r y =
+    bit_xor (bit_xor (product 0x0e (y r)) (product 0x0b (y ((r + 1) % 4))))
+    (bit_xor (product 0x0d (y ((r + 2) % 4))) (product 0x09 (y ((r + 3) % 4))))
+
+inv_mixed_lane_is : (r : ℕ) (y : ℕ → ℕ) → r < 4 → inv_mixed_lane r y ≡ row_times_column inv_mix r y
+inv_mixed_lane_is zero y small =
+    in_pairs (product 0x0e (y 0)) (product 0x0b (y 1)) (product 0x0d (y 2)) (product 0x09 (y 3))
+inv_mixed_lane_is (suc zero) y small =
+    in_pairs (product 0x0e (y 1)) (product 0x0b (y 2)) (product 0x0d (y 3)) (product 0x09 (y 0))
+    ∙ turned (product 0x0e (y 1)) (product 0x0b (y 2)) (product 0x0d (y 3)) (product 0x09 (y 0))
+inv_mixed_lane_is (suc (suc zero)) y small =
+    in_pairs (product 0x0e (y 2)) (product 0x0b (y 3)) (product 0x0d (y 0)) (product 0x09 (y 1))
+    ∙ turned (product 0x0e (y 2)) (product 0x0b (y 3)) (product 0x0d (y 0)) (product 0x09 (y 1))
+    ∙ turned (product 0x09 (y 1)) (product 0x0e (y 2)) (product 0x0b (y 3)) (product 0x0d (y 0))
+inv_mixed_lane_is (suc (suc (suc zero))) y small =
+    in_pairs (product 0x0e (y 3)) (product 0x0b (y 0)) (product 0x0d (y 1)) (product 0x09 (y 2))
+    ∙ turned (product 0x0e (y 3)) (product 0x0b (y 0)) (product 0x0d (y 1)) (product 0x09 (y 2))
+    ∙ turned (product 0x09 (y 2)) (product 0x0e (y 3)) (product 0x0b (y 0)) (product 0x0d (y 1))
+    ∙ turned (product 0x0d (y 1)) (product 0x09 (y 2)) (product 0x0e (y 3)) (product 0x0b (y 0))
+inv_mixed_lane_is (suc (suc (suc (suc r)))) y small = absurd (omega arith)
+
+-- ---- whole rounds
+
+abbrev shifted : List ℕ
+shifted = 0 ∷ 5 ∷ 10 ∷ 15 ∷ 4 ∷ 9 ∷ 14 ∷ 3 ∷ 8 ∷ 13 ∷ 2 ∷ 7 ∷ 12 ∷ 1 ∷ 6 ∷ 11 ∷ []
+
+abbrev shifted_turned_1 : List ℕ
+shifted_turned_1 = 5 ∷ 10 ∷ 15 ∷ 0 ∷ 9 ∷ 14 ∷ 3 ∷ 4 ∷ 13 ∷ 2 ∷ 7 ∷ 8 ∷ 1 ∷ 6 ∷ 11 ∷ 12 ∷ []
+
+abbrev shifted_turned_2 : List ℕ
+shifted_turned_2 = 10 ∷ 15 ∷ 0 ∷ 5 ∷ 14 ∷ 3 ∷ 4 ∷ 9 ∷ 2 ∷ 7 ∷ 8 ∷ 13 ∷ 6 ∷ 11 ∷ 12 ∷ 1 ∷ []
+
+abbrev shifted_turned_3 : List ℕ
+shifted_turned_3 = 15 ∷ 0 ∷ 5 ∷ 10 ∷ 3 ∷ 4 ∷ 9 ∷ 14 ∷ 7 ∷ 8 ∷ 13 ∷ 2 ∷ 11 ∷ 12 ∷ 1 ∷ 6 ∷ []
+
+abbrev unshifted : List ℕ
+unshifted = 0 ∷ 13 ∷ 10 ∷ 7 ∷ 4 ∷ 1 ∷ 14 ∷ 11 ∷ 8 ∷ 5 ∷ 2 ∷ 15 ∷ 12 ∷ 9 ∷ 6 ∷ 3 ∷ []
+
+abbrev turned_1 : List ℕ
+turned_1 = 1 ∷ 2 ∷ 3 ∷ 0 ∷ 5 ∷ 6 ∷ 7 ∷ 4 ∷ 9 ∷ 10 ∷ 11 ∷ 8 ∷ 13 ∷ 14 ∷ 15 ∷ 12 ∷ []
+
+abbrev turned_2 : List ℕ
+turned_2 = 2 ∷ 3 ∷ 0 ∷ 1 ∷ 6 ∷ 7 ∷ 4 ∷ 5 ∷ 10 ∷ 11 ∷ 8 ∷ 9 ∷ 14 ∷ 15 ∷ 12 ∷ 13 ∷ []
+
+abbrev turned_3 : List ℕ
+turned_3 = 3 ∷ 0 ∷ 1 ∷ 2 ∷ 7 ∷ 4 ∷ 5 ∷ 6 ∷ 11 ∷ 8 ∷ 9 ∷ 10 ∷ 15 ∷ 12 ∷ 13 ∷ 14 ∷ []
+
+-- the lanes of v at these places
+abbrev picked : List ℕ → List ℕ → List ℕ
+picked v places = pick_l 0 (v ++ v) places
+
+at_16 : (P : List ℕ → List ℕ → Type 0) (s key : List ℕ) → length s ≡ 16 → length key ≡ 16 →
+    P (state_of (at s)) (state_of (at key)) → P s key
+at_16 P s key s_size key_size h =
+    subst (λ t. P t key) (state_of-at s s_size) (subst (λ t. P (state_of (at s)) t) (state_of-at key key_size) h)
+
+abbrev round_of : List ℕ → List ℕ → List ℕ → List ℕ
+round_of doubled once key =
+    zip2 bit_xor (zip2 bit_xor (picked doubled shifted) (picked (zip2 bit_xor doubled once) shifted_turned_1))
+    (zip2 bit_xor (zip2 bit_xor (picked once shifted_turned_2) (picked once shifted_turned_3)) (chunk 0 16 key))
+
+pub round_lanes : (s key doubled once : List ℕ) → IsBlock s → length key ≡ 16 →
+    doubled ≡ map (λ x. product 0x02 (s_box x)) s → once ≡ map s_box s →
+    round_of doubled once key ≡ add_round_key (mix_columns (shift_rows (sub_bytes s))) key
+unfolding add_round_key mix_columns shift_rows sub_bytes
+round_lanes s key doubled once block size doubled_is once_is =
+    let P : List ℕ → List ℕ → Type 0 = λ t k.
+    round_of (map (λ x. product 0x02 (s_box x)) t) (map s_box t) k ≡ add_round_key (mix_columns (shift_rows (sub_bytes t))) k in
+    let column : ℕ → ℕ → ℕ = λ c j. s_box (at s j ((c + j) % 4)) in
+    (λ i. round_of (doubled_is i) (once_is i) key)
+    ∙ at_16 P s key block.size size
+    (same_state (λ r c. mixed_lane r (column c) (at key r c)) (λ r c. bit_xor (row_times_column mix r (column c)) (at key r c))
+    (λ r c small. mixed_lane_is r (column c) (at key r c) small (λ j. s_box_byte _ (place s (j + 4 * ((c + j) % 4)) block.bytes))))
+
+pub last_round_lanes : (s key once : List ℕ) → IsBlock s → length key ≡ 16 → once ≡ map s_box s →
+    zip2 bit_xor (picked once shifted) (chunk 0 16 key) ≡ add_round_key (shift_rows (sub_bytes s)) key
+unfolding add_round_key shift_rows sub_bytes
+last_round_lanes s key once block size once_is =
+    let P : List ℕ → List ℕ → Type 0 = λ t k.
+    zip2 bit_xor (picked (map s_box t) shifted) (chunk 0 16 k) ≡ add_round_key (shift_rows (sub_bytes t)) k in
+    (λ i. zip2 bit_xor (picked (once_is i) shifted) (chunk 0 16 key)) ∙ at_16 P s key block.size size refl
+
+pub inv_last_round_lanes : (s key once : List ℕ) → IsBlock s → length key ≡ 16 → once ≡ map inv_s_box s →
+    zip2 bit_xor (picked once unshifted) (chunk 0 16 key) ≡ add_round_key (inv_sub_bytes (inv_shift_rows s)) key
+unfolding add_round_key inv_shift_rows inv_sub_bytes
+inv_last_round_lanes s key once block size once_is =
+    let P : List ℕ → List ℕ → Type 0 = λ t k.
+    zip2 bit_xor (picked (map inv_s_box t) unshifted) (chunk 0 16 k) ≡ add_round_key (inv_sub_bytes (inv_shift_rows t)) k in
+    (λ i. zip2 bit_xor (picked (once_is i) unshifted) (chunk 0 16 key)) ∙ at_16 P s key block.size size refl
+
+pub inv_mix_lanes : (s e b d n : List ℕ) → IsBlock s →
+    e ≡ map (product 0x0e) s → b ≡ map (product 0x0b) s → d ≡ map (product 0x0d) s → n ≡ map (product 0x09) s →
+    zip2 bit_xor (zip2 bit_xor e (picked b turned_1)) (zip2 bit_xor (picked d turned_2) (picked n turned_3)) ≡ inv_mix_columns s
+unfolding inv_mix_columns
+inv_mix_lanes s e b d n block e_is b_is d_is n_is =
+    let P : List ℕ → Type 0 = λ t.
+    zip2 bit_xor (zip2 bit_xor (map (product 0x0e) t) (picked (map (product 0x0b) t) turned_1))
+    (zip2 bit_xor (picked (map (product 0x0d) t) turned_2) (picked (map (product 0x09) t) turned_3)) ≡ inv_mix_columns t in
+    (λ i. zip2 bit_xor (zip2 bit_xor (e_is i) (picked (b_is i) turned_1)) (zip2 bit_xor (picked (d_is i) turned_2) (picked (n_is i) turned_3)))
+    ∙ subst P (state_of-at s block.size)
+    (same_state (λ r c. inv_mixed_lane r (λ j. at s j c)) (λ r c. row_times_column inv_mix r (λ j. at s j c))
+    (λ r c small. inv_mixed_lane_is r (λ j. at s j c) small))
+
+pub first_key_lanes : (s key : List ℕ) → length s ≡ 16 → length key ≡ 16 → zip2 bit_xor s (chunk 0 16 key) ≡ add_round_key s key
+unfolding add_round_key
+first_key_lanes s key s_size key_size =
+    at_16 (λ t k. zip2 bit_xor t (chunk 0 16 k) ≡ add_round_key t k) s key s_size key_size refl

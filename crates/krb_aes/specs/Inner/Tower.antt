@@ -1,0 +1,29 @@
+-- The look-ups in tables of 16 bytes, as functions of one lane.
+use Rattle.std.specs.Prelude.{◌≡◌, ℕ, ◌/◌, ◌^◌, ◌<◌, ◌||◌, IsTrue, nat_le, nat_lt, List, length, slice_index, bit_and, bit_xor, if◌then◌else◌}
+use Rattle.std.specs.Simd.Lanes.{Each1}
+use Rattle.krb_aes.specs.declared.tower.TheConstants.{INVERSES, A_OVER}
+
+-- 16 lanes below a bound
+pub record LanesBelow (bound : ℕ) (lanes : List ℕ) : Type 0 where
+  pub size : length lanes ≡ 16
+  pub each : Each1 (λ x. x < bound) lanes
+
+-- 16 lanes, each a place in a table of 16 bytes, or beyond all tables
+pub record ArePlaces (lanes : List ℕ) : Type 0 where
+  pub size : length lanes ≡ 16
+  pub each : Each1 (λ p. IsTrue (nat_le 128 p || nat_lt p 16)) lanes
+
+-- the entry at a place, and 0 beyond
+abbrev pub looked_up : List ℕ → ℕ → ℕ
+looked_up table p = if nat_le 128 p then 0 else slice_index table p
+
+-- the sum of an entry for the low half of a byte and one for its high half
+abbrev pub by_nibbles : List ℕ → List ℕ → ℕ → ℕ
+by_nibbles low high x = bit_xor (looked_up low (bit_and x 15)) (looked_up high (x / 2 ^ 4))
+
+-- the two values from which the inverse of k + i * s is read
+abbrev pub io_of : ℕ → ℕ → ℕ
+io_of i k = bit_xor (looked_up INVERSES (bit_xor (looked_up INVERSES i) (looked_up A_OVER k))) (bit_xor i k)
+
+abbrev pub jo_of : ℕ → ℕ → ℕ
+jo_of i k = bit_xor (looked_up INVERSES (bit_xor (looked_up INVERSES (bit_xor i k)) (looked_up A_OVER k))) i

@@ -1,0 +1,105 @@
+// The cipher on 16 lanes, one for each byte of the state.
+
+ghost use Rattle.std.specs.Prelude.{◌≡◌, length};
+ghost use Rattle.krb_aes.specs.State.{sub_bytes, inv_sub_bytes, shift_rows, inv_shift_rows, mix_columns, inv_mix_columns, add_round_key};
+ghost use Rattle.krb_aes.specs.KeyExpansion.{IsKey};
+ghost use Rattle.krb_aes.specs.Cipher.{IsBlock, cipher, inv_cipher};
+
+use crate::KeySchedule;
+use crate::tower::{inv_substituted, substituted, times_0b, times_0d, times_0e, times_09};
+use std::simd::prelude::*;
+
+// ShiftRows, and then each column turned up by 0 to 3 places.
+const SHIFTED: [usize; 16] = [0, 5, 10, 15, 4, 9, 14, 3, 8, 13, 2, 7, 12, 1, 6, 11];
+
+const SHIFTED_TURNED_1: [usize; 16] = [5, 10, 15, 0, 9, 14, 3, 4, 13, 2, 7, 8, 1, 6, 11, 12];
+
+const SHIFTED_TURNED_2: [usize; 16] = [10, 15, 0, 5, 14, 3, 4, 9, 2, 7, 8, 13, 6, 11, 12, 1];
+
+const SHIFTED_TURNED_3: [usize; 16] = [15, 0, 5, 10, 3, 4, 9, 14, 7, 8, 13, 2, 11, 12, 1, 6];
+
+// InvShiftRows.
+const UNSHIFTED: [usize; 16] = [0, 13, 10, 7, 4, 1, 14, 11, 8, 5, 2, 15, 12, 9, 6, 3];
+
+// Each column turned up by 1 to 3 places.
+const TURNED_1: [usize; 16] = [1, 2, 3, 0, 5, 6, 7, 4, 9, 10, 11, 8, 13, 14, 15, 12];
+
+const TURNED_2: [usize; 16] = [2, 3, 0, 1, 6, 7, 4, 5, 10, 11, 8, 9, 14, 15, 12, 13];
+
+const TURNED_3: [usize; 16] = [3, 0, 1, 2, 7, 4, 5, 6, 11, 8, 9, 10, 15, 12, 13, 14];
+
+// A round of the cipher.
+#[inline(always)]
+fn round(state: u8x16, key: &[u8]) -> u8x16
+    requires state { IsBlock state }
+    requires key { length key.now ≡ 16 }
+    ensures value { result ≡ add_round_key (mix_columns (shift_rows (sub_bytes state))) key.now }
+    ensures block { IsBlock result }
+{
+    let (once, doubled) = substituted(state);
+    let tripled = doubled ^ once;
+    let first = doubled.swizzle(SHIFTED) ^ tripled.swizzle(SHIFTED_TURNED_1);
+    let others = once.swizzle(SHIFTED_TURNED_2) ^ once.swizzle(SHIFTED_TURNED_3);
+    first ^ (others ^ u8x16::from_slice(key))
+}
+
+// The last round, which has no MixColumns.
+#[inline(always)]
+fn last_round(state: u8x16, key: &[u8]) -> u8x16
+    requires state { IsBlock state }
+    requires key { length key.now ≡ 16 }
+    ensures { result ≡ add_round_key (shift_rows (sub_bytes state)) key.now }
+{
+    let (once, _) = substituted(state);
+    once.swizzle(SHIFTED) ^ u8x16::from_slice(key)
+}
+
+// InvShiftRows, InvSubBytes and AddRoundKey.
+#[inline(always)]
+fn inv_last_round(state: u8x16, key: &[u8]) -> u8x16
+    requires state { IsBlock state }
+    requires key { length key.now ≡ 16 }
+    ensures value { result ≡ add_round_key (inv_sub_bytes (inv_shift_rows state)) key.now }
+    ensures block { IsBlock result }
+{
+    inv_substituted(state).swizzle(UNSHIFTED) ^ u8x16::from_slice(key)
+}
+
+#[inline(always)]
+fn inv_mix_columns(state: u8x16) -> u8x16
+    requires { IsBlock state }
+    ensures value { result ≡ inv_mix_columns state }
+    ensures block { IsBlock result }
+{
+    let first = times_0e(state) ^ times_0b(state).swizzle(TURNED_1);
+    let others = times_0d(state).swizzle(TURNED_2) ^ times_09(state).swizzle(TURNED_3);
+    first ^ others
+}
+
+pub(crate) fn encrypt_block(schedule: &KeySchedule, block: &mut [u8; 16])
+    ensures key { IsKey schedule.now }
+    ensures block { block.new ≡ cipher schedule.now block.old }
+    ensures undone { inv_cipher schedule.now block.new ≡ block.old }
+{
+    let last = schedule.rounds();
+    let mut state = u8x16::from_array(*block) ^ u8x16::from_slice(schedule.round_key(0));
+    for at in 1..last {
+        let next = round(state, schedule.round_key(at));
+        state = next;
+    }
+    *block = last_round(state, schedule.round_key(last)).to_array();
+}
+
+pub(crate) fn decrypt_block(schedule: &KeySchedule, block: &mut [u8; 16])
+    ensures key { IsKey schedule.now }
+    ensures block { block.new ≡ inv_cipher schedule.now block.old }
+    ensures undone { cipher schedule.now block.new ≡ block.old }
+{
+    let last = schedule.rounds();
+    let mut state = u8x16::from_array(*block) ^ u8x16::from_slice(schedule.round_key(last));
+    for at in (1..last).rev() {
+        let next = inv_mix_columns(inv_last_round(state, schedule.round_key(at)));
+        state = next;
+    }
+    *block = inv_last_round(state, schedule.round_key(0)).to_array();
+}

@@ -1,0 +1,94 @@
+ghost use Rattle.std.specs.Prelude.{◌≡◌, ◌+◌, ◌*◌, ◌/◌, ◌<◌, ◌≤◌, List, ℕ, length, take};
+ghost use Rattle.krb_aes.specs.KeyExpansion.{IsKey, key_expansion, round_count, round_key};
+ghost use Rattle.krb_aes.specs.Cipher.{cipher, inv_cipher};
+ghost use Rattle.krb_aes.specs.Inner.Schedule.{IsSchedule};
+
+use crate::expansion::{EXPANDED_LEN, expand};
+use crate::lanes;
+use std::marker::Model;
+
+/// A key of 128 or 256 bits with its round keys, ready to turn blocks either way.
+///
+/// In a clause it is the list of the key's bytes.
+#[derive(Drop)]
+pub struct KeySchedule {
+    words: [u8; EXPANDED_LEN],
+    key_len: usize,
+}
+
+impl Model for KeySchedule {
+    ghost Value = { List ℕ };
+
+    ghost view = { λ s. take s.key_len s.words };
+
+    ghost invariant = { λ s. IsSchedule s.key_len s.words };
+}
+
+impl KeySchedule {
+    /// Expands a key of 16 bytes to the 11 round keys of AES-128.
+    ///
+    /// Source: FIPS 197, section 5.2.
+    pub fn new_128(key: &[u8; 16]) -> KeySchedule
+        ensures { result ≡ key.now }
+    {
+        KeySchedule {
+            words: expand(key),
+            key_len: 16,
+        }
+    }
+
+    /// Expands a key of 32 bytes to the 15 round keys of AES-256.
+    ///
+    /// Source: FIPS 197, section 5.2.
+    pub fn new_256(key: &[u8; 32]) -> KeySchedule
+        ensures { result ≡ key.now }
+    {
+        KeySchedule {
+            words: expand(key),
+            key_len: 32,
+        }
+    }
+
+    /// Encrypts a block in place: CIPHER under this key, in 10 or 14 rounds.
+    ///
+    /// Source: FIPS 197, section 5.1.
+    pub fn encrypt_block(&self, block: &mut [u8; 16])
+        ensures key { IsKey self.now }
+        ensures block { block.new ≡ cipher self.now block.old }
+        // Decryption gives the old block back.
+        ensures undone { inv_cipher self.now block.new ≡ block.old }
+    {
+        lanes::encrypt_block(self, block);
+    }
+
+    /// Decrypts a block in place: INVCIPHER under this key, in 10 or 14 rounds.
+    ///
+    /// Source: FIPS 197, section 5.3.
+    pub fn decrypt_block(&self, block: &mut [u8; 16])
+        ensures key { IsKey self.now }
+        ensures block { block.new ≡ inv_cipher self.now block.old }
+        // Encryption gives the old block back.
+        ensures undone { cipher self.now block.new ≡ block.old }
+    {
+        lanes::decrypt_block(self, block);
+    }
+
+    // The number of rounds.
+    pub(crate) fn rounds(&self) -> usize
+        ensures key { IsKey self.now }
+        ensures count { result ≡ round_count self.now }
+        ensures some { 10 ≤ result }
+        ensures most { result ≤ 14 }
+    {
+        self.key_len / 4 + 6
+    }
+
+    pub(crate) fn round_key(&self, round: usize) -> &[u8]
+        requires key { IsKey self.now }
+        requires round { round ≤ round_count self.now }
+        ensures value { result.now ≡ round_key (key_expansion self.now) round }
+        ensures len { length result.now ≡ 16 }
+    {
+        &self.words[16 * round..16 * round + 16]
+    }
+}
