@@ -1,9 +1,10 @@
 -- The key expansion, as far as the code has come.
-use Rattle.std.proofs.Common.{◌≡◌, ℕ, zero, suc, ◌<◌, ◌≤◌, ◌-◌, ◌+◌, ◌*◌, ◌/◌, ◌%◌, ◌&&◌, List, refl, arith, length, length-append, take, drop, ap, sym, ◌∙◌, inl, inr}
+use Rattle.std.proofs.Common.{subst, ◌≡◌, ℕ, zero, suc, ◌<◌, ◌≤◌, ◌-◌, ◌+◌, ◌*◌, ◌/◌, ◌%◌, ◌&&◌, List, refl, arith, length, length-append, take, drop, ap, sym, ◌∙◌, inl, inr}
 use Rattle.std.proofs.lemmas.List.{get_or-take, take-take, take-append-le, take_all, drop-take}
 use Rattle.std.proofs.lemmas.Slice.{take-put_mid}
 use Rattle.std.specs.Prelude.{◌==◌, nat_lt}
 use borrow.Rule.Slice.PartMut.{put_mid}
+use Rattle.krb_aes.specs.Inner.Schedule.{IsSchedule}
 use Rattle.krb_aes.specs.KeyExpansion.{IsKey, first_words, key_expansion, key_words, round_count, next_word, sum_of_words, changed_word, word, round_key}
 
 -- a key has whole words
@@ -90,3 +91,14 @@ round_key-take words n j within =
     let parts : 16 * j + (n - 16 * j) ≡ n = omega arith in
     let rest = drop-take (16 * j) (n - 16 * j) words in
     (rw parts at (ap (take 16) rest)) ∙ take-take 16 (n - 16 * j) (drop (16 * j) words) (omega arith)
+
+pub schedule_of : (n : ℕ) (key words : List ℕ) → length key ≡ n → IsKey key → take (length key) words ≡ key →
+    take (4 * length key + 112) words ≡ key_expansion key → IsSchedule n words
+schedule_of n key words size is front all =
+    let P : List ℕ → Type 0 = λ k. IsKey k in
+    let Q : ℕ → Type 0 = λ m. IsSchedule m words in
+    subst Q size record {
+      key_size = ap length front;
+      key = subst P (sym front) is;
+      expanded = all ∙ ap key_expansion (sym front);
+    }

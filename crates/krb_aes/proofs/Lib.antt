@@ -4,3 +4,9 @@ pub mod ProductRules
 pub mod TableRules
 pub mod RoundRules
 pub mod ExpansionRules
+pub mod FieldLaws
+pub mod Bytes
+pub mod MixLaws
+pub mod StateLaws
+pub mod RoundLaws
+pub mod LawRules

@@ -1,12 +1,12 @@
 -- CIPHER and INVCIPHER (FIPS 197, sections 5.1 and 5.3). A block is the list of its 16 bytes.
-use Rattle.std.specs.Prelude.{◌≡◌, ℕ, zero, suc, ◌-◌, ◌<◌, List, length, slice_index}
+use Rattle.std.specs.Prelude.{All, ◌≡◌, ℕ, zero, suc, ◌-◌, ◌<◌, List, length}
 use Rattle.krb_aes.specs.State.{sub_bytes, inv_sub_bytes, shift_rows, inv_shift_rows, mix_columns, inv_mix_columns, add_round_key}
 use Rattle.krb_aes.specs.KeyExpansion.{key_expansion, round_count, round_key}
 
 -- 16 bytes
 pub record IsBlock (block : List ℕ) : Type 0 where
   pub size : length block ≡ 16
-  pub bytes : (i : ℕ) → slice_index block i < 256
+  pub bytes : All (λ byte. byte < 256) block
 
 -- the state after the first round key and j rounds, with the round keys k (5.1, algorithm 1)
 unfoldable pub rounds : (ℕ → List ℕ) → ℕ → List ℕ → List ℕ

@@ -1,13 +1,13 @@
 -- KEYEXPANSION (FIPS 197, section 5.2). A key is the list of its 16 or 32 bytes. Words of four bytes
 -- stand one after another in a list of bytes.
-use Rattle.std.specs.Prelude.{◌≡◌, ◌⊎◌, ℕ, zero, suc, ◌+◌, ◌-◌, ◌*◌, ◌/◌, ◌%◌, ◌<◌, ◌==◌, nat_lt, ◌&&◌, Bool, true, false, List, [], ◌∷◌, ◌++◌, length, take, drop, slice_index, bit_xor}
+use Rattle.std.specs.Prelude.{All, ◌≡◌, ◌⊎◌, ℕ, zero, suc, ◌+◌, ◌-◌, ◌*◌, ◌/◌, ◌%◌, ◌<◌, ◌==◌, nat_lt, ◌&&◌, Bool, true, false, List, [], ◌∷◌, ◌++◌, length, take, drop, slice_index, bit_xor}
 use Rattle.krb_aes.specs.Field.{product}
 use Rattle.krb_aes.specs.SBox.{s_box}
 
 -- a key of 128 or 256 bits
 pub record IsKey (key : List ℕ) : Type 0 where
   pub size : (length key ≡ 16) ⊎ (length key ≡ 32)
-  pub bytes : (i : ℕ) → slice_index key i < 256
+  pub bytes : All (λ byte. byte < 256) key
 
 -- Nk, the words of the key, and Nr, the rounds: 4 and 10, or 8 and 14 (section 5, table 3)
 abbrev pub key_words : List ℕ → ℕ

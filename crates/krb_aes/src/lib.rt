@@ -14,6 +14,7 @@
 #![tactic(auto)]
 
 mod expansion;
+pub mod laws;
 pub mod plain;
 mod schedule;
 mod tables;

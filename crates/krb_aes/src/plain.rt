@@ -197,6 +197,7 @@ fn inv_mix_columns(s: &Block) -> Block
 pub fn encrypt_block(schedule: &KeySchedule, block: &mut [u8; 16])
     ensures key { IsKey schedule.now }
     ensures block { block.new ≡ cipher schedule.now block.old }
+    ensures undone { inv_cipher schedule.now block.new ≡ block.old }
 {
     let last = schedule.rounds();
     let mut state = add_round_key(block, schedule.round_key(0));
@@ -214,6 +215,7 @@ pub fn encrypt_block(schedule: &KeySchedule, block: &mut [u8; 16])
 pub fn decrypt_block(schedule: &KeySchedule, block: &mut [u8; 16])
     ensures key { IsKey schedule.now }
     ensures block { block.new ≡ inv_cipher schedule.now block.old }
+    ensures undone { cipher schedule.now block.new ≡ block.old }
 {
     let last = schedule.rounds();
     let mut state = add_round_key(block, schedule.round_key(last));

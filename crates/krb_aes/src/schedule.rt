@@ -55,6 +55,7 @@ impl KeySchedule {
     pub fn encrypt_block(&self, block: &mut [u8; 16])
         ensures key { IsKey self.now }
         ensures block { block.new ≡ cipher self.now block.old }
+        ensures undone { inv_cipher self.now block.new ≡ block.old }
     {
         plain::encrypt_block(self, block);
     }
@@ -65,6 +66,7 @@ impl KeySchedule {
     pub fn decrypt_block(&self, block: &mut [u8; 16])
         ensures key { IsKey self.now }
         ensures block { block.new ≡ inv_cipher self.now block.old }
+        ensures undone { cipher self.now block.new ≡ block.old }
     {
         plain::decrypt_block(self, block);
     }

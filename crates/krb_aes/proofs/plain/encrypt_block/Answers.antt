@@ -1,6 +1,8 @@
-use Rattle.std.proofs.Common.{◌≡◌, ◌+◌, ◌-◌, arith}
+use Rattle.std.proofs.Common.{◌≡◌, ◌+◌, ◌-◌, arith, rules}
 use Rattle.krb_aes.specs.KeyExpansion.{key_expansion, round_key}
 use Rattle.krb_aes.specs.Cipher.{rounds, cipher}
+use Rattle.krb_aes.proofs.Bytes.{block_of_array}
+use Rattle.krb_aes.proofs.RoundLaws.{inv_cipher-cipher}
 use Rattle.krb_aes.proofs.RoundRules.{rounds_after}
 use Rattle.krb_aes.proofs.plain.encrypt_block.Goals as goal
 
@@ -19,3 +21,8 @@ unfolding cipher
 returns-clause-block c =
     let end : c.loop-round.round ≡ c.rounds-last.result = omega arith in
     cc
+
+pub returns-clause-undone : goal.returns-clause-undone
+returns-clause-undone c =
+    let block = block_of_array c.args.block.now (search rules) c.fits-block in
+    rw (returns-clause-block c) (inv_cipher-cipher c.args.schedule.now c.args.block.now c.rounds-last.ensures.key block)
