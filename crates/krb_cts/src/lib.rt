@@ -18,3 +18,6 @@ mod chain;
 mod stealing;
 
 pub use stealing::{decrypt, encrypt};
+
+#[cfg(test)]
+mod tests;
