@@ -1,0 +1,3 @@
+mod Blocks
+mod Derived
+pub mod Lengths
