@@ -16,7 +16,7 @@ pub record IsLonger (text : List ℕ) (j : ℕ) : Type 0 where
   pub above : 16 * suc j < length text
   pub within : length text ≤ 16 * suc j + 16
 
-count_is : (text : List ℕ) (j : ℕ) → IsLonger text j → block_count text ≡ suc (suc j)
+pub count_is : (text : List ℕ) (j : ℕ) → IsLonger text j → block_count text ≡ suc (suc j)
 count_is text j l = omega (arith, l.above, l.within)
 
 -- a block filled with zeros
@@ -101,7 +101,7 @@ record IsGivenBack (key old back : List ℕ) (j : ℕ) : Type 0 where
 length-front : (key old back : List ℕ) (j : ℕ) → IsGivenBack key old back j → length (take (16 * j) old) ≡ 16 * j
 length-front key old back j g = length-take-le (16 * j) old (omega (arith, g.longer.above))
 
-length-stolen_block : (key old : List ℕ) (j : ℕ) → IsLonger old j → length (stolen_block key old) ≡ 16
+pub length-stolen_block : (key old : List ℕ) (j : ℕ) → IsLonger old j → length (stolen_block key old) ≡ 16
 length-stolen_block key old j l =
     let m : block_count old - 1 ≡ suc j = omega (arith, count_is old j l) in
     let d = length-inv_cipher key (take 16 (drop (16 * (block_count old - 2)) old)) in

@@ -15,6 +15,7 @@
 
 mod block;
 mod chain;
+pub mod laws;
 mod stealing;
 
 pub use stealing::{decrypt, encrypt};
