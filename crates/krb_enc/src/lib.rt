@@ -16,6 +16,7 @@
 mod enctype;
 mod fault;
 mod key;
+pub mod laws;
 mod profiles;
 mod tag;
 mod texts;
