@@ -1,0 +1,4 @@
+pub mod Xor
+pub mod Blocks
+pub mod Ends
+pub mod Lengths

@@ -1,0 +1,13 @@
+-- Whole blocks of a text that was chained.
+use Rattle.std.specs.Prelude.{ℕ, zero, suc, ◌-◌, ◌*◌, List, take, drop}
+use Rattle.krb_aes.specs.Cipher.{inv_cipher}
+use Rattle.krb_cts.specs.Stealing.{xor, zeros}
+
+-- block i of the text, where block 0 is the initial vector
+unfoldable pub whole_block : List ℕ → ℕ → List ℕ
+whole_block text zero = zeros
+whole_block text (suc i) = take 16 (drop (16 * i) text)
+
+-- what block i was before it was chained
+abbrev pub unchained_block : List ℕ → List ℕ → ℕ → List ℕ
+unchained_block key text i = xor (inv_cipher key (whole_block text i)) (whole_block text (i - 1))

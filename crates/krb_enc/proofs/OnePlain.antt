@@ -1,0 +1,47 @@
+-- A text opens to one plain text at most, and it is decided whether it opens.
+use Rattle.std.proofs.Common.{◌≡◌, ◌⊎◌, ℕ, ◌+◌, ◌-◌, ◌≤◌, ◌<◌, List, ◌++◌, length, take, drop, Bool, true, false, refl, sym, ap, ◌∙◌, inl, inr, arith}
+use Rattle.std.specs.Bool.{Decides}
+use Rattle.std.specs.Str.{bytes_eq}
+use Rattle.std.proofs.lemmas.Slice.Eq.{bytes_eq-Decides}
+use Rattle.std.proofs.lemmas.Bool.{cases_lt}
+use Rattle.std.proofs.lemmas.List.{drop_at, take-append-drop, length-take-le}
+use Rattle.krb_cts.specs.Undo.{undo}
+use Rattle.krb_cts.proofs.Lengths.{length-undo}
+use Rattle.krb_enc.specs.Sealed.{Profile, encryption_key, tag_of}
+use Rattle.krb_enc.specs.Opens.{body_of, end_of, HasTag, OpensBack, OpensTo}
+
+pub one_plain : (p : Profile) (key : List ℕ) (usage : ℕ) (text one other : List ℕ) → OpensTo p key usage text one → OpensTo p key usage text other → one ≡ other
+one_plain p key usage text one other a b =
+    let same : a.confounder ++ one ≡ b.confounder ++ other = sym a.undone ∙ b.undone in
+    sym (drop_at a.confounder one 16 a.size) ∙ ap (λ (t : List ℕ). drop 16 t) same ∙ drop_at b.confounder other 16 b.size
+
+-- whether two texts are equal is decided
+same_by : (one other : List ℕ) (same : Bool) → Decides same (one ≡ other) → (one ≡ other) ⊎ (one ≡ other → ⊥)
+same_by one other true d = inl (d.0 refl)
+same_by one other false d = inr (λ e. let bad : false ≡ true = d.1 e in absurd cc)
+
+same_texts : (one other : List ℕ) → (one ≡ other) ⊎ (one ≡ other → ⊥)
+same_texts one other = same_by one other (bytes_eq one other) (bytes_eq-Decides one other)
+
+pub decided : (p : Profile) (key : List ℕ) (usage : ℕ) (text : List ℕ)
+    → ((plain : List ℕ) × OpensTo p key usage text plain) ⊎ ((plain : List ℕ) → OpensTo p key usage text plain → ⊥)
+decided p key usage text =
+    elim (cases_lt (length text) (16 + p.tag_len)) [
+      | inl short ↦ inr (λ plain o. absurd (omega (arith, o.long)))
+      | inr long ↦
+        elim (same_texts (end_of p text) (tag_of p key usage (body_of p text))) [
+          | inl has_tag ↦
+            let whole : List ℕ = undo (encryption_key p key usage) (body_of p text) in
+            let body : length (body_of p text) ≡ length text - p.tag_len = length-take-le (length text - p.tag_len) text (omega arith) in
+            let size : length whole ≡ length (body_of p text) = length-undo (encryption_key p key usage) (body_of p text) (omega (arith, body)) in
+            inl (drop 16 whole, record {
+              long = long;
+              has_tag = has_tag;
+              confounder = take 16 whole;
+              size = length-take-le 16 whole (omega (arith, size, body));
+              undone = sym (take-append-drop 16 whole);
+            })
+          | inr no_tag ↦ inr (λ plain o. no_tag o.has_tag)
+        ]
+    ]
+

@@ -1,0 +1,38 @@
+-- What a sealed text opens to (RFC 8009, section 5).
+use Rattle.std.specs.Prelude.{◌≡◌, ◌≢◌, ◌<◌, ◌≤◌, ℕ, ◌+◌, ◌-◌, List, ◌++◌, length, take, drop}
+use Rattle.krb_aes.specs.Cipher.{IsBlock}
+use Rattle.krb_cts.specs.Undo.{undo}
+use Rattle.krb_enc.specs.Sealed.{Profile, encryption_key, tag_of, sealed}
+
+-- some confounder of 16 bytes seals the plain text to this: nothing is decrypted in it
+pub record Opens (p : Profile) (key : List ℕ) (usage : ℕ) (text plain : List ℕ) : Type 0 where
+  pub confounder : List ℕ
+  pub is_block : IsBlock confounder
+  pub sealed_is : sealed p key usage confounder plain ≡ text
+
+-- what stands before the tag, and the tag
+abbrev pub body_of : Profile → List ℕ → List ℕ
+body_of p text = take (length text - p.tag_len) text
+
+abbrev pub end_of : Profile → List ℕ → List ℕ
+end_of p text = drop (length text - p.tag_len) text
+
+-- a text is shorter than a sealed empty text
+abbrev pub IsShort : Profile → List ℕ → Type 0
+IsShort p text = length text < 16 + p.tag_len
+
+-- the last bytes are the tag of the rest
+abbrev pub HasTag : Profile → List ℕ → ℕ → List ℕ → Type 0
+HasTag p key usage text = end_of p text ≡ tag_of p key usage (body_of p text)
+
+-- backwards: the text is long enough and has its tag, and what stands before the tag is undone to 16 bytes and the plain text
+pub record OpensBack (p : Profile) (key : List ℕ) (usage : ℕ) (text plain : List ℕ) : Type 0 where
+  pub long : 16 + p.tag_len ≤ length text
+  pub has_tag : HasTag p key usage text
+  pub confounder : List ℕ
+  pub size : length confounder ≡ 16
+  pub undone : undo (encryption_key p key usage) (body_of p text) ≡ confounder ++ plain
+
+-- what opening means in the contracts
+abbrev pub OpensTo : Profile → List ℕ → ℕ → List ℕ → List ℕ → Type 0
+OpensTo = OpensBack

@@ -1,0 +1,96 @@
+//! What an encryption type is.
+
+ghost use Rattle.std.specs.Prelude.{◌≡◌, ◌≢◌, ◌↔◌, ◌⊎◌, ◌≤◌, ◌<◌, ◌+◌, ℕ, ℤ, List, length, IfOk, IsErrOf, vec_len};
+ghost use Rattle.krb_enc.specs.Sealed.{Profile, IsProfile, encryption_key, tag_of, checksum_of, sealed};
+ghost use Rattle.krb_enc.specs.Opens.{IsShort, HasTag, OpensTo};
+
+use crate::fault::OpenFault;
+use crate::tag::Tag;
+use crate::texts::{CONFOUNDER_LEN, decrypted, encrypted};
+use krb_aes::KeySchedule;
+use std::alloc::{AllocError, Global};
+
+/// An encryption type of RFC 8009. Its calls take the bytes of a base key, of which there have to be
+/// `KEY_LEN`.
+pub trait Enctype {
+    /// The type's number (RFC 8009, section 8).
+    const ETYPE: i32;
+
+    /// The length of a base key, in bytes.
+    const KEY_LEN: usize;
+
+    /// The length of a tag, in bytes.
+    const TAG_LEN: usize;
+
+    /// The type, as the definitions name it.
+    ghost profile: { Profile };
+
+    ghost ETYPE: { ℤ };
+
+    ghost KEY_LEN: { ℕ };
+
+    ghost TAG_LEN: { ℕ };
+
+    /// Gives Ke, ready for use.
+    fn encryption_key(key: &[u8], usage: u32) -> KeySchedule
+        requires { length key.now ≡ KEY_LEN }
+        ensures { result ≡ encryption_key profile key.now usage };
+
+    /// Gives the tag of a ciphertext.
+    fn tag(key: &[u8], usage: u32, text: &[u8]) -> Tag
+        requires { length key.now ≡ KEY_LEN }
+        ensures { result ≡ tag_of profile key.now usage text.now };
+
+    /// Gives the checksum of a text.
+    fn checksum(key: &[u8], usage: u32, text: &[u8]) -> Tag
+        requires { length key.now ≡ KEY_LEN }
+        ensures { result ≡ checksum_of profile key.now usage text.now };
+
+    /// Seals `plain`, with a confounder of 16 random bytes.
+    final fn seal(
+        alloc: Global,
+        key: &[u8],
+        usage: u32,
+        confounder: &[u8; 16],
+        plain: &[u8],
+    ) -> Result<Vec<u8>, AllocError>
+        requires { length key.now ≡ KEY_LEN }
+        ensures sealed { IfOk result (λ text. text.items ≡ sealed profile key.now usage confounder.now plain.now) }
+        ensures length { IfOk result (λ text. vec_len text ≡ 16 + length plain.now + TAG_LEN) }
+    {
+        let schedule = Self::encryption_key(key, usage);
+        let mut text = encrypted(alloc, &schedule, confounder, plain, Self::TAG_LEN)?;
+        let tag = Self::tag(key, usage, &text);
+        text.extend_from_slice(tag.as_slice())?;
+        Ok(text)
+    }
+
+    /// Opens what was sealed.
+    final fn open(alloc: Global, key: &[u8], usage: u32, text: &[u8]) -> Result<Vec<u8>, OpenFault>
+        requires { length key.now ≡ KEY_LEN }
+        ensures opened { IfOk result (λ plain. OpensTo profile key.now usage text.now plain.items) }
+        ensures short { IsErrOf result OpenFault.Short ↔ IsShort profile text.now }
+        ensures integrity { IsErrOf result OpenFault.Integrity
+            ↔ ((16 + TAG_LEN ≤ length text.now) × (HasTag profile key.now usage text.now → ⊥)) }
+        ensures memory { IsErrOf result OpenFault.OutOfMemory
+            → (16 + TAG_LEN ≤ length text.now) × HasTag profile key.now usage text.now }
+    {
+        if text.len() < CONFOUNDER_LEN + Self::TAG_LEN {
+            return Err(OpenFault::Short);
+        }
+        let (body, end) = text.split_at(text.len() - Self::TAG_LEN);
+        if Self::tag(key, usage, body).as_slice() != end {
+            return Err(OpenFault::Integrity);
+        }
+        Ok(decrypted(alloc, &Self::encryption_key(key, usage), body)?)
+    }
+
+    /// The type is one of the two, with these numbers.
+    ghost is_profile: { IsProfile profile };
+
+    ghost etype_is: { profile.etype ≡ ETYPE };
+
+    ghost key_len_is: { profile.key_len ≡ KEY_LEN };
+
+    ghost tag_len_is: { profile.tag_len ≡ TAG_LEN };
+}

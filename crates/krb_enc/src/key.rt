@@ -1,0 +1,159 @@
+//! Keys.
+
+ghost use Rattle.std.specs.Prelude.{◌≡◌, ◌↔◌, ◌≤◌, ◌<◌, ◌+◌, length, vec_len, IsTrue, IfOk, IsOk, IsErrOf, IsErr};
+
+use crate::enctype::Enctype;
+use crate::fault::{KeyFault, OpenFault};
+use crate::profiles::{Sha256Aes128, Sha384Aes256};
+use crate::tag::Tag;
+use std::alloc::{AllocError, Global};
+use std::marker::Model;
+
+#[derive(Drop)]
+enum KeyBytes {
+    Short([u8; 16]),
+    Long([u8; 32]),
+}
+
+/// A base key of one of the two encryption types, held in place: 16 bytes of type 19
+/// (aes128-cts-hmac-sha256-128) or 32 bytes of type 20 (aes256-cts-hmac-sha384-192).
+///
+/// It has no `Debug`, so that no log shows it.
+#[derive(Drop)]
+pub struct Key {
+    bytes: KeyBytes,
+}
+
+impl Model for Key {
+    ghost use Rattle.krb_enc.specs.Key.{KeyValue};
+
+    ghost Value = { KeyValue };
+
+    ghost use Rattle.krb_enc.specs.Inner.KeyBytes.{value_of};
+
+    ghost view = { λ k. value_of k.bytes };
+}
+
+impl Key {
+    ghost use Rattle.krb_enc.specs.Key.{KeyValue, IsKnown, IsUsable, profile_of};
+    ghost use Rattle.krb_enc.specs.Sealed.{sealed, checksum_of};
+    ghost use Rattle.krb_enc.specs.Opens.{IsShort, HasTag, OpensTo};
+
+    /// Makes a key of `bytes`, for the encryption type `etype`.
+    ///
+    /// # Errors
+    /// The first that holds:
+    /// - `UnknownEtype`: `etype` is neither 19 nor 20.
+    /// - `WrongLength`: there aren't 16 bytes (type 19) or 32 (type 20).
+    ///
+    /// Source: RFC 8009, section 7.
+    pub fn new(etype: i32, bytes: &[u8]) -> Result<Key, KeyFault>
+        ensures made { IfOk result (λ key. key ≡ record { etype = etype; bytes = bytes.now }) }
+        ensures usable { IsUsable (record { etype = etype; bytes = bytes.now }) → IsOk result }
+        ensures unknown { IsErrOf result KeyFault.UnknownEtype ↔ (IsKnown etype → ⊥) }
+        ensures wrong_length { IsErrOf result KeyFault.WrongLength
+            → IsKnown etype × (IsUsable (record { etype = etype; bytes = bytes.now }) → ⊥) }
+    {
+        let bytes = match etype {
+            19 => KeyBytes::Short(bytes.try_into().map_err(|_| KeyFault::WrongLength)?),
+            20 => KeyBytes::Long(bytes.try_into().map_err(|_| KeyFault::WrongLength)?),
+            _ => return Err(KeyFault::UnknownEtype),
+        };
+        Ok(Key { bytes })
+    }
+
+    /// Answers the number of the encryption type: 19 or 20.
+    pub fn etype(&self) -> i32
+        ensures { result ≡ self.now.etype }
+    {
+        match &self.bytes {
+            KeyBytes::Short(_) => Sha256Aes128::ETYPE,
+            KeyBytes::Long(_) => Sha384Aes256::ETYPE,
+        }
+    }
+
+    /// Lends the bytes: 16 or 32.
+    pub fn bytes(&self) -> &[u8]
+        ensures value { result.now ≡ self.now.bytes }
+        ensures usable { IsUsable self.now }
+    {
+        match &self.bytes {
+            KeyBytes::Short(bytes) => bytes,
+            KeyBytes::Long(bytes) => bytes,
+        }
+    }
+
+    /// Seals `plain` under this key for `usage`: the confounder and the plain text, encrypted, and
+    /// behind them the tag of 16 bytes (type 19) or 24 (type 20).
+    ///
+    /// `confounder` is 16 random bytes, new for each call.
+    ///
+    /// Source: RFC 8009, section 5.
+    pub fn seal(
+        &self,
+        alloc: Global,
+        usage: u32,
+        confounder: &[u8; 16],
+        plain: &[u8],
+    ) -> Result<Vec<u8>, AllocError>
+        ensures sealed { IfOk result (λ text.
+            text.items ≡ sealed (profile_of self.now) self.now.bytes usage confounder.now plain.now) }
+        ensures length { IfOk result (λ text.
+            vec_len text ≡ 16 + length plain.now + (profile_of self.now).tag_len) }
+    {
+        match &self.bytes {
+            KeyBytes::Short(key) => Sha256Aes128::seal(alloc, key, usage, confounder, plain),
+            KeyBytes::Long(key) => Sha384Aes256::seal(alloc, key, usage, confounder, plain),
+        }
+    }
+
+    /// Opens `text`, which was sealed under this key for `usage`, and answers the plain text.
+    ///
+    /// The tag is checked before anything is decrypted.
+    ///
+    /// # Errors
+    /// The first that holds:
+    /// - `Short`: there are fewer than 32 bytes (type 19) or 40 (type 20).
+    /// - `Integrity`: the last 16 or 24 bytes aren't the tag of the rest.
+    /// - `OutOfMemory`: there was no room for the plain text.
+    ///
+    /// Source: RFC 8009, section 5.
+    pub fn open(&self, alloc: Global, usage: u32, text: &[u8]) -> Result<Vec<u8>, OpenFault>
+        ensures opened { IfOk result (λ plain.
+            OpensTo (profile_of self.now) self.now.bytes usage text.now plain.items) }
+        ensures short { IsErrOf result OpenFault.Short ↔ IsShort (profile_of self.now) text.now }
+        ensures integrity { IsErrOf result OpenFault.Integrity
+            ↔ ((16 + (profile_of self.now).tag_len ≤ length text.now)
+            × (HasTag (profile_of self.now) self.now.bytes usage text.now → ⊥)) }
+        ensures memory { IsErrOf result OpenFault.OutOfMemory
+            → (16 + (profile_of self.now).tag_len ≤ length text.now)
+            × HasTag (profile_of self.now) self.now.bytes usage text.now }
+    {
+        match &self.bytes {
+            KeyBytes::Short(key) => Sha256Aes128::open(alloc, key, usage, text),
+            KeyBytes::Long(key) => Sha384Aes256::open(alloc, key, usage, text),
+        }
+    }
+
+    /// Gives the checksum of `text` under this key for `usage`: 16 bytes (type 19) or 24 (type 20).
+    ///
+    /// Source: RFC 8009, section 6.
+    pub fn checksum(&self, usage: u32, text: &[u8]) -> Tag
+        ensures { result ≡ checksum_of (profile_of self.now) self.now.bytes usage text.now }
+    {
+        match &self.bytes {
+            KeyBytes::Short(key) => Sha256Aes128::checksum(key, usage, text),
+            KeyBytes::Long(key) => Sha384Aes256::checksum(key, usage, text),
+        }
+    }
+
+    /// Answers whether `tag` is the whole checksum of `text` under this key for `usage`.
+    ///
+    /// Source: RFC 8009, section 6.
+    pub fn verify_checksum(&self, usage: u32, text: &[u8], tag: &[u8]) -> bool
+        ensures { IsTrue result
+            ↔ (tag.now ≡ checksum_of (profile_of self.now) self.now.bytes usage text.now) }
+    {
+        self.checksum(usage, text).as_slice() == tag
+    }
+}

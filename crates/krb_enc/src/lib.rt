@@ -1,0 +1,31 @@
+//! The Kerberos encryption types aes128-cts-hmac-sha256-128 (19) and aes256-cts-hmac-sha384-192 (20):
+//! sealing, opening and checksums (RFC 8009).
+//!
+//! ```text
+//! let key = Key::new(19, &bytes)?;
+//! let sealed = key.seal(alloc, 2, &confounder, b"plain")?;
+//! let plain = key.open(alloc, 2, &sealed)?;
+//! let tag = key.checksum(6, b"text");
+//! ```
+//!
+//! The number behind the key is the key usage (RFC 4120, section 7.5.1). Confounders are handed in: 16
+//! random bytes, new for each call. The contracts speak of the definitions of `specs/Sealed` and
+//! `specs/Opens`. No key is printed by `Debug`.
+#![tactic(auto)]
+
+mod enctype;
+mod fault;
+mod key;
+pub mod laws;
+mod profiles;
+mod tag;
+mod texts;
+
+pub use enctype::Enctype;
+pub use fault::{KeyFault, OpenFault};
+pub use key::Key;
+pub use profiles::{Sha256Aes128, Sha384Aes256};
+pub use tag::Tag;
+
+#[cfg(test)]
+mod tests;

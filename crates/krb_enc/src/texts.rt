@@ -1,0 +1,55 @@
+//! Texts with their confounders, encrypted and decrypted.
+
+ghost use Rattle.std.specs.Prelude.{◌≡◌, ◌≤◌, ◌<◌, ◌^◌, ◌+◌, ◌++◌, length, drop, IfOk, vec_len};
+ghost use Rattle.krb_cts.specs.Stealing.{cts};
+ghost use Rattle.krb_cts.specs.Undo.{undo};
+
+use krb_aes::KeySchedule;
+use std::alloc::{AllocError, Global};
+
+pub(crate) const CONFOUNDER_LEN: usize = 16;
+
+// Encrypts a confounder and a plain text, and keeps room for a tag of so many bytes.
+pub(crate) fn encrypted(
+    alloc: Global,
+    schedule: &KeySchedule,
+    confounder: &[u8; CONFOUNDER_LEN],
+    plain: &[u8],
+    tag_len: usize,
+) -> Result<Vec<u8>, AllocError>
+    requires { tag_len ≤ 24 }
+    ensures text { IfOk result (λ text. text.items ≡ cts schedule.now (confounder.now ++ plain.now)) }
+    ensures length { IfOk result (λ text. vec_len text ≡ 16 + length plain.now) }
+{
+    let mut text = Vec::with_capacity(alloc, CONFOUNDER_LEN + plain.len() + tag_len)?;
+    text.extend_from_slice(confounder)?;
+    text.extend_from_slice(plain)?;
+    krb_cts::encrypt(schedule, &mut text);
+    Ok(text)
+}
+
+// Decrypts a text, and takes its confounder away.
+pub(crate) fn decrypted(
+    alloc: Global,
+    schedule: &KeySchedule,
+    text: &[u8],
+) -> Result<Vec<u8>, AllocError>
+    requires { 16 ≤ length text.now }
+    ensures plain { IfOk result (λ plain. plain.items ≡ drop 16 (undo schedule.now text.now)) }
+    ensures length { IfOk result (λ _. length (undo schedule.now text.now) ≡ length text.now) }
+{
+    let mut plain = Vec::from_slice(alloc, text)?;
+    krb_cts::decrypt(schedule, &mut plain);
+    drop_front(&mut plain, CONFOUNDER_LEN);
+    Ok(plain)
+}
+
+// Takes the first bytes away.
+fn drop_front(bytes: &mut Vec<u8>, count: usize)
+    requires { count ≤ vec_len bytes.old }
+    ensures { bytes.new.items ≡ drop count bytes.old.items }
+{
+    bytes.rotate_left(count);
+    let kept = bytes.len() - count;
+    bytes.truncate(kept);
+}

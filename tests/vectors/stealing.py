@@ -1,0 +1,51 @@
+#!/usr/bin/env python3
+"""Prints the table of crates/krb_cts/src/tests/lengths.rt, by a second implementation.
+
+Needs the Python package `cryptography`, of which it uses AES on single blocks alone. What it computes is checked
+against the examples of RFC 3962, appendix B, before it prints.
+"""
+from cryptography.hazmat.primitives.ciphers import Cipher, algorithms, modes
+
+PUBLISHED = [
+    (17, "c6353568f2bf8cb4d8a580362da7ff7f97"),
+    (31, "fc00783e0efdb2c1d445d4c8eff7ed2297687268d6ecccc0c07b25e25ecfe5"),
+    (32, "39312523a78662d5be7fcbcc98ebf5a897687268d6ecccc0c07b25e25ecfe584"),
+    (47, "97687268d6ecccc0c07b25e25ecfe584b3fffd940c16a18c1b5549d2f838029e39312523a78662d5be7fcbcc98ebf5"),
+    (48, "97687268d6ecccc0c07b25e25ecfe5849dad8bbb96c4cdc03bc103e1a194bbd839312523a78662d5be7fcbcc98ebf5a8"),
+    (64, "97687268d6ecccc0c07b25e25ecfe58439312523a78662d5be7fcbcc98ebf5a84807efe836ee89a526730dbc2f7bc8409dad8bbb96c4cdc03bc103e1a194bbd8"),
+]
+SOUP = b"I would like the General Gau's Chicken, please, and wonton soup."
+
+
+def chained(key, text):
+    """CBC of whole blocks, with an initial vector of zeros."""
+    cipher, out, previous = Cipher(algorithms.AES(key), modes.ECB()), b"", bytes(16)
+    for at in range(0, len(text), 16):
+        block = bytes(a ^ b for a, b in zip(text[at : at + 16], previous))
+        previous = cipher.encryptor().update(block)
+        out += previous
+    return out
+
+
+def stolen(key, text):
+    if len(text) == 16:
+        return chained(key, text)
+    blocks = (len(text) + 15) // 16
+    out = chained(key, text + bytes(16 * blocks - len(text)))
+    return (out[: 16 * (blocks - 2)] + out[16 * (blocks - 1) :] + out[16 * (blocks - 2) : 16 * (blocks - 1)])[: len(text)]
+
+
+def main():
+    for size, wanted in PUBLISHED:
+        assert stolen(b"chicken teriyaki", SOUP[:size]).hex() == wanted, size
+    key = bytes(range(32))
+    text = bytes(7 * i % 256 for i in range(200))
+    print("    // The blocks that chaining makes of the first 192 bytes.")
+    print(f'    "{chained(key, text[:192]).hex()}",')
+    for size in range(16, 201):
+        blocks = (size + 15) // 16
+        print(f'    "{stolen(key, text[:size])[16 * max(blocks - 2, 0) :].hex()}",')
+
+
+if __name__ == "__main__":
+    main()
