@@ -1,0 +1,6 @@
+-- Words that only private contracts and proofs cite: reading that computes.
+pub mod Steps
+pub mod Whole
+pub mod Clock
+pub mod Read
+pub mod Clear

@@ -1,0 +1,7 @@
+pub mod Kind
+pub mod Time
+pub mod Content
+pub mod Spells
+pub mod Place
+pub mod Fault
+pub mod Inner

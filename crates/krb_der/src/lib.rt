@@ -1,0 +1,6 @@
+//! DER.
+#![tactic(auto)]
+
+mod fault;
+
+pub use fault::{Fault, FaultKind};
