@@ -2,5 +2,6 @@
 pub mod Steps
 pub mod Whole
 pub mod Clock
+pub mod CivilView
 pub mod Read
 pub mod Clear

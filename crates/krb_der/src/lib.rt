@@ -2,5 +2,7 @@
 #![tactic(auto)]
 
 mod fault;
+pub mod time;
+pub mod whole;
 
 pub use fault::{Fault, FaultKind};

@@ -19,7 +19,13 @@ is_date y m d = nat_le 1 m && nat_le m 12 && nat_le 1 d && nat_le d (days_in_mon
 abbrev pub is_clock : ℕ → ℕ → ℕ → Bool
 is_clock h n s = nat_lt h 24 && nat_lt n 60 && nat_lt s 60
 
--- the second of the calendar that the content names
+abbrev pub day_of : ℕ → ℕ → ℕ → Option ℤ
+day_of y m d = only_if (is_date y m d) (day_number y m d)
+
+abbrev pub clock_of : ℕ → ℕ → ℕ → Option ℕ
+clock_of h n s = only_if (is_clock h n s) (3_600 * h + 60 * n + s)
+
+-- the second of the calendar that fourteen digits name
 unfoldable pub civil_of : List ℕ → Option Civil
 civil_of content =
     pair_at 0 content >>? λ century.
@@ -29,11 +35,14 @@ civil_of content =
     pair_at 8 content >>? λ hour.
     pair_at 10 content >>? λ minute.
     pair_at 12 content >>? λ second.
-    only_if (is_date (100 * century + year) month day && is_clock hour minute second)
-        (record { year = 100 * century + year; month = month; day = day; hour = hour; minute = minute; second = second })
+    Some (record { year = 100 * century + year; month = month; day = day; hour = hour; minute = minute; second = second })
+
+unfoldable pub seconds_if : Civil → Option ℤ
+seconds_if t =
+    day_of t.year t.month t.day >>? λ day.
+    clock_of t.hour t.minute t.second >>? λ clock.
+    Some (pos 86_400 *ℤ day +ℤ pos clock)
 
 unfoldable pub time_of : List ℕ → Option ℤ
 time_of content =
-    if (length content == 15) && (slice_index content 14 == 0x5a) then
-        (civil_of content >>? λ t. Some (seconds_of t))
-    else None
+    if (length content == 15) && (slice_index content 14 == 0x5a) then (civil_of content >>? seconds_if) else None

@@ -17,13 +17,16 @@ abbrev pub is_negative : List ℕ → Bool
 is_negative [] = false
 is_negative (a ∷ bytes) = nat_le 128 a
 
-abbrev pub signed_of : List ℕ → ℤ
-signed_of content = if is_negative content then pos (number content) -ℤ pos (256 ^ length content) else pos (number content)
+-- how many contents of one to five bytes there are
+unfoldable pub contents_of : ℕ → Option ℤ
+contents_of len = only_if (nat_le 1 len && nat_le len 5) (pos (256 ^ len))
 
--- a whole number of at most five bytes
+-- a whole number of at most five bytes in its shortest form
 unfoldable pub whole_of : List ℕ → Option ℤ
 whole_of content =
-    only_if (are_bytes content && nat_le (length content) 5 && not (is_redundant content)) (signed_of content)
+    if is_redundant content || not (are_bytes content) then None
+    else (contents_of (length content) >>? λ all.
+        Some (if is_negative content then pos (number content) -ℤ all else pos (number content)))
 
 -- at least 0, and below the bound
 abbrev pub natural_below : ℕ → ℤ → Option ℕ

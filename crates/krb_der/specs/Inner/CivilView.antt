@@ -1,0 +1,7 @@
+-- What contracts see of a civil time of the code.
+use Rattle.krb_der.specs.Time.{Civil}
+use Rattle.krb_der.specs.declared.time.Civil.{Civil as Coded}
+
+abbrev pub plain_civil : Coded → Civil
+plain_civil t =
+    record { year = t.year; month = t.month; day = t.day; hour = t.hour; minute = t.minute; second = t.second }

@@ -1,0 +1,115 @@
+//! Times: seconds of the years 0000 to 9999, and their texts (RFC 4120, section 5.2.3).
+
+ghost use Rattle.std.specs.Prelude.{◌≡◌, ◌+◌, ◌≤◌, ◌<◌, length, SomeIff, IfSome};
+ghost use Rattle.std.specs.Option.{option_map};
+ghost use Rattle.krb_der.specs.Time.{IsSeconds};
+ghost use Rattle.krb_der.specs.Inner.CivilView.{plain_civil};
+ghost use Rattle.krb_der.specs.Inner.Clock.{pair_of, pair_at, day_of, civil_of};
+
+use jiff_core::civil::Date;
+use std::marker::Model;
+
+/// A whole second of the years 0000 to 9999, counted from 1970-01-01T00:00:00Z:
+/// -62,167,219,200 to 253,402,300,799.
+#[derive(Clone, Copy, Debug, PartialEq, Eq, PartialOrd, Ord, Hash)]
+pub struct Seconds {
+    seconds: i64,
+}
+
+impl Model for Seconds {
+    ghost use Rattle.std.specs.Prelude.{ℤ};
+    ghost use Rattle.krb_der.specs.Time.{IsSeconds};
+
+    ghost Value = { ℤ };
+
+    ghost view = { λ s. s.seconds };
+
+    ghost invariant = { λ s. IsSeconds s.seconds };
+
+    ghost inverse = { λ z. record { seconds = z } };
+}
+
+impl Seconds {
+    /// That second, or `None` outside the years 0000 to 9999.
+    pub fn new(seconds: i64) -> Option<Self>
+        ensures { SomeIff result (IsSeconds seconds) seconds }
+    {
+        if seconds < -62_167_219_200 || seconds > 253_402_300_799 {
+            return None;
+        }
+        Some(Seconds { seconds })
+    }
+
+    /// The seconds from 1970-01-01T00:00:00Z.
+    pub fn get(self) -> i64
+        ensures value { result ≡ self }
+        ensures range { IsSeconds result }
+    {
+        self.seconds
+    }
+}
+
+/// A second of the calendar, or what names one.
+struct Civil {
+    year: u16,
+    month: u8,
+    day: u8,
+    hour: u8,
+    minute: u8,
+    second: u8,
+}
+
+/// The number that two digits are.
+fn pair(tens: u8, ones: u8) -> Option<u8>
+    ensures value { result ≡ pair_of tens ones }
+    ensures small { IfSome result (λ n. n < 100) }
+{
+    if tens.is_ascii_digit() && ones.is_ascii_digit() {
+        Some(10 * (tens - b'0') + (ones - b'0'))
+    } else {
+        None
+    }
+}
+
+/// The number that the two digits from there on are.
+fn pair_in(content: &[u8], at: usize) -> Option<u8>
+    requires { at + 1 < length content.now }
+    ensures value { result ≡ pair_at at content.now }
+    ensures small { IfSome result (λ n. n < 100) }
+{
+    pair(content[at], content[at + 1])
+}
+
+/// What fourteen digits name: `YYYYMMDDHHMMSS`.
+#[tactic(auto, unfolding(crate::specs::Inner::Clock::civil_of))]
+fn civil_in(content: &[u8]) -> Option<Civil>
+    requires { length content.now ≡ 15 }
+    ensures { option_map plain_civil result ≡ civil_of content.now }
+{
+    let century = pair_in(content, 0)?;
+    let year = pair_in(content, 2)?;
+    let month = pair_in(content, 4)?;
+    let day = pair_in(content, 6)?;
+    let hour = pair_in(content, 8)?;
+    let minute = pair_in(content, 10)?;
+    let second = pair_in(content, 12)?;
+    Some(Civil {
+        year: 100 * u16::from(century) + u16::from(year),
+        month,
+        day,
+        hour,
+        minute,
+        second,
+    })
+}
+
+/// The day number of a date, if the calendar has it: that of 1970-01-01 is 0.
+fn day(year: u16, month: u8, day: u8) -> Option<i32>
+    requires year { year < 10000 }
+    requires month { month < 100 }
+    requires day { day < 100 }
+    ensures { result ≡ day_of year month day }
+{
+    let date = Date::new(year as i16, month as i8, day as i8).ok()?;
+    Some(date.to_unix_epoch_day())
+}
