@@ -1,2 +1,5 @@
 pub mod Numbers
 pub mod WholeSteps
+pub mod Calendar
+pub mod LengthSteps
+pub mod CursorSteps

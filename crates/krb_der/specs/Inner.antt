@@ -3,5 +3,6 @@ pub mod Steps
 pub mod Whole
 pub mod Clock
 pub mod CivilView
+pub mod LengthView
 pub mod Read
 pub mod Clear

@@ -1,7 +1,10 @@
 //! DER.
 #![tactic(auto)]
 
+pub mod cursor;
 mod fault;
+pub mod length;
+pub mod tag;
 pub mod time;
 pub mod whole;
 

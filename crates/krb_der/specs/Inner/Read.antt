@@ -20,7 +20,7 @@ abbrev pub Sized : Type 0
 Sized = Result (ℕ × List ℕ) FaultKind
 
 -- the digits of the long form, of a number that is at least this
-abbrev pub long_of : ℕ → ℕ → List ℕ → Sized
+unfoldable pub long_of : ℕ → ℕ → List ℕ → Sized
 long_of count least bytes =
     if nat_lt (length bytes) count then Err Truncated
     else if are_bytes (take count bytes) && nat_le least (number (take count bytes)) then
@@ -38,16 +38,20 @@ length_of (f ∷ bytes) =
     else Err Length
 
 -- ---- the head: where the content stands, and what is behind it
-abbrev pub split_at : Place → ℕ → List ℕ → Result (Place × Place) Fault
+unfoldable pub split_at : Place → ℕ → List ℕ → Result (Place × Place) Fault
 split_at p n bytes =
     if nat_lt (length bytes) n then fault_at Truncated (end_of p)
     else Ok (record { at = p.at + (length p.rest - length bytes); rest = take n bytes },
         record { at = p.at + (length p.rest - length bytes) + n; rest = drop n bytes })
 
+-- the fault of an element whose length has a fault
+abbrev pub length_fault : Place → FaultKind → Fault
+length_fault p Truncated = record { kind = Truncated; at = end_of p }
+length_fault p kind = record { kind = Length; at = p.at + 1 }
+
 abbrev pub sized_at : Place → Sized → Result (Place × Place) Fault
 sized_at p (Ok x) = split_at p x.0 x.1
-sized_at p (Err Truncated) = fault_at Truncated (end_of p)
-sized_at p (Err kind) = fault_at Length (p.at + 1)
+sized_at p (Err kind) = Err (length_fault p kind)
 
 abbrev pub head_from : ℕ → Place → List ℕ → Result (Place × Place) Fault
 head_from tag p [] = fault_at Truncated (end_of p)
