@@ -3,3 +3,10 @@ pub mod WholeSteps
 pub mod Calendar
 pub mod LengthSteps
 pub mod CursorSteps
+pub mod LengthLaws
+pub mod IntegerLaws
+pub mod ClockLaws
+pub mod ContentLaws
+pub mod ElementSteps
+pub mod ElementRead
+pub mod ElementLaws

@@ -46,7 +46,7 @@ abbrev pub Elementary : (c : Content) → ContentValue c → List ℕ → Type 0
 Elementary int32 z content = FitsSigned w32 z × IsInteger z content
 Elementary uint32 n content = (n < 2 ^ 32) × IsNatural n content
 Elementary microseconds n content = (n < 1_000_000) × IsNatural n content
-Elementary (constant n) v content = IsNatural n content
+Elementary (constant n) v content = (n < 2 ^ 32) × IsNatural n content
 Elementary octets v content = content ≡ v
 Elementary string v content = content ≡ v
 Elementary flags n content = AreFlags n content

@@ -6,7 +6,7 @@ use Rattle.krb_der.specs.declared.fault.FaultKind.TheVariants.{Truncated, Tag, L
 use Rattle.krb_der.specs.Kind.{Content, int32, uint32, microseconds, constant, octets, string, flags, time, Kind, leaf, wrapped, sequence, Fields, ends, must, may, each, tag_of, content_tag, ValueOf}
 use Rattle.krb_der.specs.Content.{Elementary}
 use Rattle.krb_der.specs.Place.{Place, begin_at, end_of, begins}
-use Rattle.krb_der.specs.Spells.{IsLength, Contents, SpellsBy, limit}
+use Rattle.krb_der.specs.Spells.{IsLength, Contents, SpellsBy, StandsAt, limit}
 
 -- An element with this tag begins at the place, its head is good, and its content ends before what encloses the place does:
 -- where the content stands, and where the element ends.
@@ -45,25 +45,24 @@ content_fault flags = Flags
 content_fault time = Time
 
 module _ (Leaf : Contents) where
-  -- Reached k bytes fs p: at the place p, where fs must still come up to the end of what encloses it, a message of the
-  -- kind k is looked at.
-  pub data Reached (k : Kind) (bytes : List ℕ) : Fields → Place → Type 0 where
-    start : Reached k bytes (must k ends) (begin_at bytes)
+  -- From a place where some fields must come, up to the end of what encloses it, other places are reached: the content of
+  -- an element whose head is good, what is behind an element that is spelled, and each field that may come or come again.
+  pub data Reached (from : Fields) (begin : Place) : Fields → Place → Type 0 where
+    start : Reached from begin from begin
     inside_wrapped : {tag : ℕ} {inner : Kind} {fs : Fields} {here inside after : Place}
-      → Reached k bytes (must (wrapped tag inner) fs) here → HasHead tag here inside after
-      → Reached k bytes (must inner ends) inside
+      → Reached from begin (must (wrapped tag inner) fs) here → HasHead tag here inside after
+      → Reached from begin (must inner ends) inside
     inside_sequence : {inner fs : Fields} {here inside after : Place}
-      → Reached k bytes (must (sequence inner) fs) here → HasHead 0x30 here inside after
-      → Reached k bytes inner inside
-    after_element : {e : Kind} {fs : Fields} {here after : Place} {front : List ℕ} (v : ValueOf e)
-      → Reached k bytes (must e fs) here → SpellsBy Leaf e v front → here.rest ≡ front ++ after.rest
-      → after.at ≡ here.at + length front → Reached k bytes fs after
+      → Reached from begin (must (sequence inner) fs) here → HasHead 0x30 here inside after
+      → Reached from begin inner inside
+    after_element : {e : Kind} {fs : Fields} {here after : Place} (v : ValueOf e)
+      → Reached from begin (must e fs) here → StandsAt Leaf e v here after → Reached from begin fs after
     is_there : {e : Kind} {fs : Fields} {here : Place}
-      → Reached k bytes (may e fs) here → begins (tag_of e) here.rest ≡ true → Reached k bytes (must e fs) here
+      → Reached from begin (may e fs) here → begins (tag_of e) here.rest ≡ true → Reached from begin (must e fs) here
     is_absent : {e : Kind} {fs : Fields} {here : Place}
-      → Reached k bytes (may e fs) here → begins (tag_of e) here.rest ≡ false → Reached k bytes fs here
+      → Reached from begin (may e fs) here → begins (tag_of e) here.rest ≡ false → Reached from begin fs here
     one_more : {e : Kind} {here : Place}
-      → Reached k bytes (each e) here → here.rest ≢ [] → Reached k bytes (must e (each e)) here
+      → Reached from begin (each e) here → here.rest ≢ [] → Reached from begin (must e (each e)) here
 
   -- the rule that is broken where these fields must come, which fault that is, and where
   pub data IsBroken : Fields → Place → Fault → Type 0 where
@@ -87,17 +86,21 @@ module _ (Leaf : Contents) where
       → here.rest ≢ [] → IsBroken ends here (record { kind = Trailing; at = here.at })
 
   -- some rule is broken at some place that is reached
-  pub record IsFaulty (k : Kind) (bytes : List ℕ) (fault : Fault) : Type 0 where
+  pub record IsFaulty (from : Fields) (begin : Place) (fault : Fault) : Type 0 where
     pub expected : Fields
     pub here : Place
-    pub reached : Reached k bytes expected here
+    pub reached : Reached from begin expected here
     pub broken : IsBroken expected here fault
 
-  -- TooLong goes before all else.
-  pub data IsFaultBy (k : Kind) (bytes : List ℕ) (fault : Fault) : Type 0 where
-    too_long : limit < length bytes → fault ≡ record { kind = TooLong; at = 0 } → IsFaultBy k bytes fault
-    faulty : length bytes ≤ limit → IsFaulty k bytes fault → IsFaultBy k bytes fault
+  -- a fault of an element that must stand at the place, whatever may come behind it
+  abbrev pub IsElementFault : Kind → Place → Fault → Type 0
+  IsElementFault k here fault = (fs : Fields) → IsFaulty (must k fs) here fault
+
+  -- a fault of a whole message: TooLong goes before all else
+  pub data IsMessageFault (k : Kind) (bytes : List ℕ) (fault : Fault) : Type 0 where
+    too_long : limit < length bytes → fault ≡ record { kind = TooLong; at = 0 } → IsMessageFault k bytes fault
+    faulty : length bytes ≤ limit → IsFaulty (must k ends) (begin_at bytes) fault → IsMessageFault k bytes fault
 
 -- the fault is one of these bytes, as a message of the kind
 abbrev pub IsFault : Kind → List ℕ → Fault → Type 0
-IsFault k bytes fault = IsFaultBy Elementary k bytes fault
+IsFault k bytes fault = IsMessageFault Elementary k bytes fault

@@ -1,18 +1,15 @@
 -- Which bytes spell which value (X.690, sections 8.1 and 10.1), as equations on whole lists.
-use Rattle.std.specs.Prelude.{◌≡◌, ℕ, ◌+◌, ◌*◌, ◌<◌, ◌≤◌, List, [], ◌∷◌, ◌++◌, length, Option, Some, None}
+use Rattle.std.specs.Prelude.{◌≡◌, ℕ, ◌+◌, ◌*◌, ◌<◌, ◌≤◌, List, [], ◌∷◌, ◌++◌, length, false, Option, Some, None}
 use Rattle.krb_der.specs.Kind.{Content, Kind, leaf, wrapped, sequence, Fields, ends, must, may, each, tag_of, ContentValue, ValueOf, FieldsOf}
+use Rattle.krb_der.specs.Place.{Place, begins}
 use Rattle.krb_der.specs.Content.{Elementary, AreBytes, number}
 
--- The bytes of a length (X.690, sections 8.1.3 and 10.1): itself below 128, else the count of the bytes of the number
--- with its top bit set, and those bytes, of which there are one to four and as few as do.
-abbrev pub IsLength : ℕ → List ℕ → Type 0
-IsLength n (a ∷ []) = (n < 128) × (a ≡ n)
-IsLength n (f ∷ a ∷ []) = (f ≡ 0x81) × AreBytes (a ∷ []) × (128 ≤ n) × (n ≡ number (a ∷ []))
-IsLength n (f ∷ a ∷ b ∷ []) = (f ≡ 0x82) × AreBytes (a ∷ b ∷ []) × (0x100 ≤ n) × (n ≡ number (a ∷ b ∷ []))
-IsLength n (f ∷ a ∷ b ∷ c ∷ []) = (f ≡ 0x83) × AreBytes (a ∷ b ∷ c ∷ []) × (0x1_0000 ≤ n) × (n ≡ number (a ∷ b ∷ c ∷ []))
-IsLength n (f ∷ a ∷ b ∷ c ∷ d ∷ []) =
-    (f ≡ 0x84) × AreBytes (a ∷ b ∷ c ∷ d ∷ []) × (0x100_0000 ≤ n) × (n ≡ number (a ∷ b ∷ c ∷ d ∷ []))
-IsLength n size = ⊥
+-- The bytes of a length (X.690, sections 8.1.3 and 10.1): below 128 the number itself. Else the count of its bytes with the
+-- top bit set, and those bytes, of which there are at most four and as few as do.
+pub data IsLength (n : ℕ) (size : List ℕ) : Type 0 where
+  short : n < 128 → size ≡ n ∷ [] → IsLength n size
+  long : (digits : List ℕ) → size ≡ (0x80 + length digits) ∷ digits → length digits ≤ 4 → AreBytes digits
+    → begins 0 digits ≡ false → 128 ≤ n → number digits ≡ n → IsLength n size
 
 -- the bytes are an element: a tag, the length of its content, and its content
 pub record IsElement (tag : ℕ) (IsContent : List ℕ → Type 0) (bytes : List ℕ) : Type 0 where
@@ -61,6 +58,13 @@ module _ (Leaf : Contents) where
 
   abbrev pub SpellsBy : (k : Kind) → ValueOf k → List ℕ → Type 0
   SpellsBy k v = IsElement (tag_of k) (SpellsContent k v)
+
+  -- an element of the kind with this value stands at the place, and what is behind it
+  pub record StandsAt (k : Kind) (v : ValueOf k) (here after : Place) : Type 0 where
+    pub front : List ℕ
+    pub spelled : SpellsBy k v front
+    pub whole : here.rest ≡ front ++ after.rest
+    pub at_is : after.at ≡ here.at + length front
 
 -- the bytes spell this value of the kind
 abbrev pub Spells : (k : Kind) → ValueOf k → List ℕ → Type 0

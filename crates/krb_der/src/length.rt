@@ -7,11 +7,12 @@ ghost use Rattle.krb_der.specs.Inner.LengthView.{plain_length};
 use crate::FaultKind;
 use crate::whole::number;
 
-/// The number that the next `count` bytes are, and the bytes behind it; the number is at least `least`.
+/// The length that the next `count` bytes are, and the bytes behind it.
 #[tactic(auto, unfolding(crate::specs::Inner::Read::long_of))]
-fn long(count: usize, least: u64, bytes: &[u8]) -> Result<(usize, &[u8]), FaultKind>
-    requires { count ≤ 4 }
-    ensures value { plain_length result ≡ long_of count least bytes.now }
+fn long(count: usize, bytes: &[u8]) -> Result<(usize, &[u8]), FaultKind>
+    requires few { count ≤ 4 }
+    requires some { 1 ≤ count }
+    ensures value { plain_length result ≡ long_of count bytes.now }
     ensures shorter { IfOk result (λ x. length x.1.now ≤ length bytes.now) }
 {
     if bytes.len() < count {
@@ -19,7 +20,7 @@ fn long(count: usize, least: u64, bytes: &[u8]) -> Result<(usize, &[u8]), FaultK
     }
     let (digits, rest) = bytes.split_at(count);
     let length = number(digits);
-    if length < least {
+    if digits[0] == 0 || length < 0x80 {
         return Err(FaultKind::Length);
     }
     Ok((length as usize, rest))
@@ -36,10 +37,7 @@ pub fn length(bytes: &[u8]) -> Result<(usize, &[u8]), FaultKind>
     };
     match *first {
         0..=0x7f => Ok((usize::from(*first), rest)),
-        0x81 => long(1, 0x80, rest),
-        0x82 => long(2, 0x100, rest),
-        0x83 => long(3, 0x1_0000, rest),
-        0x84 => long(4, 0x100_0000, rest),
+        0x81..=0x84 => long(usize::from(*first - 0x80), rest),
         _ => Err(FaultKind::Length),
     }
 }

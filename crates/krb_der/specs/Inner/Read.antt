@@ -1,5 +1,5 @@
 -- Reading from left to right, which gives the value and the place behind it, or the first fault.
-use Rattle.std.specs.Prelude.{◌≡◌, ℕ, zero, suc, ◌+◌, ◌-◌, ◌*◌, ◌^◌, ◌<◌, ◌≤◌, Bool, true, false, ◌&&◌, ◌==◌, nat_lt, nat_le, if◌then◌else◌, List, [], ◌∷◌, ◌++◌, length, take, drop, Option, Some, None, Result, Ok, Err}
+use Rattle.std.specs.Prelude.{◌≡◌, ℕ, zero, suc, ◌+◌, ◌-◌, ◌*◌, ◌^◌, ◌<◌, ◌≤◌, Bool, true, false, not, ◌&&◌, ◌==◌, nat_lt, nat_le, if◌then◌else◌, List, [], ◌∷◌, ◌++◌, length, take, drop, Option, Some, None, Result, Ok, Err}
 use Rattle.krb_der.specs.declared.fault.Fault.{Fault}
 use Rattle.krb_der.specs.declared.fault.FaultKind.{FaultKind}
 use Rattle.krb_der.specs.declared.fault.FaultKind.TheVariants.{Truncated, Tag, Length, Integer, Time, Flags, Trailing, TooLong}
@@ -19,22 +19,21 @@ fault_at kind at = Err (record { kind = kind; at = at })
 abbrev pub Sized : Type 0
 Sized = Result (ℕ × List ℕ) FaultKind
 
--- the digits of the long form, of a number that is at least this
-unfoldable pub long_of : ℕ → ℕ → List ℕ → Sized
-long_of count least bytes =
+-- the digits of the long form are those of a length
+abbrev pub are_length : List ℕ → Bool
+are_length digits = are_bytes digits && not (begins 0 digits) && nat_le 0x80 (number digits)
+
+unfoldable pub long_of : ℕ → List ℕ → Sized
+long_of count bytes =
     if nat_lt (length bytes) count then Err Truncated
-    else if are_bytes (take count bytes) && nat_le least (number (take count bytes)) then
-        Ok (number (take count bytes), drop count bytes)
+    else if are_length (take count bytes) then Ok (number (take count bytes), drop count bytes)
     else Err Length
 
 unfoldable pub length_of : List ℕ → Sized
 length_of [] = Err Truncated
 length_of (f ∷ bytes) =
     if nat_lt f 0x80 then Ok (f, bytes)
-    else if f == 0x81 then long_of 1 0x80 bytes
-    else if f == 0x82 then long_of 2 0x100 bytes
-    else if f == 0x83 then long_of 3 0x1_0000 bytes
-    else if f == 0x84 then long_of 4 0x100_0000 bytes
+    else if nat_le 0x81 f && nat_le f 0x84 then long_of (f - 0x80) bytes
     else Err Length
 
 -- ---- the head: where the content stands, and what is behind it

@@ -38,7 +38,7 @@ int32_within (pos n) = only_if (nat_lt n (2 ^ 31)) (pos n)
 int32_within (negsuc m) = only_if (nat_lt m (2 ^ 31)) (negsuc m)
 
 abbrev pub constant_at : ℕ → ℤ → Option (Unit {0})
-constant_at wanted (pos n) = only_if (n == wanted) tt
+constant_at wanted (pos n) = only_if ((n == wanted) && nat_lt wanted (2 ^ 32)) tt
 constant_at wanted (negsuc m) = None
 
 unfoldable pub flags_of : List ℕ → Option ℕ
