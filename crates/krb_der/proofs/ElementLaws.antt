@@ -13,10 +13,11 @@ use Rattle.krb_der.specs.Inner.Read.{LeafReader, fault_at, enter_at, finish_at, 
 use Rattle.krb_der.proofs.ContentLaws.{AreRead, AreUnique}
 use Rattle.krb_der.proofs.LengthLaws.{no_value, same_error, IsLength-unique}
 use Rattle.krb_der.proofs.ElementSteps.{Taken, bind_ok, bind_err, same_ok, cons_nil, enter_at-read, enter_at-fault, finish_at-read, finish_at-fault, finish_at-end}
+use Rattle.krb_der.proofs.ElementFound.{leaf_found, wrapped_found, sequence_found, must_found, may_found, each_from_found}
 use Rattle.krb_der.proofs.ElementRead.{begins-element, leaf_read, wrapped_read, sequence_read, must_read, may_read, each_from_read}
 
 -- an element has bytes
-element_some : (tag : ℕ) (IsContent : List ℕ → Type 0) (front : List ℕ) → IsElement tag IsContent front → 1 ≤ length front
+pub element_some : (tag : ℕ) (IsContent : List ℕ → Type 0) (front : List ℕ) → IsElement tag IsContent front → 1 ≤ length front
 element_some tag IsContent front h = omega (arith, ap length h.whole)
 
 module _ (Leaf : Contents) where
@@ -62,3 +63,21 @@ module _ (Leaf : Contents) where
       fields_read (each k) v bytes clear h at =
           each_from_read (SpellsBy Leaf k) (element_by read k) (λ x f s a r. element_read k x f clear s a r)
               (λ x f s. element_some (tag_of k) (SpellsContent Leaf k x) f s) v bytes at (length bytes) h (le_refl (length bytes))
+
+    mutual
+      unfolding element_by
+      pub element_found : (k : Kind) (p : Place) (v : ValueOf k) (after : Place) → element_by read k p ≡ Ok (v, after) → Taken (SpellsBy Leaf k v) p after
+      element_found (leaf c) p v after e = leaf_found (content_tag c) (read c) (content_fault c) (Leaf c) (λ x content h. are.found c x content h) p v after e
+      element_found (wrapped tag k) p v after e =
+          wrapped_found tag (SpellsBy Leaf k) (element_by read k) (λ q x a h. element_found k q x a h) p v after e
+      element_found (sequence fs) p v after e =
+          sequence_found (SpellsFields Leaf fs) (fields_by read fs) (λ q x h. fields_found fs q x h) p v after e
+
+      pub fields_found : (fs : Fields) (p : Place) (v : FieldsOf fs) → fields_by read fs p ≡ Ok v → SpellsFields Leaf fs v p.rest
+      fields_found ends p v e = finish_at-read p v e
+      fields_found (must k fs) p v e =
+          must_found (SpellsBy Leaf k) (SpellsFields Leaf fs) (element_by read k) (fields_by read fs) (λ q x a h. element_found k q x a h) (λ q x h. fields_found fs q x h) p v e
+      fields_found (may k fs) p v e =
+          may_found (tag_of k) (SpellsBy Leaf k) (SpellsFields Leaf fs) (element_by read k) (fields_by read fs) (λ q x a h. element_found k q x a h) (λ q x h. fields_found fs q x h) p v e
+      fields_found (each k) p v e =
+          each_from_found (SpellsBy Leaf k) (element_by read k) (λ q x a h. element_found k q x a h) (length p.rest) p p.rest v refl e

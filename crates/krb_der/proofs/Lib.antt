@@ -9,4 +9,7 @@ pub mod ClockLaws
 pub mod ContentLaws
 pub mod ElementSteps
 pub mod ElementRead
+pub mod ElementFound
 pub mod ElementLaws
+pub mod FaultLaws
+pub mod Unique
