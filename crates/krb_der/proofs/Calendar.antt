@@ -1,10 +1,11 @@
 -- The calendar of the definitions is that of jiff.
-use Rattle.std.proofs.Common.{◌≡◌, ℕ, zero, suc, ◌+◌, ◌-◌, ◌<◌, ◌≤◌, ℤ, pos, ◌+ℤ◌, ◌-ℤ◌, refl, sym, ap, ◌∙◌, arith, add_assoc, lit≤, Option, Some, Result, Ok, Err}
-use Rattle.std.proofs.lemmas.Int.{ints}
-use Rattle.std.proofs.lemmas.Bool.{le-leb}
+use Rattle.std.proofs.Common.{◌≡◌, ℕ, zero, suc, ◌+◌, ◌-◌, ◌<◌, ◌≤◌, ℤ, pos, ◌+ℤ◌, ◌-ℤ◌, ◌*ℤ◌, ◌≤ℤ◌, neg_ℤ, ◌*◌, refl, sym, ap, subst, ◌∙◌, arith, w64, to_z, of_z, add_assoc, lit≤, Option, Some, Result, Ok, Err}
+use Rattle.std.proofs.lemmas.Int.{ints, to_z-of_z}
+use mir.Val.{SFits}
+use Rattle.std.proofs.lemmas.Bool.{le-leb, lt-ltb}
 use Rattle.std.specs.Result.{result_ok}
 use Rattle.krb_der.specs.Time as own
-use Rattle.krb_der.specs.Inner.Clock.{day_of}
+use Rattle.krb_der.specs.Inner.Clock.{day_of, clock_of, seconds_if}
 use Rattle.jiff_core.specs.Calendar as jiff
 use Rattle.jiff_core.specs.declared.civil.date.Date.{Date}
 
@@ -52,16 +53,53 @@ day_of-some y m d month day =
     rw (le-leb 1 m month.0, le-leb m 12 month.1, le-leb 1 d day.0, le-leb d (own.days_in_month y m) day.1) refl
 
 -- a date of jiff with these parts
+date_is : (date : Date) (y m d : ℕ) → date.year ≡ pos y → date.month ≡ m → date.day ≡ d
+    → jiff.days_from_civil date.year date.month date.day ≡ own.day_number y m d
+date_is date y m d year month day =
+    ap (λ z. jiff.days_from_civil z date.month date.day) year ∙ ap (λ n. jiff.days_from_civil (pos y) n date.day) month ∙ ap (λ n. jiff.days_from_civil (pos y) m n) day
+    ∙ day_number_agree y m d (omega (arith, date.day_in))
+
 pub day_of-date : (date : Date) (y m d : ℕ) → date.year ≡ pos y → date.month ≡ m → date.day ≡ d
     → day_of y m d ≡ Some (jiff.days_from_civil date.year date.month date.day)
 day_of-date date y m d year month day =
     let length_is : jiff.days_in_month date.year date.month ≡ own.days_in_month y m =
         ap (λ z. jiff.days_in_month z date.month) year ∙ ap (λ n. jiff.days_in_month (pos y) n) month in
     let some = day_of-some y m d (omega (arith, date.month_in), omega (arith, date.month_in)) (omega (arith, date.day_in), omega (arith, date.day_in, length_is)) in
-    let same : jiff.days_from_civil date.year date.month date.day ≡ jiff.days_from_civil (pos y) m d =
-        ap (λ z. jiff.days_from_civil z date.month date.day) year ∙ ap (λ n. jiff.days_from_civil (pos y) n date.day) month ∙ ap (λ n. jiff.days_from_civil (pos y) m n) day in
-    some ∙ ap Some (sym (same ∙ day_number_agree y m d (omega (arith, date.day_in))))
+    some ∙ ap Some (sym (date_is date y m d year month day))
 
 pub result_ok_is : {A E : Type 0} (r : Result A E) (x : A) → result_ok r ≡ Some x → r ≡ Ok x
 result_ok_is (Ok y) x e = cc
 result_ok_is (Err d) x e = absurd cc
+
+epoch_count : own.day_count 1970 1 1 ≡ 719_528
+unfolding own.days_before_year own.days_of_months
+epoch_count = refl
+
+-- no date of the years from 0000 on is before 0000-01-01
+pub day_number_low : (y m d : ℕ) → neg_ℤ (pos 719_528) ≤ℤ own.day_number y m d
+day_number_low y m d = rw epoch_count (low (own.day_count y m d))
+  where
+    low : (n : ℕ) → neg_ℤ (pos 719_528) ≤ℤ (pos n -ℤ pos 719_528)
+    low n = omega (arith, ints)
+
+pub day_low : (date : Date) (y m d : ℕ) → date.year ≡ pos y → date.month ≡ m → date.day ≡ d
+    → neg_ℤ (pos 719_528) ≤ℤ jiff.days_from_civil date.year date.month date.day
+day_low date y m d year month day = subst (λ z. neg_ℤ (pos 719_528) ≤ℤ z) (sym (date_is date y m d year month day)) (day_number_low y m d)
+
+pub seconds_if-some : (t : own.Civil) (day : ℤ) (clock : ℕ) → day_of t.year t.month t.day ≡ Some day → clock_of t.hour t.minute t.second ≡ Some clock
+    → seconds_if t ≡ Some (pos 86_400 *ℤ day +ℤ pos clock)
+unfolding seconds_if
+seconds_if-some t day clock d c = rw (d, c) refl
+
+-- what the code computes of a day and a time of day
+pub seconds_value : (d c day : ℤ) (clock : ℕ) → d ≡ day → neg_ℤ (pos 719_528) ≤ℤ day → day ≤ℤ pos 2_932_896 → c ≡ pos clock → clock < 86_400
+    → to_z w64 (of_z w64 (to_z w64 (of_z w64 (pos 86_400 *ℤ to_z w64 (of_z w64 d))) +ℤ to_z w64 (of_z w64 c))) ≡ pos 86_400 *ℤ day +ℤ pos clock
+seconds_value d c day clock is low high e small =
+    let f0 : SFits w64 d = omega (arith, ints) in
+    let f1 : SFits w64 c = omega (arith, ints) in
+    let f2 : SFits w64 (pos 86_400 *ℤ d) = omega (arith, ints) in
+    let f3 : SFits w64 (pos 86_400 *ℤ d +ℤ c) = omega (arith, ints) in
+    rw (to_z-of_z w64 d f0, to_z-of_z w64 c f1, to_z-of_z w64 (pos 86_400 *ℤ d) f2, to_z-of_z w64 (pos 86_400 *ℤ d +ℤ c) f3, e, is) refl
+
+pub seconds_range : (d : ℤ) (clock : ℕ) → neg_ℤ (pos 719_528) ≤ℤ d → d ≤ℤ pos 2_932_896 → clock < 86_400 → own.IsSeconds (pos 86_400 *ℤ d +ℤ pos clock)
+seconds_range d clock low high small = record { low = omega (arith, ints); high = omega (arith, ints) }

@@ -13,3 +13,4 @@ pub mod ElementFound
 pub mod ElementLaws
 pub mod FaultLaws
 pub mod Unique
+pub mod Reading

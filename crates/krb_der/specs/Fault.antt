@@ -96,6 +96,10 @@ module _ (Leaf : Contents) where
   abbrev pub IsElementFault : Kind → Place → Fault → Type 0
   IsElementFault k here fault = (fs : Fields) → IsFaulty (must k fs) here fault
 
+  -- a fault of the head of an element with the tag that must stand at the place
+  abbrev pub IsHeadFault : ℕ → Place → Fault → Type 0
+  IsHeadFault tag here fault = (k : Kind) (fs : Fields) → IsBroken (must (wrapped tag k) fs) here fault
+
   -- a fault of a whole message: TooLong goes before all else
   pub data IsMessageFault (k : Kind) (bytes : List ℕ) (fault : Fault) : Type 0 where
     too_long : limit < length bytes → fault ≡ record { kind = TooLong; at = 0 } → IsMessageFault k bytes fault

@@ -6,3 +6,4 @@ pub mod CivilView
 pub mod LengthView
 pub mod Read
 pub mod Clear
+pub mod Gives

@@ -4,4 +4,5 @@ pub mod Content
 pub mod Spells
 pub mod Place
 pub mod Fault
+pub mod Reading
 pub mod Inner

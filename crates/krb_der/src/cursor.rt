@@ -1,11 +1,19 @@
 //! Reading elements from left to right.
 
-ghost use Rattle.std.specs.Prelude.{◌≡◌, ◌≤◌, length};
+ghost use Rattle.std.specs.Prelude.{◌≡◌, ◌≤◌, ◌↔◌, [], length, IsOk, IfOk, IfErr};
+ghost use Rattle.krb_der.specs.Kind.{leaf, int32};
+ghost use Rattle.krb_der.specs.Place.{begin_at};
+ghost use Rattle.krb_der.specs.Spells.{limit};
+ghost use Rattle.krb_der.specs.Reading.{Reads, Enters};
+ghost use Rattle.krb_der.specs.Inner.Gives.{Gives};
 ghost use Rattle.krb_der.specs.Inner.Read.{enter_at, split_at, length_fault};
 
 use crate::length::length;
-use crate::{Fault, FaultKind};
+use crate::{Element, Fault, FaultKind};
 use std::marker::Model;
+
+/// The most bytes that a message has.
+pub const LIMIT: usize = 1_048_576;
 
 /// A place in a message: an offset, and the bytes from it to the end of what encloses it.
 #[derive(Debug, Drop)]
@@ -27,8 +35,93 @@ impl<'a> Model for Cursor<'a> {
 }
 
 impl<'a> Cursor<'a> {
+    /// The start of a message.
+    ///
+    /// # Errors
+    /// `TooLong` at 0 above 1,048,576 bytes.
+    pub fn new(bytes: &'a [u8]) -> Result<Cursor<'a>, Fault>
+        ensures ok { IsOk result ↔ (length bytes.entry.now ≤ limit) }
+        ensures start { IfOk result (λ c. c ≡ begin_at bytes.entry.now) }
+        ensures too_long { IfErr result (λ f. f ≡ record { kind = FaultKind.TooLong; at = 0 }) }
+    {
+        if bytes.len() > LIMIT {
+            return Err(Fault {
+                kind: FaultKind::TooLong,
+                at: 0,
+            });
+        }
+        Ok(Cursor { at: 0, rest: bytes })
+    }
+
+    /// Reads the element of the type's kind that stands next.
+    ///
+    /// # Errors
+    /// The first fault of the element, from left to right, contents before what follows. The cursor then stays.
+    pub fn read<T: Element<'a>>(&mut self) -> Result<T, Fault>
+        ensures { Reads T.kind T.view result self.old self.new }
+    {
+        T::read(self)
+    }
+
+    /// Enters the element with this tag that stands next: answers a cursor over its content, and goes behind it.
+    ///
+    /// # Errors
+    /// - `Truncated` at the end of what encloses the place: no byte is left, or the length or the content is cut off.
+    /// - `Tag` here: another byte stands here.
+    /// - `Length` behind the tag: the length is no length, or not in its shortest form.
+    pub fn enter(&mut self, tag: u8) -> Result<Cursor<'a>, Fault>
+        ensures { Enters tag result self.old self.new }
+    {
+        self.step(tag)
+    }
+
+    fn step(&mut self, tag: u8) -> Result<Cursor<'a>, Fault>
+        ensures { Gives (λ p. p) result self.old self.new (enter_at tag self.old) }
+    {
+        let (inside, after) = self.head(tag)?;
+        *self = after;
+        Ok(inside)
+    }
+
+    /// Ends the reading of a content or of a message.
+    ///
+    /// # Errors
+    /// `Trailing` here: bytes are left.
+    pub fn finish(&self) -> Result<(), Fault>
+        ensures ok { IsOk result ↔ (self.now.rest ≡ []) }
+        ensures trailing { IfErr result (λ f. f ≡ record { kind = FaultKind.Trailing; at = self.now.at }) }
+    {
+        if !self.rest.is_empty() {
+            return Err(self.fault(FaultKind::Trailing));
+        }
+        Ok(())
+    }
+
+    /// Reads a whole number from -2,147,483,648 to 2,147,483,647 (RFC 4120, section 5.2.4).
+    ///
+    /// # Errors
+    /// Those of [`enter`](Self::enter), then `Integer` here: empty, not in its shortest form, or out of range.
+    pub fn int32(&mut self) -> Result<i32, Fault>
+        ensures { Reads (leaf int32) (λ z. z) result self.old self.new }
+    {
+        self.read()
+    }
+    /// The bytes that are left.
+    pub(crate) fn rest(&self) -> &'a [u8]
+        ensures { result.now ≡ self.now.rest }
+    {
+        self.rest
+    }
+
+    /// The fault of this kind of the element that begins here.
+    pub(crate) fn fault(&self, kind: FaultKind) -> Fault
+        ensures { result ≡ record { kind = kind; at = self.now.at } }
+    {
+        Fault { kind, at: self.at }
+    }
+
     /// The content of the element with this tag that begins here, and what is behind it.
-    fn head(&self, tag: u8) -> Result<(Cursor<'a>, Cursor<'a>), Fault>
+    pub(crate) fn head(&self, tag: u8) -> Result<(Cursor<'a>, Cursor<'a>), Fault>
         ensures { result ≡ enter_at tag self.now }
     {
         let end = self.at + self.rest.len();

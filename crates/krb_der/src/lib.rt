@@ -1,11 +1,18 @@
 //! DER.
 #![tactic(auto)]
 
-pub mod cursor;
+mod cursor;
+mod element;
 mod fault;
-pub mod length;
-pub mod tag;
-pub mod time;
-pub mod whole;
+mod leaf;
+mod length;
+mod tag;
+mod time;
+mod value;
+mod whole;
 
+pub use cursor::Cursor;
+pub use element::Element;
 pub use fault::{Fault, FaultKind};
+pub use time::Seconds;
+pub use value::{Constant, Flags, Microseconds, Octets, Text};

@@ -1,10 +1,11 @@
 //! Times: seconds of the years 0000 to 9999, and their texts (RFC 4120, section 5.2.3).
 
-ghost use Rattle.std.specs.Prelude.{◌≡◌, ◌+◌, ◌≤◌, ◌<◌, length, SomeIff, IfSome};
+ghost use Rattle.std.specs.Prelude.{◌≡◌, ◌+◌, ◌≤◌, ◌<◌, length, SomeIff, IfSome, pos, neg_ℤ};
 ghost use Rattle.std.specs.Option.{option_map};
+ghost use Rattle.jiff_core.specs.Calendar.{IsBetween};
 ghost use Rattle.krb_der.specs.Time.{IsSeconds};
-ghost use Rattle.krb_der.specs.Inner.CivilView.{plain_civil};
-ghost use Rattle.krb_der.specs.Inner.Clock.{pair_of, pair_at, day_of, civil_of};
+ghost use Rattle.krb_der.specs.Inner.CivilView.{plain_civil, AreTwoDigits};
+ghost use Rattle.krb_der.specs.Inner.Clock.{pair_of, pair_at, day_of, clock_of, civil_of, seconds_if, time_of};
 
 use jiff_core::civil::Date;
 use std::marker::Model;
@@ -50,6 +51,7 @@ impl Seconds {
 }
 
 /// A second of the calendar, or what names one.
+#[derive(Clone, Copy)]
 struct Civil {
     year: u16,
     month: u8,
@@ -84,7 +86,8 @@ fn pair_in(content: &[u8], at: usize) -> Option<u8>
 #[tactic(auto, unfolding(crate::specs::Inner::Clock::civil_of))]
 fn civil_in(content: &[u8]) -> Option<Civil>
     requires { length content.now ≡ 15 }
-    ensures { option_map plain_civil result ≡ civil_of content.now }
+    ensures value { option_map plain_civil result ≡ civil_of content.now }
+    ensures small { IfSome result AreTwoDigits }
 {
     let century = pair_in(content, 0)?;
     let year = pair_in(content, 2)?;
@@ -108,8 +111,44 @@ fn day(year: u16, month: u8, day: u8) -> Option<i32>
     requires year { year < 10000 }
     requires month { month < 100 }
     requires day { day < 100 }
-    ensures { result ≡ day_of year month day }
+    ensures value { result ≡ day_of year month day }
+    ensures range { IfSome result (IsBetween (neg_ℤ (pos 719_528)) (pos 2_932_896)) }
 {
     let date = Date::new(year as i16, month as i8, day as i8).ok()?;
     Some(date.to_unix_epoch_day())
+}
+
+/// The seconds of a time of day, if there is such a time.
+fn clock(hour: u8, minute: u8, second: u8) -> Option<u32>
+    ensures value { result ≡ clock_of hour minute second }
+    ensures small { IfSome result (λ n. n < 86_400) }
+{
+    if hour >= 24 || minute >= 60 || second >= 60 {
+        return None;
+    }
+    Some(3_600 * u32::from(hour) + 60 * u32::from(minute) + u32::from(second))
+}
+
+/// The seconds of a second of the calendar, if it has it.
+#[tactic(auto, unfolding(crate::specs::Inner::Clock::seconds_if))]
+fn seconds_of(civil: &Civil) -> Option<Seconds>
+    requires { AreTwoDigits civil.now }
+    ensures { result ≡ seconds_if (plain_civil civil.now) }
+{
+    let day = i64::from(day(civil.year, civil.month, civil.day)?);
+    let clock = i64::from(clock(civil.hour, civil.minute, civil.second)?);
+    Some(Seconds {
+        seconds: 86_400 * day + clock,
+    })
+}
+
+/// The time that the content is.
+#[tactic(auto, unfolding(crate::specs::Inner::Clock::time_of))]
+pub fn time_in(content: &[u8]) -> Option<Seconds>
+    ensures { result ≡ time_of content.now }
+{
+    if content.len() != 15 || content[14] != b'Z' {
+        return None;
+    }
+    seconds_of(&civil_in(content)?)
 }

@@ -1,8 +1,12 @@
 //! Contents that are whole numbers or flags (X.690, sections 8.3 and 8.6).
 
-ghost use Rattle.std.specs.Prelude.{◌≡◌, ◌<◌, ◌≤◌, ◌^◌, length};
+ghost use Rattle.std.specs.Prelude.{◌≡◌, ◌<◌, ◌≤◌, ◌^◌, length, is_some};
+ghost use Rattle.krb_der.specs.Kind.{int32, uint32, microseconds, constant};
 ghost use Rattle.krb_der.specs.Content.{number};
+ghost use Rattle.krb_der.specs.Inner.Read.{content_of};
 ghost use Rattle.krb_der.specs.Inner.Whole.{is_redundant, is_negative, whole_of, flags_of, contents_of};
+
+use crate::value::Microseconds;
 
 /// Whether the first nine bits are one value, or there are no bits: no whole number is spelled so.
 fn is_redundant(content: &[u8]) -> bool
@@ -65,7 +69,7 @@ pub fn whole(content: &[u8]) -> Option<i64>
 }
 
 /// The 32 bits of a content without unused bits.
-pub fn flags(content: &[u8]) -> Option<u32>
+pub fn flags_in(content: &[u8]) -> Option<u32>
     ensures { result ≡ flags_of content.now }
 {
     let (unused, bits) = content.split_first()?;
@@ -73,4 +77,32 @@ pub fn flags(content: &[u8]) -> Option<u32>
         return None;
     }
     Some(number(bits) as u32)
+}
+
+/// The Int32 that the content is.
+pub fn int32_in(content: &[u8]) -> Option<i32>
+    ensures { result ≡ content_of int32 content.now }
+{
+    i32::try_from(whole(content)?).ok()
+}
+
+/// The UInt32 that the content is.
+pub fn uint32_in(content: &[u8]) -> Option<u32>
+    ensures { result ≡ content_of uint32 content.now }
+{
+    u32::try_from(whole(content)?).ok()
+}
+
+/// The microseconds that the content is.
+pub fn micros_in(content: &[u8]) -> Option<Microseconds>
+    ensures { result ≡ content_of microseconds content.now }
+{
+    Microseconds::new(u32::try_from(whole(content)?).ok()?)
+}
+
+/// Whether the content is this number.
+pub fn is_number(content: &[u8], number: u32) -> bool
+    ensures { result ≡ is_some (content_of (constant number) content.now) }
+{
+    whole(content) == Some(i64::from(number))
 }

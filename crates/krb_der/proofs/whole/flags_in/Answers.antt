@@ -4,8 +4,8 @@ use Rattle.krb_der.specs.Content.{AreBytes}
 use Rattle.krb_der.specs.Inner.Whole.{flags_of}
 use Rattle.krb_der.proofs.Numbers.{AreBytes-from, number_within}
 use Rattle.krb_der.proofs.WholeSteps.{flags_of-some, flags_of-used}
-use Rattle.krb_der.proofs.whole.flags.Goals as goal
-use Rattle.krb_der.proofs.whole.flags.Goals.{then-unused-ne0-via-then-unused-ne0, then-unused-ne0-via-else-unused-ne0+then-bits-ne4}
+use Rattle.krb_der.proofs.whole.flags_in.Goals as goal
+use Rattle.krb_der.proofs.whole.flags_in.Goals.{then-unused-ne0-via-then-unused-ne0, then-unused-ne0-via-else-unused-ne0+then-bits-ne4}
 
 pub returns-in_err-unused : goal.returns-in_err-unused
 unfolding flags_of
