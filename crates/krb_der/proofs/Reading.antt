@@ -1,18 +1,21 @@
 -- A call that gives what reading gives reads an element.
-use Rattle.std.proofs.Common.{◌≡◌, true, List, ◌++◌, length, ℕ, ◌+◌, Result, Ok, Err, refl, sym, ap, ◌∙◌, arith, length-append}
+use Rattle.std.proofs.Common.{◌≡◌, inl, inr, Option, Some, None, subst, true, false, List, ◌++◌, length, ℕ, ◌+◌, Result, Ok, Err, refl, sym, ap, ◌∙◌, arith, length-append}
+use Rattle.std.specs.Prelude.{IsSomeAnd}
+use Rattle.std.proofs.lemmas.Bool.{cases_Bool, eq-eqb}
+use Rattle.krb_der.specs.Inner.Steps.{◌>>=◌}
 use Rattle.krb_der.specs.declared.fault.Fault.{Fault}
 use Rattle.krb_der.specs.Kind.{Kind, wrapped, ValueOf, Fields, must}
 use Rattle.krb_der.specs.Content.{Elementary}
-use Rattle.krb_der.specs.Place.{Place}
+use Rattle.krb_der.specs.Place.{Place, begins}
 use Rattle.krb_der.specs.Spells.{StandsAt}
-use Rattle.krb_der.specs.Fault.{HasHead, IsElementFault, start}
-use Rattle.krb_der.specs.Reading.{Reads, Enters}
+use Rattle.krb_der.specs.Fault.{HasHead, IsElementFault, IsHeadFault, start}
+use Rattle.krb_der.specs.Reading.{Reads, Enters, MayEnter}
 use Rattle.krb_der.specs.Inner.Clear.{is_clear}
 use Rattle.krb_der.specs.Inner.Gives.{Gives}
-use Rattle.krb_der.specs.Inner.Read.{element_at, enter_at, content_of}
+use Rattle.krb_der.specs.Inner.Read.{element_at, enter_at, may_enter, content_of}
 use Rattle.krb_der.proofs.ContentLaws.{elementary_read}
 use Rattle.krb_der.proofs.LengthLaws.{no_value}
-use Rattle.krb_der.proofs.ElementSteps.{enter_at-spelled, enter_at-read, enter_at-fault}
+use Rattle.krb_der.proofs.ElementSteps.{bind_ok, bind_err, enter_at-spelled, enter_at-read, enter_at-fault}
 use Rattle.krb_der.proofs.ElementFound.{answer}
 use Rattle.krb_der.proofs.ElementLaws.{element_read, element_found}
 use Rattle.krb_der.proofs.FaultLaws.{element_fault}
@@ -76,3 +79,59 @@ enters tag (Err f) old new e =
       faulty = λ k fs. enter_at-fault Elementary (wrapped tag k) fs old f e.0;
       kept = e.1;
     }
+
+-- ---- an element that may stand next
+may_enter-there : (tag : ℕ) (p : Place) → begins tag p.rest ≡ true → may_enter tag p ≡ (enter_at tag p >>= λ e. Ok (Some e.0, e.1))
+unfolding may_enter
+may_enter-there tag p b = rw b refl
+
+may_enter-absent : (tag : ℕ) (p : Place) → begins tag p.rest ≡ false → may_enter tag p ≡ Ok (None, p)
+unfolding may_enter
+may_enter-absent tag p b = rw b refl
+
+head_begins : (tag : ℕ) (p inside after : Place) → HasHead tag p inside after → begins tag p.rest ≡ true
+head_begins tag p inside after h = ap (begins tag) h.whole ∙ eq-eqb tag tag refl
+
+may_enter-head : (tag : ℕ) (p inside after : Place) → HasHead tag p inside after → may_enter tag p ≡ Ok (Some inside, after)
+may_enter-head tag p inside after h =
+    may_enter-there tag p (head_begins tag p inside after h) ∙ ap (λ r. r >>= λ e. Ok (Some e.0, e.1)) (enter_at-head tag p inside after h)
+
+none_found : (tag : ℕ) (o : Option Place) (old new : Place) → begins tag old.rest ≡ false → may_enter tag old ≡ Ok (o, new)
+    → (◌≡◌ {A = Result (Option Place) Fault} (Ok o) (Ok None)) × (new ≡ old)
+none_found tag o old new b e =
+    let a = answer o None new old (sym e ∙ may_enter-absent tag old b) in
+    (ap Ok a.0, a.1)
+
+some_found : (tag : ℕ) (o : Option Place) (old new : Place) → begins tag old.rest ≡ true → may_enter tag old ≡ Ok (o, new)
+    → IsSomeAnd o (λ inside. HasHead tag old inside new)
+some_found tag o old new b e =
+    let h = bind_ok (enter_at tag old) (λ x. Ok (Some x.0, x.1)) (o, new) (sym (may_enter-there tag old b) ∙ e) in
+    let a = answer (Some h.0.0) o h.0.1 new h.2 in
+    subst (λ x. IsSomeAnd x (λ inside. HasHead tag old inside new)) a.0 (subst (HasHead tag old h.0.0) a.1 (enter_at-read tag old h.0.0 h.0.1 h.1))
+
+pub may_enters : (tag : ℕ) (r : Result (Option Place) Fault) (old new : Place) → Gives (λ (o : Option Place). o) r old new (may_enter tag old) → MayEnter tag r old new
+may_enters tag (Ok o) old new e =
+    record {
+      absent = λ b. none_found tag o old new b e;
+      found = λ b. some_found tag o old new b e;
+      only = λ inside after h. answer o (Some inside) new after (sym e ∙ may_enter-head tag old inside after h);
+      faulty = tt;
+      kept = tt;
+    }
+may_enters tag (Err f) old new e =
+    record {
+      absent = λ b. absurd (no_value f (None, old) (sym e.0 ∙ may_enter-absent tag old b));
+      found = λ b. tt;
+      only = λ inside after h. absurd (no_value f (Some inside, after) (sym e.0 ∙ may_enter-head tag old inside after h));
+      faulty = faults;
+      kept = e.1;
+    }
+  where
+    faults : IsHeadFault Elementary tag old f
+    faults = elim (cases_Bool (begins tag old.rest)) [
+        | inl b ↦ elim (bind_err (enter_at tag old) (λ x. Ok (Some x.0, x.1)) f (sym (may_enter-there tag old b) ∙ e.0)) [
+          | inl h ↦ λ k fs. enter_at-fault Elementary (wrapped tag k) fs old f h
+          | inr h ↦ absurd (no_value f _ (sym h.2))
+        ]
+        | inr b ↦ absurd (no_value f (None, old) (sym e.0 ∙ may_enter-absent tag old b))
+      ]

@@ -1,15 +1,15 @@
 //! Reading elements from left to right.
 
 ghost use Rattle.std.specs.Prelude.{◌≡◌, ◌≤◌, ◌↔◌, [], length, IsOk, IfOk, IfErr};
-ghost use Rattle.krb_der.specs.Kind.{leaf, int32};
-ghost use Rattle.krb_der.specs.Place.{begin_at};
+ghost use Rattle.krb_der.specs.Kind.{leaf, int32, uint32, microseconds, constant, octets, string, flags, time};
+ghost use Rattle.krb_der.specs.Place.{begin_at, begins};
 ghost use Rattle.krb_der.specs.Spells.{limit};
-ghost use Rattle.krb_der.specs.Reading.{Reads, Enters};
+ghost use Rattle.krb_der.specs.Reading.{Reads, Enters, MayEnter};
 ghost use Rattle.krb_der.specs.Inner.Gives.{Gives};
-ghost use Rattle.krb_der.specs.Inner.Read.{enter_at, split_at, length_fault};
+ghost use Rattle.krb_der.specs.Inner.Read.{enter_at, may_enter, split_at, length_fault, element_at};
 
 use crate::length::length;
-use crate::{Element, Fault, FaultKind};
+use crate::{Constant, Element, Fault, FaultKind, Flags, Microseconds, Octets, Seconds, Text};
 use std::marker::Model;
 
 /// The most bytes that a message has.
@@ -97,6 +97,37 @@ impl<'a> Cursor<'a> {
         Ok(())
     }
 
+    /// Enters the element with this tag where its tag is the next byte; answers `None` where it isn't.
+    ///
+    /// # Errors
+    /// Those of [`enter`](Self::enter) but `Tag`.
+    pub fn optional(&mut self, tag: u8) -> Result<Option<Cursor<'a>>, Fault>
+        ensures { MayEnter tag result self.old self.new }
+    {
+        self.optional_here(tag)
+    }
+
+    #[tactic(auto, unfolding(crate::specs::Inner::Read::may_enter))]
+    fn optional_here(&mut self, tag: u8) -> Result<Option<Cursor<'a>>, Fault>
+        ensures { Gives (λ o. o) result self.old self.new (may_enter tag self.old) }
+    {
+        if !self.begins(tag) {
+            return Ok(None);
+        }
+        let inside = self.step(tag)?;
+        Ok(Some(inside))
+    }
+
+    /// Whether the next byte is this one.
+    pub(crate) fn begins(&self, tag: u8) -> bool
+        ensures { result ≡ begins tag self.now.rest }
+    {
+        match self.rest.first() {
+            Some(first) => *first == tag,
+            None => false,
+        }
+    }
+
     /// Reads a whole number from -2,147,483,648 to 2,147,483,647 (RFC 4120, section 5.2.4).
     ///
     /// # Errors
@@ -106,6 +137,76 @@ impl<'a> Cursor<'a> {
     {
         self.read()
     }
+
+    /// Reads a whole number from 0 to 4,294,967,295 (RFC 4120, section 5.2.4). Errors as of [`int32`](Self::int32).
+    pub fn uint32(&mut self) -> Result<u32, Fault>
+        ensures { Reads (leaf uint32) (λ n. n) result self.old self.new }
+    {
+        self.read()
+    }
+
+    /// Reads a whole number from 0 to 999,999 (RFC 4120, section 5.2.4). Errors as of [`int32`](Self::int32).
+    pub fn microseconds(&mut self) -> Result<Microseconds, Fault>
+        ensures { Reads (leaf microseconds) (λ n. n) result self.old self.new }
+    {
+        self.read()
+    }
+
+    /// Reads the whole number `N`. Errors as of [`int32`](Self::int32); `Integer` also for any other number.
+    pub fn constant<const N: u32>(&mut self) -> Result<Constant<N>, Fault>
+        ensures { Reads (leaf (constant N)) (λ _. tt) result self.old self.new }
+    {
+        self.read()
+    }
+
+    /// Reads an OCTET STRING: answers a slice of the input. Errors as of [`enter`](Self::enter).
+    pub fn octets(&mut self) -> Result<&'a [u8], Fault>
+        ensures { Reads (leaf octets) (λ s. s.now) result self.old self.new }
+    {
+        self.octets_here()
+    }
+
+    fn octets_here(&mut self) -> Result<&'a [u8], Fault>
+        ensures { Gives (λ s. s.now) result self.old self.new (element_at (leaf octets) self.old) }
+    {
+        let octets = Octets::read(self)?;
+        Ok(octets.0)
+    }
+
+    /// Reads a GeneralString, of any bytes: answers a slice of the input. Errors as of [`enter`](Self::enter).
+    pub fn string(&mut self) -> Result<&'a [u8], Fault>
+        ensures { Reads (leaf string) (λ s. s.now) result self.old self.new }
+    {
+        self.string_here()
+    }
+
+    fn string_here(&mut self) -> Result<&'a [u8], Fault>
+        ensures { Gives (λ s. s.now) result self.old self.new (element_at (leaf string) self.old) }
+    {
+        let text = Text::read(self)?;
+        Ok(text.0)
+    }
+
+    /// Reads a BIT STRING of 32 bits (RFC 4120, section 5.2.8).
+    ///
+    /// # Errors
+    /// Those of [`enter`](Self::enter), then `Flags` here: not 32 bits.
+    pub fn flags(&mut self) -> Result<Flags, Fault>
+        ensures { Reads (leaf flags) (λ f. f.0) result self.old self.new }
+    {
+        self.read()
+    }
+
+    /// Reads a GeneralizedTime of the form `YYYYMMDDHHMMSSZ` (RFC 4120, section 5.2.3).
+    ///
+    /// # Errors
+    /// Those of [`enter`](Self::enter), then `Time` here: not of the form, or not of the calendar.
+    pub fn time(&mut self) -> Result<Seconds, Fault>
+        ensures { Reads (leaf time) (λ s. s) result self.old self.new }
+    {
+        self.read()
+    }
+
     /// The bytes that are left.
     pub(crate) fn rest(&self) -> &'a [u8]
         ensures { result.now ≡ self.now.rest }

@@ -59,6 +59,10 @@ head_from tag p (b ∷ bytes) = if b == tag then sized_at p (length_of bytes) el
 unfoldable pub enter_at : ℕ → Place → Result (Place × Place) Fault
 enter_at tag p = head_from tag p p.rest
 
+-- the same of an element that may stand next
+unfoldable pub may_enter : ℕ → Place → Result (Option Place × Place) Fault
+may_enter tag p = if begins tag p.rest then (enter_at tag p >>= λ e. Ok (Some e.0, e.1)) else Ok (None, p)
+
 -- ---- contents
 abbrev pub content_of : (c : Content) → List ℕ → Option (ContentValue c)
 content_of int32 content = whole_of content >>? int32_within
