@@ -189,7 +189,7 @@ none_some x e = cc
 pub same_some : {A : Type 0} (x y : A) → ◌≡◌ {A = Option A} (Some x) (Some y) → x ≡ y
 same_some x y e = cc
 
-shortest_kept : (content : List ℕ) → is_redundant content ≡ false → is_negative content ≡ false → IsShortest content
+pub shortest_kept : (content : List ℕ) → is_redundant content ≡ false → is_negative content ≡ false → IsShortest content
 shortest_kept [] r n = true≢false r
 shortest_kept (a ∷ []) r n = leb-false 128 a n
 shortest_kept (a ∷ b ∷ bytes) r n =
@@ -199,7 +199,7 @@ shortest_kept (a ∷ b ∷ bytes) r n =
       | inr q ↦ ltb-false b 128 q
     ])
 
-shortest_turned : (content : List ℕ) → AreBytes content → is_redundant content ≡ false → is_negative content ≡ true → IsShortest (turned content)
+pub shortest_turned : (content : List ℕ) → AreBytes content → is_redundant content ≡ false → is_negative content ≡ true → IsShortest (turned content)
 shortest_turned [] h r n = true≢false r
 shortest_turned (a ∷ []) h r n = let high = leb-true 128 a n in omega (arith, high)
 shortest_turned (a ∷ b ∷ bytes) h r n =

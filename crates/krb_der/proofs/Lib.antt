@@ -14,3 +14,5 @@ pub mod ElementLaws
 pub mod FaultLaws
 pub mod Unique
 pub mod Reading
+pub mod HeadLaws
+pub mod ShortestLaws

@@ -5,4 +5,5 @@ pub mod Spells
 pub mod Place
 pub mod Fault
 pub mod Reading
+pub mod Writing
 pub mod Inner

@@ -4,15 +4,18 @@
 mod cursor;
 mod element;
 mod fault;
+mod head;
 mod leaf;
 mod length;
 mod tag;
 mod time;
 mod value;
 mod whole;
+mod writer;
 
 pub use cursor::Cursor;
 pub use element::Element;
 pub use fault::{Fault, FaultKind};
 pub use time::Seconds;
+pub use writer::Writer;
 pub use value::{Constant, Flags, Microseconds, Octets, Text};
