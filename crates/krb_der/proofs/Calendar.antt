@@ -1,9 +1,14 @@
 -- The calendar of the definitions is that of jiff.
-use Rattle.std.proofs.Common.{◌≡◌, ℕ, zero, suc, ◌+◌, ◌-◌, ◌<◌, ◌≤◌, ℤ, pos, ◌+ℤ◌, ◌-ℤ◌, ◌*ℤ◌, ◌≤ℤ◌, neg_ℤ, ◌*◌, refl, sym, ap, subst, ◌∙◌, arith, w64, to_z, of_z, add_assoc, lit≤, Option, Some, Result, Ok, Err}
-use Rattle.std.proofs.lemmas.Int.{ints, to_z-of_z}
+use Rattle.std.proofs.Common.{◌≡◌, ℕ, zero, suc, ◌+◌, ◌-◌, ◌<◌, ◌≤◌, ℤ, pos, ◌+ℤ◌, ◌-ℤ◌, ◌*ℤ◌, ◌≤ℤ◌, neg_ℤ, ◌*◌, ◌/◌, ◌%◌, refl, sym, ap, subst, ◌∙◌, arith, w16, w64, Fits, negsuc, to_z, of_z, add_assoc, lit≤, Option, Some, Result, Ok, Err}
+use Rattle.std.proofs.lemmas.Int.{ints, to_z-of_z, by_lt_z}
 use mir.Val.{SFits}
+use lib.Dec.{T}
+use lib.Signed.{non_neg}
+use lib.IntN.{nat_abs}
 use Rattle.std.proofs.lemmas.Bool.{le-leb, lt-ltb}
 use Rattle.std.specs.Result.{result_ok}
+use Rattle.jiff_core.proofs.CalendarLemmas.{day_count-lt_year, days_from_civil-day_count}
+use Rattle.jiff_core.proofs.DateLemmas.{civil}
 use Rattle.krb_der.specs.Time as own
 use Rattle.krb_der.specs.Inner.Clock.{day_of, clock_of, seconds_if}
 use Rattle.jiff_core.specs.Calendar as jiff
@@ -103,3 +108,38 @@ seconds_value d c day clock is low high e small =
 
 pub seconds_range : (d : ℤ) (clock : ℕ) → neg_ℤ (pos 719_528) ≤ℤ d → d ≤ℤ pos 2_932_896 → clock < 86_400 → own.IsSeconds (pos 86_400 *ℤ d +ℤ pos clock)
 seconds_range d clock low high small = record { low = omega (arith, ints); high = omega (arith, ints) }
+
+-- ---- from seconds to the calendar
+first_day : own.day_number 0 1 1 ≡ neg_ℤ (pos 719_528)
+unfolding own.days_before_year own.days_of_months
+first_day = refl
+
+clock_value : (d : ℤ) (n : ℕ) (s : ℤ) → pos n ≡ s +ℤ pos 62_167_219_200 → d +ℤ pos 4_371_587 ≡ pos (n / 86_400 + 3_652_059)
+    → pos 86_400 *ℤ d +ℤ pos (3_600 * (n % 86_400 / 3_600) + 60 * (n % 86_400 / 60 % 60) + n % 86_400 % 60) ≡ s
+clock_value d n s from day = omega (arith, ints)
+
+-- a date from 0000-01-01 on has a year from 0 on
+pub year_from_zero : (date : Date) → neg_ℤ (pos 719_528) ≤ℤ jiff.days_from_civil date.year date.month date.day → pos 0 ≤ℤ date.year
+year_from_zero date late =
+    by_lt_z date.year (pos 0)
+        (λ before.
+            let earlier = day_count-lt_year date.year date.month date.day (pos 0) 1 1 (civil date) (lit≤ tt) before in
+            let here = days_from_civil-day_count date.year date.month date.day in
+            let first = days_from_civil-day_count (pos 0) 1 1 in
+            let zero_is : jiff.days_from_civil (pos 0) 1 1 ≡ neg_ℤ (pos 719_528) = day_number_agree 0 1 1 (lit≤ tt) ∙ first_day in
+            absurd (omega (arith, ints, earlier, here, first, zero_is, late)))
+        (λ from. from)
+
+pub civil_value : (date : Date) (y n : ℕ) (s : ℤ) → date.year ≡ pos y → pos n ≡ s +ℤ pos 62_167_219_200
+    → jiff.days_from_civil date.year date.month date.day +ℤ pos 4_371_587 ≡ pos (n / 86_400 + 3_652_059)
+    → pos 86_400 *ℤ own.day_number y date.month date.day +ℤ pos (3_600 * (n % 86_400 / 3_600) + 60 * (n % 86_400 / 60 % 60) + n % 86_400 % 60) ≡ s
+civil_value date y n s year from day =
+    let same : own.day_number y date.month date.day ≡ jiff.days_from_civil date.year date.month date.day = sym (date_is date y date.month date.day year refl refl) in
+    clock_value (own.day_number y date.month date.day) n s from (ap (λ z. z +ℤ pos 4_371_587) same ∙ day)
+
+pub cast_year : (y : ℤ) → pos 0 ≤ℤ y → jiff.IsYear y → T (non_neg (to_z w16 (of_z w16 y))) × Fits w16 (nat_abs (to_z w16 (of_z w16 y)))
+cast_year (pos n) from range =
+    let lt : n < 10_000 = omega (arith, ints, range) in
+    let fits : SFits w16 (pos n) = omega (arith, ints) in
+    rw (to_z-of_z w16 (pos n) fits) (tt, omega arith)
+cast_year (negsuc m) from range = absurd (omega (arith, ints, from))

@@ -16,3 +16,5 @@ pub mod Unique
 pub mod Reading
 pub mod HeadLaws
 pub mod ShortestLaws
+pub mod WriteLaws
+pub mod Messages

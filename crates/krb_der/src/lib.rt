@@ -5,6 +5,7 @@ mod cursor;
 mod element;
 mod fault;
 mod head;
+pub mod laws;
 mod leaf;
 mod length;
 mod tag;

@@ -3,7 +3,7 @@
 ghost use Rattle.std.specs.Prelude.{◌≡◌, ◌+◌, ◌≤◌, ◌<◌, length, SomeIff, IfSome, pos, neg_ℤ};
 ghost use Rattle.std.specs.Option.{option_map};
 ghost use Rattle.jiff_core.specs.Calendar.{IsBetween};
-ghost use Rattle.krb_der.specs.Time.{IsSeconds};
+ghost use Rattle.krb_der.specs.Time.{IsSeconds, IsCivil, IsTime, seconds_of, two};
 ghost use Rattle.krb_der.specs.Inner.CivilView.{plain_civil, AreTwoDigits};
 ghost use Rattle.krb_der.specs.Inner.Clock.{pair_of, pair_at, day_of, clock_of, civil_of, seconds_if, time_of};
 
@@ -151,4 +151,53 @@ pub fn time_in(content: &[u8]) -> Option<Seconds>
         return None;
     }
     seconds_of(&civil_in(content)?)
+}
+
+/// The seconds from 0000-01-01T00:00:00Z to 1970-01-01T00:00:00Z.
+const EPOCH: i64 = 62_167_219_200;
+
+/// The days from -9999-01-01 to 0000-01-01.
+const YEAR_ZERO: u32 = 3_652_059;
+
+/// The second of the calendar that is so many seconds from 1970-01-01T00:00:00Z.
+fn civil_at(seconds: Seconds) -> Civil
+    ensures valid { IsCivil (plain_civil result) }
+    ensures value { seconds_of (plain_civil result) ≡ seconds }
+{
+    let from_zero = (seconds.get() + EPOCH) as u64;
+    let date = Date::from_days_since_min((from_zero / 86_400) as u32 + YEAR_ZERO);
+    let clock = (from_zero % 86_400) as u32;
+    Civil {
+        year: date.year as u16,
+        month: date.month,
+        day: date.day,
+        hour: (clock / 3_600) as u8,
+        minute: (clock / 60 % 60) as u8,
+        second: (clock % 60) as u8,
+    }
+}
+
+/// The two digits of a number.
+fn two(number: u8) -> [u8; 2]
+    requires { number < 100 }
+    ensures { result ≡ two number }
+{
+    [b'0' + number / 10, b'0' + number % 10]
+}
+
+/// The text of a time: `YYYYMMDDHHMMSSZ`.
+pub fn text_of(seconds: Seconds) -> [u8; 15]
+    ensures { IsTime seconds result }
+{
+    let civil = civil_at(seconds);
+    let [y1, y2] = two((civil.year / 100) as u8);
+    let [y3, y4] = two((civil.year % 100) as u8);
+    let [m1, m2] = two(civil.month);
+    let [d1, d2] = two(civil.day);
+    let [h1, h2] = two(civil.hour);
+    let [n1, n2] = two(civil.minute);
+    let [s1, s2] = two(civil.second);
+    [
+        y1, y2, y3, y4, m1, m2, d1, d2, h1, h2, n1, n2, s1, s2, b'Z',
+    ]
 }

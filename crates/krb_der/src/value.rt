@@ -16,6 +16,15 @@ pub struct Text<'a>(pub &'a [u8]);
 #[derive(Clone, Copy, Debug, PartialEq, Eq)]
 pub struct Flags(pub u32);
 
+impl Flags {
+    /// The flags as a number.
+    pub fn bits(self) -> u32
+        ensures { result ≡ self.0 }
+    {
+        self.0
+    }
+}
+
 /// The microseconds of a time: 0 to 999,999 (RFC 4120, section 5.2.4).
 #[derive(Clone, Copy, Debug, PartialEq, Eq, PartialOrd, Ord, Hash)]
 pub struct Microseconds {

@@ -4,6 +4,7 @@ ghost use Rattle.std.specs.Prelude.{◌≡◌, ◌<◌, ◌≤◌, ◌^◌, leng
 ghost use Rattle.krb_der.specs.Kind.{int32, uint32, microseconds, constant};
 ghost use Rattle.krb_der.specs.Content.{number};
 ghost use Rattle.krb_der.specs.Inner.Read.{content_of};
+ghost use Rattle.krb_der.specs.Inner.Shortest.{shortest_of};
 ghost use Rattle.krb_der.specs.Inner.Whole.{is_redundant, is_negative, whole_of, flags_of, contents_of};
 
 use crate::value::Microseconds;
@@ -105,4 +106,16 @@ pub fn is_number(content: &[u8], number: u32) -> bool
     ensures { result ≡ is_some (content_of (constant number) content.now) }
 {
     whole(content) == Some(i64::from(number))
+}
+
+/// The bytes without those in front that the whole number doesn't need.
+pub fn shortest(bytes: &[u8]) -> &[u8]
+    ensures value { result.now ≡ shortest_of bytes.now }
+    ensures shorter { length result.now ≤ length bytes.now }
+{
+    let mut rest = bytes;
+    while rest.len() > 1 && is_redundant(rest) {
+        rest = &rest[1..];
+    }
+    rest
 }

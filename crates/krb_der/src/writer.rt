@@ -1,11 +1,16 @@
 //! Writing elements.
 
 ghost use Rattle.std.specs.Prelude.{◌≡◌, ◌+◌, ◌-◌, ◌≤◌, ◌<◌, ◌^◌, ◌↔◌, [], length, drop, IsTrue, OnOk, OnErr};
+ghost use Rattle.krb_der.specs.Kind.{leaf, int32, uint32, microseconds, constant, octets, string, flags, time};
+ghost use Rattle.krb_der.specs.Content.{IsInteger};
 ghost use Rattle.krb_der.specs.Spells.{IsElement};
 ghost use Rattle.krb_der.specs.Inner.HeadView.{turned_at};
-ghost use Rattle.krb_der.specs.Writing.{Appends, Wraps};
+ghost use Rattle.krb_der.specs.Writing.{Appends, Wraps, Writes};
 
 use crate::head::head_of;
+use crate::time::text_of;
+use crate::whole::shortest;
+use crate::{Flags, Microseconds, Seconds, tag};
 use std::alloc::{AllocError, Global};
 use std::marker::Model;
 
@@ -61,6 +66,76 @@ impl Writer {
         ensures kept { OnErr result (self.new ≡ self.old) }
     {
         append_element(&mut self.bytes, tag, content)
+    }
+
+    /// Writes a whole number from -2,147,483,648 to 2,147,483,647.
+    ///
+    /// # Errors
+    /// There was no room, as of every call here. The writer then stays.
+    pub fn int32(&mut self, value: i32) -> Result<(), AllocError>
+        ensures { Writes (leaf int32) value result self.old self.new }
+    {
+        self.whole(i64::from(value))
+    }
+
+    /// Writes a whole number from 0 to 4,294,967,295.
+    pub fn uint32(&mut self, value: u32) -> Result<(), AllocError>
+        ensures { Writes (leaf uint32) value result self.old self.new }
+    {
+        self.whole(i64::from(value))
+    }
+
+    /// Writes a whole number from 0 to 999,999.
+    pub fn microseconds(&mut self, value: Microseconds) -> Result<(), AllocError>
+        ensures { Writes (leaf microseconds) value result self.old self.new }
+    {
+        self.whole(i64::from(value.get()))
+    }
+
+    /// Writes the whole number `N`.
+    pub fn constant<const N: u32>(&mut self) -> Result<(), AllocError>
+        ensures { Writes (leaf (constant N)) tt result self.old self.new }
+    {
+        self.whole(i64::from(N))
+    }
+
+    fn whole(&mut self, value: i64) -> Result<(), AllocError>
+        ensures ok { OnOk result (Appends (IsElement 0x02 (IsInteger value)) self.old self.new) }
+        ensures kept { OnErr result (self.new ≡ self.old) }
+    {
+        let bytes = value.to_be_bytes();
+        self.element(tag::INTEGER, shortest(&bytes))
+    }
+
+    /// Writes an OCTET STRING.
+    pub fn octets(&mut self, bytes: &[u8]) -> Result<(), AllocError>
+        requires { length bytes.now < 2 ^ 32 }
+        ensures { Writes (leaf octets) bytes.now result self.old self.new }
+    {
+        self.element(tag::OCTET_STRING, bytes)
+    }
+
+    /// Writes a GeneralString, of any bytes.
+    pub fn string(&mut self, bytes: &[u8]) -> Result<(), AllocError>
+        requires { length bytes.now < 2 ^ 32 }
+        ensures { Writes (leaf string) bytes.now result self.old self.new }
+    {
+        self.element(tag::GENERAL_STRING, bytes)
+    }
+
+    /// Writes a BIT STRING of 32 bits.
+    pub fn flags(&mut self, value: Flags) -> Result<(), AllocError>
+        ensures { Writes (leaf flags) value.0 result self.old self.new }
+    {
+        let [a, b, c, d] = value.bits().to_be_bytes();
+        self.element(tag::BIT_STRING, &[0, a, b, c, d])
+    }
+
+    /// Writes a GeneralizedTime.
+    pub fn time(&mut self, value: Seconds) -> Result<(), AllocError>
+        ensures { Writes (leaf time) value result self.old self.new }
+    {
+        self.element(tag::GENERALIZED_TIME, &text_of(value))
     }
 
     /// Makes what was written from `start` on the content of an element with this tag: puts the tag and the shortest
