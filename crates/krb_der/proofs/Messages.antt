@@ -1,5 +1,7 @@
 -- Whole messages.
 use Rattle.std.proofs.Common.{◌≡◌, ◌⊎◌, inl, inr, ℕ, ◌+◌, ◌<◌, ◌≤◌, Bool, true, false, cond, ltb, List, [], ◌∷◌, ◌++◌, length, Result, Ok, Err, refl, sym, ap, subst, ◌∙◌, arith}
+use Rattle.std.specs.Prelude.{IfOk, IfErr, IsOkAnd}
+use Rattle.krb_der.specs.Inner.Gives.{Fills}
 use Rattle.std.proofs.lemmas.Bool.{le-ltb, lt-ltb, cases_lt}
 use Rattle.std.proofs.lemmas.List.{append-nil}
 use Rattle.krb_der.specs.declared.fault.Fault.{Fault}
@@ -105,3 +107,17 @@ has_fault k clear bytes none = by (message_of k bytes) refl
     by : (r : Result (ValueOf k) Fault) → message_of k bytes ≡ r → (f : Fault) × IsFault k bytes f
     by (Ok v) e = absurd (none v (message_found k v bytes e))
     by (Err f) e = (f, message_fault k bytes f e)
+
+-- ---- a call that gives what reading a message gives
+pub fills-found : {X : Type 0} (k : Kind) (view : X → ValueOf k) (r : Result X Fault) (bytes : List ℕ) → Fills view r (message_of k bytes) → IfOk r (λ x. IsMessage k (view x) bytes)
+fills-found k view (Ok x) bytes e = message_found k (view x) bytes e
+fills-found k view (Err f) bytes e = tt
+
+pub fills-only : {X : Type 0} (k : Kind) (view : X → ValueOf k) (r : Result X Fault) (bytes : List ℕ) → is_clear k ≡ true → Fills view r (message_of k bytes)
+    → (v : ValueOf k) → IsMessage k v bytes → IsOkAnd r (λ x. view x ≡ v)
+fills-only k view (Ok x) bytes clear e v m = same_ok {E = Fault} (view x) v (sym e ∙ message_only k v bytes clear m)
+fills-only k view (Err f) bytes clear e v m = absurd (no_value f v (sym e ∙ message_only k v bytes clear m))
+
+pub fills-faulty : {X : Type 0} (k : Kind) (view : X → ValueOf k) (r : Result X Fault) (bytes : List ℕ) → Fills view r (message_of k bytes) → IfErr r (IsFault k bytes)
+fills-faulty k view (Ok x) bytes e = tt
+fills-faulty k view (Err f) bytes e = message_fault k bytes f e

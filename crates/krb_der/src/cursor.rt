@@ -1,14 +1,17 @@
 //! Reading elements from left to right.
 
 ghost use Rattle.std.specs.Prelude.{◌≡◌, ◌≤◌, ◌↔◌, [], length, IsOk, IfOk, IfErr};
-ghost use Rattle.krb_der.specs.Kind.{leaf, int32, uint32, microseconds, constant, octets, string, flags, time};
+ghost use Rattle.krb_der.specs.Kind.{leaf, int32, uint32, microseconds, constant, octets, string, flags, time, wrapped, sequence};
 ghost use Rattle.krb_der.specs.Place.{begin_at, begins};
 ghost use Rattle.krb_der.specs.Spells.{limit};
 ghost use Rattle.krb_der.specs.Reading.{Reads, Enters, MayEnter};
 ghost use Rattle.krb_der.specs.Inner.Gives.{Gives};
-ghost use Rattle.krb_der.specs.Inner.Read.{enter_at, may_enter, split_at, length_fault, element_at};
+ghost use Rattle.krb_der.specs.Inner.Read.{enter_at, may_enter, split_at, length_fault, element_at, finish_at};
 
+use crate::element::is_clear;
 use crate::length::length;
+use crate::row::Row;
+use crate::tag;
 use crate::{Constant, Element, Fault, FaultKind, Flags, Microseconds, Octets, Seconds, Text};
 use std::marker::Model;
 
@@ -60,6 +63,7 @@ impl<'a> Cursor<'a> {
     pub fn read<T: Element<'a>>(&mut self) -> Result<T, Fault>
         ensures { Reads T.kind T.view result self.old self.new }
     {
+        is_clear::<T>();
         T::read(self)
     }
 
@@ -205,6 +209,36 @@ impl<'a> Cursor<'a> {
         ensures { Reads (leaf time) (λ s. s) result self.old self.new }
     {
         self.read()
+    }
+
+    /// Reads a SEQUENCE of these fields. Errors as of [`read`](Self::read).
+    #[tactic(auto, unfolding(crate::specs::Inner::Read::element_at, crate::specs::Inner::Read::fields_at, crate::specs::Inner::Read::element_by))]
+    pub fn sequence<R: Row<'a> + Drop>(&mut self) -> Result<R, Fault>
+        ensures { Gives R.view result self.old self.new (element_at (sequence R.fields) self.old) }
+    {
+        let (content, after) = self.head(tag::SEQUENCE)?;
+        let row = R::read_row(content)?;
+        *self = after;
+        Ok(row)
+    }
+
+    /// Reads an element with this tag round it.
+    #[tactic(auto, unfolding(crate::specs::Inner::Read::element_at, crate::specs::Inner::Read::element_by))]
+    pub(crate) fn wrapped<T: Element<'a> + Drop>(&mut self, tag: u8) -> Result<T, Fault>
+        ensures { Gives T.view result self.old self.new (element_at (wrapped tag T.kind) self.old) }
+    {
+        let (mut content, after) = self.head(tag)?;
+        let value = T::read(&mut content)?;
+        content.finish_here()?;
+        *self = after;
+        Ok(value)
+    }
+
+    #[tactic(auto, unfolding(crate::specs::Inner::Read::finish_at))]
+    pub(crate) fn finish_here(&self) -> Result<(), Fault>
+        ensures { result ≡ finish_at self.now }
+    {
+        self.finish()
     }
 
     /// The bytes that are left.

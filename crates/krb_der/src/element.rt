@@ -16,8 +16,14 @@ pub trait Element<'a>: Sized {
 
     /// Reads the element that stands next. A refused call leaves the cursor.
     fn read(cursor: &mut Cursor<'a>) -> Result<Self, Fault>
-        ensures gives { Gives view result cursor.old cursor.new (element_at kind cursor.old) }
+        ensures { Gives view result cursor.old cursor.new (element_at kind cursor.old) };
 
-        // Each optional field can be told from what may follow it.
-        ensures clear { is_clear kind ≡ true };
+    // Each optional field can be told from what may follow it.
+    ghost clear: { is_clear kind ≡ true };
+}
+
+/// The law of [`Element`], for callers.
+pub(crate) fn is_clear<'a, T: Element<'a>>()
+    ensures { is_clear T.kind ≡ true }
+{
 }

@@ -1,6 +1,6 @@
 //! Elements without parts.
 
-ghost use Rattle.std.specs.Prelude.{◌≡◌};
+ghost use Rattle.std.specs.Prelude.{◌≡◌, refl};
 ghost use Rattle.krb_der.specs.Kind.{leaf, int32, uint32, microseconds, constant, octets, string, flags, time};
 
 use crate::element::Element;
@@ -13,6 +13,8 @@ impl<'a> Element<'a> for i32 {
     ghost kind = { leaf int32 };
 
     ghost view = { λ z. z };
+
+    ghost clear = { refl };
 
     #[tactic(auto, unfolding(crate::specs::Inner::Read::element_at, crate::specs::Inner::Read::element_by))]
     fn read(cursor: &mut Cursor<'a>) -> Result<i32, Fault> {
@@ -28,6 +30,8 @@ impl<'a> Element<'a> for u32 {
 
     ghost view = { λ n. n };
 
+    ghost clear = { refl };
+
     #[tactic(auto, unfolding(crate::specs::Inner::Read::element_at, crate::specs::Inner::Read::element_by))]
     fn read(cursor: &mut Cursor<'a>) -> Result<u32, Fault> {
         let (content, after) = cursor.head(tag::INTEGER)?;
@@ -42,6 +46,8 @@ impl<'a> Element<'a> for Microseconds {
 
     ghost view = { λ n. n };
 
+    ghost clear = { refl };
+
     #[tactic(auto, unfolding(crate::specs::Inner::Read::element_at, crate::specs::Inner::Read::element_by))]
     fn read(cursor: &mut Cursor<'a>) -> Result<Microseconds, Fault> {
         let (content, after) = cursor.head(tag::INTEGER)?;
@@ -55,6 +61,8 @@ impl<'a, const N: u32> Element<'a> for Constant<N> {
     ghost kind = { leaf (constant N) };
 
     ghost view = { λ _. tt };
+
+    ghost clear = { refl };
 
     #[tactic(auto, unfolding(crate::specs::Inner::Read::element_at, crate::specs::Inner::Read::element_by))]
     fn read(cursor: &mut Cursor<'a>) -> Result<Constant<N>, Fault> {
@@ -72,6 +80,8 @@ impl<'a> Element<'a> for Octets<'a> {
 
     ghost view = { λ o. o.0.now };
 
+    ghost clear = { refl };
+
     #[tactic(auto, unfolding(crate::specs::Inner::Read::element_at, crate::specs::Inner::Read::element_by))]
     fn read(cursor: &mut Cursor<'a>) -> Result<Octets<'a>, Fault> {
         let (content, after) = cursor.head(tag::OCTET_STRING)?;
@@ -84,6 +94,8 @@ impl<'a> Element<'a> for Text<'a> {
     ghost kind = { leaf string };
 
     ghost view = { λ t. t.0.now };
+
+    ghost clear = { refl };
 
     #[tactic(auto, unfolding(crate::specs::Inner::Read::element_at, crate::specs::Inner::Read::element_by))]
     fn read(cursor: &mut Cursor<'a>) -> Result<Text<'a>, Fault> {
@@ -98,6 +110,8 @@ impl<'a> Element<'a> for Flags {
 
     ghost view = { λ f. f.0 };
 
+    ghost clear = { refl };
+
     #[tactic(auto, unfolding(crate::specs::Inner::Read::element_at, crate::specs::Inner::Read::element_by))]
     fn read(cursor: &mut Cursor<'a>) -> Result<Flags, Fault> {
         let (content, after) = cursor.head(tag::BIT_STRING)?;
@@ -111,6 +125,8 @@ impl<'a> Element<'a> for Seconds {
     ghost kind = { leaf time };
 
     ghost view = { λ s. s };
+
+    ghost clear = { refl };
 
     #[tactic(auto, unfolding(crate::specs::Inner::Read::element_at, crate::specs::Inner::Read::element_by))]
     fn read(cursor: &mut Cursor<'a>) -> Result<Seconds, Fault> {
