@@ -18,3 +18,4 @@ pub mod HeadLaws
 pub mod ShortestLaws
 pub mod WriteLaws
 pub mod Messages
+pub mod EncodeLaws

@@ -5,7 +5,7 @@ use Rattle.krb_der.specs.Spells.{IsLength, IsElement, IsJoined, IfPresent, ForEa
 use Rattle.krb_der.proofs.ContentLaws.{AreUnique}
 use Rattle.krb_der.proofs.LengthLaws.{IsLength-unique}
 
-element_unique : (tag : ℕ) (IsContent : List ℕ → Type 0) → ((a b : List ℕ) → IsContent a → IsContent b → a ≡ b)
+pub element_unique : (tag : ℕ) (IsContent : List ℕ → Type 0) → ((a b : List ℕ) → IsContent a → IsContent b → a ≡ b)
     → (a b : List ℕ) → IsElement tag IsContent a → IsElement tag IsContent b → a ≡ b
 element_unique tag IsContent one a b h k =
     let content = one h.content k.content h.content_is k.content_is in
@@ -17,7 +17,7 @@ joined_unique : (First Rest : List ℕ → Type 0) → ((a b : List ℕ) → Fir
 joined_unique First Rest one rest a b h k =
     h.whole ∙ ap (λ (l : List ℕ). l ++ h.back) (one h.front k.front h.first k.first) ∙ ap (λ (l : List ℕ). k.front ++ l) (rest h.back k.back h.rest k.rest) ∙ sym k.whole
 
-present_unique : {V : Type 0} (Part : V → List ℕ → Type 0) → ((v : V) (a b : List ℕ) → Part v a → Part v b → a ≡ b)
+pub present_unique : {V : Type 0} (Part : V → List ℕ → Type 0) → ((v : V) (a b : List ℕ) → Part v a → Part v b → a ≡ b)
     → (o : Option V) (a b : List ℕ) → IfPresent Part o a → IfPresent Part o b → a ≡ b
 present_unique Part one None a b h k = h ∙ sym k
 present_unique Part one (Some v) a b h k = one v a b h k
@@ -29,12 +29,12 @@ each_unique Part one (v ∷ vs) a b h k = joined_unique (Part v) (ForEach Part v
 
 module _ (Leaf : Contents) (leaves : AreUnique Leaf) where
   mutual
-    content_unique : (k : Kind) (v : ValueOf k) (a b : List ℕ) → SpellsContent Leaf k v a → SpellsContent Leaf k v b → a ≡ b
+    pub content_unique : (k : Kind) (v : ValueOf k) (a b : List ℕ) → SpellsContent Leaf k v a → SpellsContent Leaf k v b → a ≡ b
     content_unique (leaf c) v a b h k = leaves c v a b h k
     content_unique (wrapped tag e) v a b h k = element_unique (tag_of e) (SpellsContent Leaf e v) (λ x y p q. content_unique e v x y p q) a b h k
     content_unique (sequence fs) v a b h k = fields_unique fs v a b h k
 
-    fields_unique : (fs : Fields) (v : FieldsOf fs) (a b : List ℕ) → SpellsFields Leaf fs v a → SpellsFields Leaf fs v b → a ≡ b
+    pub fields_unique : (fs : Fields) (v : FieldsOf fs) (a b : List ℕ) → SpellsFields Leaf fs v a → SpellsFields Leaf fs v b → a ≡ b
     fields_unique ends v a b h k = h ∙ sym k
     fields_unique (must e fs) v a b h k =
         joined_unique (SpellsBy Leaf e v.0) (SpellsFields Leaf fs v.1)

@@ -9,3 +9,4 @@ pub mod HeadView
 pub mod Read
 pub mod Clear
 pub mod Gives
+pub mod Limited

@@ -1,4 +1,9 @@
-//! Why bytes are no message.
+//! Why bytes are no message, and why a value was not encoded.
+
+ghost use Rattle.std.specs.Prelude.{◌≡◌};
+
+use std::alloc::AllocError;
+use thiserror::Error;
 
 /// What is wrong with the bytes.
 #[derive(Clone, Copy, Debug, PartialEq, Eq)]
@@ -27,4 +32,25 @@ pub struct Fault {
     pub kind: FaultKind,
     /// An offset in the input, at most its length.
     pub at: usize,
+}
+
+/// Why a value was not encoded.
+#[derive(Debug, Drop, Error)]
+pub enum EncodeFault {
+    /// The message would have more than 1,048,576 bytes.
+    #[error("the message would be longer than 1048576 bytes")]
+    TooLong,
+    /// There was no room.
+    #[error("out of memory")]
+    OutOfMemory,
+}
+
+impl From<AllocError> for EncodeFault {
+    ghost use Rattle.krb_der.specs.declared.fault.EncodeFault.TheVariants.{OutOfMemory};
+
+    ghost from_gives = { λ _ e. e ≡ OutOfMemory };
+
+    fn from(_error: AllocError) -> EncodeFault {
+        EncodeFault::OutOfMemory
+    }
 }

@@ -3,6 +3,7 @@
 
 mod cursor;
 mod element;
+mod encoding;
 mod fault;
 mod head;
 pub mod laws;
@@ -18,7 +19,8 @@ mod writer;
 
 pub use cursor::Cursor;
 pub use element::Element;
-pub use fault::{Fault, FaultKind};
+pub use encoding::{Encode, EncodeRow, encoded, write_sequence};
+pub use fault::{EncodeFault, Fault, FaultKind};
 pub use message::{Message, parse};
 pub use row::{Field, Maybe, Row};
 pub use time::Seconds;

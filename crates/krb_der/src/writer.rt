@@ -4,13 +4,15 @@ ghost use Rattle.std.specs.Prelude.{◌≡◌, ◌+◌, ◌-◌, ◌≤◌, ◌<
 ghost use Rattle.krb_der.specs.Kind.{leaf, int32, uint32, microseconds, constant, octets, string, flags, time};
 ghost use Rattle.krb_der.specs.Content.{IsInteger};
 ghost use Rattle.krb_der.specs.Spells.{IsElement};
+ghost use Rattle.krb_der.specs.Inner.Limited.{limited_of};
 ghost use Rattle.krb_der.specs.Inner.HeadView.{turned_at};
 ghost use Rattle.krb_der.specs.Writing.{Appends, Wraps, Writes};
 
 use crate::head::head_of;
 use crate::time::text_of;
 use crate::whole::shortest;
-use crate::{Flags, Microseconds, Seconds, tag};
+use crate::cursor::LIMIT;
+use crate::{EncodeFault, Flags, Microseconds, Seconds, tag};
 use std::alloc::{AllocError, Global};
 use std::marker::Model;
 
@@ -66,6 +68,19 @@ impl Writer {
         ensures kept { OnErr result (self.new ≡ self.old) }
     {
         append_element(&mut self.bytes, tag, content)
+    }
+
+    /// What becomes of a call that wrote: it may have passed the limit of a message.
+    pub(crate) fn limited(&self, written: Result<(), AllocError>) -> Result<(), EncodeFault>
+        ensures { result ≡ limited_of written self.now }
+    {
+        if written.is_err() {
+            return Err(EncodeFault::OutOfMemory);
+        }
+        if self.bytes.len() > LIMIT {
+            return Err(EncodeFault::TooLong);
+        }
+        Ok(())
     }
 
     /// Writes a whole number from -2,147,483,648 to 2,147,483,647.
