@@ -1,0 +1,134 @@
+-- The contents of elements without parts: each is read exactly where one is spelled, and a value has one.
+use Rattle.std.proofs.Common.{◌≡◌, ◌≢◌, ℕ, suc, ◌+◌, ◌^◌, ◌<◌, ◌≤◌, ℤ, pos, negsuc, Bool, true, false, ◌&&◌, cond, ltb, eqb, List, [], ◌∷◌, length, Option, Some, None, refl, sym, ap, subst, ◌∙◌, arith, lit≤}
+use Rattle.std.specs.Int.{w32}
+use Rattle.std.specs.Prelude.{FitsSigned}
+use Rattle.std.proofs.lemmas.Bool.{lt-ltb, ltb-true, eqb-true, eq-eqb, and_parts}
+use Rattle.std.proofs.lemmas.Option.{cond_some}
+use Rattle.std.proofs.lemmas.Int.{ints}
+use Rattle.krb_der.specs.Kind.{Content, int32, uint32, microseconds, constant, octets, string, flags, time, ContentValue}
+use Rattle.krb_der.specs.Content.{AreBytes, number, AreFlags, IsInteger, IsNatural, Elementary}
+use Rattle.krb_der.specs.Spells.{Contents}
+use Rattle.krb_der.specs.Inner.Steps.{◌>>?◌, only_if}
+use Rattle.krb_der.specs.Inner.Whole.{are_bytes, whole_of, natural_below, int32_within, constant_at, flags_of}
+use Rattle.krb_der.specs.Inner.Read.{content_of, LeafReader}
+use Rattle.krb_der.proofs.Numbers.{AreBytes-true}
+use Rattle.krb_der.proofs.WholeSteps.{flags_of-some}
+use Rattle.krb_der.proofs.LengthLaws.{number_injective}
+use Rattle.krb_der.proofs.IntegerLaws.{natural_read, negative_read, whole_of-read, natural_unique, integer_unique, bind_some, same_some, none_some}
+use Rattle.krb_der.proofs.ClockLaws.{time_read, time_of-read, time_unique}
+
+-- reading of contents that gives a value exactly where it is spelled
+pub record AreRead (Leaf : Contents) (read : LeafReader) : Type 0 where
+  pub found : (c : Content) (v : ContentValue c) (content : List ℕ) → read c content ≡ Some v → Leaf c v content
+  pub only : (c : Content) (v : ContentValue c) (content : List ℕ) → Leaf c v content → read c content ≡ Some v
+
+-- a value has one content
+abbrev pub AreUnique : Contents → Type 0
+AreUnique Leaf = (c : Content) (v : ContentValue c) (a b : List ℕ) → Leaf c v a → Leaf c v b → a ≡ b
+
+-- ---- flags
+flags_of-read : (content : List ℕ) (n : ℕ) → flags_of content ≡ Some n → AreFlags n content
+unfolding flags_of
+flags_of-read [] n e = absurd (none_some n e)
+flags_of-read (unused ∷ bits) n e =
+    let p = cond_some (eqb unused 0 && eqb (length bits) 4 && are_bytes bits) (number bits) n e in
+    let q = and_parts (eqb unused 0 && eqb (length bits) 4) (are_bytes bits) p.0 in
+    let r = and_parts (eqb unused 0) (eqb (length bits) 4) q.0 in
+    record { bits = bits; bytes = AreBytes-true bits q.1; four = eqb-true _ 4 r.1; value = p.1; whole = ap (λ u. u ∷ bits) (eqb-true unused 0 r.0) }
+
+flags_read : (n : ℕ) (content : List ℕ) → AreFlags n content → flags_of content ≡ Some n
+flags_read n content h = ap flags_of h.whole ∙ flags_of-some h.bits h.four h.bytes ∙ ap Some h.value
+
+flags_unique : (n : ℕ) (a b : List ℕ) → AreFlags n a → AreFlags n b → a ≡ b
+flags_unique n a b h k =
+    h.whole ∙ ap (λ (l : List ℕ). 0 ∷ l) (number_injective h.bits k.bits (h.four ∙ sym k.four) h.bytes k.bytes (h.value ∙ sym k.value)) ∙ sym k.whole
+
+-- ---- ranges of whole numbers
+natural-below : (bound n : ℕ) (z : ℤ) (content : List ℕ) → IsInteger z content → natural_below bound z ≡ Some n → (n < bound) × IsNatural n content
+natural-below bound n (pos k) content h e =
+    let p = cond_some (ltb k bound) k n e in
+    (omega (arith, ltb-true k bound p.0, p.1), record { bytes = h.bytes; shortest = h.shortest; value = h.value ∙ p.1 })
+natural-below bound n (negsuc m) content h e = absurd (none_some n e)
+
+below_found : (bound n : ℕ) (content : List ℕ) → (whole_of content >>? natural_below bound) ≡ Some n → (n < bound) × IsNatural n content
+below_found bound n content e =
+    let b = bind_some (whole_of content) (natural_below bound) n e in
+    natural-below bound n b.0 content (whole_of-read content b.0 b.1) b.2
+
+below_only : (bound n : ℕ) (content : List ℕ) → bound ≤ 2 ^ 39 → (n < bound) × IsNatural n content → (whole_of content >>? natural_below bound) ≡ Some n
+below_only bound n content fits h =
+    ap (λ o. o >>? natural_below bound) (natural_read n content h.1 (omega (arith, h.0))) ∙ rw (lt-ltb n bound h.0) refl
+
+int32_found : (z : ℤ) (content : List ℕ) → (whole_of content >>? int32_within) ≡ Some z → FitsSigned w32 z × IsInteger z content
+int32_found z content e =
+    let b = bind_some (whole_of content) int32_within z e in
+    within b.0 (whole_of-read content b.0 b.1) b.2
+  where
+    within : (y : ℤ) → IsInteger y content → int32_within y ≡ Some z → FitsSigned w32 z × IsInteger z content
+    within (pos n) h f =
+        let p = cond_some (ltb n (2 ^ 31)) (pos n) z f in
+        let lt = ltb-true n (2 ^ 31) p.0 in
+        subst (λ (y : ℤ). FitsSigned w32 y × IsInteger y content) p.1 (omega (arith, ints, lt), h)
+    within (negsuc m) h f =
+        let p = cond_some (ltb m (2 ^ 31)) (negsuc m) z f in
+        let lt = ltb-true m (2 ^ 31) p.0 in
+        subst (λ (y : ℤ). FitsSigned w32 y × IsInteger y content) p.1 (omega (arith, ints, lt), h)
+
+int32_only : (z : ℤ) (content : List ℕ) → FitsSigned w32 z × IsInteger z content → (whole_of content >>? int32_within) ≡ Some z
+int32_only (pos n) content h =
+    let lt : n < 2 ^ 31 = omega (arith, ints, h.0) in
+    ap (λ o. o >>? int32_within) (natural_read n content h.1 (omega arith)) ∙ rw (lt-ltb n (2 ^ 31) lt) refl
+int32_only (negsuc m) content h =
+    let lt : m < 2 ^ 31 = omega (arith, ints, h.0) in
+    ap (λ o. o >>? int32_within) (negative_read m content h.1 (omega arith)) ∙ rw (lt-ltb m (2 ^ 31) lt) refl
+
+constant_found : (n : ℕ) (v : Unit {0}) (content : List ℕ) → (whole_of content >>? constant_at n) ≡ Some v → (n < 2 ^ 32) × IsNatural n content
+constant_found n v content e =
+    let b = bind_some (whole_of content) (constant_at n) v e in
+    is b.0 (whole_of-read content b.0 b.1) b.2
+  where
+    is : (z : ℤ) → IsInteger z content → constant_at n z ≡ Some v → (n < 2 ^ 32) × IsNatural n content
+    is (pos k) h f =
+        let p = cond_some (eqb k n && ltb n (2 ^ 32)) tt v f in
+        let q = and_parts (eqb k n) (ltb n (2 ^ 32)) p.0 in
+        (ltb-true n (2 ^ 32) q.1, record { bytes = h.bytes; shortest = h.shortest; value = h.value ∙ eqb-true k n q.0 })
+    is (negsuc m) h f = absurd (none_some v f)
+
+constant_only : (n : ℕ) (v : Unit {0}) (content : List ℕ) → (n < 2 ^ 32) × IsNatural n content → (whole_of content >>? constant_at n) ≡ Some v
+constant_only n v content h =
+    ap (λ o. o >>? constant_at n) (natural_read n content h.1 (omega (arith, h.0)))
+    ∙ rw (eq-eqb n n refl, lt-ltb n (2 ^ 32) h.0) refl
+
+-- ---- all contents
+found : (c : Content) (v : ContentValue c) (content : List ℕ) → content_of c content ≡ Some v → Elementary c v content
+found int32 v content e = int32_found v content e
+found uint32 v content e = below_found (2 ^ 32) v content e
+found microseconds v content e = below_found 1_000_000 v content e
+found (constant n) v content e = constant_found n v content e
+found octets v content e = same_some content v e
+found string v content e = same_some content v e
+found flags v content e = flags_of-read content v e
+found time v content e = time_of-read content v e
+
+only : (c : Content) (v : ContentValue c) (content : List ℕ) → Elementary c v content → content_of c content ≡ Some v
+only int32 v content h = int32_only v content h
+only uint32 v content h = below_only (2 ^ 32) v content (lit≤ tt) h
+only microseconds v content h = below_only 1_000_000 v content (lit≤ tt) h
+only (constant n) v content h = constant_only n v content h
+only octets v content h = ap Some h
+only string v content h = ap Some h
+only flags v content h = flags_read v content h
+only time v content h = time_read v content h
+
+pub elementary_read : AreRead Elementary content_of
+elementary_read = record { found = found; only = only }
+
+pub elementary_unique : AreUnique Elementary
+elementary_unique int32 v a b h k = integer_unique v a b h.1 k.1
+elementary_unique uint32 v a b h k = natural_unique v a b h.1 k.1
+elementary_unique microseconds v a b h k = natural_unique v a b h.1 k.1
+elementary_unique (constant n) v a b h k = natural_unique n a b h.1 k.1
+elementary_unique octets v a b h k = h ∙ sym k
+elementary_unique string v a b h k = h ∙ sym k
+elementary_unique flags v a b h k = flags_unique v a b h k
+elementary_unique time v a b h k = time_unique v a b h k

@@ -1,0 +1,28 @@
+-- Reading lengths, step by step.
+use Rattle.std.proofs.Common.{◌≡◌, ◌⊎◌, inl, inr, ℕ, zero, suc, ◌<◌, ◌≤◌, Bool, true, false, not, ◌&&◌, cond, ltb, leb, eqb, List, [], ◌∷◌, length, get_or, take, drop, Result, Ok, Err, refl, sym, ap, ◌∙◌, arith}
+use Rattle.std.proofs.lemmas.Bool.{le-ltb, lt-leb, le-leb, ne_eqb, eq-eqb}
+use Rattle.krb_der.specs.declared.fault.FaultKind.TheVariants.{Truncated, Length}
+use Rattle.krb_der.specs.Content.{AreBytes, number}
+use Rattle.krb_der.specs.Place.{begins}
+use Rattle.krb_der.specs.Inner.Read.{long_of, are_length, Sized}
+use Rattle.krb_der.specs.Inner.Whole.{are_bytes}
+use Rattle.krb_der.proofs.Numbers.{are_bytes-true, AreBytes-take}
+
+-- a list that begins with another byte, or doesn't begin
+pub begins-get_or : (tag : ℕ) (bytes : List ℕ) → 1 ≤ length bytes → begins tag bytes ≡ eqb (get_or bytes 0 0) tag
+begins-get_or tag [] h = absurd (omega arith)
+begins-get_or tag (b ∷ bytes) h = refl
+
+pub long_of-ok : (count : ℕ) (bytes : List ℕ) (n : ℕ) (rest : List ℕ) → count ≤ length bytes → AreBytes (take count bytes)
+    → begins 0 (take count bytes) ≡ false → n ≡ number (take count bytes) → rest ≡ drop count bytes → 128 ≤ n
+    → long_of count bytes ≡ Ok (n, rest)
+unfolding long_of
+long_of-ok count bytes n rest enough are first digits behind big =
+    let big' : 128 ≤ number (take count bytes) = omega (arith, digits) in
+    rw (digits, behind, le-ltb (length bytes) count enough, are_bytes-true (take count bytes) are, first, le-leb 128 (number (take count bytes)) big') refl
+
+pub long_of-bad : (count : ℕ) (bytes : List ℕ) → count ≤ length bytes → are_length (take count bytes) ≡ false → long_of count bytes ≡ Err Length
+unfolding long_of
+long_of-bad count bytes enough bad =
+    ap (λ c. cond c (Err Truncated) (cond (are_length (take count bytes)) (Ok (number (take count bytes), drop count bytes)) (Err Length))) (le-ltb (length bytes) count enough)
+    ∙ ap (λ c. cond c (Ok (number (take count bytes), drop count bytes)) (Err Length)) bad

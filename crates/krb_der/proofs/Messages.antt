@@ -1,0 +1,123 @@
+-- Whole messages.
+use Rattle.std.proofs.Common.{◌≡◌, ◌⊎◌, inl, inr, ℕ, ◌+◌, ◌<◌, ◌≤◌, Bool, true, false, cond, ltb, List, [], ◌∷◌, ◌++◌, length, Result, Ok, Err, refl, sym, ap, subst, ◌∙◌, arith}
+use Rattle.std.specs.Prelude.{IfOk, IfErr, IsOkAnd}
+use Rattle.krb_der.specs.Inner.Gives.{Fills}
+use Rattle.std.proofs.lemmas.Bool.{le-ltb, lt-ltb, cases_lt}
+use Rattle.std.proofs.lemmas.List.{append-nil}
+use Rattle.krb_der.specs.declared.fault.Fault.{Fault}
+use Rattle.krb_der.specs.declared.fault.FaultKind.TheVariants.{TooLong}
+use Rattle.krb_der.specs.Kind.{Kind, Fields, ends, must, ValueOf}
+use Rattle.krb_der.specs.Content.{Elementary}
+use Rattle.krb_der.specs.Place.{Place, begin_at}
+use Rattle.krb_der.specs.Spells.{Spells, IsMessage, limit}
+use Rattle.krb_der.specs.Fault.{IsFault, IsFaulty, too_long, faulty, start, after_element}
+use Rattle.krb_der.specs.Inner.Steps.{◌>>=◌}
+use Rattle.krb_der.specs.Inner.Clear.{is_clear}
+use Rattle.krb_der.specs.Inner.Read.{fault_at, element_at, element_by, content_of, finish_at, message_of, message_by}
+use Rattle.krb_der.proofs.ContentLaws.{elementary_read, elementary_unique}
+use Rattle.krb_der.proofs.LengthLaws.{no_value, same_error}
+use Rattle.krb_der.proofs.ElementSteps.{bind_ok, bind_err, bind_at, same_ok, finish_at-read, finish_at-fault, finish_at-end}
+use Rattle.krb_der.proofs.ElementFound.{answer}
+use Rattle.krb_der.proofs.ElementLaws.{element_read, element_found}
+use Rattle.krb_der.proofs.FaultLaws.{element_fault}
+use Rattle.krb_der.proofs.Reading.{element_at-found}
+use Rattle.krb_der.proofs.Unique.{spelling_unique}
+
+-- what is spelled is read, whatever follows
+reads : (k : Kind) (v : ValueOf k) (front rest : List ℕ) → is_clear k ≡ true → Spells k v front
+    → element_at k (begin_at (front ++ rest)) ≡ Ok (v, record { at = length front; rest = rest })
+unfolding element_at
+reads k v front rest clear s =
+    element_read Elementary content_of elementary_read k v front clear s 0 rest ∙ ap (λ a. Ok (v, record { at = a; rest = rest })) (omega arith)
+
+pub no_prefix : (k : Kind) → is_clear k ≡ true → (v w : ValueOf k) (a b x y : List ℕ) → Spells k v a → Spells k w b → a ++ x ≡ b ++ y → (a ≡ b) × (v ≡ w)
+no_prefix k clear v w a b x y s t e =
+    let both = answer v w (record { at = length a; rest = x }) (record { at = length b; rest = y })
+        (sym (reads k v a x clear s) ∙ ap (λ (l : List ℕ). element_at k (begin_at l)) e ∙ reads k w b y clear t) in
+    (spelling_unique Elementary elementary_unique k v a b s (subst (λ u. Spells k u b) (sym both.0) t), both.0)
+
+pub one_value : (k : Kind) → is_clear k ≡ true → (v w : ValueOf k) (bytes : List ℕ) → Spells k v bytes → Spells k w bytes → v ≡ w
+one_value k clear v w bytes s t = (no_prefix k clear v w bytes bytes [] [] s t refl).1
+
+pub one_spelling : (k : Kind) (v : ValueOf k) (a b : List ℕ) → Spells k v a → Spells k v b → a ≡ b
+one_spelling k v a b s t = spelling_unique Elementary elementary_unique k v a b s t
+
+-- ---- reading a whole message
+message-short : (k : Kind) (bytes : List ℕ) → length bytes ≤ limit → message_of k bytes ≡ (element_at k (begin_at bytes) >>= λ x. finish_at x.1 >>= λ _. Ok x.0)
+unfolding message_of message_by element_at
+message-short k bytes le = rw (le-ltb limit (length bytes) le) refl
+
+message-long : (k : Kind) (bytes : List ℕ) → limit < length bytes → message_of k bytes ≡ fault_at TooLong 0
+unfolding message_of message_by
+message-long k bytes lt = rw (lt-ltb limit (length bytes) lt) refl
+
+pub message_only : (k : Kind) (v : ValueOf k) (bytes : List ℕ) → is_clear k ≡ true → IsMessage k v bytes → message_of k bytes ≡ Ok v
+message_only k v bytes clear m =
+    message-short k bytes m.within
+    ∙ bind_at (element_at k (begin_at bytes)) _ _ (ap (λ (l : List ℕ). element_at k (begin_at l)) (sym (append-nil bytes)) ∙ reads k v bytes [] clear m.spelled)
+    ∙ bind_at (finish_at (record { at = length bytes; rest = [] })) (λ _. Ok v) _ (finish_at-end (length bytes))
+
+pub message_found : (k : Kind) (v : ValueOf k) (bytes : List ℕ) → message_of k bytes ≡ Ok v → IsMessage k v bytes
+message_found k v bytes e =
+    elim (cases_lt limit (length bytes)) [
+      | inl long ↦ absurd (no_value _ v (sym (message-long k bytes long) ∙ e))
+      | inr fits ↦
+        let b = bind_ok (element_at k (begin_at bytes)) (λ x. finish_at x.1 >>= λ _. Ok x.0) v (sym (message-short k bytes fits) ∙ e) in
+        let c = bind_ok (finish_at b.0.1) (λ _. Ok b.0.0) v b.2 in
+        let s = element_at-found k b.0.0 (begin_at bytes) b.0.1 b.1 in
+        let all : bytes ≡ s.front = s.whole ∙ ap (λ (l : List ℕ). s.front ++ l) (finish_at-read b.0.1 c.0 c.1) ∙ append-nil s.front in
+        record { spelled = subst (λ u. Spells k u bytes) (same_ok {E = Fault} b.0.0 v c.2) (subst (Spells k b.0.0) (sym all) s.spelled); within = fits }
+    ]
+
+message_broken : (k : Kind) (bytes : List ℕ) (f : Fault) → (element_at k (begin_at bytes) >>= λ x. finish_at x.1 >>= λ _. Ok x.0) ≡ Err f
+    → IsFaulty Elementary (must k ends) (begin_at bytes) f
+unfolding element_at
+message_broken k bytes f e =
+    elim (bind_err (element_at k (begin_at bytes)) (λ x. finish_at x.1 >>= λ _. Ok x.0) f e) [
+      | inl h ↦ element_fault Elementary content_of elementary_read (must k ends) (begin_at bytes) k ends (begin_at bytes) f start h
+      | inr h ↦ elim (bind_err (finish_at h.0.1) (λ _. Ok h.0.0) f h.2) [
+        | inl g ↦ record {
+            expected = ends;
+            here = h.0.1;
+            reached = after_element h.0.0 start (element_at-found k h.0.0 (begin_at bytes) h.0.1 h.1);
+            broken = finish_at-fault Elementary h.0.1 f g;
+          }
+        | inr g ↦ absurd (no_value f _ (sym g.2))
+      ]
+    ]
+
+pub message_fault : (k : Kind) (bytes : List ℕ) (f : Fault) → message_of k bytes ≡ Err f → IsFault k bytes f
+message_fault k bytes f e =
+    elim (cases_lt limit (length bytes)) [
+      | inl long ↦ too_long long (sym (same_error {A = ValueOf k} _ f (sym (message-long k bytes long) ∙ e)))
+      | inr fits ↦ faulty fits (message_broken k bytes f (sym (message-short k bytes fits) ∙ e))
+    ]
+
+-- ---- decided
+pub decided : (k : Kind) → is_clear k ≡ true → (bytes : List ℕ) → ((v : ValueOf k) × IsMessage k v bytes) ⊎ ((v : ValueOf k) → IsMessage k v bytes → ⊥)
+decided k clear bytes = by (message_of k bytes) refl
+  where
+    by : (r : Result (ValueOf k) Fault) → message_of k bytes ≡ r → ((v : ValueOf k) × IsMessage k v bytes) ⊎ ((v : ValueOf k) → IsMessage k v bytes → ⊥)
+    by (Ok v) e = inl (v, message_found k v bytes e)
+    by (Err f) e = inr (λ v m. absurd (no_value f v (sym e ∙ message_only k v bytes clear m)))
+
+pub has_fault : (k : Kind) → is_clear k ≡ true → (bytes : List ℕ) → ((v : ValueOf k) → IsMessage k v bytes → ⊥) → (f : Fault) × IsFault k bytes f
+has_fault k clear bytes none = by (message_of k bytes) refl
+  where
+    by : (r : Result (ValueOf k) Fault) → message_of k bytes ≡ r → (f : Fault) × IsFault k bytes f
+    by (Ok v) e = absurd (none v (message_found k v bytes e))
+    by (Err f) e = (f, message_fault k bytes f e)
+
+-- ---- a call that gives what reading a message gives
+pub fills-found : {X : Type 0} (k : Kind) (view : X → ValueOf k) (r : Result X Fault) (bytes : List ℕ) → Fills view r (message_of k bytes) → IfOk r (λ x. IsMessage k (view x) bytes)
+fills-found k view (Ok x) bytes e = message_found k (view x) bytes e
+fills-found k view (Err f) bytes e = tt
+
+pub fills-only : {X : Type 0} (k : Kind) (view : X → ValueOf k) (r : Result X Fault) (bytes : List ℕ) → is_clear k ≡ true → Fills view r (message_of k bytes)
+    → (v : ValueOf k) → IsMessage k v bytes → IsOkAnd r (λ x. view x ≡ v)
+fills-only k view (Ok x) bytes clear e v m = same_ok {E = Fault} (view x) v (sym e ∙ message_only k v bytes clear m)
+fills-only k view (Err f) bytes clear e v m = absurd (no_value f v (sym e ∙ message_only k v bytes clear m))
+
+pub fills-faulty : {X : Type 0} (k : Kind) (view : X → ValueOf k) (r : Result X Fault) (bytes : List ℕ) → Fills view r (message_of k bytes) → IfErr r (IsFault k bytes)
+fills-faulty k view (Ok x) bytes e = tt
+fills-faulty k view (Err f) bytes e = message_fault k bytes f e

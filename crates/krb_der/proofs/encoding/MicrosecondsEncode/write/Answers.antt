@@ -1,0 +1,6 @@
+use Rattle.krb_der.specs.Kind.{leaf, microseconds}
+use Rattle.krb_der.proofs.EncodeLaws.{encodes-leaf}
+use Rattle.krb_der.proofs.encoding.MicrosecondsEncode.write.Goals as goal
+
+pub returns : goal.returns
+returns c = encodes-leaf (leaf microseconds) c.args.self.now c.microseconds-written.result c.limited.result c.args.out.now c.microseconds-written.new.self c.microseconds-written.ensures c.limited.ensures

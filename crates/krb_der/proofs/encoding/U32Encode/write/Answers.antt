@@ -1,0 +1,6 @@
+use Rattle.krb_der.specs.Kind.{leaf, uint32}
+use Rattle.krb_der.proofs.EncodeLaws.{encodes-leaf}
+use Rattle.krb_der.proofs.encoding.U32Encode.write.Goals as goal
+
+pub returns : goal.returns
+returns c = encodes-leaf (leaf uint32) c.args.self.now c.uint32-written.result c.limited.result c.args.out.now c.uint32-written.new.self c.uint32-written.ensures c.limited.ensures

@@ -1,0 +1,14 @@
+-- What a call returned is what reading gives: the value, of which view is what clauses see, and the new place, or the fault and
+-- the old place.
+use Rattle.std.specs.Prelude.{◌≡◌, Result, Ok, Err}
+use Rattle.krb_der.specs.declared.fault.Fault.{Fault}
+use Rattle.krb_der.specs.Place.{Place}
+
+abbrev pub Gives : {X V : Type 0} → (X → V) → Result X Fault → Place → Place → Result (V × Place) Fault → Type 0
+Gives view (Ok x) old new read = read ≡ Ok (view x, new)
+Gives view (Err f) old new read = (read ≡ Err f) × (new ≡ old)
+
+-- the same of a call that reads up to the end of its place
+abbrev pub Fills : {X V : Type 0} → (X → V) → Result X Fault → Result V Fault → Type 0
+Fills view (Ok x) read = read ≡ Ok (view x)
+Fills view (Err f) read = read ≡ Err f

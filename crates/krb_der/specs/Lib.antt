@@ -1,0 +1,9 @@
+pub mod Kind
+pub mod Time
+pub mod Content
+pub mod Spells
+pub mod Place
+pub mod Fault
+pub mod Reading
+pub mod Writing
+pub mod Inner

@@ -1,0 +1,32 @@
+-- What a call answers that reads the element that stands next.
+use Rattle.std.specs.Prelude.{◌≡◌, ℕ, true, false, Option, Some, None, IsSomeAnd, Result, Ok, IfOk, IsOkAnd, IfErr, OnErr}
+use Rattle.krb_der.specs.declared.fault.Fault.{Fault}
+use Rattle.krb_der.specs.Kind.{Kind, ValueOf}
+use Rattle.krb_der.specs.Content.{Elementary}
+use Rattle.krb_der.specs.Place.{Place, begins}
+use Rattle.krb_der.specs.Spells.{StandsAt}
+use Rattle.krb_der.specs.Fault.{HasHead, IsElementFault, IsHeadFault}
+
+-- The call succeeds exactly where an element of the kind stands at the old place, with its value, of which view is what
+-- clauses see, and the new place is behind it. Else it answers a fault of that element, and the place stays.
+pub record Reads {X : Type 0} (k : Kind) (view : X → ValueOf k) (result : Result X Fault) (old new : Place) : Type 0 where
+  pub found : IfOk result (λ x. StandsAt Elementary k (view x) old new)
+  pub only : (v : ValueOf k) (after : Place) → StandsAt Elementary k v old after
+    → IsOkAnd result (λ x. (view x ≡ v) × (new ≡ after))
+  pub faulty : IfErr result (IsElementFault Elementary k old)
+  pub kept : OnErr result (new ≡ old)
+
+-- The call enters the element with the tag that stands next: it gives the place of its content, and the new place is behind it.
+pub record Enters (tag : ℕ) (result : Result Place Fault) (old new : Place) : Type 0 where
+  pub found : IfOk result (λ inside. HasHead tag old inside new)
+  pub only : (inside after : Place) → HasHead tag old inside after → IsOkAnd result (λ x. (x ≡ inside) × (new ≡ after))
+  pub faulty : IfErr result (IsHeadFault Elementary tag old)
+  pub kept : OnErr result (new ≡ old)
+
+-- the same of an element that may stand next, as it does exactly where its tag is the next byte
+pub record MayEnter (tag : ℕ) (result : Result (Option Place) Fault) (old new : Place) : Type 0 where
+  pub absent : begins tag old.rest ≡ false → (result ≡ Ok None) × (new ≡ old)
+  pub found : begins tag old.rest ≡ true → IfOk result (λ o. IsSomeAnd o (λ inside. HasHead tag old inside new))
+  pub only : (inside after : Place) → HasHead tag old inside after → IsOkAnd result (λ o. (o ≡ Some inside) × (new ≡ after))
+  pub faulty : IfErr result (IsHeadFault Elementary tag old)
+  pub kept : OnErr result (new ≡ old)

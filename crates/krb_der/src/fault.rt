@@ -1,0 +1,56 @@
+//! Why bytes are no message, and why a value was not encoded.
+
+ghost use Rattle.std.specs.Prelude.{◌≡◌};
+
+use std::alloc::AllocError;
+use thiserror::Error;
+
+/// What is wrong with the bytes.
+#[derive(Clone, Copy, Debug, PartialEq, Eq)]
+pub enum FaultKind {
+    /// The bytes end before the element does.
+    Truncated,
+    /// Another element must stand here.
+    Tag,
+    /// The length is no length, or not the shortest form of one.
+    Length,
+    /// A whole number is empty, not in its shortest form, out of its range, or not the constant.
+    Integer,
+    /// A time is not of the form or not of the calendar.
+    Time,
+    /// Flags are not 32 bits.
+    Flags,
+    /// Bytes stand after the last element.
+    Trailing,
+    /// The message has more than 1,048,576 bytes.
+    TooLong,
+}
+
+/// What is wrong with the bytes, and at which of them.
+#[derive(Clone, Copy, Debug, PartialEq, Eq)]
+pub struct Fault {
+    pub kind: FaultKind,
+    /// An offset in the input, at most its length.
+    pub at: usize,
+}
+
+/// Why a value was not encoded.
+#[derive(Debug, Drop, Error)]
+pub enum EncodeFault {
+    /// The message would have more than 1,048,576 bytes.
+    #[error("the message would be longer than 1048576 bytes")]
+    TooLong,
+    /// There was no room.
+    #[error("out of memory")]
+    OutOfMemory,
+}
+
+impl From<AllocError> for EncodeFault {
+    ghost use Rattle.krb_der.specs.declared.fault.EncodeFault.TheVariants.{OutOfMemory};
+
+    ghost from_gives = { λ _ e. e ≡ OutOfMemory };
+
+    fn from(_error: AllocError) -> EncodeFault {
+        EncodeFault::OutOfMemory
+    }
+}

@@ -1,0 +1,84 @@
+//! The fields of a SEQUENCE, read as one row in nested pairs.
+
+ghost use Rattle.std.specs.Prelude.{◌≡◌};
+ghost use Rattle.std.specs.Option.{option_map};
+ghost use Rattle.krb_der.specs.Kind.{Fields, FieldsOf, ends, must, may, wrapped};
+ghost use Rattle.krb_der.specs.Inner.Gives.{Gives, Fills};
+ghost use Rattle.krb_der.specs.Inner.Read.{element_at, fields_at};
+
+use crate::{Cursor, Element, Fault};
+
+/// An element with the tag `TAG` round it.
+#[derive(Clone, Copy, Debug, PartialEq, Eq)]
+pub struct Field<const TAG: u8, T>(pub T);
+
+/// The same, where it may be left out.
+#[derive(Clone, Copy, Debug, PartialEq, Eq)]
+pub struct Maybe<const TAG: u8, T>(pub Option<T>);
+
+/// A type whose values are those of a row of fields.
+pub trait Row<'a>: Sized {
+    ghost fields: { Fields };
+
+    ghost view: { Self → FieldsOf fields };
+
+    /// Reads the fields, up to the end of the content.
+    fn read_row(content: Cursor<'a>) -> Result<Self, Fault>
+        ensures { Fills view result (fields_at fields content.entry) };
+}
+
+impl<'a> Row<'a> for () {
+    ghost fields = { ends };
+
+    ghost view = { λ _. tt };
+
+    #[tactic(auto, unfolding(crate::specs::Inner::Read::fields_at, crate::specs::Inner::Read::element_by))]
+    fn read_row(content: Cursor<'a>) -> Result<(), Fault> {
+        content.finish_here()
+    }
+}
+
+impl<'a, const TAG: u8, T: Element<'a> + Drop> Element<'a> for Field<TAG, T> {
+    ghost kind = { wrapped TAG T.kind };
+
+    ghost view = { λ f. T.view f.0 };
+
+    ghost clear = { T.clear };
+
+    fn read(cursor: &mut Cursor<'a>) -> Result<Field<TAG, T>, Fault> {
+        let value = cursor.wrapped(TAG)?;
+        Ok(Field(value))
+    }
+}
+
+impl<'a, const TAG: u8, T: Element<'a> + Drop, R: Row<'a>> Row<'a> for (Field<TAG, T>, R) {
+    ghost fields = { must (wrapped TAG T.kind) R.fields };
+
+    ghost view = { λ r. (T.view r.0.0, R.view r.1) };
+
+    #[tactic(auto, unfolding(crate::specs::Inner::Read::fields_at, crate::specs::Inner::Read::element_at, crate::specs::Inner::Read::element_by))]
+    fn read_row(content: Cursor<'a>) -> Result<(Field<TAG, T>, R), Fault> {
+        let mut content = content;
+        let value = content.wrapped(TAG)?;
+        let others = R::read_row(content)?;
+        Ok((Field(value), others))
+    }
+}
+
+impl<'a, const TAG: u8, T: Element<'a> + Drop, R: Row<'a>> Row<'a> for (Maybe<TAG, T>, R) {
+    ghost fields = { may (wrapped TAG T.kind) R.fields };
+
+    ghost view = { λ r. (option_map T.view r.0.0, R.view r.1) };
+
+    #[tactic(auto, unfolding(crate::specs::Inner::Read::fields_at, crate::specs::Inner::Read::element_at, crate::specs::Inner::Read::element_by))]
+    fn read_row(content: Cursor<'a>) -> Result<(Maybe<TAG, T>, R), Fault> {
+        let mut content = content;
+        if !content.begins(TAG) {
+            let others = R::read_row(content)?;
+            return Ok((Maybe(None), others));
+        }
+        let value = content.wrapped(TAG)?;
+        let others = R::read_row(content)?;
+        Ok((Maybe(Some(value)), others))
+    }
+}

@@ -1,0 +1,68 @@
+//! Values that share a Rust type with others.
+
+ghost use Rattle.std.specs.Prelude.{◌≡◌, ◌<◌, SomeIff};
+
+use std::marker::Model;
+
+/// The bytes of an OCTET STRING.
+#[derive(Clone, Copy, Debug, PartialEq, Eq)]
+pub struct Octets<'a>(pub &'a [u8]);
+
+/// The bytes of a GeneralString, any bytes.
+#[derive(Clone, Copy, Debug, PartialEq, Eq)]
+pub struct Text<'a>(pub &'a [u8]);
+
+/// 32 flags, of which bit 0 is the most significant (RFC 4120, section 5.2.8).
+#[derive(Clone, Copy, Debug, PartialEq, Eq)]
+pub struct Flags(pub u32);
+
+impl Flags {
+    /// The flags as a number.
+    pub fn bits(self) -> u32
+        ensures { result ≡ self.0 }
+    {
+        self.0
+    }
+}
+
+/// The microseconds of a time: 0 to 999,999 (RFC 4120, section 5.2.4).
+#[derive(Clone, Copy, Debug, PartialEq, Eq, PartialOrd, Ord, Hash)]
+pub struct Microseconds {
+    micros: u32,
+}
+
+impl Model for Microseconds {
+    ghost use Rattle.std.specs.Prelude.{ℕ, ◌<◌};
+
+    ghost Value = { ℕ };
+
+    ghost view = { λ m. m.micros };
+
+    ghost invariant = { λ m. m.micros < 1_000_000 };
+
+    ghost inverse = { λ n. record { micros = n } };
+}
+
+impl Microseconds {
+    /// That many microseconds, or `None` from 1,000,000 on.
+    pub fn new(micros: u32) -> Option<Self>
+        ensures { SomeIff result (micros < 1_000_000) micros }
+    {
+        if micros >= 1_000_000 {
+            return None;
+        }
+        Some(Microseconds { micros })
+    }
+
+    /// The number of microseconds.
+    pub fn get(self) -> u32
+        ensures value { result ≡ self }
+        ensures range { result < 1_000_000 }
+    {
+        self.micros
+    }
+}
+
+/// The whole number `N`, in a place where no other may stand.
+#[derive(Clone, Copy, Debug, PartialEq, Eq)]
+pub struct Constant<const N: u32>;

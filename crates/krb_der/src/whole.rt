@@ -1,0 +1,121 @@
+//! Contents that are whole numbers or flags (X.690, sections 8.3 and 8.6).
+
+ghost use Rattle.std.specs.Prelude.{◌≡◌, ◌<◌, ◌≤◌, ◌^◌, length, is_some};
+ghost use Rattle.krb_der.specs.Kind.{int32, uint32, microseconds, constant};
+ghost use Rattle.krb_der.specs.Content.{number};
+ghost use Rattle.krb_der.specs.Inner.Read.{content_of};
+ghost use Rattle.krb_der.specs.Inner.Shortest.{shortest_of};
+ghost use Rattle.krb_der.specs.Inner.Whole.{is_redundant, is_negative, whole_of, flags_of, contents_of};
+
+use crate::value::Microseconds;
+
+/// Whether the first nine bits are one value, or there are no bits: no whole number is spelled so.
+fn is_redundant(content: &[u8]) -> bool
+    ensures { result ≡ is_redundant content.now }
+{
+    match content {
+        [] | [0, 0..=0x7f, ..] | [0xff, 0x80..=0xff, ..] => true,
+        _ => false,
+    }
+}
+
+/// Whether the first bit is 1.
+fn is_negative(content: &[u8]) -> bool
+    ensures { result ≡ is_negative content.now }
+{
+    match content {
+        [0x80..=0xff, ..] => true,
+        _ => false,
+    }
+}
+
+/// The number that the bytes are, the most significant first.
+pub fn number(bytes: &[u8]) -> u64
+    requires { length bytes.now ≤ 5 }
+    ensures value { result ≡ number bytes.now }
+    ensures small { result < 2 ^ 40 }
+{
+    let mut number = 0u64;
+    for byte in bytes {
+        number = number * 0x100 + u64::from(*byte);
+    }
+    number
+}
+
+/// How many contents of one to five bytes there are.
+#[tactic(auto, unfolding(crate::specs::Inner::Whole::contents_of))]
+fn contents(len: usize) -> Option<i64>
+    ensures { result ≡ contents_of len }
+{
+    match len {
+        1 => Some(0x100),
+        2 => Some(0x1_0000),
+        3 => Some(0x100_0000),
+        4 => Some(0x1_0000_0000),
+        5 => Some(0x100_0000_0000),
+        _ => None,
+    }
+}
+
+/// The whole number that the content is, in its shortest form and of at most five bytes.
+pub fn whole(content: &[u8]) -> Option<i64>
+    ensures { result ≡ whole_of content.now }
+{
+    if is_redundant(content) {
+        return None;
+    }
+    let all = contents(content.len())?;
+    let number = number(content) as i64;
+    Some(if is_negative(content) { number - all } else { number })
+}
+
+/// The 32 bits of a content without unused bits.
+pub fn flags_in(content: &[u8]) -> Option<u32>
+    ensures { result ≡ flags_of content.now }
+{
+    let (unused, bits) = content.split_first()?;
+    if *unused != 0 || bits.len() != 4 {
+        return None;
+    }
+    Some(number(bits) as u32)
+}
+
+/// The Int32 that the content is.
+pub fn int32_in(content: &[u8]) -> Option<i32>
+    ensures { result ≡ content_of int32 content.now }
+{
+    i32::try_from(whole(content)?).ok()
+}
+
+/// The UInt32 that the content is.
+pub fn uint32_in(content: &[u8]) -> Option<u32>
+    ensures { result ≡ content_of uint32 content.now }
+{
+    u32::try_from(whole(content)?).ok()
+}
+
+/// The microseconds that the content is.
+pub fn micros_in(content: &[u8]) -> Option<Microseconds>
+    ensures { result ≡ content_of microseconds content.now }
+{
+    Microseconds::new(u32::try_from(whole(content)?).ok()?)
+}
+
+/// Whether the content is this number.
+pub fn is_number(content: &[u8], number: u32) -> bool
+    ensures { result ≡ is_some (content_of (constant number) content.now) }
+{
+    whole(content) == Some(i64::from(number))
+}
+
+/// The bytes without those in front that the whole number doesn't need.
+pub fn shortest(bytes: &[u8]) -> &[u8]
+    ensures value { result.now ≡ shortest_of bytes.now }
+    ensures shorter { length result.now ≤ length bytes.now }
+{
+    let mut rest = bytes;
+    while rest.len() > 1 && is_redundant(rest) {
+        rest = &rest[1..];
+    }
+    rest
+}

@@ -1,0 +1,204 @@
+//! Writing elements.
+
+ghost use Rattle.std.specs.Prelude.{◌≡◌, ◌+◌, ◌-◌, ◌≤◌, ◌<◌, ◌^◌, ◌↔◌, [], length, drop, IsTrue, OnOk, OnErr};
+ghost use Rattle.krb_der.specs.Kind.{leaf, int32, uint32, microseconds, constant, octets, string, flags, time};
+ghost use Rattle.krb_der.specs.Content.{IsInteger};
+ghost use Rattle.krb_der.specs.Spells.{IsElement};
+ghost use Rattle.krb_der.specs.Inner.Limited.{limited_of};
+ghost use Rattle.krb_der.specs.Inner.HeadView.{turned_at};
+ghost use Rattle.krb_der.specs.Writing.{Appends, Wraps, Writes};
+
+use crate::head::head_of;
+use crate::time::text_of;
+use crate::whole::shortest;
+use crate::cursor::LIMIT;
+use crate::{EncodeFault, Flags, Microseconds, Seconds, tag};
+use std::alloc::{AllocError, Global};
+use std::marker::Model;
+
+/// The bytes that were written so far.
+#[derive(Debug, Drop)]
+pub struct Writer {
+    bytes: Vec<u8>,
+}
+
+impl Model for Writer {
+    ghost use Rattle.std.specs.Prelude.{List, ℕ};
+
+    ghost Value = { List ℕ };
+
+    ghost view = { λ w. w.bytes.items };
+}
+
+impl Writer {
+    /// Nothing written yet. Takes no memory.
+    pub fn new(alloc: Global) -> Self
+        ensures { result ≡ [] }
+    {
+        Writer {
+            bytes: Vec::new(alloc),
+        }
+    }
+
+    /// How many bytes were written.
+    pub fn len(&self) -> usize
+        ensures { result ≡ length self.now }
+    {
+        self.bytes.len()
+    }
+
+    /// Whether nothing was written.
+    pub fn is_empty(&self) -> bool
+        ensures { IsTrue result ↔ (self.now ≡ []) }
+    {
+        self.bytes.is_empty()
+    }
+
+    /// The bytes that were written.
+    pub fn into_bytes(self) -> Vec<u8>
+        ensures { result.items ≡ self }
+    {
+        self.bytes
+    }
+
+    /// Writes an element with this tag and content.
+    pub(crate) fn element(&mut self, tag: u8, content: &[u8]) -> Result<(), AllocError>
+        requires { length content.now < 2 ^ 32 }
+        ensures ok { OnOk result (Appends (IsElement tag (λ c. c ≡ content.now)) self.old self.new) }
+        ensures kept { OnErr result (self.new ≡ self.old) }
+    {
+        append_element(&mut self.bytes, tag, content)
+    }
+
+    /// What becomes of a call that wrote: it may have passed the limit of a message.
+    pub(crate) fn limited(&self, written: Result<(), AllocError>) -> Result<(), EncodeFault>
+        ensures { result ≡ limited_of written self.now }
+    {
+        if written.is_err() {
+            return Err(EncodeFault::OutOfMemory);
+        }
+        if self.bytes.len() > LIMIT {
+            return Err(EncodeFault::TooLong);
+        }
+        Ok(())
+    }
+
+    /// Writes a whole number from -2,147,483,648 to 2,147,483,647.
+    ///
+    /// # Errors
+    /// There was no room, as of every call here. The writer then stays.
+    pub fn int32(&mut self, value: i32) -> Result<(), AllocError>
+        ensures { Writes (leaf int32) value result self.old self.new }
+    {
+        self.whole(i64::from(value))
+    }
+
+    /// Writes a whole number from 0 to 4,294,967,295.
+    pub fn uint32(&mut self, value: u32) -> Result<(), AllocError>
+        ensures { Writes (leaf uint32) value result self.old self.new }
+    {
+        self.whole(i64::from(value))
+    }
+
+    /// Writes a whole number from 0 to 999,999.
+    pub fn microseconds(&mut self, value: Microseconds) -> Result<(), AllocError>
+        ensures { Writes (leaf microseconds) value result self.old self.new }
+    {
+        self.whole(i64::from(value.get()))
+    }
+
+    /// Writes the whole number `N`.
+    pub fn constant<const N: u32>(&mut self) -> Result<(), AllocError>
+        ensures { Writes (leaf (constant N)) tt result self.old self.new }
+    {
+        self.whole(i64::from(N))
+    }
+
+    fn whole(&mut self, value: i64) -> Result<(), AllocError>
+        ensures ok { OnOk result (Appends (IsElement 0x02 (IsInteger value)) self.old self.new) }
+        ensures kept { OnErr result (self.new ≡ self.old) }
+    {
+        let bytes = value.to_be_bytes();
+        self.element(tag::INTEGER, shortest(&bytes))
+    }
+
+    /// Writes an OCTET STRING.
+    pub fn octets(&mut self, bytes: &[u8]) -> Result<(), AllocError>
+        requires { length bytes.now < 2 ^ 32 }
+        ensures { Writes (leaf octets) bytes.now result self.old self.new }
+    {
+        self.element(tag::OCTET_STRING, bytes)
+    }
+
+    /// Writes a GeneralString, of any bytes.
+    pub fn string(&mut self, bytes: &[u8]) -> Result<(), AllocError>
+        requires { length bytes.now < 2 ^ 32 }
+        ensures { Writes (leaf string) bytes.now result self.old self.new }
+    {
+        self.element(tag::GENERAL_STRING, bytes)
+    }
+
+    /// Writes a BIT STRING of 32 bits.
+    pub fn flags(&mut self, value: Flags) -> Result<(), AllocError>
+        ensures { Writes (leaf flags) value.0 result self.old self.new }
+    {
+        let [a, b, c, d] = value.bits().to_be_bytes();
+        self.element(tag::BIT_STRING, &[0, a, b, c, d])
+    }
+
+    /// Writes a GeneralizedTime.
+    pub fn time(&mut self, value: Seconds) -> Result<(), AllocError>
+        ensures { Writes (leaf time) value result self.old self.new }
+    {
+        self.element(tag::GENERALIZED_TIME, &text_of(value))
+    }
+
+    /// Makes what was written from `start` on the content of an element with this tag: puts the tag and the shortest
+    /// length before it.
+    ///
+    /// # Errors
+    /// There was no room. The writer then stays.
+    pub fn wrap(&mut self, tag: u8, start: usize) -> Result<(), AllocError>
+        requires within { start ≤ length self.old }
+        requires fits { length (drop start self.old) < 2 ^ 32 }
+        ensures ok { OnOk result (Wraps tag start self.old self.new) }
+        ensures kept { OnErr result (self.new ≡ self.old) }
+    {
+        wrap_from(&mut self.bytes, tag, start)
+    }
+}
+
+fn append_element(bytes: &mut Vec<u8>, tag: u8, content: &[u8]) -> Result<(), AllocError>
+    requires { length content.now < 2 ^ 32 }
+    ensures ok { OnOk result (Appends (IsElement tag (λ c. c ≡ content.now)) bytes.old.items bytes.new.items) }
+    ensures kept { OnErr result (bytes.new.items ≡ bytes.old.items) }
+{
+    let head = head_of(tag, content.len() as u32);
+    let start = bytes.len();
+    bytes.extend_from_slice(&head.bytes[..head.len])?;
+    if let Err(error) = bytes.extend_from_slice(content) {
+        bytes.truncate(start);
+        return Err(error);
+    }
+    Ok(())
+}
+
+fn wrap_from(bytes: &mut Vec<u8>, tag: u8, start: usize) -> Result<(), AllocError>
+    requires within { start ≤ length bytes.old.items }
+    requires fits { length (drop start bytes.old.items) < 2 ^ 32 }
+    ensures ok { OnOk result (Wraps tag start bytes.old.items bytes.new.items) }
+    ensures kept { OnErr result (bytes.new.items ≡ bytes.old.items) }
+{
+    let head = head_of(tag, (bytes.len() - start) as u32);
+    bytes.extend_from_slice(&head.bytes[..head.len])?;
+    turn(bytes, start, head.len);
+    Ok(())
+}
+
+/// Moves the last `count` bytes to `start`.
+fn turn(bytes: &mut [u8], start: usize, count: usize)
+    requires { start + count ≤ length bytes.old }
+    ensures { bytes.new ≡ turned_at start (length bytes.old - count) bytes.old }
+{
+    bytes[start..].rotate_right(count);
+}

@@ -1,0 +1,181 @@
+#!/usr/bin/env python3
+"""What a strict reader of the DER subset answers, worked out from the rules alone.
+
+The rules (X.690, sections 8.1, 8.3, 8.6, 8.7 and 10.1; RFC 4120, section 5.2):
+
+* An element is a tag byte, a length, and that many bytes of content. A length below 128 is one byte. Any other is the
+  byte 80 + n (hexadecimal) with n from 1 to 4, and n bytes, the most significant first, of which the first is not 0; the
+  number is at least 128.
+* Whole numbers are two's complement in the fewest bytes, and lie in the range of their kind.
+* Flags are 00 and four bytes. A time is YYYYMMDDHHMMSSZ on the calendar, without a second 60.
+* Where a fault comes: nothing left, or a length or content cut off: Truncated at the end of what encloses the element;
+  another tag: Tag at the element; a length that is none: Length behind the tag; a content that spells no value: Integer,
+  Flags or Time at the element; bytes behind the last element: Trailing at the first of them; a message above 1,048,576
+  bytes: TooLong at 0, before all else.
+
+This script writes src/tests/cases.rt of krb_der: `tests/der_rules.py > crates/krb_der/src/tests/cases.rt`.
+"""
+
+from calendar import monthrange
+
+
+class Refused(Exception):
+    def __init__(self, kind, at):
+        super().__init__(kind, at)
+        self.kind, self.at = kind, at
+
+
+TAGS = {"int32": 0x02, "uint32": 0x02, "microseconds": 0x02, "five": 0x02, "octets": 0x04, "string": 0x1B, "flags": 0x03, "time": 0x18}
+
+
+def head(data, at, end, tag):
+    """The start and the end of the content of the element with this tag at `at`."""
+    if at == end:
+        raise Refused("Truncated", end)
+    if data[at] != tag:
+        raise Refused("Tag", at)
+    if at + 1 == end:
+        raise Refused("Truncated", end)
+    first = data[at + 1]
+    if first < 0x80:
+        length, start = first, at + 2
+    elif 0x81 <= first <= 0x84:
+        count = first - 0x80
+        if at + 2 + count > end:
+            raise Refused("Truncated", end)
+        digits = data[at + 2 : at + 2 + count]
+        length, start = int.from_bytes(digits, "big"), at + 2 + count
+        if digits[0] == 0 or length < 128:
+            raise Refused("Length", at + 1)
+    else:
+        raise Refused("Length", at + 1)
+    if start + length > end:
+        raise Refused("Truncated", end)
+    return start, start + length
+
+
+def whole(content):
+    """The whole number, or None where the content is empty or not the shortest."""
+    if not content:
+        return None
+    value = int.from_bytes(content, "big", signed=True)
+    shortest = max(1, (value + (value < 0)).bit_length() // 8 + 1)
+    return value if len(content) == shortest else None
+
+
+def seconds(content):
+    text = bytes(content)
+    if len(text) != 15 or text[14:] != b"Z" or any(c not in b"0123456789" for c in text[:14]):
+        return None
+    year, month, day = int(text[:4]), int(text[4:6]), int(text[6:8])
+    hour, minute, second = int(text[8:10]), int(text[10:12]), int(text[12:14])
+    leap = year % 4 == 0 and (year % 100 != 0 or year % 400 == 0)
+    days = [31, 29 if leap else 28, 31, 30, 31, 30, 31, 31, 30, 31, 30, 31]
+    if not 1 <= month <= 12 or not 1 <= day <= days[month - 1] or hour > 23 or minute > 59 or second > 59:
+        return None
+    # Days from 0000-01-01: whole years, whole months, days. 1970-01-01 is day 719528 of them.
+    before = sum(366 if y % 4 == 0 and (y % 100 != 0 or y % 400 == 0) else 365 for y in range(year))
+    number = before + sum(days[: month - 1]) + day - 1 - 719528
+    return 86400 * number + 3600 * hour + 60 * minute + second
+
+
+RANGES = {"int32": (-(2**31), 2**31 - 1), "uint32": (0, 2**32 - 1), "microseconds": (0, 999_999), "five": (5, 5)}
+
+
+def read(kind, data):
+    """The number that the value is (for texts their length), of an element that is all of the data."""
+    if len(data) > 1_048_576:
+        raise Refused("TooLong", 0)
+    start, end = head(data, 0, len(data), TAGS[kind])
+    content = data[start:end]
+    if kind in RANGES:
+        value, (low, high) = whole(content), RANGES[kind]
+        if value is None or not low <= value <= high:
+            raise Refused("Integer", 0)
+    elif kind == "flags":
+        if len(content) != 5 or content[0] != 0:
+            raise Refused("Flags", 0)
+        value = int.from_bytes(content[1:], "big")
+    elif kind == "time":
+        value = seconds(content)
+        if value is None:
+            raise Refused("Time", 0)
+    else:
+        value = len(content)
+    if end != len(data):
+        raise Refused("Trailing", end)
+    return value
+
+
+def element(tag, content, size=None):
+    length = len(content)
+    if size is None:
+        if length < 128:
+            size = bytes([length])
+        else:
+            digits = length.to_bytes((length.bit_length() + 7) // 8, "big")
+            size = bytes([0x80 + len(digits)]) + digits
+    return bytes([tag]) + size + bytes(content)
+
+
+def cases():
+    edges = sorted({s * v + d for v in [0] + [2 ** (8 * n - 1) for n in range(1, 6)] + [2 ** (8 * n) for n in range(1, 5)] for s in (1, -1) for d in (-1, 0, 1)})
+    for value in edges:
+        content = value.to_bytes(max(1, (value + (value < 0)).bit_length() // 8 + 1), "big", signed=True)
+        for kind in ("int32", "uint32"):
+            yield kind, element(0x02, content)
+    for value in (0, 1, 127, 128, 999_999, 1_000_000, -1):
+        content = value.to_bytes(max(1, (value + (value < 0)).bit_length() // 8 + 1), "big", signed=True)
+        yield "microseconds", element(0x02, content)
+    for content in ([5], [0, 5], [4], [6], [], [0, 0, 5]):
+        yield "five", element(0x02, content)
+    for content in ([], [0, 0], [0, 127], [0, 128], [255, 255], [255, 128], [255, 127], [0, 0, 128], [255, 255, 127], [0, 255, 255, 255, 255], [1, 0, 0, 0, 0], [0] * 6, [255] * 6, [127] * 6):
+        for kind in ("int32", "uint32"):
+            yield kind, element(0x02, content)
+    # lengths, in all five forms, good and bad, whole and cut off
+    for length in (0, 1, 127, 128, 129, 255, 256, 257):
+        yield "octets", element(0x04, [7] * length)
+        yield "string", element(0x1B, [7] * length)
+    for size in ("80", "85", "8101", "817f", "820001", "820080", "8200ff", "83000100", "8300ffff", "8400000100", "8400ffffff", "ff"):
+        yield "octets", bytes.fromhex("04" + size) + bytes([7] * 4)
+    for cut in ("", "04", "0481", "0482", "048201", "0483", "048301", "04830100", "0484", "048401", "04840100", "0484010000", "0401", "04020a", "0481800a", "0482010000", "048301000000", "0484010000000000", "0480", "0485"):
+        yield "octets", bytes.fromhex(cut)
+    for wrong in ("0500", "0200", "1b00", "00", "ff"):
+        yield "octets", bytes.fromhex(wrong)
+    for more in ("040000", "04010a0b", "0481"):
+        yield "octets", bytes.fromhex(more)
+    for content in ([0, 0, 0, 0, 0], [0, 128, 0, 0, 0], [0, 64, 0, 0, 1], [0, 255, 255, 255, 255], [1, 0, 0, 0, 0], [7, 0, 0, 0, 128], [0, 0, 0, 0], [0, 0, 0, 0, 0, 0], [], [0]):
+        yield "flags", element(0x03, content)
+    for text in (
+        "19700101000000Z", "00000101000000Z", "99991231235959Z", "20240229120000Z", "20230229120000Z", "19000228000000Z", "19000229000000Z",
+        "20000229000000Z", "00000229000000Z", "00040229000000Z", "01000229000000Z", "04000229000000Z", "99960229000000Z", "99000229000000Z",
+        "20240228235959Z", "20240301000000Z", "20231231235959Z", "20240131000000Z", "20240132000000Z", "20240430000000Z", "20240431000000Z",
+        "20240630000000Z", "20240631000000Z", "20240930000000Z", "20240931000000Z", "20241130000000Z", "20241131000000Z", "20240100000000Z",
+        "20240001000000Z", "20241201000000Z", "20241301000000Z", "20240101240000Z", "20240101236000Z", "20240101235960Z", "20240229120060Z",
+        "20240101230000Z", "20240101000000", "20240101000000z", "2024010100000Z", "202401010000000Z", "2024-101000000Z", "20240101 00000Z",
+        "20240101000000.0Z", "/0240101000000Z", ":0240101000000Z", "19691231235959Z", "20380119031408Z", "20231114221320Z", "20231115081320Z",
+    ):
+        yield "time", element(0x18, text.encode())
+
+
+def main():
+    print("//! Written by tests/der_rules.py, from the rules; not edited by hand.\n")
+    print("use super::Kind::{self, *};\nuse crate::FaultKind::{self, *};\n")
+    print("/// The kind that is read, the bytes, and the number that the value is, or the fault and its offset.")
+    print("pub type Case = (Kind, &'static [u8], Result<i64, (FaultKind, usize)>);\n")
+    rows = []
+    for kind, data in cases():
+        name = kind.capitalize() if kind != "int32" and kind != "uint32" else {"int32": "Int32", "uint32": "Uint32"}[kind]
+        text = "b\"" + "".join(f"\\x{b:02x}" for b in data) + "\""
+        try:
+            answer = f"Ok({read(kind, data)})"
+        except Refused as fault:
+            answer = f"Err(({fault.kind}, {fault.at}))"
+        rows.append(f"    ({name}, {text}, {answer}),")
+    print(f"pub const CASES: [Case; {len(rows)}] = [")
+    print("\n".join(rows))
+    print("];")
+
+
+if __name__ == "__main__":
+    main()
