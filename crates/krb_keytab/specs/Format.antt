@@ -1,5 +1,5 @@
 -- The keytab file, version 0x0502 (MIT krb5, "Keytab file format"). Numbers are big-endian, signed ones in two's complement.
-use Rattle.std.specs.Prelude.{◌≡◌, ◌≢◌, ◌⊎◌, ℕ, ◌+◌, ◌<◌, ◌≤◌, ◌^◌, ◌==◌, ◌&&◌, ℤ, pos, neg_ℤ, unsigned_abs, List, [], ◌∷◌, ◌++◌, length, take, not, nat_le, All, FitsSigned, if◌then◌else◌}
+use Rattle.std.specs.Prelude.{◌≡◌, ◌≢◌, ◌⊎◌, ℕ, ◌+◌, ◌<◌, ◌≤◌, ◌^◌, ◌==◌, ◌&&◌, ℤ, pos, neg_ℤ, unsigned_abs, List, [], ◌∷◌, ◌++◌, length, take, Result, Ok, Err, not, nat_le, All, FitsSigned, if◌then◌else◌}
 use Rattle.std.specs.Int.{w8, w16, w32, from_be_bytes}
 use Rattle.std.specs.List.{flat_map}
 use Rattle.krb_name.specs.Cursor.{number_bytes, signed_bytes, data_bytes}
@@ -121,3 +121,8 @@ IsFaultOf bytes Version = (length bytes ≤ file_limit) × ((others : List ℕ) 
 IsFaultOf bytes (Truncated at) = StandsAt bytes at IsCutOff
 IsFaultOf bytes (BadEntry at) = StandsAt bytes at HoldsNoEntry
 IsFaultOf bytes _ = ⊥
+
+-- what there is to say of the bytes: their entries, or why they are no keytab
+abbrev pub IsAnswerOf : List ℕ → Result (List KeytabEntry) KeytabFault → Type 0
+IsAnswerOf bytes (Ok entries) = IsKeytab bytes entries
+IsAnswerOf bytes (Err fault) = IsFaultOf bytes fault

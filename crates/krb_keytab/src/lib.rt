@@ -18,6 +18,7 @@ mod entry;
 mod fault;
 mod keytab;
 mod next;
+mod opening;
 mod record;
 mod view;
 
