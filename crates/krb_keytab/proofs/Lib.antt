@@ -4,3 +4,4 @@ pub mod RecordLaws
 pub mod FileLaws
 pub mod OpeningLaws
 pub mod SourceLaws
+pub mod PickLaws

@@ -4,14 +4,16 @@ ghost use Rattle.std.specs.Prelude.{◌≡◌, ◌≢◌, ◌⊎◌, ◌≤◌, 
 ghost use Rattle.std.specs.Io.KnownBytes.{IsAtEnd};
 ghost use Rattle.krb_keytab.specs.Entry.{KeytabEntry};
 ghost use Rattle.krb_keytab.specs.Fault.{offset_of, failed_reads};
+ghost use Rattle.krb_keytab.specs.Pick.{IsPicked};
 ghost use Rattle.krb_keytab.specs.Format.{IsKeytab, IsFaultOf, IsAnswerOf};
 
 use crate::entry::Entry;
 use crate::fault::KeytabFault;
 use crate::next::next_record;
 use crate::opening::{FILE_LIMIT, open};
+use crate::pick::Picked;
 use crate::record::Record;
-use krb_name::{Source, read_to_limit};
+use krb_name::{Principal, Source, read_to_limit};
 use std::alloc::Global;
 use std::marker::Model;
 
@@ -102,5 +104,22 @@ impl Keytab {
         ensures { result.now ≡ self.now }
     {
         self.entries.as_slice()
+    }
+
+    /// Picks the entry for the principal `name`, the encryption type `etype` and the version number
+    /// `kvno`, if one is asked for.
+    ///
+    /// Only usable keys count: of type 19 and 16 bytes, or of type 20 and 32 bytes (RFC 8009). With a
+    /// version number the first such entry of that number is the answer, and without one the first
+    /// of the highest number. Names are compared as by `Principal::same_name`. Nothing is decrypted,
+    /// and no memory is taken.
+    pub fn pick(&self, name: &Principal, etype: i32, kvno: Option<u32>) -> Picked<'_>
+        ensures { IsPicked self.now name.now etype kvno result }
+    {
+        let mut picked = Picked::NoName;
+        for entry in self.entries() {
+            picked = picked.or_entry(entry, name, etype, kvno);
+        }
+        picked
     }
 }

@@ -19,12 +19,15 @@ mod fault;
 mod keytab;
 mod next;
 mod opening;
+mod pick;
 mod record;
+mod usable;
 mod view;
 
 pub use entry::Entry;
 pub use fault::KeytabFault;
 pub use keytab::Keytab;
+pub use pick::Picked;
 
 
 #[cfg(test)]
