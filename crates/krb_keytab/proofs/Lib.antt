@@ -1,0 +1,7 @@
+pub mod ComponentLaws
+pub mod EntryLaws
+pub mod RecordLaws
+pub mod FileLaws
+pub mod OpeningLaws
+pub mod SourceLaws
+pub mod PickLaws

@@ -1,0 +1,144 @@
+-- What is picked where one entry more is there.
+use Rattle.std.proofs.Common.{◌≡◌, ◌⊎◌, ℕ, ◌<◌, ◌≤◌, ℤ, Bool, true, false, Bor, subst, List, [], ◌∷◌, ◌++◌, ◌+◌, length, take, get_or, Option, refl, sym, ap, ◌∙◌, append_assoc, arith, inl, inr}
+use Rattle.std.specs.Prelude.{All, IfSome, IsTrue, ◌↔◌}
+use Rattle.std.proofs.lemmas.List.Elements.{All-push, All-append, All-cons, All-weaker, All-nil, All-same}
+use Rattle.std.proofs.lemmas.List.{take_more, take_all}
+use Rattle.krb_name.specs.declared.principal.Principal.{Principal}
+use Rattle.krb_name.specs.Name.{SameName}
+use Rattle.krb_keytab.specs.Entry.{KeytabEntry}
+use Rattle.krb_keytab.specs.Usable.{IsUsable}
+use Rattle.krb_keytab.specs.Pick.{IsKeyOf, IsCandidate, HasEntry, IsChosen, IsPicked}
+use Rattle.krb_keytab.specs.Inner.Pick.{or_no_key, or_no_version, IsBelow}
+use Rattle.krb_keytab.specs.declared.pick.Picked.{Picked}
+use Rattle.krb_keytab.specs.declared.pick.Picked.TheVariants.{Entry, NoName, NoKey, NoVersion}
+
+has_more : (P : KeytabEntry → Type 0) (entries : List KeytabEntry) (e : KeytabEntry) → HasEntry P entries → HasEntry P (entries ++ e ∷ [])
+has_more P entries e h = record {
+  before = h.before;
+  entry = h.entry;
+  after = h.after ++ e ∷ [];
+  entries_are = ap (λ (t : List KeytabEntry). t ++ e ∷ []) h.entries_are ∙ append_assoc h.before (h.entry ∷ h.after) (e ∷ []);
+  holds = h.holds;
+}
+
+has_last : (P : KeytabEntry → Type 0) (entries : List KeytabEntry) (e : KeytabEntry) → P e → HasEntry P (entries ++ e ∷ [])
+has_last P entries e p = record { before = entries; entry = e; after = []; entries_are = refl; holds = p }
+
+-- an entry that isn't better leaves what was chosen
+chosen_more : (entries : List KeytabEntry) (name : Principal) (etype : ℤ) (kvno : Option ℕ) (best e : KeytabEntry) → IsChosen entries name etype kvno best
+    → (IsCandidate name etype kvno e → e.kvno ≤ best.kvno) → IsChosen (entries ++ e ∷ []) name etype kvno best
+chosen_more entries name etype kvno best e h lower = record {
+  before = h.before;
+  after = h.after ++ e ∷ [];
+  entries_are = ap (λ (t : List KeytabEntry). t ++ e ∷ []) h.entries_are ∙ append_assoc h.before (best ∷ h.after) (e ∷ []);
+  candidate = h.candidate;
+  above = h.above;
+  highest = All-push (λ other. IsCandidate name etype kvno other → other.kvno ≤ best.kvno) h.after e h.highest lower;
+}
+
+-- an entry above all candidates before it is chosen
+chosen_last : (entries : List KeytabEntry) (name : Principal) (etype : ℤ) (kvno : Option ℕ) (e : KeytabEntry) → IsCandidate name etype kvno e
+    → All (λ other. IsCandidate name etype kvno other → other.kvno < e.kvno) entries → IsChosen (entries ++ e ∷ []) name etype kvno e
+chosen_last entries name etype kvno e candidate above = record {
+  before = entries;
+  after = [];
+  entries_are = refl;
+  candidate = candidate;
+  above = above;
+  highest = All-nil (λ other. IsCandidate name etype kvno other → other.kvno ≤ e.kvno);
+}
+
+below_best : (entries : List KeytabEntry) (name : Principal) (etype : ℤ) (kvno : Option ℕ) (best e : KeytabEntry) → IsChosen entries name etype kvno best → best.kvno < e.kvno
+    → All (λ other. IsCandidate name etype kvno other → other.kvno < e.kvno) entries
+below_best entries name etype kvno best e h lt =
+    let P : KeytabEntry → Type 0 = λ other. IsCandidate name etype kvno other → other.kvno < e.kvno in
+    let front : All P h.before = All-weaker (λ other. IsCandidate name etype kvno other → other.kvno < best.kvno) P (λ other below candidate. lt_trans other.kvno best.kvno e.kvno (below candidate) lt) h.before h.above in
+    let back : All P h.after = All-weaker (λ other. IsCandidate name etype kvno other → other.kvno ≤ best.kvno) P (λ other below candidate. le_lt_trans other.kvno best.kvno e.kvno (below candidate) lt) h.after h.highest in
+    All-same P entries (h.before ++ best ∷ h.after) h.entries_are (All-append P h.before (best ∷ h.after) front (All-cons P best h.after (λ candidate. lt) back))
+  where
+    lt_trans : (a b c : ℕ) → a < b → b < c → a < c
+    lt_trans a b c p q = omega arith
+    le_lt_trans : (a b c : ℕ) → a ≤ b → b < c → a < c
+    le_lt_trans a b c p q = omega arith
+
+no_candidate : (P : KeytabEntry → Type 0) (entries : List KeytabEntry) (name : Principal) (etype : ℤ) (kvno : Option ℕ) (e : KeytabEntry) → ((other : KeytabEntry) → IsCandidate name etype kvno other → P other) → All (λ other. ¬ P other) entries
+    → All (λ other. IsCandidate name etype kvno other → other.kvno < e.kvno) entries
+no_candidate P entries name etype kvno e is none = All-weaker (λ other. ¬ P other) (λ other. IsCandidate name etype kvno other → other.kvno < e.kvno) (λ other never candidate. absurd (never (is other candidate))) entries none
+
+no_more : (P Q : KeytabEntry → Type 0) (entries : List KeytabEntry) (e : KeytabEntry) → ((other : KeytabEntry) → Q other → P other) → All (λ other. ¬ P other) entries → ¬ Q e → All (λ other. ¬ Q other) (entries ++ e ∷ [])
+no_more P Q entries e is none never = All-push (λ other. ¬ Q other) entries e (All-weaker (λ other. ¬ P other) (λ other. ¬ Q other) (λ other np q. np (is other q)) entries none) never
+
+named : (name : Principal) (etype : ℤ) (e : KeytabEntry) → IsKeyOf name etype e → SameName e.principal name
+named name etype e h = h.same_name
+
+keyed : (name : Principal) (etype : ℤ) (kvno : Option ℕ) (e : KeytabEntry) → IsCandidate name etype kvno e → IsKeyOf name etype e
+keyed name etype kvno e h = h.key_of
+
+-- ---- the four steps
+
+pub other_name : (entries : List KeytabEntry) (name : Principal) (etype : ℤ) (kvno : Option ℕ) (e : KeytabEntry) (picked : Picked) → ¬ SameName e.principal name → IsPicked entries name etype kvno picked → IsPicked (entries ++ e ∷ []) name etype kvno picked
+other_name entries name etype kvno e (Entry best) never h = chosen_more entries name etype kvno best.now e h (λ candidate. absurd (never candidate.key_of.same_name))
+other_name entries name etype kvno e NoName never h = All-push (λ other. ¬ SameName other.principal name) entries e h never
+other_name entries name etype kvno e NoKey never h = (has_more (λ other. SameName other.principal name) entries e h.0, All-push (λ other. ¬ IsKeyOf name etype other) entries e h.1 (λ key. never key.same_name))
+other_name entries name etype kvno e NoVersion never h = (has_more (IsKeyOf name etype) entries e h.0, All-push (λ other. ¬ IsCandidate name etype kvno other) entries e h.1 (λ candidate. never candidate.key_of.same_name))
+
+pub no_key : (entries : List KeytabEntry) (name : Principal) (etype : ℤ) (kvno : Option ℕ) (e : KeytabEntry) (picked : Picked) → SameName e.principal name → ¬ IsKeyOf name etype e → IsPicked entries name etype kvno picked
+    → IsPicked (entries ++ e ∷ []) name etype kvno (or_no_key picked)
+no_key entries name etype kvno e (Entry best) same never h = chosen_more entries name etype kvno best.now e h (λ candidate. absurd (never candidate.key_of))
+no_key entries name etype kvno e NoName same never h = (has_last (λ other. SameName other.principal name) entries e same, no_more (λ other. SameName other.principal name) (IsKeyOf name etype) entries e (named name etype) h never)
+no_key entries name etype kvno e NoKey same never h = (has_more (λ other. SameName other.principal name) entries e h.0, All-push (λ other. ¬ IsKeyOf name etype other) entries e h.1 never)
+no_key entries name etype kvno e NoVersion same never h = (has_more (IsKeyOf name etype) entries e h.0, All-push (λ other. ¬ IsCandidate name etype kvno other) entries e h.1 (λ candidate. never candidate.key_of))
+
+pub no_version : (entries : List KeytabEntry) (name : Principal) (etype : ℤ) (kvno : Option ℕ) (e : KeytabEntry) (picked : Picked) → IsKeyOf name etype e → ¬ IsCandidate name etype kvno e → IsPicked entries name etype kvno picked
+    → IsPicked (entries ++ e ∷ []) name etype kvno (or_no_version picked)
+no_version entries name etype kvno e (Entry best) key never h = chosen_more entries name etype kvno best.now e h (λ candidate. absurd (never candidate))
+no_version entries name etype kvno e NoName key never h = (has_last (IsKeyOf name etype) entries e key, no_more (λ other. SameName other.principal name) (IsCandidate name etype kvno) entries e (λ other candidate. candidate.key_of.same_name) h never)
+no_version entries name etype kvno e NoKey key never h = (has_last (IsKeyOf name etype) entries e key, no_more (IsKeyOf name etype) (IsCandidate name etype kvno) entries e (keyed name etype kvno) h.1 never)
+no_version entries name etype kvno e NoVersion key never h = (has_more (IsKeyOf name etype) entries e h.0, All-push (λ other. ¬ IsCandidate name etype kvno other) entries e h.1 never)
+
+pub kept : (entries : List KeytabEntry) (name : Principal) (etype : ℤ) (kvno : Option ℕ) (e best : KeytabEntry) → e.kvno ≤ best.kvno → IsChosen entries name etype kvno best → IsChosen (entries ++ e ∷ []) name etype kvno best
+kept entries name etype kvno e best le h = chosen_more entries name etype kvno best e h (λ candidate. le)
+
+pub replaced : (entries : List KeytabEntry) (name : Principal) (etype : ℤ) (kvno : Option ℕ) (e : KeytabEntry) (picked : Picked) → IsCandidate name etype kvno e → IsBelow picked e → IsPicked entries name etype kvno picked → IsChosen (entries ++ e ∷ []) name etype kvno e
+replaced entries name etype kvno e (Entry best) candidate lt h = chosen_last entries name etype kvno e candidate (below_best entries name etype kvno best.now e h lt)
+replaced entries name etype kvno e NoName candidate lt h = chosen_last entries name etype kvno e candidate (no_candidate (λ other. SameName other.principal name) entries name etype kvno e (λ other c. c.key_of.same_name) h)
+replaced entries name etype kvno e NoKey candidate lt h = chosen_last entries name etype kvno e candidate (no_candidate (IsKeyOf name etype) entries name etype kvno e (keyed name etype kvno) h.1)
+replaced entries name etype kvno e NoVersion candidate lt h = chosen_last entries name etype kvno e candidate (no_candidate (IsCandidate name etype kvno) entries name etype kvno e (λ other c. c) h.1)
+
+-- ---- what a test says
+
+pub is_so : (b : Bool) (P : Type 0) → IsTrue b ↔ P → b ≡ true → P
+is_so b P h e = h.0 e
+
+pub is_not : (b : Bool) (P : Type 0) → IsTrue b ↔ P → b ≡ false → ¬ P
+is_not b P h e p = true_is_not_false b (h.1 p) e
+  where
+    true_is_not_false : (b : Bool) → b ≡ true → b ≡ false → ⊥
+    true_is_not_false b p q = cc
+
+pub key_of : (name : Principal) (etype : ℤ) (e : KeytabEntry) → SameName e.principal name → (e.etype ≡ etype) × IsUsable e → IsKeyOf name etype e
+key_of name etype e same h = record { same_name = same; same_etype = h.0; usable = h.1 }
+
+pub not_key_of : (name : Principal) (etype : ℤ) (e : KeytabEntry) → ¬ ((e.etype ≡ etype) × IsUsable e) → ¬ IsKeyOf name etype e
+not_key_of name etype e never key = never (key.same_etype, key.usable)
+
+pub below_at : (picked p : Picked) (e : KeytabEntry) → picked ≡ p → IsBelow p e → IsBelow picked e
+below_at picked p e same h = subst (λ (t : Picked). IsBelow t e) (sym same) h
+
+pub not_entry : (picked : Picked) (e : KeytabEntry) → ((best : Bor KeytabEntry) → picked ≡ Entry best → ⊥) → IsBelow picked e
+not_entry (Entry best) e never = absurd (never best refl)
+not_entry NoName e never = tt
+not_entry NoKey e never = tt
+not_entry NoVersion e never = tt
+
+-- ---- as a loop over the entries does it
+
+pub one_more : (entries : List KeytabEntry) (index : ℕ) (e : KeytabEntry) (name : Principal) (etype : ℤ) (kvno : Option ℕ) (picked : Picked) → index < length entries → e ≡ get_or entries index e
+    → IsPicked (take index entries ++ e ∷ []) name etype kvno picked → IsPicked (take (index + 1) entries) name etype kvno picked
+one_more entries index e name etype kvno picked lt is h =
+    subst (λ (t : List KeytabEntry). IsPicked t name etype kvno picked) (ap (λ (x : KeytabEntry). take index entries ++ x ∷ []) is ∙ sym (take_more entries index e lt)) h
+
+pub all_seen : (entries all : List KeytabEntry) (index : ℕ) (name : Principal) (etype other : ℤ) (kvno : Option ℕ) (picked : Picked) → length entries ≤ index → entries ≡ all → other ≡ etype
+    → IsPicked (take index entries) name other kvno picked → IsPicked all name etype kvno picked
+all_seen entries all index name etype other kvno picked le same e h =
+    subst (λ (z : ℤ). IsPicked all name z kvno picked) e (subst (λ (t : List KeytabEntry). IsPicked t name other kvno picked) (take_all index entries le ∙ same) h)

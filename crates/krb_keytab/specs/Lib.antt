@@ -1,0 +1,6 @@
+pub mod Entry
+pub mod Fault
+pub mod Format
+pub mod Pick
+pub mod Usable
+pub mod Inner

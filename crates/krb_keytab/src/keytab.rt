@@ -1,0 +1,125 @@
+//! A keytab: the list of its entries.
+
+ghost use Rattle.std.specs.Prelude.{◌≡◌, ◌≢◌, ◌⊎◌, ◌≤◌, ◌<◌, ◌^◌, ◌-◌, ◌+◌, ℕ, List, IfOk, IfErr, IfSome, OnOk, Some, Err, Result, length};
+ghost use Rattle.std.specs.Io.KnownBytes.{IsAtEnd};
+ghost use Rattle.krb_keytab.specs.Entry.{KeytabEntry};
+ghost use Rattle.krb_keytab.specs.Fault.{offset_of, failed_reads};
+ghost use Rattle.krb_keytab.specs.Pick.{IsPicked};
+ghost use Rattle.krb_keytab.specs.Format.{IsKeytab, IsFaultOf, IsAnswerOf};
+
+use crate::entry::Entry;
+use crate::fault::KeytabFault;
+use crate::next::next_record;
+use crate::opening::{FILE_LIMIT, open};
+use crate::pick::Picked;
+use crate::record::Record;
+use krb_name::{Principal, Source, read_to_limit};
+use std::alloc::Global;
+use std::marker::Model;
+
+/// A keytab: the entries of a file, in their order. A contract sees it as their list.
+#[derive(Drop)]
+pub struct Keytab {
+    entries: Vec<Entry>,
+}
+
+impl Model for Keytab {
+    ghost Value = { List KeytabEntry };
+
+    ghost view = { λ k. k.entries.items };
+}
+
+impl Keytab {
+    /// Parses the bytes of a file.
+    ///
+    /// Memory is taken as entries are met, and not by a count or a length that the bytes don't bear
+    /// out.
+    ///
+    /// # Errors
+    /// `OutOfMemory` where there was no room for an entry; else the first that holds:
+    /// - `TooLong`: there are more than 16,777,216 bytes.
+    /// - `Version`: they don't begin with 0x05 0x02.
+    /// - `Truncated` or `BadEntry`, with the offset of the first record of which the bytes have too
+    ///   few, or that no entry fits into.
+    ///
+    /// Source: MIT krb5, "Keytab file format".
+    pub fn parse(alloc: Global, bytes: &[u8]) -> Result<Keytab, KeytabFault>
+        ensures found { IfOk result (λ keytab. IsKeytab bytes.now keytab) }
+        ensures fault { IfErr result (λ fault.
+            fault ≢ KeytabFault.OutOfMemory → IsFaultOf bytes.now fault) }
+
+        // Where the bytes are a keytab, and where they have a fault, that is the answer.
+        ensures only { (answer : Result (List KeytabEntry) KeytabFault) → IsAnswerOf bytes.now answer
+            → (result ≡ answer) ⊎ (result ≡ Err KeytabFault.OutOfMemory) }
+        ensures offset { IfErr result (λ fault.
+            IfSome (offset_of fault) (λ at. at ≤ length bytes.now)) }
+    {
+        Keytab::of_records(alloc, bytes)
+    }
+
+    /// Reads a source to its end, or to one byte past the limit of a file, and parses what it gave.
+    ///
+    /// # Errors
+    /// - `Read`: a read of the source failed. Its count of failures grew, as it does for no other
+    ///   answer.
+    /// - Those of `parse`, for all the bytes that were still to come of the source.
+    pub fn read<S: Source>(alloc: Global, source: &mut S) -> Result<Keytab, KeytabFault>
+        requires { S.failure_count source.old < 2 ^ 64 - 1 }
+        ensures found { IfOk result (λ keytab.
+            IfSome (S.remaining source.old) (λ bytes. IsKeytab bytes keytab)) }
+        ensures end { OnOk result (IsAtEnd (S.remaining source.new)) }
+        ensures fault { IfErr result (λ fault.
+            fault ≢ KeytabFault.OutOfMemory → fault ≢ KeytabFault.Read
+            → IfSome (S.remaining source.old) (λ bytes. IsFaultOf bytes fault)) }
+
+        // Where the bytes to come are a keytab, and where they have a fault, that is the answer.
+        ensures only { (bytes : List ℕ) (answer : Result (List KeytabEntry) KeytabFault)
+            → S.remaining source.old ≡ Some bytes → IsAnswerOf bytes answer
+            → (result ≡ answer) ⊎ ((result ≡ Err KeytabFault.OutOfMemory) ⊎ (result ≡ Err KeytabFault.Read)) }
+        ensures failed { S.failure_count source.new
+            ≡ S.failure_count source.old + failed_reads result }
+    {
+        let bytes = read_to_limit(alloc, source, FILE_LIMIT)?;
+        Keytab::parse(alloc, &bytes)
+    }
+
+    fn of_records(alloc: Global, bytes: &[u8]) -> Result<Keytab, KeytabFault>
+        ensures found { IfOk result (λ keytab. IsKeytab bytes.now keytab) }
+        ensures fault { IfErr result (λ fault.
+            fault ≢ KeytabFault.OutOfMemory → IsFaultOf bytes.now fault) }
+    {
+        let mut cursor = open(bytes)?;
+        let mut entries = Vec::new(alloc);
+        loop {
+            match next_record(&mut cursor)? {
+                Record::End => return Ok(Keytab { entries }),
+                Record::Hole => {}
+                Record::Entry(entry) => entries.push(entry.to_entry(alloc)?)?,
+            }
+        }
+    }
+
+    /// Lends the entries, in the order of the file.
+    pub fn entries(&self) -> &[Entry]
+        ensures { result.now ≡ self.now }
+    {
+        self.entries.as_slice()
+    }
+
+    /// Picks the entry for the principal `name`, the encryption type `etype` and the version number
+    /// `kvno`, if one is asked for.
+    ///
+    /// Only usable keys count: of type 19 and 16 bytes, or of type 20 and 32 bytes (RFC 8009). With a
+    /// version number the first such entry of that number is the answer, and without one the first
+    /// of the highest number. Names are compared as by `Principal::same_name`. Nothing is decrypted,
+    /// and no memory is taken.
+    pub fn pick(&self, name: &Principal, etype: i32, kvno: Option<u32>) -> Picked<'_>
+        ensures { IsPicked self.now name.now etype kvno result }
+    {
+        let mut picked = Picked::NoName;
+        for entry in self.entries() {
+            picked = picked.or_entry(entry, name, etype, kvno);
+        }
+        picked
+    }
+}

@@ -1,0 +1,70 @@
+//! The choice of an entry for a principal.
+
+ghost use Rattle.std.specs.Prelude.{◌≡◌, ◌∷◌, ◌++◌, [], List};
+ghost use Rattle.krb_keytab.specs.Entry.{KeytabEntry};
+
+use crate::entry::Entry;
+use crate::usable::{has_version, is_key};
+use krb_name::Principal;
+
+/// What there is in a keytab for a principal, an encryption type and a version number.
+#[derive(Clone, Copy)]
+pub enum Picked<'a> {
+    /// This entry.
+    Entry(&'a Entry),
+    /// No entry has the name.
+    NoName,
+    /// No entry of that name has the encryption type and a key that is usable with it.
+    NoKey,
+    /// None of these entries has the version number that was asked for.
+    NoVersion,
+}
+
+impl<'a> Picked<'a> {
+    ghost use Rattle.krb_keytab.specs.Pick.{IsPicked};
+    ghost use Rattle.krb_keytab.specs.Inner.Pick.{or_no_key, or_no_version};
+
+    // What is picked where one entry more is there.
+    pub(crate) fn or_entry(
+        self,
+        entry: &'a Entry,
+        name: &Principal,
+        etype: i32,
+        kvno: Option<u32>,
+    ) -> Picked<'a>
+        ensures { (entries : List KeytabEntry) → IsPicked entries name.now etype kvno self.entry
+            → IsPicked (entries ++ entry.now ∷ []) name.now etype kvno result }
+    {
+        if !entry.principal().same_name(name) {
+            return self;
+        }
+        if !is_key(entry, etype) {
+            return self.or_no_key();
+        }
+        if !has_version(entry, kvno) {
+            return self.or_no_version();
+        }
+        match self {
+            Picked::Entry(best) if best.kvno() >= entry.kvno() => self,
+            _ => Picked::Entry(entry),
+        }
+    }
+
+    fn or_no_key(self) -> Picked<'a>
+        ensures { result ≡ or_no_key self.entry }
+    {
+        match self {
+            Picked::NoName => Picked::NoKey,
+            _ => self,
+        }
+    }
+
+    fn or_no_version(self) -> Picked<'a>
+        ensures { result ≡ or_no_version self.entry }
+    {
+        match self {
+            Picked::NoName | Picked::NoKey => Picked::NoVersion,
+            _ => self,
+        }
+    }
+}
