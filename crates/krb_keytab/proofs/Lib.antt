@@ -1,0 +1,5 @@
+pub mod ComponentLaws
+pub mod EntryLaws
+pub mod RecordLaws
+pub mod FileLaws
+pub mod OpeningLaws

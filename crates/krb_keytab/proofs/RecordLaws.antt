@@ -1,0 +1,213 @@
+-- What is read at a place stands there.
+use Rattle.std.proofs.Common.{◌≡◌, ℕ, zero, suc, ℤ, pos, negsuc, ◌+◌, ◌<◌, ◌≤◌, ◌^◌, Bool, true, false, cond, leb, eqb, List, [], ◌∷◌, ◌++◌, length, take, drop, Option, Some, None, Result, Ok, Err, refl, sym, ap, subst, ◌∙◌, append_assoc, arith, inl, inr, neg_ℤ, nat_abs}
+use Rattle.std.specs.Int.{w8, w16, w32, from_be_bytes, cast_signed}
+use Rattle.std.specs.Prelude.{FitsSigned}
+use Rattle.std.specs.List.{flat_map}
+use Rattle.std.proofs.lemmas.Bool.{eqb-true, eqb-false, leb-false, ne_eqb, lt-leb}
+use Rattle.std.proofs.lemmas.List.{nil_from_length, length-append, take_at, drop_at}
+use Rattle.krb_name.specs.Cursor.{Place, ◌>>=◌, bytes_at, number_at, signed_at, number_bytes, signed_bytes, data_bytes}
+use Rattle.krb_name.specs.Field.{IsBytes, Takes, IsField}
+use Rattle.krb_name.proofs.CursorLaws.{IsBytes-take, IsBytes-drop, Takes-then, IsField-bytes, IsField-i32}
+use Rattle.krb_keytab.specs.Entry.{KeytabEntry}
+use Rattle.krb_keytab.specs.Format.{entry_bytes, IsEntry, KeytabRecord, hole, entry, record_bytes, FitsRecord, entries_of, IsEnd, IsCutOff, EndsEarly, HoldsNoEntry}
+use Rattle.krb_keytab.specs.declared.fault.KeytabFault.{KeytabFault}
+use Rattle.krb_keytab.specs.declared.fault.KeytabFault.TheVariants.{Truncated, BadEntry}
+use Rattle.krb_keytab.specs.declared.record.Record.{Record}
+use Rattle.krb_keytab.specs.declared.record.Record.TheVariants.{End, Hole, Entry}
+use Rattle.krb_keytab.specs.Inner.Entry.{entry_at}
+use Rattle.krb_keytab.specs.Inner.Reading.{record_at, size_in, sized_at, hole_in, body_in, entry_in}
+use Rattle.krb_keytab.specs.Inner.Standing.{IsBetween, Stands}
+use Rattle.krb_keytab.proofs.EntryLaws.{HoldsEntry, take_entry, again_entry}
+
+-- ---- what is read at a place stands there
+
+none_bytes : {A : Type 0} (b : Bool) (x : A) → cond b (Some x) None ≡ None → b ≡ false
+none_bytes true x e = absurd cc
+none_bytes false x e = refl
+
+none_then : {A B : Type 0} (read : Option A) (f : A → B) → (read >>= λ x. Some (f x)) ≡ None → read ≡ None
+none_then None f e = refl
+none_then (Some x) f e = absurd cc
+
+short_bytes : (count : ℕ) (place : Place) → bytes_at count place ≡ None → length place.rest < count
+unfolding bytes_at
+short_bytes count place e = let f = none_bytes (leb count (length place.rest)) (take count place.rest, record { at = place.at + count; rest = drop count place.rest }) e in leb-false _ _ f
+
+short_size : (place : Place) → signed_at w32 place ≡ None → length place.rest < 4
+unfolding signed_at number_at
+short_size place e =
+    let f : number_at w32 place ≡ None = none_then (number_at w32 place) (λ read. (cast_signed w32 read.0, read.1)) e in
+    let g : bytes_at 4 place ≡ None = none_then (bytes_at 4 place) (λ read. (from_be_bytes w32 read.0, read.1)) f in
+    short_bytes 4 place g
+
+-- a record's size, and its bytes
+record Sized (place : Place) (size : ℤ) (behind : Place) : Type 0 where
+  takes : Takes place (signed_bytes w32 size) behind
+  fits : FitsSigned w32 size
+
+hole_stands : (place after : Place) (n : ℕ) → Sized place (negsuc n) after → (read : Option (List ℕ × Place)) → bytes_at (suc n) after ≡ read → Stands place (hole_in place.at read)
+hole_stands place after n sized None e = (refl, inr (record { size = negsuc n; body = after.rest; behind_is = sized.takes.parts; size_fits = sized.fits; short = short_bytes (suc n) after e }))
+hole_stands place after n sized (Some (body, behind)) e =
+    let t = (IsField-bytes (suc n)).takes after body behind sized.takes.rest_fits e in
+    let small : n < 2 ^ 31 = sized.fits.sfits in
+    let size : signed_bytes w32 (neg_ℤ (pos (length body))) ≡ signed_bytes w32 (negsuc n) = ap (λ (k : ℕ). signed_bytes w32 (neg_ℤ (pos k))) t.1 in
+    record {
+      one = hole body;
+      fits = (omega (arith, t.1), omega (arith, t.1));
+      takes = subst (λ (text : List ℕ). Takes place (text ++ body) behind) (sym size) (Takes-then place (signed_bytes w32 (negsuc n)) after body behind sized.takes t.0);
+      entries_are = refl;
+    }
+
+entry_stands : (place after behind : Place) (body : List ℕ) → Sized place (pos (length body)) after → 0 < length body → Takes after body behind → (read : Option KeytabEntry) → entry_at body ≡ read
+    → Stands place (entry_in place.at behind read)
+entry_stands place after behind body sized filled takes None e =
+    (refl, record {
+      body = body;
+      others = behind.rest;
+      behind_is = sized.takes.parts ∙ ap (λ (text : List ℕ). signed_bytes w32 (pos (length body)) ++ text) takes.parts;
+      size = filled;
+      size_fits = sized.fits.sfits;
+      no_entry = λ made short_kvno rest is_entry same. none_and_some (entry_at body) made e (ap entry_at same ∙ again_entry made short_kvno rest is_entry);
+    })
+  where
+    none_and_some : (read : Option KeytabEntry) (made : KeytabEntry) → read ≡ None → read ≡ Some made → ⊥
+    none_and_some read made p q = cc
+entry_stands place after behind body sized filled takes (Some made) e =
+    let held = take_entry body made takes.text_fits e in
+    let whole = Takes-then place (signed_bytes w32 (pos (length body))) after body behind sized.takes takes in
+    record {
+      one = entry made held.short_kvno held.rest;
+      fits = (held.is_entry, subst (λ (text : List ℕ). length text < 2 ^ 31) held.body_is sized.fits.sfits);
+      takes = subst (λ (text : List ℕ). Takes place (signed_bytes w32 (pos (length text)) ++ text) behind) held.body_is whole;
+      entries_are = refl;
+    }
+
+body_stands : (place after : Place) (n : ℕ) → Sized place (pos (suc n)) after → (read : Option (List ℕ × Place)) → bytes_at (suc n) after ≡ read → Stands place (body_in place.at read)
+body_stands place after n sized None e = (refl, inr (record { size = pos (suc n); body = after.rest; behind_is = sized.takes.parts; size_fits = sized.fits; short = short_bytes (suc n) after e }))
+body_stands place after n sized (Some (body, behind)) e =
+    let t = (IsField-bytes (suc n)).takes after body behind sized.takes.rest_fits e in
+    entry_stands place after behind body (subst (λ (k : ℕ). Sized place (pos k) after) (sym t.1) sized) (omega (arith, t.1)) t.0 (entry_at body) refl
+
+sized_stands : (place : Place) (size : ℤ) (after : Place) → Sized place size after → Stands place (sized_at place.at size after)
+sized_stands place (pos zero) after sized = inr (after.rest, sized.takes.parts)
+sized_stands place (pos (suc n)) after sized = body_stands place after n sized (bytes_at (suc n) after) refl
+sized_stands place (negsuc n) after sized = hole_stands place after n sized (bytes_at (suc n) after) refl
+
+size_stands : (place : Place) (read : Option (ℤ × Place)) → signed_at w32 place ≡ read → 0 < length place.rest → IsBytes place.rest → Stands place (size_in place.at read)
+size_stands place None e some fits = (refl, inl (some, short_size place e))
+size_stands place (Some (size, after)) e some fits =
+    let t = IsField-i32.takes place size after fits e in
+    sized_stands place size after (record { takes = t.0; fits = t.1 })
+
+first_stands : (place : Place) (b : Bool) → eqb (length place.rest) 0 ≡ b → IsBytes place.rest → Stands place (cond b (Ok (End, place)) (size_in place.at (signed_at w32 place)))
+first_stands place true e fits = inl (nil_from_length place.rest (eqb-true _ _ e))
+first_stands place false e fits = let some : 0 < length place.rest = omega (arith, eqb-false _ _ e) in size_stands place (signed_at w32 place) refl some fits
+
+pub take_record : (place : Place) → IsBytes place.rest → Stands place (record_at place)
+unfolding record_at
+take_record place fits = first_stands place (eqb (length place.rest) 0) refl fits
+
+-- ---- what stands at a place is read
+
+-- what is read of a record, and the place behind it
+abbrev pub standing : KeytabRecord → Place → Result (Record × Place) KeytabFault
+standing (hole ignored) behind = Ok (Hole, behind)
+standing (entry e short_kvno rest) behind = Ok (Entry e, behind)
+
+not_empty : (place : Place) → 0 < length place.rest → record_at place ≡ size_in place.at (signed_at w32 place)
+unfolding record_at
+not_empty place some = rw (ne_eqb (length place.rest) 0 (λ e. omega (arith, e))) refl
+
+sized_again : (at : ℕ) (size : ℤ) (rest : List ℕ) → FitsSigned w32 size → record_at (record { at = at; rest = signed_bytes w32 size ++ rest }) ≡ sized_at at size (record { at = at + 4; rest = rest })
+sized_again at size rest fits =
+    not_empty (record { at = at; rest = signed_bytes w32 size ++ rest }) (omega (arith, length-append (signed_bytes w32 size) rest)) ∙ ap (size_in at) (IsField-i32.again at size rest fits)
+
+hole_again : (at : ℕ) (ignored rest : List ℕ) → 0 < length ignored → length ignored ≤ 2 ^ 31
+    → record_at (record { at = at; rest = record_bytes (hole ignored) ++ rest }) ≡ Ok (Hole, record { at = at + length (record_bytes (hole ignored)); rest = rest })
+hole_again at [] rest some fits = absurd (omega arith)
+hole_again at (x ∷ xs) rest some fits =
+    let size : ℤ = negsuc (length xs) in
+    let grouped : record_bytes (hole (x ∷ xs)) ++ rest ≡ signed_bytes w32 size ++ ((x ∷ xs) ++ rest) = append_assoc (signed_bytes w32 size) (x ∷ xs) rest in
+    let small : length xs < 2 ^ 31 = omega arith in
+    let place : (at + 4) + length (x ∷ xs) ≡ at + length (record_bytes (hole (x ∷ xs))) = omega (arith, length-append (signed_bytes w32 size) (x ∷ xs)) in
+    ap (λ (text : List ℕ). record_at (record { at = at; rest = text })) grouped
+    ∙ sized_again at size ((x ∷ xs) ++ rest) (record { sfits = small })
+    ∙ ap (hole_in at) ((IsField-bytes (length (x ∷ xs))).again (at + 4) (x ∷ xs) rest refl)
+    ∙ ap (λ (n : ℕ). Ok (Hole, record { at = n; rest = rest })) place
+
+body_again : (at : ℕ) (body rest : List ℕ) → 0 < length body → length body < 2 ^ 31
+    → record_at (record { at = at; rest = signed_bytes w32 (pos (length body)) ++ (body ++ rest) }) ≡ entry_in at (record { at = (at + 4) + length body; rest = rest }) (entry_at body)
+body_again at [] rest some fits = absurd (omega arith)
+body_again at (x ∷ xs) rest some fits =
+    sized_again at (pos (length (x ∷ xs))) ((x ∷ xs) ++ rest) (record { sfits = fits }) ∙ ap (body_in at) ((IsField-bytes (length (x ∷ xs))).again (at + 4) (x ∷ xs) rest refl)
+
+number_first : (number : ℕ) (text : List ℕ) → 0 < length (number_bytes w16 number ++ text)
+number_first number text = omega (arith, length-append (number_bytes w16 number) text)
+
+entry_size : (e : KeytabEntry) (short_kvno : ℕ) (rest : List ℕ) → 0 < length (entry_bytes e short_kvno rest)
+entry_size e short_kvno rest =
+    let name = e.principal in
+    number_first (length name.components) (data_bytes w16 name.realm ++ (flat_map (data_bytes w16) name.components ++ (signed_bytes w32 name.name_type ++ (number_bytes w32 e.timestamp ++ (number_bytes w8 short_kvno ++ (signed_bytes w16 e.etype ++ (data_bytes w16 e.key ++ rest)))))))
+
+entry_again : (at : ℕ) (e : KeytabEntry) (short_kvno : ℕ) (rest behind : List ℕ) → IsEntry e short_kvno rest → length (entry_bytes e short_kvno rest) < 2 ^ 31
+    → record_at (record { at = at; rest = record_bytes (entry e short_kvno rest) ++ behind }) ≡ Ok (Entry e, record { at = at + length (record_bytes (entry e short_kvno rest)); rest = behind })
+entry_again at e short_kvno rest behind is_entry fits =
+    let body : List ℕ = entry_bytes e short_kvno rest in
+    let size : List ℕ = signed_bytes w32 (pos (length body)) in
+    let place : (at + 4) + length body ≡ at + length (size ++ body) = omega (arith, length-append size body) in
+    ap (λ (text : List ℕ). record_at (record { at = at; rest = text })) (append_assoc size body behind)
+    ∙ body_again at body behind (entry_size e short_kvno rest) fits
+    ∙ ap (entry_in at (record { at = (at + 4) + length body; rest = behind })) (again_entry e short_kvno rest is_entry)
+    ∙ ap (λ (n : ℕ). Ok (Entry e, record { at = n; rest = behind })) place
+
+pub again_record : (at : ℕ) (one : KeytabRecord) (rest : List ℕ) → FitsRecord one → record_at (record { at = at; rest = record_bytes one ++ rest }) ≡ standing one (record { at = at + length (record_bytes one); rest = rest })
+again_record at (hole ignored) rest fits = hole_again at ignored rest fits.0 fits.1
+again_record at (entry e short_kvno tail) rest fits = entry_again at e short_kvno tail rest fits.0 fits.1
+
+-- the end is read
+pub again_end : (at : ℕ) (behind : List ℕ) → IsEnd behind → (after : Place) × (record_at (record { at = at; rest = behind }) ≡ Ok (End, after))
+unfolding record_at
+again_end at behind end =
+    elim end [
+      | inl nothing ↦ (record { at = at; rest = [] }, ap (λ (text : List ℕ). record_at (record { at = at; rest = text })) nothing)
+      | inr zeros ↦ (record { at = at + 4; rest = zeros.0 }, ap (λ (text : List ℕ). record_at (record { at = at; rest = text })) zeros.1 ∙ sized_again at (pos 0) zeros.0 (record { sfits = omega arith }))
+    ]
+
+-- ---- a fault is read
+
+long_size : (place : Place) → length place.rest < 4 → signed_at w32 place ≡ None
+unfolding signed_at number_at bytes_at
+long_size place short = rw (lt-leb 4 (length place.rest) short) refl
+
+too_short : (count : ℕ) (place : Place) → length place.rest < count → bytes_at count place ≡ None
+unfolding bytes_at
+too_short count place short = rw (lt-leb count (length place.rest) short) refl
+
+sized_short : (at : ℕ) (size : ℤ) (place : Place) → length place.rest < nat_abs size → sized_at at size place ≡ Err (Truncated at)
+sized_short at (pos zero) place short = absurd (omega arith)
+sized_short at (pos (suc n)) place short = ap (body_in at) (too_short (suc n) place short)
+sized_short at (negsuc n) place short = ap (hole_in at) (too_short (suc n) place short)
+
+pub again_cut : (at : ℕ) (behind : List ℕ) → IsCutOff behind → record_at (record { at = at; rest = behind }) ≡ Err (Truncated at)
+again_cut at behind cut =
+    elim cut [
+      | inl few ↦ not_empty (record { at = at; rest = behind }) few.0 ∙ ap (size_in at) (long_size (record { at = at; rest = behind }) few.1)
+      | inr ends ↦ ap (λ (text : List ℕ). record_at (record { at = at; rest = text })) ends.behind_is ∙ sized_again at ends.size ends.body ends.size_fits ∙ sized_short at ends.size (record { at = at + 4; rest = ends.body }) ends.short
+    ]
+
+middle_fits : (front body others : List ℕ) → IsBytes (front ++ (body ++ others)) → IsBytes body
+middle_fits front body others fits =
+    let there : IsBytes (body ++ others) = subst IsBytes (drop_at front (body ++ others) (length front) refl) (IsBytes-drop (length front) (front ++ (body ++ others)) fits) in
+    subst IsBytes (take_at body others (length body) refl) (IsBytes-take (length body) (body ++ others) there)
+
+no_entry_read : (body : List ℕ) (read : Option KeytabEntry) → entry_at body ≡ read → IsBytes body → ((e : KeytabEntry) (short_kvno : ℕ) (rest : List ℕ) → IsEntry e short_kvno rest → body ≡ entry_bytes e short_kvno rest → ⊥)
+    → (at : ℕ) (behind : Place) → entry_in at behind (entry_at body) ≡ Err (BadEntry at)
+no_entry_read body None e fits none at behind = ap (entry_in at behind) e
+no_entry_read body (Some made) e fits none at behind = let held = take_entry body made fits e in absurd (none made held.short_kvno held.rest held.is_entry held.body_is)
+
+pub again_bad : (at : ℕ) (behind : List ℕ) → IsBytes behind → HoldsNoEntry behind → record_at (record { at = at; rest = behind }) ≡ Err (BadEntry at)
+again_bad at behind fits bad =
+    let body_fits : IsBytes bad.body = middle_fits (signed_bytes w32 (pos (length bad.body))) bad.body bad.others (subst IsBytes bad.behind_is fits) in
+    ap (λ (text : List ℕ). record_at (record { at = at; rest = text })) bad.behind_is
+    ∙ body_again at bad.body bad.others bad.size bad.size_fits
+    ∙ no_entry_read bad.body (entry_at bad.body) refl body_fits bad.no_entry at (record { at = (at + 4) + length bad.body; rest = bad.others })

@@ -1,0 +1,49 @@
+use Rattle.std.proofs.Common.{◌≡◌, ◌<◌, ◌≤◌, arith}
+use Rattle.std.proofs.lemmas.Result.{err_from_is_err_and}
+use Rattle.krb_keytab.proofs.FileLaws.{starts_at, start_fits, hole_goes, entry_goes, keytab_found, fault_found}
+use Rattle.krb_keytab.proofs.keytab.Keytab.of_records.Goals as goal
+
+pub loop-entries-init : goal.loop-entries-init
+loop-entries-init c = record {
+  limit = c.in_ok-cursor.ensures.limit;
+  reached = starts_at c.args.bytes.now c.in_ok-cursor.cursor c.new-entries.result.items c.in_ok-cursor.ensures.at c.in_ok-cursor.ensures.rest c.new-entries.ensures.items;
+  fits = start_fits c.args.bytes.now c.in_ok-cursor.cursor.rest (λ i. omega (arith, c.type_inv.bytes i)) c.in_ok-cursor.ensures.rest;
+}
+
+pub returns-in_err-next_record-clause-fault : goal.returns-in_err-next_record-clause-fault
+returns-in_err-next_record-clause-fault c =
+    let now = c.loop-entries.invariant in
+    let p = err_from_is_err_and c.from_residual-in_err-next_record.result c.from_residual-in_err-next_record.ensures.1 in
+    rw (p.1, p.2) (λ other. fault_found c.args.bytes.now c.loop-entries.cursor c.loop-entries.entries.items c.in_err-next_record.field-0.0 now.limit now.reached now.fits c.in_err-next_record.ensures)
+
+pub returns-in-End-clause-found : goal.returns-in-End-clause-found
+returns-in-End-clause-found c =
+    let now = c.loop-entries.invariant in
+    let read = rw c.in-End.is at c.in_ok-next_record.ensures in
+    keytab_found c.args.bytes.now c.loop-entries.cursor _ c.loop-entries.entries.items now.limit now.reached now.fits read
+
+pub loop-entries-smaller-in-Hole : goal.loop-entries-smaller-in-Hole
+loop-entries-smaller-in-Hole c =
+    let now = c.loop-entries.invariant in
+    let read = rw c.in-Hole.is at c.in_ok-next_record.ensures in
+    (hole_goes c.args.bytes.now c.loop-entries.cursor _ c.loop-entries.entries.items now.reached now.fits read).smaller
+
+pub loop-entries-preserved-in-Hole : goal.loop-entries-preserved-in-Hole
+loop-entries-preserved-in-Hole c =
+    let now = c.loop-entries.invariant in
+    let read = rw c.in-Hole.is at c.in_ok-next_record.ensures in
+    let goes = hole_goes c.args.bytes.now c.loop-entries.cursor _ c.loop-entries.entries.items now.reached now.fits read in
+    record { limit = now.limit; reached = goes.reached; fits = goes.fits }
+
+pub loop-entries-smaller : goal.loop-entries-smaller
+loop-entries-smaller c =
+    let now = c.loop-entries.invariant in
+    let read = rw c.in-Entry.is at c.in_ok-next_record.ensures in
+    (entry_goes c.args.bytes.now c.loop-entries.cursor _ c.loop-entries.entries.items c.in-Entry.entry now.reached now.fits read).smaller
+
+pub loop-entries-preserved : goal.loop-entries-preserved
+loop-entries-preserved c =
+    let now = c.loop-entries.invariant in
+    let read = rw c.in-Entry.is at c.in_ok-next_record.ensures in
+    let goes = entry_goes c.args.bytes.now c.loop-entries.cursor _ c.loop-entries.entries.items c.in-Entry.entry now.reached now.fits read in
+    record { limit = now.limit; reached = rw (c.in_ok-push-in-Entry.ensures.items, c.in_ok-to_entry-in-Entry.ensures) goes.reached; fits = goes.fits }

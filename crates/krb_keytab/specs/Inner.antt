@@ -1,0 +1,4 @@
+pub mod Components
+pub mod Entry
+pub mod Reading
+pub mod Standing

@@ -1,0 +1,4 @@
+pub mod Entry
+pub mod Fault
+pub mod Format
+pub mod Inner

@@ -1,0 +1,141 @@
+//! An entry of a keytab.
+
+ghost use Rattle.std.specs.Prelude.{◌≡◌, ◌↔◌, ◌<◌, ◌^◌, length, All, IsTrue, SomeIff};
+ghost use Rattle.krb_keytab.specs.Entry.{KeytabEntry, LengthsFit, FitsEntry};
+
+use krb_name::{Bytes, Principal};
+use std::marker::Model;
+
+/// An entry of a keytab: one key of a principal. A contract sees it as the record of its parts.
+///
+/// It has at most 65,535 components, and each text and the key at most 65,535 bytes, so that a
+/// keytab has room for it.
+#[derive(Drop)]
+pub struct Entry {
+    principal: Principal,
+    timestamp: u32,
+    kvno: u32,
+    etype: i16,
+    key: Vec<u8>,
+}
+
+impl Model for Entry {
+    ghost Value = { KeytabEntry };
+
+    ghost view = { λ e. record {
+        principal = e.principal;
+        timestamp = e.timestamp;
+        kvno = e.kvno;
+        etype = e.etype;
+        key = e.key.items;
+    } };
+
+    ghost invariant = { λ e. LengthsFit e.principal e.key.items };
+}
+
+// The greatest count, and the greatest length in bytes, of a field of 16 bits.
+const MOST: usize = 65_535;
+
+impl Entry {
+    /// Makes an entry of its parts: whose key it is, when it was written (seconds since 1970-01-01),
+    /// the key's version number, its encryption type and its bytes.
+    ///
+    /// Answers `None` where `principal` has more than 65,535 components, or a component, the realm
+    /// or the key more than 65,535 bytes.
+    pub fn new(
+        principal: Principal,
+        timestamp: u32,
+        kvno: u32,
+        etype: i16,
+        key: Vec<u8>,
+    ) -> Option<Entry>
+        ensures { SomeIff result (LengthsFit principal key.items) (record {
+            principal = principal;
+            timestamp = timestamp;
+            kvno = kvno;
+            etype = etype;
+            key = key.items;
+        }) }
+    {
+        if !lengths_fit(&principal, &key) {
+            return None;
+        }
+        Some(Entry::from_parts(principal, timestamp, kvno, etype, key))
+    }
+
+    // Makes an entry of parts whose lengths fit.
+    pub(crate) fn from_parts(
+        principal: Principal,
+        timestamp: u32,
+        kvno: u32,
+        etype: i16,
+        key: Vec<u8>,
+    ) -> Entry
+        requires { LengthsFit principal key.items }
+        ensures { result ≡ record {
+            principal = principal;
+            timestamp = timestamp;
+            kvno = kvno;
+            etype = etype;
+            key = key.items;
+        } }
+    {
+        Entry {
+            principal,
+            timestamp,
+            kvno,
+            etype,
+            key,
+        }
+    }
+
+    /// Lends the principal whose key it is.
+    pub fn principal(&self) -> &Principal
+        ensures { result.now ≡ self.now.principal }
+    {
+        &self.principal
+    }
+
+    /// Answers when the entry was written, in seconds since 1970-01-01.
+    pub fn timestamp(&self) -> u32
+        ensures { result ≡ self.now.timestamp }
+    {
+        self.timestamp
+    }
+
+    /// Answers the key's version number.
+    pub fn kvno(&self) -> u32
+        ensures { result ≡ self.now.kvno }
+    {
+        self.kvno
+    }
+
+    /// Answers the key's encryption type (RFC 3961, section 8; 19 and 20 are those of RFC 8009).
+    pub fn etype(&self) -> i16
+        ensures { result ≡ self.now.etype }
+    {
+        self.etype
+    }
+
+    /// Lends the bytes of the key.
+    pub fn key(&self) -> &[u8]
+        ensures { result.now ≡ self.now.key }
+    {
+        self.key.as_slice()
+    }
+}
+
+fn lengths_fit(principal: &Principal, key: &[u8]) -> bool
+    ensures { IsTrue result ↔ LengthsFit principal.now key.now }
+{
+    principal.components.len() <= MOST
+        && principal.realm.len() <= MOST
+        && key.len() <= MOST
+        && components_fit(principal.components.as_slice())
+}
+
+fn components_fit(components: &[Bytes]) -> bool
+    ensures { IsTrue result ↔ All (λ component. length component < 2 ^ 16) components.now }
+{
+    components.iter().all(|component| component.len() <= MOST)
+}

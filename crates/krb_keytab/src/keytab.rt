@@ -1,0 +1,78 @@
+//! A keytab: the list of its entries.
+
+ghost use Rattle.std.specs.Prelude.{◌≡◌, ◌≢◌, ◌⊎◌, ◌≤◌, List, IfOk, IfErr, IfSome, Err, Result, length};
+ghost use Rattle.krb_keytab.specs.Entry.{KeytabEntry};
+ghost use Rattle.krb_keytab.specs.Fault.{offset_of};
+ghost use Rattle.krb_keytab.specs.Format.{IsKeytab, IsFaultOf, IsAnswerOf};
+
+use crate::entry::Entry;
+use crate::fault::KeytabFault;
+use crate::next::next_record;
+use crate::opening::open;
+use crate::record::Record;
+use std::alloc::Global;
+use std::marker::Model;
+
+/// A keytab: the entries of a file, in their order. A contract sees it as their list.
+#[derive(Drop)]
+pub struct Keytab {
+    entries: Vec<Entry>,
+}
+
+impl Model for Keytab {
+    ghost Value = { List KeytabEntry };
+
+    ghost view = { λ k. k.entries.items };
+}
+
+impl Keytab {
+    /// Parses the bytes of a file.
+    ///
+    /// Memory is taken as entries are met, and not by a count or a length that the bytes don't bear
+    /// out.
+    ///
+    /// # Errors
+    /// `OutOfMemory` where there was no room for an entry; else the first that holds:
+    /// - `TooLong`: there are more than 16,777,216 bytes.
+    /// - `Version`: they don't begin with 0x05 0x02.
+    /// - `Truncated` or `BadEntry`, with the offset of the first record of which the bytes have too
+    ///   few, or that no entry fits into.
+    ///
+    /// Source: MIT krb5, "Keytab file format".
+    pub fn parse(alloc: Global, bytes: &[u8]) -> Result<Keytab, KeytabFault>
+        ensures found { IfOk result (λ keytab. IsKeytab bytes.now keytab) }
+        ensures fault { IfErr result (λ fault.
+            fault ≢ KeytabFault.OutOfMemory → IsFaultOf bytes.now fault) }
+
+        // Where the bytes are a keytab, and where they have a fault, that is the answer.
+        ensures only { (answer : Result (List KeytabEntry) KeytabFault) → IsAnswerOf bytes.now answer
+            → (result ≡ answer) ⊎ (result ≡ Err KeytabFault.OutOfMemory) }
+        ensures offset { IfErr result (λ fault.
+            IfSome (offset_of fault) (λ at. at ≤ length bytes.now)) }
+    {
+        Keytab::of_records(alloc, bytes)
+    }
+
+    fn of_records(alloc: Global, bytes: &[u8]) -> Result<Keytab, KeytabFault>
+        ensures found { IfOk result (λ keytab. IsKeytab bytes.now keytab) }
+        ensures fault { IfErr result (λ fault.
+            fault ≢ KeytabFault.OutOfMemory → IsFaultOf bytes.now fault) }
+    {
+        let mut cursor = open(bytes)?;
+        let mut entries = Vec::new(alloc);
+        loop {
+            match next_record(&mut cursor)? {
+                Record::End => return Ok(Keytab { entries }),
+                Record::Hole => {}
+                Record::Entry(entry) => entries.push(entry.to_entry(alloc)?)?,
+            }
+        }
+    }
+
+    /// Lends the entries, in the order of the file.
+    pub fn entries(&self) -> &[Entry]
+        ensures { result.now ≡ self.now }
+    {
+        self.entries.as_slice()
+    }
+}

@@ -1,0 +1,28 @@
+//! Keytabs: the files that hold the keys of services.
+//!
+//! A [`Keytab`] is the list of the entries of a file in MIT krb5's format, version 0x0502. It is
+//! parsed of bytes, or read of a `Source`; an [`Entry`] is one key of one principal.
+//!
+//! ```rust
+//! let keytab = Keytab::read(alloc, &mut ReadSource::new(file))?;
+//! for entry in keytab.entries() {
+//!     let principal = entry.principal().to_text(alloc)?;
+//!     let kvno = entry.kvno();
+//!     let etype = entry.etype();
+//!     println!(rt; "{kvno} {etype} {principal}")?; // 3 20 host/web@EX
+//! }
+//! ```
+#![tactic(auto)]
+
+mod entry;
+mod fault;
+mod keytab;
+mod next;
+mod opening;
+mod record;
+mod view;
+
+pub use entry::Entry;
+pub use fault::KeytabFault;
+pub use keytab::Keytab;
+
