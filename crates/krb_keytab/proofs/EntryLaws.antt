@@ -5,9 +5,9 @@ use Rattle.std.specs.List.{flat_map}
 use Rattle.std.specs.Prelude.{FitsSigned}
 use Rattle.std.proofs.lemmas.List.Elements.{All-from_recursion, recursion_from_All}
 use Rattle.krb_name.specs.Cursor.{Place, ◌>>=◌, number_at, signed_at, data_at, number_bytes, signed_bytes, data_bytes}
-use Rattle.krb_name.specs.Field.{IsBytes, Takes, IsField}
+use Rattle.krb_name.specs.Field.{IsBytes, IsField}
 use Rattle.krb_name.proofs.CursorLaws.{bind_some, some_is, IsBytes-take, IsField-u8, IsField-u16, IsField-u32, IsField-i16, IsField-i32, IsField-data16}
-use Rattle.krb_keytab.specs.Entry.{KeytabEntry, LengthsFit, FitsEntry}
+use Rattle.krb_keytab.specs.Entry.{KeytabEntry}
 use Rattle.krb_keytab.specs.Format.{entry_bytes, full_kvno, IsEntry}
 use Rattle.krb_keytab.specs.Inner.Components.{components_at}
 use Rattle.krb_keytab.specs.Inner.Entry.{entry_at}

@@ -1,5 +1,5 @@
 -- Of the bytes of a file one answer holds: that they are a keytab, with its entries, or one fault.
-use Rattle.std.proofs.Common.{◌≡◌, ◌≢◌, ◌⊎◌, ℕ, zero, suc, pos, neg_ℤ, ◌+◌, ◌<◌, ◌≤◌, ◌^◌, List, [], ◌∷◌, ◌++◌, length, Option, Some, None, Result, Ok, Err, refl, sym, ap, subst, ◌∙◌, append_assoc, append-nil, arith, inl, inr}
+use Rattle.std.proofs.Common.{◌≡◌, ◌≢◌, ◌⊎◌, ℕ, pos, neg_ℤ, ◌+◌, ◌<◌, ◌≤◌, List, [], ◌∷◌, ◌++◌, length, Result, Ok, Err, refl, sym, ap, subst, ◌∙◌, append_assoc, append-nil, arith, inl, inr}
 use Rattle.std.specs.Int.{w32}
 use Rattle.std.specs.Prelude.{IfOk, IfErr}
 use Rattle.std.specs.List.{flat_map, AllByRecursion}
@@ -10,7 +10,7 @@ use Rattle.krb_name.specs.Cursor.{Place, signed_bytes}
 use Rattle.krb_name.specs.Field.{IsBytes}
 use Rattle.krb_name.proofs.CursorLaws.{IsBytes-drop}
 use Rattle.krb_keytab.specs.Entry.{KeytabEntry}
-use Rattle.krb_keytab.specs.Format.{version, file_limit, KeytabRecord, hole, entry, entry_bytes, record_bytes, FitsRecord, entries_of, IsReached, IsEnd, IsKeytab, IsCutOff, HoldsNoEntry, StandsAt, IsFaultOf, IsAnswerOf}
+use Rattle.krb_keytab.specs.Format.{version, file_limit, KeytabRecord, hole, entry, entry_bytes, record_bytes, FitsRecord, entries_of, IsReached, IsKeytab, IsCutOff, HoldsNoEntry, StandsAt, IsFaultOf, IsAnswerOf}
 use Rattle.krb_keytab.specs.declared.fault.KeytabFault.{KeytabFault}
 use Rattle.krb_keytab.specs.declared.fault.KeytabFault.TheVariants.{Version, Truncated, BadEntry, TooLong, NoSuchEntry, Read, OutOfMemory}
 use Rattle.krb_keytab.specs.declared.record.Record.{Record}

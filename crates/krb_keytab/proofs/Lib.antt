@@ -3,3 +3,4 @@ pub mod EntryLaws
 pub mod RecordLaws
 pub mod FileLaws
 pub mod OpeningLaws
+pub mod SourceLaws

@@ -1,8 +1,8 @@
 -- The version of a keytab as a number.
-use Rattle.std.proofs.Common.{◌≡◌, ℕ, ◌+◌, List, ◌++◌, Option, Some, None, refl, ap, sym, ◌∙◌, arith}
+use Rattle.std.proofs.Common.{◌≡◌, ℕ, List, ◌++◌, Option, Some, None, ap, sym, ◌∙◌, arith}
 use Rattle.std.specs.Int.{w16}
 use Rattle.krb_name.specs.Cursor.{Place, number_at}
-use Rattle.krb_name.specs.Field.{IsBytes, IsField}
+use Rattle.krb_name.specs.Field.{IsBytes}
 use Rattle.krb_name.proofs.CursorLaws.{some_is, IsField-u16}
 use Rattle.krb_keytab.specs.Format.{version}
 

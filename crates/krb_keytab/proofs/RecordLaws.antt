@@ -6,18 +6,18 @@ use Rattle.std.specs.List.{flat_map}
 use Rattle.std.proofs.lemmas.Bool.{eqb-true, eqb-false, leb-false, ne_eqb, lt-leb}
 use Rattle.std.proofs.lemmas.List.{nil_from_length, length-append, take_at, drop_at}
 use Rattle.krb_name.specs.Cursor.{Place, ◌>>=◌, bytes_at, number_at, signed_at, number_bytes, signed_bytes, data_bytes}
-use Rattle.krb_name.specs.Field.{IsBytes, Takes, IsField}
+use Rattle.krb_name.specs.Field.{IsBytes, Takes}
 use Rattle.krb_name.proofs.CursorLaws.{IsBytes-take, IsBytes-drop, Takes-then, IsField-bytes, IsField-i32}
 use Rattle.krb_keytab.specs.Entry.{KeytabEntry}
-use Rattle.krb_keytab.specs.Format.{entry_bytes, IsEntry, KeytabRecord, hole, entry, record_bytes, FitsRecord, entries_of, IsEnd, IsCutOff, EndsEarly, HoldsNoEntry}
+use Rattle.krb_keytab.specs.Format.{entry_bytes, IsEntry, KeytabRecord, hole, entry, record_bytes, FitsRecord, IsEnd, IsCutOff, HoldsNoEntry}
 use Rattle.krb_keytab.specs.declared.fault.KeytabFault.{KeytabFault}
 use Rattle.krb_keytab.specs.declared.fault.KeytabFault.TheVariants.{Truncated, BadEntry}
 use Rattle.krb_keytab.specs.declared.record.Record.{Record}
 use Rattle.krb_keytab.specs.declared.record.Record.TheVariants.{End, Hole, Entry}
 use Rattle.krb_keytab.specs.Inner.Entry.{entry_at}
 use Rattle.krb_keytab.specs.Inner.Reading.{record_at, size_in, sized_at, hole_in, body_in, entry_in}
-use Rattle.krb_keytab.specs.Inner.Standing.{IsBetween, Stands}
-use Rattle.krb_keytab.proofs.EntryLaws.{HoldsEntry, take_entry, again_entry}
+use Rattle.krb_keytab.specs.Inner.Standing.{Stands}
+use Rattle.krb_keytab.proofs.EntryLaws.{take_entry, again_entry}
 
 -- ---- what is read at a place stands there
 

@@ -4,6 +4,7 @@ ghost use Rattle.std.specs.Prelude.{◌≡◌};
 ghost use Rattle.krb_keytab.specs.declared.fault.KeytabFault.TheVariants.{OutOfMemory};
 
 
+use krb_name::ReadFault;
 use std::alloc::{AllocError, AllocFailed};
 use thiserror::Error;
 
@@ -70,5 +71,18 @@ impl<T: Drop> From<AllocFailed<T>> for KeytabFault {
 
     fn from(_: AllocFailed<T>) -> KeytabFault {
         KeytabFault::OutOfMemory
+    }
+}
+
+impl From<ReadFault> for KeytabFault {
+    ghost use Rattle.krb_keytab.specs.Fault.{source_fault};
+
+    ghost from_gives = { λ read fault. fault ≡ source_fault read };
+
+    fn from(fault: ReadFault) -> KeytabFault {
+        match fault {
+            ReadFault::Read => KeytabFault::Read,
+            ReadFault::OutOfMemory => KeytabFault::OutOfMemory,
+        }
     }
 }

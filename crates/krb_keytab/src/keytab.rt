@@ -1,15 +1,17 @@
 //! A keytab: the list of its entries.
 
-ghost use Rattle.std.specs.Prelude.{◌≡◌, ◌≢◌, ◌⊎◌, ◌≤◌, List, IfOk, IfErr, IfSome, Err, Result, length};
+ghost use Rattle.std.specs.Prelude.{◌≡◌, ◌≢◌, ◌⊎◌, ◌≤◌, ◌<◌, ◌^◌, ◌-◌, ◌+◌, ℕ, List, IfOk, IfErr, IfSome, OnOk, Some, Err, Result, length};
+ghost use Rattle.std.specs.Io.KnownBytes.{IsAtEnd};
 ghost use Rattle.krb_keytab.specs.Entry.{KeytabEntry};
-ghost use Rattle.krb_keytab.specs.Fault.{offset_of};
+ghost use Rattle.krb_keytab.specs.Fault.{offset_of, failed_reads};
 ghost use Rattle.krb_keytab.specs.Format.{IsKeytab, IsFaultOf, IsAnswerOf};
 
 use crate::entry::Entry;
 use crate::fault::KeytabFault;
 use crate::next::next_record;
-use crate::opening::open;
+use crate::opening::{FILE_LIMIT, open};
 use crate::record::Record;
+use krb_name::{Source, read_to_limit};
 use std::alloc::Global;
 use std::marker::Model;
 
@@ -51,6 +53,32 @@ impl Keytab {
             IfSome (offset_of fault) (λ at. at ≤ length bytes.now)) }
     {
         Keytab::of_records(alloc, bytes)
+    }
+
+    /// Reads a source to its end, or to one byte past the limit of a file, and parses what it gave.
+    ///
+    /// # Errors
+    /// - `Read`: a read of the source failed. Its count of failures grew, as it does for no other
+    ///   answer.
+    /// - Those of `parse`, for all the bytes that were still to come of the source.
+    pub fn read<S: Source>(alloc: Global, source: &mut S) -> Result<Keytab, KeytabFault>
+        requires { S.failure_count source.old < 2 ^ 64 - 1 }
+        ensures found { IfOk result (λ keytab.
+            IfSome (S.remaining source.old) (λ bytes. IsKeytab bytes keytab)) }
+        ensures end { OnOk result (IsAtEnd (S.remaining source.new)) }
+        ensures fault { IfErr result (λ fault.
+            fault ≢ KeytabFault.OutOfMemory → fault ≢ KeytabFault.Read
+            → IfSome (S.remaining source.old) (λ bytes. IsFaultOf bytes fault)) }
+
+        // Where the bytes to come are a keytab, and where they have a fault, that is the answer.
+        ensures only { (bytes : List ℕ) (answer : Result (List KeytabEntry) KeytabFault)
+            → S.remaining source.old ≡ Some bytes → IsAnswerOf bytes answer
+            → (result ≡ answer) ⊎ ((result ≡ Err KeytabFault.OutOfMemory) ⊎ (result ≡ Err KeytabFault.Read)) }
+        ensures failed { S.failure_count source.new
+            ≡ S.failure_count source.old + failed_reads result }
+    {
+        let bytes = read_to_limit(alloc, source, FILE_LIMIT)?;
+        Keytab::parse(alloc, &bytes)
     }
 
     fn of_records(alloc: Global, bytes: &[u8]) -> Result<Keytab, KeytabFault>

@@ -26,3 +26,6 @@ pub use entry::Entry;
 pub use fault::KeytabFault;
 pub use keytab::Keytab;
 
+
+#[cfg(test)]
+mod tests;

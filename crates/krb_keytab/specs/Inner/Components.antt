@@ -1,9 +1,7 @@
 -- What is read of the components of a name.
-use Rattle.std.specs.Prelude.{◌≡◌, ℕ, zero, suc, ℤ, List, [], ◌∷◌, length, Option, Some, None}
+use Rattle.std.specs.Prelude.{◌≡◌, ℕ, zero, suc, List, [], ◌∷◌, Option, Some, None}
 use Rattle.std.specs.Int.{w16}
 use Rattle.krb_name.specs.Cursor.{Place, ◌>>=◌, data_at}
-use Rattle.krb_keytab.specs.Entry.{KeytabEntry, FitsEntry}
-use Rattle.krb_name.specs.declared.principal.Principal.{Principal}
 
 -- so many components, one after the other
 unfoldable pub components_at : ℕ → Place → Option (List (List ℕ) × Place)

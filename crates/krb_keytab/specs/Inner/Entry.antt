@@ -1,7 +1,7 @@
 -- What is read of an entry.
 use Rattle.std.specs.Prelude.{ℕ, List, Option, Some}
 use Rattle.std.specs.Int.{w8, w16, w32}
-use Rattle.krb_name.specs.Cursor.{Place, ◌>>=◌, number_at, signed_at, data_at}
+use Rattle.krb_name.specs.Cursor.{◌>>=◌, number_at, signed_at, data_at}
 use Rattle.krb_keytab.specs.Entry.{KeytabEntry}
 use Rattle.krb_keytab.specs.Format.{full_kvno}
 use Rattle.krb_keytab.specs.Inner.Components.{components_at}

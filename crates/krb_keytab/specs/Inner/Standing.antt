@@ -1,5 +1,5 @@
 -- What it means that a record, the end or a fault stands at a place.
-use Rattle.std.specs.Prelude.{◌≡◌, ℕ, List, [], ◌∷◌, Result, Ok, Err}
+use Rattle.std.specs.Prelude.{◌≡◌, List, [], ◌∷◌, Result, Ok, Err}
 use Rattle.krb_name.specs.Cursor.{Place}
 use Rattle.krb_name.specs.Field.{Takes}
 use Rattle.krb_keytab.specs.Entry.{KeytabEntry}

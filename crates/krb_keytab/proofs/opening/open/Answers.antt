@@ -1,4 +1,4 @@
-use Rattle.std.proofs.Common.{◌≡◌, ◌<◌, ◌≤◌, arith, sym, ap, ◌∙◌, Some}
+use Rattle.std.proofs.Common.{arith}
 use Rattle.std.proofs.lemmas.Result.{IfErr-at_err}
 use Rattle.krb_keytab.proofs.OpeningLaws.{opened, too_few, other_number}
 use Rattle.krb_keytab.proofs.opening.open.Goals as goal

@@ -1,5 +1,3 @@
-use Rattle.std.proofs.Common.{[], ◌∷◌, ◌++◌, sym}
-use Rattle.krb_keytab.specs.Inner.Components.{components_at}
 use Rattle.krb_keytab.proofs.ComponentLaws.{starts, goes_on, ends, is_done, first_is, none_is_not_some}
 use Rattle.krb_keytab.proofs.view.read_components.Goals as goal
 use Rattle.krb_keytab.proofs.view.read_components.Goals.{else-loop-test, then-loop-test+in_default}

@@ -1,6 +1,5 @@
 use Rattle.std.proofs.Common.{[], ◌∷◌, ◌++◌}
 use Rattle.std.proofs.lemmas.Result.{err_from_is_err_and}
-use Rattle.krb_keytab.specs.Inner.Components.{components_at}
 use Rattle.krb_keytab.proofs.ComponentLaws.{starts, goes_on, ends, is_done}
 use Rattle.krb_keytab.proofs.view.skip_components.Goals as goal
 

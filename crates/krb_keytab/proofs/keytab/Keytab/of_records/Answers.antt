@@ -1,4 +1,4 @@
-use Rattle.std.proofs.Common.{◌≡◌, ◌<◌, ◌≤◌, arith}
+use Rattle.std.proofs.Common.{arith}
 use Rattle.std.proofs.lemmas.Result.{err_from_is_err_and}
 use Rattle.krb_keytab.proofs.FileLaws.{starts_at, start_fits, hole_goes, entry_goes, keytab_found, fault_found}
 use Rattle.krb_keytab.proofs.keytab.Keytab.of_records.Goals as goal

@@ -1,4 +1,4 @@
-use Rattle.std.proofs.Common.{◌≡◌, ◌<◌, ◌≤◌, arith}
+use Rattle.std.proofs.Common.{arith}
 use Rattle.krb_keytab.proofs.FileLaws.{only_answer}
 use Rattle.krb_keytab.proofs.keytab.Keytab.parse.Goals as goal
 

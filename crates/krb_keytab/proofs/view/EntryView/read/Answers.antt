@@ -1,4 +1,4 @@
-use Rattle.std.proofs.Common.{◌≡◌, ◌<◌, rules, arith, Some}
+use Rattle.std.proofs.Common.{◌≡◌, rules, arith, Some}
 use Rattle.krb_keytab.specs.Entry.{KeytabEntry}
 use Rattle.krb_keytab.specs.Inner.Components.{first_components}
 use Rattle.krb_keytab.specs.Inner.Entry.{entry_at}

@@ -1,0 +1,50 @@
+-- The answer for what a source gave is the answer for all the bytes that were to come of it.
+use Rattle.std.proofs.Common.{◌≡◌, ◌⊎◌, ℕ, ◌+◌, ◌<◌, ◌≤◌, List, ◌++◌, length, Option, Some, None, Result, Ok, Err, ap, subst, ◌∙◌, append-nil, arith, inl, inr}
+use Rattle.std.specs.Io.KnownBytes.{Consumes, IsAtEnd}
+use Rattle.std.proofs.lemmas.Bool.{cases_lt}
+use Rattle.std.proofs.lemmas.List.{length-append}
+use Rattle.krb_keytab.specs.Entry.{KeytabEntry}
+use Rattle.krb_keytab.specs.Format.{file_limit, IsAnswerOf}
+use Rattle.krb_keytab.specs.declared.fault.KeytabFault.{KeytabFault}
+use Rattle.krb_keytab.specs.declared.fault.KeytabFault.TheVariants.{Version, Truncated, BadEntry, TooLong, NoSuchEntry, Read, OutOfMemory}
+
+-- what a source gave, up to its end or to one byte past the limit
+pub record IsGiven (from to : Option (List ℕ)) (bytes : List ℕ) : Type 0 where
+  pub given : Consumes from to bytes
+  pub limit : length bytes ≤ file_limit + 1
+  pub end : length bytes ≤ file_limit → IsAtEnd to
+
+-- an answer for too many bytes
+long_answer : (bytes more : List ℕ) (answer : Result (List KeytabEntry) KeytabFault) → file_limit < length bytes → file_limit < length more → IsAnswerOf bytes answer → IsAnswerOf more answer
+long_answer bytes more (Ok entries) long longer a = let l = a.limit in absurd (omega arith)
+long_answer bytes more (Err TooLong) long longer a = longer
+long_answer bytes more (Err Version) long longer a = let l = a.0 in absurd (omega arith)
+long_answer bytes more (Err (Truncated at)) long longer a = let l = a.limit in absurd (omega arith)
+long_answer bytes more (Err (BadEntry at)) long longer a = let l = a.limit in absurd (omega arith)
+long_answer bytes more (Err NoSuchEntry) long longer a = absurd a
+long_answer bytes more (Err Read) long longer a = absurd a
+long_answer bytes more (Err OutOfMemory) long longer a = absurd a
+
+-- all the bytes are those that were given, or both are too many
+all_given : (whole bytes : List ℕ) (to : Option (List ℕ)) → IsGiven (Some whole) to bytes → (whole ≡ bytes) ⊎ ((file_limit < length bytes) × (file_limit < length whole))
+all_given whole bytes None g = absurd g.given
+all_given whole bytes (Some rest) g =
+    elim (cases_lt file_limit (length bytes)) [
+      | inl long ↦ inr (long, omega (arith, ap length g.given, length-append bytes rest))
+      | inr within ↦ inl (g.given ∙ ap (λ (t : List ℕ). bytes ++ t) (g.end within) ∙ append-nil bytes)
+    ]
+
+answer_of_given : (whole bytes : List ℕ) (to : Option (List ℕ)) (answer : Result (List KeytabEntry) KeytabFault) → IsGiven (Some whole) to bytes → IsAnswerOf whole answer → IsAnswerOf bytes answer
+answer_of_given whole bytes to answer g a =
+    elim (all_given whole bytes to g) [
+      | inl same ↦ subst (λ (t : List ℕ). IsAnswerOf t answer) same a
+      | inr long ↦ long_answer whole bytes answer long.1 long.0 a
+    ]
+
+pub only_in : (from to : Option (List ℕ)) (bytes whole : List ℕ) (result answer : Result (List KeytabEntry) KeytabFault) → IsGiven from to bytes → (IsAnswerOf bytes answer → (result ≡ answer) ⊎ (result ≡ Err OutOfMemory))
+    → from ≡ Some whole → IsAnswerOf whole answer → (result ≡ answer) ⊎ ((result ≡ Err OutOfMemory) ⊎ (result ≡ Err Read))
+only_in from to bytes whole result answer g only e a =
+    elim (only (answer_of_given whole bytes to answer (subst (λ (known : Option (List ℕ)). IsGiven known to bytes) e g) a)) [
+      | inl same ↦ inl same
+      | inr memory ↦ inr (inl memory)
+    ]
