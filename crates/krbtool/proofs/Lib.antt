@@ -1,0 +1,3 @@
+pub mod Getters
+pub mod LineLaws
+pub mod FaultLaws

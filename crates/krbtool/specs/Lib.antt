@@ -1,0 +1,4 @@
+pub mod CommandLine
+pub mod Lines
+pub mod Status
+pub mod Engine

@@ -1,0 +1,132 @@
+//! Why an engine ended early, what the program says of it, and its exit status.
+
+ghost use Rattle.std.specs.Prelude.{◌≡◌};
+ghost use Rattle.krbtool.specs.Status.{status_of};
+ghost use Rattle.krbtool.specs.declared.fault.EngineFault.TheVariants.{Keytab, OutOfMemory, Write};
+
+use krb_keytab::KeytabFault;
+use krb_name::SinkFailed;
+use std::alloc::AllocError;
+use std::fmt;
+
+/// Why an engine ended early.
+#[derive(Clone, Copy, Debug, PartialEq, Eq)]
+pub enum EngineFault {
+    /// The keytab couldn't be read, or what was read is none.
+    Keytab(KeytabFault),
+    /// The sink couldn't be written.
+    Write,
+    /// There was no room, other than for the keytab.
+    OutOfMemory,
+}
+
+impl From<KeytabFault> for EngineFault {
+    ghost from_gives = { λ keytab fault. fault ≡ Keytab keytab };
+
+    fn from(fault: KeytabFault) -> EngineFault {
+        EngineFault::Keytab(fault)
+    }
+}
+
+impl From<SinkFailed> for EngineFault {
+    ghost from_gives = { λ _ fault. fault ≡ Write };
+
+    fn from(_: SinkFailed) -> EngineFault {
+        EngineFault::Write
+    }
+}
+
+impl From<AllocError> for EngineFault {
+    ghost from_gives = { λ _ fault. fault ≡ OutOfMemory };
+
+    fn from(_: AllocError) -> EngineFault {
+        EngineFault::OutOfMemory
+    }
+}
+
+impl EngineFault {
+    /// Answers the fault's name, as the program prints it.
+    fn name(&self) -> &'static str {
+        match self {
+            EngineFault::Keytab(fault) => keytab_name(fault),
+            EngineFault::Write => "Write",
+            EngineFault::OutOfMemory => "OutOfMemory",
+        }
+    }
+
+    /// Answers the fault's offset in bytes, where it has one.
+    fn at(&self) -> Option<usize> {
+        match self {
+            EngineFault::Keytab(fault) => fault.at(),
+            EngineFault::Write | EngineFault::OutOfMemory => None,
+        }
+    }
+}
+
+fn keytab_name(fault: &KeytabFault) -> &'static str {
+    match fault {
+        KeytabFault::Version => "Version",
+        KeytabFault::Truncated { .. } => "Truncated",
+        KeytabFault::BadEntry { .. } => "BadEntry",
+        KeytabFault::TooLong => "TooLong",
+        KeytabFault::NoSuchEntry => "NoSuchEntry",
+        KeytabFault::Read => "Read",
+        KeytabFault::OutOfMemory => "OutOfMemory",
+    }
+}
+
+/// Answers the exit status for a fault: 3 where a file, an output or memory failed, 1 where the
+/// content is refused.
+pub fn status(fault: &EngineFault) -> u8
+    ensures { result ≡ status_of fault.now }
+{
+    match fault {
+        EngineFault::Keytab(KeytabFault::Read | KeytabFault::OutOfMemory) => FAILED,
+        EngineFault::Keytab(_) => REFUSED,
+        EngineFault::Write | EngineFault::OutOfMemory => FAILED,
+    }
+}
+
+/// The content of a file is refused.
+pub const REFUSED: u8 = 1;
+
+/// A file, an output or memory failed.
+pub const FAILED: u8 = 3;
+
+/// A line for standard error: `krbtool: NAME: FAULT`, with ` at OFFSET` where the fault has one.
+#[derive(Clone, Copy)]
+pub struct FaultLine<'a> {
+    name: &'a str,
+    fault: &'static str,
+    at: Option<usize>,
+}
+
+impl fmt::Display for FaultLine<'_> {
+    fn fmt<W: fmt::Write>(&self, f: &mut fmt::Formatter<W>) -> fmt::Result {
+        let name = self.name;
+        let fault = self.fault;
+        match self.at {
+            Some(at) => write!(f, "krbtool: {name}: {fault} at {at}"),
+            None => write!(f, "krbtool: {name}: {fault}"),
+        }
+    }
+}
+
+/// Gives the line for a fault of what has this name: a file as it was given, `output`, or a
+/// command. It takes no memory.
+pub fn fault_line<'a>(name: &'a str, fault: &EngineFault) -> FaultLine<'a> {
+    FaultLine {
+        name,
+        fault: fault.name(),
+        at: fault.at(),
+    }
+}
+
+/// Gives the line for a file that can't be opened or written. It takes no memory.
+pub fn file_line(name: &str) -> FaultLine<'_> {
+    FaultLine {
+        name,
+        fault: "File",
+        at: None,
+    }
+}
