@@ -1,0 +1,107 @@
+#!/usr/bin/env python3
+"""Runs the built program on the cases of tests/cases, and on those that tests/generated.py makes.
+
+    tests/run.py PROGRAM [WORD]      the cases whose names hold WORD, or all
+
+A case is a table [[case]] of a TOML file:
+
+    name    what it shows
+    args    the words after the program's name
+    files   files that lie where it runs: hex digits, or "@PATH" of a file of the repository
+    stdin   what it reads (text), or "@PATH"
+    stdout  what it must write on standard output, whole
+    stderr  what it must write on standard error, whole; or stderr_begins, its beginning
+    status  its exit status (0 where left out)
+    after   files that must lie there afterwards, as hex digits or "@PATH"
+    output  "full": standard output is /dev/full; "closed": it is closed
+
+The last line is 'N passed, M failed'.
+"""
+import os
+import subprocess
+import sys
+import tempfile
+import tomllib
+from pathlib import Path
+
+HERE = Path(__file__).resolve().parent
+TOP = HERE.parent
+sys.path.insert(0, str(HERE))
+sys.dont_write_bytecode = True
+
+import generated  # noqa: E402
+
+
+def content(text):
+    """The bytes that a case names: hex digits, or a file of the repository."""
+    if isinstance(text, bytes):
+        return text
+    return (TOP / text[1:]).read_bytes() if text.startswith("@") else bytes.fromhex(text)
+
+
+def stored_cases():
+    for path in sorted((HERE / "cases").glob("*.toml")):
+        with open(path, "rb") as file:
+            for case in tomllib.load(file)["case"]:
+                yield {**case, "name": f"{path.stem}: {case['name']}"}
+
+
+def difference(case, ran, room):
+    """What is wrong with the run, or None."""
+    wanted = case.get("status", 0)
+    if ran.returncode != wanted:
+        return f"status {ran.returncode}, not {wanted}; it wrote {ran.stderr[:300]!r}"
+    if "output" not in case and ran.stdout != case.get("stdout", "").encode():
+        return f"standard output {ran.stdout[:400]!r}, not {case.get('stdout', '')[:400]!r}"
+    if "stderr_begins" in case:
+        if not ran.stderr.startswith(case["stderr_begins"].encode()):
+            return f"standard error {ran.stderr[:400]!r} doesn't begin {case['stderr_begins']!r}"
+    elif ran.stderr != case.get("stderr", "").encode():
+        return f"standard error {ran.stderr[:400]!r}, not {case.get('stderr', '')!r}"
+    for name, text in case.get("after", {}).items():
+        found = (room / name).read_bytes() if (room / name).is_file() else None
+        if found != content(text):
+            return f"the file {name} is {found!r}"
+    return None
+
+
+def run(program, case):
+    with tempfile.TemporaryDirectory(prefix="krbtool-case-") as folder:
+        room = Path(folder)
+        for name, text in case.get("files", {}).items():
+            (room / name).write_bytes(content(text))
+        for name in case.get("folders", []):
+            (room / name).mkdir()
+        stdin = case.get("stdin", "")
+        given = content(stdin) if isinstance(stdin, bytes) or stdin.startswith("@") else stdin.encode()
+        out = open("/dev/full", "wb") if case.get("output") == "full" else subprocess.PIPE
+        command = [program, *case["args"]]
+        if case.get("output") == "closed":
+            command = ["sh", "-c", 'exec "$@" >&-', "sh", *command]
+        try:
+            ran = subprocess.run(command, cwd=room, input=given, stdout=out, stderr=subprocess.PIPE, timeout=60)
+        except subprocess.TimeoutExpired:
+            return "it did not end within 60 seconds"
+        ran.stdout = ran.stdout or b""
+        return difference(case, ran, room)
+
+
+def main():
+    program = os.path.abspath(sys.argv[1])
+    word = sys.argv[2] if len(sys.argv) > 2 else ""
+    passed = failed = 0
+    for case in [*stored_cases(), *generated.cases()]:
+        if word not in case["name"]:
+            continue
+        wrong = run(program, case)
+        if wrong:
+            failed += 1
+            print(f"FAILED {case['name']}: {wrong}")
+        else:
+            passed += 1
+    print(f"{passed} passed, {failed} failed")
+    return 1 if failed or not passed else 0
+
+
+if __name__ == "__main__":
+    sys.exit(main())
