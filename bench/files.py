@@ -70,10 +70,10 @@ def main():
         ours = timed([program, "list-keytab", str(path)])
         mit = timed(["klist", "-kte", str(path)])
         print(f"| 10,000 entries: list-keytab, klist -kte | {ours * 1000:.1f} ms | {mit * 1000:.1f} ms | {ours / mit:.2f} |")
-        whole = keytab(LIMIT // len(keytab_record(9_999)) - 4_000)
+        most = (LIMIT - 2) // len(keytab_record(999_999))
+        whole = keytab(most)
         for part in (8, 4, 2, 1):
-            count = len(whole) // part // len(keytab_record(9_999))
-            path.write_bytes(keytab(count))
+            path.write_bytes(keytab(most // part))
             size = path.stat().st_size
             took = timed([program, "list-keytab", str(path)])
             print(f"| {size:,} bytes: list-keytab | {took * 1000:.1f} ms | | {took / size * 1e9:.1f} ns a byte |")
