@@ -2,3 +2,4 @@ pub mod CommandLine
 pub mod Lines
 pub mod Status
 pub mod Engine
+pub mod FaultText

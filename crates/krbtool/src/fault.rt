@@ -1,6 +1,7 @@
 //! Why an engine ended early, what the program says of it, and its exit status.
 
-ghost use Rattle.std.specs.Prelude.{◌≡◌};
+ghost use Rattle.std.specs.Prelude.{◌≡◌, List, ℕ, Some, None, codes};
+ghost use Rattle.krbtool.specs.FaultText.{keytab_name, name_of, place_of, line_of};
 ghost use Rattle.krbtool.specs.Status.{status_of};
 ghost use Rattle.krbtool.specs.declared.fault.EngineFault.TheVariants.{Keytab, OutOfMemory, Write};
 
@@ -8,6 +9,7 @@ use krb_keytab::KeytabFault;
 use krb_name::SinkFailed;
 use std::alloc::AllocError;
 use std::fmt;
+use std::marker::Model;
 
 /// Why an engine ended early.
 #[derive(Clone, Copy, Debug, PartialEq, Eq)]
@@ -46,7 +48,9 @@ impl From<AllocError> for EngineFault {
 
 impl EngineFault {
     /// Answers the fault's name, as the program prints it.
-    fn name(&self) -> &'static str {
+    fn name(&self) -> &'static str
+        ensures { result.now ≡ name_of self.now }
+    {
         match self {
             EngineFault::Keytab(fault) => keytab_name(fault),
             EngineFault::Write => "Write",
@@ -55,7 +59,9 @@ impl EngineFault {
     }
 
     /// Answers the fault's offset in bytes, where it has one.
-    fn at(&self) -> Option<usize> {
+    fn at(&self) -> Option<usize>
+        ensures { result ≡ place_of self.now }
+    {
         match self {
             EngineFault::Keytab(fault) => fault.at(),
             EngineFault::Write | EngineFault::OutOfMemory => None,
@@ -63,7 +69,9 @@ impl EngineFault {
     }
 }
 
-fn keytab_name(fault: &KeytabFault) -> &'static str {
+fn keytab_name(fault: &KeytabFault) -> &'static str
+    ensures { result.now ≡ keytab_name fault.now }
+{
     match fault {
         KeytabFault::Version => "Version",
         KeytabFault::Truncated { .. } => "Truncated",
@@ -93,15 +101,27 @@ pub const REFUSED: u8 = 1;
 /// A file, an output or memory failed.
 pub const FAILED: u8 = 3;
 
-/// A line for standard error: `krbtool: NAME: FAULT`, with ` at OFFSET` where the fault has one.
-#[derive(Clone, Copy)]
+/// A line for standard error: `krbtool: NAME: FAULT`, with ` at OFFSET` where the fault has one. A
+/// contract sees it as its text.
+#[derive(Drop)]
 pub struct FaultLine<'a> {
     name: &'a str,
     fault: &'static str,
     at: Option<usize>,
 }
 
+impl<'a> Model for FaultLine<'a> {
+    ghost use Rattle.std.specs.Prelude.{List, ℕ};
+    ghost use Rattle.krbtool.specs.FaultText.{line_of};
+
+    ghost Value = { List ℕ };
+
+    ghost view = { λ l. line_of l.name.now l.fault.now l.at };
+}
+
 impl fmt::Display for FaultLine<'_> {
+    ghost output = { λ text. Some text };
+
     fn fmt<W: fmt::Write>(&self, f: &mut fmt::Formatter<W>) -> fmt::Result {
         let name = self.name;
         let fault = self.fault;
@@ -114,7 +134,9 @@ impl fmt::Display for FaultLine<'_> {
 
 /// Gives the line for a fault of what has this name: a file as it was given, `output`, or a
 /// command. It takes no memory.
-pub fn fault_line<'a>(name: &'a str, fault: &EngineFault) -> FaultLine<'a> {
+pub fn fault_line<'a>(name: &'a str, fault: &EngineFault) -> FaultLine<'a>
+    ensures { result ≡ line_of name.entry.now (name_of fault.now) (place_of fault.now) }
+{
     FaultLine {
         name,
         fault: fault.name(),
@@ -123,7 +145,9 @@ pub fn fault_line<'a>(name: &'a str, fault: &EngineFault) -> FaultLine<'a> {
 }
 
 /// Gives the line for a file that can't be opened or written. It takes no memory.
-pub fn file_line(name: &str) -> FaultLine<'_> {
+pub fn file_line(name: &str) -> FaultLine<'_>
+    ensures { result ≡ line_of name.entry.now (codes "File") None }
+{
     FaultLine {
         name,
         fault: "File",

@@ -1,0 +1,32 @@
+-- The line that the program prints of a fault.
+use Rattle.std.specs.Prelude.{ℕ, List, [], ◌∷◌, ◌++◌, Option, Some, None, codes}
+use Rattle.std.specs.Fmt.{decimal}
+use Rattle.krb_keytab.specs.declared.fault.KeytabFault.{KeytabFault}
+use Rattle.krb_keytab.specs.declared.fault.KeytabFault.TheVariants as keytab
+use Rattle.krb_keytab.specs.Fault.{offset_of}
+use Rattle.krbtool.specs.declared.fault.EngineFault.{EngineFault}
+use Rattle.krbtool.specs.declared.fault.EngineFault.TheVariants.{Keytab, Write, OutOfMemory}
+
+abbrev pub keytab_name : KeytabFault → List ℕ
+keytab_name keytab.Version = codes "Version"
+keytab_name (keytab.Truncated at) = codes "Truncated"
+keytab_name (keytab.BadEntry at) = codes "BadEntry"
+keytab_name keytab.TooLong = codes "TooLong"
+keytab_name keytab.NoSuchEntry = codes "NoSuchEntry"
+keytab_name keytab.Read = codes "Read"
+keytab_name keytab.OutOfMemory = codes "OutOfMemory"
+
+abbrev pub name_of : EngineFault → List ℕ
+name_of (Keytab fault) = keytab_name fault
+name_of Write = codes "Write"
+name_of OutOfMemory = codes "OutOfMemory"
+
+abbrev pub place_of : EngineFault → Option ℕ
+place_of (Keytab fault) = offset_of fault
+place_of Write = None
+place_of OutOfMemory = None
+
+-- `krbtool: NAME: FAULT`, with ` at OFFSET` where the fault has one
+abbrev pub line_of : List ℕ → List ℕ → Option ℕ → List ℕ
+line_of name fault None = codes "krbtool: " ++ (name ++ (codes ": " ++ fault))
+line_of name fault (Some at) = codes "krbtool: " ++ (name ++ (codes ": " ++ (fault ++ (codes " at " ++ decimal at))))
