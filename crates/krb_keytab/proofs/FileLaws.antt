@@ -115,11 +115,11 @@ same_answer (one ∷ ones) (other ∷ others) at front b c v w fit also e p q =
     let first : flat_map record_bytes (one ∷ ones) ++ b ≡ record_bytes one ++ x = ap (λ (t : List ℕ). t ++ b) (flat_map-cons record_bytes one ones) ∙ append_assoc (record_bytes one) (flat_map record_bytes ones) b in
     let second : flat_map record_bytes (other ∷ others) ++ c ≡ record_bytes other ++ y = ap (λ (t : List ℕ). t ++ c) (flat_map-cons record_bytes other others) ∙ append_assoc (record_bytes other) (flat_map record_bytes others) c in
     let same : standing one (record { at = at + length (record_bytes one); rest = x }) ≡ standing other (record { at = at + length (record_bytes other); rest = y }) =
-      sym (again_record at one x fit.0) ∙ ap (λ (t : List ℕ). record_at (record { at = at; rest = t })) (sym first ∙ e ∙ second) ∙ again_record at other y also.0 in
+    sym (again_record at one x fit.0) ∙ ap (λ (t : List ℕ). record_at (record { at = at; rest = t })) (sym first ∙ e ∙ second) ∙ again_record at other y also.0 in
     let s = same_standing one other (record { at = at + length (record_bytes one); rest = x }) (record { at = at + length (record_bytes other); rest = y }) same in
     same_answer ones others (at + length (record_bytes one)) (front ++ entries_of one) b c v w fit.1 also.1 (ap (λ (k : Place). k.rest) s.1)
-      (past_one at (at + length (record_bytes one)) front (front ++ entries_of one) one ones b v refl refl p)
-      (past_one at (at + length (record_bytes one)) front (front ++ entries_of one) other others c w (sym (ap (λ (k : Place). k.at) s.1)) (ap (λ (t : List KeytabEntry). front ++ t) (sym s.0)) q)
+    (past_one at (at + length (record_bytes one)) front (front ++ entries_of one) one ones b v refl refl p)
+    (past_one at (at + length (record_bytes one)) front (front ++ entries_of one) other others c w (sym (ap (λ (k : Place). k.at) s.1)) (ap (λ (t : List KeytabEntry). front ++ t) (sym s.0)) q)
 
 -- ---- what an answer rests on
 

@@ -1,6 +1,6 @@
 -- What is picked where one entry more is there.
-use Rattle.std.proofs.Common.{◌≡◌, ◌⊎◌, ℕ, ◌<◌, ◌≤◌, ℤ, Bool, true, false, Bor, subst, List, [], ◌∷◌, ◌++◌, ◌+◌, length, take, get_or, Option, refl, sym, ap, ◌∙◌, append_assoc, arith, inl, inr}
-use Rattle.std.specs.Prelude.{All, IfSome, IsTrue, ◌↔◌}
+use Rattle.std.proofs.Common.{◌≡◌, ℕ, ◌<◌, ◌≤◌, ℤ, Bool, true, false, Bor, subst, List, [], ◌∷◌, ◌++◌, ◌+◌, length, take, get_or, Option, refl, sym, ap, ◌∙◌, append_assoc, arith}
+use Rattle.std.specs.Prelude.{All, IsTrue, ◌↔◌}
 use Rattle.std.proofs.lemmas.List.Elements.{All-push, All-append, All-cons, All-weaker, All-nil, All-same}
 use Rattle.std.proofs.lemmas.List.{take_more, take_all}
 use Rattle.krb_name.specs.declared.principal.Principal.{Principal}
@@ -58,6 +58,7 @@ below_best entries name etype kvno best e h lt =
   where
     lt_trans : (a b c : ℕ) → a < b → b < c → a < c
     lt_trans a b c p q = omega arith
+
     le_lt_trans : (a b c : ℕ) → a ≤ b → b < c → a < c
     le_lt_trans a b c p q = omega arith
 

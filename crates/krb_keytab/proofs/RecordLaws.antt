@@ -60,15 +60,17 @@ hole_stands place after n sized (Some (body, behind)) e =
 
 entry_stands : (place after behind : Place) (body : List ℕ) → Sized place (pos (length body)) after → 0 < length body → Takes after body behind → (read : Option KeytabEntry) → entry_at body ≡ read
     → Stands place (entry_in place.at behind read)
-entry_stands place after behind body sized filled takes None e =
-    (refl, record {
-      body = body;
-      others = behind.rest;
-      behind_is = sized.takes.parts ∙ ap (λ (text : List ℕ). signed_bytes w32 (pos (length body)) ++ text) takes.parts;
-      size = filled;
-      size_fits = sized.fits.sfits;
-      no_entry = λ made short_kvno rest is_entry same. none_and_some (entry_at body) made e (ap entry_at same ∙ again_entry made short_kvno rest is_entry);
-    })
+entry_stands place after behind body sized filled takes None e = (
+  refl,
+  record {
+    body = body;
+    others = behind.rest;
+    behind_is = sized.takes.parts ∙ ap (λ (text : List ℕ). signed_bytes w32 (pos (length body)) ++ text) takes.parts;
+    size = filled;
+    size_fits = sized.fits.sfits;
+    no_entry = λ made short_kvno rest is_entry same. none_and_some (entry_at body) made e (ap entry_at same ∙ again_entry made short_kvno rest is_entry);
+  },
+)
   where
     none_and_some : (read : Option KeytabEntry) (made : KeytabEntry) → read ≡ None → read ≡ Some made → ⊥
     none_and_some read made p q = cc

@@ -23,11 +23,11 @@ impl Model for Entry {
     ghost Value = { KeytabEntry };
 
     ghost view = { λ e. record {
-        principal = e.principal;
-        timestamp = e.timestamp;
-        kvno = e.kvno;
-        etype = e.etype;
-        key = e.key.items;
+      principal = e.principal;
+      timestamp = e.timestamp;
+      kvno = e.kvno;
+      etype = e.etype;
+      key = e.key.items;
     } };
 
     ghost invariant = { λ e. LengthsFit e.principal e.key.items };
@@ -50,11 +50,11 @@ impl Entry {
         key: Vec<u8>,
     ) -> Option<Entry>
         ensures { SomeIff result (LengthsFit principal key.items) (record {
-            principal = principal;
-            timestamp = timestamp;
-            kvno = kvno;
-            etype = etype;
-            key = key.items;
+          principal = principal;
+          timestamp = timestamp;
+          kvno = kvno;
+          etype = etype;
+          key = key.items;
         }) }
     {
         if !lengths_fit(&principal, &key) {
@@ -73,11 +73,11 @@ impl Entry {
     ) -> Entry
         requires { LengthsFit principal key.items }
         ensures { result ≡ record {
-            principal = principal;
-            timestamp = timestamp;
-            kvno = kvno;
-            etype = etype;
-            key = key.items;
+          principal = principal;
+          timestamp = timestamp;
+          kvno = kvno;
+          etype = etype;
+          key = key.items;
         } }
     {
         Entry {

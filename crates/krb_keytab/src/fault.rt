@@ -3,7 +3,6 @@
 ghost use Rattle.std.specs.Prelude.{◌≡◌};
 ghost use Rattle.krb_keytab.specs.declared.fault.KeytabFault.TheVariants.{OutOfMemory};
 
-
 use krb_name::ReadFault;
 use std::alloc::{AllocError, AllocFailed};
 use thiserror::Error;

@@ -29,6 +29,7 @@ pub use fault::KeytabFault;
 pub use keytab::Keytab;
 pub use pick::Picked;
 
-
+#[cfg(test)]
+mod real_files;
 #[cfg(test)]
 mod tests;

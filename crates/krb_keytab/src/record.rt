@@ -1,6 +1,5 @@
 //! The records of a keytab, one after the other.
 
-
 use crate::view::EntryView;
 
 /// What stands at a place where a record may begin.

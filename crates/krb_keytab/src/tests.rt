@@ -1,5 +1,6 @@
 use super::*;
-use krb_name::{Bytes, Components, PieceSource, Principal, ReadSource, SliceSource, Source};
+use crate::real_files::{HOLES, KTUTIL};
+use krb_name::{Bytes, Components, Principal, ReadSource};
 use std::alloc::Global;
 use std::test::*;
 
@@ -10,6 +11,18 @@ const ALICE: [u8; 52] = [
     0x37, 0x05, 0xd9, 0x60, 0x80, 0xc1, 0x77, 0x28, 0xa0, 0xe8, 0x00, 0xea, 0xb6, 0xe0, 0xd2, 0x3c,
     0x00, 0x00, 0x01, 0x00,
 ];
+
+fn name_of(alloc: Global, realm: &[u8], components: &[&[u8]]) -> Result<Principal, Fail> {
+    let mut made = Components::new(alloc);
+    for component in components {
+        made.push(Bytes::from_slice(alloc, component)?)?;
+    }
+    Ok(Principal {
+        realm: Bytes::from_slice(alloc, realm)?,
+        name_type: 1,
+        components: made,
+    })
+}
 
 fn listed(alloc: Global, keytab: &Keytab) -> Result<String, Fail> {
     let mut list = String::new(alloc);
@@ -24,7 +37,7 @@ fn listed(alloc: Global, keytab: &Keytab) -> Result<String, Fail> {
     Ok(list)
 }
 
-// What a reader answers for the bytes: the entries as lines, or the fault.
+// The entries of the bytes as lines, or the fault.
 fn answer(alloc: Global, bytes: &[u8]) -> Result<Result<String, KeytabFault>, Fail> {
     match Keytab::parse(alloc, bytes) {
         Ok(keytab) => Ok(Ok(listed(alloc, &keytab)?)),
@@ -68,4 +81,131 @@ fn small_files(rt: HostRuntime) -> Result<(), Fail> {
         }
     }
     Ok(())
+}
+
+// Looks for a version number taken from the wrong place.
+#[test]
+fn version_numbers(rt: HostRuntime) -> Result<(), Fail> {
+    let alloc = rt.alloc();
+    let mut zero = ALICE;
+    zero[50] = 0;
+    let list = listed(alloc, &Keytab::parse(alloc, &zero)?)?;
+    assert_eq!(rt; list.as_str(), "0 19 1700000000 alice@EX\n");
+    zero[27] = 5;
+    let list = listed(alloc, &Keytab::parse(alloc, &zero)?)?;
+    assert_eq!(rt; list.as_str(), "5 19 1700000000 alice@EX\n");
+    let mut three = ALICE;
+    three[5] = 0x2d;
+    let list = listed(alloc, &Keytab::parse(alloc, &three[..51])?)?;
+    assert_eq!(rt; list.as_str(), "0 19 1700000000 alice@EX\n");
+    let mut cut = ALICE;
+    cut[5] = 0x29;
+    let fault = Keytab::parse(alloc, &cut[..47])
+        .err()
+        .ok_or("a cut key is no entry")?;
+    assert_eq!(rt; fault, KeytabFault::BadEntry { at: 2 });
+    assert_eq!(rt; fault.at(), Some(2));
+    assert_eq!(rt; KeytabFault::Version.at(), None);
+    Ok(())
+}
+
+// A source of any pieces gives what parse gives, and a failed read is told.
+#[test]
+fn sources(rt: HostRuntime) -> Result<(), Fail> {
+    let alloc = rt.alloc();
+    let keytab = Keytab::read(alloc, &mut ReadSource::new(&ALICE[..]))?;
+    let list = listed(alloc, &keytab)?;
+    assert_eq!(rt; list.as_str(), "256 19 1700000000 alice@EX\n");
+    let short = Keytab::read(alloc, &mut ReadSource::new(&ALICE[..51])).err();
+    assert_eq!(rt; short, Some(KeytabFault::Truncated { at: 2 }));
+    Ok(())
+}
+
+#[test]
+fn entries_are_made(rt: HostRuntime) -> Result<(), Fail> {
+    let alloc = rt.alloc();
+    let key = Vec::from_slice(alloc, &[7; 16])?;
+    let made = Entry::new(
+        name_of(alloc, b"EX", &[b"host", b"web"])?,
+        1_700_000_000,
+        3,
+        19,
+        key,
+    );
+    let entry = made.ok_or("the entry fits")?;
+    assert_eq!(rt; entry.principal().to_text(alloc)?.as_str(), "host/web@EX");
+    assert_eq!(rt; entry.timestamp(), 1_700_000_000);
+    assert_eq!(rt; entry.kvno(), 3);
+    assert_eq!(rt; entry.etype(), 19);
+    assert_eq!(rt; entry.key(), [7; 16].as_slice());
+    let long = vec![in alloc; 0u8; 65_536]?;
+    assert!(rt;
+        Entry::new(name_of(alloc, b"EX", &[b"web"])?, 0, 1, 19, long).is_none(),
+        "a key of 65,536 bytes has no room"
+    );
+    Ok(())
+}
+
+// What MIT's `klist -kte` lists of these files.
+#[test]
+fn real_files(rt: HostRuntime) -> Result<(), Fail> {
+    let alloc = rt.alloc();
+    let list = listed(alloc, &Keytab::parse(alloc, &HOLES)?)?;
+    assert_eq!(rt;
+        list.as_str(),
+        "2 20 1795330567 host/web.peer.test@PEER.TEST\n\
+        2 19 1795330567 host/web.peer.test@PEER.TEST\n\
+        4 20 1795330567 host/web.peer.test@PEER.TEST\n\
+        4 19 1795330567 host/web.peer.test@PEER.TEST\n"
+    );
+    let list = listed(alloc, &Keytab::parse(alloc, &KTUTIL)?)?;
+    assert_eq!(rt;
+        list.as_str(),
+        "2 20 1795330568 host/web.peer.test@PEER.TEST\n\
+        3 20 1795330568 host/web.peer.test@PEER.TEST\n\
+        3 19 1795330568 host/web.peer.test@PEER.TEST\n\
+        4 20 1795330568 host/web.peer.test@PEER.TEST\n\
+        4 19 1795330568 host/web.peer.test@PEER.TEST\n"
+    );
+    Ok(())
+}
+
+// A record of host/web@EX, written by hand from the format, with this version number and key.
+fn record_of(alloc: Global, kvno: u8, key: u8) -> Result<Vec<u8>, Fail> {
+    let mut bytes = Vec::new(alloc);
+    bytes.extend_from_slice(&[0, 0, 0, 46, 0, 2, 0, 2, 0x45, 0x58, 0, 4])?;
+    bytes.extend_from_slice(b"host")?;
+    bytes.extend_from_slice(&[0, 3])?;
+    bytes.extend_from_slice(b"web")?;
+    bytes.extend_from_slice(&[0, 0, 0, 3, 0, 0, 0, 0, kvno, 0, 19, 0, 16])?;
+    bytes.extend_from_slice(&[key; 16])?;
+    Ok(bytes)
+}
+
+// Looks for a choice of the wrong entry among three of one name.
+#[test]
+fn picks(rt: HostRuntime) -> Result<(), Fail> {
+    let alloc = rt.alloc();
+    let mut bytes = Vec::from_slice(alloc, &[0x05, 0x02])?;
+    for (kvno, key) in [(2, 0xa), (3, 0xb), (3, 0xc)] {
+        bytes.extend_from_slice(&record_of(alloc, kvno, key)?)?;
+    }
+    let keytab = Keytab::parse(alloc, &bytes)?;
+    let service = name_of(alloc, b"EX", &[b"host", b"web"])?;
+    let other = name_of(alloc, b"EX", &[b"host"])?;
+    assert_eq!(rt; keytab.entries().len(), 3);
+    assert_eq!(rt; key_of(keytab.pick(&service, 19, None)), Some(0xb));
+    assert_eq!(rt; key_of(keytab.pick(&service, 19, Some(2))), Some(0xa));
+    assert_eq!(rt; key_of(keytab.pick(&service, 19, Some(3))), Some(0xb));
+    assert!(rt; matches!(keytab.pick(&service, 19, Some(4)), Picked::NoVersion));
+    assert!(rt; matches!(keytab.pick(&service, 20, None), Picked::NoKey));
+    assert!(rt; matches!(keytab.pick(&other, 19, None), Picked::NoName));
+    Ok(())
+}
+
+fn key_of(picked: Picked<'_>) -> Option<u8> {
+    match picked {
+        Picked::Entry(entry) => entry.key().first().copied(),
+        _ => None,
+    }
 }

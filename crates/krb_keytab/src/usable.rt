@@ -7,8 +7,11 @@ use crate::entry::Entry;
 
 // The encryption types of RFC 8009, and how long their keys are in bytes.
 const AES128_SHA256: i16 = 19;
+
 const AES128_KEY_LENGTH: usize = 16;
+
 const AES256_SHA384: i16 = 20;
+
 const AES256_KEY_LENGTH: usize = 32;
 
 /// Says whether the entry has this encryption type and a key that is usable with it.

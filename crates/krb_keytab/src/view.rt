@@ -29,22 +29,22 @@ impl<'a> Model for EntryView<'a> {
     ghost Value = { KeytabEntry };
 
     ghost view = { λ e. record {
-        principal = record {
-            realm = e.realm.now;
-            name_type = e.name_type;
-            components = first_components e.component_count e.components.now;
-        };
-        timestamp = e.timestamp;
-        kvno = e.kvno;
-        etype = e.etype;
-        key = e.key.now;
+      principal = record {
+        realm = e.realm.now;
+        name_type = e.name_type;
+        components = first_components e.component_count e.components.now;
+      };
+      timestamp = e.timestamp;
+      kvno = e.kvno;
+      etype = e.etype;
+      key = e.key.now;
     } };
 
     ghost invariant = { λ e. HasComponents e.component_count e.components.now
         × LengthsFit (record {
-            realm = e.realm.now;
-            name_type = e.name_type;
-            components = first_components e.component_count e.components.now;
+          realm = e.realm.now;
+          name_type = e.name_type;
+          components = first_components e.component_count e.components.now;
         }) e.key.now };
 }
 

@@ -14,8 +14,8 @@ pub returns-in_default-clause-fault : goal.returns-in_default-clause-fault
 returns-in_default-clause-fault c = (
   omega arith,
   λ others e.
-    elim c.in_default.branch [
-      | in_default-via-in-Ok+in_default w ↦ other_number c.args.bytes.now others c.new-cursor.result _ _ c.new-cursor.ensures w.in_default.ensures.read w.in_default.field-0-test.1 e
-      | in_default-via-in_default w ↦ too_few c.args.bytes.now others c.new-cursor.result c.new-cursor.ensures (IfErr-at_err _ w.in_default.is c.read_u16.ensures.short) e
-    ],
+      elim c.in_default.branch [
+        | in_default-via-in-Ok+in_default w ↦ other_number c.args.bytes.now others c.new-cursor.result _ _ c.new-cursor.ensures w.in_default.ensures.read w.in_default.field-0-test.1 e
+        | in_default-via-in_default w ↦ too_few c.args.bytes.now others c.new-cursor.result c.new-cursor.ensures (IfErr-at_err _ w.in_default.is c.read_u16.ensures.short) e
+      ],
 )

@@ -14,6 +14,6 @@ returns c =
     elim c.loop-test.branch [
       | else-loop-test w ↦ first_is c.args.count c.args.bytes.now c.loop.components _ (is_done c.loop.components c.args.count c.loop.counter c.loop.cursor _ w.loop-test.false c.loop.invariant)
       | then-loop-test+in_default w ↦
-        let none = ends c.loop.components c.args.count c.loop.counter c.loop.cursor _ w.loop-test.true w.in_default.ensures.short c.loop.invariant in
-        absurd (none_is_not_some _ _ none c.requires.1)
+          let none = ends c.loop.components c.args.count c.loop.counter c.loop.cursor _ w.loop-test.true w.in_default.ensures.short c.loop.invariant in
+          absurd (none_is_not_some _ _ none c.requires.1)
     ]

@@ -1,4 +1,4 @@
-use Rattle.std.proofs.Common.{◌≡◌, ◌<◌, ◌≤◌, arith, sym, w32}
+use Rattle.std.proofs.Common.{arith, w32}
 use Rattle.std.proofs.lemmas.Int.{to_z-of_z}
 use Rattle.krb_keytab.specs.Pick.{IsCandidate}
 use Rattle.krb_keytab.proofs.PickLaws.{other_name, no_key, no_version, replaced, is_so, is_not, key_of, not_key_of, below_at, not_entry}
