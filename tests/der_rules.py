@@ -16,9 +16,6 @@ The rules (X.690, sections 8.1, 8.3, 8.6, 8.7 and 10.1; RFC 4120, section 5.2):
 This script writes src/tests/cases.rt of krb_der: `tests/der_rules.py > crates/krb_der/src/tests/cases.rt`.
 """
 
-from calendar import monthrange
-
-
 class Refused(Exception):
     def __init__(self, kind, at):
         super().__init__(kind, at)
@@ -160,21 +157,23 @@ def cases():
 
 def main():
     print("//! Written by tests/der_rules.py, from the rules; not edited by hand.\n")
-    print("use super::Kind::{self, *};\nuse crate::FaultKind::{self, *};\n")
+    print("use super::Kind;\nuse crate::FaultKind;\n")
     print("/// The kind that is read, the bytes, and the number that the value is, or the fault and its offset.")
-    print("pub type Case = (Kind, &'static [u8], Result<i64, (FaultKind, usize)>);\n")
-    rows = []
+    print("pub type Case = (Kind, &'static [u8], Result<i64, (FaultKind, usize)>);")
+    tables = {}
     for kind, data in cases():
-        name = kind.capitalize() if kind != "int32" and kind != "uint32" else {"int32": "Int32", "uint32": "Uint32"}[kind]
         text = "b\"" + "".join(f"\\x{b:02x}" for b in data) + "\""
         try:
             answer = f"Ok({read(kind, data)})"
         except Refused as fault:
-            answer = f"Err(({fault.kind}, {fault.at}))"
-        rows.append(f"    ({name}, {text}, {answer}),")
-    print(f"pub const CASES: [Case; {len(rows)}] = [")
-    print("\n".join(rows))
-    print("];")
+            answer = f"Err((FaultKind::{fault.kind}, {fault.at}))"
+        tables.setdefault(kind, []).append(f"    (Kind::{kind.capitalize()}, {text}, {answer}),")
+    for kind, rows in tables.items():
+        for part in range(0, len(rows), 12):
+            some = rows[part : part + 12]
+            print(f"\npub static {kind.upper()}_{part // 12}: [Case; {len(some)}] = [")
+            print("\n".join(some))
+            print("];")
 
 
 if __name__ == "__main__":

@@ -222,9 +222,22 @@ impl<'a> Cursor<'a> {
         Ok(row)
     }
 
-    /// Reads an element with this tag round it.
+    /// Reads a SEQUENCE of these fields with this tag round it, as that of `[APPLICATION 2]` is 62 (hexadecimal). Errors as of
+    /// [`read`](Self::read).
     #[tactic(auto, unfolding(crate::specs::Inner::Read::element_at, crate::specs::Inner::Read::element_by))]
-    pub(crate) fn wrapped<T: Element<'a> + Drop>(&mut self, tag: u8) -> Result<T, Fault>
+    pub fn application<R: Row<'a> + Drop>(&mut self, tag: u8) -> Result<R, Fault>
+        ensures { Gives R.view result self.old self.new (element_at (wrapped tag (sequence R.fields)) self.old) }
+    {
+        let (mut content, after) = self.head(tag)?;
+        let row = content.sequence()?;
+        content.finish_here()?;
+        *self = after;
+        Ok(row)
+    }
+
+    /// Reads an element with this tag round it. Errors as of [`read`](Self::read).
+    #[tactic(auto, unfolding(crate::specs::Inner::Read::element_at, crate::specs::Inner::Read::element_by))]
+    pub fn wrapped<T: Element<'a> + Drop>(&mut self, tag: u8) -> Result<T, Fault>
         ensures { Gives T.view result self.old self.new (element_at (wrapped tag T.kind) self.old) }
     {
         let (mut content, after) = self.head(tag)?;

@@ -165,6 +165,17 @@ pub fn write_sequence<R: EncodeRow>(row: &R, out: &mut Writer) -> Result<(), Enc
     out.limited(written)
 }
 
+/// Writes a SEQUENCE of these fields with this tag round it. Errors as of [`Encode::write`].
+pub fn write_application<R: EncodeRow>(row: &R, tag: u8, out: &mut Writer) -> Result<(), EncodeFault>
+    requires { length out.old ≤ limit }
+    ensures { Encodes (Spells (wrapped tag (sequence R.fields)) (R.view row.now)) result out.old out.new }
+{
+    let start = out.len();
+    write_sequence(row, out)?;
+    let written = out.wrap(tag, start);
+    out.limited(written)
+}
+
 impl<const TAG: u8, T: Encode> Encode for Field<TAG, T> {
     ghost kind = { wrapped TAG T.kind };
 

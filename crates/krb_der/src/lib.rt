@@ -19,10 +19,13 @@ mod writer;
 
 pub use cursor::Cursor;
 pub use element::Element;
-pub use encoding::{Encode, EncodeRow, encoded, write_sequence};
+pub use encoding::{Encode, EncodeRow, encoded, write_application, write_sequence};
 pub use fault::{EncodeFault, Fault, FaultKind};
 pub use message::{Message, parse};
 pub use row::{Field, Maybe, Row};
 pub use time::Seconds;
 pub use writer::Writer;
 pub use value::{Constant, Flags, Microseconds, Octets, Text};
+
+#[cfg(test)]
+mod tests;
