@@ -5,3 +5,5 @@ pub mod FileLaws
 pub mod OpeningLaws
 pub mod SourceLaws
 pub mod PickLaws
+pub mod AnswerLaws
+pub mod ChoiceLaws

@@ -1,5 +1,5 @@
 -- Which entry of a keytab is taken for a principal, an encryption type and a version number.
-use Rattle.std.specs.Prelude.{◌≡◌, ℕ, ◌<◌, ◌≤◌, ℤ, List, ◌∷◌, ◌++◌, Option, IfSome, All}
+use Rattle.std.specs.Prelude.{◌≡◌, ℕ, ◌<◌, ◌≤◌, ℤ, List, ◌∷◌, ◌++◌, Option, IfSome, All, ⊤}
 use Rattle.krb_name.specs.declared.principal.Principal.{Principal}
 use Rattle.krb_name.specs.Name.{SameName}
 use Rattle.krb_keytab.specs.Entry.{KeytabEntry}
@@ -41,3 +41,11 @@ IsPicked entries name etype kvno (Entry entry) = IsChosen entries name etype kvn
 IsPicked entries name etype kvno NoName = All (λ entry. ¬ SameName entry.principal name) entries
 IsPicked entries name etype kvno NoKey = HasEntry (λ entry. SameName entry.principal name) entries × All (λ entry. ¬ IsKeyOf name etype entry) entries
 IsPicked entries name etype kvno NoVersion = HasEntry (IsKeyOf name etype) entries × All (λ entry. ¬ IsCandidate name etype kvno entry) entries
+
+-- the same entry, as a value, or the same want
+abbrev pub IsSamePick : Picked → Picked → Type 0
+IsSamePick (Entry one) (Entry other) = one.now ≡ other.now
+IsSamePick NoName NoName = ⊤
+IsSamePick NoKey NoKey = ⊤
+IsSamePick NoVersion NoVersion = ⊤
+IsSamePick _ _ = ⊥

@@ -17,6 +17,7 @@
 mod entry;
 mod fault;
 mod keytab;
+pub mod laws;
 mod next;
 mod opening;
 mod pick;

@@ -1,0 +1,85 @@
+-- One choice is right for a list of entries.
+use Rattle.std.proofs.Common.{◌≡◌, ℕ, ◌<◌, ◌≤◌, ℤ, List, [], ◌∷◌, ◌++◌, Option, sym, subst, ◌∙◌, arith}
+use Rattle.std.specs.Prelude.{All}
+use Rattle.std.specs.List.{AllByRecursion}
+use Rattle.std.proofs.lemmas.List.Elements.{recursion_from_All, All-same}
+use Rattle.krb_name.specs.declared.principal.Principal.{Principal}
+use Rattle.krb_name.specs.Name.{SameName}
+use Rattle.krb_keytab.specs.Entry.{KeytabEntry}
+use Rattle.krb_keytab.specs.Pick.{IsKeyOf, IsCandidate, HasEntry, IsChosen, IsPicked, IsSamePick}
+use Rattle.krb_keytab.specs.declared.pick.Picked.{Picked}
+use Rattle.krb_keytab.specs.declared.pick.Picked.TheVariants.{Entry, NoName, NoKey, NoVersion}
+
+at_middle : (P : KeytabEntry → Type 0) (before : List KeytabEntry) (e : KeytabEntry) (after : List KeytabEntry) → AllByRecursion P (before ++ e ∷ after) → P e
+at_middle P [] e after h = h.0
+at_middle P (x ∷ before) e after h = at_middle P before e after h.1
+
+has_none : (P : KeytabEntry → Type 0) (entries : List KeytabEntry) → HasEntry P entries → All (λ e. ¬ P e) entries → ⊥
+has_none P entries has none =
+    at_middle (λ e. ¬ P e) has.before has.entry has.after (recursion_from_All (λ e. ¬ P e) (has.before ++ has.entry ∷ has.after) (All-same (λ e. ¬ P e) (has.before ++ has.entry ∷ has.after) entries (sym has.entries_are) none)) has.holds
+
+abbrev entries_are : List KeytabEntry → List KeytabEntry
+entries_are xs = xs
+
+heads : (x y : KeytabEntry) (xs ys : List KeytabEntry) → entries_are (x ∷ xs) ≡ entries_are (y ∷ ys) → x ≡ y
+heads x y xs ys e = cc
+
+tails : (x y : KeytabEntry) (xs ys : List KeytabEntry) → entries_are (x ∷ xs) ≡ entries_are (y ∷ ys) → xs ≡ ys
+tails x y xs ys e = cc
+
+abbrev Below : (KeytabEntry → Type 0) → KeytabEntry → KeytabEntry → Type 0
+Below C e other = C other → other.kvno < e.kvno
+
+abbrev AtMost : (KeytabEntry → Type 0) → KeytabEntry → KeytabEntry → Type 0
+AtMost C e other = C other → other.kvno ≤ e.kvno
+
+apart : (a b : ℕ) → a < b → b ≤ a → ⊥
+apart a b p q = omega arith
+
+same_place : (C : KeytabEntry → Type 0) (before others : List KeytabEntry) (e f : KeytabEntry) (after rest : List KeytabEntry) → C e → C f → AllByRecursion (Below C e) before → AllByRecursion (AtMost C e) after
+    → AllByRecursion (Below C f) others → AllByRecursion (AtMost C f) rest → before ++ e ∷ after ≡ others ++ f ∷ rest → e ≡ f
+same_place C [] [] e f after rest ce cf be ae bf af same = heads e f after rest same
+same_place C [] (y ∷ others) e f after rest ce cf be ae bf af same =
+    let first : e ≡ y = heads e y after (others ++ f ∷ rest) same in
+    let less : e.kvno < f.kvno = (subst (Below C f) (sym first) bf.0) ce in
+    let more : f.kvno ≤ e.kvno = at_middle (AtMost C e) others f rest (subst (AllByRecursion (AtMost C e)) (tails e y after (others ++ f ∷ rest) same) ae) cf in
+    absurd (apart e.kvno f.kvno less more)
+same_place C (x ∷ before) [] e f after rest ce cf be ae bf af same =
+    let first : f ≡ x = heads f x rest (before ++ e ∷ after) (sym same) in
+    let less : f.kvno < e.kvno = (subst (Below C e) (sym first) be.0) cf in
+    let more : e.kvno ≤ f.kvno = at_middle (AtMost C f) before e after (subst (AllByRecursion (AtMost C f)) (tails f x rest (before ++ e ∷ after) (sym same)) af) ce in
+    absurd (apart f.kvno e.kvno less more)
+same_place C (x ∷ before) (y ∷ others) e f after rest ce cf be ae bf af same = same_place C before others e f after rest ce cf be.1 ae bf.1 af (tails x y (before ++ e ∷ after) (others ++ f ∷ rest) same)
+
+same_chosen : (entries : List KeytabEntry) (name : Principal) (etype : ℤ) (kvno : Option ℕ) (e f : KeytabEntry) → IsChosen entries name etype kvno e → IsChosen entries name etype kvno f → e ≡ f
+same_chosen entries name etype kvno e f p q =
+    let C : KeytabEntry → Type 0 = IsCandidate name etype kvno in
+    same_place C p.before q.before e f p.after q.after p.candidate q.candidate (recursion_from_All (Below C e) p.before p.above) (recursion_from_All (AtMost C e) p.after p.highest)
+    (recursion_from_All (Below C f) q.before q.above) (recursion_from_All (AtMost C f) q.after q.highest) (sym p.entries_are ∙ q.entries_are)
+
+chosen_there : (entries : List KeytabEntry) (name : Principal) (etype : ℤ) (kvno : Option ℕ) (e : KeytabEntry) → IsChosen entries name etype kvno e → HasEntry (IsCandidate name etype kvno) entries
+chosen_there entries name etype kvno e p = record { before = p.before; entry = e; after = p.after; entries_are = p.entries_are; holds = p.candidate }
+
+key_there : (entries : List KeytabEntry) (name : Principal) (etype : ℤ) (kvno : Option ℕ) → HasEntry (IsCandidate name etype kvno) entries → HasEntry (IsKeyOf name etype) entries
+key_there entries name etype kvno h = record { before = h.before; entry = h.entry; after = h.after; entries_are = h.entries_are; holds = h.holds.key_of }
+
+name_there : (entries : List KeytabEntry) (name : Principal) (etype : ℤ) → HasEntry (IsKeyOf name etype) entries → HasEntry (λ e. SameName e.principal name) entries
+name_there entries name etype h = record { before = h.before; entry = h.entry; after = h.after; entries_are = h.entries_are; holds = h.holds.same_name }
+
+pub one_choice : (entries : List KeytabEntry) (name : Principal) (etype : ℤ) (kvno : Option ℕ) (one other : Picked) → IsPicked entries name etype kvno one → IsPicked entries name etype kvno other → IsSamePick one other
+one_choice entries name etype kvno (Entry e) (Entry f) p q = same_chosen entries name etype kvno e.now f.now p q
+one_choice entries name etype kvno (Entry e) NoName p q = has_none (λ x. SameName x.principal name) entries (name_there entries name etype (key_there entries name etype kvno (chosen_there entries name etype kvno e.now p))) q
+one_choice entries name etype kvno (Entry e) NoKey p q = has_none (IsKeyOf name etype) entries (key_there entries name etype kvno (chosen_there entries name etype kvno e.now p)) q.1
+one_choice entries name etype kvno (Entry e) NoVersion p q = has_none (IsCandidate name etype kvno) entries (chosen_there entries name etype kvno e.now p) q.1
+one_choice entries name etype kvno NoName (Entry f) p q = has_none (λ x. SameName x.principal name) entries (name_there entries name etype (key_there entries name etype kvno (chosen_there entries name etype kvno f.now q))) p
+one_choice entries name etype kvno NoName NoName p q = tt
+one_choice entries name etype kvno NoName NoKey p q = has_none (λ x. SameName x.principal name) entries q.0 p
+one_choice entries name etype kvno NoName NoVersion p q = has_none (λ x. SameName x.principal name) entries (name_there entries name etype q.0) p
+one_choice entries name etype kvno NoKey (Entry f) p q = has_none (IsKeyOf name etype) entries (key_there entries name etype kvno (chosen_there entries name etype kvno f.now q)) p.1
+one_choice entries name etype kvno NoKey NoName p q = has_none (λ x. SameName x.principal name) entries p.0 q
+one_choice entries name etype kvno NoKey NoKey p q = tt
+one_choice entries name etype kvno NoKey NoVersion p q = has_none (IsKeyOf name etype) entries q.0 p.1
+one_choice entries name etype kvno NoVersion (Entry f) p q = has_none (IsCandidate name etype kvno) entries (chosen_there entries name etype kvno f.now q) p.1
+one_choice entries name etype kvno NoVersion NoName p q = has_none (λ x. SameName x.principal name) entries (name_there entries name etype p.0) q
+one_choice entries name etype kvno NoVersion NoKey p q = has_none (IsKeyOf name etype) entries p.0 q.1
+one_choice entries name etype kvno NoVersion NoVersion p q = tt

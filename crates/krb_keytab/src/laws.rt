@@ -1,0 +1,26 @@
+//! Laws over the definitions, for proofs to cite. Each function does nothing: its contract is the law.
+
+ghost use Rattle.std.specs.Prelude.{◌≡◌, ℕ, ℤ, List, Option, Result};
+ghost use Rattle.krb_name.specs.Field.{IsBytes};
+ghost use Rattle.krb_name.specs.declared.principal.Principal.{Principal};
+ghost use Rattle.krb_keytab.specs.Entry.{KeytabEntry};
+ghost use Rattle.krb_keytab.specs.Format.{IsAnswerOf};
+ghost use Rattle.krb_keytab.specs.Pick.{IsPicked, IsSamePick};
+ghost use Rattle.krb_keytab.specs.declared.fault.KeytabFault.{KeytabFault};
+ghost use Rattle.krb_keytab.specs.declared.pick.Picked.{Picked};
+
+/// Says that bytes are a keytab or have a fault; and that they are a keytab of one list of entries
+/// only, or have one fault only, and not both.
+pub fn each_file_has_one_answer()
+    ensures some { (bytes : List ℕ) → IsBytes bytes
+        → (answer : Result (List KeytabEntry) KeytabFault) × IsAnswerOf bytes answer }
+    ensures one { (bytes : List ℕ) (answer other : Result (List KeytabEntry) KeytabFault) → IsBytes bytes
+        → IsAnswerOf bytes answer → IsAnswerOf bytes other → answer ≡ other }
+{}
+
+/// Says that one choice is right: one entry, as a value, or one of the three wants.
+pub fn each_choice_is_one()
+    ensures { (entries : List KeytabEntry) (name : Principal) (etype : ℤ) (kvno : Option ℕ)
+        (picked other : Picked) → IsPicked entries name etype kvno picked
+        → IsPicked entries name etype kvno other → IsSamePick picked other }
+{}
