@@ -1,11 +1,11 @@
 -- The calendar of the definitions is that of jiff.
-use Rattle.std.proofs.Common.{◌≡◌, ℕ, zero, suc, ◌+◌, ◌-◌, ◌<◌, ◌≤◌, ℤ, pos, ◌+ℤ◌, ◌-ℤ◌, ◌*ℤ◌, ◌≤ℤ◌, neg_ℤ, ◌*◌, ◌/◌, ◌%◌, refl, sym, ap, subst, ◌∙◌, arith, w16, w64, Fits, negsuc, to_z, of_z, add_assoc, lit≤, Option, Some, Result, Ok, Err}
+use Rattle.std.proofs.Common.{◌≡◌, ℕ, zero, suc, ◌+◌, ◌-◌, ◌<◌, ◌≤◌, ℤ, pos, ◌+ℤ◌, ◌-ℤ◌, ◌*ℤ◌, ◌≤ℤ◌, neg_ℤ, ◌*◌, ◌/◌, ◌%◌, refl, sym, ap, subst, ◌∙◌, arith, w16, w64, Fits, negsuc, to_z, of_z, add_assoc, lit≤, Some, Result, Ok, Err}
 use Rattle.std.proofs.lemmas.Int.{ints, to_z-of_z, by_lt_z}
 use mir.Val.{SFits}
 use lib.Dec.{T}
 use lib.Signed.{non_neg}
 use lib.IntN.{nat_abs}
-use Rattle.std.proofs.lemmas.Bool.{le-leb, lt-ltb}
+use Rattle.std.proofs.lemmas.Bool.{le-leb}
 use Rattle.std.specs.Result.{result_ok}
 use Rattle.jiff_core.proofs.CalendarLemmas.{day_count-lt_year, days_from_civil-day_count}
 use Rattle.jiff_core.proofs.DateLemmas.{civil}
@@ -68,7 +68,7 @@ pub day_of-date : (date : Date) (y m d : ℕ) → date.year ≡ pos y → date.m
     → day_of y m d ≡ Some (jiff.days_from_civil date.year date.month date.day)
 day_of-date date y m d year month day =
     let length_is : jiff.days_in_month date.year date.month ≡ own.days_in_month y m =
-        ap (λ z. jiff.days_in_month z date.month) year ∙ ap (λ n. jiff.days_in_month (pos y) n) month in
+    ap (λ z. jiff.days_in_month z date.month) year ∙ ap (λ n. jiff.days_in_month (pos y) n) month in
     let some = day_of-some y m d (omega (arith, date.month_in), omega (arith, date.month_in)) (omega (arith, date.day_in), omega (arith, date.day_in, length_is)) in
     some ∙ ap Some (sym (date_is date y m d year month day))
 
@@ -122,13 +122,13 @@ clock_value d n s from day = omega (arith, ints)
 pub year_from_zero : (date : Date) → neg_ℤ (pos 719_528) ≤ℤ jiff.days_from_civil date.year date.month date.day → pos 0 ≤ℤ date.year
 year_from_zero date late =
     by_lt_z date.year (pos 0)
-        (λ before.
-            let earlier = day_count-lt_year date.year date.month date.day (pos 0) 1 1 (civil date) (lit≤ tt) before in
-            let here = days_from_civil-day_count date.year date.month date.day in
-            let first = days_from_civil-day_count (pos 0) 1 1 in
-            let zero_is : jiff.days_from_civil (pos 0) 1 1 ≡ neg_ℤ (pos 719_528) = day_number_agree 0 1 1 (lit≤ tt) ∙ first_day in
-            absurd (omega (arith, ints, earlier, here, first, zero_is, late)))
-        (λ from. from)
+    (λ before.
+    let earlier = day_count-lt_year date.year date.month date.day (pos 0) 1 1 (civil date) (lit≤ tt) before in
+    let here = days_from_civil-day_count date.year date.month date.day in
+    let first = days_from_civil-day_count (pos 0) 1 1 in
+    let zero_is : jiff.days_from_civil (pos 0) 1 1 ≡ neg_ℤ (pos 719_528) = day_number_agree 0 1 1 (lit≤ tt) ∙ first_day in
+    absurd (omega (arith, ints, earlier, here, first, zero_is, late)))
+    (λ from. from)
 
 pub civil_value : (date : Date) (y n : ℕ) (s : ℤ) → date.year ≡ pos y → pos n ≡ s +ℤ pos 62_167_219_200
     → jiff.days_from_civil date.year date.month date.day +ℤ pos 4_371_587 ≡ pos (n / 86_400 + 3_652_059)

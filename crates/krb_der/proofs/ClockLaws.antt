@@ -1,5 +1,5 @@
 -- A time is read exactly where one is spelled, and it has one content.
-use Rattle.std.proofs.Common.{◌≡◌, ◌≢◌, ◌⊎◌, inl, inr, ℕ, zero, suc, ◌+◌, ◌-◌, ◌*◌, ◌/◌, ◌%◌, ◌<◌, ◌≤◌, ℤ, pos, ◌+ℤ◌, ◌*ℤ◌, Bool, true, false, ◌&&◌, cond, ltb, leb, eqb, List, [], ◌∷◌, ◌++◌, length, get_or, Option, Some, None, refl, sym, ap, subst, ◌∙◌, arith}
+use Rattle.std.proofs.Common.{◌≡◌, inl, inr, ℕ, ◌+◌, ◌-◌, ◌*◌, ◌/◌, ◌%◌, ◌<◌, ◌≤◌, ℤ, pos, ◌+ℤ◌, ◌*ℤ◌, true, ◌&&◌, ltb, leb, eqb, List, [], ◌∷◌, ◌++◌, length, get_or, Some, None, refl, sym, ap, subst, ◌∙◌, arith}
 use Rattle.std.proofs.lemmas.Bool.{lt-ltb, le-leb, ltb-true, leb-true, eqb-true, and_parts}
 use Rattle.std.proofs.lemmas.Option.{cond_some}
 use Rattle.std.proofs.lemmas.Int.{ints}
@@ -8,7 +8,7 @@ use Rattle.jiff_core.specs.declared.civil.date.Date.{Date}
 use Rattle.jiff_core.proofs.CalendarLemmas.{days_in_month_bounds}
 use Rattle.jiff_core.proofs.DateLemmas.{epoch_day_injective}
 use Rattle.krb_der.specs.Time.{Civil, IsCivil, IsTime, days_in_month, day_number, seconds_of, text_of, two}
-use Rattle.krb_der.specs.Inner.Steps.{◌>>?◌, only_if}
+use Rattle.krb_der.specs.Inner.Steps.{◌>>?◌}
 use Rattle.krb_der.specs.Inner.Clock.{is_digit, pair_of, pair_at, is_date, is_clock, day_of, clock_of, civil_of, seconds_if, time_of}
 use Rattle.krb_der.proofs.Calendar.{day_of-some, day_number_agree}
 use Rattle.krb_der.proofs.IntegerLaws.{bind_some, none_some, same_some}
@@ -61,8 +61,16 @@ civil_of-text t v =
     let long : days_in_month t.year t.month ≤ 31 = (days_in_month_bounds (pos t.year) t.month).0 in
     let day : t.day < 100 = omega (arith, v.day, long) in
     let year : 100 * (t.year / 100) + t.year % 100 ≡ t.year = omega arith in
-    rw (pair_two (t.year / 100) (omega (arith, v.year)), pair_two (t.year % 100) (omega arith), pair_two t.month month, pair_two t.day day,
-        pair_two t.hour (omega (arith, v.hour)), pair_two t.minute (omega (arith, v.minute)), pair_two t.second (omega (arith, v.second)), year) refl
+    rw (
+      pair_two (t.year / 100) (omega (arith, v.year)),
+      pair_two (t.year % 100) (omega arith),
+      pair_two t.month month,
+      pair_two t.day day,
+      pair_two t.hour (omega (arith, v.hour)),
+      pair_two t.minute (omega (arith, v.minute)),
+      pair_two t.second (omega (arith, v.second)),
+      year,
+    ) refl
 
 pub time_read : (s : ℤ) (content : List ℕ) → IsTime s content → time_of content ≡ Some s
 unfolding time_of
@@ -108,7 +116,7 @@ civil_of-read content t e =
 joined : (a b c d e f g : List ℕ) (a0 a1 b0 b1 c0 c1 d0 d1 e0 e1 f0 f1 g0 g1 z : ℕ)
     → a ≡ a0 ∷ a1 ∷ [] → b ≡ b0 ∷ b1 ∷ [] → c ≡ c0 ∷ c1 ∷ [] → d ≡ d0 ∷ d1 ∷ [] → e ≡ e0 ∷ e1 ∷ [] → f ≡ f0 ∷ f1 ∷ [] → g ≡ g0 ∷ g1 ∷ [] → 0x5a ≡ z
     → a ++ b ++ c ++ d ++ e ++ f ++ g ++ 0x5a ∷ []
-      ≡ a0 ∷ a1 ∷ b0 ∷ b1 ∷ c0 ∷ c1 ∷ d0 ∷ d1 ∷ e0 ∷ e1 ∷ f0 ∷ f1 ∷ g0 ∷ g1 ∷ z ∷ []
+    ≡ a0 ∷ a1 ∷ b0 ∷ b1 ∷ c0 ∷ c1 ∷ d0 ∷ d1 ∷ e0 ∷ e1 ∷ f0 ∷ f1 ∷ g0 ∷ g1 ∷ z ∷ []
 joined a b c d e f g a0 a1 b0 b1 c0 c1 d0 d1 e0 e1 f0 f1 g0 g1 z pa pb pc pd pe pf pg pz = rw (pa, pb, pc, pd, pe, pf, pg, pz) refl
 
 -- the parts and the last byte are the whole text
@@ -117,8 +125,8 @@ text_of-parts content t len last p =
     let high : t.year / 100 ≡ p.century = omega (arith, p.year_is, p.y.small) in
     let low : t.year % 100 ≡ p.year = omega (arith, p.year_is, p.y.small) in
     let text : text_of t ≡ two p.century ++ two p.year ++ two t.month ++ two t.day ++ two t.hour ++ two t.minute ++ two t.second ++ 0x5a ∷ [] =
-        ap (λ k. two k ++ two (t.year % 100) ++ two t.month ++ two t.day ++ two t.hour ++ two t.minute ++ two t.second ++ 0x5a ∷ []) high
-        ∙ ap (λ k. two p.century ++ two k ++ two t.month ++ two t.day ++ two t.hour ++ two t.minute ++ two t.second ++ 0x5a ∷ []) low in
+    ap (λ k. two k ++ two (t.year % 100) ++ two t.month ++ two t.day ++ two t.hour ++ two t.minute ++ two t.second ++ 0x5a ∷ []) high
+    ∙ ap (λ k. two p.century ++ two k ++ two t.month ++ two t.day ++ two t.hour ++ two t.minute ++ two t.second ++ 0x5a ∷ []) low in
     cells15 content len ∙ sym (text ∙ joined _ _ _ _ _ _ _ _ _ _ _ _ _ _ _ _ _ _ _ _ _ _ p.c.digits p.y.digits p.m.digits p.d.digits p.h.digits p.n.digits p.s.digits (sym last))
 
 seconds_if-read : (t : Civil) (s : ℤ) → t.year < 10_000 → seconds_if t ≡ Some s → IsCivil t × (seconds_of t ≡ s)
@@ -132,8 +140,8 @@ seconds_if-read t s year e =
     let d1 = and_parts (leb 1 t.month && leb t.month 12) (leb 1 t.day) d0.0 in
     let d2 = and_parts (leb 1 t.month) (leb t.month 12) d1.0 in
     let c0 = and_parts (ltb t.hour 24 && ltb t.minute 60) (ltb t.second 60) clock.0 in
-    let c1 = and_parts (ltb t.hour 24) (ltb t.minute 60) c0.0 in
-    (record {
+    let c1 = and_parts (ltb t.hour 24) (ltb t.minute 60) c0.0 in (
+      record {
         year = year;
         month = (leb-true 1 t.month d2.0, leb-true t.month 12 d2.1);
         day = (leb-true 1 t.day d1.1, leb-true t.day _ d0.1);
@@ -141,7 +149,8 @@ seconds_if-read t s year e =
         minute = ltb-true t.minute 60 c1.1;
         second = ltb-true t.second 60 c0.1;
       },
-      ap (λ z. pos 86_400 *ℤ z +ℤ pos (3_600 * t.hour + 60 * t.minute + t.second)) day.1 ∙ ap (λ k. pos 86_400 *ℤ p.0 +ℤ pos k) clock.1 ∙ same_some _ _ q.2)
+      ap (λ z. pos 86_400 *ℤ z +ℤ pos (3_600 * t.hour + 60 * t.minute + t.second)) day.1 ∙ ap (λ k. pos 86_400 *ℤ p.0 +ℤ pos k) clock.1 ∙ same_some _ _ q.2,
+    )
 
 year_small : (content : List ℕ) (t : Civil) → AreParts content t → t.year < 10_000
 year_small content t p = omega (arith, p.year_is, p.c.small, p.y.small)
@@ -151,11 +160,11 @@ unfolding time_of
 time_of-read content s e =
     elim (chosen (eqb (length content) 15 && eqb (get_or content 14 0) 0x5a) (civil_of content >>? seconds_if) None (Some s) e) [
       | inl p ↦
-        let q = and_parts (eqb (length content) 15) (eqb (get_or content 14 0) 0x5a) p.0 in
-        let b = bind_some (civil_of content) seconds_if s p.1 in
-        let parts = civil_of-read content b.0 b.1 in
-        let value = seconds_if-read b.0 s (year_small content b.0 parts) b.2 in
-        record { civil = b.0; valid = value.0; value = value.1; whole = text_of-parts content b.0 (eqb-true _ 15 q.0) (eqb-true _ 0x5a q.1) parts }
+          let q = and_parts (eqb (length content) 15) (eqb (get_or content 14 0) 0x5a) p.0 in
+          let b = bind_some (civil_of content) seconds_if s p.1 in
+          let parts = civil_of-read content b.0 b.1 in
+          let value = seconds_if-read b.0 s (year_small content b.0 parts) b.2 in
+          record { civil = b.0; valid = value.0; value = value.1; whole = text_of-parts content b.0 (eqb-true _ 15 q.0) (eqb-true _ 0x5a q.1) parts }
       | inr p ↦ absurd (none_some s p.1)
     ]
 

@@ -1,14 +1,14 @@
 -- The contents of elements without parts: each is read exactly where one is spelled, and a value has one.
-use Rattle.std.proofs.Common.{◌≡◌, ◌≢◌, ℕ, suc, ◌+◌, ◌^◌, ◌<◌, ◌≤◌, ℤ, pos, negsuc, Bool, true, false, ◌&&◌, cond, ltb, eqb, List, [], ◌∷◌, length, Option, Some, None, refl, sym, ap, subst, ◌∙◌, arith, lit≤}
+use Rattle.std.proofs.Common.{◌≡◌, ℕ, ◌^◌, ◌<◌, ◌≤◌, ℤ, pos, negsuc, ◌&&◌, ltb, eqb, List, [], ◌∷◌, length, Some, refl, sym, ap, subst, ◌∙◌, arith, lit≤}
 use Rattle.std.specs.Int.{w32}
 use Rattle.std.specs.Prelude.{FitsSigned}
 use Rattle.std.proofs.lemmas.Bool.{lt-ltb, ltb-true, eqb-true, eq-eqb, and_parts}
 use Rattle.std.proofs.lemmas.Option.{cond_some}
 use Rattle.std.proofs.lemmas.Int.{ints}
 use Rattle.krb_der.specs.Kind.{Content, int32, uint32, microseconds, constant, octets, string, flags, time, ContentValue}
-use Rattle.krb_der.specs.Content.{AreBytes, number, AreFlags, IsInteger, IsNatural, Elementary}
+use Rattle.krb_der.specs.Content.{number, AreFlags, IsInteger, IsNatural, Elementary}
 use Rattle.krb_der.specs.Spells.{Contents}
-use Rattle.krb_der.specs.Inner.Steps.{◌>>?◌, only_if}
+use Rattle.krb_der.specs.Inner.Steps.{◌>>?◌}
 use Rattle.krb_der.specs.Inner.Whole.{are_bytes, whole_of, natural_below, int32_within, constant_at, flags_of}
 use Rattle.krb_der.specs.Inner.Read.{content_of, LeafReader}
 use Rattle.krb_der.proofs.Numbers.{AreBytes-true}

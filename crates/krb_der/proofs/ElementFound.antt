@@ -1,5 +1,5 @@
 -- What is read is spelled, combinator by combinator.
-use Rattle.std.proofs.Common.{◌≡◌, ◌≢◌, ◌⊎◌, inl, inr, ℕ, zero, suc, ◌+◌, ◌<◌, ◌≤◌, Bool, true, false, cond, List, [], ◌∷◌, ◌++◌, length, Option, Some, None, Result, Ok, Err, refl, sym, ap, subst, ◌∙◌, arith, length-append, append_assoc}
+use Rattle.std.proofs.Common.{◌≡◌, inl, inr, ℕ, zero, suc, List, [], ◌∷◌, ◌++◌, Option, Some, None, Result, Ok, Err, refl, sym, ap, subst, ◌∙◌, arith, length-append}
 use Rattle.std.proofs.lemmas.List.{append-nil}
 use Rattle.krb_der.specs.declared.fault.Fault.{Fault}
 use Rattle.krb_der.specs.declared.fault.FaultKind.{FaultKind}
@@ -7,7 +7,7 @@ use Rattle.krb_der.specs.Place.{Place, begins}
 use Rattle.krb_der.specs.Spells.{IsElement, IsJoined, IfPresent, ForEach}
 use Rattle.krb_der.specs.Fault.{HasHead}
 use Rattle.krb_der.specs.Inner.Steps.{◌>>=◌}
-use Rattle.krb_der.specs.Inner.Read.{fault_at, enter_at, finish_at, leaf_at, wrapped_at, sequence_at, must_at, may_at, each_from, each_at, value_or}
+use Rattle.krb_der.specs.Inner.Read.{enter_at, finish_at, leaf_at, wrapped_at, sequence_at, must_at, may_at, each_from, value_or}
 use Rattle.krb_der.proofs.LengthLaws.{chosen, no_value, same_error}
 use Rattle.krb_der.proofs.ElementSteps.{Taken, bind_ok, same_ok, enter_at-read, finish_at-read}
 
@@ -81,7 +81,7 @@ must_found {V = V} {W = W} Part IsRest first others finds rests p x e =
     let b = bind_ok (first p) (λ y. others y.1 >>= λ z. Ok (y.0, z)) x e in
     let c = bind_ok (others b.0.1) (λ z. Ok (b.0.0, z)) x b.2 in
     subst (λ (y : V × W). IsJoined (Part y.0) (IsRest y.1) p.rest) (same_ok {E = Fault} (b.0.0, c.0) x c.2)
-        (joined-taken Part (IsRest c.0) b.0.0 p b.0.1 (finds p b.0.0 b.0.1 b.1) (rests b.0.1 c.0 c.1))
+    (joined-taken Part (IsRest c.0) b.0.0 p b.0.1 (finds p b.0.0 b.0.1 b.1) (rests b.0.1 c.0 c.1))
 
 pub may_found : {V W : Type 0} (tag : ℕ) (Part : V → List ℕ → Type 0) (IsRest : W → List ℕ → Type 0) (first : Place → Result (V × Place) Fault) (others : Place → Result W Fault)
     → FindsParts Part first → ((p : Place) (w : W) → others p ≡ Ok w → IsRest w p.rest)
@@ -89,14 +89,14 @@ pub may_found : {V W : Type 0} (tag : ℕ) (Part : V → List ℕ → Type 0) (I
 may_found {V = V} {W = W} tag Part IsRest first others finds rests p x e =
     elim (chosen (begins tag p.rest) (first p >>= λ y. others y.1 >>= λ z. Ok (Some y.0, z)) (others p >>= λ z. Ok (None, z)) (Ok x) e) [
       | inl h ↦
-        let b = bind_ok (first p) (λ y. others y.1 >>= λ z. Ok (Some y.0, z)) x h.1 in
-        let c = bind_ok (others b.0.1) (λ z. Ok (Some b.0.0, z)) x b.2 in
-        let t = finds p b.0.0 b.0.1 b.1 in
-        subst (λ (y : Option V × W). IsJoined (IfPresent Part y.0) (IsRest y.1) p.rest) (same_ok {E = Fault} (Some b.0.0, c.0) x c.2)
+          let b = bind_ok (first p) (λ y. others y.1 >>= λ z. Ok (Some y.0, z)) x h.1 in
+          let c = bind_ok (others b.0.1) (λ z. Ok (Some b.0.0, z)) x b.2 in
+          let t = finds p b.0.0 b.0.1 b.1 in
+          subst (λ (y : Option V × W). IsJoined (IfPresent Part y.0) (IsRest y.1) p.rest) (same_ok {E = Fault} (Some b.0.0, c.0) x c.2)
           (record { front = t.front; back = b.0.1.rest; first = t.is; rest = rests b.0.1 c.0 c.1; whole = t.whole })
       | inr h ↦
-        let c = bind_ok (others p) (λ z. Ok (None, z)) x h.1 in
-        subst (λ (y : Option V × W). IsJoined (IfPresent Part y.0) (IsRest y.1) p.rest) (same_ok {E = Fault} (None, c.0) x c.2)
+          let c = bind_ok (others p) (λ z. Ok (None, z)) x h.1 in
+          subst (λ (y : Option V × W). IsJoined (IfPresent Part y.0) (IsRest y.1) p.rest) (same_ok {E = Fault} (None, c.0) x c.2)
           (record { front = []; back = p.rest; first = refl; rest = rests p c.0 c.1; whole = refl })
     ]
 
@@ -111,4 +111,4 @@ each_from_found Part read finds (suc fuel) p (b ∷ bytes) vs w e =
     let t = finds p f.0.0 f.0.1 f.1 in
     let ih = each_from_found Part read finds fuel f.0.1 f.0.1.rest g.0 refl g.1 in
     subst (λ xs. ForEach Part xs (b ∷ bytes)) (same_ok {E = Fault} (f.0.0 ∷ g.0) vs g.2)
-        (record { front = t.front; back = f.0.1.rest; first = t.is; rest = ih; whole = sym w ∙ t.whole })
+    (record { front = t.front; back = f.0.1.rest; first = t.is; rest = ih; whole = sym w ∙ t.whole })

@@ -1,18 +1,15 @@
 -- For all kinds at once: an element is read exactly where one is spelled, a refusal is a fault by the rules, and a value has one spelling.
-use Rattle.std.proofs.Common.{◌≡◌, ◌≢◌, ◌⊎◌, inl, inr, ℕ, zero, suc, ◌+◌, ◌-◌, ◌<◌, ◌≤◌, Bool, true, false, not, ◌&&◌, ◌||◌, cond, ltb, eqb, List, [], ◌∷◌, ◌++◌, length, Option, Some, None, Result, Ok, Err, refl, sym, ap, subst, ◌∙◌, arith, length-append}
-use Rattle.std.proofs.lemmas.Bool.{and_parts, or_parts, not-true, cases_Bool}
+use Rattle.std.proofs.Common.{◌≡◌, ℕ, ◌+◌, ◌≤◌, true, false, not, ◌&&◌, eqb, List, [], ◌∷◌, ◌++◌, length, Option, Some, None, Ok, refl, ap, ◌∙◌, arith}
+use Rattle.std.proofs.lemmas.Bool.{and_parts, or_parts, not-true}
 use Rattle.std.proofs.Math.Nat.{le_refl}
-use Rattle.krb_der.specs.declared.fault.Fault.{Fault}
-use Rattle.krb_der.specs.Kind.{Content, Kind, leaf, wrapped, sequence, Fields, ends, must, may, each, tag_of, content_tag, ContentValue, ValueOf, FieldsOf}
+use Rattle.krb_der.specs.Kind.{Kind, leaf, wrapped, sequence, Fields, ends, must, may, each, tag_of, content_tag, ValueOf, FieldsOf}
 use Rattle.krb_der.specs.Place.{Place, begins}
-use Rattle.krb_der.specs.Spells.{IsElement, IsJoined, IfPresent, ForEach, Contents, SpellsContent, SpellsFields, SpellsBy, StandsAt}
-use Rattle.krb_der.specs.Fault.{content_fault, HasHead, Reached, start, inside_wrapped, inside_sequence, after_element, is_there, is_absent, one_more, IsBroken, bad_content, IsFaulty}
-use Rattle.krb_der.specs.Inner.Steps.{◌>>=◌}
+use Rattle.krb_der.specs.Spells.{IsElement, IfPresent, Contents, SpellsContent, SpellsFields, SpellsBy}
+use Rattle.krb_der.specs.Fault.{content_fault}
 use Rattle.krb_der.specs.Inner.Clear.{can_begin, is_clear, are_clear}
-use Rattle.krb_der.specs.Inner.Read.{LeafReader, fault_at, enter_at, finish_at, leaf_at, wrapped_at, sequence_at, must_at, may_at, each_from, each_at, value_or, element_by, fields_by}
-use Rattle.krb_der.proofs.ContentLaws.{AreRead, AreUnique}
-use Rattle.krb_der.proofs.LengthLaws.{no_value, same_error, IsLength-unique}
-use Rattle.krb_der.proofs.ElementSteps.{Taken, bind_ok, bind_err, same_ok, cons_nil, enter_at-read, enter_at-fault, finish_at-read, finish_at-fault, finish_at-end}
+use Rattle.krb_der.specs.Inner.Read.{LeafReader, finish_at, element_by, fields_by}
+use Rattle.krb_der.proofs.ContentLaws.{AreRead}
+use Rattle.krb_der.proofs.ElementSteps.{Taken, finish_at-read, finish_at-end}
 use Rattle.krb_der.proofs.ElementFound.{leaf_found, wrapped_found, sequence_found, must_found, may_found, each_from_found}
 use Rattle.krb_der.proofs.ElementRead.{begins-element, leaf_read, wrapped_read, sequence_read, must_read, may_read, each_from_read}
 
@@ -39,6 +36,7 @@ module _ (Leaf : Contents) where
   module _ (read : LeafReader) (are : AreRead Leaf read) where
     mutual
       unfolding element_by
+
       pub element_read : (k : Kind) (v : ValueOf k) (front : List ℕ) → is_clear k ≡ true → SpellsBy Leaf k v front → (at : ℕ) (rest : List ℕ)
           → element_by read k (record { at = at; rest = front ++ rest }) ≡ Ok (v, record { at = at + length front; rest = rest })
       element_read (leaf c) v front clear h at rest =
@@ -54,18 +52,19 @@ module _ (Leaf : Contents) where
       fields_read (must k fs) v bytes clear j at =
           let p = and_parts (is_clear k) (are_clear fs) clear in
           must_read (SpellsBy Leaf k) (element_by read k) (fields_by read fs) (λ x f s a r. element_read k x f p.0 s a r)
-              (SpellsFields Leaf fs v.1) v.1 (λ b s a. fields_read fs v.1 b p.1 s a) v.0 bytes j at
+          (SpellsFields Leaf fs v.1) v.1 (λ b s a. fields_read fs v.1 b p.1 s a) v.0 bytes j at
       fields_read (may k fs) v bytes clear j at =
           let p = and_parts (is_clear k && not (can_begin fs (tag_of k))) (are_clear fs) clear in
           let q = and_parts (is_clear k) (not (can_begin fs (tag_of k))) p.0 in
           may_read (tag_of k) (SpellsContent Leaf k) (element_by read k) (fields_by read fs) (λ x f s a r. element_read k x f q.0 s a r)
-              (SpellsFields Leaf fs v.1) v.1 (absent fs v.1 (tag_of k) (not-true _ q.1)) (λ b s a. fields_read fs v.1 b p.1 s a) v.0 bytes j at
+          (SpellsFields Leaf fs v.1) v.1 (absent fs v.1 (tag_of k) (not-true _ q.1)) (λ b s a. fields_read fs v.1 b p.1 s a) v.0 bytes j at
       fields_read (each k) v bytes clear h at =
           each_from_read (SpellsBy Leaf k) (element_by read k) (λ x f s a r. element_read k x f clear s a r)
-              (λ x f s. element_some (tag_of k) (SpellsContent Leaf k x) f s) v bytes at (length bytes) h (le_refl (length bytes))
+          (λ x f s. element_some (tag_of k) (SpellsContent Leaf k x) f s) v bytes at (length bytes) h (le_refl (length bytes))
 
     mutual
       unfolding element_by
+
       pub element_found : (k : Kind) (p : Place) (v : ValueOf k) (after : Place) → element_by read k p ≡ Ok (v, after) → Taken (SpellsBy Leaf k v) p after
       element_found (leaf c) p v after e = leaf_found (content_tag c) (read c) (content_fault c) (Leaf c) (λ x content h. are.found c x content h) p v after e
       element_found (wrapped tag k) p v after e =

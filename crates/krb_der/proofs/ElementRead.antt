@@ -1,16 +1,12 @@
 -- What is spelled is read, with its value and the place behind it.
-use Rattle.std.proofs.Common.{◌≡◌, ◌≢◌, ◌⊎◌, inl, inr, ℕ, zero, suc, ◌+◌, ◌-◌, ◌<◌, ◌≤◌, Bool, true, false, not, ◌&&◌, ◌||◌, cond, eqb, List, [], ◌∷◌, ◌++◌, length, Option, Some, None, Result, Ok, Err, refl, sym, ap, subst, ◌∙◌, arith, length-append}
-use Rattle.std.proofs.lemmas.Bool.{and_parts, or_parts, not-true, eq-eqb}
+use Rattle.std.proofs.Common.{◌≡◌, ℕ, zero, suc, ◌+◌, ◌-◌, ◌≤◌, false, cond, eqb, List, [], ◌∷◌, ◌++◌, length, Option, Some, None, Result, Ok, refl, sym, ap, ◌∙◌, arith, length-append}
+use Rattle.std.proofs.lemmas.Bool.{eq-eqb}
 use Rattle.std.proofs.lemmas.List.{append-nil}
 use Rattle.krb_der.specs.declared.fault.Fault.{Fault}
-use Rattle.krb_der.specs.Kind.{Content, Kind, leaf, wrapped, sequence, Fields, ends, must, may, each, tag_of, content_tag, ContentValue, ValueOf, FieldsOf}
 use Rattle.krb_der.specs.Place.{Place, begins}
-use Rattle.krb_der.specs.Spells.{IsElement, IsJoined, IfPresent, ForEach, Contents, SpellsContent, SpellsFields, SpellsBy}
-use Rattle.krb_der.specs.Fault.{content_fault}
+use Rattle.krb_der.specs.Spells.{IsElement, IsJoined, IfPresent, ForEach}
 use Rattle.krb_der.specs.Inner.Steps.{◌>>=◌}
-use Rattle.krb_der.specs.Inner.Clear.{can_begin, is_clear, are_clear}
-use Rattle.krb_der.specs.Inner.Read.{LeafReader, enter_at, finish_at, leaf_at, wrapped_at, sequence_at, must_at, may_at, each_from, each_at, value_or, element_by, fields_by}
-use Rattle.krb_der.proofs.ContentLaws.{AreRead}
+use Rattle.krb_der.specs.Inner.Read.{enter_at, finish_at, leaf_at, wrapped_at, sequence_at, must_at, may_at, each_from, value_or}
 use Rattle.krb_der.proofs.ElementSteps.{bind_at, enter_at-spelled, finish_at-end}
 
 -- a reader that reads each part that is spelled
@@ -36,7 +32,7 @@ wrapped_read tag Part read reads v front h at rest =
     let inner = at + (1 + length h.size) in
     let after : Place = record { at = at + length (tag ∷ (h.size ++ h.content)); rest = rest } in
     let content : read (record { at = inner; rest = h.content }) ≡ Ok (v, record { at = inner + length h.content; rest = [] }) =
-        ap (λ (l : List ℕ). read (record { at = inner; rest = l })) (sym (append-nil h.content)) ∙ reads v h.content h.content_is inner [] in
+    ap (λ (l : List ℕ). read (record { at = inner; rest = l })) (sym (append-nil h.content)) ∙ reads v h.content h.content_is inner [] in
     ap (λ (l : List ℕ). wrapped_at tag read (record { at = at; rest = l ++ rest })) h.whole
     ∙ bind_at (enter_at tag (record { at = at; rest = (tag ∷ (h.size ++ h.content)) ++ rest })) _ _ (enter_at-spelled tag at h.size h.content rest h.length_is)
     ∙ bind_at (read (record { at = inner; rest = h.content })) _ _ content
@@ -82,7 +78,7 @@ may_read tag Is first others reads IsRest w absent rests None bytes j at =
 may_read tag Is first others reads IsRest w absent rests (Some v) bytes j at =
     ap (λ (l : List ℕ). may_at tag first others (record { at = at; rest = l })) j.whole
     ∙ ap (λ b. cond b (first (record { at = at; rest = j.front ++ j.back }) >>= λ x. others x.1 >>= λ y. Ok (Some x.0, y)) (others (record { at = at; rest = j.front ++ j.back }) >>= λ y. Ok (None, y)))
-        (begins-element tag tag (Is v) j.front j.back j.first ∙ eq-eqb tag tag refl)
+    (begins-element tag tag (Is v) j.front j.back j.first ∙ eq-eqb tag tag refl)
     ∙ bind_at (first (record { at = at; rest = j.front ++ j.back })) _ _ (reads v j.front j.first at j.back)
     ∙ bind_at (others (record { at = at + length j.front; rest = j.back })) (λ y. Ok (Some v, y)) w (rests j.back j.rest (at + length j.front))
 
@@ -95,7 +91,7 @@ each_from_read Part read reads some [] bytes at fuel h le =
 each_from_read Part read reads some (v ∷ vs) bytes at fuel j le =
     ap (λ (l : List ℕ). each_from read fuel (record { at = at; rest = l }) l) j.whole
     ∙ step j.front fuel j.first (omega (arith, le, ap length j.whole)) (each_from_read Part read reads some vs j.back (at + length j.front) (fuel - 1) j.rest
-        (omega (arith, le, ap length j.whole, length-append j.front j.back, some v j.front j.first)))
+    (omega (arith, le, ap length j.whole, length-append j.front j.back, some v j.front j.first)))
   where
     step : (front : List ℕ) (fuel : ℕ) → Part v front → length (front ++ j.back) ≤ fuel
         → each_from read (fuel - 1) (record { at = at + length front; rest = j.back }) j.back ≡ Ok vs
@@ -106,4 +102,4 @@ each_from_read Part read reads some (v ∷ vs) bytes at fuel j le =
         let less : suc fuel - 1 ≡ fuel = omega arith in
         bind_at (read (record { at = at; rest = (b ∷ bytes') ++ j.back })) _ _ (reads v (b ∷ bytes') is at j.back)
         ∙ bind_at (each_from read fuel (record { at = at + length (b ∷ bytes'); rest = j.back }) j.back) (λ xs. Ok (v ∷ xs)) vs
-          (ap (λ n. each_from read n (record { at = at + length (b ∷ bytes'); rest = j.back }) j.back) (sym less) ∙ ih)
+        (ap (λ n. each_from read n (record { at = at + length (b ∷ bytes'); rest = j.back }) j.back) (sym less) ∙ ih)

@@ -1,18 +1,18 @@
 -- Reading elements and fields, one combinator at a time.
-use Rattle.std.proofs.Common.{◌≡◌, ◌≢◌, ◌⊎◌, inl, inr, ℕ, zero, suc, ◌+◌, ◌-◌, ◌<◌, ◌≤◌, Bool, true, false, cond, ltb, eqb, List, [], ◌∷◌, ◌++◌, length, take, drop, Option, Some, None, Result, Ok, Err, refl, sym, ap, subst, ◌∙◌, arith, length-append, append_assoc, length-take, length-drop, take-append-drop}
-use Rattle.std.proofs.lemmas.Bool.{le-ltb, lt-ltb, ltb-true, ltb-false, eqb-true, eqb-false, eq-eqb, ne_eqb, cases_lt, cases_eq, true≢false}
-use Rattle.std.proofs.lemmas.List.{take_at, drop_at, append-nil}
+use Rattle.std.proofs.Common.{◌≡◌, ◌≢◌, ◌⊎◌, inl, inr, ℕ, ◌+◌, ◌-◌, ◌≤◌, List, [], ◌∷◌, ◌++◌, length, take, drop, Result, Ok, Err, refl, sym, ap, subst, ◌∙◌, arith, length-append, append_assoc, length-take, take-append-drop}
+use Rattle.std.proofs.lemmas.Bool.{cases_lt, cases_eq}
+use Rattle.std.proofs.lemmas.List.{take_at, drop_at}
 use Rattle.krb_der.specs.declared.fault.Fault.{Fault}
 use Rattle.krb_der.specs.declared.fault.FaultKind.{FaultKind}
-use Rattle.krb_der.specs.declared.fault.FaultKind.TheVariants.{Truncated, Tag, Length, Trailing}
-use Rattle.krb_der.specs.Kind.{Kind, Fields, ends, must, may, each, tag_of}
-use Rattle.krb_der.specs.Place.{Place, begin_at, end_of, begins}
-use Rattle.krb_der.specs.Spells.{IsLength, IsElement, IsJoined, IfPresent, ForEach, Contents}
+use Rattle.krb_der.specs.declared.fault.FaultKind.TheVariants.{Truncated, Tag}
+use Rattle.krb_der.specs.Kind.{Kind, Fields, ends, must, tag_of}
+use Rattle.krb_der.specs.Place.{Place, end_of}
+use Rattle.krb_der.specs.Spells.{IsLength, Contents}
 use Rattle.krb_der.specs.Fault.{HasHead, IsBroken, nothing, other_tag, cut_length, bad_length, cut_content, left_over}
 use Rattle.krb_der.specs.Inner.Steps.{◌>>=◌}
-use Rattle.krb_der.specs.Inner.Read.{fault_at, enter_at, head_from, sized_at, split_at, length_of, length_fault, finish_at, finish_from, leaf_at, wrapped_at, sequence_at, must_at, may_at, each_from, each_at, value_or}
+use Rattle.krb_der.specs.Inner.Read.{fault_at, enter_at, sized_at, split_at, length_of, length_fault, finish_at, finish_from}
 use Rattle.krb_der.proofs.CursorSteps.{enter_at-empty, enter_at-other, enter_at-sized, split_at-ok, split_at-cut}
-use Rattle.krb_der.proofs.LengthLaws.{chosen, length_of-spelled, length_of-read, length_of-fault, TakesLength, no_value, same_error, IsLengthFault}
+use Rattle.krb_der.proofs.LengthLaws.{length_of-spelled, length_of-read, length_of-fault, no_value, same_error, IsLengthFault}
 
 -- the value of a step that did not fail, and the step that failed
 pub bind_ok : {A B E : Type 0} (r : Result A E) (f : A → Result B E) (y : B) → (r >>= f) ≡ Ok y → (x : A) × (r ≡ Ok x) × (f x ≡ Ok y)
@@ -42,15 +42,15 @@ pub record Taken (Part : List ℕ → Type 0) (here after : Place) : Type 0 wher
 -- ---- heads
 pub enter_at-spelled : (tag at : ℕ) (size content rest : List ℕ) → IsLength (length content) size
     → enter_at tag (record { at = at; rest = (tag ∷ (size ++ content)) ++ rest })
-      ≡ Ok (record { at = at + (1 + length size); rest = content }, record { at = at + length (tag ∷ (size ++ content)); rest = rest })
+    ≡ Ok (record { at = at + (1 + length size); rest = content }, record { at = at + length (tag ∷ (size ++ content)); rest = rest })
 enter_at-spelled tag at size content rest spelled =
     let here : Place = record { at = at; rest = (tag ∷ (size ++ content)) ++ rest } in
     let regrouped : (size ++ content) ++ rest ≡ size ++ (content ++ rest) = append_assoc size content rest in
     let enough : length content ≤ length (content ++ rest) = omega (arith, length-append content rest) in
     let inner : at + (length here.rest - length (content ++ rest)) ≡ at + (1 + length size) =
-        omega (arith, ap length regrouped, length-append size (content ++ rest)) in
+    omega (arith, ap length regrouped, length-append size (content ++ rest)) in
     let outer : at + (length here.rest - length (content ++ rest)) + length content ≡ at + length (tag ∷ (size ++ content)) =
-        omega (arith, inner, length-append size content) in
+    omega (arith, inner, length-append size content) in
     enter_at-sized tag here tag ((size ++ content) ++ rest) refl refl
     ∙ ap (sized_at here) (ap length_of regrouped ∙ length_of-spelled (length content) size (content ++ rest) spelled)
     ∙ split_at-ok here (length content) (content ++ rest) content rest enough (sym (take_at content rest (length content) refl)) (sym (drop_at content rest (length content) refl))
@@ -83,13 +83,13 @@ split_at-read p n bytes inside after e =
     elim (cases_lt (length bytes) n) [
       | inl lt ↦ absurd (no_value _ (inside, after) (sym (split_at-cut p n bytes lt) ∙ e))
       | inr le ↦
-        let same : (record { at = p.at + (length p.rest - length bytes); rest = take n bytes }, record { at = p.at + (length p.rest - length bytes) + n; rest = drop n bytes }) ≡ (inside, after) =
-            same_ok {E = Fault} (record { at = p.at + (length p.rest - length bytes); rest = take n bytes }, record { at = p.at + (length p.rest - length bytes) + n; rest = drop n bytes }) (inside, after)
-              (sym (split_at-ok p n bytes (take n bytes) (drop n bytes) le refl refl) ∙ e) in
-        let first = ap (λ (x : Place × Place). x.0) same in
-        let second = ap (λ (x : Place × Place). x.1) same in
-        let begun : inside.at ≡ p.at + (length p.rest - length bytes) = sym (ap (λ (x : Place). x.at) first) in
-        (le, sym (ap (λ (x : Place). x.rest) first), sym (ap (λ (x : Place). x.rest) second), begun, sym (ap (λ (x : Place). x.at) second) ∙ ap (λ k. k + n) (sym begun))
+          let same : (record { at = p.at + (length p.rest - length bytes); rest = take n bytes }, record { at = p.at + (length p.rest - length bytes) + n; rest = drop n bytes }) ≡ (inside, after) =
+          same_ok {E = Fault} (record { at = p.at + (length p.rest - length bytes); rest = take n bytes }, record { at = p.at + (length p.rest - length bytes) + n; rest = drop n bytes }) (inside, after)
+          (sym (split_at-ok p n bytes (take n bytes) (drop n bytes) le refl refl) ∙ e) in
+          let first = ap (λ (x : Place × Place). x.0) same in
+          let second = ap (λ (x : Place × Place). x.1) same in
+          let begun : inside.at ≡ p.at + (length p.rest - length bytes) = sym (ap (λ (x : Place). x.at) first) in
+          (le, sym (ap (λ (x : Place). x.rest) first), sym (ap (λ (x : Place). x.rest) second), begun, sym (ap (λ (x : Place). x.at) second) ∙ ap (λ k. k + n) (sym begun))
     ]
 
 sized_at-read : (tag : ℕ) (p : Place) (bytes : List ℕ) (sized : Result (ℕ × List ℕ) FaultKind) (inside after : Place) → p.rest ≡ tag ∷ bytes → length_of bytes ≡ sized
@@ -127,14 +127,14 @@ sized_at-fault : (Leaf : Contents) (e : Kind) (fs : Fields) (p : Place) (bytes :
 sized_at-fault Leaf e fs p bytes (Ok x) fault here sized h =
     elim (cases_lt (length x.1) x.0) [
       | inl lt ↦
-        let t = length_of-read bytes x.0 x.1 sized in
-        subst (IsBroken Leaf (must e fs) p) (same_error {A = Place × Place} _ fault (sym (split_at-cut p x.0 x.1 lt) ∙ h))
+          let t = length_of-read bytes x.0 x.1 sized in
+          subst (IsBroken Leaf (must e fs) p) (same_error {A = Place × Place} _ fault (sym (split_at-cut p x.0 x.1 lt) ∙ h))
           (cut_content x.0 t.size x.1 (here ∙ ap (λ (l : List ℕ). tag_of e ∷ l) t.whole) t.spelled lt)
       | inr le ↦ absurd (no_value fault _ (sym h ∙ split_at-ok p x.0 x.1 (take x.0 x.1) (drop x.0 x.1) le refl refl))
     ]
 sized_at-fault Leaf e fs p bytes (Err kind) fault here sized h =
     subst (IsBroken Leaf (must e fs) p) (same_error {A = Place × Place} _ fault h)
-      (length_fault-broken Leaf e fs p bytes kind here (length_of-fault bytes kind sized))
+    (length_fault-broken Leaf e fs p bytes kind here (length_of-fault bytes kind sized))
 
 pub enter_at-fault : (Leaf : Contents) (e : Kind) (fs : Fields) (p : Place) (fault : Fault) → enter_at (tag_of e) p ≡ Err fault → IsBroken Leaf (must e fs) p fault
 enter_at-fault Leaf e fs p fault h = by (head_case (tag_of e) p)

@@ -1,13 +1,13 @@
 -- Writing within the limit.
-use Rattle.std.proofs.Common.{◌≡◌, ◌⊎◌, inl, inr, ℕ, ◌+◌, ◌<◌, ◌≤◌, Bool, true, false, cond, ltb, List, [], ◌∷◌, ◌++◌, length, take, drop, Option, Some, None, Result, Ok, Err, refl, sym, ap, subst, ◌∙◌, arith, length-append, append_assoc}
-use Rattle.std.specs.Prelude.{OnOk, OnErr, IsErrOf}
+use Rattle.std.proofs.Common.{◌≡◌, inl, inr, ℕ, cond, ltb, List, [], ◌++◌, length, take, drop, Option, None, Result, Ok, Err, refl, sym, ap, subst, ◌∙◌, arith, length-append, append_assoc}
+use Rattle.std.specs.Prelude.{OnOk}
 use Rattle.std.proofs.lemmas.Bool.{ltb-true, ltb-false, cases_Bool}
 use Rattle.std.proofs.lemmas.List.{take_at, drop_at, append-nil}
 use Rattle.krb_der.specs.declared.fault.EncodeFault.{EncodeFault}
 use Rattle.krb_der.specs.declared.fault.EncodeFault.TheVariants.{TooLong, OutOfMemory}
-use Rattle.krb_der.specs.Kind.{Kind, Fields, ValueOf, FieldsOf, tag_of}
+use Rattle.krb_der.specs.Kind.{Kind, Fields, ValueOf, FieldsOf}
 use Rattle.krb_der.specs.Content.{Elementary}
-use Rattle.krb_der.specs.Spells.{IsElement, IsJoined, IfPresent, SpellsContent, SpellsFields, Spells, limit}
+use Rattle.krb_der.specs.Spells.{IsElement, IsJoined, IfPresent, SpellsFields, Spells, limit}
 use Rattle.krb_der.specs.Writing.{Appends, Writes, Wraps, Encodes}
 use Rattle.krb_der.specs.Inner.Limited.{limited_of}
 use Rattle.krb_der.proofs.ContentLaws.{elementary_unique}
@@ -34,12 +34,12 @@ encodes-limited Part one (Err e) r old new a l =
 encodes-limited Part one (Ok u) r old new a l =
     elim (cases_Bool (ltb limit (length new))) [
       | inl long ↦
-        let lt = ltb-true limit (length new) long in
-        subst (λ x. Encodes Part x old new) (sym (l ∙ ap (λ b. cond b (Err TooLong) (Ok tt)) long))
+          let lt = ltb-true limit (length new) long in
+          subst (λ x. Encodes Part x old new) (sym (l ∙ ap (λ b. cond b (Err TooLong) (Ok tt)) long))
           (record { ok = tt; too_long = λ t bytes p. omega (arith, lt, ap length a.whole, length-append old a.bytes, ap length (one a.bytes bytes a.is p)) })
       | inr fits ↦
-        let le = ltb-false limit (length new) fits in
-        subst (λ x. Encodes Part x old new) (sym (l ∙ ap (λ b. cond b (Err TooLong) (Ok tt)) fits))
+          let le = ltb-false limit (length new) fits in
+          subst (λ x. Encodes Part x old new) (sym (l ∙ ap (λ b. cond b (Err TooLong) (Ok tt)) fits))
           (record { ok = (a, le); too_long = λ t. absurd (ok_err tt TooLong t) })
     ]
 
@@ -84,11 +84,14 @@ pub encodes-joined : (First Rest : List ℕ → Type 0) → IsOne First → (r :
 encodes-joined First Rest one (Ok u) old mid new a e =
     let b = e.ok.0 in
     record {
-      ok = (record {
-        bytes = a.bytes ++ b.bytes;
-        is = record { front = a.bytes; back = b.bytes; first = a.is; rest = b.is; whole = refl };
-        whole = b.whole ∙ ap (λ (l : List ℕ). l ++ b.bytes) a.whole ∙ append_assoc old a.bytes b.bytes;
-      }, e.ok.1);
+      ok = (
+        record {
+          bytes = a.bytes ++ b.bytes;
+          is = record { front = a.bytes; back = b.bytes; first = a.is; rest = b.is; whole = refl };
+          whole = b.whole ∙ ap (λ (l : List ℕ). l ++ b.bytes) a.whole ∙ append_assoc old a.bytes b.bytes;
+        },
+        e.ok.1,
+      );
       too_long = λ t. absurd (ok_err u TooLong t);
     }
 encodes-joined First Rest one (Err f) old mid new a e =

@@ -1,16 +1,16 @@
 -- A whole number is read exactly where one is spelled, and it has one content.
-use Rattle.std.proofs.Common.{◌≡◌, ◌≢◌, ◌⊎◌, inl, inr, ℕ, zero, suc, ◌+◌, ◌-◌, ◌*◌, ◌^◌, ◌<◌, ◌≤◌, ℤ, pos, negsuc, ◌-ℤ◌, Bool, true, false, not, ◌&&◌, ◌||◌, cond, ltb, leb, eqb, List, [], ◌∷◌, ◌++◌, length, map, Option, Some, None, refl, sym, ap, subst, ◌∙◌, arith, lit<}
-use Rattle.std.proofs.lemmas.Bool.{le-ltb, lt-ltb, lt-leb, le-leb, ltb-true, ltb-false, leb-true, leb-false, eqb-true, ne_eqb, eq-eqb, and_from, and_parts, or_parts, cases_lt, cases_eq, cases_Bool, and_cases, eqb-false, not-false, true≢false}
+use Rattle.std.proofs.Common.{◌≡◌, ◌≢◌, inl, inr, ℕ, zero, suc, ◌+◌, ◌-◌, ◌*◌, ◌^◌, ◌<◌, ◌≤◌, ℤ, pos, negsuc, ◌-ℤ◌, true, false, not, ◌&&◌, ◌||◌, cond, ltb, leb, eqb, List, [], ◌∷◌, length, Option, Some, None, refl, sym, ap, subst, ◌∙◌, arith, lit<}
+use Rattle.std.proofs.lemmas.Bool.{le-ltb, lt-leb, le-leb, ltb-false, leb-true, leb-false, ne_eqb, or_parts, cases_lt, cases_eq, cases_Bool, and_cases, eqb-false, not-false, true≢false}
 use Rattle.std.proofs.lemmas.List.{length-map}
 use Rattle.std.proofs.lemmas.Int.{ints}
-use Rattle.std.proofs.Math.Nat.{mul-le-mul_right, mul-le-mul_left, pow-le-pow_right, pow-succ'}
+use Rattle.std.proofs.Math.Nat.{mul-le-mul_right, pow-le-pow_right}
 use Rattle.krb_der.specs.Content.{AreBytes, number, IsShortest, IsNatural, turned, IsInteger}
 use Rattle.krb_der.specs.Place.{begins}
-use Rattle.krb_der.specs.Inner.Steps.{◌>>?◌, only_if}
+use Rattle.krb_der.specs.Inner.Steps.{◌>>?◌}
 use Rattle.krb_der.specs.Inner.Whole.{are_bytes, is_redundant, is_negative, contents_of, whole_of}
-use Rattle.krb_der.proofs.Numbers.{are_bytes-true, AreBytes-true, number_below, pow_step}
+use Rattle.krb_der.proofs.Numbers.{AreBytes-true, pow_step}
 use Rattle.krb_der.proofs.WholeSteps.{contents_of-some, whole_of-some}
-use Rattle.krb_der.proofs.LengthLaws.{chosen, digits_injective, pow_some}
+use Rattle.krb_der.proofs.LengthLaws.{chosen, digits_injective}
 
 -- ---- turned bits
 pub length-turned : (bytes : List ℕ) → length (turned bytes) ≡ length bytes
@@ -90,8 +90,8 @@ strip_injective (suc x ∷ xs) (suc y ∷ ys) h k e = e
 pub natural_unique : (n : ℕ) (a b : List ℕ) → IsNatural n a → IsNatural n b → a ≡ b
 natural_unique n a b h k =
     strip_injective a b h.shortest k.shortest
-        (digits_injective (strip a) (strip b) (AreBytes-strip a h.bytes) (AreBytes-strip b k.bytes) (begins-strip a h.shortest) (begins-strip b k.shortest)
-            (number-strip a ∙ h.value ∙ sym (number-strip b ∙ k.value)))
+    (digits_injective (strip a) (strip b) (AreBytes-strip a h.bytes) (AreBytes-strip b k.bytes) (begins-strip a h.shortest) (begins-strip b k.shortest)
+    (number-strip a ∙ h.value ∙ sym (number-strip b ∙ k.value)))
 
 pub integer_unique : (z : ℤ) (a b : List ℕ) → IsInteger z a → IsInteger z b → a ≡ b
 integer_unique (pos n) a b h k = natural_unique n a b h k
@@ -119,8 +119,8 @@ natural_few n content h lt = few content h.shortest (omega (arith, h.value))
         elim (cases_lt (length ys) 4) [
           | inl short ↦ (omega arith, omega arith)
           | inr many ↦
-            let wide : 256 ^ 4 ≤ 256 ^ length ys = pow-le-pow_right (lit< tt) many in
-            absurd (omega (arith, natural_least x y ys s, wide))
+              let wide : 256 ^ 4 ≤ 256 ^ length ys = pow-le-pow_right (lit< tt) many in
+              absurd (omega (arith, natural_least x y ys s, wide))
         ]
 
 -- ---- what is spelled is read
@@ -145,13 +145,13 @@ redundant_turned (a ∷ []) h s = refl
 redundant_turned (a ∷ b ∷ bytes) h s =
     elim (cases_eq a 255) [
       | inl e ↦
-        let low : 128 ≤ 255 - b = s.1 (omega (arith, e)) in
-        let under : b < 128 = omega (arith, low) in
-        ap (λ x. is_redundant (x ∷ b ∷ bytes)) e ∙ rw (lt-leb 128 b under) refl
+          let low : 128 ≤ 255 - b = s.1 (omega (arith, e)) in
+          let under : b < 128 = omega (arith, low) in
+          ap (λ x. is_redundant (x ∷ b ∷ bytes)) e ∙ rw (lt-leb 128 b under) refl
       | inr ne ↦
-        let high : 128 ≤ a = omega (arith, s.0, h.0) in
-        let some : a ≢ 0 = λ e. absurd (omega (arith, e)) in
-        rw (ne_eqb a 0 some, ne_eqb a 255 ne) refl
+          let high : 128 ≤ a = omega (arith, s.0, h.0) in
+          let some : a ≢ 0 = λ e. absurd (omega (arith, e)) in
+          rw (ne_eqb a 0 some, ne_eqb a 255 ne) refl
     ]
 
 negative_turned : (content : List ℕ) → IsShortest (turned content) → is_negative content ≡ true
@@ -174,7 +174,7 @@ negative_read m content h lt =
     let few = natural_few m (turned content) h.1 lt in
     let len = length-turned content in
     whole_of-some content (pos (256 ^ length content)) (redundant_turned content h.0 h.1.shortest) h.0
-        (contents_of-few (length content) (omega (arith, few.0, len)) (omega (arith, few.1, len)))
+    (contents_of-few (length content) (omega (arith, few.0, len)) (omega (arith, few.1, len)))
     ∙ ap (λ b. Some (cond b (pos (number content) -ℤ pos (256 ^ length content)) (pos (number content)))) (negative_turned content h.1.shortest)
     ∙ ap Some (negative_value (number content) (256 ^ length content) m (omega (arith, number-turned content h.0, h.1.value)))
 
@@ -193,22 +193,26 @@ pub shortest_kept : (content : List ℕ) → is_redundant content ≡ false → 
 shortest_kept [] r n = true≢false r
 shortest_kept (a ∷ []) r n = leb-false 128 a n
 shortest_kept (a ∷ b ∷ bytes) r n =
-    let p = or_parts (eqb a 0 && ltb b 128) (eqb a 255 && leb 128 b) r in
-    (leb-false 128 a n, λ e. elim (and_cases (eqb a 0) (ltb b 128) p.0) [
-      | inl q ↦ absurd (eqb-false a 0 q e)
-      | inr q ↦ ltb-false b 128 q
-    ])
+    let p = or_parts (eqb a 0 && ltb b 128) (eqb a 255 && leb 128 b) r in (
+      leb-false 128 a n,
+      λ e. elim (and_cases (eqb a 0) (ltb b 128) p.0) [
+        | inl q ↦ absurd (eqb-false a 0 q e)
+        | inr q ↦ ltb-false b 128 q
+      ],
+    )
 
 pub shortest_turned : (content : List ℕ) → AreBytes content → is_redundant content ≡ false → is_negative content ≡ true → IsShortest (turned content)
 shortest_turned [] h r n = true≢false r
 shortest_turned (a ∷ []) h r n = let high = leb-true 128 a n in omega (arith, high)
 shortest_turned (a ∷ b ∷ bytes) h r n =
     let p = or_parts (eqb a 0 && ltb b 128) (eqb a 255 && leb 128 b) r in
-    let high = leb-true 128 a n in
-    (omega (arith, high), λ e. elim (and_cases (eqb a 255) (leb 128 b) p.1) [
-      | inl q ↦ absurd (eqb-false a 255 q (omega (arith, e, h.0)))
-      | inr q ↦ let low = leb-false 128 b q in omega (arith, low, h.1.0)
-    ])
+    let high = leb-true 128 a n in (
+      omega (arith, high),
+      λ e. elim (and_cases (eqb a 255) (leb 128 b) p.1) [
+        | inl q ↦ absurd (eqb-false a 255 q (omega (arith, e, h.0)))
+        | inr q ↦ let low = leb-false 128 b q in omega (arith, low, h.1.0)
+      ],
+    )
 
 pub whole_of-read : (content : List ℕ) (z : ℤ) → whole_of content ≡ Some z → IsInteger z content
 unfolding whole_of
@@ -216,17 +220,17 @@ whole_of-read content z e =
     elim (chosen (is_redundant content || not (are_bytes content)) None (contents_of (length content) >>? λ all. Some (cond (is_negative content) (pos (number content) -ℤ all) (pos (number content)))) (Some z) e) [
       | inl p ↦ absurd (none_some z p.1)
       | inr p ↦
-        let q = or_parts (is_redundant content) (not (are_bytes content)) p.0 in
-        let r = bind_some (contents_of (length content)) (λ all. Some (cond (is_negative content) (pos (number content) -ℤ all) (pos (number content)))) z p.1 in
-        let all = contents_of-some (length content) r.0 r.1 in
-        let bytes = AreBytes-true content (not-false (are_bytes content) q.1) in
-        let value = same_some (cond (is_negative content) (pos (number content) -ℤ r.0) (pos (number content))) z r.2 in
-        elim (cases_Bool (is_negative content)) [
-          | inl n ↦ subst (λ (w : ℤ). IsInteger w content) (sym (ap (λ b. cond b (pos (number content) -ℤ r.0) (pos (number content))) n) ∙ value)
-              (subst (λ (w : ℤ). IsInteger (pos (number content) -ℤ w) content) all.2
+          let q = or_parts (is_redundant content) (not (are_bytes content)) p.0 in
+          let r = bind_some (contents_of (length content)) (λ all. Some (cond (is_negative content) (pos (number content) -ℤ all) (pos (number content)))) z p.1 in
+          let all = contents_of-some (length content) r.0 r.1 in
+          let bytes = AreBytes-true content (not-false (are_bytes content) q.1) in
+          let value = same_some (cond (is_negative content) (pos (number content) -ℤ r.0) (pos (number content))) z r.2 in
+          elim (cases_Bool (is_negative content)) [
+            | inl n ↦ subst (λ (w : ℤ). IsInteger w content) (sym (ap (λ b. cond b (pos (number content) -ℤ r.0) (pos (number content))) n) ∙ value)
+                (subst (λ (w : ℤ). IsInteger (pos (number content) -ℤ w) content) all.2
                 (subst (λ (w : ℤ). IsInteger w content) (sym (negative_value (number content) (256 ^ length content) (number (turned content)) (number-turned content bytes)))
-                  (bytes, record { bytes = AreBytes-turned content; shortest = shortest_turned content bytes q.0 n; value = refl })))
-          | inr n ↦ subst (λ (w : ℤ). IsInteger w content) (sym (ap (λ b. cond b (pos (number content) -ℤ r.0) (pos (number content))) n) ∙ value)
-              (record { bytes = bytes; shortest = shortest_kept content q.0 n; value = refl })
-        ]
+                (bytes, record { bytes = AreBytes-turned content; shortest = shortest_turned content bytes q.0 n; value = refl })))
+            | inr n ↦ subst (λ (w : ℤ). IsInteger w content) (sym (ap (λ b. cond b (pos (number content) -ℤ r.0) (pos (number content))) n) ∙ value)
+                (record { bytes = bytes; shortest = shortest_kept content q.0 n; value = refl })
+          ]
     ]

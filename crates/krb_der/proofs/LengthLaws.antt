@@ -1,15 +1,15 @@
 -- A length is read exactly where one is spelled, and a number has one length.
-use Rattle.std.proofs.Common.{◌≡◌, ◌≢◌, ◌⊎◌, inl, inr, ℕ, zero, suc, ◌+◌, ◌-◌, ◌*◌, ◌^◌, ◌<◌, ◌≤◌, Bool, true, false, not, ◌&&◌, cond, ltb, leb, eqb, List, [], ◌∷◌, ◌++◌, length, get_or, take, drop, Result, Ok, Err, refl, sym, ap, subst, ◌∙◌, arith, zero-le, lit<, length-append, length-take, take-append-drop, append_assoc}
-use Rattle.std.proofs.lemmas.Bool.{le-ltb, lt-ltb, lt-leb, le-leb, ltb-true, ltb-false, leb-true, leb-false, eqb-true, ne_eqb, eq-eqb, and_from, and_parts, and_cases, cases_lt, cases_eq, not-true, true≢false}
+use Rattle.std.proofs.Common.{◌≡◌, ◌⊎◌, inl, inr, ℕ, suc, ◌+◌, ◌-◌, ◌*◌, ◌^◌, ◌<◌, ◌≤◌, Bool, true, false, not, ◌&&◌, cond, ltb, leb, eqb, List, [], ◌∷◌, ◌++◌, length, take, drop, Result, Ok, Err, refl, sym, ap, subst, ◌∙◌, arith, zero-le, lit<, length-append, length-take, take-append-drop}
+use Rattle.std.proofs.lemmas.Bool.{le-ltb, lt-ltb, lt-leb, le-leb, ltb-true, ltb-false, leb-true, eq-eqb, and_parts, cases_lt, cases_eq, not-true, true≢false}
 use Rattle.std.proofs.lemmas.List.{take_at, drop_at}
 use Rattle.std.proofs.lemmas.Nat.{same_from_place}
-use Rattle.std.proofs.Math.Nat.{le_trans, mul-le-mul_right, pow-le-pow_right, pow-succ'}
+use Rattle.std.proofs.Math.Nat.{mul-le-mul_right, pow-le-pow_right}
 use Rattle.krb_der.specs.declared.fault.FaultKind.{FaultKind}
-use Rattle.krb_der.specs.declared.fault.FaultKind.TheVariants.{Truncated, Length, Tag, Integer, Time, Flags, Trailing, TooLong}
+use Rattle.krb_der.specs.declared.fault.FaultKind.TheVariants.{Truncated, Length}
 use Rattle.krb_der.specs.Content.{AreBytes, number}
 use Rattle.krb_der.specs.Place.{begins}
 use Rattle.krb_der.specs.Spells.{IsLength, short, long}
-use Rattle.krb_der.specs.Fault.{IsCutLength, IsLongForm, IsBadLength, no_form, not_shortest}
+use Rattle.krb_der.specs.Fault.{IsCutLength, IsBadLength, no_form, not_shortest}
 use Rattle.krb_der.specs.Inner.Read.{long_of, length_of, are_length, Sized}
 use Rattle.krb_der.specs.Inner.Whole.{are_bytes}
 use Rattle.krb_der.proofs.Numbers.{are_bytes-true, AreBytes-true, number_below}
@@ -39,9 +39,9 @@ number_injective (x ∷ xs) (y ∷ ys) len h k e =
 pub number_least : (x : ℕ) (xs : List ℕ) → begins 0 (x ∷ xs) ≡ false → 256 ^ length xs ≤ number (x ∷ xs)
 number_least x xs first =
     let some : 1 ≤ x = elim (cases_eq x 0) [
-        | inl e ↦ absurd (both (eqb x 0) (eq-eqb x 0 e) first)
-        | inr ne ↦ omega (arith, ne)
-      ] in
+      | inl e ↦ absurd (both (eqb x 0) (eq-eqb x 0 e) first)
+      | inr ne ↦ omega (arith, ne)
+    ] in
     let one : 1 * 256 ^ length xs ≤ x * 256 ^ length xs = mul-le-mul_right (256 ^ length xs) some in
     omega (arith, one)
   where
@@ -103,7 +103,7 @@ length_of-spelled n size rest (long ds w four are first' big value) =
     let some : 1 ≤ length ds = digits_nonempty ds n value big in
     ap (λ (s : List ℕ). length_of (s ++ rest)) w ∙ length_of-long (length ds) (ds ++ rest) some four
     ∙ long_of-ok (length ds) (ds ++ rest) n rest (omega (arith, length-append ds rest)) (subst AreBytes (sym (take_at ds rest (length ds) refl)) are)
-        (ap (begins 0) (take_at ds rest (length ds) refl) ∙ first') (sym value ∙ ap number (sym (take_at ds rest (length ds) refl))) (sym (drop_at ds rest (length ds) refl)) big
+    (ap (begins 0) (take_at ds rest (length ds) refl) ∙ first') (sym value ∙ ap number (sym (take_at ds rest (length ds) refl))) (sym (drop_at ds rest (length ds) refl)) big
 
 -- ---- what is read is spelled
 pub record TakesLength (n : ℕ) (bytes rest : List ℕ) : Type 0 where
@@ -227,13 +227,15 @@ long_of-fault count bytes kind some four e =
       | inr p ↦ elim (chosen (are_length (take count bytes)) (Ok (number (take count bytes), drop count bytes)) (Err Length) (Err kind) p.1) [
         | inl q ↦ absurd (no_value kind (number (take count bytes), drop count bytes) (sym q.1))
         | inr q ↦
-          let enough = ltb-false (length bytes) count p.0 in
-          let len : length (take count bytes) ≡ count = omega (arith, length-take count bytes) in
-          inr (same_error kind Length (sym q.1),
-            not_shortest ((0x80 + count) ∷ take count bytes) (drop count bytes)
-              (ap (λ (xs : List ℕ). (0x80 + count) ∷ xs) (sym (take-append-drop count bytes)))
-              (ap (λ k. 0x80 + k) (sym len), omega (arith, len), omega (arith, len))
-              (not_long count (take count bytes) q.0))
+            let enough = ltb-false (length bytes) count p.0 in
+            let len : length (take count bytes) ≡ count = omega (arith, length-take count bytes) in
+            inr (
+              same_error kind Length (sym q.1),
+              not_shortest ((0x80 + count) ∷ take count bytes) (drop count bytes)
+                  (ap (λ (xs : List ℕ). (0x80 + count) ∷ xs) (sym (take-append-drop count bytes)))
+                  (ap (λ k. 0x80 + k) (sym len), omega (arith, len), omega (arith, len))
+                  (not_long count (take count bytes) q.0),
+            )
       ]
     ]
 

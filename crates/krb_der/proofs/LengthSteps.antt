@@ -1,12 +1,11 @@
 -- Reading lengths, step by step.
-use Rattle.std.proofs.Common.{◌≡◌, ◌⊎◌, inl, inr, ℕ, zero, suc, ◌<◌, ◌≤◌, Bool, true, false, not, ◌&&◌, cond, ltb, leb, eqb, List, [], ◌∷◌, length, get_or, take, drop, Result, Ok, Err, refl, sym, ap, ◌∙◌, arith}
-use Rattle.std.proofs.lemmas.Bool.{le-ltb, lt-leb, le-leb, ne_eqb, eq-eqb}
+use Rattle.std.proofs.Common.{◌≡◌, ℕ, ◌≤◌, false, cond, eqb, List, [], ◌∷◌, length, get_or, take, drop, Ok, Err, refl, ap, ◌∙◌, arith}
+use Rattle.std.proofs.lemmas.Bool.{le-ltb, le-leb}
 use Rattle.krb_der.specs.declared.fault.FaultKind.TheVariants.{Truncated, Length}
 use Rattle.krb_der.specs.Content.{AreBytes, number}
 use Rattle.krb_der.specs.Place.{begins}
-use Rattle.krb_der.specs.Inner.Read.{long_of, are_length, Sized}
-use Rattle.krb_der.specs.Inner.Whole.{are_bytes}
-use Rattle.krb_der.proofs.Numbers.{are_bytes-true, AreBytes-take}
+use Rattle.krb_der.specs.Inner.Read.{long_of, are_length}
+use Rattle.krb_der.proofs.Numbers.{are_bytes-true}
 
 -- a list that begins with another byte, or doesn't begin
 pub begins-get_or : (tag : ℕ) (bytes : List ℕ) → 1 ≤ length bytes → begins tag bytes ≡ eqb (get_or bytes 0 0) tag

@@ -1,24 +1,24 @@
 -- Whole messages.
-use Rattle.std.proofs.Common.{◌≡◌, ◌⊎◌, inl, inr, ℕ, ◌+◌, ◌<◌, ◌≤◌, Bool, true, false, cond, ltb, List, [], ◌∷◌, ◌++◌, length, Result, Ok, Err, refl, sym, ap, subst, ◌∙◌, arith}
+use Rattle.std.proofs.Common.{◌≡◌, ◌⊎◌, inl, inr, ℕ, ◌<◌, ◌≤◌, true, List, [], ◌++◌, length, Result, Ok, Err, refl, sym, ap, subst, ◌∙◌, arith}
 use Rattle.std.specs.Prelude.{IfOk, IfErr, IsOkAnd}
 use Rattle.krb_der.specs.Inner.Gives.{Fills}
 use Rattle.std.proofs.lemmas.Bool.{le-ltb, lt-ltb, cases_lt}
 use Rattle.std.proofs.lemmas.List.{append-nil}
 use Rattle.krb_der.specs.declared.fault.Fault.{Fault}
 use Rattle.krb_der.specs.declared.fault.FaultKind.TheVariants.{TooLong}
-use Rattle.krb_der.specs.Kind.{Kind, Fields, ends, must, ValueOf}
+use Rattle.krb_der.specs.Kind.{Kind, ends, must, ValueOf}
 use Rattle.krb_der.specs.Content.{Elementary}
-use Rattle.krb_der.specs.Place.{Place, begin_at}
+use Rattle.krb_der.specs.Place.{begin_at}
 use Rattle.krb_der.specs.Spells.{Spells, IsMessage, limit}
 use Rattle.krb_der.specs.Fault.{IsFault, IsFaulty, too_long, faulty, start, after_element}
 use Rattle.krb_der.specs.Inner.Steps.{◌>>=◌}
 use Rattle.krb_der.specs.Inner.Clear.{is_clear}
-use Rattle.krb_der.specs.Inner.Read.{fault_at, element_at, element_by, content_of, finish_at, message_of, message_by}
+use Rattle.krb_der.specs.Inner.Read.{fault_at, element_at, content_of, finish_at, message_of, message_by}
 use Rattle.krb_der.proofs.ContentLaws.{elementary_read, elementary_unique}
 use Rattle.krb_der.proofs.LengthLaws.{no_value, same_error}
 use Rattle.krb_der.proofs.ElementSteps.{bind_ok, bind_err, bind_at, same_ok, finish_at-read, finish_at-fault, finish_at-end}
 use Rattle.krb_der.proofs.ElementFound.{answer}
-use Rattle.krb_der.proofs.ElementLaws.{element_read, element_found}
+use Rattle.krb_der.proofs.ElementLaws.{element_read}
 use Rattle.krb_der.proofs.FaultLaws.{element_fault}
 use Rattle.krb_der.proofs.Reading.{element_at-found}
 use Rattle.krb_der.proofs.Unique.{spelling_unique}
@@ -33,7 +33,7 @@ reads k v front rest clear s =
 pub no_prefix : (k : Kind) → is_clear k ≡ true → (v w : ValueOf k) (a b x y : List ℕ) → Spells k v a → Spells k w b → a ++ x ≡ b ++ y → (a ≡ b) × (v ≡ w)
 no_prefix k clear v w a b x y s t e =
     let both = answer v w (record { at = length a; rest = x }) (record { at = length b; rest = y })
-        (sym (reads k v a x clear s) ∙ ap (λ (l : List ℕ). element_at k (begin_at l)) e ∙ reads k w b y clear t) in
+    (sym (reads k v a x clear s) ∙ ap (λ (l : List ℕ). element_at k (begin_at l)) e ∙ reads k w b y clear t) in
     (spelling_unique Elementary elementary_unique k v a b s (subst (λ u. Spells k u b) (sym both.0) t), both.0)
 
 pub one_value : (k : Kind) → is_clear k ≡ true → (v w : ValueOf k) (bytes : List ℕ) → Spells k v bytes → Spells k w bytes → v ≡ w
@@ -62,11 +62,11 @@ message_found k v bytes e =
     elim (cases_lt limit (length bytes)) [
       | inl long ↦ absurd (no_value _ v (sym (message-long k bytes long) ∙ e))
       | inr fits ↦
-        let b = bind_ok (element_at k (begin_at bytes)) (λ x. finish_at x.1 >>= λ _. Ok x.0) v (sym (message-short k bytes fits) ∙ e) in
-        let c = bind_ok (finish_at b.0.1) (λ _. Ok b.0.0) v b.2 in
-        let s = element_at-found k b.0.0 (begin_at bytes) b.0.1 b.1 in
-        let all : bytes ≡ s.front = s.whole ∙ ap (λ (l : List ℕ). s.front ++ l) (finish_at-read b.0.1 c.0 c.1) ∙ append-nil s.front in
-        record { spelled = subst (λ u. Spells k u bytes) (same_ok {E = Fault} b.0.0 v c.2) (subst (Spells k b.0.0) (sym all) s.spelled); within = fits }
+          let b = bind_ok (element_at k (begin_at bytes)) (λ x. finish_at x.1 >>= λ _. Ok x.0) v (sym (message-short k bytes fits) ∙ e) in
+          let c = bind_ok (finish_at b.0.1) (λ _. Ok b.0.0) v b.2 in
+          let s = element_at-found k b.0.0 (begin_at bytes) b.0.1 b.1 in
+          let all : bytes ≡ s.front = s.whole ∙ ap (λ (l : List ℕ). s.front ++ l) (finish_at-read b.0.1 c.0 c.1) ∙ append-nil s.front in
+          record { spelled = subst (λ u. Spells k u bytes) (same_ok {E = Fault} b.0.0 v c.2) (subst (Spells k b.0.0) (sym all) s.spelled); within = fits }
     ]
 
 message_broken : (k : Kind) (bytes : List ℕ) (f : Fault) → (element_at k (begin_at bytes) >>= λ x. finish_at x.1 >>= λ _. Ok x.0) ≡ Err f
@@ -77,11 +77,11 @@ message_broken k bytes f e =
       | inl h ↦ element_fault Elementary content_of elementary_read (must k ends) (begin_at bytes) k ends (begin_at bytes) f start h
       | inr h ↦ elim (bind_err (finish_at h.0.1) (λ _. Ok h.0.0) f h.2) [
         | inl g ↦ record {
-            expected = ends;
-            here = h.0.1;
-            reached = after_element h.0.0 start (element_at-found k h.0.0 (begin_at bytes) h.0.1 h.1);
-            broken = finish_at-fault Elementary h.0.1 f g;
-          }
+          expected = ends;
+          here = h.0.1;
+          reached = after_element h.0.0 start (element_at-found k h.0.0 (begin_at bytes) h.0.1 h.1);
+          broken = finish_at-fault Elementary h.0.1 f g;
+        }
         | inr g ↦ absurd (no_value f _ (sym g.2))
       ]
     ]

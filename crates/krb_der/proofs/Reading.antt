@@ -1,10 +1,10 @@
 -- A call that gives what reading gives reads an element.
-use Rattle.std.proofs.Common.{◌≡◌, inl, inr, Option, Some, None, subst, true, false, List, ◌++◌, length, ℕ, ◌+◌, Result, Ok, Err, refl, sym, ap, ◌∙◌, arith, length-append}
+use Rattle.std.proofs.Common.{◌≡◌, inl, inr, Option, Some, None, subst, true, false, List, ℕ, Result, Ok, Err, refl, sym, ap, ◌∙◌, arith, length-append}
 use Rattle.std.specs.Prelude.{IsSomeAnd}
 use Rattle.std.proofs.lemmas.Bool.{cases_Bool, eq-eqb}
 use Rattle.krb_der.specs.Inner.Steps.{◌>>=◌}
 use Rattle.krb_der.specs.declared.fault.Fault.{Fault}
-use Rattle.krb_der.specs.Kind.{Kind, wrapped, ValueOf, Fields, must}
+use Rattle.krb_der.specs.Kind.{Kind, wrapped, ValueOf, must}
 use Rattle.krb_der.specs.Content.{Elementary}
 use Rattle.krb_der.specs.Place.{Place, begins}
 use Rattle.krb_der.specs.Spells.{StandsAt}
@@ -129,9 +129,9 @@ may_enters tag (Err f) old new e =
   where
     faults : IsHeadFault Elementary tag old f
     faults = elim (cases_Bool (begins tag old.rest)) [
-        | inl b ↦ elim (bind_err (enter_at tag old) (λ x. Ok (Some x.0, x.1)) f (sym (may_enter-there tag old b) ∙ e.0)) [
-          | inl h ↦ λ k fs. enter_at-fault Elementary (wrapped tag k) fs old f h
-          | inr h ↦ absurd (no_value f _ (sym h.2))
-        ]
-        | inr b ↦ absurd (no_value f (None, old) (sym e.0 ∙ may_enter-absent tag old b))
+      | inl b ↦ elim (bind_err (enter_at tag old) (λ x. Ok (Some x.0, x.1)) f (sym (may_enter-there tag old b) ∙ e.0)) [
+        | inl h ↦ λ k fs. enter_at-fault Elementary (wrapped tag k) fs old f h
+        | inr h ↦ absurd (no_value f _ (sym h.2))
       ]
+      | inr b ↦ absurd (no_value f (None, old) (sym e.0 ∙ may_enter-absent tag old b))
+    ]

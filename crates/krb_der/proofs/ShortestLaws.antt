@@ -1,14 +1,14 @@
 -- What is written of a whole number is its content.
-use Rattle.std.proofs.Common.{◌≡◌, ◌⊎◌, inl, inr, ℕ, zero, suc, ◌+◌, ◌-◌, ◌*◌, ◌/◌, ◌%◌, ◌^◌, ◌<◌, ◌≤◌, ℤ, pos, negsuc, Bool, true, false, ◌&&◌, ◌||◌, cond, ltb, leb, eqb, List, [], ◌∷◌, length, get_or, drop, w32, refl, sym, ap, subst, ◌∙◌, arith, w64, of_z}
+use Rattle.std.proofs.Common.{◌≡◌, ◌⊎◌, inl, inr, ℕ, suc, ◌-◌, ◌*◌, ◌/◌, ◌%◌, ◌^◌, ◌<◌, ◌≤◌, ℤ, pos, negsuc, true, false, ◌&&◌, cond, ltb, leb, eqb, List, [], ◌∷◌, length, get_or, drop, w32, refl, sym, ap, subst, ◌∙◌, arith, w64, of_z}
 use Rattle.std.specs.Int.{to_be_bytes, from_be_bytes}
 use Rattle.std.proofs.lemmas.Bool.{ltb-true, leb-true, eqb-true, and_parts, or_cases, cases_Bool, cond_both, true≢false, le-leb, lt-leb}
 use Rattle.std.proofs.lemmas.Int.{ints}
 use Rattle.std.proofs.lemmas.Nat.{from_be_bytes-to_be_bytes_4, from_be_bytes-to_be_bytes_8}
 use mir.Val.{SFits}
-use Rattle.krb_der.specs.Content.{AreBytes, number, IsNatural, turned, IsInteger, AreFlags}
+use Rattle.krb_der.specs.Content.{AreBytes, number, turned, IsInteger, AreFlags}
 use Rattle.krb_der.specs.Inner.Whole.{is_redundant, is_negative}
 use Rattle.krb_der.specs.Inner.Shortest.{shortest_of}
-use Rattle.krb_der.proofs.IntegerLaws.{AreBytes-turned, length-turned, number-turned, shortest_kept, shortest_turned}
+use Rattle.krb_der.proofs.IntegerLaws.{AreBytes-turned, number-turned, shortest_kept, shortest_turned}
 
 -- two's complement, whether or not in its shortest form
 unfoldable pub IsSigned : ℤ → List ℕ → Type 0
@@ -38,8 +38,8 @@ signed_step (negsuc m) a b bytes red h =
     elim (redundant_cases a b bytes red) [
       | inl p ↦ absurd (true≢false (sym h.0 ∙ lt-leb 128 a (omega (arith, p.0))))
       | inr p ↦
-        let first : 255 - a ≡ 0 = omega (arith, p.0) in
-        (le-leb 128 b p.1, omega (arith, h.1, ap (λ x. x * 256 ^ suc (length (turned bytes))) first))
+          let first : 255 - a ≡ 0 = omega (arith, p.0) in
+          (le-leb 128 b p.1, omega (arith, h.1, ap (λ x. x * 256 ^ suc (length (turned bytes))) first))
     ]
 
 pub shortest_integer : (z : ℤ) (bytes : List ℕ) → 1 ≤ length bytes → AreBytes bytes → IsSigned z bytes → IsInteger z (shortest_of bytes)
@@ -49,10 +49,10 @@ shortest_integer z (a ∷ []) some are h = signed_kept z (a ∷ []) are refl h
 shortest_integer z (a ∷ b ∷ bytes) some are h =
     elim (cases_Bool (is_redundant (a ∷ b ∷ bytes))) [
       | inl red ↦
-        subst (IsInteger z) (sym (ap (λ c. cond c (shortest_of (b ∷ bytes)) (a ∷ b ∷ bytes)) red))
+          subst (IsInteger z) (sym (ap (λ c. cond c (shortest_of (b ∷ bytes)) (a ∷ b ∷ bytes)) red))
           (shortest_integer z (b ∷ bytes) (omega arith) are.1 (signed_step z a b bytes red h))
       | inr kept ↦
-        subst (IsInteger z) (sym (ap (λ c. cond c (shortest_of (b ∷ bytes)) (a ∷ b ∷ bytes)) kept)) (signed_kept z (a ∷ b ∷ bytes) are kept h)
+          subst (IsInteger z) (sym (ap (λ c. cond c (shortest_of (b ∷ bytes)) (a ∷ b ∷ bytes)) kept)) (signed_kept z (a ∷ b ∷ bytes) are kept h)
     ]
 
 -- ---- the eight bytes of a number
@@ -113,10 +113,10 @@ number4 a b c d = omega arith
 pub flags_be : (n : ℕ) → n < 2 ^ 32 → (cells : List ℕ) → cells ≡ to_be_bytes w32 n → AreFlags n (0 ∷ get_or cells 0 0 ∷ get_or cells 1 0 ∷ get_or cells 2 0 ∷ get_or cells 3 0 ∷ [])
 flags_be n lt cells e =
     subst (λ (l : List ℕ). AreFlags n (0 ∷ get_or l 0 0 ∷ get_or l 1 0 ∷ get_or l 2 0 ∷ get_or l 3 0 ∷ [])) (sym e)
-        (record {
-          bits = to_be_bytes w32 n;
-          bytes = (omega arith, (omega arith, (omega arith, (omega arith, tt))));
-          four = refl;
-          value = number4 _ _ _ _ ∙ from_be_bytes-to_be_bytes_4 n lt;
-          whole = refl;
-        })
+    (record {
+      bits = to_be_bytes w32 n;
+      bytes = (omega arith, (omega arith, (omega arith, (omega arith, tt))));
+      four = refl;
+      value = number4 _ _ _ _ ∙ from_be_bytes-to_be_bytes_4 n lt;
+      whole = refl;
+    })

@@ -1,6 +1,6 @@
 -- A value has at most one spelling, for all kinds at once.
-use Rattle.std.proofs.Common.{◌≡◌, ℕ, List, [], ◌∷◌, ◌++◌, length, Option, Some, None, refl, sym, ap, subst, ◌∙◌}
-use Rattle.krb_der.specs.Kind.{Kind, leaf, wrapped, sequence, Fields, ends, must, may, each, tag_of, content_tag, ValueOf, FieldsOf}
+use Rattle.std.proofs.Common.{◌≡◌, ℕ, List, [], ◌∷◌, ◌++◌, length, Option, Some, None, sym, ap, subst, ◌∙◌}
+use Rattle.krb_der.specs.Kind.{Kind, leaf, wrapped, sequence, Fields, ends, must, may, each, tag_of, ValueOf, FieldsOf}
 use Rattle.krb_der.specs.Spells.{IsLength, IsElement, IsJoined, IfPresent, ForEach, Contents, SpellsContent, SpellsFields, SpellsBy}
 use Rattle.krb_der.proofs.ContentLaws.{AreUnique}
 use Rattle.krb_der.proofs.LengthLaws.{IsLength-unique}
@@ -38,11 +38,11 @@ module _ (Leaf : Contents) (leaves : AreUnique Leaf) where
     fields_unique ends v a b h k = h ∙ sym k
     fields_unique (must e fs) v a b h k =
         joined_unique (SpellsBy Leaf e v.0) (SpellsFields Leaf fs v.1)
-            (element_unique (tag_of e) (SpellsContent Leaf e v.0) (λ x y p q. content_unique e v.0 x y p q)) (λ x y p q. fields_unique fs v.1 x y p q) a b h k
+        (element_unique (tag_of e) (SpellsContent Leaf e v.0) (λ x y p q. content_unique e v.0 x y p q)) (λ x y p q. fields_unique fs v.1 x y p q) a b h k
     fields_unique (may e fs) v a b h k =
         joined_unique (IfPresent (SpellsBy Leaf e) v.0) (SpellsFields Leaf fs v.1)
-            (present_unique (SpellsBy Leaf e) (λ w. element_unique (tag_of e) (SpellsContent Leaf e w) (λ x y p q. content_unique e w x y p q)) v.0)
-            (λ x y p q. fields_unique fs v.1 x y p q) a b h k
+        (present_unique (SpellsBy Leaf e) (λ w. element_unique (tag_of e) (SpellsContent Leaf e w) (λ x y p q. content_unique e w x y p q)) v.0)
+        (λ x y p q. fields_unique fs v.1 x y p q) a b h k
     fields_unique (each e) v a b h k =
         each_unique (SpellsBy Leaf e) (λ w. element_unique (tag_of e) (SpellsContent Leaf e w) (λ x y p q. content_unique e w x y p q)) v a b h k
 

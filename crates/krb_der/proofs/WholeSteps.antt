@@ -1,10 +1,9 @@
 -- Reading whole numbers and flags, step by step.
-use Rattle.std.proofs.Common.{◌≡◌, ◌≢◌, ◌⊎◌, inl, inr, ℕ, ◌+◌, ◌^◌, ◌<◌, ◌≤◌, ℤ, pos, ◌-ℤ◌, Bool, true, false, not, ◌&&◌, ◌||◌, cond, eqb, leb, List, [], ◌∷◌, length, Option, Some, None, refl, sym, ap, ◌∙◌, arith, lit<}
-use Rattle.std.proofs.lemmas.Bool.{and_from, and_parts, leb-true, or_from, or_left, eq-eqb, ne_eqb}
+use Rattle.std.proofs.Common.{◌≡◌, ◌≢◌, ◌⊎◌, inl, inr, ℕ, ◌^◌, ◌≤◌, ℤ, pos, ◌-ℤ◌, Bool, true, false, not, ◌&&◌, ◌||◌, cond, eqb, leb, List, ◌∷◌, length, Option, Some, None, refl, sym, lit<}
+use Rattle.std.proofs.lemmas.Bool.{and_parts, leb-true, eq-eqb, ne_eqb}
 use Rattle.std.proofs.lemmas.Option.{cond_some}
 use Rattle.std.proofs.Math.Nat.{pow-le-pow_right}
 use Rattle.krb_der.specs.Content.{AreBytes, number}
-use Rattle.krb_der.specs.Inner.Steps.{◌>>?◌, only_if}
 use Rattle.krb_der.specs.Inner.Whole.{are_bytes, is_redundant, is_negative, contents_of, whole_of, flags_of}
 use Rattle.krb_der.proofs.Numbers.{are_bytes-true}
 

@@ -6,7 +6,7 @@ use Rattle.krb_der.specs.declared.fault.FaultKind.TheVariants.{Truncated, Tag, L
 use Rattle.krb_der.specs.Kind.{Content, int32, uint32, microseconds, constant, octets, string, flags, time, Kind, leaf, wrapped, sequence, Fields, ends, must, may, each, tag_of, content_tag, ValueOf}
 use Rattle.krb_der.specs.Content.{Elementary}
 use Rattle.krb_der.specs.Place.{Place, begin_at, end_of, begins}
-use Rattle.krb_der.specs.Spells.{IsLength, Contents, SpellsBy, StandsAt, limit}
+use Rattle.krb_der.specs.Spells.{IsLength, Contents, StandsAt, limit}
 
 -- An element with this tag begins at the place, its head is good, and its content ends before what encloses the place does:
 -- where the content stands, and where the element ends.
@@ -31,7 +31,7 @@ IsLongForm (f ∷ digits) = (f ≡ 0x80 + length digits) × (1 ≤ length digits
 pub data IsBadLength (bytes : List ℕ) : Type 0 where
   no_form : (f : ℕ) (rest : List ℕ) → bytes ≡ f ∷ rest → (f ≡ 0x80) ⊎ (0x84 < f) → IsBadLength bytes
   not_shortest : (size rest : List ℕ) → bytes ≡ size ++ rest → IsLongForm size → ((n : ℕ) → IsLength n size → ⊥)
-    → IsBadLength bytes
+      → IsBadLength bytes
 
 -- which fault it is where a content spells no value
 abbrev pub content_fault : Content → FaultKind
@@ -50,40 +50,40 @@ module _ (Leaf : Contents) where
   pub data Reached (from : Fields) (begin : Place) : Fields → Place → Type 0 where
     start : Reached from begin from begin
     inside_wrapped : {tag : ℕ} {inner : Kind} {fs : Fields} {here inside after : Place}
-      → Reached from begin (must (wrapped tag inner) fs) here → HasHead tag here inside after
-      → Reached from begin (must inner ends) inside
+        → Reached from begin (must (wrapped tag inner) fs) here → HasHead tag here inside after
+        → Reached from begin (must inner ends) inside
     inside_sequence : {inner fs : Fields} {here inside after : Place}
-      → Reached from begin (must (sequence inner) fs) here → HasHead 0x30 here inside after
-      → Reached from begin inner inside
+        → Reached from begin (must (sequence inner) fs) here → HasHead 0x30 here inside after
+        → Reached from begin inner inside
     after_element : {e : Kind} {fs : Fields} {here after : Place} (v : ValueOf e)
-      → Reached from begin (must e fs) here → StandsAt Leaf e v here after → Reached from begin fs after
+        → Reached from begin (must e fs) here → StandsAt Leaf e v here after → Reached from begin fs after
     is_there : {e : Kind} {fs : Fields} {here : Place}
-      → Reached from begin (may e fs) here → begins (tag_of e) here.rest ≡ true → Reached from begin (must e fs) here
+        → Reached from begin (may e fs) here → begins (tag_of e) here.rest ≡ true → Reached from begin (must e fs) here
     is_absent : {e : Kind} {fs : Fields} {here : Place}
-      → Reached from begin (may e fs) here → begins (tag_of e) here.rest ≡ false → Reached from begin fs here
+        → Reached from begin (may e fs) here → begins (tag_of e) here.rest ≡ false → Reached from begin fs here
     one_more : {e : Kind} {here : Place}
-      → Reached from begin (each e) here → here.rest ≢ [] → Reached from begin (must e (each e)) here
+        → Reached from begin (each e) here → here.rest ≢ [] → Reached from begin (must e (each e)) here
 
   -- the rule that is broken where these fields must come, which fault that is, and where
   pub data IsBroken : Fields → Place → Fault → Type 0 where
     nothing : {e : Kind} {fs : Fields} {here : Place}
-      → here.rest ≡ [] → IsBroken (must e fs) here (record { kind = Truncated; at = end_of here })
+        → here.rest ≡ [] → IsBroken (must e fs) here (record { kind = Truncated; at = end_of here })
     other_tag : {e : Kind} {fs : Fields} {here : Place} (b : ℕ) (bytes : List ℕ)
-      → here.rest ≡ b ∷ bytes → b ≢ tag_of e → IsBroken (must e fs) here (record { kind = Tag; at = here.at })
+        → here.rest ≡ b ∷ bytes → b ≢ tag_of e → IsBroken (must e fs) here (record { kind = Tag; at = here.at })
     cut_length : {e : Kind} {fs : Fields} {here : Place} (bytes : List ℕ)
-      → here.rest ≡ tag_of e ∷ bytes → IsCutLength bytes
-      → IsBroken (must e fs) here (record { kind = Truncated; at = end_of here })
+        → here.rest ≡ tag_of e ∷ bytes → IsCutLength bytes
+        → IsBroken (must e fs) here (record { kind = Truncated; at = end_of here })
     bad_length : {e : Kind} {fs : Fields} {here : Place} (bytes : List ℕ)
-      → here.rest ≡ tag_of e ∷ bytes → IsBadLength bytes
-      → IsBroken (must e fs) here (record { kind = Length; at = here.at + 1 })
+        → here.rest ≡ tag_of e ∷ bytes → IsBadLength bytes
+        → IsBroken (must e fs) here (record { kind = Length; at = here.at + 1 })
     cut_content : {e : Kind} {fs : Fields} {here : Place} (n : ℕ) (size bytes : List ℕ)
-      → here.rest ≡ tag_of e ∷ (size ++ bytes) → IsLength n size → length bytes < n
-      → IsBroken (must e fs) here (record { kind = Truncated; at = end_of here })
+        → here.rest ≡ tag_of e ∷ (size ++ bytes) → IsLength n size → length bytes < n
+        → IsBroken (must e fs) here (record { kind = Truncated; at = end_of here })
     bad_content : {c : Content} {fs : Fields} {here : Place} (inside after : Place)
-      → HasHead (content_tag c) here inside after → ((v : ValueOf (leaf c)) → Leaf c v inside.rest → ⊥)
-      → IsBroken (must (leaf c) fs) here (record { kind = content_fault c; at = here.at })
+        → HasHead (content_tag c) here inside after → ((v : ValueOf (leaf c)) → Leaf c v inside.rest → ⊥)
+        → IsBroken (must (leaf c) fs) here (record { kind = content_fault c; at = here.at })
     left_over : {here : Place}
-      → here.rest ≢ [] → IsBroken ends here (record { kind = Trailing; at = here.at })
+        → here.rest ≢ [] → IsBroken ends here (record { kind = Trailing; at = here.at })
 
   -- some rule is broken at some place that is reached
   pub record IsFaulty (from : Fields) (begin : Place) (fault : Fault) : Type 0 where

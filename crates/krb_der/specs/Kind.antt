@@ -14,6 +14,7 @@ mutual
     leaf : Content → Kind
     wrapped : ℕ → Kind → Kind
     sequence : Fields → Kind
+
   pub data Fields : Type 0 where
     ends : Fields
     must : Kind → Fields → Fields

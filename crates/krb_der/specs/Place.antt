@@ -1,5 +1,5 @@
 -- A place in a message: the offset of a byte, and the bytes from it to the end of what encloses it.
-use Rattle.std.specs.Prelude.{◌≡◌, ℕ, ◌+◌, List, [], ◌∷◌, ◌++◌, length, Bool, false, ◌==◌}
+use Rattle.std.specs.Prelude.{ℕ, ◌+◌, List, [], ◌∷◌, length, Bool, false, ◌==◌}
 
 pub record Place : Type 0 where
   pub at : ℕ

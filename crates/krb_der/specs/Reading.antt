@@ -12,7 +12,7 @@ use Rattle.krb_der.specs.Fault.{HasHead, IsElementFault, IsHeadFault}
 pub record Reads {X : Type 0} (k : Kind) (view : X → ValueOf k) (result : Result X Fault) (old new : Place) : Type 0 where
   pub found : IfOk result (λ x. StandsAt Elementary k (view x) old new)
   pub only : (v : ValueOf k) (after : Place) → StandsAt Elementary k v old after
-    → IsOkAnd result (λ x. (view x ≡ v) × (new ≡ after))
+      → IsOkAnd result (λ x. (view x ≡ v) × (new ≡ after))
   pub faulty : IfErr result (IsElementFault Elementary k old)
   pub kept : OnErr result (new ≡ old)
 

@@ -1,5 +1,5 @@
 -- Which bytes spell which value (X.690, sections 8.1 and 10.1), as equations on whole lists.
-use Rattle.std.specs.Prelude.{◌≡◌, ℕ, ◌+◌, ◌*◌, ◌<◌, ◌≤◌, List, [], ◌∷◌, ◌++◌, length, false, Option, Some, None}
+use Rattle.std.specs.Prelude.{◌≡◌, ℕ, ◌+◌, ◌<◌, ◌≤◌, List, [], ◌∷◌, ◌++◌, length, false, Option, Some, None}
 use Rattle.krb_der.specs.Kind.{Content, Kind, leaf, wrapped, sequence, Fields, ends, must, may, each, tag_of, ContentValue, ValueOf, FieldsOf}
 use Rattle.krb_der.specs.Place.{Place, begins}
 use Rattle.krb_der.specs.Content.{Elementary, AreBytes, number}
@@ -9,7 +9,7 @@ use Rattle.krb_der.specs.Content.{Elementary, AreBytes, number}
 pub data IsLength (n : ℕ) (size : List ℕ) : Type 0 where
   short : n < 128 → size ≡ n ∷ [] → IsLength n size
   long : (digits : List ℕ) → size ≡ (0x80 + length digits) ∷ digits → length digits ≤ 4 → AreBytes digits
-    → begins 0 digits ≡ false → 128 ≤ n → number digits ≡ n → IsLength n size
+      → begins 0 digits ≡ false → 128 ≤ n → number digits ≡ n → IsLength n size
 
 -- the bytes are an element: a tag, the length of its content, and its content
 pub record IsElement (tag : ℕ) (IsContent : List ℕ → Type 0) (bytes : List ℕ) : Type 0 where

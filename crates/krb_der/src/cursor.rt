@@ -11,8 +11,7 @@ ghost use Rattle.krb_der.specs.Inner.Read.{enter_at, may_enter, split_at, length
 use crate::element::is_clear;
 use crate::length::length;
 use crate::row::Row;
-use crate::tag;
-use crate::{Constant, Element, Fault, FaultKind, Flags, Microseconds, Octets, Seconds, Text};
+use crate::{Constant, Element, Fault, FaultKind, Flags, Microseconds, Octets, Seconds, Text, tag};
 use std::marker::Model;
 
 /// The most bytes that a message has.
@@ -118,7 +117,7 @@ impl<'a> Cursor<'a> {
         if !self.begins(tag) {
             return Ok(None);
         }
-        let inside = self.step(tag)?;
+        let inside = Cursor::step(self, tag)?;
         Ok(Some(inside))
     }
 
@@ -139,28 +138,28 @@ impl<'a> Cursor<'a> {
     pub fn int32(&mut self) -> Result<i32, Fault>
         ensures { Reads (leaf int32) (λ z. z) result self.old self.new }
     {
-        self.read()
+        self.read::<i32>()
     }
 
     /// Reads a whole number from 0 to 4,294,967,295 (RFC 4120, section 5.2.4). Errors as of [`int32`](Self::int32).
     pub fn uint32(&mut self) -> Result<u32, Fault>
         ensures { Reads (leaf uint32) (λ n. n) result self.old self.new }
     {
-        self.read()
+        self.read::<u32>()
     }
 
     /// Reads a whole number from 0 to 999,999 (RFC 4120, section 5.2.4). Errors as of [`int32`](Self::int32).
     pub fn microseconds(&mut self) -> Result<Microseconds, Fault>
         ensures { Reads (leaf microseconds) (λ n. n) result self.old self.new }
     {
-        self.read()
+        self.read::<Microseconds>()
     }
 
     /// Reads the whole number `N`. Errors as of [`int32`](Self::int32); `Integer` also for any other number.
     pub fn constant<const N: u32>(&mut self) -> Result<Constant<N>, Fault>
         ensures { Reads (leaf (constant N)) (λ _. tt) result self.old self.new }
     {
-        self.read()
+        self.read::<Constant<N>>()
     }
 
     /// Reads an OCTET STRING: answers a slice of the input. Errors as of [`enter`](Self::enter).
@@ -198,7 +197,7 @@ impl<'a> Cursor<'a> {
     pub fn flags(&mut self) -> Result<Flags, Fault>
         ensures { Reads (leaf flags) (λ f. f.0) result self.old self.new }
     {
-        self.read()
+        self.read::<Flags>()
     }
 
     /// Reads a GeneralizedTime of the form `YYYYMMDDHHMMSSZ` (RFC 4120, section 5.2.3).
@@ -208,7 +207,7 @@ impl<'a> Cursor<'a> {
     pub fn time(&mut self) -> Result<Seconds, Fault>
         ensures { Reads (leaf time) (λ s. s) result self.old self.new }
     {
-        self.read()
+        self.read::<Seconds>()
     }
 
     /// Reads a SEQUENCE of these fields. Errors as of [`read`](Self::read).

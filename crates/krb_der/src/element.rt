@@ -25,5 +25,4 @@ pub trait Element<'a>: Sized {
 /// The law of [`Element`], for callers.
 pub(crate) fn is_clear<'a, T: Element<'a>>()
     ensures { is_clear T.kind ≡ true }
-{
-}
+{}

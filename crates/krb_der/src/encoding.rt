@@ -166,7 +166,11 @@ pub fn write_sequence<R: EncodeRow>(row: &R, out: &mut Writer) -> Result<(), Enc
 }
 
 /// Writes a SEQUENCE of these fields with this tag round it. Errors as of [`Encode::write`].
-pub fn write_application<R: EncodeRow>(row: &R, tag: u8, out: &mut Writer) -> Result<(), EncodeFault>
+pub fn write_application<R: EncodeRow>(
+    row: &R,
+    tag: u8,
+    out: &mut Writer,
+) -> Result<(), EncodeFault>
     requires { length out.old ≤ limit }
     ensures { Encodes (Spells (wrapped tag (sequence R.fields)) (R.view row.now)) result out.old out.new }
 {

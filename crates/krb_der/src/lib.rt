@@ -1,4 +1,18 @@
-//! DER.
+//! DER (X.690) as Kerberos uses it (RFC 4120, section 5.1): reading by a [`Cursor`], writing by a [`Writer`], and whole messages.
+//!
+//! A kind of element is a value of `specs::Kind`, a schema that reads like a module of ASN.1. `specs::Spells` says which bytes
+//! spell which value of a kind, and `specs::Fault` what is wrong with other bytes, and where. Times are whole seconds of the
+//! years 0000 to 9999 in Zulu time, flags have 32 bits, numbers are below 2^32, and a message has at most 1,048,576 bytes.
+//!
+//! - Call by call: `Cursor::new`, `enter(tag)` and `optional(tag)` for the content of an element with parts, `int32` and its
+//!   kin for one without, `finish` at the end of each content. Writing: `Writer::new`, the calls of the same names, and
+//!   `wrap(tag, start)` round what was written from `start` on.
+//! - As rows of fields: a type with [`Element`] names its kind, and its `read` asks `cursor.sequence()` for nested pairs of
+//!   [`Field`] and [`Maybe`]. With [`Message`] too, [`parse`] reads it. Bind the answer of `sequence` with its type and match
+//!   on it: `?` there is refused for rows that hold both a slice and a time. With [`Encode`], whose `write` hands such a row to
+//!   [`write_sequence`], [`encoded`] writes it. A field that is an `i32` goes into that row as `Field(&self.number)`.
+//!
+//! Slices that reading answers are of the input; only writing takes memory. No call runs longer than linear in its bytes.
 #![tactic(auto)]
 
 mod cursor;
@@ -24,8 +38,8 @@ pub use fault::{EncodeFault, Fault, FaultKind};
 pub use message::{Message, parse};
 pub use row::{Field, Maybe, Row};
 pub use time::Seconds;
-pub use writer::Writer;
 pub use value::{Constant, Flags, Microseconds, Octets, Text};
+pub use writer::Writer;
 
 #[cfg(test)]
 mod tests;

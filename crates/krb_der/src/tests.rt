@@ -130,16 +130,55 @@ impl<'a> Element<'a> for Sample<'a> {
         (must (field 5 (leaf time)) (may (field 6 (leaf uint32)) (may (field 7 (leaf uint32))
         (must (field 8 (leaf flags)) (may (field 9 (leaf time)) (may (field 10 (leaf octets)) ends)))))))))))) };
 
-    ghost view = { λ s. (tt, (s.realm.0.now, (s.number, (option_map (λ o. o.0.now) s.sum, (s.micros, (s.time,
-        (option_map (λ n. n) s.key, (option_map (λ n. n) s.sequence, (s.flags.0, (option_map (λ t. t) s.end,
-        (option_map (λ o. o.0.now) s.data, tt))))))))))) };
+    ghost view = { λ s. (
+      tt,
+      (
+        s.realm.0.now,
+        (
+          s.number,
+          (
+            option_map (λ o. o.0.now) s.sum,
+            (
+              s.micros,
+              (
+                s.time,
+                (
+                  option_map (λ n. n) s.key,
+                  (
+                    option_map (λ n. n) s.sequence,
+                    (
+                      s.flags.0,
+                      (
+                        option_map (λ t. t) s.end,
+                        (option_map (λ o. o.0.now) s.data, tt),
+                      ),
+                    ),
+                  ),
+                ),
+              ),
+            ),
+          ),
+        ),
+      ),
+    ) };
 
     ghost clear = { refl };
 
     fn read(cursor: &mut Cursor<'a>) -> Result<Sample<'a>, Fault> {
         let row: Result<SampleRow<'a>, Fault> = cursor.application(0x62);
         match row {
-            Ok((_, (realm, (number, (sum, (micros, (time, (key, (sequence, (flags, (end, (data, ())))))))))))) => Ok(Sample {
+            Ok(
+                (
+                    _,
+                    (
+                        realm,
+                        (
+                            number,
+                            (sum, (micros, (time, (key, (sequence, (flags, (end, (data, ())))))))),
+                        ),
+                    ),
+                ),
+            ) => Ok(Sample {
                 realm: realm.0,
                 number: number.0,
                 sum: sum.0,
@@ -158,14 +197,26 @@ impl<'a> Element<'a> for Sample<'a> {
 
 impl<'a> Message<'a> for Sample<'a> {}
 
-type SampleRow<'a> = (Field<0xa0, Constant<5>>, (Field<0xa1, Text<'a>>, (Field<0xa2, i32>, SampleRest<'a>)));
+type SampleRow<'a> = (
+    Field<0xa0, Constant<5>>,
+    (Field<0xa1, Text<'a>>, (Field<0xa2, i32>, SampleRest<'a>)),
+);
 
 type SampleRest<'a> = (
     Maybe<0xa3, Octets<'a>>,
-    (Field<0xa4, Microseconds>, (Field<0xa5, Seconds>, (Maybe<0xa6, u32>, (Maybe<0xa7, u32>, SampleLast<'a>)))),
+    (
+        Field<0xa4, Microseconds>,
+        (
+            Field<0xa5, Seconds>,
+            (Maybe<0xa6, u32>, (Maybe<0xa7, u32>, SampleLast<'a>)),
+        ),
+    ),
 );
 
-type SampleLast<'a> = (Field<0xa8, Flags>, (Maybe<0xa9, Seconds>, (Maybe<0xaa, Octets<'a>>, ())));
+type SampleLast<'a> = (
+    Field<0xa8, Flags>,
+    (Maybe<0xa9, Seconds>, (Maybe<0xaa, Octets<'a>>, ())),
+);
 
 impl Encode for Sample<'_> {
     ghost kind = { application 2 (sequence (must (field 0 (leaf (constant 5))) (must (field 1 (leaf string))
@@ -173,24 +224,61 @@ impl Encode for Sample<'_> {
         (must (field 5 (leaf time)) (may (field 6 (leaf uint32)) (may (field 7 (leaf uint32))
         (must (field 8 (leaf flags)) (may (field 9 (leaf time)) (may (field 10 (leaf octets)) ends)))))))))))) };
 
-    ghost view = { λ s. (tt, (s.realm.0.now, (s.number, (option_map (λ o. o.0.now) s.sum, (s.micros, (s.time,
-        (option_map (λ n. n) s.key, (option_map (λ n. n) s.sequence, (s.flags.0, (option_map (λ t. t) s.end,
-        (option_map (λ o. o.0.now) s.data, tt))))))))))) };
+    ghost view = { λ s. (
+      tt,
+      (
+        s.realm.0.now,
+        (
+          s.number,
+          (
+            option_map (λ o. o.0.now) s.sum,
+            (
+              s.micros,
+              (
+                s.time,
+                (
+                  option_map (λ n. n) s.key,
+                  (
+                    option_map (λ n. n) s.sequence,
+                    (
+                      s.flags.0,
+                      (
+                        option_map (λ t. t) s.end,
+                        (option_map (λ o. o.0.now) s.data, tt),
+                      ),
+                    ),
+                  ),
+                ),
+              ),
+            ),
+          ),
+        ),
+      ),
+    ) };
 
     fn write(&self, out: &mut Writer) -> Result<(), EncodeFault> {
         let rest = (Field(self.flags), (Maybe(self.end), (Maybe(self.data), ())));
         let rest = (Maybe(self.key), (Maybe(self.sequence), rest));
-        let rest = (Maybe(self.sum), (Field(self.micros), (Field(self.time), rest)));
+        let rest = (
+            Maybe(self.sum),
+            (Field(self.micros), (Field(self.time), rest)),
+        );
         let number = (Field(&self.number), rest);
-        let row: (Field<0xa0, Constant<5>>, (Field<0xa1, Text>, (Field<0xa2, &i32>, SampleRest))) =
-            (Field(Constant), (Field(self.realm), number));
+        let row: (
+            Field<0xa0, Constant<5>>,
+            (Field<0xa1, Text>, (Field<0xa2, &i32>, SampleRest)),
+        ) = (Field(Constant), (Field(self.realm), number));
         write_application(&row, 0x62, out)
     }
 }
 
 /// A message of the sample's kind, put together by tests/der_rules.py's `element`.
 const MESSAGE: [u8; 69] = [
-    0x62, 0x43, 0x30, 0x41, 0xa0, 0x03, 0x02, 0x01, 0x05, 0xa1, 0x04, 0x1b, 0x02, 0x45, 0x58, 0xa2, 0x04, 0x02, 0x02, 0xff, 0x7f, 0xa4, 0x03, 0x02, 0x01, 0x05, 0xa5, 0x11, 0x18, 0x0f, 0x32, 0x30, 0x32, 0x33, 0x31, 0x31, 0x31, 0x34, 0x32, 0x32, 0x31, 0x35, 0x30, 0x30, 0x5a, 0xa7, 0x07, 0x02, 0x05, 0x00, 0xff, 0xff, 0xff, 0xff, 0xa8, 0x07, 0x03, 0x05, 0x00, 0x40, 0x00, 0x00, 0x00, 0xaa, 0x04, 0x04, 0x02, 0xab, 0xcd,
+    0x62, 0x43, 0x30, 0x41, 0xa0, 0x03, 0x02, 0x01, 0x05, 0xa1, 0x04, 0x1b, 0x02, 0x45, 0x58, 0xa2,
+    0x04, 0x02, 0x02, 0xff, 0x7f, 0xa4, 0x03, 0x02, 0x01, 0x05, 0xa5, 0x11, 0x18, 0x0f, 0x32, 0x30,
+    0x32, 0x33, 0x31, 0x31, 0x31, 0x34, 0x32, 0x32, 0x31, 0x35, 0x30, 0x30, 0x5a, 0xa7, 0x07, 0x02,
+    0x05, 0x00, 0xff, 0xff, 0xff, 0xff, 0xa8, 0x07, 0x03, 0x05, 0x00, 0x40, 0x00, 0x00, 0x00, 0xaa,
+    0x04, 0x04, 0x02, 0xab, 0xcd,
 ];
 
 #[test]
@@ -220,7 +308,8 @@ fn a_fault_is_the_first_from_the_left(rt: HostRuntime) {
 
 /// The name `alice` of type 1 (RFC 4120, section 5.2.2).
 const ALICE: [u8; 18] = [
-    0x30, 0x10, 0xa0, 0x03, 0x02, 0x01, 0x01, 0xa1, 0x09, 0x30, 0x07, 0x1b, 0x05, 0x61, 0x6c, 0x69, 0x63, 0x65,
+    0x30, 0x10, 0xa0, 0x03, 0x02, 0x01, 0x01, 0xa1, 0x09, 0x30, 0x07, 0x1b, 0x05, 0x61, 0x6c, 0x69,
+    0x63, 0x65,
 ];
 
 #[test]
@@ -258,10 +347,17 @@ fn a_name_by_calls(rt: HostRuntime) -> Result<(), Fail> {
 #[test]
 fn limits(rt: HostRuntime) -> Result<(), Fail> {
     let long = vec![in rt.alloc(); 4u8; 1_048_577]?;
-    let fault = Cursor::new(long.as_slice()).map(|_| ()).map_err(|fault| (fault.kind, fault.at));
+    let fault = Cursor::new(long.as_slice())
+        .map(|_| ())
+        .map_err(|fault| (fault.kind, fault.at));
     assert_eq!(rt; fault, Err((FaultKind::TooLong, 0)));
     assert!(rt; Cursor::new(&long[1..]).is_ok());
-    assert!(rt; matches!(encoded(rt.alloc(), &Octets(long.as_slice())), Err(EncodeFault::TooLong)));
+    assert!(rt;
+        matches!(
+            encoded(rt.alloc(), &Octets(long.as_slice())),
+            Err(EncodeFault::TooLong)
+        )
+    );
     assert_eq!(rt; Seconds::new(-62_167_219_201), None);
     assert_eq!(rt; Seconds::new(253_402_300_800), None);
     assert!(rt; Seconds::new(253_402_300_799).is_some());

@@ -197,7 +197,5 @@ pub fn text_of(seconds: Seconds) -> [u8; 15]
     let [h1, h2] = two(civil.hour);
     let [n1, n2] = two(civil.minute);
     let [s1, s2] = two(civil.second);
-    [
-        y1, y2, y3, y4, m1, m2, d1, d2, h1, h2, n1, n2, s1, s2, b'Z',
-    ]
+    [y1, y2, y3, y4, m1, m2, d1, d2, h1, h2, n1, n2, s1, s2, b'Z']
 }

@@ -66,7 +66,11 @@ pub fn whole(content: &[u8]) -> Option<i64>
     }
     let all = contents(content.len())?;
     let number = number(content) as i64;
-    Some(if is_negative(content) { number - all } else { number })
+    Some(if is_negative(content) {
+        number - all
+    } else {
+        number
+    })
 }
 
 /// The 32 bits of a content without unused bits.

@@ -8,10 +8,10 @@ ghost use Rattle.krb_der.specs.Inner.Limited.{limited_of};
 ghost use Rattle.krb_der.specs.Inner.HeadView.{turned_at};
 ghost use Rattle.krb_der.specs.Writing.{Appends, Wraps, Writes};
 
+use crate::cursor::LIMIT;
 use crate::head::head_of;
 use crate::time::text_of;
 use crate::whole::shortest;
-use crate::cursor::LIMIT;
 use crate::{EncodeFault, Flags, Microseconds, Seconds, tag};
 use std::alloc::{AllocError, Global};
 use std::marker::Model;
@@ -35,9 +35,8 @@ impl Writer {
     pub fn new(alloc: Global) -> Self
         ensures { result ≡ [] }
     {
-        Writer {
-            bytes: Vec::new(alloc),
-        }
+        let bytes = Vec::new(alloc);
+        Writer { bytes }
     }
 
     /// How many bytes were written.
@@ -58,7 +57,8 @@ impl Writer {
     pub fn into_bytes(self) -> Vec<u8>
         ensures { result.items ≡ self }
     {
-        self.bytes
+        let Writer { bytes } = self;
+        bytes
     }
 
     /// Writes an element with this tag and content.
@@ -94,10 +94,10 @@ impl Writer {
     }
 
     /// Writes a whole number from 0 to 4,294,967,295.
-    pub fn uint32(&mut self, value: u32) -> Result<(), AllocError>
-        ensures { Writes (leaf uint32) value result self.old self.new }
+    pub fn uint32(&mut self, number: u32) -> Result<(), AllocError>
+        ensures { Writes (leaf uint32) number result self.old self.new }
     {
-        self.whole(i64::from(value))
+        self.whole(i64::from(number))
     }
 
     /// Writes a whole number from 0 to 999,999.

@@ -1,5 +1,5 @@
 -- A call that wrote, and the limit.
-use Rattle.std.specs.Prelude.{◌≡◌, ℕ, List, length, nat_lt, if◌then◌else◌, Result, Ok, Err}
+use Rattle.std.specs.Prelude.{ℕ, List, length, nat_lt, if◌then◌else◌, Result, Ok, Err}
 use Rattle.krb_der.specs.declared.fault.EncodeFault.{EncodeFault}
 use Rattle.krb_der.specs.declared.fault.EncodeFault.TheVariants.{TooLong, OutOfMemory}
 use Rattle.krb_der.specs.Spells.{limit}

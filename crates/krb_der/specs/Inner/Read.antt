@@ -1,14 +1,14 @@
 -- Reading from left to right, which gives the value and the place behind it, or the first fault.
-use Rattle.std.specs.Prelude.{◌≡◌, ℕ, zero, suc, ◌+◌, ◌-◌, ◌*◌, ◌^◌, ◌<◌, ◌≤◌, Bool, true, false, not, ◌&&◌, ◌==◌, nat_lt, nat_le, if◌then◌else◌, List, [], ◌∷◌, ◌++◌, length, take, drop, Option, Some, None, Result, Ok, Err}
+use Rattle.std.specs.Prelude.{ℕ, zero, suc, ◌+◌, ◌-◌, ◌^◌, Bool, not, ◌&&◌, ◌==◌, nat_lt, nat_le, if◌then◌else◌, List, [], ◌∷◌, length, take, drop, Option, Some, None, Result, Ok, Err}
 use Rattle.krb_der.specs.declared.fault.Fault.{Fault}
 use Rattle.krb_der.specs.declared.fault.FaultKind.{FaultKind}
-use Rattle.krb_der.specs.declared.fault.FaultKind.TheVariants.{Truncated, Tag, Length, Integer, Time, Flags, Trailing, TooLong}
+use Rattle.krb_der.specs.declared.fault.FaultKind.TheVariants.{Truncated, Tag, Length, Trailing, TooLong}
 use Rattle.krb_der.specs.Kind.{Content, int32, uint32, microseconds, constant, octets, string, flags, time, Kind, leaf, wrapped, sequence, Fields, ends, must, may, each, tag_of, content_tag, ContentValue, ValueOf, FieldsOf}
 use Rattle.krb_der.specs.Content.{number}
 use Rattle.krb_der.specs.Place.{Place, begin_at, end_of, begins}
 use Rattle.krb_der.specs.Fault.{content_fault}
 use Rattle.krb_der.specs.Spells.{limit}
-use Rattle.krb_der.specs.Inner.Steps.{◌>>=◌, ◌>>?◌, only_if}
+use Rattle.krb_der.specs.Inner.Steps.{◌>>=◌, ◌>>?◌}
 use Rattle.krb_der.specs.Inner.Whole.{are_bytes, whole_of, natural_below, int32_within, constant_at, flags_of}
 use Rattle.krb_der.specs.Inner.Clock.{time_of}
 
@@ -40,8 +40,10 @@ length_of (f ∷ bytes) =
 unfoldable pub split_at : Place → ℕ → List ℕ → Result (Place × Place) Fault
 split_at p n bytes =
     if nat_lt (length bytes) n then fault_at Truncated (end_of p)
-    else Ok (record { at = p.at + (length p.rest - length bytes); rest = take n bytes },
-        record { at = p.at + (length p.rest - length bytes) + n; rest = drop n bytes })
+    else Ok (
+      record { at = p.at + (length p.rest - length bytes); rest = take n bytes },
+      record { at = p.at + (length p.rest - length bytes) + n; rest = drop n bytes },
+    )
 
 -- the fault of an element whose length has a fault
 abbrev pub length_fault : Place → FaultKind → Fault

@@ -1,5 +1,5 @@
 -- Whole numbers and flags, read.
-use Rattle.std.specs.Prelude.{◌≡◌, ℕ, ◌+◌, ◌-◌, ◌*◌, ◌^◌, ◌<◌, ◌≤◌, ℤ, pos, negsuc, ◌-ℤ◌, Bool, true, false, ◌&&◌, ◌||◌, not, ◌==◌, nat_lt, nat_le, if◌then◌else◌, List, [], ◌∷◌, length, Option, Some, None}
+use Rattle.std.specs.Prelude.{ℕ, ◌^◌, ℤ, pos, negsuc, ◌-ℤ◌, Bool, true, false, ◌&&◌, ◌||◌, not, ◌==◌, nat_lt, nat_le, if◌then◌else◌, List, [], ◌∷◌, length, Option, Some, None}
 use Rattle.krb_der.specs.Content.{number}
 use Rattle.krb_der.specs.Inner.Steps.{◌>>?◌, only_if}
 
@@ -26,7 +26,7 @@ unfoldable pub whole_of : List ℕ → Option ℤ
 whole_of content =
     if is_redundant content || not (are_bytes content) then None
     else (contents_of (length content) >>? λ all.
-        Some (if is_negative content then pos (number content) -ℤ all else pos (number content)))
+    Some (if is_negative content then pos (number content) -ℤ all else pos (number content)))
 
 -- at least 0, and below the bound
 abbrev pub natural_below : ℕ → ℤ → Option ℕ

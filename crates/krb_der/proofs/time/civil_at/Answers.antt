@@ -1,4 +1,4 @@
-use Rattle.std.proofs.Common.{◌≡◌, ◌+ℤ◌, ◌≤ℤ◌, pos, neg_ℤ, arith}
+use Rattle.std.proofs.Common.{◌≤ℤ◌, pos, neg_ℤ, arith}
 use Rattle.std.proofs.lemmas.Int.{ints}
 use Rattle.jiff_core.specs.Calendar.{days_from_civil}
 use Rattle.krb_der.proofs.Calendar.{year_from_zero, cast_year, civil_value}

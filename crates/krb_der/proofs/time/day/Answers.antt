@@ -24,4 +24,3 @@ returns-clause-range c =
     let day : c.in_ok-date.date.day ≡ c.args.day = omega (arith, ints, parts.2) in
     let low = day_low c.in_ok-date.date c.args.year c.args.month c.args.day year month day in
     (omega (arith, ints, low, c.to_unix_epoch_day.ensures.value), omega (arith, ints, c.to_unix_epoch_day.ensures.bound))
-

@@ -18,5 +18,5 @@ pub returns-clause-small : goal.returns-clause-small
 returns-clause-small c =
     let bytes : AreBytes c.args.bytes.now = AreBytes-from _ (λ i. omega (arith, c.type_inv.bytes i)) in
     let whole : c.loop-byte.number ≡ number c.args.bytes.now =
-        c.loop-byte.invariant ∙ ap number (take_all c.loop-byte.byte-index c.args.bytes.now (omega arith)) in
+    c.loop-byte.invariant ∙ ap number (take_all c.loop-byte.byte-index c.args.bytes.now (omega arith)) in
     omega (arith, number_within c.args.bytes.now 5 bytes c.requires)

@@ -1,4 +1,4 @@
-use Rattle.std.proofs.Common.{◌≡◌, take, drop, length, sym, ap, ◌∙◌, arith}
+use Rattle.std.proofs.Common.{◌≡◌, length, sym, ap, ◌∙◌, arith}
 use Rattle.std.proofs.lemmas.List.{take_rest}
 use Rattle.krb_der.specs.Inner.Shortest.{shortest_of}
 use Rattle.krb_der.proofs.ShortestLaws.{shortest_of-step, shortest_of-one, shortest_of-kept, length-shortest}
@@ -17,7 +17,7 @@ returns-else-is_redundant-clause-value c =
 pub returns-else-is_redundant-clause-shorter : goal.returns-else-is_redundant-clause-shorter
 returns-else-is_redundant-clause-shorter c =
     let same : c.loop-rest.rest.now ≡ shortest_of c.args.bytes.now =
-        sym (shortest_of-kept c.loop-rest.rest.now (sym c.is_redundant.ensures ∙ c.if-is_redundant.false)) ∙ c.loop-rest.invariant in
+    sym (shortest_of-kept c.loop-rest.rest.now (sym c.is_redundant.ensures ∙ c.if-is_redundant.false)) ∙ c.loop-rest.invariant in
     omega (arith, ap length same, length-shortest c.args.bytes.now)
 
 pub returns-after-loop-rest-clause-value : goal.returns-after-loop-rest-clause-value

@@ -1,4 +1,4 @@
-use Rattle.std.proofs.Common.{◌≡◌, ◌-◌, length, take, drop, ap, subst, sym, ◌∙◌, arith, length-append, length-drop}
+use Rattle.std.proofs.Common.{◌≡◌, ◌-◌, length, take, drop, ap, subst, ◌∙◌, arith, length-append, length-drop}
 use Rattle.krb_der.specs.Inner.HeadView.{IsHeadOf, turned_at}
 use Rattle.krb_der.proofs.HeadLaws.{wraps-turned, written_back}
 use Rattle.krb_der.proofs.writer.wrap_from.Goals as goal
@@ -11,8 +11,8 @@ returns-clause-ok c =
     let rest : c.len.result - c.args.start ≡ length (drop c.args.start old) = omega (arith, length-drop c.args.start old, c.len.ensures, c.args.bytes.now.ok.0) in
     let same : length c.turn.new.bytes ≡ length c.extend_from_slice.new.self.items = c.turn.auto.bytes ∙ ap length c.deref_mut.ensures.value in
     let end : length c.deref_mut.result.now - c.head_of-head.result.len ≡ length old =
-        omega (arith, ap length c.deref_mut.ensures.value, ap length mid, length-append old head, c.head_of-head.ensures.width) in
+    omega (arith, ap length c.deref_mut.ensures.value, ap length mid, length-append old head, c.head_of-head.ensures.width) in
     wraps-turned c.args.tag c.args.start old head c.extend_from_slice.new.self.items _ c.requires.within
-        (subst (λ n. IsHeadOf c.args.tag n head) rest c.head_of-head.ensures.is) mid
-        (written_back c.turn.new.bytes c.extend_from_slice.new.self.items c.extend_from_slice.new.self.len same c.extend_from_slice.new.self.ok.0
-        ∙ c.turn.ensures ∙ ap (λ e. turned_at c.args.start e c.deref_mut.result.now) end ∙ ap (turned_at c.args.start (length old)) c.deref_mut.ensures.value)
+    (subst (λ n. IsHeadOf c.args.tag n head) rest c.head_of-head.ensures.is) mid
+    (written_back c.turn.new.bytes c.extend_from_slice.new.self.items c.extend_from_slice.new.self.len same c.extend_from_slice.new.self.ok.0
+    ∙ c.turn.ensures ∙ ap (λ e. turned_at c.args.start e c.deref_mut.result.now) end ∙ ap (turned_at c.args.start (length old)) c.deref_mut.ensures.value)

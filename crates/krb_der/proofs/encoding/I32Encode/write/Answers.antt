@@ -10,4 +10,4 @@ pub returns : goal.returns
 returns c =
     let same : to_z w32 (of_z w32 c.args.self.now) ≡ c.args.self.now = omega (arith, ints) in
     subst (λ z. Encodes (Spells (leaf int32) z) c.limited.result c.args.out.now c.int32-written.new.self) same
-        (encodes-leaf (leaf int32) (to_z w32 (of_z w32 c.args.self.now)) c.int32-written.result c.limited.result c.args.out.now c.int32-written.new.self c.int32-written.ensures c.limited.ensures)
+    (encodes-leaf (leaf int32) (to_z w32 (of_z w32 c.args.self.now)) c.int32-written.result c.limited.result c.args.out.now c.int32-written.new.self c.int32-written.ensures c.limited.ensures)

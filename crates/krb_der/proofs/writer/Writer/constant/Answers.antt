@@ -9,4 +9,4 @@ pub returns : goal.returns
 returns g c =
     let same : to_z w64 (of_z w64 c.from.result) ≡ pos g.row.N = omega (arith, ints, c.from.ensures, g.N.fits) in
     writes (leaf (constant g.row.N)) tt (IsInteger (to_z w64 (of_z w64 c.from.result))) c.whole.result c.args.self.now c.whole.new.self
-        (λ content h. (omega (arith, g.N.fits), subst (λ z. IsInteger z content) same h)) c.whole.ensures.ok c.whole.ensures.kept
+    (λ content h. (omega (arith, g.N.fits), subst (λ z. IsInteger z content) same h)) c.whole.ensures.ok c.whole.ensures.kept

@@ -9,4 +9,4 @@ pub returns : goal.returns
 returns c =
     let same : to_z w64 (of_z w64 c.from.result) ≡ pos c.args.value = omega (arith, ints, c.from.ensures, c.get.ensures.value) in
     writes (leaf microseconds) c.args.value (IsInteger (to_z w64 (of_z w64 c.from.result))) c.whole.result c.args.self.now c.whole.new.self
-        (λ content h. (omega (arith, c.get.ensures.value, c.get.ensures.range), subst (λ z. IsInteger z content) same h)) c.whole.ensures.ok c.whole.ensures.kept
+    (λ content h. (omega (arith, c.get.ensures.value, c.get.ensures.range), subst (λ z. IsInteger z content) same h)) c.whole.ensures.ok c.whole.ensures.kept
