@@ -7,11 +7,11 @@ use Rattle.std.proofs.lemmas.Bool.{cases_lt}
 use Rattle.std.proofs.lemmas.List.{drop_at, take-append-drop, length-take-le}
 use Rattle.krb_cts.specs.Undo.{undo}
 use Rattle.krb_cts.proofs.Lengths.{length-undo}
-use Rattle.krb_enc.specs.Sealed.{Profile, encryption_key, tag_of}
+use Rattle.krb_enc.specs.Sealed.{Profile, IsProfile, encryption_key, tag_of}
 use Rattle.krb_enc.specs.Opens.{body_of, end_of, HasTag, OpensBack, OpensTo}
 
-pub one_plain : (p : Profile) (key : List ℕ) (usage : ℕ) (text one other : List ℕ) → OpensTo p key usage text one → OpensTo p key usage text other → one ≡ other
-one_plain p key usage text one other a b =
+pub one_plain : (p : Profile) (key : List ℕ) (usage : ℕ) (text one other : List ℕ) → IsProfile p → OpensTo p key usage text one → OpensTo p key usage text other → one ≡ other
+one_plain p key usage text one other known a b =
     let same : a.confounder ++ one ≡ b.confounder ++ other = sym a.undone ∙ b.undone in
     sym (drop_at a.confounder one 16 a.size) ∙ ap (λ (t : List ℕ). drop 16 t) same ∙ drop_at b.confounder other 16 b.size
 
@@ -23,9 +23,9 @@ same_by one other false d = inr (λ e. let bad : false ≡ true = d.1 e in absur
 same_texts : (one other : List ℕ) → (one ≡ other) ⊎ (one ≡ other → ⊥)
 same_texts one other = same_by one other (bytes_eq one other) (bytes_eq-Decides one other)
 
-pub decided : (p : Profile) (key : List ℕ) (usage : ℕ) (text : List ℕ)
+pub decided : (p : Profile) (key : List ℕ) (usage : ℕ) (text : List ℕ) → IsProfile p
     → ((plain : List ℕ) × OpensTo p key usage text plain) ⊎ ((plain : List ℕ) → OpensTo p key usage text plain → ⊥)
-decided p key usage text =
+decided p key usage text known =
     elim (cases_lt (length text) (16 + p.tag_len)) [
       | inl short ↦ inr (λ plain o. absurd (omega (arith, o.long)))
       | inr long ↦

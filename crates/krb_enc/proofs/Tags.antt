@@ -15,3 +15,9 @@ length-short_mac p key text known =
 pub length-tag_of : (p : Profile) (key : List ℕ) (usage : ℕ) (text : List ℕ) → IsProfile p → length (tag_of p key usage text) ≡ p.tag_len
 unfolding tag_of
 length-tag_of p key usage text known = length-short_mac p _ _ known
+
+pub length-checksum_of : (p : Profile) (key : List ℕ) (usage : ℕ) (text : List ℕ) → IsProfile p → length (checksum_of p key usage text) ≡ p.tag_len
+unfolding checksum_of
+length-checksum_of p key usage text known = length-short_mac p _ _ known
+
+pub ruleset lengths = (length-tag_of, length-checksum_of)

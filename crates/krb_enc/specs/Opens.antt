@@ -1,5 +1,5 @@
 -- What a sealed text opens to (RFC 8009, section 5).
-use Rattle.std.specs.Prelude.{◌≡◌, ◌≢◌, ◌<◌, ◌≤◌, ℕ, ◌+◌, ◌-◌, List, ◌++◌, length, take, drop}
+use Rattle.std.specs.Prelude.{◌≡◌, All, ◌<◌, ◌≤◌, ℕ, ◌+◌, ◌-◌, List, ◌++◌, length, take, drop}
 use Rattle.krb_aes.specs.Cipher.{IsBlock}
 use Rattle.krb_cts.specs.Undo.{undo}
 use Rattle.krb_enc.specs.Sealed.{Profile, encryption_key, tag_of, sealed}
@@ -8,6 +8,7 @@ use Rattle.krb_enc.specs.Sealed.{Profile, encryption_key, tag_of, sealed}
 pub record Opens (p : Profile) (key : List ℕ) (usage : ℕ) (text plain : List ℕ) : Type 0 where
   pub confounder : List ℕ
   pub is_block : IsBlock confounder
+  pub plain_bytes : All (λ byte. byte < 256) plain
   pub sealed_is : sealed p key usage confounder plain ≡ text
 
 -- what stands before the tag, and the tag

@@ -2,7 +2,7 @@
 
 ghost use Rattle.std.specs.Prelude.{◌≡◌, ◌≢◌, ◌↔◌, ◌⊎◌, ◌≤◌, ◌<◌, ◌+◌, ℕ, ℤ, List, length, IfOk, IsErrOf, vec_len};
 ghost use Rattle.krb_enc.specs.Sealed.{Profile, IsProfile, encryption_key, tag_of, checksum_of, sealed};
-ghost use Rattle.krb_enc.specs.Opens.{IsShort, HasTag, OpensTo};
+ghost use Rattle.krb_enc.specs.Opens.{HasTag, OpensTo};
 
 use crate::fault::OpenFault;
 use crate::tag::Tag;
@@ -13,13 +13,13 @@ use std::alloc::{AllocError, Global};
 /// An encryption type of RFC 8009. Its calls take the bytes of a base key, of which there have to be
 /// `KEY_LEN`.
 pub trait Enctype {
-    /// The type's number (RFC 8009, section 8).
+    /// The type's number (RFC 8009, section 7).
     const ETYPE: i32;
 
-    /// The length of a base key, in bytes.
+    /// The length of a base key, in bytes: 16 or 32.
     const KEY_LEN: usize;
 
-    /// The length of a tag, in bytes.
+    /// The length of a tag, in bytes: 16 or 24.
     const TAG_LEN: usize;
 
     /// The type, as the definitions name it.
@@ -31,22 +31,34 @@ pub trait Enctype {
 
     ghost TAG_LEN: { ℕ };
 
-    /// Gives Ke, ready for use.
+    /// Gives Ke, of 16 or 32 bytes, ready for use.
+    ///
+    /// Source: RFC 8009, section 5.
     fn encryption_key(key: &[u8], usage: u32) -> KeySchedule
         requires { length key.now ≡ KEY_LEN }
         ensures { result ≡ encryption_key profile key.now usage };
 
-    /// Gives the tag of a ciphertext.
+    /// Gives the tag of a ciphertext: 16 or 24 bytes.
+    ///
+    /// Source: RFC 8009, section 5.
     fn tag(key: &[u8], usage: u32, text: &[u8]) -> Tag
         requires { length key.now ≡ KEY_LEN }
         ensures { result ≡ tag_of profile key.now usage text.now };
 
-    /// Gives the checksum of a text.
+    /// Gives the checksum of a text: 16 or 24 bytes.
+    ///
+    /// Source: RFC 8009, section 6.
     fn checksum(key: &[u8], usage: u32, text: &[u8]) -> Tag
         requires { length key.now ≡ KEY_LEN }
         ensures { result ≡ checksum_of profile key.now usage text.now };
 
-    /// Seals `plain`, with a confounder of 16 random bytes.
+    /// Seals `plain`: the confounder (16 random bytes, new for each call) and the plain text,
+    /// encrypted, and behind them the tag.
+    ///
+    /// # Errors
+    /// `AllocError`: there was no room for the sealed text.
+    ///
+    /// Source: RFC 8009, section 5.
     final fn seal(
         alloc: Global,
         key: &[u8],
@@ -65,11 +77,20 @@ pub trait Enctype {
         Ok(text)
     }
 
-    /// Opens what was sealed.
+    /// Opens `text`, which was sealed, and answers the plain text. The tag is checked before anything is
+    /// decrypted.
+    ///
+    /// # Errors
+    /// The first that holds:
+    /// - `Short`: there are fewer than 16 bytes and a tag.
+    /// - `Integrity`: the last bytes aren't the tag of the rest.
+    /// - `OutOfMemory`: there was no room for the plain text.
+    ///
+    /// Source: RFC 8009, section 5.
     final fn open(alloc: Global, key: &[u8], usage: u32, text: &[u8]) -> Result<Vec<u8>, OpenFault>
         requires { length key.now ≡ KEY_LEN }
         ensures opened { IfOk result (λ plain. OpensTo profile key.now usage text.now plain.items) }
-        ensures short { IsErrOf result OpenFault.Short ↔ IsShort profile text.now }
+        ensures short { IsErrOf result OpenFault.Short ↔ (length text.now < 16 + TAG_LEN) }
         ensures integrity { IsErrOf result OpenFault.Integrity
             ↔ ((16 + TAG_LEN ≤ length text.now) × (HasTag profile key.now usage text.now → ⊥)) }
         ensures memory { IsErrOf result OpenFault.OutOfMemory

@@ -20,7 +20,7 @@ pub enum KeyFault {
 /// Why a sealed text isn't opened.
 #[derive(Clone, Copy, Debug, PartialEq, Eq, Error)]
 pub enum OpenFault {
-    /// The text is shorter than a sealed empty text.
+    /// The text is shorter than a sealed empty text: 32 bytes (type 19) or 40 (type 20).
     #[error("the sealed text is too short")]
     Short,
     /// The last bytes aren't the tag of the rest.

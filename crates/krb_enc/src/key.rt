@@ -1,6 +1,6 @@
 //! Keys.
 
-ghost use Rattle.std.specs.Prelude.{◌≡◌, ◌↔◌, ◌≤◌, ◌<◌, ◌+◌, length, vec_len, IsTrue, IfOk, IsOk, IsErrOf, IsErr};
+ghost use Rattle.std.specs.Prelude.{◌≡◌, ◌↔◌, ◌≤◌, ◌<◌, ◌+◌, length, vec_len, IsTrue, IfOk, IsOk, IsErrOf};
 
 use crate::enctype::Enctype;
 use crate::fault::{KeyFault, OpenFault};
@@ -25,13 +25,15 @@ pub struct Key {
 }
 
 impl Model for Key {
-    ghost use Rattle.krb_enc.specs.Key.{KeyValue};
+    ghost use Rattle.krb_enc.specs.Key.{KeyValue, IsUsable};
 
     ghost Value = { KeyValue };
 
     ghost use Rattle.krb_enc.specs.Inner.KeyBytes.{value_of};
 
     ghost view = { λ k. value_of k.bytes };
+
+    ghost invariant = { λ k. IsUsable (value_of k.bytes) };
 }
 
 impl Key {
@@ -46,13 +48,13 @@ impl Key {
     /// - `UnknownEtype`: `etype` is neither 19 nor 20.
     /// - `WrongLength`: there aren't 16 bytes (type 19) or 32 (type 20).
     ///
-    /// Source: RFC 8009, section 7.
+    /// Source: RFC 8009, sections 2 and 7.
     pub fn new(etype: i32, bytes: &[u8]) -> Result<Key, KeyFault>
         ensures made { IfOk result (λ key. key ≡ record { etype = etype; bytes = bytes.now }) }
-        ensures usable { IsUsable (record { etype = etype; bytes = bytes.now }) → IsOk result }
+        ensures usable { IsOk result ↔ IsUsable (record { etype = etype; bytes = bytes.now }) }
         ensures unknown { IsErrOf result KeyFault.UnknownEtype ↔ (IsKnown etype → ⊥) }
         ensures wrong_length { IsErrOf result KeyFault.WrongLength
-            → IsKnown etype × (IsUsable (record { etype = etype; bytes = bytes.now }) → ⊥) }
+            ↔ (IsKnown etype × (IsUsable (record { etype = etype; bytes = bytes.now }) → ⊥)) }
     {
         let bytes = match etype {
             19 => KeyBytes::Short(bytes.try_into().map_err(|_| KeyFault::WrongLength)?),
@@ -64,7 +66,8 @@ impl Key {
 
     /// Answers the number of the encryption type: 19 or 20.
     pub fn etype(&self) -> i32
-        ensures { result ≡ self.now.etype }
+        ensures value { result ≡ self.now.etype }
+        ensures usable { IsUsable self.now }
     {
         match &self.bytes {
             KeyBytes::Short(_) => Sha256Aes128::ETYPE,
@@ -87,6 +90,9 @@ impl Key {
     /// behind them the tag of 16 bytes (type 19) or 24 (type 20).
     ///
     /// `confounder` is 16 random bytes, new for each call.
+    ///
+    /// # Errors
+    /// `AllocError`: there was no room for the sealed text.
     ///
     /// Source: RFC 8009, section 5.
     pub fn seal(

@@ -8,7 +8,7 @@
 //! let tag = key.checksum(6, b"text");
 //! ```
 //!
-//! The number behind the key is the key usage (RFC 4120, section 7.5.1). Confounders are handed in: 16
+//! The number before the confounder or the text is the key usage (RFC 4120, section 7.5.1). Confounders are handed in: 16
 //! random bytes, new for each call. The contracts speak of the definitions of `specs/Sealed` and
 //! `specs/Opens`. No key is printed by `Debug`.
 #![tactic(auto)]

@@ -34,7 +34,7 @@ impl Tag {
         }
     }
 
-    /// Lends the bytes.
+    /// Lends the bytes: 16 or 24.
     pub fn as_slice(&self) -> &[u8]
         ensures { result.now ≡ self.now }
     {
