@@ -11,6 +11,8 @@ A case is a table [[case]] of a TOML file:
     stdin   what it reads (text), or "@PATH"
     stdout  what it must write on standard output, whole
     stderr  what it must write on standard error, whole; or stderr_begins, its beginning
+    stdout_begins  the beginning of standard output, where the rest isn't ours
+    folders empty folders that lie where it runs
     status  its exit status (0 where left out)
     after   files that must lie there afterwards, as hex digits or "@PATH"
     output  "full": standard output is /dev/full; "closed": it is closed
@@ -30,6 +32,8 @@ sys.path.insert(0, str(HERE))
 sys.dont_write_bytecode = True
 
 import generated  # noqa: E402
+
+KEYS = set("name args files folders stdin stdout stdout_begins stderr stderr_begins status after output".split())
 
 
 def content(text):
@@ -51,7 +55,13 @@ def difference(case, ran, room):
     wanted = case.get("status", 0)
     if ran.returncode != wanted:
         return f"status {ran.returncode}, not {wanted}; it wrote {ran.stderr[:300]!r}"
-    if "output" not in case and ran.stdout != case.get("stdout", "").encode():
+    unknown = set(case) - KEYS
+    if unknown:
+        return f"the case has unknown keys: {sorted(unknown)}"
+    if "stdout_begins" in case:
+        if not ran.stdout.startswith(case["stdout_begins"].encode()):
+            return f"standard output {ran.stdout[:400]!r} doesn't begin {case['stdout_begins']!r}"
+    elif "output" not in case and ran.stdout != case.get("stdout", "").encode():
         return f"standard output {ran.stdout[:400]!r}, not {case.get('stdout', '')[:400]!r}"
     if "stderr_begins" in case:
         if not ran.stderr.startswith(case["stderr_begins"].encode()):

@@ -1,18 +1,14 @@
 -- The answer for what a source gave is the answer for all the bytes that were to come of it.
 use Rattle.std.proofs.Common.{◌≡◌, ◌⊎◌, ℕ, ◌+◌, ◌<◌, ◌≤◌, List, ◌++◌, length, Option, Some, None, Result, Ok, Err, ap, subst, ◌∙◌, append-nil, arith, inl, inr}
 use Rattle.std.specs.Io.KnownBytes.{Consumes, IsAtEnd}
+use Rattle.std.specs.Prelude.{◌≢◌, IfErr}
 use Rattle.std.proofs.lemmas.Bool.{cases_lt}
 use Rattle.std.proofs.lemmas.List.{length-append}
 use Rattle.krb_keytab.specs.Entry.{KeytabEntry}
-use Rattle.krb_keytab.specs.Format.{file_limit, IsAnswerOf}
+use Rattle.krb_keytab.specs.Format.{file_limit, IsAnswerOf, IsFaultOf}
+use Rattle.krb_keytab.specs.Source.{IsGiven}
 use Rattle.krb_keytab.specs.declared.fault.KeytabFault.{KeytabFault}
 use Rattle.krb_keytab.specs.declared.fault.KeytabFault.TheVariants.{Version, Truncated, BadEntry, TooLong, NoSuchEntry, Read, OutOfMemory}
-
--- what a source gave, up to its end or to one byte past the limit
-pub record IsGiven (from to : Option (List ℕ)) (bytes : List ℕ) : Type 0 where
-  pub given : Consumes from to bytes
-  pub limit : length bytes ≤ file_limit + 1
-  pub end : length bytes ≤ file_limit → IsAtEnd to
 
 -- an answer for too many bytes
 long_answer : (bytes more : List ℕ) (answer : Result (List KeytabEntry) KeytabFault) → file_limit < length bytes → file_limit < length more → IsAnswerOf bytes answer → IsAnswerOf more answer
@@ -48,3 +44,9 @@ only_in from to bytes whole result answer g only e a =
       | inl same ↦ inl same
       | inr memory ↦ inr (inl memory)
     ]
+
+-- a fault of the bytes that a source gave
+pub fault_given : {X : Type 0} (from to : Option (List ℕ)) (bytes : List ℕ) (result : Result X KeytabFault) → IsGiven from to bytes → IfErr result (λ fault. fault ≢ OutOfMemory → IsFaultOf bytes fault)
+    → IfErr result (λ fault. fault ≢ OutOfMemory → fault ≢ Read → (given : List ℕ) × IsGiven from to given × IsFaultOf given fault)
+fault_given from to bytes (Ok x) g f = f
+fault_given from to bytes (Err fault) g f = λ not_memory not_read. (bytes, g, f not_memory)

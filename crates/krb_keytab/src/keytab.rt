@@ -6,6 +6,7 @@ ghost use Rattle.krb_keytab.specs.Entry.{KeytabEntry};
 ghost use Rattle.krb_keytab.specs.Fault.{offset_of, failed_reads};
 ghost use Rattle.krb_keytab.specs.Pick.{IsPicked};
 ghost use Rattle.krb_keytab.specs.Format.{IsKeytab, IsFaultOf, IsAnswerOf};
+ghost use Rattle.krb_keytab.specs.Source.{IsGiven};
 
 use crate::entry::Entry;
 use crate::fault::KeytabFault;
@@ -57,12 +58,16 @@ impl Keytab {
         Keytab::of_records(alloc, bytes)
     }
 
-    /// Reads a source to its end, or to one byte past the limit of a file, and parses what it gave.
+    /// Reads a source to its end, or to one byte past 16,777,216, and parses what it gave.
+    ///
+    /// Condition: fewer than 18,446,744,073,709,551,615 reads of the source have failed so far.
     ///
     /// # Errors
     /// - `Read`: a read of the source failed. Its count of failures grew, as it does for no other
     ///   answer.
     /// - Those of `parse`, for all the bytes that were still to come of the source.
+    ///
+    /// Source: MIT krb5, "Keytab file format".
     pub fn read<S: Source>(alloc: Global, source: &mut S) -> Result<Keytab, KeytabFault>
         requires { S.failure_count source.old < 2 ^ 64 - 1 }
         ensures found { IfOk result (λ keytab.
@@ -76,6 +81,10 @@ impl Keytab {
         ensures only { (bytes : List ℕ) (answer : Result (List KeytabEntry) KeytabFault)
             → S.remaining source.old ≡ Some bytes → IsAnswerOf bytes answer
             → (result ≡ answer) ⊎ ((result ≡ Err KeytabFault.OutOfMemory) ⊎ (result ≡ Err KeytabFault.Read)) }
+        ensures given { IfErr result (λ fault.
+            fault ≢ KeytabFault.OutOfMemory → fault ≢ KeytabFault.Read
+            → (bytes : List ℕ) × IsGiven (S.remaining source.old) (S.remaining source.new) bytes
+            × IsFaultOf bytes fault) }
         ensures failed { S.failure_count source.new
             ≡ S.failure_count source.old + failed_reads result }
     {

@@ -33,10 +33,12 @@ impl<'a> Model for PieceSource<'a> {
 }
 
 impl<'a> PieceSource<'a> {
-    /// Gives `bytes`, at most `piece` of them a read. Read number `failing`, counted from 1, fails.
+    /// Gives `bytes`, at most `piece` of them a read. Read number `failing`, counted from 1, fails; with
+    /// 0 none does.
+    ///
+    /// Condition: `piece` is at least 1.
     pub fn new(bytes: &'a [u8], piece: usize, failing: Option<u64>) -> Self
-        requires piece { 0 < piece }
-        requires failing { ForSome failing (λ k. 0 < k) }
+        requires { 0 < piece }
         ensures { result ≡ record {
           bytes = bytes.now;
           piece = piece;
@@ -116,10 +118,11 @@ impl<'a> Model for PieceSink<'a> {
 
 impl<'a> PieceSink<'a> {
     /// Takes bytes into `room`, at most `piece` of them a write. Write number `failing`, counted
-    /// from 1, fails.
+    /// from 1, fails; with 0 none does.
+    ///
+    /// Condition: `piece` is at least 1.
     pub fn new(room: &'a mut [u8], piece: usize, failing: Option<u64>) -> Self
-        requires piece { 0 < piece }
-        requires failing { ForSome failing (λ k. 0 < k) }
+        requires { 0 < piece }
         ensures { result ≡ record {
           pieces = record { bytes = []; piece = piece; fails_in = failing; failures = 0 };
           size = length room.old;
@@ -160,8 +163,10 @@ impl Sink for PieceSink<'_> {
         ensures failed { self.new.pieces.failures
             ≡ self.old.pieces.failures + (if is_ok result then 0 else 1) }
         ensures fails { self.old.pieces.fails_in ≡ Some 1 → IsErr result }
+        ensures full { length self.old.pieces.bytes ≡ self.old.size → 0 < length bytes.now → IsErr result }
         ensures goes { self.old.pieces.fails_in ≢ Some 1
             → length self.old.pieces.bytes < self.old.size → IsOk result }
+        ensures empty { self.old.pieces.fails_in ≢ Some 1 → bytes.now ≡ [] → IsOk result }
         ensures count { IfOk result (λ n. n ≡ min (min self.old.pieces.piece (length bytes.now))
             (self.old.size - length self.old.pieces.bytes)) }
         ensures next { self.new.pieces.fails_in ≡ fails_next self.old.pieces.fails_in }

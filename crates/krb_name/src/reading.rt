@@ -44,6 +44,8 @@ const PIECE: usize = 65_536;
 ///
 /// Bytes are asked for in pieces of at most 65,536, and the room for them grows as they come.
 ///
+/// Condition: fewer than 18,446,744,073,709,551,615 reads of the source have failed so far.
+///
 /// # Errors
 /// - `Read`: a read failed.
 /// - `OutOfMemory`: there was no room for the bytes.

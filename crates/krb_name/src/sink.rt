@@ -27,6 +27,8 @@ pub trait Sink {
     /// Takes the front of `bytes` and answers how many bytes it took: at most all of them, and at
     /// least one where there is one. The count of failures grows by one with each `Err`, at which
     /// no byte was taken, and not otherwise.
+    ///
+    /// Condition: fewer than 18,446,744,073,709,551,615 writes to the sink have failed so far.
     fn write(&mut self, bytes: &[u8]) -> Result<usize, SinkFailed>
         requires { failure_count self.old < 2 ^ 64 - 1 }
         ensures bound { WritesAtMost result bytes.now }

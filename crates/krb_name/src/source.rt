@@ -27,6 +27,8 @@ pub trait Source {
     /// Reads into the front of `buffer` and answers how many bytes came: at most as many as the
     /// buffer has room for. Where it has room, `Ok(0)` is the end of the bytes. The count of
     /// failures grows by one with each `Err`, at which no byte is lost, and not otherwise.
+    ///
+    /// Condition: fewer than 18,446,744,073,709,551,615 reads of the source have failed so far.
     fn read(&mut self, buffer: &mut [u8]) -> Result<usize, SourceFailed>
         requires { failure_count self.old < 2 ^ 64 - 1 }
         ensures bound { ReadsAtMost result buffer.new }

@@ -8,6 +8,8 @@ use crate::sink::{Sink, SinkFailed};
 
 /// Writes all of `bytes`, in as many writes as it takes.
 ///
+/// Condition: fewer than 18,446,744,073,709,551,615 writes to the sink have failed so far.
+///
 /// # Errors
 /// `SinkFailed` at the first write that fails; the sink then took a beginning of `bytes`.
 pub fn write_all<S: Sink>(sink: &mut S, bytes: &[u8]) -> Result<(), SinkFailed>

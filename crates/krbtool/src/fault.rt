@@ -10,15 +10,19 @@ use krb_name::SinkFailed;
 use std::alloc::AllocError;
 use std::fmt;
 use std::marker::Model;
+use thiserror::Error;
 
 /// Why an engine ended early.
-#[derive(Clone, Copy, Debug, PartialEq, Eq)]
+#[derive(Clone, Copy, Debug, PartialEq, Eq, Error)]
 pub enum EngineFault {
-    /// The keytab couldn't be read, or what was read is none.
+    /// The keytab couldn't be read, there was no room for it, or what was read is none.
+    #[error("{0}")]
     Keytab(KeytabFault),
     /// The sink couldn't be written.
+    #[error("the output could not be written")]
     Write,
     /// There was no room, other than for the keytab.
+    #[error("out of memory")]
     OutOfMemory,
 }
 

@@ -23,7 +23,9 @@ use std::alloc::{AllocError, Global};
 /// # Errors
 /// - `Keytab`: what was read is no keytab, or couldn't be read, or there was no room for it.
 /// - `Write`: the sink failed; it took a beginning of the lines.
-/// - `OutOfMemory`: there was no room for a line; the sink took the lines before it.
+/// - `OutOfMemory`: there was no room for a line; the sink took a beginning of the lines.
+///
+/// Condition: fewer than 18,446,744,073,709,551,615 reads and writes have failed so far.
 pub fn list_keytab<S: Source, T: Sink>(
     alloc: Global,
     source: &mut S,
@@ -44,7 +46,8 @@ pub fn list_keytab<S: Source, T: Sink>(
         ⊎ ((result ≡ Err (EngineFault.Keytab KeytabFault.OutOfMemory))
         ⊎ (result ≡ Err (EngineFault.Keytab KeytabFault.Read))) }
 
-    // Where no line could be written, the sink is as it was; else it took a beginning of the lines.
+    // Where the keytab couldn't be had, the sink is as it was; at any other fault it took a beginning
+    // of the lines.
     ensures unread { (fault : KeytabFault) → result ≡ Err (EngineFault.Keytab fault)
         → Keeps (T.taken sink.old) (T.taken sink.new) }
     ensures begun { (result ≡ Err EngineFault.Write) ⊎ (result ≡ Err EngineFault.OutOfMemory)

@@ -26,6 +26,7 @@ fn main(rt: HostRuntime) -> ExitCode {
         return ExitCode::from(WRONG_WORDS);
     };
     let Ok(words) = lent_words(rt.alloc(), &given) else {
+        let _ = eprintln!(rt; "krbtool: words: OutOfMemory");
         return ExitCode::from(FAILED);
     };
     let status = match read_words(rt.alloc(), &words) {

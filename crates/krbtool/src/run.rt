@@ -11,7 +11,7 @@ use std::rt::Files;
 
 /// Runs an order, and answers the exit status: 0 where all is well, 1 where content is refused, 3
 /// where a file, the output or memory failed.
-pub fn run<R: AllocGlobal + Files + Print + Eprint>(rt: &R, order: Order<'_>) -> u8 {
+pub(crate) fn run<R: AllocGlobal + Files + Print + Eprint>(rt: &R, order: Order<'_>) -> u8 {
     match order {
         Order::ListKeytab { file } => run_list_keytab(rt, file),
     }

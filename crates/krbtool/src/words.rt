@@ -38,7 +38,7 @@ fn list_keytab_order<'a>(matches: &ArgMatches<'a>) -> Option<Order<'a>>
     Some(Order::ListKeytab { file })
 }
 
-/// What the words of a command line ask for; the first is the program's name.
+/// Answers what the words of a command line ask for; the first is the program's name.
 ///
 /// # Errors
 /// `clap`'s own: a fault of the words, help where it was asked for, or want of memory.
