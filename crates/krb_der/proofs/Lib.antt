@@ -19,3 +19,4 @@ pub mod ShortestLaws
 pub mod WriteLaws
 pub mod Messages
 pub mod EncodeLaws
+pub mod Lists

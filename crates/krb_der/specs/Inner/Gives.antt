@@ -12,3 +12,8 @@ Gives view (Err f) old new read = (read ≡ Err f) × (new ≡ old)
 abbrev pub Fills : {X V : Type 0} → (X → V) → Result X Fault → Result V Fault → Type 0
 Fills view (Ok x) read = read ≡ Ok (view x)
 Fills view (Err f) read = read ≡ Err f
+
+-- what reading gives where its value is dropped
+abbrev pub checked : {V : Type 0} → Result V Fault → Result (Unit {0}) Fault
+checked (Ok v) = Ok tt
+checked (Err f) = Err f
