@@ -49,7 +49,7 @@ goes_on block n old text next d fits is =
     let front : take (16 * n) text ≡ joined block n = ap (λ (t : List ℕ). take (16 * n) t) d.parts ∙ take_at (joined block n) (drop (16 * n) old) (16 * n) len in
     let back : drop (16 * n) text ≡ drop (16 * n) old = ap (λ (t : List ℕ). drop (16 * n) t) d.parts ∙ drop_at (joined block n) (drop (16 * n) old) (16 * n) len in
     let rest : drop (16 * n + 16) text ≡ drop (16 * suc n) old =
-      sym (drop-drop 16 (16 * n) text) ∙ ap (λ (t : List ℕ). drop 16 t) back ∙ drop-drop 16 (16 * n) old ∙ ap (λ (k : ℕ). drop k old) (omega arith) in
+    sym (drop-drop 16 (16 * n) text) ∙ ap (λ (t : List ℕ). drop 16 t) back ∙ drop-drop 16 (16 * n) old ∙ ap (λ (k : ℕ). drop k old) (omega arith) in
     rw (front, is, rest) refl
 
 -- block n + 1 of a text that has it whole

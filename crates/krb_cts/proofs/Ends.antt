@@ -65,8 +65,8 @@ cts-one key old text one is =
 pub cts-longer : (key old chained text : List ℕ) (j : ℕ) → IsLonger old j
     → chained ≡ joined (cipher_block key old) (suc j) ++ drop (16 * suc j) old
     → text ≡ take (16 * j) chained
-        ++ cipher key (xor (drop (16 * suc j) chained ++ drop (length old - 16 * suc j) zeros) (cipher_block key old (suc j)))
-        ++ take (length old - 16 * suc j) (cipher_block key old (suc j))
+    ++ cipher key (xor (drop (16 * suc j) chained ++ drop (length old - 16 * suc j) zeros) (cipher_block key old (suc j)))
+    ++ take (length old - 16 * suc j) (cipher_block key old (suc j))
     → text ≡ cts key old
 unfolding joined cipher_block cts_of
 cts-longer key old chained text j l parts is =
@@ -75,9 +75,9 @@ cts-longer key old chained text j l parts is =
     let len_j = length-joined block j (λ i _. length-cipher_block key old (suc i)) in
     let back : drop (16 * suc j) chained ≡ drop (16 * suc j) old = ap (λ (t : List ℕ). drop (16 * suc j) t) parts ∙ drop_at (joined block (suc j)) (drop (16 * suc j) old) (16 * suc j) len in
     let front : take (16 * j) chained ≡ joined block j =
-      ap (λ (t : List ℕ). take (16 * j) t) (parts ∙ append_assoc (joined block j) (block (suc j)) (drop (16 * suc j) old)) ∙ take_at (joined block j) (block (suc j) ++ drop (16 * suc j) old) (16 * j) len_j in
+    ap (λ (t : List ℕ). take (16 * j) t) (parts ∙ append_assoc (joined block j) (block (suc j)) (drop (16 * suc j) old)) ∙ take_at (joined block j) (block (suc j) ++ drop (16 * suc j) old) (16 * j) len_j in
     let last : cipher key (xor (drop (16 * suc j) chained ++ drop (length old - 16 * suc j) zeros) (block (suc j))) ≡ block (suc (suc j)) =
-      ap (λ (b : List ℕ). cipher key (xor b (block (suc j)))) (ap (λ (t : List ℕ). t ++ drop (length old - 16 * suc j) zeros) back ∙ sym (last_plain old j l)) in
+    ap (λ (b : List ℕ). cipher key (xor b (block (suc j)))) (ap (λ (t : List ℕ). t ++ drop (length old - 16 * suc j) zeros) back ∙ sym (last_plain old j l)) in
     let two : suc (suc j) - 2 ≡ j = omega arith in
     let one : suc (suc j) - 1 ≡ suc j = omega arith in
     is ∙ rw (front, last) (sym (cts-of key old j l ∙ rw (two, one) refl))
@@ -132,16 +132,16 @@ chained_is key old back j g (suc i) le =
     let apart : back ≡ take (16 * j) old ++ (stolen_block key old ++ tail) = g.parts ∙ append_assoc (take (16 * j) old) (stolen_block key old) tail in
     elim (cases_lt i j) [
       | inl lt ↦
-        let other : eqb (suc i) (block_count old - 1) ≡ false = ne_eqb _ _ (λ e. absurd (omega arith)) in
-        rw (apart, front_block old (stolen_block key old ++ tail) i j lt (omega (arith, g.longer.above)), some, other, at) refl
+          let other : eqb (suc i) (block_count old - 1) ≡ false = ne_eqb _ _ (λ e. absurd (omega arith)) in
+          rw (apart, front_block old (stolen_block key old ++ tail) i j lt (omega (arith, g.longer.above)), some, other, at) refl
       | inr ge ↦
-        let same : i ≡ j = omega arith in
-        let this : eqb (suc i) (block_count old - 1) ≡ true = eq-eqb _ _ (omega arith) in
-        let here : take 16 (drop (16 * i) back) ≡ stolen_block key old =
+          let same : i ≡ j = omega arith in
+          let this : eqb (suc i) (block_count old - 1) ≡ true = eq-eqb _ _ (omega arith) in
+          let here : take 16 (drop (16 * i) back) ≡ stolen_block key old =
           ap₂ (λ (n : ℕ) (t : List ℕ). take 16 (drop (16 * n) t)) same apart
           ∙ ap (λ (t : List ℕ). take 16 t) (drop_at (take (16 * j) old) (stolen_block key old ++ tail) (16 * j) (length-front key old back j g))
           ∙ take_at (stolen_block key old) tail 16 g.stolen in
-        here ∙ rw (some, this) refl
+          here ∙ rw (some, this) refl
     ]
 
 same_joined : (f g : ℕ → List ℕ) (n : ℕ) → ((i : ℕ) → i < n → f (suc i) ≡ g (suc i)) → joined f n ≡ joined g n
@@ -163,17 +163,17 @@ undo-longer key old back text j l parts is =
     let test : eqb (length old) 16 ≡ false = ne_eqb _ _ (λ e. absurd (omega (arith, l.above))) in
     let m : block_count old - 1 ≡ suc j = omega (arith, count_is old j l) in
     let len : length (take (16 * j) old ++ stolen_block key old) ≡ 16 * suc j =
-      length-append (take (16 * j) old) (stolen_block key old) ∙ omega (arith, length-front key old back j g, g.stolen) in
+    length-append (take (16 * j) old) (stolen_block key old) ∙ omega (arith, length-front key old back j g, g.stolen) in
     let rest : drop (16 * suc j) back ≡ take (length old - 16 * suc j) (xor (last_undone key old) (stolen_block key old)) =
-      ap (λ (t : List ℕ). drop (16 * suc j) t) parts ∙ drop_at (take (16 * j) old ++ stolen_block key old) _ (16 * suc j) len in
+    ap (λ (t : List ℕ). drop (16 * suc j) t) parts ∙ drop_at (take (16 * j) old ++ stolen_block key old) _ (16 * suc j) len in
     is ∙ rw (rest, same_joined (unchained_block key back) (undone_block key old) (suc j) (undone_is key old back j g), test, m) refl
 
 -- the same, as the code writes it
 pub given_back : (key old back : List ℕ) (j : ℕ) → IsLonger old j
     → back ≡ take (16 * j) old
-        ++ (drop (16 * suc j) old ++ drop (length old - 16 * suc j) (inv_cipher key (take 16 (drop (16 * j) old))))
-        ++ take (length old - 16 * suc j) (xor (inv_cipher key (take 16 (drop (16 * j) old)))
-          (drop (16 * suc j) old ++ drop (length old - 16 * suc j) (inv_cipher key (take 16 (drop (16 * j) old)))))
+    ++ (drop (16 * suc j) old ++ drop (length old - 16 * suc j) (inv_cipher key (take 16 (drop (16 * j) old))))
+    ++ take (length old - 16 * suc j) (xor (inv_cipher key (take 16 (drop (16 * j) old)))
+    (drop (16 * suc j) old ++ drop (length old - 16 * suc j) (inv_cipher key (take 16 (drop (16 * j) old)))))
     → back ≡ take (16 * j) old ++ stolen_block key old ++ take (length old - 16 * suc j) (xor (last_undone key old) (stolen_block key old))
 given_back key old back j l is =
     let m : block_count old - 1 ≡ suc j = omega (arith, count_is old j l) in

@@ -19,11 +19,11 @@ length-chained_block key text j l (suc i) le =
     let at : 16 * (suc i - 1) ≡ 16 * i = omega arith in
     elim (cases_lt i j) [
       | inl lt ↦
-        let other : eqb (suc i) (block_count text - 1) ≡ false = ne_eqb _ _ (λ e. absurd (omega arith)) in
-        rw (some, other, at) (length-take-le 16 (drop (16 * i) text) (omega (arith, length-drop (16 * i) text, l.above)))
+          let other : eqb (suc i) (block_count text - 1) ≡ false = ne_eqb _ _ (λ e. absurd (omega arith)) in
+          rw (some, other, at) (length-take-le 16 (drop (16 * i) text) (omega (arith, length-drop (16 * i) text, l.above)))
       | inr ge ↦
-        let this : eqb (suc i) (block_count text - 1) ≡ true = eq-eqb _ _ (omega arith) in
-        rw (some, this) (length-stolen_block key text j l)
+          let this : eqb (suc i) (block_count text - 1) ≡ true = eq-eqb _ _ (omega arith) in
+          rw (some, this) (length-stolen_block key text j l)
     ]
 
 pub length-undone_block : (key text : List ℕ) (j : ℕ) → IsLonger text j → (i : ℕ) → i < suc j → length (undone_block key text (suc i)) ≡ 16

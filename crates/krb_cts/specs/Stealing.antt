@@ -39,5 +39,5 @@ unfoldable pub cts : List ℕ → List ℕ → List ℕ
 cts key text =
     let m = block_count text in
     if length text == 16
-      then cipher_block key text 1
-      else joined (cipher_block key text) (m - 2) ++ cipher_block key text m ++ take (last_length text) (cipher_block key text (m - 1))
+    then cipher_block key text 1
+    else joined (cipher_block key text) (m - 2) ++ cipher_block key text m ++ take (last_length text) (cipher_block key text (m - 1))

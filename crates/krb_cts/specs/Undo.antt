@@ -26,6 +26,6 @@ undone_block key text i = xor (inv_cipher key (chained_block key text i)) (chain
 unfoldable pub undo : List ℕ → List ℕ → List ℕ
 undo key text =
     if length text == 16
-      then inv_cipher key text
-      else joined (undone_block key text) (block_count text - 1)
-          ++ take (last_length text) (xor (last_undone key text) (stolen_block key text))
+    then inv_cipher key text
+    else joined (undone_block key text) (block_count text - 1)
+    ++ take (last_length text) (xor (last_undone key text) (stolen_block key text))

@@ -77,8 +77,7 @@ fn give_back(schedule: &KeySchedule, text: &mut [u8], at: usize)
     requires before { 16 ≤ at }
     requires last { at < length text.old }
     requires end { length text.old ≤ at + 16 }
-    ensures {
-        let last = inv_cipher schedule.now (take 16 (drop (at - 16) text.old)) in
+    ensures { let last = inv_cipher schedule.now (take 16 (drop (at - 16) text.old)) in
         let chained = drop at text.old ++ drop (length text.old - at) last in
         text.new ≡ take (at - 16) text.old ++ chained ++ take (length text.old - at) (xor last chained) }
 {

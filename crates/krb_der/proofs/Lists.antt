@@ -40,8 +40,8 @@ module _ {V : Type 0} (read : Place → Result (V × Place) Fault) where
     each_fuel (suc n) (suc m) p (b ∷ bytes) w a c =
         bind_same (read p) (λ x. each_from read n x.1 x.1.rest >>= λ xs. Ok (x.0 ∷ xs)) (λ x. each_from read m x.1 x.1.rest >>= λ xs. Ok (x.0 ∷ xs))
         (λ x e. ap (λ (r : Result (List V) Fault). r >>= λ xs. Ok (x.0 ∷ xs))
-          (each_fuel n m x.1 x.1.rest refl
-            (omega (arith, a, shrinks p x.0 x.1 e, ap length w)) (omega (arith, c, shrinks p x.0 x.1 e, ap length w))))
+        (each_fuel n m x.1 x.1.rest refl
+        (omega (arith, a, shrinks p x.0 x.1 e, ap length w)) (omega (arith, c, shrinks p x.0 x.1 e, ap length w))))
 
     each_more : (p : Place) (b : ℕ) (bytes : List ℕ) → p.rest ≡ b ∷ bytes
         → each_at read p ≡ (read p >>= λ x. each_at read x.1 >>= λ xs. Ok (x.0 ∷ xs))
@@ -50,8 +50,8 @@ module _ {V : Type 0} (read : Place → Result (V × Place) Fault) where
         ∙ each_fuel (length (b ∷ bytes)) (suc (length bytes)) p (b ∷ bytes) w (le_refl (length (b ∷ bytes))) (omega arith)
         ∙ bind_same (read p) (λ x. each_from read (length bytes) x.1 x.1.rest >>= λ xs. Ok (x.0 ∷ xs)) (λ x. each_at read x.1 >>= λ xs. Ok (x.0 ∷ xs))
         (λ x e. ap (λ (r : Result (List V) Fault). r >>= λ xs. Ok (x.0 ∷ xs))
-          (each_fuel (length bytes) (length x.1.rest) x.1 x.1.rest refl
-            (omega (arith, shrinks p x.0 x.1 e, ap length w)) (le_refl (length x.1.rest))))
+        (each_fuel (length bytes) (length x.1.rest) x.1 x.1.rest refl
+        (omega (arith, shrinks p x.0 x.1 e, ap length w)) (le_refl (length x.1.rest))))
 
     pub each_at-step : (p : Place) (v : V) (q : Place) → read p ≡ Ok (v, q) → checked (each_at read q) ≡ checked (each_at read p)
     each_at-step p v q e = by p.rest refl

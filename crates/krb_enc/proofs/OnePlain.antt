@@ -29,19 +29,21 @@ decided p key usage text known =
     elim (cases_lt (length text) (16 + p.tag_len)) [
       | inl short ↦ inr (λ plain o. absurd (omega (arith, o.long)))
       | inr long ↦
-        elim (same_texts (end_of p text) (tag_of p key usage (body_of p text))) [
-          | inl has_tag ↦
-            let whole : List ℕ = undo (encryption_key p key usage) (body_of p text) in
-            let body : length (body_of p text) ≡ length text - p.tag_len = length-take-le (length text - p.tag_len) text (omega arith) in
-            let size : length whole ≡ length (body_of p text) = length-undo (encryption_key p key usage) (body_of p text) (omega (arith, body)) in
-            inl (drop 16 whole, record {
-              long = long;
-              has_tag = has_tag;
-              confounder = take 16 whole;
-              size = length-take-le 16 whole (omega (arith, size, body));
-              undone = sym (take-append-drop 16 whole);
-            })
-          | inr no_tag ↦ inr (λ plain o. no_tag o.has_tag)
-        ]
+          elim (same_texts (end_of p text) (tag_of p key usage (body_of p text))) [
+            | inl has_tag ↦
+                let whole : List ℕ = undo (encryption_key p key usage) (body_of p text) in
+                let body : length (body_of p text) ≡ length text - p.tag_len = length-take-le (length text - p.tag_len) text (omega arith) in
+                let size : length whole ≡ length (body_of p text) = length-undo (encryption_key p key usage) (body_of p text) (omega (arith, body)) in
+                inl (
+                  drop 16 whole,
+                  record {
+                    long = long;
+                    has_tag = has_tag;
+                    confounder = take 16 whole;
+                    size = length-take-le 16 whole (omega (arith, size, body));
+                    undone = sym (take-append-drop 16 whole);
+                  },
+                )
+            | inr no_tag ↦ inr (λ plain o. no_tag o.has_tag)
+          ]
     ]
-

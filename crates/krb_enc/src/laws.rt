@@ -24,5 +24,4 @@ pub fn tag_lengths()
         → length (tag_of p key usage text) ≡ p.tag_len }
     ensures checksum { (p : Profile) (key : List ℕ) (usage : ℕ) (text : List ℕ) → IsProfile p
         → length (checksum_of p key usage text) ≡ p.tag_len }
-{
-}
+{}

@@ -189,9 +189,16 @@ fn long_texts(rt: HostRuntime) -> Result<(), Fail> {
 // Each byte of a sealed text counts.
 #[test]
 fn each_byte_changed(rt: HostRuntime) -> Result<(), Fail> {
-    for (etype, base) in [(19, BASE_19), (20, BASE_20)] {
+    for (etype, base, confounder) in [
+        (19, BASE_19, "7e5895eaf2672435bad817f545a37148"),
+        (
+            20,
+            "000102030405060708090a0b0c0d0e0f101112131415161718191a1b1c1d1e1f",
+            "00000000000000000000000000000000",
+        ),
+    ] {
         let key = key_of(&rt, etype, base)?;
-        let sealed = key.seal(rt.alloc(), 2, &[0; 16], b"")?;
+        let sealed = key.seal(rt.alloc(), 2, &confounder_of(&rt, confounder)?, b"")?;
         for at in 0..sealed.len() {
             let mut changed = sealed.clone()?;
             if let Some(byte) = changed.get_mut(at) {

@@ -19,7 +19,7 @@ loop-i-preserved c =
     let fits : 16 * n + 16 ≤ length old = omega arith in
     let last : c.block_at-chained.result ≡ whole_block old (suc n) = c.block_at-chained.ensures ∙ next_block _ n old c.loop-i.text done in
     let next : c.xor.result ≡ unchained_block key old (suc n) =
-      c.xor.ensures ∙ ap₂ xor (c.decrypt_block.ensures.block ∙ ap (λ b. inv_cipher key b) last) c.loop-i.invariant.last ∙ unchained_block-next key old n in
+    c.xor.ensures ∙ ap₂ xor (c.decrypt_block.ensures.block ∙ ap (λ b. inv_cipher key b) last) c.loop-i.invariant.last ∙ unchained_block-next key old n in
     rw add-one (record {
       undone = c.put_block.ensures ∙ goes_on (unchained_block key old) n old c.loop-i.text c.xor.result done fits next;
       last = last;

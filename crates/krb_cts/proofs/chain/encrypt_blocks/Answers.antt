@@ -16,8 +16,8 @@ loop-i-preserved c =
     let done : IsDone (cipher_block key old) n old c.loop-i.text = record { parts = c.loop-i.invariant.chained; whole = λ i _. length-cipher_block key old (suc i) } in
     let fits : 16 * n + 16 ≤ length old = omega arith in
     let next : c.encrypt_block.new.block ≡ cipher_block key old (suc n) =
-      c.encrypt_block.ensures.block ∙ ap (λ b. cipher key b) (c.xor-block.ensures ∙ ap₂ xor (c.block_at.ensures ∙ next_block _ n old c.loop-i.text done) c.loop-i.invariant.last)
-      ∙ cipher_block-next key old n fits in
+    c.encrypt_block.ensures.block ∙ ap (λ b. cipher key b) (c.xor-block.ensures ∙ ap₂ xor (c.block_at.ensures ∙ next_block _ n old c.loop-i.text done) c.loop-i.invariant.last)
+    ∙ cipher_block-next key old n fits in
     rw add-one (record {
       chained = c.put_block.ensures ∙ goes_on (cipher_block key old) n old c.loop-i.text c.encrypt_block.new.block done fits next;
       last = next;

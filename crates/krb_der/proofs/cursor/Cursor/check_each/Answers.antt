@@ -9,7 +9,7 @@ pub returns-in-Err : goal.returns-in-Err
 returns-in-Err g c =
     let same : length c.left.inside.rest.now ≡ length c.loop-left.left.rest = ap (λ (p : Place). length p.rest) c.left.view_is in
     sym (list_fault g.T.Element.kind c.loop-left.left c.in-Err.fault c.in-Err.ensures.0
-      (omega (arith, same, eqb-false (length c.left.inside.rest.now) 0 (sym c.loop-left-test.ensures)))) ∙ c.loop-left.invariant
+    (omega (arith, same, eqb-false (length c.left.inside.rest.now) 0 (sym c.loop-left-test.ensures)))) ∙ c.loop-left.invariant
 
 pub loop-left-smaller : goal.loop-left-smaller
 loop-left-smaller g c =

@@ -18,9 +18,9 @@ pub returns-clause-given : goal.returns-clause-given
 returns-clause-given g c =
     let read = c.in_ok-bytes.ensures in
     let given : IsGiven (g.S.Source.remaining c.args.source.now) (g.S.Source.remaining c.read_to_limit.new.source) c.deref.result.now =
-      record {
-        given = rw c.deref.ensures.value read.bytes;
-        limit = omega (arith, read.limit, c.deref.ensures.len);
-        end = λ within. read.end (omega (arith, within, c.deref.ensures.len));
-      } in
+    record {
+      given = rw c.deref.ensures.value read.bytes;
+      limit = omega (arith, read.limit, c.deref.ensures.len);
+      end = λ within. read.end (omega (arith, within, c.deref.ensures.len));
+    } in
     fault_given (g.S.Source.remaining c.args.source.now) (g.S.Source.remaining c.read_to_limit.new.source) c.deref.result.now c.parse.result given c.parse.ensures.fault
