@@ -135,8 +135,7 @@ fn checksums_of_rfc_8009(rt: HostRuntime) -> Result<(), Fail> {
 // The sealed texts of all lengths from 0 to 64, joined, have the digests that tests/vectors/sealing.py prints.
 #[test]
 fn each_length_to_64(rt: HostRuntime) -> Result<(), Fail> {
-    let mut confounder = [0; 16];
-    confounder.copy_from_slice(&text_of(rt.alloc(), 1, 16)?);
+    let confounder = confounder_of(&rt, "000102030405060708090a0b0c0d0e0f")?;
     for (etype, base, wanted) in [
         (
             19,
