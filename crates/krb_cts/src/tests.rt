@@ -72,7 +72,7 @@ fn each_length_from_16_to_200(rt: HostRuntime) -> Result<(), Fail> {
     let schedule = KeySchedule::new_256(&key);
     for (more, end) in ENDS.iter().enumerate() {
         let size = 16 + more;
-        let before = 2 * (size - end.len() / 2);
+        let before = 2 * size.saturating_sub(end.len() / 2);
         let front = CHAINED.get(..before).ok_or("a front")?;
         let wanted = format!(in rt.alloc(); "{front}{end}")?;
         let part = text.get(..size).ok_or("a text of this length")?;
