@@ -18,6 +18,10 @@ unfolding cipher_block
 length-cipher_block key text zero = refl
 length-cipher_block key text (suc i) = length-cipher key _
 
+pub cipher_block-zero : (key text : List ℕ) → cipher_block key text 0 ≡ zeros
+unfolding cipher_block
+cipher_block-zero key text = refl
+
 pub length-joined : (block : ℕ → List ℕ) (n : ℕ) → ((i : ℕ) → i < n → length (block (suc i)) ≡ 16) → length (joined block n) ≡ 16 * n
 unfolding joined
 length-joined block zero whole = refl

@@ -48,7 +48,7 @@ cts-of key old j l =
     rw (test, count_is old j l) refl
 
 -- the last block, filled with zeros
-last_plain : (old : List ℕ) (j : ℕ) → IsLonger old j → plain_block old (suc (suc j)) ≡ drop (16 * suc j) old ++ drop (length old - 16 * suc j) zeros
+pub last_plain : (old : List ℕ) (j : ℕ) → IsLonger old j → plain_block old (suc (suc j)) ≡ drop (16 * suc j) old ++ drop (length old - 16 * suc j) zeros
 last_plain old j l =
     let at : 16 * (suc (suc j) - 1) ≡ 16 * suc j = omega arith in
     let len : length (drop (16 * suc j) old) ≡ length old - 16 * suc j = length-drop (16 * suc j) old in
@@ -144,7 +144,7 @@ chained_is key old back j g (suc i) le =
           here ∙ rw (some, this) refl
     ]
 
-same_joined : (f g : ℕ → List ℕ) (n : ℕ) → ((i : ℕ) → i < n → f (suc i) ≡ g (suc i)) → joined f n ≡ joined g n
+pub same_joined : (f g : ℕ → List ℕ) (n : ℕ) → ((i : ℕ) → i < n → f (suc i) ≡ g (suc i)) → joined f n ≡ joined g n
 unfolding joined
 same_joined f g zero same = refl
 same_joined f g (suc n) same = ap₂ (λ (a b : List ℕ). a ++ b) (same_joined f g n (λ i lt. same i (omega arith))) (same n (omega arith))

@@ -39,7 +39,7 @@ undo-of key text j l =
     let test : eqb (length text) 16 ≡ false = ne_eqb _ _ (λ e. absurd (omega (arith, l.above))) in
     rw (test, m) refl
 
-length-longer : (key text : List ℕ) (j : ℕ) → IsLonger text j → length (undo key text) ≡ length text
+pub length-longer : (key text : List ℕ) (j : ℕ) → IsLonger text j → length (undo key text) ≡ length text
 length-longer key text j l =
     let front = length-joined (undone_block key text) (suc j) (length-undone_block key text j l) in
     let last = length-xor (last_undone key text) (stolen_block key text) (length-inv_cipher key _) (length-stolen_block key text j l) in
@@ -61,4 +61,3 @@ length-undo key text le =
       | inr not_more ↦ length-one key text (omega arith)
     ]
 
-pub ruleset lengths = (length-undo)
