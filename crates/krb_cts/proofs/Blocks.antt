@@ -1,5 +1,5 @@
 -- Blocks that stand one after another in a text.
-use Rattle.std.proofs.Common.{◌≡◌, ℕ, zero, suc, ◌+◌, ◌-◌, ◌*◌, ◌<◌, ◌≤◌, List, [], ◌∷◌, ◌++◌, length, take, drop, refl, sym, ap, ap₂, ◌∙◌, append_assoc, arith, length-append, length-drop, bit_xor}
+use Rattle.std.proofs.Common.{◌≡◌, ℕ, zero, suc, ◌+◌, ◌-◌, ◌*◌, ◌<◌, ◌≤◌, List, ◌++◌, length, take, drop, refl, sym, ap, ◌∙◌, arith, length-append, length-drop, bit_xor}
 use Rattle.std.proofs.lemmas.List.{take_at, drop_at, take-append-le, drop-drop, length-take-le}
 use Rattle.std.proofs.lemmas.Simd.{length-zip2}
 use Rattle.krb_aes.specs.Cipher.{cipher, inv_cipher, inv_rounds}

@@ -4,9 +4,9 @@ use Rattle.std.proofs.lemmas.Bool.{eq-eqb, ne_eqb, cases_lt}
 use Rattle.std.proofs.lemmas.List.{length-take-le}
 use Rattle.std.proofs.lemmas.List.Elements.{All-append, All-take, All-drop, All-replicate}
 use Rattle.krb_aes.specs.KeyExpansion.{IsKey}
-use Rattle.krb_aes.specs.Cipher.{IsBlock, cipher, inv_cipher}
+use Rattle.krb_aes.specs.Cipher.{IsBlock}
 use Rattle.krb_aes.proofs.RoundLaws.{IsBlock-cipher, IsBlock-inv_cipher}
-use Rattle.krb_cts.specs.Stealing.{IsText, xor, zeros, block_count, plain_block, cipher_block, last_length}
+use Rattle.krb_cts.specs.Stealing.{xor, zeros, block_count, plain_block, cipher_block, last_length}
 use Rattle.krb_cts.specs.Undo.{last_undone, stolen_block, chained_block, undone_block}
 use Rattle.krb_cts.proofs.Xor.{bytes-xor}
 use Rattle.krb_cts.proofs.Blocks.{length-xor}
@@ -39,7 +39,7 @@ IsBlock-plain_block text i bytes =
     record {
       size = length-take-le 16 (rest ++ zeros) (omega (arith, length-append rest zeros));
       bytes = All-take (λ byte. byte < 256) 16 (rest ++ zeros)
-        (All-append (λ byte. byte < 256) rest zeros (All-drop (λ byte. byte < 256) (16 * (i - 1)) text bytes) IsBlock-zeros.bytes);
+          (All-append (λ byte. byte < 256) rest zeros (All-drop (λ byte. byte < 256) (16 * (i - 1)) text bytes) IsBlock-zeros.bytes);
     }
 
 pub IsBlock-cipher_block : (key text : List ℕ) → IsKey key → AreBytes text → (i : ℕ) → IsBlock (cipher_block key text i)
@@ -62,8 +62,8 @@ IsBlock-stolen_block key text j good bytes l =
     record {
       size = length-stolen_block key text j l;
       bytes = All-append (λ byte. byte < 256) (drop (16 * (block_count text - 1)) text) (drop (last_length text) (last_undone key text))
-        (All-drop (λ byte. byte < 256) (16 * (block_count text - 1)) text bytes)
-        (All-drop (λ byte. byte < 256) (last_length text) (last_undone key text) last.bytes);
+          (All-drop (λ byte. byte < 256) (16 * (block_count text - 1)) text bytes)
+          (All-drop (λ byte. byte < 256) (last_length text) (last_undone key text) last.bytes);
     }
 
 pub IsBlock-chained_block : (key text : List ℕ) (j : ℕ) → IsKey key → AreBytes text → IsLonger text j → (i : ℕ) → i ≤ suc j → IsBlock (chained_block key text i)

@@ -1,8 +1,8 @@
 -- The parts of what a text of j + 2 blocks is encrypted to.
-use Rattle.std.proofs.Common.{◌≡◌, ℕ, zero, suc, ◌+◌, ◌-◌, ◌*◌, ◌/◌, ◌<◌, ◌≤◌, eqb, true, false, List, ◌++◌, length, take, drop, refl, sym, ap, ◌∙◌, append_assoc, append-nil, arith, length-append, inl, inr}
+use Rattle.std.proofs.Common.{◌≡◌, ℕ, suc, ◌+◌, ◌-◌, ◌*◌, ◌/◌, ◌<◌, ◌≤◌, eqb, true, false, List, ◌++◌, length, take, drop, refl, sym, ap, ◌∙◌, append_assoc, arith, length-append, inl, inr}
 use Rattle.std.proofs.lemmas.Bool.{eq-eqb, ne_eqb, cases_lt}
 use Rattle.std.proofs.lemmas.List.{take_at, drop_at, length-take-le}
-use Rattle.krb_cts.specs.Stealing.{block_count, plain_block, cipher_block, joined, cts}
+use Rattle.krb_cts.specs.Stealing.{cipher_block, joined, cts}
 use Rattle.krb_cts.proofs.Blocks.{length-joined, length-cipher_block}
 use Rattle.krb_cts.proofs.Parts.{joined-block}
 use Rattle.krb_cts.proofs.Ends.{IsLonger, count_is}

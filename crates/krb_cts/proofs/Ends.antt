@@ -1,7 +1,7 @@
 -- What the last two blocks become, of a text of j + 2 blocks or of one.
-use Rattle.std.proofs.Common.{◌≡◌, ◌≢◌, ℕ, zero, suc, ◌+◌, ◌-◌, ◌*◌, ◌/◌, ◌<◌, ◌≤◌, eqb, Bool, true, false, cond, List, [], ◌∷◌, ◌++◌, length, take, drop, replicate, refl, sym, ap, ap₂, ◌∙◌, append_assoc, append-nil, arith, length-append, length-drop, inl, inr}
+use Rattle.std.proofs.Common.{◌≡◌, ℕ, zero, suc, ◌+◌, ◌-◌, ◌*◌, ◌<◌, ◌≤◌, eqb, true, false, List, [], ◌++◌, length, take, drop, refl, sym, ap, ap₂, ◌∙◌, append_assoc, append-nil, arith, length-append, length-drop, inl, inr}
 use Rattle.std.proofs.lemmas.Bool.{eq-eqb, ne_eqb, cases_lt}
-use Rattle.std.proofs.lemmas.List.{take_at, drop_at, take_all, take-append-le, drop-append-le, drop-drop, drop-take, take-take, length-take-le, take-replicate, drop-replicate}
+use Rattle.std.proofs.lemmas.List.{take_at, drop_at, take_all, take-append-le, drop-append-le, drop-take, take-take, length-take-le, take-replicate, drop-replicate}
 use Rattle.std.proofs.Math.Seq.{take-append-add}
 use Rattle.std.proofs.Math.ListN.{drop_of_length-le}
 use Rattle.krb_aes.specs.Cipher.{cipher, inv_cipher}
@@ -9,7 +9,7 @@ use Rattle.krb_cts.specs.Stealing.{xor, zeros, block_count, plain_block, cipher_
 use Rattle.krb_cts.specs.Undo.{last_undone, stolen_block, chained_block, undone_block, undo}
 use Rattle.krb_cts.specs.Inner.Chain.{whole_block, unchained_block}
 use Rattle.krb_cts.proofs.Xor.{xor-zeros}
-use Rattle.krb_cts.proofs.Blocks.{length-joined, length-cipher_block, length-inv_cipher, length-unchained_block}
+use Rattle.krb_cts.proofs.Blocks.{length-joined, length-cipher_block, length-inv_cipher}
 
 -- a text of j + 2 blocks
 pub record IsLonger (text : List ℕ) (j : ℕ) : Type 0 where

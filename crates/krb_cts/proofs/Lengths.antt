@@ -2,9 +2,9 @@
 use Rattle.std.proofs.Common.{◌≡◌, ℕ, zero, suc, ◌+◌, ◌-◌, ◌*◌, ◌/◌, ◌<◌, ◌≤◌, eqb, true, false, List, ◌++◌, length, take, drop, refl, sym, ap, ◌∙◌, arith, length-append, length-drop, inl, inr}
 use Rattle.std.proofs.lemmas.Bool.{eq-eqb, ne_eqb, cases_lt}
 use Rattle.std.proofs.lemmas.List.{length-take-le}
-use Rattle.krb_cts.specs.Stealing.{xor, zeros, block_count, cipher_block, joined, last_length, cts}
+use Rattle.krb_cts.specs.Stealing.{xor, block_count, joined}
 use Rattle.krb_cts.specs.Undo.{last_undone, stolen_block, chained_block, undone_block, undo}
-use Rattle.krb_cts.proofs.Blocks.{length-joined, length-cipher_block, length-inv_cipher, length-xor}
+use Rattle.krb_cts.proofs.Blocks.{length-joined, length-inv_cipher, length-xor}
 use Rattle.krb_cts.proofs.Ends.{IsLonger, count_is, length-stolen_block}
 
 -- a text of more than one block
@@ -60,4 +60,3 @@ length-undo key text le =
       | inl more ↦ length-longer key text ((length text + 15) / 16 - 2) (longer text more)
       | inr not_more ↦ length-one key text (omega arith)
     ]
-

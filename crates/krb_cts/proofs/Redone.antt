@@ -1,19 +1,19 @@
 -- What was undone is encrypted to the text again.
-use Rattle.std.proofs.Common.{◌≡◌, ℕ, zero, suc, ◌+◌, ◌-◌, ◌*◌, ◌/◌, ◌<◌, ◌≤◌, eqb, true, false, List, [], ◌++◌, length, take, drop, replicate, refl, sym, ap, ap₂, ◌∙◌, append-nil, arith, length-drop, inl, inr}
+use Rattle.std.proofs.Common.{◌≡◌, ℕ, zero, suc, ◌+◌, ◌-◌, ◌*◌, ◌/◌, ◌<◌, ◌≤◌, eqb, true, false, List, ◌++◌, length, take, drop, replicate, refl, sym, ap, ap₂, ◌∙◌, arith, length-drop, inl, inr}
 use Rattle.std.proofs.lemmas.Bool.{eq-eqb, ne_eqb, cases_lt}
-use Rattle.std.proofs.lemmas.List.{take_at, drop_at, take_all, length-take-le, take-append-drop, drop-replicate}
+use Rattle.std.proofs.lemmas.List.{take_at, drop_at, take_all, take-append-drop, drop-replicate}
 use Rattle.std.proofs.Math.Seq.{take-add}
 use Rattle.krb_aes.specs.KeyExpansion.{IsKey}
 use Rattle.krb_aes.specs.Cipher.{IsBlock, cipher, inv_cipher}
-use Rattle.krb_aes.proofs.RoundLaws.{IsBlock-inv_cipher, cipher-inv_cipher}
-use Rattle.krb_cts.specs.Stealing.{IsText, xor, zeros, block_count, plain_block, cipher_block, joined, last_length, cts}
+use Rattle.krb_aes.proofs.RoundLaws.{cipher-inv_cipher}
+use Rattle.krb_cts.specs.Stealing.{IsText, xor, zeros, block_count, plain_block, cipher_block, joined, cts}
 use Rattle.krb_cts.specs.Undo.{last_undone, stolen_block, chained_block, undone_block, undo}
 use Rattle.krb_cts.proofs.Xor.{xor-zeros, xor-itself, drop-xor, xor-twice}
-use Rattle.krb_cts.proofs.Blocks.{cipher_block-zero, length-joined, length-inv_cipher, length-xor, plain_block-whole}
+use Rattle.krb_cts.proofs.Blocks.{length-joined, length-inv_cipher, plain_block-whole}
 use Rattle.krb_cts.proofs.Parts.{joined-block, joined-cut}
-use Rattle.krb_cts.proofs.Ends.{IsLonger, count_is, last_plain, same_joined, length-stolen_block}
-use Rattle.krb_cts.proofs.Bytes.{AreBytes, IsBlock-part, IsBlock-last_undone, IsBlock-stolen_block, IsBlock-chained_block}
-use Rattle.krb_cts.proofs.Lengths.{longer, undo-of, length-longer, length-undo, length-undone_block}
+use Rattle.krb_cts.proofs.Ends.{IsLonger, count_is, last_plain, length-stolen_block}
+use Rattle.krb_cts.proofs.Bytes.{IsBlock-part, IsBlock-chained_block}
+use Rattle.krb_cts.proofs.Lengths.{longer, undo-of, length-longer, length-undone_block}
 use Rattle.krb_cts.proofs.Encrypted.{cts-block, cts-parts}
 use Rattle.krb_cts.proofs.Undone.{IsCase}
 

@@ -1,5 +1,5 @@
 -- Texts stay texts, and encryption is one to one and onto.
-use Rattle.std.proofs.Common.{◌≡◌, ℕ, suc, ◌+◌, ◌-◌, ◌*◌, ◌/◌, ◌<◌, ◌≤◌, eqb, true, List, ◌++◌, length, take, refl, sym, ap, ◌∙◌, subst, arith, inl, inr}
+use Rattle.std.proofs.Common.{◌≡◌, ℕ, suc, ◌+◌, ◌-◌, ◌*◌, ◌/◌, ◌<◌, eqb, true, List, ◌++◌, length, take, refl, sym, ap, ◌∙◌, subst, arith, inl, inr}
 use Rattle.std.proofs.lemmas.Bool.{eq-eqb, cases_lt}
 use Rattle.std.proofs.lemmas.List.Elements.{All-append, All-take}
 use Rattle.krb_aes.specs.KeyExpansion.{IsKey}
@@ -8,7 +8,6 @@ use Rattle.krb_aes.proofs.RoundLaws.{IsBlock-inv_cipher}
 use Rattle.krb_cts.specs.Stealing.{IsText, xor, cipher_block, joined, cts}
 use Rattle.krb_cts.specs.Undo.{last_undone, stolen_block, undone_block, undo}
 use Rattle.krb_cts.proofs.Parts.{bytes-joined}
-use Rattle.krb_cts.proofs.Ends.{IsLonger}
 use Rattle.krb_cts.proofs.Bytes.{AreBytes, IsBlock-xor, IsBlock-cipher_block, IsBlock-last_undone, IsBlock-stolen_block, IsBlock-undone_block}
 use Rattle.krb_cts.proofs.Lengths.{longer, undo-of, length-undo}
 use Rattle.krb_cts.proofs.Encrypted.{cts-block, cts-parts, length-cts}
@@ -21,9 +20,9 @@ bytes-cts key text j c =
     let r : ℕ = length text - 16 * suc j in
     subst AreBytes (sym (cts-parts key text j c.longer))
     (All-append (λ byte. byte < 256) (joined (cipher_block key text) j ++ cipher_block key text (suc (suc j))) (take r (cipher_block key text (suc j)))
-      (All-append (λ byte. byte < 256) (joined (cipher_block key text) j) (cipher_block key text (suc (suc j)))
-        (bytes-joined (cipher_block key text) j (λ i lt. block (suc i))) (block (suc (suc j))))
-      (All-take (λ byte. byte < 256) r (cipher_block key text (suc j)) (block (suc j))))
+    (All-append (λ byte. byte < 256) (joined (cipher_block key text) j) (cipher_block key text (suc (suc j)))
+    (bytes-joined (cipher_block key text) j (λ i lt. block (suc i))) (block (suc (suc j))))
+    (All-take (λ byte. byte < 256) r (cipher_block key text (suc j)) (block (suc j))))
 
 bytes-undo : (key text : List ℕ) (j : ℕ) → IsCase key text j → AreBytes (undo key text)
 bytes-undo key text j c =
@@ -34,8 +33,8 @@ bytes-undo key text j c =
     IsBlock-xor last stolen (IsBlock-last_undone key text j c.good c.bytes c.longer) (IsBlock-stolen_block key text j c.good c.bytes c.longer) in
     subst AreBytes (sym (undo-of key text j c.longer))
     (All-append (λ byte. byte < 256) (joined (undone_block key text) (suc j)) (take r (xor last stolen))
-      (bytes-joined (undone_block key text) (suc j) (λ i lt. (IsBlock-undone_block key text j c.good c.bytes c.longer i lt).bytes))
-      (All-take (λ byte. byte < 256) r (xor last stolen) end.bytes))
+    (bytes-joined (undone_block key text) (suc j) (λ i lt. (IsBlock-undone_block key text j c.good c.bytes c.longer i lt).bytes))
+    (All-take (λ byte. byte < 256) r (xor last stolen) end.bytes))
 
 undo-block : (key text : List ℕ) → length text ≡ 16 → undo key text ≡ inv_cipher key text
 unfolding undo

@@ -1,16 +1,16 @@
 -- What was encrypted is undone to the text.
-use Rattle.std.proofs.Common.{◌≡◌, ℕ, zero, suc, ◌+◌, ◌-◌, ◌*◌, ◌/◌, ◌<◌, ◌≤◌, eqb, true, false, List, ◌++◌, length, take, drop, replicate, refl, sym, ap, ap₂, ◌∙◌, arith, length-append, length-drop, inl, inr}
+use Rattle.std.proofs.Common.{◌≡◌, ℕ, zero, suc, ◌+◌, ◌-◌, ◌*◌, ◌/◌, ◌<◌, ◌≤◌, eqb, true, false, List, ◌++◌, length, take, drop, replicate, sym, ap, ap₂, ◌∙◌, arith, length-drop, inl, inr}
 use Rattle.std.proofs.lemmas.Bool.{eq-eqb, ne_eqb, cases_lt}
-use Rattle.std.proofs.lemmas.List.{take_at, drop_at, take_all, take-append-le, take-append-drop, drop-replicate, length-replicate}
+use Rattle.std.proofs.lemmas.List.{take_at, drop_at, take_all, take-append-drop, drop-replicate}
 use Rattle.krb_aes.specs.KeyExpansion.{IsKey}
-use Rattle.krb_aes.specs.Cipher.{cipher, inv_cipher}
+use Rattle.krb_aes.specs.Cipher.{inv_cipher}
 use Rattle.krb_aes.proofs.RoundLaws.{inv_cipher-cipher}
-use Rattle.krb_cts.specs.Stealing.{IsText, xor, zeros, block_count, plain_block, cipher_block, joined, last_length, cts}
+use Rattle.krb_cts.specs.Stealing.{IsText, xor, zeros, block_count, plain_block, cipher_block, joined, cts}
 use Rattle.krb_cts.specs.Undo.{last_undone, stolen_block, chained_block, undone_block, undo}
 use Rattle.krb_cts.proofs.Xor.{xor-zeros, zeros-xor, drop-xor, xor-twice}
 use Rattle.krb_cts.proofs.Blocks.{cipher_block-zero, length-cipher_block, plain_block-whole}
 use Rattle.krb_cts.proofs.Parts.{joined-cut}
-use Rattle.krb_cts.proofs.Ends.{IsLonger, count_is, last_plain, same_joined}
+use Rattle.krb_cts.proofs.Ends.{IsLonger, count_is, last_plain}
 use Rattle.krb_cts.proofs.Bytes.{AreBytes, IsBlock-xor, IsBlock-plain_block, IsBlock-cipher_block}
 use Rattle.krb_cts.proofs.Lengths.{longer, undo-of}
 use Rattle.krb_cts.proofs.Encrypted.{cts-block, length-longer, length-cts, IsLonger-cts, front-block, swapped-block, kept-bytes}
