@@ -1,5 +1,5 @@
 -- Derived keys and tags are bytes, and Ke is a key of AES.
-use Rattle.std.proofs.Common.{All, ◌≡◌, ◌⊎◌, ℕ, zero, suc, ◌/◌, ◌<◌, ◌≤◌, List, ◌++◌, length, take, subst, sym, arith, inl, inr}
+use Rattle.std.proofs.Common.{All, ℕ, zero, suc, ◌/◌, ◌<◌, List, subst, sym, arith, inl, inr}
 use Rattle.std.proofs.lemmas.List.Elements.{All-nil, All-cons, All-append, All-take}
 use Rattle.std.specs.Prelude.{slice_index}
 use Rattle.std.specs.Int.{byte_at, bytes_high_first, to_be_bytes, w32, w64}
@@ -10,7 +10,7 @@ use Rattle.krb_kdf.specs.Hmac.{Hash, sha256_hash, sha384_hash, hmac}
 use Rattle.krb_kdf.specs.Kdf.{kdf, kdf_text, label}
 use Rattle.krb_kdf.specs.declared.purpose.Purpose.TheVariants.{Ke}
 use Rattle.krb_kdf.proofs.Lengths.{length-hmac_sha256, length-hmac_sha384, length-kdf}
-use Rattle.krb_enc.specs.Sealed.{Profile, aes128_sha256, aes256_sha384, IsProfile, encryption_key, short_mac, tag_of}
+use Rattle.krb_enc.specs.Sealed.{Profile, IsProfile, encryption_key, short_mac, tag_of}
 
 abbrev pub AreBytes : List ℕ → Type 0
 AreBytes text = All (λ byte. byte < 256) text
@@ -55,13 +55,13 @@ pub IsKey-encryption_key : (p : Profile) (key : List ℕ) (usage : ℕ) → IsPr
 IsKey-encryption_key p key usage known =
     elim known [
       | inl is ↦ subst (λ (q : Profile). IsKey (encryption_key q key usage)) (sym is) (record {
-          size = inl (length-kdf sha256_hash 32 length-hmac_sha256 key (label usage Ke) 128 (omega arith));
-          bytes = bytes-kdf sha256_hash bytes-sha256 key (label usage Ke) 128;
-        })
+        size = inl (length-kdf sha256_hash 32 length-hmac_sha256 key (label usage Ke) 128 (omega arith));
+        bytes = bytes-kdf sha256_hash bytes-sha256 key (label usage Ke) 128;
+      })
       | inr is ↦ subst (λ (q : Profile). IsKey (encryption_key q key usage)) (sym is) (record {
-          size = inr (length-kdf sha384_hash 48 length-hmac_sha384 key (label usage Ke) 256 (omega arith));
-          bytes = bytes-kdf sha384_hash bytes-sha384 key (label usage Ke) 256;
-        })
+        size = inr (length-kdf sha384_hash 48 length-hmac_sha384 key (label usage Ke) 256 (omega arith));
+        bytes = bytes-kdf sha384_hash bytes-sha384 key (label usage Ke) 256;
+      })
     ]
 
 bytes-short_mac : (p : Profile) (key text : List ℕ) → IsProfile p → AreBytes (short_mac p key text)

@@ -1,18 +1,17 @@
 -- What a text opens to forwards and by decryption is the same.
-use Rattle.std.proofs.Common.{All, ◌≡◌, ◌⊎◌, ℕ, ◌+◌, ◌-◌, ◌<◌, ◌≤◌, List, ◌++◌, length, take, drop, refl, sym, ap, ap₂, subst, ◌∙◌, arith, length-append}
+use Rattle.std.proofs.Common.{◌≡◌, ℕ, ◌-◌, ◌<◌, ◌≤◌, List, ◌++◌, length, take, drop, refl, sym, ap, subst, ◌∙◌, arith, length-append}
 use Rattle.std.proofs.lemmas.List.{take_at, drop_at, take-append-drop, length-take-le}
 use Rattle.std.proofs.lemmas.List.Elements.{All-append, All-take, All-drop}
 use Rattle.krb_aes.specs.KeyExpansion.{IsKey}
 use Rattle.krb_aes.specs.Cipher.{IsBlock}
 use Rattle.krb_cts.specs.Stealing.{IsText, cts}
 use Rattle.krb_cts.specs.Undo.{undo}
-use Rattle.krb_cts.proofs.Lengths.{length-undo}
 use Rattle.krb_cts.proofs.Encrypted.{length-cts}
 use Rattle.krb_cts.proofs.Undone.{undo-cts}
 use Rattle.krb_cts.proofs.Redone.{cts-undo}
 use Rattle.krb_cts.proofs.TextLaws.{IsText-cts, IsText-undo}
 use Rattle.krb_enc.specs.Sealed.{Profile, IsProfile, encryption_key, tag_of, cipher_text, sealed}
-use Rattle.krb_enc.specs.Opens.{Opens, body_of, end_of, HasTag}
+use Rattle.krb_enc.specs.Opens.{Opens, body_of, end_of}
 use Rattle.krb_enc.specs.Backwards.{OpensBack}
 use Rattle.krb_enc.proofs.DerivedKeys.{AreBytes, IsKey-encryption_key, bytes-tag_of}
 use Rattle.krb_enc.proofs.Tags.{length-tag_of}
@@ -94,10 +93,6 @@ forwards p key usage text plain known bytes b =
       is_block = parts.0;
       plain_bytes = parts.1;
       sealed_is = ap (λ (c : List ℕ). c ++ tag_of p key usage c) front
-        ∙ ap (λ (e : List ℕ). body ++ e) (sym b.has_tag)
-        ∙ take-append-drop (length text - p.tag_len) text;
+          ∙ ap (λ (e : List ℕ). body ++ e) (sym b.has_tag)
+          ∙ take-append-drop (length text - p.tag_len) text;
     }
-
-pub one_relation : (p : Profile) (key : List ℕ) (usage : ℕ) (text plain : List ℕ) → IsProfile p → AreBytes text
-    → (Opens p key usage text plain → OpensBack p key usage text plain) × (OpensBack p key usage text plain → Opens p key usage text plain)
-one_relation p key usage text plain known bytes = (backwards p key usage text plain known, forwards p key usage text plain known bytes)

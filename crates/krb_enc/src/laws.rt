@@ -1,6 +1,6 @@
 //! What holds of opening for all keys and texts. Each function is empty: its contract is the law.
 
-ghost use Rattle.std.specs.Prelude.{◌≡◌, ◌⊎◌, ◌↔◌, ◌<◌, ℕ, List, All, length};
+ghost use Rattle.std.specs.Prelude.{◌≡◌, ◌⊎◌, ◌<◌, ℕ, List, All, length};
 ghost use Rattle.krb_aes.specs.Cipher.{IsBlock};
 ghost use Rattle.krb_enc.specs.Sealed.{Profile, IsProfile, tag_of, checksum_of, sealed};
 ghost use Rattle.krb_enc.specs.Opens.{OpensTo, OpensOnlyTo};
@@ -13,11 +13,14 @@ pub fn sealed_text_opens()
         → OpensOnlyTo p key usage (sealed p key usage confounder plain) plain }
 {}
 
-/// Opening by decryption and opening by what was sealed are one relation.
+/// A text opens exactly to what decryption makes of it: for texts of bytes, the definition by sealing
+/// and the one by decryption are one relation.
 pub fn one_relation()
-    ensures { (p : Profile) (key : List ℕ) (usage : ℕ) (text plain : List ℕ)
+    ensures undone { (p : Profile) (key : List ℕ) (usage : ℕ) (text plain : List ℕ)
+        → IsProfile p → OpensTo p key usage text plain → OpensBack p key usage text plain }
+    ensures sealed { (p : Profile) (key : List ℕ) (usage : ℕ) (text plain : List ℕ)
         → IsProfile p → All (λ byte. byte < 256) text
-        → (OpensTo p key usage text plain ↔ OpensBack p key usage text plain) }
+        → OpensBack p key usage text plain → OpensTo p key usage text plain }
 {}
 
 /// A sealed text opens to at most one plain text.

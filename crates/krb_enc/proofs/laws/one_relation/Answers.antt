@@ -1,5 +1,8 @@
-use Rattle.krb_enc.proofs.Relation.{one_relation}
+use Rattle.krb_enc.proofs.Relation.{backwards, forwards}
 use Rattle.krb_enc.proofs.laws.one_relation.Goals as goal
 
-pub returns : goal.returns
-returns c = one_relation
+pub returns-clause-undone : goal.returns-clause-undone
+returns-clause-undone c = backwards
+
+pub returns-clause-sealed : goal.returns-clause-sealed
+returns-clause-sealed c = forwards

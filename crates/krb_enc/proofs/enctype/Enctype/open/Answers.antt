@@ -1,4 +1,4 @@
-use Rattle.std.proofs.Common.{◌≡◌, ◌+◌, ◌-◌, ◌<◌, ◌≤◌, ◌∙◌, sym, ap, ℕ, length, refl, inr, arith, rules, take, drop}
+use Rattle.std.proofs.Common.{◌≡◌, ◌-◌, ◌<◌, ◌∙◌, sym, ap, ℕ, length, refl, inr, arith, rules, take, drop}
 use Rattle.std.proofs.lemmas.List.Elements.{All-from_get_or}
 use Rattle.krb_enc.specs.Opens.{body_of, end_of}
 use Rattle.krb_enc.proofs.DerivedKeys.{AreBytes}
@@ -19,7 +19,7 @@ returns-clause-opened g c =
     let tag = c.as_slice.ensures ∙ c.tag.ensures in
     forwards p c.args.key.now c.args.usage text c.in_ok-decrypted.field-0.items g.met.Self.Enctype.is_profile bytes
     (opened p c.args.key.now c.args.usage text c.split_at.result.0.now c.split_at.result.1.now c.as_slice.result.now c.encryption_key.result c.in_ok-decrypted.field-0.items
-      (omega (arith, size)) body end tag same c.encryption_key.ensures c.in_ok-decrypted.ensures.plain c.in_ok-decrypted.ensures.length)
+    (omega (arith, size)) body end tag same c.encryption_key.ensures c.in_ok-decrypted.ensures.plain c.in_ok-decrypted.ensures.length)
 
 pub returns-clause-found : goal.returns-clause-found
 returns-clause-found g c plain o =
