@@ -1,6 +1,5 @@
 -- Which blocks hold bytes.
-use Rattle.std.proofs.Common.{All, ◌≡◌, ℕ, zero, suc, ◌+◌, ◌-◌, ◌*◌, ◌<◌, ◌≤◌, eqb, true, false, List, ◌++◌, length, take, drop, refl, arith, lit<, length-append, length-drop, inl, inr}
-use Rattle.std.proofs.lemmas.Bool.{eq-eqb, ne_eqb, cases_lt}
+use Rattle.std.proofs.Common.{All, ◌≡◌, ℕ, zero, suc, ◌+◌, ◌-◌, ◌*◌, ◌<◌, ◌≤◌, List, ◌++◌, length, take, drop, refl, arith, lit<, length-append, length-drop}
 use Rattle.std.proofs.lemmas.List.{length-take-le}
 use Rattle.std.proofs.lemmas.List.Elements.{All-append, All-take, All-drop, All-replicate}
 use Rattle.krb_aes.specs.KeyExpansion.{IsKey}
@@ -10,7 +9,8 @@ use Rattle.krb_cts.specs.Stealing.{xor, zeros, block_count, plain_block, cipher_
 use Rattle.krb_cts.specs.Undo.{last_undone, stolen_block, chained_block, undone_block}
 use Rattle.krb_cts.proofs.Xor.{bytes-xor}
 use Rattle.krb_cts.proofs.Blocks.{length-xor}
-use Rattle.krb_cts.proofs.Ends.{IsLonger, count_is, length-stolen_block}
+use Rattle.krb_cts.proofs.Ends.{IsLonger, count_is}
+use Rattle.krb_cts.proofs.Stolen.{chained_cases, length-stolen_block}
 
 abbrev pub AreBytes : List ℕ → Type 0
 AreBytes text = All (λ byte. byte < 256) text
@@ -67,19 +67,10 @@ IsBlock-stolen_block key text j good bytes l =
     }
 
 pub IsBlock-chained_block : (key text : List ℕ) (j : ℕ) → IsKey key → AreBytes text → IsLonger text j → (i : ℕ) → i ≤ suc j → IsBlock (chained_block key text i)
-IsBlock-chained_block key text j good bytes l zero le = IsBlock-zeros
-IsBlock-chained_block key text j good bytes l (suc i) le =
-    let some : eqb (suc i) 0 ≡ false = ne_eqb _ _ (λ e. absurd (omega arith)) in
-    let m : block_count text - 1 ≡ suc j = omega (arith, count_is text j l) in
-    let at : 16 * (suc i - 1) ≡ 16 * i = omega arith in
-    elim (cases_lt i j) [
-      | inl lt ↦
-          let other : eqb (suc i) (block_count text - 1) ≡ false = ne_eqb _ _ (λ e. absurd (omega arith)) in
-          rw (some, other, at) (IsBlock-part text (16 * i) bytes (omega (arith, l.above)))
-      | inr ge ↦
-          let this : eqb (suc i) (block_count text - 1) ≡ true = eq-eqb _ _ (omega arith) in
-          rw (some, this) (IsBlock-stolen_block key text j good bytes l)
-    ]
+IsBlock-chained_block key text j good bytes l =
+    chained_cases IsBlock key text j l IsBlock-zeros
+    (λ i lt. IsBlock-part text (16 * i) bytes (omega (arith, l.above)))
+    (IsBlock-stolen_block key text j good bytes l)
 
 pub IsBlock-undone_block : (key text : List ℕ) (j : ℕ) → IsKey key → AreBytes text → IsLonger text j → (i : ℕ) → i < suc j → IsBlock (undone_block key text (suc i))
 IsBlock-undone_block key text j good bytes l i lt =

@@ -2,6 +2,8 @@ pub mod Xor
 pub mod Blocks
 pub mod Parts
 pub mod Ends
+pub mod Stolen
+pub mod GivenBack
 pub mod Bytes
 pub mod Lengths
 pub mod Encrypted

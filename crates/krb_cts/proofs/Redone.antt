@@ -1,6 +1,6 @@
 -- What was undone is encrypted to the text again.
-use Rattle.std.proofs.Common.{◌≡◌, ℕ, zero, suc, ◌+◌, ◌-◌, ◌*◌, ◌/◌, ◌<◌, ◌≤◌, eqb, true, false, List, ◌++◌, length, take, drop, replicate, refl, sym, ap, ap₂, ◌∙◌, arith, length-drop, inl, inr}
-use Rattle.std.proofs.lemmas.Bool.{eq-eqb, ne_eqb, cases_lt}
+use Rattle.std.proofs.Common.{◌≡◌, ℕ, zero, suc, ◌+◌, ◌-◌, ◌*◌, ◌/◌, ◌<◌, ◌≤◌, eqb, true, List, ◌++◌, length, take, drop, replicate, refl, sym, ap, ap₂, ◌∙◌, arith, length-drop, inl, inr}
+use Rattle.std.proofs.lemmas.Bool.{eq-eqb, cases_lt}
 use Rattle.std.proofs.lemmas.List.{take_at, drop_at, take_all, take-append-drop, drop-replicate}
 use Rattle.std.proofs.Math.Seq.{take-add}
 use Rattle.krb_aes.specs.KeyExpansion.{IsKey}
@@ -11,7 +11,8 @@ use Rattle.krb_cts.specs.Undo.{last_undone, stolen_block, chained_block, undone_
 use Rattle.krb_cts.proofs.Xor.{xor-zeros, xor-itself, drop-xor, xor-twice}
 use Rattle.krb_cts.proofs.Blocks.{length-joined, length-inv_cipher, plain_block-whole}
 use Rattle.krb_cts.proofs.Parts.{joined-block, joined-cut}
-use Rattle.krb_cts.proofs.Ends.{IsLonger, count_is, last_plain, length-stolen_block}
+use Rattle.krb_cts.proofs.Ends.{IsLonger, count_is, last_plain}
+use Rattle.krb_cts.proofs.Stolen.{chained_front, chained_last, stolen_parts, length-stolen_block}
 use Rattle.krb_cts.proofs.Bytes.{IsBlock-part, IsBlock-chained_block}
 use Rattle.krb_cts.proofs.Lengths.{longer, undo-of, length-longer, length-undone_block}
 use Rattle.krb_cts.proofs.Encrypted.{cts-block, cts-parts}
@@ -56,26 +57,6 @@ cipher_block-undo key text j c zero le = refl
 cipher_block-undo key text j c (suc i) le =
     ap₂ (λ (a b : List ℕ). cipher key (xor a b)) (plain_block-undo key text j c.longer i (omega arith)) (cipher_block-undo key text j c i (omega arith))
     ∙ chained_again key text j c i (omega arith)
-
-chained_front : (key text : List ℕ) (j : ℕ) → IsLonger text j → (i : ℕ) → i < j → chained_block key text (suc i) ≡ take 16 (drop (16 * i) text)
-chained_front key text j l i lt =
-    let some : eqb (suc i) 0 ≡ false = ne_eqb _ _ (λ e. absurd (omega arith)) in
-    let other : eqb (suc i) (block_count text - 1) ≡ false = ne_eqb _ _ (λ e. absurd (omega (arith, count_is text j l))) in
-    let at : 16 * (suc i - 1) ≡ 16 * i = omega arith in
-    rw (some, other, at) refl
-
-chained_last : (key text : List ℕ) (j : ℕ) → IsLonger text j → chained_block key text (suc j) ≡ stolen_block key text
-chained_last key text j l =
-    let some : eqb (suc j) 0 ≡ false = ne_eqb _ _ (λ e. absurd (omega arith)) in
-    let this : eqb (suc j) (block_count text - 1) ≡ true = eq-eqb _ _ (omega (arith, count_is text j l)) in
-    rw (some, this) refl
-
--- the last bytes of a text, and the end of D behind them
-stolen_parts : (key text : List ℕ) (j : ℕ) → IsLonger text j
-    → stolen_block key text ≡ drop (16 * suc j) text ++ drop (length text - 16 * suc j) (last_undone key text)
-stolen_parts key text j l =
-    let m : block_count text - 1 ≡ suc j = omega (arith, count_is text j l) in
-    ap (λ (n : ℕ). drop (16 * n) text ++ drop (length text - 16 * n) (last_undone key text)) m
 
 -- what fills the last block is zeros
 filled : (key text : List ℕ) (j : ℕ) → IsLonger text j → drop (length text - 16 * suc j) (last_whole key text) ≡ drop (length text - 16 * suc j) zeros

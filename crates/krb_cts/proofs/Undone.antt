@@ -1,6 +1,6 @@
 -- What was encrypted is undone to the text.
-use Rattle.std.proofs.Common.{◌≡◌, ℕ, zero, suc, ◌+◌, ◌-◌, ◌*◌, ◌/◌, ◌<◌, ◌≤◌, eqb, true, false, List, ◌++◌, length, take, drop, replicate, sym, ap, ap₂, ◌∙◌, arith, length-drop, inl, inr}
-use Rattle.std.proofs.lemmas.Bool.{eq-eqb, ne_eqb, cases_lt}
+use Rattle.std.proofs.Common.{◌≡◌, ℕ, zero, suc, ◌+◌, ◌-◌, ◌*◌, ◌/◌, ◌<◌, ◌≤◌, eqb, true, List, ◌++◌, length, take, drop, replicate, sym, ap, ap₂, ◌∙◌, arith, length-drop, inl, inr}
+use Rattle.std.proofs.lemmas.Bool.{eq-eqb, cases_lt}
 use Rattle.std.proofs.lemmas.List.{take_at, drop_at, take_all, take-append-drop, drop-replicate}
 use Rattle.krb_aes.specs.KeyExpansion.{IsKey}
 use Rattle.krb_aes.specs.Cipher.{inv_cipher}
@@ -11,6 +11,7 @@ use Rattle.krb_cts.proofs.Xor.{xor-zeros, zeros-xor, drop-xor, xor-twice}
 use Rattle.krb_cts.proofs.Blocks.{cipher_block-zero, length-cipher_block, plain_block-whole}
 use Rattle.krb_cts.proofs.Parts.{joined-cut}
 use Rattle.krb_cts.proofs.Ends.{IsLonger, count_is, last_plain}
+use Rattle.krb_cts.proofs.Stolen.{chained_front, chained_last, stolen_parts}
 use Rattle.krb_cts.proofs.Bytes.{AreBytes, IsBlock-xor, IsBlock-plain_block, IsBlock-cipher_block}
 use Rattle.krb_cts.proofs.Lengths.{longer, undo-of}
 use Rattle.krb_cts.proofs.Encrypted.{cts-block, length-longer, length-cts, IsLonger-cts, front-block, swapped-block, kept-bytes}
@@ -54,10 +55,9 @@ end_undone key text j c =
 stolen_block-cts : (key text : List ℕ) (j : ℕ) → IsCase key text j → stolen_block key (cts key text) ≡ cipher_block key text (suc j)
 stolen_block-cts key text j c =
     let encrypted = cts key text in
-    let m : block_count encrypted - 1 ≡ suc j = omega (arith, count_is encrypted j (IsLonger-cts key text j c.longer)) in
     let same : length encrypted ≡ length text = length-longer key text j c.longer in
     let r : ℕ = length text - 16 * suc j in
-    ap (λ (n : ℕ). drop (16 * n) encrypted ++ drop (length encrypted - 16 * n) (last_undone key encrypted)) m
+    stolen_parts key encrypted j (IsLonger-cts key text j c.longer)
     ∙ ap (λ (n : ℕ). drop (16 * suc j) encrypted ++ drop (n - 16 * suc j) (last_undone key encrypted)) same
     ∙ ap₂ (λ (a b : List ℕ). a ++ b) (kept-bytes key text j c.longer) (end_undone key text j c)
     ∙ take-append-drop r (cipher_block key text (suc j))
@@ -65,17 +65,15 @@ stolen_block-cts key text j c =
 chained_block-cts : (key text : List ℕ) (j : ℕ) → IsCase key text j → (i : ℕ) → i ≤ suc j → chained_block key (cts key text) i ≡ cipher_block key text i
 chained_block-cts key text j c zero le = sym (cipher_block-zero key text)
 chained_block-cts key text j c (suc i) le =
-    let some : eqb (suc i) 0 ≡ false = ne_eqb _ _ (λ e. absurd (omega arith)) in
-    let m : block_count (cts key text) - 1 ≡ suc j = omega (arith, count_is (cts key text) j (IsLonger-cts key text j c.longer)) in
-    let at : 16 * (suc i - 1) ≡ 16 * i = omega arith in
+    let l : IsLonger (cts key text) j = IsLonger-cts key text j c.longer in
     elim (cases_lt i j) [
-      | inl lt ↦
-          let other : eqb (suc i) (block_count (cts key text) - 1) ≡ false = ne_eqb _ _ (λ e. absurd (omega arith)) in
-          rw (some, other, at) (front-block key text j c.longer i lt)
+      | inl lt ↦ chained_front key (cts key text) j l i lt ∙ front-block key text j c.longer i lt
       | inr ge ↦
-          let this : eqb (suc i) (block_count (cts key text) - 1) ≡ true = eq-eqb _ _ (omega arith) in
           let same : j ≡ i = omega arith in
-          rw (some, this) (stolen_block-cts key text j c ∙ ap (λ (n : ℕ). cipher_block key text (suc n)) same)
+          ap (λ (n : ℕ). chained_block key (cts key text) (suc n)) (sym same)
+          ∙ chained_last key (cts key text) j l
+          ∙ stolen_block-cts key text j c
+          ∙ ap (λ (n : ℕ). cipher_block key text (suc n)) same
     ]
 
 undone_block-cts : (key text : List ℕ) (j : ℕ) → IsCase key text j → (i : ℕ) → i < suc j → undone_block key (cts key text) (suc i) ≡ take 16 (drop (16 * i) text)

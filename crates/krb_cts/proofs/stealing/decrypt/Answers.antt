@@ -1,6 +1,7 @@
 use Rattle.std.proofs.Common.{◌≡◌, ◌+◌, ◌*◌, ◌-◌, ◌/◌, length, suc, ℕ, arith, ap, ◌∙◌}
 use Rattle.krb_cts.specs.Stealing.{cts}
-use Rattle.krb_cts.proofs.Ends.{IsLonger, undo-one, undo-longer, given_back}
+use Rattle.krb_cts.proofs.Ends.{IsLonger}
+use Rattle.krb_cts.proofs.GivenBack.{undo-one, undo-longer, given_back}
 use Rattle.krb_cts.proofs.Redone.{cts-undo}
 use Rattle.krb_cts.proofs.stealing.decrypt.Goals as goal
 
