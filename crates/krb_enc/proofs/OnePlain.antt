@@ -1,19 +1,18 @@
 -- A text opens to one plain text at most, and it is decided whether it opens.
-use Rattle.std.proofs.Common.{◌≡◌, ◌⊎◌, ℕ, ◌+◌, ◌-◌, ◌<◌, List, [], ◌∷◌, ◌++◌, length, take, drop, Bool, true, false, refl, sym, ap, ◌∙◌, inl, inr, arith}
+use Rattle.std.proofs.Common.{◌≡◌, ◌⊎◌, ℕ, ◌+◌, ◌<◌, List, [], ◌∷◌, ◌++◌, length, drop, Bool, true, false, refl, sym, ap, ◌∙◌, inl, inr, arith}
 use Rattle.std.specs.Bool.{Decides}
 use Rattle.std.specs.Str.{bytes_eq}
 use Rattle.std.proofs.lemmas.Slice.Eq.{bytes_eq-Decides}
 use Rattle.std.proofs.lemmas.Bool.{cases_lt}
 use Rattle.std.proofs.lemmas.List.Elements.{All-nil, All-cons, All-head, All-tail}
-use Rattle.std.proofs.lemmas.List.{drop_at, take-append-drop, length-take-le}
+use Rattle.std.proofs.lemmas.List.{drop_at}
 use Rattle.krb_cts.specs.Undo.{undo}
-use Rattle.krb_cts.proofs.Lengths.{length-undo}
 use Rattle.krb_aes.specs.Cipher.{IsBlock}
 use Rattle.krb_enc.specs.Sealed.{Profile, IsProfile, encryption_key, tag_of, sealed}
-use Rattle.krb_enc.specs.Opens.{OpensTo, OpensOnlyTo, body_of, end_of}
+use Rattle.krb_enc.specs.Opens.{OpensTo, OpensToNothing, OpensOnlyTo, body_of, end_of}
 use Rattle.krb_enc.specs.Backwards.{OpensBack}
 use Rattle.krb_enc.proofs.DerivedKeys.{AreBytes}
-use Rattle.krb_enc.proofs.Relation.{backwards, forwards, bytes_of_opens}
+use Rattle.krb_enc.proofs.Relation.{tagged_back, backwards, forwards, bytes_of_opens}
 
 one_plain_back : (p : Profile) (key : List ℕ) (usage : ℕ) (text one other : List ℕ) → OpensBack p key usage text one → OpensBack p key usage text other → one ≡ other
 one_plain_back p key usage text one other a b =
@@ -46,20 +45,7 @@ decided_back p key usage text =
       | inl short ↦ inr (λ plain o. absurd (omega (arith, o.long)))
       | inr long ↦
           elim (same_texts (end_of p text) (tag_of p key usage (body_of p text))) [
-            | inl has_tag ↦
-                let whole : List ℕ = undo (encryption_key p key usage) (body_of p text) in
-                let body : length (body_of p text) ≡ length text - p.tag_len = length-take-le (length text - p.tag_len) text (omega arith) in
-                let size : length whole ≡ length (body_of p text) = length-undo (encryption_key p key usage) (body_of p text) (omega (arith, body)) in
-                inl (
-                  drop 16 whole,
-                  record {
-                    long = long;
-                    has_tag = has_tag;
-                    confounder = take 16 whole;
-                    size = length-take-le 16 whole (omega (arith, size, body));
-                    undone = sym (take-append-drop 16 whole);
-                  },
-                )
+            | inl has_tag ↦ inl (drop 16 (undo (encryption_key p key usage) (body_of p text)), tagged_back p key usage text long has_tag)
             | inr no_tag ↦ inr (λ plain o. no_tag o.has_tag)
           ]
     ]
@@ -78,7 +64,7 @@ are_bytes (x ∷ xs) =
     ]
 
 pub decided : (p : Profile) (key : List ℕ) (usage : ℕ) (text : List ℕ) → IsProfile p
-    → ((plain : List ℕ) × OpensTo p key usage text plain) ⊎ ((plain : List ℕ) → OpensTo p key usage text plain → ⊥)
+    → ((plain : List ℕ) × OpensTo p key usage text plain) ⊎ OpensToNothing p key usage text
 decided p key usage text known =
     elim (are_bytes text) [
       | inl bytes ↦

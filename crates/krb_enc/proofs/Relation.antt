@@ -1,17 +1,18 @@
 -- What a text opens to forwards and by decryption is the same.
-use Rattle.std.proofs.Common.{◌≡◌, ℕ, ◌-◌, ◌<◌, ◌≤◌, List, ◌++◌, length, take, drop, refl, sym, ap, subst, ◌∙◌, arith, length-append}
+use Rattle.std.proofs.Common.{◌≡◌, ℕ, ◌+◌, ◌-◌, ◌<◌, ◌≤◌, List, ◌++◌, length, take, drop, refl, sym, ap, subst, ◌∙◌, arith, length-append}
 use Rattle.std.proofs.lemmas.List.{take_at, drop_at, take-append-drop, length-take-le}
 use Rattle.std.proofs.lemmas.List.Elements.{All-append, All-take, All-drop}
 use Rattle.krb_aes.specs.KeyExpansion.{IsKey}
 use Rattle.krb_aes.specs.Cipher.{IsBlock}
 use Rattle.krb_cts.specs.Stealing.{IsText, cts}
 use Rattle.krb_cts.specs.Undo.{undo}
+use Rattle.krb_cts.proofs.Lengths.{length-undo}
 use Rattle.krb_cts.proofs.Encrypted.{length-cts}
 use Rattle.krb_cts.proofs.Undone.{undo-cts}
 use Rattle.krb_cts.proofs.Redone.{cts-undo}
 use Rattle.krb_cts.proofs.TextLaws.{IsText-cts, IsText-undo}
 use Rattle.krb_enc.specs.Sealed.{Profile, IsProfile, encryption_key, tag_of, cipher_text, sealed}
-use Rattle.krb_enc.specs.Opens.{Opens, body_of, end_of}
+use Rattle.krb_enc.specs.Opens.{Opens, body_of, end_of, HasTag}
 use Rattle.krb_enc.specs.Backwards.{OpensBack}
 use Rattle.krb_enc.proofs.DerivedKeys.{AreBytes, IsKey-encryption_key, bytes-tag_of}
 use Rattle.krb_enc.proofs.Tags.{length-tag_of}
@@ -29,6 +30,21 @@ tagged p front tag size =
       ap (λ (n : ℕ). take n (front ++ tag)) at ∙ take_at front tag (length front) refl,
       ap (λ (n : ℕ). drop n (front ++ tag)) at ∙ drop_at front tag (length front) refl,
     )
+
+-- a text that has its tag is undone to some plain text
+pub tagged_back : (p : Profile) (key : List ℕ) (usage : ℕ) (text : List ℕ) → 16 + p.tag_len ≤ length text → HasTag p key usage text
+    → OpensBack p key usage text (drop 16 (undo (encryption_key p key usage) (body_of p text)))
+tagged_back p key usage text long has_tag =
+    let whole : List ℕ = undo (encryption_key p key usage) (body_of p text) in
+    let body : length (body_of p text) ≡ length text - p.tag_len = length-take-le (length text - p.tag_len) text (omega arith) in
+    let size : length whole ≡ length (body_of p text) = length-undo (encryption_key p key usage) (body_of p text) (omega (arith, body)) in
+    record {
+      long = long;
+      has_tag = has_tag;
+      confounder = take 16 whole;
+      size = length-take-le 16 whole (omega (arith, size, body));
+      undone = sym (take-append-drop 16 whole);
+    }
 
 -- ---- from sealing to decryption
 

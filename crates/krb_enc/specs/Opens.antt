@@ -14,6 +14,10 @@ pub record Opens (p : Profile) (key : List ℕ) (usage : ℕ) (text plain : List
 abbrev pub OpensTo : Profile → List ℕ → ℕ → List ℕ → List ℕ → Type 0
 OpensTo = Opens
 
+-- no plain text was sealed to it
+abbrev pub OpensToNothing : Profile → List ℕ → ℕ → List ℕ → Type 0
+OpensToNothing p key usage text = (plain : List ℕ) → OpensTo p key usage text plain → ⊥
+
 -- it opens to this plain text and to no other
 pub record OpensOnlyTo (p : Profile) (key : List ℕ) (usage : ℕ) (text plain : List ℕ) : Type 0 where
   pub opens : OpensTo p key usage text plain

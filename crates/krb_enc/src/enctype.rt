@@ -3,7 +3,7 @@
 ghost use Rattle.std.specs.Prelude.{◌≡◌, ◌≢◌, ◌↔◌, ◌⊎◌, ◌≤◌, ◌<◌, ◌+◌, ℕ, ℤ, List, length, All, IfOk, IsErrOf, MatchResult, vec_len};
 ghost use Rattle.krb_aes.specs.Cipher.{IsBlock};
 ghost use Rattle.krb_enc.specs.Sealed.{Profile, IsProfile, encryption_key, tag_of, checksum_of, sealed};
-ghost use Rattle.krb_enc.specs.Opens.{HasTag, OpensTo, OpensOnlyTo};
+ghost use Rattle.krb_enc.specs.Opens.{HasTag, OpensTo, OpensOnlyTo, OpensToNothing};
 
 use crate::fault::OpenFault;
 use crate::tag::Tag;
@@ -70,7 +70,8 @@ pub trait Enctype {
         requires { length key.now ≡ KEY_LEN }
         ensures sealed { IfOk result (λ text. text.items ≡ sealed profile key.now usage confounder.now plain.now) }
         ensures length { IfOk result (λ text. vec_len text ≡ 16 + length plain.now + TAG_LEN) }
-        ensures opens { IfOk result (λ text. OpensOnlyTo profile key.now usage text.items plain.now) }
+        ensures opens { IfOk result (λ text.
+            OpensOnlyTo profile key.now usage text.items plain.now) }
     {
         let schedule = Self::encryption_key(key, usage);
         let mut text = encrypted(alloc, &schedule, confounder, plain, Self::TAG_LEN)?;
@@ -94,9 +95,11 @@ pub trait Enctype {
         ensures opened { IfOk result (λ plain. OpensTo profile key.now usage text.now plain.items) }
         // A text that opens is answered by its plain text, memory aside.
         ensures found { (plain : List ℕ) → OpensTo profile key.now usage text.now plain
-            → MatchResult result (λ found. found.items ≡ plain) (λ fault. fault ≡ OpenFault.OutOfMemory) }
-        ensures nothing { IsErrOf result OpenFault.Short ⊎ IsErrOf result OpenFault.Integrity
-            → (plain : List ℕ) → OpensTo profile key.now usage text.now plain → ⊥ }
+            → MatchResult result
+            (λ answer. answer.items ≡ plain) (λ fault. fault ≡ OpenFault.OutOfMemory) }
+        // Short or Integrity is answered exactly where nothing opens.
+        ensures refused { (IsErrOf result OpenFault.Short ⊎ IsErrOf result OpenFault.Integrity)
+            ↔ OpensToNothing profile key.now usage text.now }
         ensures short { IsErrOf result OpenFault.Short ↔ (length text.now < 16 + TAG_LEN) }
         ensures integrity { IsErrOf result OpenFault.Integrity
             ↔ ((16 + TAG_LEN ≤ length text.now) × (HasTag profile key.now usage text.now → ⊥)) }

@@ -39,7 +39,7 @@ impl Model for Key {
 impl Key {
     ghost use Rattle.krb_enc.specs.Key.{KeyValue, IsKnown, IsUsable, profile_of};
     ghost use Rattle.krb_enc.specs.Sealed.{sealed, checksum_of};
-    ghost use Rattle.krb_enc.specs.Opens.{IsShort, HasTag, OpensTo, OpensOnlyTo};
+    ghost use Rattle.krb_enc.specs.Opens.{IsShort, HasTag, OpensTo, OpensOnlyTo, OpensToNothing};
 
     /// Makes a key of `bytes`, for the encryption type `etype`.
     ///
@@ -132,10 +132,11 @@ impl Key {
         // A text that opens is answered by its plain text, memory aside.
         ensures found { (plain : List ℕ)
             → OpensTo (profile_of self.now) self.now.bytes usage text.now plain
-            → MatchResult result (λ found. found.items ≡ plain) (λ fault. fault ≡ OpenFault.OutOfMemory) }
-        ensures nothing { IsErrOf result OpenFault.Short ⊎ IsErrOf result OpenFault.Integrity
-            → (plain : List ℕ)
-            → OpensTo (profile_of self.now) self.now.bytes usage text.now plain → ⊥ }
+            → MatchResult result
+            (λ answer. answer.items ≡ plain) (λ fault. fault ≡ OpenFault.OutOfMemory) }
+        // Short or Integrity is answered exactly where nothing opens.
+        ensures refused { (IsErrOf result OpenFault.Short ⊎ IsErrOf result OpenFault.Integrity)
+            ↔ OpensToNothing (profile_of self.now) self.now.bytes usage text.now }
         ensures short { IsErrOf result OpenFault.Short ↔ IsShort (profile_of self.now) text.now }
         ensures integrity { IsErrOf result OpenFault.Integrity
             ↔ ((16 + (profile_of self.now).tag_len ≤ length text.now)

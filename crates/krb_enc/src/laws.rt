@@ -3,7 +3,7 @@
 ghost use Rattle.std.specs.Prelude.{◌≡◌, ◌⊎◌, ◌<◌, ℕ, List, All, length};
 ghost use Rattle.krb_aes.specs.Cipher.{IsBlock};
 ghost use Rattle.krb_enc.specs.Sealed.{Profile, IsProfile, tag_of, checksum_of, sealed};
-ghost use Rattle.krb_enc.specs.Opens.{OpensTo, OpensOnlyTo};
+ghost use Rattle.krb_enc.specs.Opens.{OpensTo, OpensOnlyTo, OpensToNothing};
 ghost use Rattle.krb_enc.specs.Backwards.{OpensBack};
 
 /// What was sealed opens to its plain text, and to no other.
@@ -33,7 +33,7 @@ pub fn one_plain_text()
 pub fn opening_is_decided()
     ensures { (p : Profile) (key : List ℕ) (usage : ℕ) (text : List ℕ) → IsProfile p
         → ((plain : List ℕ) × OpensTo p key usage text plain)
-        ⊎ ((plain : List ℕ) → OpensTo p key usage text plain → ⊥) }
+        ⊎ OpensToNothing p key usage text }
 {}
 
 /// A tag and a checksum have as many bytes as their type says: 16 or 24.
