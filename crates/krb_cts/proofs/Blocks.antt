@@ -1,5 +1,5 @@
 -- Blocks that stand one after another in a text.
-use Rattle.std.proofs.Common.{◌≡◌, ℕ, zero, suc, ◌+◌, ◌-◌, ◌*◌, ◌<◌, ◌≤◌, List, [], ◌∷◌, ◌++◌, length, take, drop, refl, sym, ap, ap₂, ◌∙◌, append_assoc, arith, length-append, length-drop, bit_xor}
+use Rattle.std.proofs.Common.{◌≡◌, ℕ, zero, suc, ◌+◌, ◌-◌, ◌*◌, ◌<◌, ◌≤◌, List, ◌++◌, length, take, drop, refl, sym, ap, ◌∙◌, arith, length-append, length-drop, bit_xor}
 use Rattle.std.proofs.lemmas.List.{take_at, drop_at, take-append-le, drop-drop, length-take-le}
 use Rattle.std.proofs.lemmas.Simd.{length-zip2}
 use Rattle.krb_aes.specs.Cipher.{cipher, inv_cipher, inv_rounds}
@@ -17,6 +17,10 @@ pub length-cipher_block : (key text : List ℕ) (i : ℕ) → length (cipher_blo
 unfolding cipher_block
 length-cipher_block key text zero = refl
 length-cipher_block key text (suc i) = length-cipher key _
+
+pub cipher_block-zero : (key text : List ℕ) → cipher_block key text 0 ≡ zeros
+unfolding cipher_block
+cipher_block-zero key text = refl
 
 pub length-joined : (block : ℕ → List ℕ) (n : ℕ) → ((i : ℕ) → i < n → length (block (suc i)) ≡ 16) → length (joined block n) ≡ 16 * n
 unfolding joined

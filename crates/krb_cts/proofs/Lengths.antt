@@ -1,30 +1,22 @@
 -- How long texts are after stealing and after it is undone.
-use Rattle.std.proofs.Common.{◌≡◌, ℕ, zero, suc, ◌+◌, ◌-◌, ◌*◌, ◌/◌, ◌<◌, ◌≤◌, eqb, true, false, List, ◌++◌, length, take, drop, refl, sym, ap, ◌∙◌, arith, length-append, length-drop, inl, inr}
+use Rattle.std.proofs.Common.{◌≡◌, ℕ, suc, ◌+◌, ◌-◌, ◌*◌, ◌/◌, ◌<◌, ◌≤◌, eqb, true, false, List, ◌++◌, length, take, drop, refl, sym, ap, ◌∙◌, arith, length-append, length-drop, inl, inr}
 use Rattle.std.proofs.lemmas.Bool.{eq-eqb, ne_eqb, cases_lt}
 use Rattle.std.proofs.lemmas.List.{length-take-le}
-use Rattle.krb_cts.specs.Stealing.{xor, zeros, block_count, cipher_block, joined, last_length, cts}
+use Rattle.krb_cts.specs.Stealing.{xor, block_count, joined}
 use Rattle.krb_cts.specs.Undo.{last_undone, stolen_block, chained_block, undone_block, undo}
-use Rattle.krb_cts.proofs.Blocks.{length-joined, length-cipher_block, length-inv_cipher, length-xor}
-use Rattle.krb_cts.proofs.Ends.{IsLonger, count_is, length-stolen_block}
+use Rattle.krb_cts.proofs.Blocks.{length-joined, length-inv_cipher, length-xor}
+use Rattle.krb_cts.proofs.Ends.{IsLonger, count_is}
+use Rattle.krb_cts.proofs.Stolen.{chained_cases, length-stolen_block}
 
 -- a text of more than one block
 pub longer : (text : List ℕ) → 16 < length text → IsLonger text ((length text + 15) / 16 - 2)
 longer text more = record { above = omega arith; within = omega arith }
 
 length-chained_block : (key text : List ℕ) (j : ℕ) → IsLonger text j → (i : ℕ) → i ≤ suc j → length (chained_block key text i) ≡ 16
-length-chained_block key text j l zero le = refl
-length-chained_block key text j l (suc i) le =
-    let some : eqb (suc i) 0 ≡ false = ne_eqb _ _ (λ e. absurd (omega arith)) in
-    let m : block_count text - 1 ≡ suc j = omega (arith, count_is text j l) in
-    let at : 16 * (suc i - 1) ≡ 16 * i = omega arith in
-    elim (cases_lt i j) [
-      | inl lt ↦
-          let other : eqb (suc i) (block_count text - 1) ≡ false = ne_eqb _ _ (λ e. absurd (omega arith)) in
-          rw (some, other, at) (length-take-le 16 (drop (16 * i) text) (omega (arith, length-drop (16 * i) text, l.above)))
-      | inr ge ↦
-          let this : eqb (suc i) (block_count text - 1) ≡ true = eq-eqb _ _ (omega arith) in
-          rw (some, this) (length-stolen_block key text j l)
-    ]
+length-chained_block key text j l =
+    chained_cases (λ block. length block ≡ 16) key text j l refl
+    (λ i lt. length-take-le 16 (drop (16 * i) text) (omega (arith, length-drop (16 * i) text, l.above)))
+    (length-stolen_block key text j l)
 
 pub length-undone_block : (key text : List ℕ) (j : ℕ) → IsLonger text j → (i : ℕ) → i < suc j → length (undone_block key text (suc i)) ≡ 16
 length-undone_block key text j l i lt =
@@ -39,7 +31,7 @@ undo-of key text j l =
     let test : eqb (length text) 16 ≡ false = ne_eqb _ _ (λ e. absurd (omega (arith, l.above))) in
     rw (test, m) refl
 
-length-longer : (key text : List ℕ) (j : ℕ) → IsLonger text j → length (undo key text) ≡ length text
+pub length-longer : (key text : List ℕ) (j : ℕ) → IsLonger text j → length (undo key text) ≡ length text
 length-longer key text j l =
     let front = length-joined (undone_block key text) (suc j) (length-undone_block key text j l) in
     let last = length-xor (last_undone key text) (stolen_block key text) (length-inv_cipher key _) (length-stolen_block key text j l) in
@@ -60,5 +52,3 @@ length-undo key text le =
       | inl more ↦ length-longer key text ((length text + 15) / 16 - 2) (longer text more)
       | inr not_more ↦ length-one key text (omega arith)
     ]
-
-pub ruleset lengths = (length-undo)

@@ -1,4 +1,13 @@
 pub mod Xor
 pub mod Blocks
+pub mod Parts
 pub mod Ends
+pub mod Stolen
+pub mod GivenBack
+pub mod Bytes
 pub mod Lengths
+pub mod Encrypted
+pub mod Undone
+pub mod Redone
+pub mod TextLaws
+pub mod LawRules

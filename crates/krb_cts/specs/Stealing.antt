@@ -1,8 +1,13 @@
 -- Cipher block chaining with ciphertext stealing, with an initial vector of zeros (RFC 3962, section 5;
 -- RFC 8009, section 5). A text is a list of at least 16 bytes; blocks have 16 bytes and are numbered from 1.
-use Rattle.std.specs.Prelude.{ℕ, zero, suc, ◌+◌, ◌-◌, ◌*◌, ◌/◌, ◌==◌, List, [], ◌++◌, length, take, drop, replicate, bit_xor, if◌then◌else◌}
+use Rattle.std.specs.Prelude.{All, ℕ, zero, suc, ◌+◌, ◌-◌, ◌*◌, ◌/◌, ◌==◌, ◌<◌, ◌≤◌, List, [], ◌++◌, length, take, drop, replicate, bit_xor, if◌then◌else◌}
 use Rattle.krb_aes.specs.Cipher.{cipher}
 use lib.Lanes.{zip2}
+
+-- a text that can be encrypted
+pub record IsText (text : List ℕ) : Type 0 where
+  pub size : 16 ≤ length text
+  pub bytes : All (λ byte. byte < 256) text
 
 -- byte by byte, as far as the shorter goes
 abbrev pub xor : List ℕ → List ℕ → List ℕ

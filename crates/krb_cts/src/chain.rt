@@ -1,6 +1,7 @@
 //! Cipher block chaining of whole blocks, in place.
 
-ghost use Rattle.std.specs.Prelude.{◌≡◌, ◌*◌, ◌≤◌, ◌++◌, length, drop};
+ghost use Rattle.std.specs.Prelude.{◌≡◌, ◌*◌, ◌<◌, ◌≤◌, ◌++◌, length, drop};
+ghost use Rattle.krb_aes.specs.KeyExpansion.{IsKey};
 ghost use Rattle.krb_cts.specs.Stealing.{cipher_block, joined};
 ghost use Rattle.krb_cts.specs.Inner.Chain.{unchained_block};
 
@@ -12,6 +13,7 @@ pub(crate) fn encrypt_blocks(schedule: &KeySchedule, text: &mut [u8], count: usi
     requires { 16 * count ≤ length text.old }
     ensures text { text.new ≡ joined (cipher_block schedule.now text.old) count ++ drop (16 * count) text.old }
     ensures last { result ≡ cipher_block schedule.now text.old count }
+    ensures key { 0 < count → IsKey schedule.now }
 {
     let mut previous = [0; BLOCK_LEN];
     for i in 0..count {
@@ -27,7 +29,8 @@ pub(crate) fn encrypt_blocks(schedule: &KeySchedule, text: &mut [u8], count: usi
 // Undoes the chain of the first `count` blocks of a text.
 pub(crate) fn decrypt_blocks(schedule: &KeySchedule, text: &mut [u8], count: usize)
     requires { 16 * count ≤ length text.old }
-    ensures { text.new ≡ joined (unchained_block schedule.now text.old) count ++ drop (16 * count) text.old }
+    ensures text { text.new ≡ joined (unchained_block schedule.now text.old) count ++ drop (16 * count) text.old }
+    ensures key { 0 < count → IsKey schedule.now }
 {
     let mut previous = [0; BLOCK_LEN];
     for i in 0..count {

@@ -9,8 +9,9 @@
 //! krb_cts::decrypt(&schedule, &mut text);
 //! ```
 //!
-//! The contracts speak of the definitions `cts` of `specs/Stealing` and `undo` of `specs/Undo`. No call
-//! takes memory or fails.
+//! The contracts speak of the definitions `cts` of `specs/Stealing` and `undo` of `specs/Undo`, and say
+//! that each call undoes the other. No call takes memory or fails. `laws` has what holds for all keys
+//! and texts.
 #![tactic(auto)]
 
 mod block;

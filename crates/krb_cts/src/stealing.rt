@@ -2,7 +2,7 @@
 
 ghost use Rattle.std.specs.Prelude.{◌≡◌, ◌+◌, ◌-◌, ◌*◌, ◌/◌, ◌<◌, ◌≤◌, ◌++◌, length, take, drop};
 ghost use Rattle.krb_aes.specs.Cipher.{cipher, inv_cipher};
-ghost use Rattle.krb_cts.specs.Stealing.{cts, xor, zeros};
+ghost use Rattle.krb_cts.specs.Stealing.{IsText, cts, xor, zeros};
 ghost use Rattle.krb_cts.specs.Undo.{undo};
 
 use crate::block::{BLOCK_LEN, Block, block_at, put_block, xor};
@@ -18,9 +18,11 @@ use krb_aes::KeySchedule;
 /// Source: RFC 3962, section 5; RFC 8009, section 5.
 pub fn encrypt(schedule: &KeySchedule, text: &mut [u8])
     requires { 16 ≤ length text.old }
-    ensures { text.new ≡ cts schedule.now text.old }
+    ensures text { text.new ≡ cts schedule.now text.old }
+    // Decryption gives the old text back.
+    ensures undone { undo schedule.now text.new ≡ text.old }
 {
-    let last_at = last_block(text.len());
+    let last_at = last_block(text);
     if last_at == 0 {
         let _ = encrypt_blocks(schedule, text, 1);
     } else {
@@ -34,9 +36,11 @@ pub fn encrypt(schedule: &KeySchedule, text: &mut [u8])
 /// Source: RFC 3962, section 5; RFC 8009, section 5.
 pub fn decrypt(schedule: &KeySchedule, text: &mut [u8])
     requires { 16 ≤ length text.old }
-    ensures { text.new ≡ undo schedule.now text.old }
+    ensures text { text.new ≡ undo schedule.now text.old }
+    // Encryption gives the old text back.
+    ensures undone { cts schedule.now text.new ≡ text.old }
 {
-    let last_at = last_block(text.len());
+    let last_at = last_block(text);
     if last_at == 0 {
         decrypt_blocks(schedule, text, 1);
     } else {
@@ -45,12 +49,13 @@ pub fn decrypt(schedule: &KeySchedule, text: &mut [u8])
     }
 }
 
-// Where the last block of a text of so many bytes begins.
-fn last_block(len: usize) -> usize
-    requires { 0 < len }
-    ensures { result ≡ 16 * ((len + 15) / 16 - 1) }
+// Where the last block of a text begins.
+fn last_block(text: &[u8]) -> usize
+    requires { 16 ≤ length text.now }
+    ensures start { result ≡ 16 * ((length text.now + 15) / 16 - 1) }
+    ensures text { IsText text.now }
 {
-    (len - 1) / BLOCK_LEN * BLOCK_LEN
+    (text.len() - 1) / BLOCK_LEN * BLOCK_LEN
 }
 
 // Encrypts the last block, which begins at `at`, behind the block `previous`, and swaps these two.

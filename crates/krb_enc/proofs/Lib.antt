@@ -1,3 +1,5 @@
 pub mod Tags
-pub mod Opening
+pub mod DerivedKeys
+pub mod Relation
 pub mod OnePlain
+pub mod Opening

@@ -1,21 +1,42 @@
--- What a text that has its tag opens to.
-use Rattle.std.proofs.Common.{◌≡◌, ℕ, ◌+◌, ◌-◌, ◌≤◌, List, ◌++◌, length, take, drop, sym, ap, ap₂, ◌∙◌, arith}
-use Rattle.std.proofs.lemmas.List.{take-append-drop, length-take-le}
+-- What the steps of opening say of a text: its parts, their tag, and what they are undone to.
+use Rattle.std.proofs.Common.{◌≡◌, ℕ, ◌+◌, ◌-◌, ◌≤◌, List, length, take, drop, sym, subst, ap, ap₂, ◌∙◌}
 use Rattle.krb_cts.specs.Undo.{undo}
-use Rattle.krb_enc.specs.Sealed.{Profile, encryption_key, tag_of}
-use Rattle.krb_enc.specs.Opens.{body_of, end_of, HasTag, OpensBack}
+use Rattle.krb_enc.specs.Sealed.{Profile, IsProfile, encryption_key, tag_of}
+use Rattle.krb_enc.specs.Opens.{OpensTo, OpensToNothing, body_of, end_of, HasTag}
+use Rattle.krb_enc.proofs.DerivedKeys.{AreBytes}
+use Rattle.krb_enc.proofs.Relation.{tagged_back, backwards, forwards}
 
-pub opened : (p : Profile) (key : List ℕ) (usage : ℕ) (text body end tag ke plain : List ℕ)
-    → 16 + p.tag_len ≤ length text → body ≡ body_of p text → end ≡ end_of p text
-    → tag ≡ tag_of p key usage body → tag ≡ end → ke ≡ encryption_key p key usage
-    → plain ≡ drop 16 (undo ke body) → length (undo ke body) ≡ length body → OpensBack p key usage text plain
-opened p key usage text body end tag ke plain long body_is end_is tag_is same ke_is plain_is stays =
-    let whole : undo ke body ≡ undo (encryption_key p key usage) (body_of p text) = ap₂ undo ke_is body_is in
-    let size : length body ≡ length text - p.tag_len = ap length body_is ∙ length-take-le (length text - p.tag_len) text (omega arith) in
-    record {
-      long = long;
-      has_tag = sym end_is ∙ sym same ∙ tag_is ∙ ap (tag_of p key usage) body_is;
-      confounder = take 16 (undo ke body);
-      size = length-take-le 16 (undo ke body) (omega (arith, stays, size));
-      undone = sym whole ∙ sym (take-append-drop 16 (undo ke body)) ∙ ap (λ (b : List ℕ). take 16 (undo ke body) ++ b) (sym plain_is);
-    }
+-- a text's body and end, and the tag of the body
+pub record HasParts (p : Profile) (key : List ℕ) (usage : ℕ) (text body end tag : List ℕ) : Type 0 where
+  pub body_is : body ≡ body_of p text
+  pub end_is : end ≡ end_of p text
+  pub tag_is : tag ≡ tag_of p key usage body
+
+pub parts_of : (p : Profile) (key : List ℕ) (usage : ℕ) (text body end tag : List ℕ) (size : ℕ) → size ≡ p.tag_len
+    → body ≡ take (length text - size) text → end ≡ drop (length text - size) text → tag ≡ tag_of p key usage body → HasParts p key usage text body end tag
+parts_of p key usage text body end tag size size_is body_is end_is tag_is = record {
+  body_is = body_is ∙ ap (λ (n : ℕ). take (length text - n) text) size_is;
+  end_is = end_is ∙ ap (λ (n : ℕ). drop (length text - n) text) size_is;
+  tag_is = tag_is;
+}
+
+pub has_tag : (p : Profile) (key : List ℕ) (usage : ℕ) (text body end tag : List ℕ) → HasParts p key usage text body end tag → tag ≡ end → HasTag p key usage text
+has_tag p key usage text body end tag parts same = sym parts.end_is ∙ sym same ∙ parts.tag_is ∙ ap (tag_of p key usage) parts.body_is
+
+-- a text that doesn't have its tag opens to nothing
+pub no_tag : (p : Profile) (key : List ℕ) (usage : ℕ) (text body end tag : List ℕ) → IsProfile p
+    → HasParts p key usage text body end tag → (tag ≡ end → ⊥) → OpensToNothing p key usage text
+no_tag p key usage text body end tag known parts differs plain o =
+    differs (parts.tag_is ∙ ap (tag_of p key usage) parts.body_is ∙ sym (backwards p key usage text plain known o).has_tag ∙ sym parts.end_is)
+
+-- a text of bytes that has its tag opens to something
+pub tagged_opens : (p : Profile) (key : List ℕ) (usage : ℕ) (text : List ℕ) → IsProfile p → AreBytes text → 16 + p.tag_len ≤ length text → HasTag p key usage text
+    → OpensTo p key usage text (drop 16 (undo (encryption_key p key usage) (body_of p text)))
+tagged_opens p key usage text known bytes long tagged = forwards p key usage text _ known bytes (tagged_back p key usage text long tagged)
+
+pub opened : (p : Profile) (key : List ℕ) (usage : ℕ) (text body end tag ke plain : List ℕ) → IsProfile p → AreBytes text → 16 + p.tag_len ≤ length text
+    → HasParts p key usage text body end tag → tag ≡ end → ke ≡ encryption_key p key usage → plain ≡ drop 16 (undo ke body) → OpensTo p key usage text plain
+opened p key usage text body end tag ke plain known bytes long parts same ke_is plain_is =
+    let is : plain ≡ drop 16 (undo (encryption_key p key usage) (body_of p text)) = plain_is ∙ ap (λ (t : List ℕ). drop 16 t) (ap₂ undo ke_is parts.body_is) in
+    subst (λ (t : List ℕ). OpensTo p key usage text t) (sym is)
+    (tagged_opens p key usage text known bytes long (has_tag p key usage text body end tag parts same))

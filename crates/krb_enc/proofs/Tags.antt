@@ -1,9 +1,9 @@
 -- How long tags and sealed texts are.
-use Rattle.std.proofs.Common.{◌≡◌, ◌⊎◌, ℕ, ◌≤◌, List, ◌++◌, length, take, replicate, subst, sym, ap, ◌∙◌, inl, inr, arith}
+use Rattle.std.proofs.Common.{◌≡◌, ℕ, List, length, subst, sym, inl, inr, arith}
 use Rattle.std.proofs.lemmas.List.{length-take-le}
 use Rattle.krb_kdf.specs.Hmac.{sha256_hash, sha384_hash, hmac}
 use Rattle.krb_kdf.proofs.Lengths.{length-hmac_sha256, length-hmac_sha384}
-use Rattle.krb_enc.specs.Sealed.{Profile, aes128_sha256, aes256_sha384, IsProfile, short_mac, tag_of, checksum_of}
+use Rattle.krb_enc.specs.Sealed.{Profile, IsProfile, short_mac, tag_of, checksum_of}
 
 length-short_mac : (p : Profile) (key text : List ℕ) → IsProfile p → length (short_mac p key text) ≡ p.tag_len
 length-short_mac p key text known =

@@ -1,5 +1,6 @@
 pub mod Sealed
 pub mod Opens
+pub mod Backwards
 pub mod Key
 pub use Rattle.krb_kdf.specs.Hmac
 pub use Rattle.krb_kdf.specs.Kdf

@@ -1,8 +1,7 @@
 -- What a sealed text opens to (RFC 8009, section 5).
-use Rattle.std.specs.Prelude.{◌≡◌, All, ◌<◌, ◌≤◌, ℕ, ◌+◌, ◌-◌, List, ◌++◌, length, take, drop}
+use Rattle.std.specs.Prelude.{◌≡◌, All, ◌<◌, ◌+◌, ◌-◌, ℕ, List, length, take, drop}
 use Rattle.krb_aes.specs.Cipher.{IsBlock}
-use Rattle.krb_cts.specs.Undo.{undo}
-use Rattle.krb_enc.specs.Sealed.{Profile, encryption_key, tag_of, sealed}
+use Rattle.krb_enc.specs.Sealed.{Profile, tag_of, sealed}
 
 -- some confounder of 16 bytes seals the plain text to this: nothing is decrypted in it
 pub record Opens (p : Profile) (key : List ℕ) (usage : ℕ) (text plain : List ℕ) : Type 0 where
@@ -10,6 +9,19 @@ pub record Opens (p : Profile) (key : List ℕ) (usage : ℕ) (text plain : List
   pub is_block : IsBlock confounder
   pub plain_bytes : All (λ byte. byte < 256) plain
   pub sealed_is : sealed p key usage confounder plain ≡ text
+
+-- what opening means in the contracts
+abbrev pub OpensTo : Profile → List ℕ → ℕ → List ℕ → List ℕ → Type 0
+OpensTo = Opens
+
+-- no plain text was sealed to it
+abbrev pub OpensToNothing : Profile → List ℕ → ℕ → List ℕ → Type 0
+OpensToNothing p key usage text = (plain : List ℕ) → OpensTo p key usage text plain → ⊥
+
+-- it opens to this plain text and to no other
+pub record OpensOnlyTo (p : Profile) (key : List ℕ) (usage : ℕ) (text plain : List ℕ) : Type 0 where
+  pub opens : OpensTo p key usage text plain
+  pub only : (other : List ℕ) → OpensTo p key usage text other → other ≡ plain
 
 -- what stands before the tag, and the tag
 abbrev pub body_of : Profile → List ℕ → List ℕ
@@ -25,15 +37,3 @@ IsShort p text = length text < 16 + p.tag_len
 -- the last bytes are the tag of the rest
 abbrev pub HasTag : Profile → List ℕ → ℕ → List ℕ → Type 0
 HasTag p key usage text = end_of p text ≡ tag_of p key usage (body_of p text)
-
--- backwards: the text is long enough and has its tag, and what stands before the tag is undone to 16 bytes and the plain text
-pub record OpensBack (p : Profile) (key : List ℕ) (usage : ℕ) (text plain : List ℕ) : Type 0 where
-  pub long : 16 + p.tag_len ≤ length text
-  pub has_tag : HasTag p key usage text
-  pub confounder : List ℕ
-  pub size : length confounder ≡ 16
-  pub undone : undo (encryption_key p key usage) (body_of p text) ≡ confounder ++ plain
-
--- what opening means in the contracts
-abbrev pub OpensTo : Profile → List ℕ → ℕ → List ℕ → List ℕ → Type 0
-OpensTo = OpensBack

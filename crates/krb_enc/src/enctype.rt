@@ -1,8 +1,9 @@
 //! What an encryption type is.
 
-ghost use Rattle.std.specs.Prelude.{◌≡◌, ◌≢◌, ◌↔◌, ◌⊎◌, ◌≤◌, ◌<◌, ◌+◌, ℕ, ℤ, List, length, IfOk, IsErrOf, vec_len};
+ghost use Rattle.std.specs.Prelude.{◌≡◌, ◌≢◌, ◌↔◌, ◌⊎◌, ◌≤◌, ◌<◌, ◌+◌, ℕ, ℤ, List, length, All, IfOk, IsErrOf, MatchResult, vec_len};
+ghost use Rattle.krb_aes.specs.Cipher.{IsBlock};
 ghost use Rattle.krb_enc.specs.Sealed.{Profile, IsProfile, encryption_key, tag_of, checksum_of, sealed};
-ghost use Rattle.krb_enc.specs.Opens.{HasTag, OpensTo};
+ghost use Rattle.krb_enc.specs.Opens.{HasTag, OpensTo, OpensOnlyTo, OpensToNothing};
 
 use crate::fault::OpenFault;
 use crate::tag::Tag;
@@ -69,6 +70,8 @@ pub trait Enctype {
         requires { length key.now ≡ KEY_LEN }
         ensures sealed { IfOk result (λ text. text.items ≡ sealed profile key.now usage confounder.now plain.now) }
         ensures length { IfOk result (λ text. vec_len text ≡ 16 + length plain.now + TAG_LEN) }
+        ensures opens { IfOk result (λ text.
+            OpensOnlyTo profile key.now usage text.items plain.now) }
     {
         let schedule = Self::encryption_key(key, usage);
         let mut text = encrypted(alloc, &schedule, confounder, plain, Self::TAG_LEN)?;
@@ -90,6 +93,13 @@ pub trait Enctype {
     final fn open(alloc: Global, key: &[u8], usage: u32, text: &[u8]) -> Result<Vec<u8>, OpenFault>
         requires { length key.now ≡ KEY_LEN }
         ensures opened { IfOk result (λ plain. OpensTo profile key.now usage text.now plain.items) }
+        // A text that opens is answered by its plain text, memory aside.
+        ensures found { (plain : List ℕ) → OpensTo profile key.now usage text.now plain
+            → MatchResult result
+            (λ answer. answer.items ≡ plain) (λ fault. fault ≡ OpenFault.OutOfMemory) }
+        // Short or Integrity is answered exactly where nothing opens.
+        ensures refused { (IsErrOf result OpenFault.Short ⊎ IsErrOf result OpenFault.Integrity)
+            ↔ OpensToNothing profile key.now usage text.now }
         ensures short { IsErrOf result OpenFault.Short ↔ (length text.now < 16 + TAG_LEN) }
         ensures integrity { IsErrOf result OpenFault.Integrity
             ↔ ((16 + TAG_LEN ≤ length text.now) × (HasTag profile key.now usage text.now → ⊥)) }
@@ -114,4 +124,9 @@ pub trait Enctype {
     ghost key_len_is: { profile.key_len ≡ KEY_LEN };
 
     ghost tag_len_is: { profile.tag_len ≡ TAG_LEN };
+
+    /// What was sealed opens to its plain text.
+    ghost sealed_opens: { (key : List ℕ) (usage : ℕ) (confounder plain : List ℕ)
+        → IsBlock confounder → All (λ byte. byte < 256) plain
+        → OpensTo profile key usage (sealed profile key usage confounder plain) plain };
 }

@@ -1,6 +1,6 @@
 //! Keys.
 
-ghost use Rattle.std.specs.Prelude.{◌≡◌, ◌↔◌, ◌≤◌, ◌<◌, ◌+◌, length, vec_len, IsTrue, IfOk, IsOk, IsErrOf};
+ghost use Rattle.std.specs.Prelude.{◌≡◌, ◌↔◌, ◌⊎◌, ◌≤◌, ◌<◌, ◌+◌, ℕ, List, length, vec_len, IsTrue, IfOk, IsOk, IsErrOf, MatchResult};
 
 use crate::enctype::Enctype;
 use crate::fault::{KeyFault, OpenFault};
@@ -39,7 +39,7 @@ impl Model for Key {
 impl Key {
     ghost use Rattle.krb_enc.specs.Key.{KeyValue, IsKnown, IsUsable, profile_of};
     ghost use Rattle.krb_enc.specs.Sealed.{sealed, checksum_of};
-    ghost use Rattle.krb_enc.specs.Opens.{IsShort, HasTag, OpensTo};
+    ghost use Rattle.krb_enc.specs.Opens.{IsShort, HasTag, OpensTo, OpensOnlyTo, OpensToNothing};
 
     /// Makes a key of `bytes`, for the encryption type `etype`.
     ///
@@ -106,6 +106,8 @@ impl Key {
             text.items ≡ sealed (profile_of self.now) self.now.bytes usage confounder.now plain.now) }
         ensures length { IfOk result (λ text.
             vec_len text ≡ 16 + length plain.now + (profile_of self.now).tag_len) }
+        ensures opens { IfOk result (λ text.
+            OpensOnlyTo (profile_of self.now) self.now.bytes usage text.items plain.now) }
     {
         match &self.bytes {
             KeyBytes::Short(key) => Sha256Aes128::seal(alloc, key, usage, confounder, plain),
@@ -127,6 +129,14 @@ impl Key {
     pub fn open(&self, alloc: Global, usage: u32, text: &[u8]) -> Result<Vec<u8>, OpenFault>
         ensures opened { IfOk result (λ plain.
             OpensTo (profile_of self.now) self.now.bytes usage text.now plain.items) }
+        // A text that opens is answered by its plain text, memory aside.
+        ensures found { (plain : List ℕ)
+            → OpensTo (profile_of self.now) self.now.bytes usage text.now plain
+            → MatchResult result
+            (λ answer. answer.items ≡ plain) (λ fault. fault ≡ OpenFault.OutOfMemory) }
+        // Short or Integrity is answered exactly where nothing opens.
+        ensures refused { (IsErrOf result OpenFault.Short ⊎ IsErrOf result OpenFault.Integrity)
+            ↔ OpensToNothing (profile_of self.now) self.now.bytes usage text.now }
         ensures short { IsErrOf result OpenFault.Short ↔ IsShort (profile_of self.now) text.now }
         ensures integrity { IsErrOf result OpenFault.Integrity
             ↔ ((16 + (profile_of self.now).tag_len ≤ length text.now)

@@ -10,7 +10,8 @@
 //!
 //! The number before the confounder or the text is the key usage (RFC 4120, section 7.5.1). Confounders are handed in: 16
 //! random bytes, new for each call. The contracts speak of the definitions of `specs/Sealed` and
-//! `specs/Opens`. No key is printed by `Debug`.
+//! `specs/Opens`: a text opens to a plain text where some confounder seals that to it. `laws` has what
+//! holds for all keys and texts. No key is printed by `Debug`.
 #![tactic(auto)]
 
 mod enctype;

@@ -54,6 +54,13 @@ impl Enctype for Sha256Aes128 {
     ghost key_len_is = { refl };
 
     ghost tag_len_is = { refl };
+
+    ghost sealed_opens = { λ key usage confounder plain block bytes. record {
+      confounder = confounder;
+      is_block = block;
+      plain_bytes = bytes;
+      sealed_is = refl;
+    } };
 }
 
 /// aes256-cts-hmac-sha384-192: AES with keys of 256 bits, and tags of 192 bits by HMAC with SHA-384.
@@ -98,6 +105,13 @@ impl Enctype for Sha384Aes256 {
     ghost key_len_is = { refl };
 
     ghost tag_len_is = { refl };
+
+    ghost sealed_opens = { λ key usage confounder plain block bytes. record {
+      confounder = confounder;
+      is_block = block;
+      plain_bytes = bytes;
+      sealed_is = refl;
+    } };
 }
 
 fn array_of<const N: usize>(bytes: &[u8]) -> [u8; N]

@@ -1,4 +1,7 @@
+mod rfc_8009;
+
 use crate::{Enctype, Key, KeyFault, OpenFault, Sha256Aes128, Sha384Aes256};
+use rfc_8009::SEALED;
 use sha2::{Digest, Sha256};
 use std::alloc::Global;
 use std::process::Abort;
@@ -8,6 +11,10 @@ use std::test::Fail;
 const BASE_19: &str = "3705d96080c17728a0e800eab6e0d23c";
 
 const BASE_20: &str = "6d404d37faf79f9df0d33568d320669800eb4836472ea8a026d16b7182460c52";
+
+fn base_of(etype: i32) -> &'static str {
+    if etype == 19 { BASE_19 } else { BASE_20 }
+}
 
 fn key_of<R: Alloc>(rt: &R, etype: i32, text: &str) -> Result<Key, Fail> {
     let bytes = hex::decode(rt.alloc(), text)?;
@@ -29,68 +36,10 @@ fn confounder_of<R: Alloc + Abort>(rt: &R, text: &str) -> Result<[u8; 16], Fail>
     Ok(confounder)
 }
 
-// RFC 8009, appendix A: plain texts of 0, 6, 16 and 21 bytes under key usage 2.
 #[test]
 fn sealed_texts_of_rfc_8009(rt: HostRuntime) -> Result<(), Fail> {
-    for (etype, base, size, confounder, wanted) in [
-        (
-            19,
-            BASE_19,
-            0,
-            "7e5895eaf2672435bad817f545a37148",
-            "ef85fb890bb8472f4dab20394dca781dad877eda39d50c870c0d5a0a8e48c718",
-        ),
-        (
-            19,
-            BASE_19,
-            6,
-            "7bca285e2fd4130fb55b1a5c83bc5b24",
-            "84d7f30754ed987bab0bf3506beb09cfb55402cef7e6877ce99e247e52d16ed4421dfdf8976c",
-        ),
-        (
-            19,
-            BASE_19,
-            16,
-            "56ab21713ff62c0a1457200f6fa9948f",
-            "3517d640f50ddc8ad3628722b3569d2ae07493fa8263254080ea65c1008e8fc295fb4852e7d83e1e7c48c37eebe6b0d3",
-        ),
-        (
-            19,
-            BASE_19,
-            21,
-            "a7a4e29a4728ce10664fb64e49ad3fac",
-            "720f73b18d9859cd6ccb4346115cd336c70f58edc0c4437c5573544c31c813bce1e6d072c186b39a413c2f92ca9b8334a287ffcbfc",
-        ),
-        (
-            20,
-            BASE_20,
-            0,
-            "f764e9fa15c276478b2c7d0c4e5f58e4",
-            "41f53fa5bfe7026d91faf9be959195a058707273a96a40f0a01960621ac612748b9bbfbe7eb4ce3c",
-        ),
-        (
-            20,
-            BASE_20,
-            6,
-            "b80d3251c1f6471494256ffe712d0b9a",
-            "4ed7b37c2bcac8f74f23c1cf07e62bc7b75fb3f637b9f559c7f664f69eab7b6092237526ea0d1f61cb20d69d10f2",
-        ),
-        (
-            20,
-            BASE_20,
-            16,
-            "53bf8a0d105265d4e276428624ce5e63",
-            "bc47ffec7998eb91e8115cf8d19dac4bbbe2e163e87dd37f49beca92027764f68cf51f14d798c2273f35df574d1f932e40c4ff255b36a266",
-        ),
-        (
-            20,
-            BASE_20,
-            21,
-            "763e65367e864f02f55153c7e3b58af1",
-            "40013e2df58e8751957d2878bcd2d6fe101ccfd556cb1eae79db3c3ee86429f2b2a602ac86fef6ecb647d6295fae077a1feb517508d2c16b4192e01f62",
-        ),
-    ] {
-        let key = key_of(&rt, etype, base)?;
+    for (etype, size, confounder, wanted) in SEALED {
+        let key = key_of(&rt, etype, base_of(etype))?;
         let plain = text_of(rt.alloc(), 1, size)?;
         let sealed = key.seal(rt.alloc(), 2, &confounder_of(&rt, confounder)?, &plain)?;
         let found = hex::encode(rt.alloc(), sealed.as_slice())?;
@@ -154,15 +103,29 @@ fn each_length_to_64(rt: HostRuntime) -> Result<(), Fail> {
             let plain = text_of(rt.alloc(), 7, size)?;
             let sealed = key.seal(rt.alloc(), 11, &confounder, &plain)?;
             hasher.update(sealed.as_slice());
-            let opened = key.open(rt.alloc(), 11, &sealed)?;
+        }
+        let found = hex::encode(rt.alloc(), hasher.finalize())?;
+        assert_eq!(rt; found.as_str(), wanted, "type {etype}");
+    }
+    Ok(())
+}
+
+// What was sealed opens to its plain text.
+#[test]
+fn each_length_to_64_opens_again(rt: HostRuntime) -> Result<(), Fail> {
+    let confounder = confounder_of(&rt, "7e5895eaf2672435bad817f545a37148")?;
+    for (etype, base) in [(19, BASE_19), (20, BASE_20)] {
+        let key = key_of(&rt, etype, base)?;
+        for size in 0..65 {
+            let plain = text_of(rt.alloc(), 5, size)?;
+            let sealed = key.seal(rt.alloc(), 2, &confounder, &plain)?;
+            let opened = key.open(rt.alloc(), 2, &sealed)?;
             assert_eq!(rt;
                 opened.as_slice(),
                 plain.as_slice(),
                 "type {etype}, {size} bytes"
             );
         }
-        let found = hex::encode(rt.alloc(), hasher.finalize())?;
-        assert_eq!(rt; found.as_str(), wanted, "type {etype}");
     }
     Ok(())
 }
@@ -227,22 +190,24 @@ fn each_byte_changed(rt: HostRuntime) -> Result<(), Fail> {
 }
 
 #[test]
-fn keys_of_both_types(rt: HostRuntime) -> Result<(), Fail> {
-    let bytes = text_of(rt.alloc(), 1, 32)?;
-    let sealed = key_of(
+fn sealed_empty_text_of_type_20(rt: HostRuntime) -> Result<(), Fail> {
+    let key = key_of(
         &rt,
         20,
         "000102030405060708090a0b0c0d0e0f101112131415161718191a1b1c1d1e1f",
-    )?
-    .seal(rt.alloc(), 2, &[0; 16], b"")?;
+    )?;
+    let sealed = key.seal(rt.alloc(), 2, &[0; 16], b"")?;
     let found = hex::encode(rt.alloc(), sealed.as_slice())?;
     assert_eq!(rt;
         found.as_str(),
         "594ee6636a56bb61bfe22fe7834b5faa3110fe154ccf05bf1a5796c5c29eaa635dafd2af904126b4"
     );
-    let key = Key::new(20, &bytes)?;
-    assert_eq!(rt; key.etype(), 20);
-    assert_eq!(rt; key.bytes(), bytes.as_slice());
+    Ok(())
+}
+
+#[test]
+fn keys_that_are_refused(rt: HostRuntime) -> Result<(), Fail> {
+    let bytes = text_of(rt.alloc(), 1, 32)?;
     for (etype, size, wanted) in [
         (18, 32, KeyFault::UnknownEtype),
         (-19, 16, KeyFault::UnknownEtype),
@@ -258,6 +223,15 @@ fn keys_of_both_types(rt: HostRuntime) -> Result<(), Fail> {
             "type {etype}, {size} bytes"
         );
     }
+    Ok(())
+}
+
+#[test]
+fn keys_of_both_types(rt: HostRuntime) -> Result<(), Fail> {
+    let bytes = text_of(rt.alloc(), 1, 32)?;
+    let key = Key::new(20, &bytes)?;
+    assert_eq!(rt; key.etype(), 20);
+    assert_eq!(rt; key.bytes(), bytes.as_slice());
     assert_eq!(rt;
         (
             Sha256Aes128::ETYPE,

@@ -1,4 +1,4 @@
-use Rattle.std.proofs.Common.{◌≡◌, ◌+◌, ◌*◌, ◌++◌, ◌<◌, ◌≤◌, length, suc, ℕ, List, drop, refl, sym, ap, ap₂, ◌∙◌, add-one, arith}
+use Rattle.std.proofs.Common.{◌≡◌, ◌+◌, ◌*◌, ◌≤◌, length, suc, refl, ap, ap₂, ◌∙◌, add-one, arith}
 use Rattle.krb_aes.specs.Cipher.{inv_cipher}
 use Rattle.krb_cts.specs.Stealing.{joined, xor}
 use Rattle.krb_cts.specs.Inner.Chain.{whole_block, unchained_block}
@@ -7,7 +7,7 @@ use Rattle.krb_cts.proofs.chain.decrypt_blocks.Goals as goal
 
 pub loop-i-init : goal.loop-i-init
 unfolding joined whole_block
-loop-i-init c = record { undone = refl; last = refl }
+loop-i-init c = record { undone = refl; key = λ some. absurd (omega arith); last = refl }
 
 pub loop-i-preserved : goal.loop-i-preserved
 unfolding whole_block
@@ -22,5 +22,6 @@ loop-i-preserved c =
     c.xor.ensures ∙ ap₂ xor (c.decrypt_block.ensures.block ∙ ap (λ b. inv_cipher key b) last) c.loop-i.invariant.last ∙ unchained_block-next key old n in
     rw add-one (record {
       undone = c.put_block.ensures ∙ goes_on (unchained_block key old) n old c.loop-i.text c.xor.result done fits next;
+      key = λ some. c.decrypt_block.ensures.key;
       last = last;
     })

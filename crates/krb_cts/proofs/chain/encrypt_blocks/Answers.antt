@@ -1,4 +1,4 @@
-use Rattle.std.proofs.Common.{◌≡◌, ◌+◌, ◌*◌, ◌++◌, ◌<◌, ◌≤◌, length, suc, ℕ, List, drop, refl, sym, ap, ap₂, ◌∙◌, add-one, arith}
+use Rattle.std.proofs.Common.{◌≡◌, ◌+◌, ◌*◌, ◌≤◌, length, suc, refl, ap, ap₂, ◌∙◌, add-one, arith}
 use Rattle.krb_aes.specs.Cipher.{cipher}
 use Rattle.krb_cts.specs.Stealing.{cipher_block, joined, xor}
 use Rattle.krb_cts.proofs.Blocks.{IsDone, next_block, goes_on, length-cipher_block, cipher_block-next}
@@ -6,7 +6,7 @@ use Rattle.krb_cts.proofs.chain.encrypt_blocks.Goals as goal
 
 pub loop-i-init : goal.loop-i-init
 unfolding joined cipher_block
-loop-i-init c = record { chained = refl; last = refl }
+loop-i-init c = record { chained = refl; key = λ some. absurd (omega arith); last = refl }
 
 pub loop-i-preserved : goal.loop-i-preserved
 loop-i-preserved c =
@@ -20,5 +20,6 @@ loop-i-preserved c =
     ∙ cipher_block-next key old n fits in
     rw add-one (record {
       chained = c.put_block.ensures ∙ goes_on (cipher_block key old) n old c.loop-i.text c.encrypt_block.new.block done fits next;
+      key = λ some. c.encrypt_block.ensures.key;
       last = next;
     })

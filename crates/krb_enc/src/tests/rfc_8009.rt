@@ -1,0 +1,52 @@
+// RFC 8009, appendix A: an encryption type, how many of the bytes 0, 1, 2 .. are sealed under key usage
+// 2, the confounder, and the sealed text.
+pub(crate) const SEALED: [(i32, usize, &str, &str); 8] = [
+    (
+        19,
+        0,
+        "7e5895eaf2672435bad817f545a37148",
+        "ef85fb890bb8472f4dab20394dca781dad877eda39d50c870c0d5a0a8e48c718",
+    ),
+    (
+        19,
+        6,
+        "7bca285e2fd4130fb55b1a5c83bc5b24",
+        "84d7f30754ed987bab0bf3506beb09cfb55402cef7e6877ce99e247e52d16ed4421dfdf8976c",
+    ),
+    (
+        19,
+        16,
+        "56ab21713ff62c0a1457200f6fa9948f",
+        "3517d640f50ddc8ad3628722b3569d2ae07493fa8263254080ea65c1008e8fc295fb4852e7d83e1e7c48c37eebe6b0d3",
+    ),
+    (
+        19,
+        21,
+        "a7a4e29a4728ce10664fb64e49ad3fac",
+        "720f73b18d9859cd6ccb4346115cd336c70f58edc0c4437c5573544c31c813bce1e6d072c186b39a413c2f92ca9b8334a287ffcbfc",
+    ),
+    (
+        20,
+        0,
+        "f764e9fa15c276478b2c7d0c4e5f58e4",
+        "41f53fa5bfe7026d91faf9be959195a058707273a96a40f0a01960621ac612748b9bbfbe7eb4ce3c",
+    ),
+    (
+        20,
+        6,
+        "b80d3251c1f6471494256ffe712d0b9a",
+        "4ed7b37c2bcac8f74f23c1cf07e62bc7b75fb3f637b9f559c7f664f69eab7b6092237526ea0d1f61cb20d69d10f2",
+    ),
+    (
+        20,
+        16,
+        "53bf8a0d105265d4e276428624ce5e63",
+        "bc47ffec7998eb91e8115cf8d19dac4bbbe2e163e87dd37f49beca92027764f68cf51f14d798c2273f35df574d1f932e40c4ff255b36a266",
+    ),
+    (
+        20,
+        21,
+        "763e65367e864f02f55153c7e3b58af1",
+        "40013e2df58e8751957d2878bcd2d6fe101ccfd556cb1eae79db3c3ee86429f2b2a602ac86fef6ecb647d6295fae077a1feb517508d2c16b4192e01f62",
+    ),
+];
