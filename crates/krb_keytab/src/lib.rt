@@ -14,8 +14,10 @@
 //! ```
 #![tactic(auto)]
 
+mod edit;
 mod entry;
 mod fault;
+mod finding;
 mod keytab;
 pub mod laws;
 mod next;
@@ -24,12 +26,15 @@ mod pick;
 mod record;
 mod usable;
 mod view;
+mod writing;
 
 pub use entry::Entry;
 pub use fault::KeytabFault;
 pub use keytab::Keytab;
 pub use pick::Picked;
 
+#[cfg(test)]
+mod edit_tests;
 #[cfg(test)]
 mod real_files;
 #[cfg(test)]
