@@ -24,7 +24,7 @@ use Rattle.krb_keytab.proofs.WrittenLaws.{padded_length}
 
 -- ---- one record among others
 
-flat_split : {A : Type 0} (f : KeytabRecord → List A) (before : List KeytabRecord) (one : KeytabRecord) (after : List KeytabRecord) → flat_map f (before ++ one ∷ after) ≡ flat_map f before ++ (f one ++ flat_map f after)
+pub flat_split : {A : Type 0} (f : KeytabRecord → List A) (before : List KeytabRecord) (one : KeytabRecord) (after : List KeytabRecord) → flat_map f (before ++ one ∷ after) ≡ flat_map f before ++ (f one ++ flat_map f after)
 flat_split f before one after = flat_map-append f before (one ∷ after)
 
 -- the bytes before a record, the record, and the bytes behind it
@@ -37,7 +37,7 @@ parts before one after end =
     ∙ ap (λ (t : List ℕ). version ++ t) (append_assoc front (record_bytes one ++ back) end ∙ ap (λ (t : List ℕ). front ++ t) (append_assoc (record_bytes one) back end))
     ∙ sym (append_assoc version front (record_bytes one ++ (back ++ end)))
 
-at_one : (P : KeytabRecord → Type 0) (before : List KeytabRecord) (one : KeytabRecord) (after : List KeytabRecord) → AllByRecursion P (before ++ one ∷ after) → P one
+pub at_one : (P : KeytabRecord → Type 0) (before : List KeytabRecord) (one : KeytabRecord) (after : List KeytabRecord) → AllByRecursion P (before ++ one ∷ after) → P one
 at_one P [] one after h = h.0
 at_one P (x ∷ before) one after h = at_one P before one after h.1
 
@@ -145,13 +145,13 @@ not_lacking bytes index place fits h l =
 
 -- ---- what removing answers
 
-abbrev done_of : Result (Unit {0}) KeytabFault → Result (Unit {0}) KeytabFault
+abbrev pub done_of : Result (Unit {0}) KeytabFault → Result (Unit {0}) KeytabFault
 done_of answer = answer
 
-refused_is : (f g : KeytabFault) → done_of (Err f) ≡ done_of (Err g) → f ≡ g
+pub refused_is : (f g : KeytabFault) → done_of (Err f) ≡ done_of (Err g) → f ≡ g
 refused_is f g e = cc
 
-not_done : (fault : KeytabFault) → done_of (Ok tt) ≡ done_of (Err fault) → ⊥
+pub not_done : (fault : KeytabFault) → done_of (Ok tt) ≡ done_of (Err fault) → ⊥
 not_done fault e = cc
 
 pub removal_fault : (bytes : List ℕ) (index : ℕ) (fault : KeytabFault) → IsBytes bytes → IsFaultOf bytes fault

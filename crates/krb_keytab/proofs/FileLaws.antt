@@ -59,7 +59,7 @@ read_one x = Ok x
 ok_is : (x y : Record × Place) → read_one x ≡ read_one y → x ≡ y
 ok_is x y e = cc
 
-same_standing : (one other : KeytabRecord) (p q : Place) → standing one p ≡ standing other q → (entries_of one ≡ entries_of other) × (p ≡ q)
+pub same_standing : (one other : KeytabRecord) (p q : Place) → standing one p ≡ standing other q → (entries_of one ≡ entries_of other) × (p ≡ q)
 same_standing (hole x) (hole y) p q e = (refl, ap (λ (k : Record × Place). k.1) (ok_is (Hole, p) (Hole, q) e))
 same_standing (hole x) (entry f t r) p q e = absurd (hole_is_no_entry f (ap (λ (k : Record × Place). k.0) (ok_is (Hole, p) (Entry f, q) e)))
   where

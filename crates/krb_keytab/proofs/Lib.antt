@@ -12,3 +12,5 @@ pub mod WrittenLaws
 pub mod MadeLaws
 pub mod ScanLaws
 pub mod EditLaws
+pub mod OneSplit
+pub mod AddLaws
