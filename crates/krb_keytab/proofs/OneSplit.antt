@@ -118,3 +118,9 @@ same_list (one ∷ ones) (other ∷ others) b c p q e f g =
 pub same_records : {bytes : List ℕ} {ones others : List KeytabRecord} {b c : List ℕ} → IsMadeOf bytes ones b → IsMadeOf bytes others c → ones ≡ others
 same_records {bytes} {ones} {others} {b} {c} m n =
     same_list ones others b c (recursion_from_All FitsRecord ones m.fit) (recursion_from_All FitsRecord others n.fit) (append_cancel_left version _ _ (sym m.bytes_are ∙ n.bytes_are)) m.is_end n.is_end
+
+pub same_division : {bytes : List ℕ} {ones others : List KeytabRecord} {b c : List ℕ} → IsMadeOf bytes ones b → IsMadeOf bytes others c → (ones ≡ others) × (b ≡ c)
+same_division {bytes} {ones} {others} {b} {c} m n =
+    let same = same_records m n in
+    let all : flat_map record_bytes ones ++ b ≡ flat_map record_bytes ones ++ c = append_cancel_left version _ _ (sym m.bytes_are ∙ n.bytes_are ∙ ap (λ (t : List KeytabRecord). version ++ (flat_map record_bytes t ++ c)) (sym same)) in
+    (same, append_cancel_left (flat_map record_bytes ones) b c all)

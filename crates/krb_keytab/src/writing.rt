@@ -16,32 +16,8 @@ use byteorder::{BigEndian, ByteOrder};
 use krb_name::Bytes;
 use std::alloc::AllocError;
 
-/// Makes the bytes a record of `entry`: its size, the entry, and zeros to the end.
-pub(crate) fn fill_record(out: &mut [u8], entry: &Entry)
-    requires lengths { LengthsFit entry.now.principal entry.now.key }
-    requires room { record_length entry.now ≤ length out.old }
-    requires most { length out.old < 4 + 2 ^ 31 }
-    ensures filled { out.new ≡ record_bytes (padded_record entry.now (length out.old - record_length entry.now)) }
-    ensures fits { FitsEntry entry.now }
-{
-    let size = out.len() - 4;
-    let at = put_i32(out, 0, size as i32);
-    let at = put_entry(out, at, entry);
-    out[at..].fill(0);
-}
-
-/// Makes the bytes of a record a hole of zeros.
-pub(crate) fn clear_record(out: &mut [u8])
-    requires least { 4 < length out.old }
-    requires most { length out.old < 4 + 2 ^ 31 }
-    ensures { out.new ≡ record_bytes (zero_hole (length out.old - 4)) }
-{
-    let size = out.len() - 4;
-    let at = put_i32(out, 0, -(size as i32));
-    out[at..].fill(0);
-}
-
-/// Makes the bytes between two offsets a record of `entry`, as `fill_record` does.
+/// Makes the bytes between two offsets a record of `entry`: its size, the entry, and zeros to the
+/// end.
 pub(crate) fn fill_in(file: &mut Vec<u8>, from: usize, to: usize, entry: &Entry)
     requires lengths { LengthsFit entry.now.principal entry.now.key }
     requires room { from + record_length entry.now ≤ to }
@@ -54,7 +30,7 @@ pub(crate) fn fill_in(file: &mut Vec<u8>, from: usize, to: usize, entry: &Entry)
     fill_record(&mut file[from..to], entry);
 }
 
-/// Makes the record between two offsets a hole, as `clear_record` does.
+/// Makes the bytes between two offsets a hole: its size, and zeros.
 pub(crate) fn clear_in(file: &mut Vec<u8>, from: usize, to: usize)
     requires least { from + 4 < to }
     requires within { to ≤ length file.old.items }
@@ -64,7 +40,8 @@ pub(crate) fn clear_in(file: &mut Vec<u8>, from: usize, to: usize)
     clear_record(&mut file[from..to]);
 }
 
-/// Cuts `file` off at an offset, and puts the record of `entry` there.
+/// Cuts `file` off at an offset, and puts the record of `entry` there. Where there is no room in
+/// memory, `file` stays as it was.
 pub(crate) fn put_record(file: &mut Vec<u8>, at: usize, entry: &Entry) -> Result<(), AllocError>
     requires at { at ≤ length file.old.items }
     requires most { at + record_length entry.now < 2 ^ 31 }
@@ -75,6 +52,31 @@ pub(crate) fn put_record(file: &mut Vec<u8>, at: usize, entry: &Entry) -> Result
     file.resize(at + entry.record_length(), 0)?;
     fill_record(&mut file[at..], entry);
     Ok(())
+}
+
+// Makes the bytes a record of `entry`: its size, the entry, and zeros to the end.
+fn fill_record(out: &mut [u8], entry: &Entry)
+    requires lengths { LengthsFit entry.now.principal entry.now.key }
+    requires room { record_length entry.now ≤ length out.old }
+    requires most { length out.old < 4 + 2 ^ 31 }
+    ensures filled { out.new ≡ record_bytes (padded_record entry.now (length out.old - record_length entry.now)) }
+    ensures fits { FitsEntry entry.now }
+{
+    let size = out.len() - 4;
+    let at = put_i32(out, 0, size as i32);
+    let behind = put_entry(out, at, entry);
+    out[behind..].fill(0);
+}
+
+// Makes the bytes a hole: its size, and zeros.
+fn clear_record(out: &mut [u8])
+    requires least { 4 < length out.old }
+    requires most { length out.old < 4 + 2 ^ 31 }
+    ensures { out.new ≡ record_bytes (zero_hole (length out.old - 4)) }
+{
+    let size = out.len() - 4;
+    let at = put_i32(out, 0, -(size as i32));
+    out[at..].fill(0);
 }
 
 fn put_entry(out: &mut [u8], at: usize, entry: &Entry) -> usize
