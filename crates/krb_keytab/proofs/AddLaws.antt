@@ -1,5 +1,5 @@
 -- A file to which an entry was added.
-use Rattle.std.proofs.Common.{◌≡◌, ◌⊎◌, ℕ, ◌+◌, ◌-◌, ◌<◌, ◌≤◌, ◌^◌, List, [], ◌∷◌, ◌++◌, length, take, Result, Ok, Err, refl, sym, ap, subst, ◌∙◌, append_assoc, append-nil, arith, inl, inr}
+use Rattle.std.proofs.Common.{◌≡◌, ℕ, ◌+◌, ◌-◌, ◌<◌, ◌≤◌, ◌^◌, List, [], ◌∷◌, ◌++◌, length, take, refl, sym, ap, subst, ◌∙◌, append_assoc, append-nil, arith, inl}
 use Rattle.std.specs.List.{flat_map}
 use Rattle.std.specs.Prelude.{All}
 use Rattle.std.proofs.lemmas.List.{length-append, take_at}
@@ -8,11 +8,10 @@ use Rattle.krb_name.specs.Field.{IsBytes}
 use Rattle.krb_keytab.specs.Entry.{KeytabEntry, FitsEntry}
 use Rattle.krb_keytab.specs.Format.{version, file_limit, KeytabRecord, hole, record_bytes, FitsRecord, entries_of, IsKeytab, IsFaultOf}
 use Rattle.krb_keytab.specs.Written.{padded_record, written_record, record_length}
-use Rattle.krb_keytab.specs.Edit.{IsMadeOf, LacksRoom, FillsHole, Appends, GainsEntry, WouldGrow, WouldPass, IsRefusal}
+use Rattle.krb_keytab.specs.Edit.{LacksRoom, FillsHole, Appends, GainsEntry, WouldPass}
 use Rattle.krb_keytab.specs.Inner.Finding.{HasRoom, HasNone}
 use Rattle.krb_keytab.specs.Inner.Putting.{Puts}
 use Rattle.krb_keytab.specs.declared.fault.KeytabFault.{KeytabFault}
-use Rattle.krb_keytab.specs.declared.fault.KeytabFault.TheVariants.{Version, Truncated, BadEntry, TooLong, NoSuchEntry, Read, OutOfMemory}
 use Rattle.krb_keytab.specs.declared.finding.Extent.{Extent}
 use Rattle.krb_keytab.proofs.MadeLaws.{made_keytab, padded_fits, written_fits}
 use Rattle.krb_keytab.proofs.ScanLaws.{flat_push}
@@ -80,22 +79,6 @@ append_gains {old} {new} {e} h = record {
 }
 
 -- ---- why an entry isn't added
-
-pub none_grows : {old : List ℕ} (e : KeytabEntry) (size at : ℕ) (Bound : ℕ → Type 0) → size ≡ record_length e → HasNone old size at → Bound (at + size) → WouldGrow old e Bound
-none_grows {old} e size at Bound is h bound = record {
-  records = h.records;
-  old_is = record { end = h.end; is = h.is; no_room = subst (λ (n : ℕ). All (LacksRoom n) h.records) is h.no_room };
-  bound = subst Bound (omega (arith, h.at_is, is)) bound;
-}
-
-pub fault_refuses : (old : List ℕ) (e : KeytabEntry) (fault : KeytabFault) → IsFaultOf old fault → IsRefusal old e fault
-fault_refuses old e Version f = f
-fault_refuses old e (Truncated at) f = f
-fault_refuses old e (BadEntry at) f = f
-fault_refuses old e TooLong f = inl f
-fault_refuses old e NoSuchEntry f = f
-fault_refuses old e Read f = f
-fault_refuses old e OutOfMemory f = absurd f
 
 -- the file would pass the limit: so it is a keytab
 pub passing_no_fault : {old : List ℕ} {e : KeytabEntry} (fault : KeytabFault) → IsBytes old → WouldPass old e → IsFaultOf old fault → ⊥

@@ -1,16 +1,14 @@
 -- What a file is once one of its records was replaced, or a record was put in place of its end.
-use Rattle.std.proofs.Common.{◌≡◌, ◌⊎◌, ℕ, ◌+◌, ◌-◌, ◌<◌, ◌≤◌, ◌^◌, List, [], ◌∷◌, ◌++◌, length, replicate, take, drop, Result, Ok, Err, refl, sym, ap, subst, ◌∙◌, append_assoc, append-nil, arith, inl, inr}
+use Rattle.std.proofs.Common.{◌≡◌, ℕ, ◌+◌, ◌-◌, ◌≤◌, List, [], ◌∷◌, ◌++◌, length, take, drop, Result, Ok, Err, sym, ap, subst, ◌∙◌, append_assoc, arith}
 use Rattle.std.specs.List.{flat_map, AllByRecursion}
-use Rattle.std.specs.Prelude.{All}
 use Rattle.std.proofs.lemmas.List.{length-append, length-replicate, take_at, drop_at}
 use Rattle.std.proofs.lemmas.List.Concat.{flat_map-append}
-use Rattle.std.proofs.lemmas.List.Elements.{All-from_recursion, recursion_from_All, All-push}
+use Rattle.std.proofs.lemmas.List.Elements.{All-from_recursion, recursion_from_All}
 use Rattle.krb_name.specs.Field.{IsBytes}
-use Rattle.krb_keytab.specs.Entry.{KeytabEntry, FitsEntry}
-use Rattle.krb_keytab.specs.Format.{version, file_limit, KeytabRecord, hole, entry, entry_bytes, record_bytes, FitsRecord, entries_of, IsKeytab, IsFaultOf}
-use Rattle.krb_keytab.specs.Written.{padded_record, written_record, record_length}
-use Rattle.krb_keytab.specs.Edit.{IsMadeOf, zero_hole, MakesHole, LosesEntry, LacksEntry, LacksRoom, FillsHole, Appends, GainsEntry}
-use Rattle.krb_keytab.specs.Inner.Finding.{LiesAt, HoldsIndex, HasRoom, HasNone}
+use Rattle.krb_keytab.specs.Entry.{KeytabEntry}
+use Rattle.krb_keytab.specs.Format.{version, KeytabRecord, entry, entry_bytes, record_bytes, FitsRecord, entries_of, IsKeytab, IsFaultOf}
+use Rattle.krb_keytab.specs.Edit.{IsMadeOf, zero_hole, MakesHole, LosesEntry, LacksEntry}
+use Rattle.krb_keytab.specs.Inner.Finding.{LiesAt, HoldsIndex}
 use Rattle.krb_keytab.specs.Inner.Putting.{Puts}
 use Rattle.krb_keytab.specs.declared.fault.KeytabFault.{KeytabFault}
 use Rattle.krb_keytab.specs.declared.fault.KeytabFault.TheVariants.{NoSuchEntry}
@@ -18,9 +16,7 @@ use Rattle.krb_keytab.specs.declared.finding.Extent.{Extent}
 use Rattle.krb_keytab.proofs.RecordLaws.{entry_size}
 use Rattle.krb_keytab.proofs.FileLaws.{one_answer}
 use Rattle.krb_keytab.proofs.PutLaws.{Puts-length}
-use Rattle.krb_keytab.proofs.MadeLaws.{made_keytab, padded_fits, written_fits}
-use Rattle.krb_keytab.proofs.ScanLaws.{flat_push}
-use Rattle.krb_keytab.proofs.WrittenLaws.{padded_length}
+use Rattle.krb_keytab.proofs.MadeLaws.{made_keytab}
 
 -- ---- one record among others
 
@@ -67,10 +63,10 @@ replaced {bytes} {new} before one other after {end} {place} m lies fits size put
       limit = omega (arith, m.limit, Puts-length puts);
       fit = All-from_recursion FitsRecord (before ++ other ∷ after) (with_other FitsRecord before one other after (recursion_from_All FitsRecord (before ++ one ∷ after) m.fit) fits);
       bytes_are =
-        puts.new_is
-        ∙ ap (λ (t : List ℕ). t ++ (record_bytes other ++ drop (place.from + length (record_bytes other)) bytes)) first
-        ∙ ap (λ (t : List ℕ). front ++ (record_bytes other ++ t)) last
-        ∙ sym (parts before other after end);
+          puts.new_is
+          ∙ ap (λ (t : List ℕ). t ++ (record_bytes other ++ drop (place.from + length (record_bytes other)) bytes)) first
+          ∙ ap (λ (t : List ℕ). front ++ (record_bytes other ++ t)) last
+          ∙ sym (parts before other after end);
       is_end = m.is_end;
     }
 

@@ -1,5 +1,5 @@
 -- A keytab as its records and its end.
-use Rattle.std.proofs.Common.{◌≡◌, ℕ, zero, suc, pos, ◌+◌, ◌-◌, ◌%◌, ◌^◌, ◌<◌, ◌≤◌, Bool, true, false, cond, not, eqb, leb, ◌&&◌, List, [], ◌∷◌, ◌++◌, length, map, replicate, refl, sym, ap, subst, ◌∙◌, append_assoc, append-nil, arith, inl, inr}
+use Rattle.std.proofs.Common.{◌≡◌, ℕ, zero, suc, ◌+◌, ◌%◌, ◌^◌, ◌<◌, ◌≤◌, Bool, true, cond, not, eqb, leb, ◌&&◌, List, [], ◌∷◌, ◌++◌, length, map, replicate, refl, sym, ap, subst, ◌∙◌, append-nil, arith, inl}
 use Rattle.std.specs.Int.{w32, from_be_bytes}
 use Rattle.std.specs.List.{flat_map, AllByRecursion}
 use Rattle.std.specs.Prelude.{All}
@@ -7,11 +7,10 @@ use Rattle.std.proofs.Math.Nat.{mod-lt}
 use Rattle.std.proofs.lemmas.Bool.{ne_eqb, le-leb}
 use Rattle.std.proofs.lemmas.Nat.{from_be_bytes-to_be_bytes_4}
 use Rattle.std.proofs.lemmas.List.{length-append}
-use Rattle.std.proofs.lemmas.List.Concat.{flat_map-cons}
 use Rattle.std.proofs.lemmas.List.Elements.{All-from_recursion, recursion_from_All}
 use Rattle.krb_name.specs.Cursor.{number_bytes}
 use Rattle.krb_keytab.specs.Entry.{KeytabEntry, FitsEntry}
-use Rattle.krb_keytab.specs.Format.{version, file_limit, full_kvno, IsEntry, KeytabRecord, entry, entry_bytes, record_bytes, FitsRecord, entries_of, IsKeytab}
+use Rattle.krb_keytab.specs.Format.{version, file_limit, full_kvno, KeytabRecord, record_bytes, FitsRecord, entries_of, IsKeytab}
 use Rattle.krb_keytab.specs.Written.{padded_record, written_record, record_length, written}
 use Rattle.krb_keytab.specs.Edit.{IsMadeOf}
 

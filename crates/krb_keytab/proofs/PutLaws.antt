@@ -1,5 +1,5 @@
 -- Texts that are put into bytes one behind the other.
-use Rattle.std.proofs.Common.{◌≡◌, ℕ, ◌+◌, ◌-◌, ◌≤◌, ◌<◌, List, [], ◌∷◌, ◌++◌, length, get_or, take, drop, refl, sym, ap, subst, ◌∙◌, append_assoc, append-nil, add-zero, arith}
+use Rattle.std.proofs.Common.{◌≡◌, ℕ, ◌+◌, ◌-◌, ◌≤◌, ◌<◌, List, [], ◌∷◌, ◌++◌, length, get_or, take, drop, sym, ap, subst, ◌∙◌, append_assoc, append-nil, arith}
 use borrow.Rule.Slice.PartMut.{put_mid, post_of}
 use Rattle.std.specs.List.{flat_map}
 use Rattle.std.proofs.lemmas.List.{length-append, length-take-le, length-drop, take_rest, take_more, take-append-drop, drop_all, drop-drop, take_at, drop_at, take_all}
@@ -15,21 +15,18 @@ puts_front old at text part room e =
     record {
       room = room;
       new_is =
-        ap (λ (t : List ℕ). take at old ++ (part ++ t)) none
-        ∙ ap (λ (t : List ℕ). take at old ++ t) (append-nil part ∙ e ∙ ap (λ (t : List ℕ). text ++ t) behind);
+          ap (λ (t : List ℕ). take at old ++ (part ++ t)) none
+          ∙ ap (λ (t : List ℕ). take at old ++ t) (append-nil part ∙ e ∙ ap (λ (t : List ℕ). text ++ t) behind);
     }
 
 pub puts_mid : (old : List ℕ) (at k : ℕ) (text part : List ℕ) → at + length text ≤ length old → k ≡ length text → part ≡ text → Puts old at text (put_mid at k old part)
 puts_mid old at k text part room size e = record {
   room = room;
   new_is =
-    ap (λ (n : ℕ). take at old ++ (part ++ drop n (drop at old))) size
-    ∙ ap (λ (t : List ℕ). take at old ++ (t ++ drop (length text) (drop at old))) e
-    ∙ ap (λ (t : List ℕ). take at old ++ (text ++ t)) (drop-drop (length text) at old);
+      ap (λ (n : ℕ). take at old ++ (part ++ drop n (drop at old))) size
+      ∙ ap (λ (t : List ℕ). take at old ++ (t ++ drop (length text) (drop at old))) e
+      ∙ ap (λ (t : List ℕ). take at old ++ (text ++ t)) (drop-drop (length text) at old);
 }
-
-pub puts_nothing : (old : List ℕ) (at : ℕ) → at ≤ length old → Puts old at [] old
-puts_nothing old at room = record { room = omega (arith, room); new_is = sym (ap (λ (n : ℕ). take at old ++ drop n old) (add-zero at) ∙ take-append-drop at old) }
 
 -- ---- two texts
 
@@ -59,11 +56,11 @@ then_at {old} {at} {x} {mid} {y} {new} p q =
     record {
       room = omega (arith, place, Puts-length p);
       new_is =
-        q.new_is
-        ∙ ap (λ (t : List ℕ). t ++ (y ++ drop (at + length x + length y) mid)) (Puts-front p)
-        ∙ ap (λ (t : List ℕ). (take at old ++ x) ++ (y ++ t)) behind
-        ∙ append_assoc (take at old) x (y ++ drop (at + length (x ++ y)) old)
-        ∙ ap (λ (t : List ℕ). take at old ++ t) (sym (append_assoc x y (drop (at + length (x ++ y)) old)));
+          q.new_is
+          ∙ ap (λ (t : List ℕ). t ++ (y ++ drop (at + length x + length y) mid)) (Puts-front p)
+          ∙ ap (λ (t : List ℕ). (take at old ++ x) ++ (y ++ t)) behind
+          ∙ append_assoc (take at old) x (y ++ drop (at + length (x ++ y)) old)
+          ∙ ap (λ (t : List ℕ). take at old ++ t) (sym (append_assoc x y (drop (at + length (x ++ y)) old)));
     }
 
 pub Puts-then : {old : List ℕ} {at : ℕ} {x mid : List ℕ} {behind : ℕ} {y new : List ℕ} → Puts old at x mid → behind ≡ at + length x → Puts mid behind y new → Puts old at (x ++ y) new
@@ -83,9 +80,6 @@ pub flat_part : {X : Type 0} (f : X → List ℕ) (xs : List X) (n : ℕ) → le
 flat_part f xs n =
     let whole : flat_map f xs ≡ flat_map f (take n xs) ++ flat_map f (drop n xs) = ap (flat_map f) (sym (take-append-drop n xs)) ∙ flat_map-append f (take n xs) (drop n xs) in
     omega (arith, ap length whole, length-append (flat_map f (take n xs)) (flat_map f (drop n xs)))
-
-pub flat_whole : {X : Type 0} (f : X → List ℕ) (xs : List X) (n : ℕ) → length xs ≤ n → flat_map f (take n xs) ≡ flat_map f xs
-flat_whole f xs n e = ap (flat_map f) (take_all n xs e)
 
 -- ---- a part of a Vec
 

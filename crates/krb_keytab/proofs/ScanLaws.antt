@@ -1,5 +1,5 @@
 -- Reading the records of a file to their end, and keeping where one of them lies.
-use Rattle.std.proofs.Common.{◌≡◌, ◌⊎◌, ℕ, ◌+◌, ◌-◌, ◌<◌, ◌≤◌, List, [], ◌∷◌, ◌++◌, length, Option, Some, None, Result, Ok, Err, refl, sym, ap, subst, ◌∙◌, append_assoc, append-nil, arith}
+use Rattle.std.proofs.Common.{◌≡◌, ℕ, ◌+◌, ◌<◌, ◌≤◌, List, [], ◌∷◌, ◌++◌, length, Option, Some, None, Ok, Err, refl, sym, ap, subst, ◌∙◌, append_assoc, append-nil, arith}
 use Rattle.std.specs.List.{flat_map}
 use Rattle.std.specs.Prelude.{All}
 use Rattle.std.proofs.lemmas.List.{length-append}
@@ -9,15 +9,11 @@ use Rattle.krb_name.specs.Cursor.{Place}
 use Rattle.krb_name.specs.Field.{IsBytes, Takes}
 use Rattle.krb_keytab.specs.Entry.{KeytabEntry}
 use Rattle.krb_keytab.specs.Format.{version, file_limit, KeytabRecord, hole, entry, record_bytes, FitsRecord, entries_of, IsFaultOf}
-use Rattle.krb_keytab.specs.Edit.{IsMadeOf, LacksEntry, LacksRoom}
-use Rattle.krb_keytab.specs.Inner.Finding.{LiesAt, HoldsIndex, IsFoundEntry, HasRoom, HasNone, IsFoundRoom}
+use Rattle.krb_keytab.specs.Edit.{IsMadeOf, LacksRoom}
+use Rattle.krb_keytab.specs.Inner.Finding.{LiesAt, IsFoundEntry, HasRoom}
 use Rattle.krb_keytab.specs.Inner.Reading.{record_at}
-use Rattle.krb_keytab.specs.Inner.Standing.{IsBetween}
 use Rattle.krb_keytab.specs.declared.fault.KeytabFault.{KeytabFault}
 use Rattle.krb_keytab.specs.declared.finding.Extent.{Extent}
-use Rattle.krb_keytab.specs.declared.finding.Room.{Room}
-use Rattle.krb_keytab.specs.declared.finding.Room.TheVariants as room
-use Rattle.krb_keytab.specs.declared.record.Record.{Record}
 use Rattle.krb_keytab.specs.declared.record.Record.TheVariants.{End, Hole, Entry}
 use Rattle.krb_keytab.proofs.FileLaws.{start_fits, read_stands, record_first, fault_found}
 use Rattle.krb_keytab.proofs.MadeLaws.{made_keytab}

@@ -1,5 +1,5 @@
 -- What is written of an entry.
-use Rattle.std.proofs.Common.{◌≡◌, ℕ, pos, ◌+◌, ◌-◌, ◌%◌, ◌^◌, ◌<◌, ◌≤◌, List, [], ◌∷◌, ◌++◌, length, replicate, refl, sym, ap, subst, ◌∙◌, append_assoc, arith}
+use Rattle.std.proofs.Common.{◌≡◌, ℕ, pos, ◌+◌, ◌%◌, ◌^◌, List, ◌++◌, length, replicate, refl, sym, ap, ◌∙◌, append_assoc, arith}
 use Rattle.std.specs.Int.{w8, w16, w32}
 use Rattle.std.specs.List.{flat_map}
 use Rattle.std.proofs.lemmas.List.{length-append, length-replicate}
@@ -49,11 +49,11 @@ body_more e short_kvno rest others =
     let name = e.principal in
     let behind : IsJoined (rest ++ others) rest others = record { is = refl } in
     (more (number_bytes w16 (length name.components)) (
-      more (data_bytes w16 name.realm) (
-        more (flat_map (data_bytes w16) name.components) (
-          more (signed_bytes w32 name.name_type) (more (number_bytes w32 e.timestamp) (more (number_bytes w8 short_kvno) (more (signed_bytes w16 e.etype) (more (data_bytes w16 e.key) behind))))
-        )
-      )
+    more (data_bytes w16 name.realm) (
+    more (flat_map (data_bytes w16) name.components) (
+    more (signed_bytes w32 name.name_type) (more (number_bytes w32 e.timestamp) (more (number_bytes w8 short_kvno) (more (signed_bytes w16 e.etype) (more (data_bytes w16 e.key) behind))))
+    )
+    )
     )).is
 
 pub filled : {old s1 s2 s3 : List ℕ} {at : ℕ} (e : KeytabEntry) (size zeros : ℕ) → Puts old 0 (signed_bytes w32 (pos size)) s1 → Puts s1 4 (body_bytes e) s2 → at ≡ 4 + length (body_bytes e) → Puts s2 at (replicate zeros 0) s3

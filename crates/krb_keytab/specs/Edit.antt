@@ -1,5 +1,5 @@
 -- What the edits of a keytab in place change. A file is its version, its records and its end.
-use Rattle.std.specs.Prelude.{◌≡◌, ◌≢◌, ◌⊎◌, ℕ, ◌+◌, ◌-◌, ◌<◌, ◌≤◌, List, [], ◌∷◌, ◌++◌, length, replicate, All, ⊤}
+use Rattle.std.specs.Prelude.{◌≡◌, ◌⊎◌, ℕ, ◌+◌, ◌-◌, ◌<◌, ◌≤◌, List, [], ◌∷◌, ◌++◌, length, replicate, All, ⊤}
 use Rattle.std.specs.List.{flat_map}
 use Rattle.krb_keytab.specs.Entry.{KeytabEntry}
 use Rattle.krb_keytab.specs.Format.{version, file_limit, KeytabRecord, hole, entry, entry_bytes, record_bytes, FitsRecord, entries_of, IsEnd, IsKeytab, IsFaultOf}

@@ -1,5 +1,5 @@
 -- What is written of a keytab (MIT krb5, "Keytab file format"): each version number in 8 bits, its lowest, and in 32 bits.
-use Rattle.std.specs.Prelude.{ℕ, ◌+◌, ◌%◌, ◌^◌, List, ◌++◌, length, replicate}
+use Rattle.std.specs.Prelude.{ℕ, ◌%◌, ◌^◌, List, ◌++◌, length, replicate}
 use Rattle.std.specs.Int.{w32}
 use Rattle.std.specs.List.{flat_map}
 use Rattle.krb_name.specs.Cursor.{number_bytes}

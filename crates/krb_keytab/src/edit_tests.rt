@@ -71,7 +71,10 @@ fn an_entry_becomes_a_hole(rt: HostRuntime) -> Result<(), Fail> {
     let alloc = rt.alloc();
     let gone = removed(alloc, &ALICE, 0)?;
     assert_eq!(rt; gone.answer, Ok(()));
-    assert_eq!(rt; gone.file.as_slice(), joined(alloc, &HOLE, 46, &[])?.as_slice());
+    assert_eq!(rt;
+        gone.file.as_slice(),
+        joined(alloc, &HOLE, 46, &[])?.as_slice()
+    );
     Ok(())
 }
 
@@ -93,7 +96,10 @@ fn holes_are_not_counted(rt: HostRuntime) -> Result<(), Fail> {
     let record = ALICE.get(2..).ok_or("behind the version")?;
     let gone = removed(alloc, joined(alloc, &HOLE, 46, record)?.as_slice(), 0)?;
     assert_eq!(rt; gone.answer, Ok(()));
-    assert_eq!(rt; gone.file.as_slice(), joined(alloc, &two, 46, &[])?.as_slice());
+    assert_eq!(rt;
+        gone.file.as_slice(),
+        joined(alloc, &two, 46, &[])?.as_slice()
+    );
     Ok(())
 }
 
@@ -101,7 +107,12 @@ fn holes_are_not_counted(rt: HostRuntime) -> Result<(), Fail> {
 #[test]
 fn a_hole_takes_the_entry_again(rt: HostRuntime) -> Result<(), Fail> {
     let alloc = rt.alloc();
-    let back = added(alloc, joined(alloc, &HOLE, 46, &[])?.as_slice(), b"alice", 256)?;
+    let back = added(
+        alloc,
+        joined(alloc, &HOLE, 46, &[])?.as_slice(),
+        b"alice",
+        256,
+    )?;
     assert_eq!(rt; back.answer, Ok(()));
     assert_eq!(rt; back.file.as_slice(), ALICE.as_slice());
     Ok(())
@@ -111,9 +122,17 @@ fn a_hole_takes_the_entry_again(rt: HostRuntime) -> Result<(), Fail> {
 #[test]
 fn an_end_stays_behind_a_hole_that_fits(rt: HostRuntime) -> Result<(), Fail> {
     let alloc = rt.alloc();
-    let back = added(alloc, joined(alloc, &HOLE, 46, &END)?.as_slice(), b"alice", 256)?;
+    let back = added(
+        alloc,
+        joined(alloc, &HOLE, 46, &END)?.as_slice(),
+        b"alice",
+        256,
+    )?;
     assert_eq!(rt; back.answer, Ok(()));
-    assert_eq!(rt; back.file.as_slice(), joined(alloc, &ALICE, 0, &END)?.as_slice());
+    assert_eq!(rt;
+        back.file.as_slice(),
+        joined(alloc, &ALICE, 0, &END)?.as_slice()
+    );
     Ok(())
 }
 
@@ -125,7 +144,10 @@ fn a_hole_takes_a_shorter_entry(rt: HostRuntime) -> Result<(), Fail> {
     let back = added(alloc, &filled, b"bob", 256)?;
     let bob = renamed(alloc, &[5, 2, 0, 0, 0, 0x2e], 3, b"bob")?;
     assert_eq!(rt; back.answer, Ok(()));
-    assert_eq!(rt; back.file.as_slice(), joined(alloc, &bob, 2, &[])?.as_slice());
+    assert_eq!(rt;
+        back.file.as_slice(),
+        joined(alloc, &bob, 2, &[])?.as_slice()
+    );
     Ok(())
 }
 
@@ -135,7 +157,12 @@ fn a_longer_entry_is_appended(rt: HostRuntime) -> Result<(), Fail> {
     let alloc = rt.alloc();
     let hole = joined(alloc, &HOLE, 46, &[])?;
     let back = added(alloc, &hole, b"alice2", 256)?;
-    let longer = renamed(alloc, joined(alloc, &hole, 3, &[0x2f])?.as_slice(), 6, b"alice2")?;
+    let longer = renamed(
+        alloc,
+        joined(alloc, &hole, 3, &[0x2f])?.as_slice(),
+        6,
+        b"alice2",
+    )?;
     assert_eq!(rt; back.answer, Ok(()));
     assert_eq!(rt; back.file.len(), 103);
     assert_eq!(rt; back.file.as_slice(), longer.as_slice());
@@ -148,10 +175,23 @@ fn the_second_hole_takes_the_entry(rt: HostRuntime) -> Result<(), Fail> {
     let alloc = rt.alloc();
     let short = joined(alloc, &[5, 2, 0xff, 0xff, 0xff, 0xd3], 45, &[])?;
     let holes = joined(alloc, &short, 0, &[0xff, 0xff, 0xff, 0xc4])?;
-    let back = added(alloc, joined(alloc, &holes, 0, &[7; 60])?.as_slice(), b"alice", 256)?;
-    let alice = renamed(alloc, joined(alloc, &short, 3, &[0x3c])?.as_slice(), 5, b"alice")?;
+    let back = added(
+        alloc,
+        joined(alloc, &holes, 0, &[7; 60])?.as_slice(),
+        b"alice",
+        256,
+    )?;
+    let alice = renamed(
+        alloc,
+        joined(alloc, &short, 3, &[0x3c])?.as_slice(),
+        5,
+        b"alice",
+    )?;
     assert_eq!(rt; back.answer, Ok(()));
-    assert_eq!(rt; back.file.as_slice(), joined(alloc, &alice, 14, &[])?.as_slice());
+    assert_eq!(rt;
+        back.file.as_slice(),
+        joined(alloc, &alice, 14, &[])?.as_slice()
+    );
     Ok(())
 }
 
@@ -159,7 +199,12 @@ fn the_second_hole_takes_the_entry(rt: HostRuntime) -> Result<(), Fail> {
 #[test]
 fn an_end_is_cut_off(rt: HostRuntime) -> Result<(), Fail> {
     let alloc = rt.alloc();
-    let back = added(alloc, joined(alloc, &[5, 2], 0, &END)?.as_slice(), b"alice", 256)?;
+    let back = added(
+        alloc,
+        joined(alloc, &[5, 2], 0, &END)?.as_slice(),
+        b"alice",
+        256,
+    )?;
     assert_eq!(rt; back.answer, Ok(()));
     assert_eq!(rt; back.file.as_slice(), ALICE.as_slice());
     Ok(())

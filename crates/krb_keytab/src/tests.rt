@@ -12,7 +12,11 @@ pub(crate) const ALICE: [u8; 52] = [
     0x00, 0x00, 0x01, 0x00,
 ];
 
-pub(crate) fn name_of(alloc: Global, realm: &[u8], components: &[&[u8]]) -> Result<Principal, Fail> {
+pub(crate) fn name_of(
+    alloc: Global,
+    realm: &[u8],
+    components: &[&[u8]],
+) -> Result<Principal, Fail> {
     let mut made = Components::new(alloc);
     for component in components {
         made.push(Bytes::from_slice(alloc, component)?)?;

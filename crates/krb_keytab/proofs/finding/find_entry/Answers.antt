@@ -1,4 +1,4 @@
-use Rattle.std.proofs.Common.{◌≡◌, ◌+◌, ◌≤◌, ◌∷◌, ◌++◌, [], Some, None, sym, subst, arith}
+use Rattle.std.proofs.Common.{◌∷◌, ◌++◌, [], arith}
 use Rattle.std.proofs.lemmas.Result.{err_from_is_err_and}
 use Rattle.krb_keytab.specs.Format.{entry, hole}
 use Rattle.krb_keytab.proofs.ScanLaws.{start_spans, start_counts, hole_passed, entry_passed, ended, stopped, further, counts_hole, counts_other, counts_it, counted}

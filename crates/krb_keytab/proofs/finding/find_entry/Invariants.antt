@@ -1,4 +1,4 @@
-use Rattle.std.proofs.Common.{◌≡◌, ◌≤◌, List, length}
+use Rattle.std.proofs.Common.{◌≤◌, List, length}
 use Rattle.krb_keytab.specs.Format.{KeytabRecord}
 use Rattle.krb_keytab.proofs.ScanLaws.{Spans, Counts}
 use Rattle.krb_keytab.proofs.finding.find_entry.Given as goal

@@ -1,10 +1,10 @@
-use Rattle.std.proofs.Common.{◌≡◌, ◌+◌, ◌≤◌, ◌++◌, ap, arith, length, sym, subst, take, ◌∙◌, List, ℕ}
+use Rattle.std.proofs.Common.{◌+◌, ap, arith, length, sym, subst, take, List, ℕ}
 use Rattle.std.specs.Int.{w16}
 use Rattle.std.specs.List.{flat_map}
 use Rattle.std.proofs.lemmas.List.{length-append}
 use Rattle.krb_name.specs.Cursor.{data_bytes}
 use Rattle.krb_keytab.specs.Inner.Putting.{Puts}
-use Rattle.krb_keytab.proofs.PutLaws.{Puts-then, Puts-length, flat_step, flat_part, flat_whole}
+use Rattle.krb_keytab.proofs.PutLaws.{Puts-then, Puts-length, flat_step, flat_part}
 use Rattle.krb_keytab.proofs.writing.put_components.Goals as goal
 
 pub put_data16-end-requires-clause-room : goal.put_data16-end-requires-clause-room

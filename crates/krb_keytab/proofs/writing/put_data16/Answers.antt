@@ -1,4 +1,4 @@
-use Rattle.std.proofs.Common.{arith, refl}
+use Rattle.std.proofs.Common.{arith}
 use Rattle.krb_keytab.proofs.PutLaws.{puts_mid, Puts-then, Puts-length}
 use Rattle.krb_keytab.proofs.writing.put_data16.Goals as goal
 

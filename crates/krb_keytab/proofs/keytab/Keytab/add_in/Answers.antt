@@ -1,8 +1,7 @@
-use Rattle.std.proofs.Common.{◌≡◌, ◌+◌, ◌≤◌, Err, arith, ap, inl, inr}
+use Rattle.std.proofs.Common.{Err, arith, ap, inl, inr}
 use Rattle.std.proofs.lemmas.Result.{err_from_is_err_and}
-use Rattle.krb_keytab.specs.Format.{file_limit}
 use Rattle.krb_keytab.proofs.EditLaws.{same_fault}
-use Rattle.krb_keytab.proofs.AddLaws.{fills_hole, fill_gains, appends, append_gains, none_grows, fault_refuses, passing_no_fault, passing_no_room, passing_is_long, room_no_fault, none_no_fault}
+use Rattle.krb_keytab.proofs.AddLaws.{fills_hole, fill_gains, appends, append_gains, passing_no_fault, passing_no_room, passing_is_long, room_no_fault, none_no_fault}
 use Rattle.krb_keytab.proofs.keytab.Keytab.add_in.Goals as goal
 
 -- ---- the file has a fault

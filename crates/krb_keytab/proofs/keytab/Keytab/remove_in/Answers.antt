@@ -1,4 +1,3 @@
-use Rattle.std.proofs.Common.{◌≡◌, arith}
 use Rattle.std.proofs.lemmas.Result.{err_from_is_err_and}
 use Rattle.krb_keytab.proofs.EditLaws.{makes_hole, loses_entry, removal_fault, removal_faults, lacking_faults, removed_faults, not_lacking}
 use Rattle.krb_keytab.proofs.keytab.Keytab.remove_in.Goals as goal
