@@ -59,7 +59,7 @@ read_one x = Ok x
 ok_is : (x y : Record × Place) → read_one x ≡ read_one y → x ≡ y
 ok_is x y e = cc
 
-same_standing : (one other : KeytabRecord) (p q : Place) → standing one p ≡ standing other q → (entries_of one ≡ entries_of other) × (p ≡ q)
+pub same_standing : (one other : KeytabRecord) (p q : Place) → standing one p ≡ standing other q → (entries_of one ≡ entries_of other) × (p ≡ q)
 same_standing (hole x) (hole y) p q e = (refl, ap (λ (k : Record × Place). k.1) (ok_is (Hole, p) (Hole, q) e))
 same_standing (hole x) (entry f t r) p q e = absurd (hole_is_no_entry f (ap (λ (k : Record × Place). k.0) (ok_is (Hole, p) (Entry f, q) e)))
   where
@@ -221,7 +221,7 @@ pub record Goes (bytes : List ℕ) (place : Place) (entries : List KeytabEntry) 
   pub fits : IsBytes after.rest
   pub smaller : length after.rest < length place.rest
 
-record_first : (one : KeytabRecord) → 4 ≤ length (record_bytes one)
+pub record_first : (one : KeytabRecord) → 4 ≤ length (record_bytes one)
 record_first (hole ignored) = omega (arith, length-append (signed_bytes w32 (neg_ℤ (pos (length ignored)))) ignored)
 record_first (entry e short_kvno rest) = omega (arith, length-append (signed_bytes w32 (pos (length (entry_bytes e short_kvno rest)))) (entry_bytes e short_kvno rest))
 
@@ -232,7 +232,7 @@ between_goes bytes place after entries more reached between = record {
   smaller = omega (arith, record_first between.one, ap length between.takes.parts, length-append (record_bytes between.one) after.rest);
 }
 
-read_stands : (place : Place) (read : Result (Record × Place) KeytabFault) → IsBytes place.rest → record_at place ≡ read → Stands place read
+pub read_stands : (place : Place) (read : Result (Record × Place) KeytabFault) → IsBytes place.rest → record_at place ≡ read → Stands place read
 read_stands place read fits e = subst (Stands place) e (take_record place fits)
 
 pub hole_goes : (bytes : List ℕ) (place after : Place) (entries : List KeytabEntry) → IsReached bytes place.at entries place.rest → IsBytes place.rest → record_at place ≡ Ok (Hole, after) → Goes bytes place entries after

@@ -7,3 +7,10 @@ pub mod SourceLaws
 pub mod PickLaws
 pub mod AnswerLaws
 pub mod ChoiceLaws
+pub mod PutLaws
+pub mod WrittenLaws
+pub mod MadeLaws
+pub mod ScanLaws
+pub mod EditLaws
+pub mod OneSplit
+pub mod AddLaws

@@ -146,7 +146,7 @@ body_again at (x ∷ xs) rest some fits =
 number_first : (number : ℕ) (text : List ℕ) → 0 < length (number_bytes w16 number ++ text)
 number_first number text = omega (arith, length-append (number_bytes w16 number) text)
 
-entry_size : (e : KeytabEntry) (short_kvno : ℕ) (rest : List ℕ) → 0 < length (entry_bytes e short_kvno rest)
+pub entry_size : (e : KeytabEntry) (short_kvno : ℕ) (rest : List ℕ) → 0 < length (entry_bytes e short_kvno rest)
 entry_size e short_kvno rest =
     let name = e.principal in
     number_first (length name.components) (data_bytes w16 name.realm ++ (flat_map (data_bytes w16) name.components ++ (signed_bytes w32 name.name_type ++ (number_bytes w32 e.timestamp ++ (number_bytes w8 short_kvno ++ (signed_bytes w16 e.etype ++ (data_bytes w16 e.key ++ rest)))))))

@@ -1,5 +1,7 @@
 pub mod Components
 pub mod Entry
+pub mod Finding
 pub mod Pick
+pub mod Putting
 pub mod Reading
 pub mod Standing

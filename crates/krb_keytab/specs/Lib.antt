@@ -1,7 +1,9 @@
+pub mod Edit
 pub mod Entry
 pub mod Fault
 pub mod Format
 pub mod Pick
 pub mod Source
 pub mod Usable
+pub mod Written
 pub mod Inner

@@ -1,7 +1,11 @@
 //! An entry of a keytab.
 
-ghost use Rattle.std.specs.Prelude.{◌≡◌, ◌↔◌, ◌<◌, ◌^◌, length, All, IsTrue, SomeIff};
+ghost use Rattle.std.specs.Prelude.{◌≡◌, ◌↔◌, ◌<◌, ◌≤◌, ◌*◌, ◌^◌, length, All, IsTrue, SomeIff};
+ghost use Rattle.std.specs.Int.{w16};
+ghost use Rattle.std.specs.List.{flat_map};
+ghost use Rattle.krb_name.specs.Cursor.{data_bytes};
 ghost use Rattle.krb_keytab.specs.Entry.{KeytabEntry, LengthsFit, FitsEntry};
+ghost use Rattle.krb_keytab.specs.Written.{record_length};
 
 use krb_name::{Bytes, Principal};
 use std::marker::Model;
@@ -96,6 +100,13 @@ impl Entry {
         &self.principal
     }
 
+    // The type of the principal's name.
+    pub(crate) fn name_type(&self) -> i32
+        ensures { result ≡ self.now.principal.name_type }
+    {
+        self.principal.name_type
+    }
+
     /// Answers when the entry was written, in seconds since 1970-01-01.
     pub fn timestamp(&self) -> u32
         ensures { result ≡ self.now.timestamp }
@@ -117,12 +128,48 @@ impl Entry {
         self.etype
     }
 
+    // How many bytes its record has, the size at its front among them.
+    pub(crate) fn record_length(&self) -> usize
+        ensures length { result ≡ record_length self.now }
+        ensures lengths { LengthsFit self.now.principal self.now.key }
+    {
+        let name = &self.principal;
+        // The size, the count of components, and behind them name type, timestamp, version number
+        // of 8 bits and encryption type; the version number of 32 bits.
+        let fixed = 4 + 2 + 4 + 4 + 1 + 2 + 4;
+        fixed
+            + data_length(name.realm.as_slice())
+            + components_length(name.components.as_slice())
+            + data_length(self.key.as_slice())
+    }
+
     /// Lends the bytes of the key.
     pub fn key(&self) -> &[u8]
         ensures { result.now ≡ self.now.key }
     {
         self.key.as_slice()
     }
+}
+
+// How many bytes a text or a key takes behind its length, a number of 16 bits, with that number.
+fn data_length(bytes: &[u8]) -> usize
+    requires { length bytes.now < 2 ^ 16 }
+    ensures { result ≡ length (data_bytes w16 bytes.now) }
+{
+    2 + bytes.len()
+}
+
+fn components_length(components: &[Bytes]) -> usize
+    requires count { length components.now < 2 ^ 16 }
+    requires each { All (λ component. length component < 2 ^ 16) components.now }
+    ensures length { result ≡ length (flat_map (data_bytes w16) components.now) }
+    ensures most { result ≤ 65_535 * 65_537 }
+{
+    let mut sum = 0;
+    for component in components {
+        sum += data_length(component.as_slice());
+    }
+    sum
 }
 
 fn lengths_fit(principal: &Principal, key: &[u8]) -> bool

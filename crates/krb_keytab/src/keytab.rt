@@ -5,15 +5,17 @@ ghost use Rattle.std.specs.Io.KnownBytes.{IsAtEnd};
 ghost use Rattle.krb_keytab.specs.Entry.{KeytabEntry};
 ghost use Rattle.krb_keytab.specs.Fault.{offset_of, failed_reads};
 ghost use Rattle.krb_keytab.specs.Pick.{IsPicked};
-ghost use Rattle.krb_keytab.specs.Format.{IsKeytab, IsFaultOf, IsAnswerOf};
+ghost use Rattle.krb_keytab.specs.Format.{file_limit, IsKeytab, IsFaultOf, IsAnswerOf};
+ghost use Rattle.krb_keytab.specs.Written.{written};
 ghost use Rattle.krb_keytab.specs.Source.{IsGiven};
 
 use crate::entry::Entry;
 use crate::fault::KeytabFault;
 use crate::next::next_record;
-use crate::opening::{FILE_LIMIT, open};
+use crate::opening::{FILE_LIMIT, VERSION, open};
 use crate::pick::Picked;
 use crate::record::Record;
+use crate::writing::put_record;
 use krb_name::{Principal, Source, read_to_limit};
 use std::alloc::Global;
 use std::marker::Model;
@@ -106,6 +108,33 @@ impl Keytab {
                 Record::Entry(entry) => entries.push(entry.to_entry(alloc)?)?,
             }
         }
+    }
+
+    /// Writes the entries as the bytes of a file: their records, without a hole and without an end.
+    ///
+    /// The low 8 bits of a version number are written, and behind the key all 32.
+    ///
+    /// # Errors
+    /// - `TooLong`: there would be more than 16,777,216 bytes.
+    /// - `OutOfMemory`: there was no room for them.
+    ///
+    /// Source: MIT krb5, "Keytab file format".
+    pub fn to_bytes(&self, alloc: Global) -> Result<Vec<u8>, KeytabFault>
+        ensures written { IfOk result (λ bytes. bytes.items ≡ written self.now) }
+        ensures read_back { IfOk result (λ bytes. IsKeytab bytes.items self.now) }
+        ensures within { OnOk result (length (written self.now) ≤ file_limit) }
+        ensures fault { IfErr result (λ fault. fault ≢ KeytabFault.OutOfMemory
+            → (fault ≡ KeytabFault.TooLong) × (file_limit < length (written self.now))) }
+    {
+        let mut bytes = Vec::from_slice(alloc, &VERSION.to_be_bytes())?;
+        for entry in self.entries() {
+            let at = bytes.len();
+            if FILE_LIMIT - at < entry.record_length() {
+                return Err(KeytabFault::TooLong);
+            }
+            put_record(&mut bytes, at, entry)?;
+        }
+        Ok(bytes)
     }
 
     /// Lends the entries, in the order of the file.

@@ -4,7 +4,8 @@ ghost use Rattle.std.specs.Prelude.{◌≡◌, ℕ, ℤ, List, Option, Result};
 ghost use Rattle.krb_name.specs.Field.{IsBytes};
 ghost use Rattle.krb_name.specs.declared.principal.Principal.{Principal};
 ghost use Rattle.krb_keytab.specs.Entry.{KeytabEntry};
-ghost use Rattle.krb_keytab.specs.Format.{IsAnswerOf};
+ghost use Rattle.krb_keytab.specs.Edit.{IsMadeOf};
+ghost use Rattle.krb_keytab.specs.Format.{KeytabRecord, IsAnswerOf};
 ghost use Rattle.krb_keytab.specs.Pick.{IsPicked, IsSamePick};
 ghost use Rattle.krb_keytab.specs.declared.fault.KeytabFault.{KeytabFault};
 ghost use Rattle.krb_keytab.specs.declared.pick.Picked.{Picked};
@@ -23,4 +24,12 @@ pub fn each_choice_is_one()
     ensures { (entries : List KeytabEntry) (name : Principal) (etype : ℤ) (kvno : Option ℕ)
         (picked other : Picked) → IsPicked entries name etype kvno picked
         → IsPicked entries name etype kvno other → IsSamePick picked other }
+{}
+
+/// Says that a keytab is made of one list of records and one end only: so there is one first hole
+/// that is long enough, and one place where the records end.
+pub fn each_keytab_is_divided_once()
+    ensures { (bytes : List ℕ) (records others : List KeytabRecord) (end other_end : List ℕ)
+        → IsMadeOf bytes records end → IsMadeOf bytes others other_end
+        → (records ≡ others) × (end ≡ other_end) }
 {}

@@ -1,7 +1,8 @@
 //! Keytabs: the files that hold the keys of services.
 //!
 //! A [`Keytab`] is the list of the entries of a file in MIT krb5's format, version 0x0502. It is
-//! parsed of bytes, or read of a `Source`; an [`Entry`] is one key of one principal.
+//! parsed of bytes, or read of a `Source`, and written as bytes; an [`Entry`] is one key of one
+//! principal. The bytes of a file can also be edited in place: an entry is removed, or added.
 //!
 //! ```rust
 //! let keytab = Keytab::read(alloc, &mut ReadSource::new(file))?;
@@ -14,8 +15,10 @@
 //! ```
 #![tactic(auto)]
 
+mod edit;
 mod entry;
 mod fault;
+mod finding;
 mod keytab;
 pub mod laws;
 mod next;
@@ -24,12 +27,15 @@ mod pick;
 mod record;
 mod usable;
 mod view;
+mod writing;
 
 pub use entry::Entry;
 pub use fault::KeytabFault;
 pub use keytab::Keytab;
 pub use pick::Picked;
 
+#[cfg(test)]
+mod edit_tests;
 #[cfg(test)]
 mod real_files;
 #[cfg(test)]

@@ -9,8 +9,8 @@ use krb_name::FileCursor;
 /// How many bytes a keytab has at most.
 pub(crate) const FILE_LIMIT: usize = 16_777_216;
 
-// The version of the format that is read.
-const VERSION: u16 = 0x0502;
+/// The version of the format that is read and written, which a keytab begins with.
+pub(crate) const VERSION: u16 = 0x0502;
 
 /// Stands behind the version of a keytab.
 ///

@@ -1,0 +1,104 @@
+-- A file to which an entry was added.
+use Rattle.std.proofs.Common.{◌≡◌, ℕ, ◌+◌, ◌-◌, ◌<◌, ◌≤◌, ◌^◌, List, [], ◌∷◌, ◌++◌, length, take, refl, sym, ap, subst, ◌∙◌, append_assoc, append-nil, arith, inl}
+use Rattle.std.specs.List.{flat_map}
+use Rattle.std.specs.Prelude.{All}
+use Rattle.std.proofs.lemmas.List.{length-append, take_at}
+use Rattle.std.proofs.lemmas.List.Elements.{recursion_from_All, All-push}
+use Rattle.krb_name.specs.Field.{IsBytes}
+use Rattle.krb_keytab.specs.Entry.{KeytabEntry, FitsEntry}
+use Rattle.krb_keytab.specs.Format.{version, file_limit, KeytabRecord, hole, record_bytes, FitsRecord, entries_of, IsKeytab, IsFaultOf}
+use Rattle.krb_keytab.specs.Written.{padded_record, written_record, record_length}
+use Rattle.krb_keytab.specs.Edit.{LacksRoom, FillsHole, Appends, GainsEntry, WouldPass}
+use Rattle.krb_keytab.specs.Inner.Finding.{HasRoom, HasNone}
+use Rattle.krb_keytab.specs.Inner.Putting.{Puts}
+use Rattle.krb_keytab.specs.declared.fault.KeytabFault.{KeytabFault}
+use Rattle.krb_keytab.specs.declared.finding.Extent.{Extent}
+use Rattle.krb_keytab.proofs.MadeLaws.{made_keytab, padded_fits, written_fits}
+use Rattle.krb_keytab.proofs.ScanLaws.{flat_push}
+use Rattle.krb_keytab.proofs.WrittenLaws.{padded_length}
+use Rattle.krb_keytab.proofs.EditLaws.{flat_split, at_one, replaced, within, no_fault}
+use Rattle.krb_keytab.proofs.OneSplit.{same_records}
+
+-- ---- a hole is filled
+
+pub fills_hole : {old new : List ℕ} {place : Extent} (e : KeytabEntry) (size : ℕ) → size ≡ record_length e → HasRoom old size place → FitsEntry e → Puts old place.from (record_bytes (padded_record e (place.to - place.from - record_length e))) new → FillsHole old e new
+fills_hole {old} {new} {place} e size is h fits puts =
+    let there : ℕ = length (record_bytes (hole h.ignored)) in
+    let zeros : ℕ = there - record_length e in
+    let count : place.to - place.from - record_length e ≡ zeros = omega (arith, h.lies.to) in
+    let long : length (record_bytes (padded_record e zeros)) ≡ there = omega (arith, padded_length e zeros, h.room, is) in
+    let small : length (record_bytes (padded_record e zeros)) < 2 ^ 31 = omega (arith, long, h.is.limit, within h.before (hole h.ignored) h.after h.is h.lies, h.lies.to) in
+    record {
+      before = h.before;
+      ignored = h.ignored;
+      after = h.after;
+      end = h.end;
+      first = subst (λ (n : ℕ). All (LacksRoom n) h.before) is h.first;
+      room = omega (arith, h.room, is);
+      old_is = h.is;
+      new_is = replaced h.before (hole h.ignored) (padded_record e zeros) h.after h.is h.lies (padded_fits e zeros fits small) long (subst (λ (n : ℕ). Puts old place.from (record_bytes (padded_record e n)) new) count puts);
+    }
+
+pub fill_gains : {old new : List ℕ} {e : KeytabEntry} → FillsHole old e new → GainsEntry old e new
+fill_gains {old} {new} {e} h = record {
+  before = flat_map entries_of h.before;
+  after = flat_map entries_of h.after;
+  old_list = subst (IsKeytab old) (flat_split entries_of h.before (hole h.ignored) h.after) (made_keytab h.old_is);
+  new_list = subst (IsKeytab new) (flat_split entries_of h.before (padded_record e (length (record_bytes (hole h.ignored)) - record_length e)) h.after) (made_keytab h.new_is);
+}
+
+-- ---- a record is appended
+
+front_length : (records : List KeytabRecord) → length (version ++ flat_map record_bytes records) ≡ length version + length (flat_map record_bytes records)
+front_length records = length-append version (flat_map record_bytes records)
+
+pub appends : {old new : List ℕ} (e : KeytabEntry) (size at : ℕ) → size ≡ record_length e → HasNone old size at → at + size ≤ file_limit → FitsEntry e → new ≡ take at old ++ record_bytes (written_record e) → Appends old e new
+appends {old} {new} e size at is h limit fits made =
+    let one : KeytabRecord = written_record e in
+    let flat : List ℕ = flat_map record_bytes h.records in
+    let front : List ℕ = version ++ flat in
+    let kept : take at old ≡ front = ap (take at) (h.is.bytes_are ∙ sym (append_assoc version flat h.end)) ∙ take_at front h.end at (omega (arith, front_length h.records, h.at_is)) in
+    let bytes : new ≡ front ++ record_bytes one = made ∙ ap (λ (t : List ℕ). t ++ record_bytes one) kept in
+    record {
+      records = h.records;
+      old_is = record { end = h.end; is = h.is; no_room = subst (λ (n : ℕ). All (LacksRoom n) h.records) is h.no_room };
+      new_is = record {
+        limit = omega (arith, ap length bytes, length-append front (record_bytes one), front_length h.records, h.at_is, is, limit);
+        fit = All-push FitsRecord h.records one h.is.fit (written_fits e fits (omega (arith, is, limit)));
+        bytes_are = bytes ∙ append_assoc version flat (record_bytes one) ∙ ap (λ (t : List ℕ). version ++ t) (sym (flat_push record_bytes h.records one) ∙ sym (append-nil (flat_map record_bytes (h.records ++ one ∷ []))));
+        is_end = inl refl;
+      };
+    }
+
+pub append_gains : {old new : List ℕ} {e : KeytabEntry} → Appends old e new → GainsEntry old e new
+append_gains {old} {new} {e} h = record {
+  before = flat_map entries_of h.records;
+  after = [];
+  old_list = subst (IsKeytab old) (sym (append-nil (flat_map entries_of h.records))) (made_keytab h.old_is.is);
+  new_list = subst (IsKeytab new) (flat_push entries_of h.records (written_record e)) (made_keytab h.new_is);
+}
+
+-- ---- why an entry isn't added
+
+-- the file would pass the limit: so it is a keytab
+pub passing_no_fault : {old : List ℕ} {e : KeytabEntry} (fault : KeytabFault) → IsBytes old → WouldPass old e → IsFaultOf old fault → ⊥
+passing_no_fault {old} {e} fault fits w f = no_fault old (flat_map entries_of w.records) fault fits (made_keytab w.old_is.is) f
+
+-- and no hole has room for the entry
+pub passing_no_room : {old : List ℕ} {e : KeytabEntry} {place : Extent} (size : ℕ) → size ≡ record_length e → WouldPass old e → HasRoom old size place → ⊥
+passing_no_room {old} {e} {place} size is w h =
+    let same : w.records ≡ h.before ++ hole h.ignored ∷ h.after = same_records w.old_is.is h.is in
+    let all : All (LacksRoom (record_length e)) (h.before ++ hole h.ignored ∷ h.after) = subst (All (LacksRoom (record_length e))) same w.old_is.no_room in
+    let short = at_one (LacksRoom (record_length e)) h.before (hole h.ignored) h.after (recursion_from_All (LacksRoom (record_length e)) (h.before ++ hole h.ignored ∷ h.after) all) in
+    omega (arith, short, h.room, is)
+
+pub passing_is_long : {old : List ℕ} {e : KeytabEntry} (size at : ℕ) → size ≡ record_length e → WouldPass old e → HasNone old size at → at + size ≤ file_limit → ⊥
+passing_is_long {old} {e} size at is w h limit =
+    let same : w.records ≡ h.records = same_records w.old_is.is h.is in
+    omega (arith, w.bound, h.at_is, is, limit, ap (λ (t : List KeytabRecord). length (flat_map record_bytes t)) same)
+
+pub room_no_fault : {old : List ℕ} {size : ℕ} {place : Extent} (fault : KeytabFault) → IsBytes old → HasRoom old size place → IsFaultOf old fault → ⊥
+room_no_fault {old} {size} {place} fault fits h f = no_fault old (flat_map entries_of (h.before ++ hole h.ignored ∷ h.after)) fault fits (made_keytab h.is) f
+
+pub none_no_fault : {old : List ℕ} {size at : ℕ} (fault : KeytabFault) → IsBytes old → HasNone old size at → IsFaultOf old fault → ⊥
+none_no_fault {old} {size} {at} fault fits h f = no_fault old (flat_map entries_of h.records) fault fits (made_keytab h.is) f

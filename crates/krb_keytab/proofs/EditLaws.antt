@@ -1,0 +1,168 @@
+-- What a file is once one of its records was replaced, or a record was put in place of its end.
+use Rattle.std.proofs.Common.{◌≡◌, ℕ, ◌+◌, ◌-◌, ◌≤◌, List, [], ◌∷◌, ◌++◌, length, take, drop, Result, Ok, Err, sym, ap, subst, ◌∙◌, append_assoc, arith}
+use Rattle.std.specs.List.{flat_map, AllByRecursion}
+use Rattle.std.proofs.lemmas.List.{length-append, length-replicate, take_at, drop_at}
+use Rattle.std.proofs.lemmas.List.Concat.{flat_map-append}
+use Rattle.std.proofs.lemmas.List.Elements.{All-from_recursion, recursion_from_All}
+use Rattle.krb_name.specs.Field.{IsBytes}
+use Rattle.krb_keytab.specs.Entry.{KeytabEntry}
+use Rattle.krb_keytab.specs.Format.{version, KeytabRecord, entry, entry_bytes, record_bytes, FitsRecord, entries_of, IsKeytab, IsFaultOf}
+use Rattle.krb_keytab.specs.Edit.{IsMadeOf, zero_hole, MakesHole, LosesEntry, LacksEntry}
+use Rattle.krb_keytab.specs.Inner.Finding.{LiesAt, HoldsIndex}
+use Rattle.krb_keytab.specs.Inner.Putting.{Puts}
+use Rattle.krb_keytab.specs.declared.fault.KeytabFault.{KeytabFault}
+use Rattle.krb_keytab.specs.declared.fault.KeytabFault.TheVariants.{NoSuchEntry}
+use Rattle.krb_keytab.specs.declared.finding.Extent.{Extent}
+use Rattle.krb_keytab.proofs.RecordLaws.{entry_size}
+use Rattle.krb_keytab.proofs.FileLaws.{one_answer}
+use Rattle.krb_keytab.proofs.PutLaws.{Puts-length}
+use Rattle.krb_keytab.proofs.MadeLaws.{made_keytab}
+
+-- ---- one record among others
+
+pub flat_split : {A : Type 0} (f : KeytabRecord → List A) (before : List KeytabRecord) (one : KeytabRecord) (after : List KeytabRecord) → flat_map f (before ++ one ∷ after) ≡ flat_map f before ++ (f one ++ flat_map f after)
+flat_split f before one after = flat_map-append f before (one ∷ after)
+
+-- the bytes before a record, the record, and the bytes behind it
+parts : (before : List KeytabRecord) (one : KeytabRecord) (after : List KeytabRecord) (end : List ℕ)
+    → version ++ (flat_map record_bytes (before ++ one ∷ after) ++ end) ≡ (version ++ flat_map record_bytes before) ++ (record_bytes one ++ (flat_map record_bytes after ++ end))
+parts before one after end =
+    let front : List ℕ = flat_map record_bytes before in
+    let back : List ℕ = flat_map record_bytes after in
+    ap (λ (t : List ℕ). version ++ (t ++ end)) (flat_split record_bytes before one after)
+    ∙ ap (λ (t : List ℕ). version ++ t) (append_assoc front (record_bytes one ++ back) end ∙ ap (λ (t : List ℕ). front ++ t) (append_assoc (record_bytes one) back end))
+    ∙ sym (append_assoc version front (record_bytes one ++ (back ++ end)))
+
+pub at_one : (P : KeytabRecord → Type 0) (before : List KeytabRecord) (one : KeytabRecord) (after : List KeytabRecord) → AllByRecursion P (before ++ one ∷ after) → P one
+at_one P [] one after h = h.0
+at_one P (x ∷ before) one after h = at_one P before one after h.1
+
+with_other : (P : KeytabRecord → Type 0) (before : List KeytabRecord) (one other : KeytabRecord) (after : List KeytabRecord) → AllByRecursion P (before ++ one ∷ after) → P other → AllByRecursion P (before ++ other ∷ after)
+with_other P [] one other after h q = (q, h.1)
+with_other P (x ∷ before) one other after h q = (h.0, with_other P before one other after h.1 q)
+
+pub fits_there : {bytes : List ℕ} (before : List KeytabRecord) (one : KeytabRecord) (after : List KeytabRecord) {end : List ℕ} → IsMadeOf bytes (before ++ one ∷ after) end → FitsRecord one
+fits_there before one after m = at_one FitsRecord before one after (recursion_from_All FitsRecord (before ++ one ∷ after) m.fit)
+
+-- where a record lies, it lies within the file
+pub within : {bytes : List ℕ} (before : List KeytabRecord) (one : KeytabRecord) (after : List KeytabRecord) {end : List ℕ} {place : Extent} → IsMadeOf bytes (before ++ one ∷ after) end → LiesAt before one place → place.to ≤ length bytes
+within before one after {end} m lies =
+    omega (arith, lies.from, lies.to, ap length (m.bytes_are ∙ parts before one after end), length-append (flat_map record_bytes before) (record_bytes one ++ (flat_map record_bytes after ++ end)), length-append (record_bytes one) (flat_map record_bytes after ++ end))
+
+pub replaced : {bytes new : List ℕ} (before : List KeytabRecord) (one other : KeytabRecord) (after : List KeytabRecord) {end : List ℕ} {place : Extent} → IsMadeOf bytes (before ++ one ∷ after) end → LiesAt before one place → FitsRecord other
+    → length (record_bytes other) ≡ length (record_bytes one) → Puts bytes place.from (record_bytes other) new → IsMadeOf new (before ++ other ∷ after) end
+replaced {bytes} {new} before one other after {end} {place} m lies fits size puts =
+    let front : List ℕ = version ++ flat_map record_bytes before in
+    let behind : List ℕ = flat_map record_bytes after ++ end in
+    let old : bytes ≡ front ++ (record_bytes one ++ behind) = m.bytes_are ∙ parts before one after end in
+    let first : take place.from bytes ≡ front = ap (take place.from) old ∙ take_at front (record_bytes one ++ behind) place.from (omega (arith, lies.from)) in
+    let long : length (front ++ record_bytes one) ≡ place.from + length (record_bytes other) = omega (arith, length-append front (record_bytes one), lies.from, size) in
+    let last : drop (place.from + length (record_bytes other)) bytes ≡ behind =
+    ap (drop (place.from + length (record_bytes other))) (old ∙ sym (append_assoc front (record_bytes one) behind)) ∙ drop_at (front ++ record_bytes one) behind (place.from + length (record_bytes other)) long in
+    record {
+      limit = omega (arith, m.limit, Puts-length puts);
+      fit = All-from_recursion FitsRecord (before ++ other ∷ after) (with_other FitsRecord before one other after (recursion_from_All FitsRecord (before ++ one ∷ after) m.fit) fits);
+      bytes_are =
+          puts.new_is
+          ∙ ap (λ (t : List ℕ). t ++ (record_bytes other ++ drop (place.from + length (record_bytes other)) bytes)) first
+          ∙ ap (λ (t : List ℕ). front ++ (record_bytes other ++ t)) last
+          ∙ sym (parts before other after end);
+      is_end = m.is_end;
+    }
+
+-- ---- an entry is removed
+
+-- a hole as long as an entry's record
+pub zero_fits : (e : KeytabEntry) (short_kvno : ℕ) (rest : List ℕ) → FitsRecord (entry e short_kvno rest) → FitsRecord (zero_hole (length (entry_bytes e short_kvno rest)))
+zero_fits e short_kvno rest fits =
+    let count = length-replicate {A = ℕ} (length (entry_bytes e short_kvno rest)) 0 in
+    let some = entry_size e short_kvno rest in
+    (omega (arith, count, some), omega (arith, count, fits.1))
+
+pub zero_length : (e : KeytabEntry) (short_kvno : ℕ) (rest : List ℕ) → length (record_bytes (zero_hole (length (entry_bytes e short_kvno rest)))) ≡ length (record_bytes (entry e short_kvno rest))
+zero_length e short_kvno rest = omega (arith, length-replicate {A = ℕ} (length (entry_bytes e short_kvno rest)) 0)
+
+pub makes_hole : {old new : List ℕ} {index : ℕ} {place : Extent} (h : HoldsIndex old index place) → Puts old place.from (record_bytes (zero_hole (place.to - place.from - 4))) new → MakesHole old index new
+makes_hole {old} {new} {index} {place} h puts =
+    let one : KeytabRecord = entry h.removed h.short_kvno h.rest in
+    let count : ℕ = length (entry_bytes h.removed h.short_kvno h.rest) in
+    let size : place.to - place.from - 4 ≡ count = omega (arith, h.lies.to) in
+    let fits = fits_there h.before one h.after h.is in
+    record {
+      before = h.before;
+      removed = h.removed;
+      short_kvno = h.short_kvno;
+      rest = h.rest;
+      after = h.after;
+      end = h.end;
+      index_is = h.index_is;
+      old_is = h.is;
+      new_is = replaced h.before one (zero_hole count) h.after h.is h.lies (zero_fits h.removed h.short_kvno h.rest fits) (zero_length h.removed h.short_kvno h.rest) (subst (λ (n : ℕ). Puts old place.from (record_bytes (zero_hole n)) new) size puts);
+    }
+
+pub loses_entry : {old new : List ℕ} {index : ℕ} → MakesHole old index new → LosesEntry old index new
+loses_entry {old} {new} {index} h = record {
+  before = flat_map entries_of h.before;
+  removed = h.removed;
+  after = flat_map entries_of h.after;
+  index_is = h.index_is;
+  old_list = subst (IsKeytab old) (flat_split entries_of h.before (entry h.removed h.short_kvno h.rest) h.after) (made_keytab h.old_is);
+  new_list = subst (IsKeytab new) (flat_split entries_of h.before (zero_hole (length (entry_bytes h.removed h.short_kvno h.rest))) h.after) (made_keytab h.new_is);
+}
+
+-- ---- one answer alone
+
+abbrev answer_of : Result (List KeytabEntry) KeytabFault → Result (List KeytabEntry) KeytabFault
+answer_of answer = answer
+
+list_is : (xs ys : List KeytabEntry) → answer_of (Ok xs) ≡ answer_of (Ok ys) → xs ≡ ys
+list_is xs ys e = cc
+
+not_both : (xs : List KeytabEntry) (fault : KeytabFault) → answer_of (Ok xs) ≡ answer_of (Err fault) → ⊥
+not_both xs fault e = cc
+
+fault_is : (f g : KeytabFault) → answer_of (Err f) ≡ answer_of (Err g) → f ≡ g
+fault_is f g e = cc
+
+pub no_fault : (bytes : List ℕ) (entries : List KeytabEntry) (fault : KeytabFault) → IsBytes bytes → IsKeytab bytes entries → IsFaultOf bytes fault → ⊥
+no_fault bytes entries fault fits k f = not_both entries fault (one_answer bytes (Ok entries) (Err fault) fits k f)
+
+pub same_fault : (bytes : List ℕ) (f g : KeytabFault) → IsBytes bytes → IsFaultOf bytes f → IsFaultOf bytes g → f ≡ g
+same_fault bytes f g fits p q = fault_is f g (one_answer bytes (Err f) (Err g) fits p q)
+
+-- an entry of this index is there, or it isn't
+pub not_lacking : (bytes : List ℕ) (index : ℕ) (place : Extent) → IsBytes bytes → HoldsIndex bytes index place → LacksEntry bytes index → ⊥
+not_lacking bytes index place fits h l =
+    let one : KeytabRecord = entry h.removed h.short_kvno h.rest in
+    let listed : List KeytabEntry = flat_map entries_of h.before ++ (h.removed ∷ flat_map entries_of h.after) in
+    let k : IsKeytab bytes listed = subst (IsKeytab bytes) (flat_split entries_of h.before one h.after) (made_keytab h.is) in
+    let same = list_is l.entries listed (one_answer bytes (Ok l.entries) (Ok listed) fits l.list k) in
+    omega (arith, ap length same, length-append (flat_map entries_of h.before) (h.removed ∷ flat_map entries_of h.after), h.index_is, l.few)
+
+-- ---- what removing answers
+
+abbrev pub done_of : Result (Unit {0}) KeytabFault → Result (Unit {0}) KeytabFault
+done_of answer = answer
+
+pub refused_is : (f g : KeytabFault) → done_of (Err f) ≡ done_of (Err g) → f ≡ g
+refused_is f g e = cc
+
+pub not_done : (fault : KeytabFault) → done_of (Ok tt) ≡ done_of (Err fault) → ⊥
+not_done fault e = cc
+
+pub removal_fault : (bytes : List ℕ) (index : ℕ) (fault : KeytabFault) → IsBytes bytes → IsFaultOf bytes fault
+    → (done_of (Err fault) ≡ Err NoSuchEntry → LacksEntry bytes index) × (LacksEntry bytes index → done_of (Err fault) ≡ Err NoSuchEntry)
+removal_fault bytes index fault fits f = (λ e. absurd (subst (IsFaultOf bytes) (refused_is fault NoSuchEntry e) f), λ l. absurd (no_fault bytes l.entries fault fits l.list f))
+
+pub removal_faults : (bytes : List ℕ) (fault other : KeytabFault) → IsBytes bytes → IsFaultOf bytes fault → (done_of (Err fault) ≡ Err other → IsFaultOf bytes other) × (IsFaultOf bytes other → done_of (Err fault) ≡ Err other)
+removal_faults bytes fault other fits f = (λ e. subst (IsFaultOf bytes) (refused_is fault other e) f, λ g. ap (λ x. done_of (Err x)) (same_fault bytes fault other fits f g))
+
+pub lacking_faults : (bytes : List ℕ) (index : ℕ) (other : KeytabFault) → IsBytes bytes → LacksEntry bytes index → (other ≡ NoSuchEntry → ⊥)
+    → (done_of (Err NoSuchEntry) ≡ Err other → IsFaultOf bytes other) × (IsFaultOf bytes other → done_of (Err NoSuchEntry) ≡ Err other)
+lacking_faults bytes index other fits l differs = (λ e. absurd (differs (sym (refused_is NoSuchEntry other e))), λ f. absurd (no_fault bytes l.entries other fits l.list f))
+
+pub removed_faults : (bytes : List ℕ) (index : ℕ) (place : Extent) (other : KeytabFault) → IsBytes bytes → HoldsIndex bytes index place → (done_of (Ok tt) ≡ Err other → IsFaultOf bytes other) × (IsFaultOf bytes other → done_of (Ok tt) ≡ Err other)
+removed_faults bytes index place other fits h = (
+  λ e. absurd (not_done other e),
+  λ f. absurd (no_fault bytes (flat_map entries_of (h.before ++ entry h.removed h.short_kvno h.rest ∷ h.after)) other fits (made_keytab h.is) f),
+)

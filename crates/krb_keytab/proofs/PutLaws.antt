@@ -1,0 +1,97 @@
+-- Texts that are put into bytes one behind the other.
+use Rattle.std.proofs.Common.{◌≡◌, ℕ, ◌+◌, ◌-◌, ◌≤◌, ◌<◌, List, [], ◌∷◌, ◌++◌, length, get_or, take, drop, sym, ap, subst, ◌∙◌, append_assoc, append-nil, arith}
+use borrow.Rule.Slice.PartMut.{put_mid, post_of}
+use Rattle.std.specs.List.{flat_map}
+use Rattle.std.proofs.lemmas.List.{length-append, length-take-le, length-drop, take_rest, take_more, take-append-drop, drop_all, drop-drop, take_at, drop_at, take_all}
+use Rattle.std.proofs.lemmas.List.Concat.{flat_map-append}
+use Rattle.krb_keytab.specs.Inner.Putting.{Puts}
+
+-- ---- one text
+
+pub puts_front : (old : List ℕ) (at : ℕ) (text part : List ℕ) → at + length text ≤ length old → part ≡ text ++ drop (length text) (take (length old - at) (drop at old)) → Puts old at text (put_mid at (length old - at) old part)
+puts_front old at text part room e =
+    let behind : drop (length text) (take (length old - at) (drop at old)) ≡ drop (at + length text) old = ap (drop (length text)) (take_rest old at) ∙ drop-drop (length text) at old in
+    let none : post_of at (length old - at) old ≡ [] = drop_all (length old - at) (drop at old) (omega (arith, length-drop at old)) in
+    record {
+      room = room;
+      new_is =
+          ap (λ (t : List ℕ). take at old ++ (part ++ t)) none
+          ∙ ap (λ (t : List ℕ). take at old ++ t) (append-nil part ∙ e ∙ ap (λ (t : List ℕ). text ++ t) behind);
+    }
+
+pub puts_mid : (old : List ℕ) (at k : ℕ) (text part : List ℕ) → at + length text ≤ length old → k ≡ length text → part ≡ text → Puts old at text (put_mid at k old part)
+puts_mid old at k text part room size e = record {
+  room = room;
+  new_is =
+      ap (λ (n : ℕ). take at old ++ (part ++ drop n (drop at old))) size
+      ∙ ap (λ (t : List ℕ). take at old ++ (t ++ drop (length text) (drop at old))) e
+      ∙ ap (λ (t : List ℕ). take at old ++ (text ++ t)) (drop-drop (length text) at old);
+}
+
+-- ---- two texts
+
+front_is : {old : List ℕ} {at : ℕ} {text new : List ℕ} → Puts old at text new → new ≡ (take at old ++ text) ++ drop (at + length text) old
+front_is {old} {at} {text} {new} p = p.new_is ∙ sym (append_assoc (take at old) text (drop (at + length text) old))
+
+front_size : {old : List ℕ} {at : ℕ} {text new : List ℕ} → Puts old at text new → length (take at old ++ text) ≡ at + length text
+front_size {old} {at} {text} {new} p = let r = p.room in omega (arith, length-append (take at old) text, length-take-le at old (omega arith))
+
+pub Puts-length : {old : List ℕ} {at : ℕ} {text new : List ℕ} → Puts old at text new → length new ≡ length old
+Puts-length {old} {at} {text} {new} p =
+    let r = p.room in
+    omega (arith, ap length (front_is p), length-append (take at old ++ text) (drop (at + length text) old), front_size p, length-drop (at + length text) old)
+
+pub Puts-front : {old : List ℕ} {at : ℕ} {text new : List ℕ} → Puts old at text new → take (at + length text) new ≡ take at old ++ text
+Puts-front {old} {at} {text} {new} p = ap (take (at + length text)) (front_is p) ∙ take_at (take at old ++ text) (drop (at + length text) old) (at + length text) (front_size p)
+
+pub Puts-behind : {old : List ℕ} {at : ℕ} {text new : List ℕ} → Puts old at text new → drop (at + length text) new ≡ drop (at + length text) old
+Puts-behind {old} {at} {text} {new} p = ap (drop (at + length text)) (front_is p) ∙ drop_at (take at old ++ text) (drop (at + length text) old) (at + length text) (front_size p)
+
+then_at : {old : List ℕ} {at : ℕ} {x mid y new : List ℕ} → Puts old at x mid → Puts mid (at + length x) y new → Puts old at (x ++ y) new
+then_at {old} {at} {x} {mid} {y} {new} p q =
+    let place : at + length (x ++ y) ≡ at + length x + length y = omega (arith, length-append x y) in
+    let behind : drop (at + length x + length y) mid ≡ drop (at + length (x ++ y)) old =
+    sym (drop-drop (length y) (at + length x) mid) ∙ ap (drop (length y)) (Puts-behind p) ∙ drop-drop (length y) (at + length x) old ∙ ap (λ (n : ℕ). drop n old) (sym place) in
+    let r = q.room in
+    record {
+      room = omega (arith, place, Puts-length p);
+      new_is =
+          q.new_is
+          ∙ ap (λ (t : List ℕ). t ++ (y ++ drop (at + length x + length y) mid)) (Puts-front p)
+          ∙ ap (λ (t : List ℕ). (take at old ++ x) ++ (y ++ t)) behind
+          ∙ append_assoc (take at old) x (y ++ drop (at + length (x ++ y)) old)
+          ∙ ap (λ (t : List ℕ). take at old ++ t) (sym (append_assoc x y (drop (at + length (x ++ y)) old)));
+    }
+
+pub Puts-then : {old : List ℕ} {at : ℕ} {x mid : List ℕ} {behind : ℕ} {y new : List ℕ} → Puts old at x mid → behind ≡ at + length x → Puts mid behind y new → Puts old at (x ++ y) new
+Puts-then {old} {at} {x} {mid} {behind} {y} {new} p e q = then_at p (subst (λ (n : ℕ). Puts mid n y new) e q)
+
+-- a text from the first byte to the last
+pub Puts-whole : {old text new : List ℕ} → Puts old 0 text new → length text ≡ length old → new ≡ text
+Puts-whole {old} {text} {new} p e = p.new_is ∙ ap (λ (t : List ℕ). text ++ t) (drop_all (0 + length text) old (omega (arith, e))) ∙ append-nil text
+
+-- ---- a text for each element of a list
+
+pub flat_step : {X : Type 0} (f : X → List ℕ) (xs : List X) (i : ℕ) (x : X) → i < length xs → x ≡ get_or xs i x → flat_map f (take (i + 1) xs) ≡ flat_map f (take i xs) ++ f x
+flat_step f xs i x below e =
+    ap (flat_map f) (take_more xs i x below ∙ ap (λ y. take i xs ++ y ∷ []) (sym e)) ∙ flat_map-append f (take i xs) (x ∷ []) ∙ ap (λ (t : List ℕ). flat_map f (take i xs) ++ t) (append-nil (f x))
+
+pub flat_part : {X : Type 0} (f : X → List ℕ) (xs : List X) (n : ℕ) → length (flat_map f (take n xs)) ≤ length (flat_map f xs)
+flat_part f xs n =
+    let whole : flat_map f xs ≡ flat_map f (take n xs) ++ flat_map f (drop n xs) = ap (flat_map f) (sym (take-append-drop n xs)) ∙ flat_map-append f (take n xs) (drop n xs) in
+    omega (arith, ap length whole, length-append (flat_map f (take n xs)) (flat_map f (drop n xs)))
+
+-- ---- a part of a Vec
+
+pub vec_puts : (items slice part text : List ℕ) (from to len : ℕ) → slice ≡ items → length items ≡ len → from ≤ to → to ≤ length items → part ≡ text → length text ≡ to - from
+    → Puts items from text (take len (put_mid from (to - from) slice part ++ drop (length (put_mid from (to - from) slice part)) items))
+vec_puts items slice part text from to len same size order within is count =
+    let made : List ℕ = put_mid from (to - from) slice part in
+    let puts : Puts slice from text made = puts_mid slice from (to - from) text part (omega (arith, ap length same, count, order, within)) (sym count) is in
+    let long : length made ≡ length items = Puts-length puts ∙ ap length same in
+    let none : drop (length made) items ≡ [] = drop_all (length made) items (omega (arith, long)) in
+    let whole : take len (made ++ drop (length made) items) ≡ made = ap (λ (t : List ℕ). take len (made ++ t)) none ∙ ap (take len) (append-nil made) ∙ take_all len made (omega (arith, long, size)) in
+    subst (Puts items from text) (sym whole) (subst (λ (t : List ℕ). Puts t from text made) same puts)
+
+pub part_length : (slice : List ℕ) (from to : ℕ) → to ≤ length slice → length (take (to - from) (drop from slice)) ≡ to - from
+part_length slice from to within = length-take-le (to - from) (drop from slice) (omega (arith, length-drop from slice))
