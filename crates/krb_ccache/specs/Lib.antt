@@ -1,0 +1,5 @@
+pub mod Spelling
+pub mod Value
+pub mod Format
+pub mod Fault
+pub mod Source
