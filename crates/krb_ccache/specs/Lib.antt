@@ -3,3 +3,4 @@ pub mod Value
 pub mod Format
 pub mod Fault
 pub mod Source
+pub mod Inner

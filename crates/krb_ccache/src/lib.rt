@@ -3,6 +3,8 @@
 
 mod credential;
 mod fault;
+mod item_fault;
+mod items;
 mod typed;
 
 pub use credential::{Credential, HeaderField};
