@@ -1,0 +1,4 @@
+pub mod Fields
+pub mod PartLaws
+pub mod Repeats
+pub mod HeaderLaws
