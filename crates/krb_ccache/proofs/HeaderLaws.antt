@@ -69,12 +69,16 @@ filled body place fields short reaches end =
     let whole : body ≡ fields_bytes fields = reaches.takes.parts ∙ ap (λ (t : List ℕ). fields_bytes fields ++ t) end ∙ append-nil (fields_bytes fields) in
     record { fits = fields_fit fields reaches.fit (subst Short16 whole short); whole = whole }
 
+-- fields that fill the bytes leave none behind those that were read
+pub filled_same : (body : List ℕ) (place : Place) (fields : List HeaderField) → Reaches field_bytes FitsField (record { at = 0; rest = body }) fields place → (place.rest ≡ []) ⊎ IsMissing field_bytes FitsField place.rest
+    → (header : List HeaderField) → Fills body header → place.rest ≡ []
+filled_same body place fields reaches end header fills =
+    (same_things field_at field_bytes FitsField IsField-field field_some fields header place.rest [] (recursion_from_All FitsField fields reaches.fit) (recursion_from_All FitsField header (fits_fields header fills.fits))
+    end (inl refl) (sym reaches.takes.parts ∙ fills.whole ∙ sym (append-nil (fields_bytes header)))).1
+
 pub not_filled : (body : List ℕ) (place : Place) (fields : List HeaderField) → Reaches field_bytes FitsField (record { at = 0; rest = body }) fields place → (place.rest ≡ [] → ⊥) → field_at place ≡ None
     → (header : List HeaderField) → Fills body header → ⊥
-not_filled body place fields reaches more none header fills =
-    let same = same_things field_at field_bytes FitsField IsField-field field_some fields header place.rest [] (recursion_from_All FitsField fields reaches.fit) (recursion_from_All FitsField header (fits_fields header fills.fits))
-    (inr (missing_where field_at field_bytes FitsField IsField-field place none)) (inl refl) (sym reaches.takes.parts ∙ fills.whole ∙ sym (append-nil (fields_bytes header))) in
-    more same.1
+not_filled body place fields reaches more none header fills = more (filled_same body place fields reaches (inr (missing_where field_at field_bytes FitsField IsField-field place none)) header fills)
 
 -- ---- the header
 

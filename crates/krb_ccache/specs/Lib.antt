@@ -1,6 +1,7 @@
 pub mod Spelling
 pub mod Value
 pub mod Format
+pub mod Configuration
 pub mod Fault
 pub mod Source
 pub mod Inner

@@ -13,6 +13,9 @@ pub record Cache : Type 0 where
   pub default_principal : Principal
   pub credentials : List Credential
 
+abbrev pub cache_of : List HeaderField → Principal → List Credential → Cache
+cache_of header default_principal credentials = record { header = header; default_principal = default_principal; credentials = credentials }
+
 -- ---- counts and lengths are numbers of 32 bits, in the header of 16; the KDC's clock offset has 8 bytes
 
 pub record HasHeaderLengths (header : List HeaderField) : Type 0 where

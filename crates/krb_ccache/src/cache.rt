@@ -5,18 +5,22 @@ ghost use Rattle.std.specs.List.{flat_map};
 ghost use Rattle.std.specs.Io.KnownBytes.{IsAtEnd};
 ghost use Rattle.krb_name.specs.Field.{IsBytes};
 ghost use Rattle.krb_ccache.specs.Spelling.{name_bytes, credential_bytes};
-ghost use Rattle.krb_ccache.specs.Value.{Cache, HasLengths, Fits, FitsName, FitsCredential};
+ghost use Rattle.krb_ccache.specs.Value.{Cache, cache_of, HasLengths, Fits, FitsName, FitsCredential};
+ghost use Rattle.krb_ccache.specs.Configuration.{HoldsOffset, IsConfiguration};
 ghost use Rattle.krb_ccache.specs.Fault.{offset_of, failed_reads};
 ghost use Rattle.krb_ccache.specs.Format.{file_limit, cache_bytes, IsCache, IsFaultOf, IsAnswerOf};
 ghost use Rattle.krb_ccache.specs.Source.{IsGiven};
 ghost use Rattle.krb_ccache.specs.Inner.Reading.{credential_at};
 ghost use Rattle.krb_ccache.specs.Inner.Standing.{Lies, Reaches, IsMissing, StopsBy};
 
+use crate::configuration::{is_configuration, offset_in};
 use crate::credential::{Credential, HeaderField};
 use crate::fault::CacheFault;
-use crate::header::{FILE_LIMIT, open, read_header};
+use crate::fits::{all_fit, header_fits, name_fits};
+use crate::header::{FILE_LIMIT, VERSION, open, read_header};
 use crate::item_fault::ItemFault;
 use crate::items::{read_credential, read_name};
+use crate::writing::{write_credential, write_header, write_name, write_u16};
 use krb_name::{FileCursor, Principal, Source, read_to_limit};
 use std::alloc::Global;
 use std::marker::Model;
@@ -49,6 +53,31 @@ impl Model for CCache {
 }
 
 impl CCache {
+    /// Makes a cache of the fields of its header, its default principal and its credentials.
+    ///
+    /// Answers `None` where the value of a field of the header, or all fields with their tags and
+    /// lengths, have more than 65,535 bytes; where a field of tag 1 hasn't 8 bytes; or where there
+    /// are more than 4,294,967,295 components, addresses or elements of authorization data, or bytes
+    /// in a realm, a component, a key, an address, an element or a ticket. No memory is taken.
+    pub fn from_parts(
+        header: Vec<HeaderField>,
+        default_principal: Principal,
+        credentials: Vec<Credential>,
+    ) -> Option<CCache>
+        ensures { SomeIff result
+            (HasLengths (cache_of header.items default_principal credentials.items))
+            (cache_of header.items default_principal credentials.items) }
+    {
+        if !header_fits(&header) || !name_fits(&default_principal) || !all_fit(&credentials) {
+            return None;
+        }
+        Some(CCache {
+            header,
+            default_principal,
+            credentials,
+        })
+    }
+
     /// Parses the bytes of a file.
     ///
     /// Memory is taken as parts are met, and not by a count or a length that the bytes don't bear
@@ -130,6 +159,51 @@ impl CCache {
             default_principal,
             credentials,
         })
+    }
+
+    /// Answers the KDC's clock offset, in seconds and microseconds: that of the header's first
+    /// field of tag 1. `None` where it has no such field.
+    pub fn kdc_offset(&self) -> Option<(i32, i32)>
+        ensures some { IfSome result (λ offset. HoldsOffset self.now.header offset.0 offset.1) }
+        ensures none { IfNone result (All (λ field. field.tag ≢ 1) self.now.header) }
+    {
+        offset_in(self.header.as_slice())
+    }
+
+    /// Answers whether `credential` is a configuration entry: its server's realm is `X-CACHECONF:`
+    /// and its server's first component `krb5_ccache_conf_data`.
+    pub fn is_configuration(credential: &Credential) -> bool
+        ensures { IsTrue result ↔ IsConfiguration credential.now }
+    {
+        is_configuration(credential)
+    }
+
+    /// Writes the bytes of the file.
+    ///
+    /// # Errors
+    /// - `TooLong`: the file would have more than 16,777,216 bytes.
+    /// - `OutOfMemory`: there was no room for the bytes.
+    ///
+    /// Source: MIT krb5, "Credential cache file format", version 4.
+    pub fn to_bytes(&self, alloc: Global) -> Result<Vec<u8>, CacheFault>
+        ensures found { IfOk result (λ bytes. IsCache bytes.items self.now) }
+        ensures fault { IfErr result (λ fault. fault ≢ CacheFault.OutOfMemory
+            → (fault ≡ CacheFault.TooLong) × (file_limit < length (cache_bytes self.now))) }
+    {
+        let mut bytes = Vec::new(alloc);
+        write_u16(&mut bytes, VERSION)?;
+        write_header(&mut bytes, self.header.as_slice())?;
+        write_name(&mut bytes, &self.default_principal)?;
+        for credential in &self.credentials {
+            if bytes.len() > FILE_LIMIT {
+                return Err(CacheFault::TooLong);
+            }
+            write_credential(&mut bytes, credential)?;
+        }
+        if bytes.len() > FILE_LIMIT {
+            return Err(CacheFault::TooLong);
+        }
+        Ok(bytes)
     }
 
     /// Lends the default principal: whose cache it is.

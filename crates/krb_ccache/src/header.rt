@@ -18,8 +18,8 @@ use std::alloc::Global;
 /// How many bytes a cache has at most.
 pub(crate) const FILE_LIMIT: usize = 16_777_216;
 
-// The version of the format that is read.
-const VERSION: u16 = 0x0504;
+/// The version of the format.
+pub(crate) const VERSION: u16 = 0x0504;
 
 // The tag of the KDC's clock offset, and how many bytes it has.
 pub(crate) const OFFSET_TAG: u16 = 1;

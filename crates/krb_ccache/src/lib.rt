@@ -2,12 +2,15 @@
 #![tactic(auto)]
 
 mod cache;
+mod configuration;
 mod credential;
 mod fault;
+mod fits;
 mod header;
 mod item_fault;
 mod items;
 mod typed;
+mod writing;
 
 pub use cache::CCache;
 pub use credential::{Credential, HeaderField};

@@ -1,0 +1,86 @@
+//! Whether a file has room for the parts of a cache.
+
+ghost use Rattle.std.specs.Prelude.{◌≡◌, ◌<◌, ◌^◌, ◌↔◌, IsTrue, All, MatchBool, length};
+ghost use Rattle.krb_ccache.specs.Value.{HasNameLengths, HasListLengths, HasHeaderLengths, HasCredentialLengths, FitsHeader, FitsName, FitsList, FitsCredential};
+
+use crate::credential::{Credential, HeaderField};
+use crate::header::{OFFSET_LENGTH, OFFSET_TAG};
+use crate::typed::TypedBytes;
+use krb_name::{Bytes, Principal};
+
+// The greatest count or length of a field of 16 bits, and of one of 32.
+const MOST_16: usize = 65_535;
+const MOST_32: usize = 4_294_967_295;
+
+// How many bytes stand before the value of a field of the header.
+const FIELD_START: usize = 4;
+
+pub(crate) fn header_fits(header: &[HeaderField]) -> bool
+    ensures { MatchBool result (FitsHeader header.now) (¬ HasHeaderLengths header.now) }
+{
+    let mut size = 0;
+    for field in header {
+        if field.value.len() > MOST_16 || !has_offset_length(field) {
+            return false;
+        }
+        size += FIELD_START + field.value.len();
+        if size > MOST_16 {
+            return false;
+        }
+    }
+    true
+}
+
+fn has_offset_length(field: &HeaderField) -> bool {
+    field.tag != OFFSET_TAG || field.value.len() == OFFSET_LENGTH
+}
+
+pub(crate) fn name_fits(name: &Principal) -> bool
+    ensures { MatchBool result (FitsName name.now) (¬ HasNameLengths name.now) }
+{
+    let _name_type = name.name_type;
+    name.components.len() <= MOST_32
+        && name.realm.len() <= MOST_32
+        && components_fit(name.components.as_slice())
+}
+
+fn components_fit(components: &[Bytes]) -> bool
+    ensures { IsTrue result ↔ All (λ component. length component < 2 ^ 32) components.now }
+{
+    components.iter().all(|component| component.len() <= MOST_32)
+}
+
+fn list_fits(list: &[TypedBytes]) -> bool
+    ensures { MatchBool result (FitsList list.now) (¬ HasListLengths list.now) }
+{
+    for element in list {
+        let _kind = element.kind;
+        if element.bytes.len() > MOST_32 {
+            return false;
+        }
+    }
+    list.len() <= MOST_32
+}
+
+fn credential_fits(credential: &Credential) -> bool
+    ensures { MatchBool result (FitsCredential credential.now) (¬ HasCredentialLengths credential.now) }
+{
+    name_fits(&credential.client)
+        && name_fits(&credential.server)
+        && credential.key.len() <= MOST_32
+        && list_fits(credential.addresses.as_slice())
+        && list_fits(credential.authdata.as_slice())
+        && credential.ticket.len() <= MOST_32
+        && credential.second_ticket.len() <= MOST_32
+}
+
+pub(crate) fn all_fit(credentials: &[Credential]) -> bool
+    ensures { MatchBool result (All FitsCredential credentials.now) (¬ All HasCredentialLengths credentials.now) }
+{
+    for credential in credentials {
+        if !credential_fits(credential) {
+            return false;
+        }
+    }
+    true
+}
