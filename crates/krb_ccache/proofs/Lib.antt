@@ -5,3 +5,5 @@ pub mod HeaderLaws
 pub mod FileLaws
 pub mod AnswerLaws
 pub mod SourceLaws
+pub mod OffsetLaws
+pub mod FitsLaws

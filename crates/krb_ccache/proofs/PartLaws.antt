@@ -136,7 +136,7 @@ IsField-flag = record { takes = flag_take; again = flag_again }
 
 -- ---- addresses and authorization data
 
-abbrev FitsTyped : TypedBytes → Type 0
+abbrev pub FitsTyped : TypedBytes → Type 0
 FitsTyped element = Below16 element.kind × Short32 element.bytes
 
 typed_made : IsMade typed_of (λ parts. number_bytes w16 parts.0 ++ data_bytes w32 parts.1) (λ parts. Below16 parts.0 × Short32 parts.1) typed_bytes FitsTyped

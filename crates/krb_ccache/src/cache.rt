@@ -13,7 +13,7 @@ ghost use Rattle.krb_ccache.specs.Source.{IsGiven};
 ghost use Rattle.krb_ccache.specs.Inner.Reading.{credential_at};
 ghost use Rattle.krb_ccache.specs.Inner.Standing.{Lies, Reaches, IsMissing, StopsBy};
 
-use crate::configuration::{is_configuration, offset_in};
+use crate::configuration::{is_entry, offset_in};
 use crate::credential::{Credential, HeaderField};
 use crate::fault::CacheFault;
 use crate::fits::{all_fit, header_fits, name_fits};
@@ -175,7 +175,7 @@ impl CCache {
     pub fn is_configuration(credential: &Credential) -> bool
         ensures { IsTrue result ↔ IsConfiguration credential.now }
     {
-        is_configuration(credential)
+        is_entry(credential)
     }
 
     /// Writes the bytes of the file.

@@ -1,6 +1,8 @@
 //! Whether a file has room for the parts of a cache.
 
 ghost use Rattle.std.specs.Prelude.{◌≡◌, ◌<◌, ◌^◌, ◌↔◌, IsTrue, All, MatchBool, length};
+ghost use Rattle.krb_ccache.specs.Inner.Fitting.{HasDataLengths, HasNumbers};
+ghost use Rattle.krb_ccache.specs.Inner.Reading.{is_field};
 ghost use Rattle.krb_ccache.specs.Value.{HasNameLengths, HasListLengths, HasHeaderLengths, HasCredentialLengths, FitsHeader, FitsName, FitsList, FitsCredential};
 
 use crate::credential::{Credential, HeaderField};
@@ -20,7 +22,10 @@ pub(crate) fn header_fits(header: &[HeaderField]) -> bool
 {
     let mut size = 0;
     for field in header {
-        if field.value.len() > MOST_16 || !has_offset_length(field) {
+        if field.value.len() > MOST_16 {
+            return false;
+        }
+        if !has_offset_length(field) {
             return false;
         }
         size += FIELD_START + field.value.len();
@@ -31,7 +36,11 @@ pub(crate) fn header_fits(header: &[HeaderField]) -> bool
     true
 }
 
-fn has_offset_length(field: &HeaderField) -> bool {
+// Whether a field of tag 1 has 8 bytes.
+fn has_offset_length(field: &HeaderField) -> bool
+    ensures tag { field.now.tag < 2 ^ 16 }
+    ensures length { result ≡ is_field field.now }
+{
     field.tag != OFFSET_TAG || field.value.len() == OFFSET_LENGTH
 }
 
@@ -53,25 +62,59 @@ fn components_fit(components: &[Bytes]) -> bool
 fn list_fits(list: &[TypedBytes]) -> bool
     ensures { MatchBool result (FitsList list.now) (¬ HasListLengths list.now) }
 {
+    if list.len() > MOST_32 {
+        return false;
+    }
     for element in list {
         let _kind = element.kind;
         if element.bytes.len() > MOST_32 {
             return false;
         }
     }
-    list.len() <= MOST_32
+    true
 }
 
 fn credential_fits(credential: &Credential) -> bool
-    ensures { MatchBool result (FitsCredential credential.now) (¬ HasCredentialLengths credential.now) }
+    ensures { MatchBool result (FitsCredential credential.now)
+        (¬ HasCredentialLengths credential.now) }
 {
-    name_fits(&credential.client)
-        && name_fits(&credential.server)
-        && credential.key.len() <= MOST_32
-        && list_fits(credential.addresses.as_slice())
-        && list_fits(credential.authdata.as_slice())
+    if !name_fits(&credential.client) {
+        return false;
+    }
+    if !name_fits(&credential.server) {
+        return false;
+    }
+    if !list_fits(credential.addresses.as_slice()) {
+        return false;
+    }
+    if !list_fits(credential.authdata.as_slice()) {
+        return false;
+    }
+    if !data_fits(credential) {
+        return false;
+    }
+    has_numbers(credential);
+    true
+}
+
+fn data_fits(credential: &Credential) -> bool
+    ensures { IsTrue result ↔ HasDataLengths credential.now }
+{
+    credential.key.len() <= MOST_32
         && credential.ticket.len() <= MOST_32
         && credential.second_ticket.len() <= MOST_32
+}
+
+// Says that each number is in the range of its type, which a proof knows where it is read.
+fn has_numbers(credential: &Credential)
+    ensures { HasNumbers credential.now }
+{
+    let _etype = credential.etype;
+    let _authtime = credential.authtime;
+    let _starttime = credential.starttime;
+    let _endtime = credential.endtime;
+    let _renew_till = credential.renew_till;
+    let _ticket_flags = credential.ticket_flags;
 }
 
 pub(crate) fn all_fit(credentials: &[Credential]) -> bool

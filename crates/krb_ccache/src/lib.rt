@@ -9,6 +9,7 @@ mod fits;
 mod header;
 mod item_fault;
 mod items;
+pub mod laws;
 mod typed;
 mod writing;
 

@@ -88,7 +88,14 @@ fn write_list(out: &mut Vec<u8>, list: &[TypedBytes]) -> Result<(), AllocError>
     ensures { OnOk result (out.new.items ≡ out.old.items ++ list_bytes list.now) }
 {
     write_u32(out, list.len() as u32)?;
-    for element in list {
+    write_elements(out, list)
+}
+
+fn write_elements(out: &mut Vec<u8>, elements: &[TypedBytes]) -> Result<(), AllocError>
+    requires { All (λ element. length element.bytes < 2 ^ 32) elements.now }
+    ensures { OnOk result (out.new.items ≡ out.old.items ++ flat_map typed_bytes elements.now) }
+{
+    for element in elements {
         write_typed(out, element)?;
     }
     Ok(())
