@@ -7,3 +7,4 @@ pub mod AnswerLaws
 pub mod SourceLaws
 pub mod OffsetLaws
 pub mod FitsLaws
+pub mod WritingLaws
