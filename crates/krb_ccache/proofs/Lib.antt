@@ -6,5 +6,6 @@ pub mod FileLaws
 pub mod AnswerLaws
 pub mod SourceLaws
 pub mod OffsetLaws
+pub mod ComputedOffset
 pub mod FitsLaws
 pub mod WritingLaws

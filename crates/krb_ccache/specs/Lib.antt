@@ -2,6 +2,7 @@ pub mod Spelling
 pub mod Value
 pub mod Format
 pub mod Configuration
+pub mod Offset
 pub mod Fault
 pub mod Source
 pub mod Inner

@@ -9,11 +9,12 @@ ghost use Rattle.krb_ccache.specs.Value.{Cache, cache_of, HasLengths, Fits, Fits
 ghost use Rattle.krb_ccache.specs.Configuration.{HoldsOffset, IsConfiguration};
 ghost use Rattle.krb_ccache.specs.Fault.{offset_of, failed_reads};
 ghost use Rattle.krb_ccache.specs.Format.{file_limit, cache_bytes, IsCache, IsFaultOf, IsAnswerOf};
+ghost use Rattle.krb_ccache.specs.Offset.{clock_offset};
 ghost use Rattle.krb_ccache.specs.Source.{IsGiven};
 ghost use Rattle.krb_ccache.specs.Inner.Reading.{credential_at};
 ghost use Rattle.krb_ccache.specs.Inner.Standing.{Lies, Reaches, IsMissing, StopsBy};
 
-use crate::configuration::{is_entry, offset_in};
+use crate::configuration::{first_offset, is_entry};
 use crate::credential::{Credential, HeaderField};
 use crate::fault::CacheFault;
 use crate::fits::{all_fit, header_fits, name_fits};
@@ -166,8 +167,9 @@ impl CCache {
     pub fn kdc_offset(&self) -> Option<(i32, i32)>
         ensures some { IfSome result (λ offset. HoldsOffset self.now.header offset.0 offset.1) }
         ensures none { IfNone result (All (λ field. field.tag ≢ 1) self.now.header) }
+        ensures computed { result ≡ clock_offset self.now.header }
     {
-        offset_in(self.header.as_slice())
+        first_offset(self.header.as_slice())
     }
 
     /// Answers whether `credential` is a configuration entry: its server's realm is `X-CACHECONF:`
@@ -200,10 +202,11 @@ impl CCache {
             }
             write_credential(&mut bytes, credential)?;
         }
-        if bytes.len() > FILE_LIMIT {
-            return Err(CacheFault::TooLong);
+        if bytes.len() <= FILE_LIMIT {
+            Ok(bytes)
+        } else {
+            Err(CacheFault::TooLong)
         }
-        Ok(bytes)
     }
 
     /// Lends the default principal: whose cache it is.

@@ -12,7 +12,7 @@ const CONFIGURATION_REALM: &[u8] = b"X-CACHECONF:";
 const CONFIGURATION_NAME: &[u8] = b"krb5_ccache_conf_data";
 
 /// Answers the clock offset that the first field of tag 1 holds.
-pub(crate) fn offset_in(header: &[HeaderField]) -> Option<(i32, i32)>
+pub(crate) fn first_offset(header: &[HeaderField]) -> Option<(i32, i32)>
     requires { All (λ field. field.tag ≡ 1 → length field.value ≡ 8) header.now }
     ensures some { IfSome result (λ offset. HoldsOffset header.now offset.0 offset.1) }
     ensures none { IfNone result (All (λ field. field.tag ≢ 1) header.now) }

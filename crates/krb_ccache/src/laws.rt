@@ -1,11 +1,12 @@
 //! Laws over the definitions, for proofs to cite. Each function does nothing: its contract is the law.
 
-ghost use Rattle.std.specs.Prelude.{◌≡◌, ℕ, ℤ, List, Result};
+ghost use Rattle.std.specs.Prelude.{◌≡◌, ◌≢◌, ℕ, ℤ, All, List, None, Some, Result};
 ghost use Rattle.krb_name.specs.Field.{IsBytes};
 ghost use Rattle.krb_ccache.specs.declared.credential.HeaderField.{HeaderField};
 ghost use Rattle.krb_ccache.specs.declared.fault.CacheFault.{CacheFault};
 ghost use Rattle.krb_ccache.specs.Configuration.{HoldsOffset};
-ghost use Rattle.krb_ccache.specs.Format.{cache_bytes, IsCache, IsAnswerOf};
+ghost use Rattle.krb_ccache.specs.Format.{IsCache, IsAnswerOf};
+ghost use Rattle.krb_ccache.specs.Offset.{clock_offset};
 ghost use Rattle.krb_ccache.specs.Value.{Cache};
 
 /// Says that bytes are a cache or have a fault; and that they are a cache of one value only, or
@@ -33,4 +34,14 @@ pub fn a_header_holds_one_offset()
     ensures microseconds { (header : List HeaderField) (seconds microseconds others more : ℤ)
         → HoldsOffset header seconds microseconds → HoldsOffset header others more
         → microseconds ≡ more }
+{}
+
+/// Says that the clock offset that a header holds is the one that is computed, and that none is
+/// computed of a header without a field of tag 1.
+pub fn the_offset_is_computed()
+    ensures held { (header : List HeaderField) (seconds microseconds : ℤ)
+        → HoldsOffset header seconds microseconds
+        → clock_offset header ≡ Some (seconds, microseconds) }
+    ensures none { (header : List HeaderField) → All (λ field. field.tag ≢ 1) header
+        → clock_offset header ≡ None }
 {}

@@ -2,7 +2,7 @@ use Rattle.std.proofs.Common.{◌≢◌}
 use Rattle.std.proofs.lemmas.Option.{IfSome_then}
 use Rattle.krb_ccache.proofs.FitsLaws.{all_seen}
 use Rattle.krb_ccache.proofs.OffsetLaws.{offset_held}
-use Rattle.krb_ccache.proofs.configuration.offset_in.Goals as goal
+use Rattle.krb_ccache.proofs.configuration.first_offset.Goals as goal
 
 pub returns-then-field-eq-OFFSET_TAG-clause-some : goal.returns-then-field-eq-OFFSET_TAG-clause-some
 returns-then-field-eq-OFFSET_TAG-clause-some c =
