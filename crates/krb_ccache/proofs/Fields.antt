@@ -1,0 +1,108 @@
+-- Fields that are joined of others are read as they are spelled.
+use Rattle.std.proofs.Common.{◌≡◌, ℕ, ◌+◌, ◌<◌, ◌^◌, Bool, true, cond, List, ◌++◌, length, Option, Some, None, refl, sym, ap, subst, ◌∙◌, append_assoc, arith}
+use Rattle.std.specs.Int.{w32}
+use Rattle.std.specs.Prelude.{All}
+use Rattle.std.specs.List.{flat_map, AllByRecursion}
+use Rattle.std.proofs.lemmas.List.{length-append}
+use Rattle.std.proofs.lemmas.List.Elements.{All-from_recursion, recursion_from_All}
+use Rattle.std.proofs.lemmas.Option.{cond_some}
+use Rattle.krb_name.specs.Cursor.{Place, ◌>>=◌, number_at, number_bytes, times_at}
+use Rattle.krb_name.specs.Field.{IsBytes, Takes, IsField}
+use Rattle.krb_name.proofs.CursorLaws.{bind_some, some_is, Takes-then, IsField-u32}
+use Rattle.krb_name.proofs.Repeated.{IsField-times}
+use Rattle.krb_ccache.specs.Inner.Reading.{both_at, made_at, passing_at, counted_at}
+
+-- ---- one behind the other
+
+module _ {X Y : Type 0} (r1 : Place → Option (X × Place)) (s1 : X → List ℕ) (P1 : X → Type 0) (f1 : IsField r1 s1 P1) (r2 : Place → Option (Y × Place)) (s2 : Y → List ℕ) (P2 : Y → Type 0) (f2 : IsField r2 s2 P2) where
+  both_take : (place : Place) (x : X × Y) (behind : Place) → IsBytes place.rest → both_at r1 r2 place ≡ Some (x, behind) → Takes place (s1 x.0 ++ s2 x.1) behind × (P1 x.0 × P2 x.1)
+  both_take place x behind fits e =
+      let a = bind_some (r1 place) (λ p. r2 p.1 >>= λ q. Some ((p.0, q.0), q.1)) (x, behind) e in
+      let b = bind_some (r2 a.0.1) (λ q. Some ((a.0.0, q.0), q.1)) (x, behind) a.2 in
+      let t = f1.takes place a.0.0 a.0.1 fits a.1 in
+      let u = f2.takes a.0.1 b.0.0 b.0.1 t.0.rest_fits b.1 in
+      subst (λ (p : (X × Y) × Place). Takes place (s1 p.0.0 ++ s2 p.0.1) p.1 × (P1 p.0.0 × P2 p.0.1)) (some_is ((a.0.0, b.0.0), b.0.1) (x, behind) b.2)
+      (Takes-then place (s1 a.0.0) a.0.1 (s2 b.0.0) b.0.1 t.0 u.0, (t.1, u.1))
+
+  both_again : (at : ℕ) (x : X × Y) (rest : List ℕ) → P1 x.0 × P2 x.1
+      → both_at r1 r2 (record { at = at; rest = (s1 x.0 ++ s2 x.1) ++ rest }) ≡ Some (x, record { at = at + length (s1 x.0 ++ s2 x.1); rest = rest })
+  both_again at x rest h =
+      let grouped : (s1 x.0 ++ s2 x.1) ++ rest ≡ s1 x.0 ++ (s2 x.1 ++ rest) = append_assoc (s1 x.0) (s2 x.1) rest in
+      let first = f1.again at x.0 (s2 x.1 ++ rest) h.0 in
+      let second = f2.again (at + length (s1 x.0)) x.1 rest h.1 in
+      let place : (at + length (s1 x.0)) + length (s2 x.1) ≡ at + length (s1 x.0 ++ s2 x.1) = omega (arith, length-append (s1 x.0) (s2 x.1)) in
+      rw (grouped, first, second, place) refl
+
+  pub IsField-both : IsField (both_at r1 r2) (λ x. s1 x.0 ++ s2 x.1) (λ x. P1 x.0 × P2 x.1)
+  IsField-both = record { takes = both_take; again = both_again }
+
+-- ---- what is made of another
+
+-- a value is made of its parts, and spelled and in range as they are
+pub record IsMade {X Y : Type 0} (make : X → Y) (sx : X → List ℕ) (PX : X → Type 0) (sy : Y → List ℕ) (PY : Y → Type 0) : Type 0 where
+  pub parts : Y → X
+  pub back : (y : Y) → make (parts y) ≡ y
+  pub spelled : (x : X) → sx x ≡ sy (make x)
+  pub ranges : (x : X) → PX x → PY (make x)
+  pub in_parts : (y : Y) → PY y → PX (parts y)
+
+module _ {X Y : Type 0} (make : X → Y) (rx : Place → Option (X × Place)) (sx : X → List ℕ) (PX : X → Type 0) (fx : IsField rx sx PX) (sy : Y → List ℕ) (PY : Y → Type 0) (made : IsMade make sx PX sy PY) where
+  made_take : (place : Place) (y : Y) (behind : Place) → IsBytes place.rest → made_at make rx place ≡ Some (y, behind) → Takes place (sy y) behind × PY y
+  made_take place y behind fits e =
+      let a = bind_some (rx place) (λ p. Some (make p.0, p.1)) (y, behind) e in
+      let t = fx.takes place a.0.0 a.0.1 fits a.1 in
+      subst (λ (p : Y × Place). Takes place (sy p.0) p.1 × PY p.0) (some_is (make a.0.0, a.0.1) (y, behind) a.2)
+      (subst (λ (text : List ℕ). Takes place text a.0.1) (made.spelled a.0.0) t.0, made.ranges a.0.0 t.1)
+
+  made_again : (at : ℕ) (y : Y) (rest : List ℕ) → PY y → made_at make rx (record { at = at; rest = sy y ++ rest }) ≡ Some (y, record { at = at + length (sy y); rest = rest })
+  made_again at y rest h =
+      let same : sy y ≡ sx (made.parts y) = sym (made.spelled (made.parts y) ∙ ap sy (made.back y)) in
+      let read = fx.again at (made.parts y) rest (made.in_parts y h) in
+      rw (same, read, made.back y) refl
+
+  pub IsField-made : IsField (made_at make rx) sy PY
+  IsField-made = record { takes = made_take; again = made_again }
+
+-- ---- what passes a test
+
+module _ {X : Type 0} (test : X → Bool) (r : Place → Option (X × Place)) (s : X → List ℕ) (P : X → Type 0) (f : IsField r s P) where
+  passing_take : (place : Place) (x : X) (behind : Place) → IsBytes place.rest → passing_at test r place ≡ Some (x, behind) → Takes place (s x) behind × (P x × (test x ≡ true))
+  passing_take place x behind fits e =
+      let a = bind_some (r place) (λ p. cond (test p.0) (Some p) None) (x, behind) e in
+      let g = cond_some (test a.0.0) a.0 (x, behind) a.2 in
+      let t = f.takes place a.0.0 a.0.1 fits a.1 in
+      subst (λ (p : X × Place). Takes place (s p.0) p.1 × (P p.0 × (test p.0 ≡ true))) g.1 (t.0, (t.1, g.0))
+
+  passing_again : (at : ℕ) (x : X) (rest : List ℕ) → P x × (test x ≡ true) → passing_at test r (record { at = at; rest = s x ++ rest }) ≡ Some (x, record { at = at + length (s x); rest = rest })
+  passing_again at x rest h = let read = f.again at x rest h.0 in let passes : test x ≡ true = h.1 in rw (read, passes) refl
+
+  pub IsField-passing : IsField (passing_at test r) s (λ x. P x × (test x ≡ true))
+  IsField-passing = record { takes = passing_take; again = passing_again }
+
+-- ---- a count, and so many
+
+module _ {X : Type 0} (r : Place → Option (X × Place)) (s : X → List ℕ) (P : X → Type 0) (f : IsField r s P) where
+  counted_take : (place : Place) (xs : List X) (behind : Place) → IsBytes place.rest → counted_at r place ≡ Some (xs, behind)
+      → Takes place (number_bytes w32 (length xs) ++ flat_map s xs) behind × ((length xs < 2 ^ 32) × All P xs)
+  counted_take place xs behind fits e =
+      let a = bind_some (number_at w32 place) (λ count. times_at r count.0 count.1) (xs, behind) e in
+      let t = IsField-u32.takes place a.0.0 a.0.1 fits a.1 in
+      let u = (IsField-times r s P f a.0.0).takes a.0.1 xs behind t.0.rest_fits a.2 in
+      let whole = Takes-then place (number_bytes w32 a.0.0) a.0.1 (flat_map s xs) behind t.0 u.0 in (
+        subst (λ (n : ℕ). Takes place (number_bytes w32 n ++ flat_map s xs) behind) (sym u.1.0) whole,
+        (subst (λ (n : ℕ). n < 2 ^ 32) (sym u.1.0) t.1, All-from_recursion P xs u.1.1),
+      )
+
+  counted_again : (at : ℕ) (xs : List X) (rest : List ℕ) → (length xs < 2 ^ 32) × All P xs
+      → counted_at r (record { at = at; rest = (number_bytes w32 (length xs) ++ flat_map s xs) ++ rest }) ≡ Some (xs, record { at = at + length (number_bytes w32 (length xs) ++ flat_map s xs); rest = rest })
+  counted_again at xs rest h =
+      let front : List ℕ = number_bytes w32 (length xs) in
+      let back : List ℕ = flat_map s xs in
+      let grouped : (front ++ back) ++ rest ≡ front ++ (back ++ rest) = append_assoc front back rest in
+      let first = IsField-u32.again at (length xs) (back ++ rest) h.0 in
+      let second = (IsField-times r s P f (length xs)).again (at + length front) xs rest (refl, recursion_from_All P xs h.1) in
+      let place : (at + length front) + length back ≡ at + length (front ++ back) = omega (arith, length-append front back) in
+      rw (grouped, first, second, place) refl
+
+  pub IsField-counted : IsField (counted_at r) (λ xs. number_bytes w32 (length xs) ++ flat_map s xs) (λ xs. (length xs < 2 ^ 32) × All P xs)
+  IsField-counted = record { takes = counted_take; again = counted_again }

@@ -1,0 +1,119 @@
+-- The header of a cache, and its version as a number.
+use Rattle.std.proofs.Common.{◌≡◌, ◌⊎◌, ℕ, ◌+◌, ◌<◌, ◌^◌, Bool, true, false, eqb, not, ◌&&◌, List, [], ◌∷◌, ◌++◌, length, Option, Some, None, refl, sym, ap, subst, ◌∙◌, append-nil, arith, inl, inr}
+use Rattle.std.specs.Int.{w16}
+use Rattle.std.specs.Prelude.{All}
+use Rattle.std.specs.List.{flat_map}
+use Rattle.std.proofs.lemmas.Bool.{eqb-true, eqb-false, eq-eqb}
+use Rattle.std.proofs.lemmas.List.{length-append, drop_at}
+use Rattle.std.proofs.lemmas.List.Elements.{recursion_from_All}
+use Rattle.krb_name.specs.Cursor.{Place, number_at, data_at, number_bytes, data_bytes}
+use Rattle.krb_name.specs.Field.{IsBytes, Takes}
+use Rattle.krb_name.proofs.CursorLaws.{some_is, IsBytes-drop, IsField-u16, IsField-data16}
+use Rattle.krb_ccache.specs.declared.credential.HeaderField.{HeaderField}
+use Rattle.krb_ccache.specs.Spelling.{field_bytes, fields_bytes, header_bytes}
+use Rattle.krb_ccache.specs.Value.{FitsHeader}
+use Rattle.krb_ccache.specs.Format.{version}
+use Rattle.krb_ccache.specs.Inner.Reading.{is_field, field_at}
+use Rattle.krb_ccache.specs.Inner.Standing.{Lies, Reaches, IsMissing, Fills}
+use Rattle.krb_ccache.proofs.PartLaws.{Short16, FitsField, IsField-field}
+use Rattle.krb_ccache.proofs.Repeats.{same_front, missing_where, same_things, reach_none, reach_more}
+
+-- ---- the fields
+
+pub field_some : (field : HeaderField) → 0 < length (field_bytes field)
+field_some field = omega (arith, length-append (number_bytes w16 field.tag) (data_bytes w16 field.value))
+
+offset_length : (field : HeaderField) → is_field field ≡ true → field.tag ≡ 1 → length field.value ≡ 8
+offset_length field passes tag = tested (eqb (length field.value) 8) refl
+  where
+    tested : (b : Bool) → eqb (length field.value) 8 ≡ b → length field.value ≡ 8
+    tested true e = eqb-true _ _ e
+    tested false e = let t : eqb field.tag 1 ≡ true = eq-eqb _ _ tag in let h = rw (t, e) at passes in cc
+
+has_length : (field : HeaderField) → (field.tag ≡ 1 → length field.value ≡ 8) → is_field field ≡ true
+has_length field h = tested (eqb field.tag 1) refl
+  where
+    tested : (b : Bool) → eqb field.tag 1 ≡ b → is_field field ≡ true
+    tested false e = rw e refl
+    tested true e = let n : eqb (length field.value) 8 ≡ true = eq-eqb _ _ (h (eqb-true _ _ e)) in rw (e, n) refl
+
+pub fields_fit : (fields : List HeaderField) → All FitsField fields → length (fields_bytes fields) < 2 ^ 16 → FitsHeader fields
+fields_fit fields fit whole = record {
+  lengths = record { whole = whole; values = λ k d lt. (fit k d lt).0.1; offsets = λ k d lt. offset_length _ (fit k d lt).1 };
+  tags = λ k d lt. (fit k d lt).0.0;
+}
+
+pub fits_fields : (fields : List HeaderField) → FitsHeader fields → All FitsField fields
+fits_fields fields fits = λ k d lt. ((fits.tags k d lt, fits.lengths.values k d lt), has_length _ (fits.lengths.offsets k d lt))
+
+-- ---- a loop over the fields
+
+pub start_of : (body : List ℕ) (place : Place) (fields : List HeaderField) → IsBytes body → place ≡ record { at = 0; rest = body } → fields ≡ [] → Reaches field_bytes FitsField (record { at = 0; rest = body }) fields place
+start_of body place fields fits e f = rw (e, f) (reach_none field_at field_bytes FitsField IsField-field (record { at = 0; rest = body }) fits)
+
+pub record Goes (body : List ℕ) (place : Place) (fields : List HeaderField) (behind : Place) : Type 0 where
+  pub reaches : Reaches field_bytes FitsField (record { at = 0; rest = body }) fields behind
+  pub smaller : length behind.rest < length place.rest
+
+pub field_goes : (body : List ℕ) (place : Place) (fields : List HeaderField) (field : HeaderField) (behind : Place) → Reaches field_bytes FitsField (record { at = 0; rest = body }) fields place
+    → field_at place ≡ Some (field, behind) → Goes body place (fields ++ field ∷ []) behind
+field_goes body place fields field behind reaches e =
+    let t = IsField-field.takes place field behind reaches.takes.rest_fits e in
+    record {
+      reaches = reach_more field_at field_bytes FitsField IsField-field (record { at = 0; rest = body }) fields place field behind reaches e;
+      smaller = omega (arith, field_some field, ap length t.0.parts, length-append (field_bytes field) behind.rest);
+    }
+
+pub filled : (body : List ℕ) (place : Place) (fields : List HeaderField) → length body < 2 ^ 16 → Reaches field_bytes FitsField (record { at = 0; rest = body }) fields place → place.rest ≡ [] → Fills body fields
+filled body place fields short reaches end =
+    let whole : body ≡ fields_bytes fields = reaches.takes.parts ∙ ap (λ (t : List ℕ). fields_bytes fields ++ t) end ∙ append-nil (fields_bytes fields) in
+    record { fits = fields_fit fields reaches.fit (subst Short16 whole short); whole = whole }
+
+-- fields that fill the bytes leave none behind those that were read
+pub filled_same : (body : List ℕ) (place : Place) (fields : List HeaderField) → Reaches field_bytes FitsField (record { at = 0; rest = body }) fields place → (place.rest ≡ []) ⊎ IsMissing field_bytes FitsField place.rest
+    → (header : List HeaderField) → Fills body header → place.rest ≡ []
+filled_same body place fields reaches end header fills =
+    (same_things field_at field_bytes FitsField IsField-field field_some fields header place.rest [] (recursion_from_All FitsField fields reaches.fit) (recursion_from_All FitsField header (fits_fields header fills.fits))
+    end (inl refl) (sym reaches.takes.parts ∙ fills.whole ∙ sym (append-nil (fields_bytes header)))).1
+
+pub not_filled : (body : List ℕ) (place : Place) (fields : List HeaderField) → Reaches field_bytes FitsField (record { at = 0; rest = body }) fields place → (place.rest ≡ [] → ⊥) → field_at place ≡ None
+    → (header : List HeaderField) → Fills body header → ⊥
+not_filled body place fields reaches more none header fills = more (filled_same body place fields reaches (inr (missing_where field_at field_bytes FitsField IsField-field place none)) header fills)
+
+-- ---- the header
+
+pub header_lies : (place : Place) (body : List ℕ) (behind : Place) (header : List HeaderField) → IsBytes place.rest → data_at w16 place ≡ Some (body, behind) → Fills body header → Lies header_bytes FitsHeader place header behind
+header_lies place body behind header fits e fills =
+    let t = IsField-data16.takes place body behind fits e in
+    record { fits = fills.fits; takes = subst (λ (text : List ℕ). Takes place (data_bytes w16 text) behind) fills.whole t.0 }
+
+pub header_cut : (place : Place) → data_at w16 place ≡ None → IsMissing header_bytes FitsHeader place.rest
+header_cut place none header others fits e = missing_where (data_at w16) (data_bytes w16) Short16 IsField-data16 place none (fields_bytes header) others fits.lengths.whole e
+
+pub header_wrong : (place : Place) (body : List ℕ) (behind : Place) → IsBytes place.rest → data_at w16 place ≡ Some (body, behind) → ((header : List HeaderField) → Fills body header → ⊥)
+    → IsMissing header_bytes FitsHeader place.rest
+header_wrong place body behind fits e wrong header others h f =
+    let t = IsField-data16.takes place body behind fits e in
+    let same = same_front (data_at w16) (data_bytes w16) Short16 IsField-data16 body (fields_bytes header) behind.rest others t.1 h.lengths.whole (sym t.0.parts ∙ f) in
+    wrong header (record { fits = h; whole = same.0 })
+
+-- ---- the version
+
+pub record Opens (bytes : List ℕ) (place : Place) : Type 0 where
+  pub at : place.at ≡ 2
+  pub rest : bytes ≡ version ++ place.rest
+  pub fits : IsBytes place.rest
+
+pub opened : (bytes : List ℕ) (start place : Place) (number : ℕ) → IsBytes bytes → start ≡ record { at = 0; rest = bytes } → number_at w16 start ≡ Some (number, place) → number ≡ 0x0504 → Opens bytes place
+opened bytes start place number fits e read is =
+    let t = IsField-u16.takes (record { at = 0; rest = bytes }) 0x0504 place fits (rw (e, is) at read) in
+    record { at = t.0.at; rest = t.0.parts; fits = t.0.rest_fits }
+
+start_read : (bytes others : List ℕ) (start : Place) → start ≡ record { at = 0; rest = bytes } → bytes ≡ version ++ others → number_at w16 start ≡ Some (0x0504, record { at = 2; rest = others })
+start_read bytes others start e f = ap (number_at w16) e ∙ ap (λ (t : List ℕ). number_at w16 (record { at = 0; rest = t })) f ∙ IsField-u16.again 0 0x0504 others (omega arith)
+
+pub too_few : (bytes others : List ℕ) (start : Place) → start ≡ record { at = 0; rest = bytes } → number_at w16 start ≡ None → bytes ≡ version ++ others → ⊥
+too_few bytes others start e none f = let read = start_read bytes others start e f in cc
+
+pub other_number : (bytes others : List ℕ) (start place : Place) (number : ℕ) → start ≡ record { at = 0; rest = bytes } → number_at w16 start ≡ Some (number, place) → (number ≡ 0x0504 → ⊥) → bytes ≡ version ++ others → ⊥
+other_number bytes others start place number e read other f = other (ap (λ (x : ℕ × Place). x.0) (some_is (number, place) (0x0504, record { at = 2; rest = others }) (sym read ∙ start_read bytes others start e f)))

@@ -1,0 +1,11 @@
+pub mod Fields
+pub mod PartLaws
+pub mod Repeats
+pub mod HeaderLaws
+pub mod FileLaws
+pub mod AnswerLaws
+pub mod SourceLaws
+pub mod OffsetLaws
+pub mod ComputedOffset
+pub mod FitsLaws
+pub mod WritingLaws

@@ -1,0 +1,227 @@
+-- Each part of a cache is read as it is spelled.
+use Rattle.std.proofs.Common.{◌≡◌, ℕ, ◌+◌, ◌<◌, ◌^◌, Bool, true, false, cond, eqb, not, ◌&&◌, ℤ, List, ◌++◌, length, Option, Some, None, refl, sym, ap, subst, ◌∙◌, append_assoc, arith}
+use Rattle.std.specs.Int.{w8, w16, w32}
+use Rattle.std.specs.Prelude.{All, FitsSigned}
+use Rattle.std.specs.List.{flat_map, AllByRecursion}
+use Rattle.std.proofs.lemmas.Bool.{eqb-true, eqb-false, ne_eqb}
+use Rattle.std.proofs.lemmas.List.{length-append}
+use Rattle.std.proofs.lemmas.List.Elements.{All-from_recursion, recursion_from_All, All-weaker}
+use Rattle.krb_name.specs.Cursor.{Place, ◌>>=◌, number_at, signed_at, data_at, times_at, number_bytes, signed_bytes, data_bytes}
+use Rattle.krb_name.specs.Field.{IsBytes, Takes, IsField}
+use Rattle.krb_name.proofs.CursorLaws.{bind_some, some_is, Takes-then, IsField-u8, IsField-u16, IsField-u32, IsField-i16, IsField-i32, IsField-data16, IsField-data32}
+use Rattle.krb_name.proofs.Repeated.{IsField-times}
+use Rattle.krb_name.specs.declared.principal.Principal.{Principal}
+use Rattle.krb_ccache.specs.declared.typed.TypedBytes.{TypedBytes}
+use Rattle.krb_ccache.specs.declared.credential.HeaderField.{HeaderField}
+use Rattle.krb_ccache.specs.declared.credential.Credential.{Credential}
+use Rattle.krb_ccache.specs.Spelling.{field_bytes, name_bytes, flag_bytes, typed_bytes, list_bytes, credential_bytes}
+use Rattle.krb_ccache.specs.Value.{FitsName, FitsList, FitsCredential}
+use Rattle.krb_ccache.specs.Inner.Reading.{both_at, made_at, passing_at, counted_at, field_of, is_field, field_at, name_at, flag_of, flag_at, typed_of, typed_at, list_at, Parts, credential_of, parts_at, credential_at}
+use Rattle.krb_ccache.proofs.Fields.{IsField-both, IsMade, IsField-made, IsField-passing, IsField-counted}
+
+abbrev pub Below16 : ℕ → Type 0
+Below16 n = n < 2 ^ 16
+
+abbrev pub Below32 : ℕ → Type 0
+Below32 n = n < 2 ^ 32
+
+abbrev pub Short16 : List ℕ → Type 0
+Short16 bytes = length bytes < 2 ^ 16
+
+abbrev pub Short32 : List ℕ → Type 0
+Short32 bytes = length bytes < 2 ^ 32
+
+-- ---- a field of the header
+
+abbrev pub FitsField : HeaderField → Type 0
+FitsField field = ((field.tag < 2 ^ 16) × (length field.value < 2 ^ 16)) × (is_field field ≡ true)
+
+field_made : IsMade field_of (λ parts. number_bytes w16 parts.0 ++ data_bytes w16 parts.1) (λ parts. Below16 parts.0 × Short16 parts.1) field_bytes (λ field. Below16 field.tag × Short16 field.value)
+field_made = record {
+  parts = λ field. (field.tag, field.value);
+  back = λ field. refl;
+  spelled = λ parts. refl;
+  ranges = λ parts h. h;
+  in_parts = λ field h. h;
+}
+
+pub IsField-field : IsField field_at field_bytes FitsField
+unfolding field_at
+IsField-field =
+    IsField-passing is_field (made_at field_of (both_at (number_at w16) (data_at w16))) field_bytes (λ field. Below16 field.tag × Short16 field.value)
+    (IsField-made field_of (both_at (number_at w16) (data_at w16)) (λ parts. number_bytes w16 parts.0 ++ data_bytes w16 parts.1) (λ parts. Below16 parts.0 × Short16 parts.1)
+      (IsField-both (number_at w16) (number_bytes w16) Below16 IsField-u16 (data_at w16) (data_bytes w16) Short16 IsField-data16) field_bytes (λ field. Below16 field.tag × Short16 field.value) field_made)
+
+-- ---- a principal
+
+name_take : (place : Place) (name : Principal) (behind : Place) → IsBytes place.rest → name_at place ≡ Some (name, behind) → Takes place (name_bytes name) behind × FitsName name
+unfolding name_at
+name_take place name behind fits e =
+    let a = bind_some (signed_at w32 place) _ (name, behind) e in
+    let b = bind_some (number_at w32 a.0.1) _ (name, behind) a.2 in
+    let c = bind_some (data_at w32 b.0.1) _ (name, behind) b.2 in
+    let d = bind_some (times_at (data_at w32) b.0.0 c.0.1) _ (name, behind) c.2 in
+    let ta = IsField-i32.takes place a.0.0 a.0.1 fits a.1 in
+    let tb = IsField-u32.takes a.0.1 b.0.0 b.0.1 ta.0.rest_fits b.1 in
+    let tc = IsField-data32.takes b.0.1 c.0.0 c.0.1 tb.0.rest_fits c.1 in
+    let td = (IsField-times (data_at w32) (data_bytes w32) Short32 IsField-data32 b.0.0).takes c.0.1 d.0.0 d.0.1 tc.0.rest_fits d.1 in
+    let counted : Takes a.0.1 (number_bytes w32 (length d.0.0)) b.0.1 = subst (λ (n : ℕ). Takes a.0.1 (number_bytes w32 n) b.0.1) (sym td.1.0) tb.0 in
+    let back = Takes-then b.0.1 (data_bytes w32 c.0.0) c.0.1 (flat_map (data_bytes w32) d.0.0) d.0.1 tc.0 td.0 in
+    let middle = Takes-then a.0.1 (number_bytes w32 (length d.0.0)) b.0.1 (data_bytes w32 c.0.0 ++ flat_map (data_bytes w32) d.0.0) d.0.1 counted back in
+    let whole = Takes-then place (signed_bytes w32 a.0.0) a.0.1 (number_bytes w32 (length d.0.0) ++ (data_bytes w32 c.0.0 ++ flat_map (data_bytes w32) d.0.0)) d.0.1 ta.0 middle in
+    let made : Principal = record { realm = c.0.0; name_type = a.0.0; components = d.0.0 } in
+    subst (λ (p : Principal × Place). Takes place (name_bytes p.0) p.1 × FitsName p.0) (some_is (made, d.0.1) (name, behind) d.2) (
+      whole,
+      record {
+        lengths = record { count = subst Below32 (sym td.1.0) tb.1; realm = tc.1; components = All-from_recursion Short32 d.0.0 td.1.1 };
+        name_type = ta.1;
+      },
+    )
+
+name_again : (at : ℕ) (name : Principal) (rest : List ℕ) → FitsName name → name_at (record { at = at; rest = name_bytes name ++ rest }) ≡ Some (name, record { at = at + length (name_bytes name); rest = rest })
+unfolding name_at
+name_again at name rest fits =
+    let s1 : List ℕ = signed_bytes w32 name.name_type in
+    let s2 : List ℕ = number_bytes w32 (length name.components) in
+    let s3 : List ℕ = data_bytes w32 name.realm in
+    let s4 : List ℕ = flat_map (data_bytes w32) name.components in
+    let grouped : name_bytes name ++ rest ≡ s1 ++ (s2 ++ (s3 ++ (s4 ++ rest))) = simp append_assoc in
+    let place : (((at + length s1) + length s2) + length s3) + length s4 ≡ at + length (name_bytes name) = omega (arith, length-append s1 (s2 ++ (s3 ++ s4)), length-append s2 (s3 ++ s4), length-append s3 s4) in
+    let first = IsField-i32.again at name.name_type (s2 ++ (s3 ++ (s4 ++ rest))) fits.name_type in
+    let second = IsField-u32.again (at + length s1) (length name.components) (s3 ++ (s4 ++ rest)) fits.lengths.count in
+    let third = IsField-data32.again ((at + length s1) + length s2) name.realm (s4 ++ rest) fits.lengths.realm in
+    let fourth = (IsField-times (data_at w32) (data_bytes w32) Short32 IsField-data32 (length name.components)).again (((at + length s1) + length s2) + length s3) name.components rest (refl, recursion_from_All Short32 name.components fits.lengths.components) in
+    rw (grouped, first, second, third, fourth, place) refl
+
+pub IsField-name : IsField name_at name_bytes FitsName
+IsField-name = record { takes = name_take; again = name_again }
+
+-- ---- a flag
+
+abbrev pub Any : {X : Type 0} → X → Type 0
+Any x = Unit {0}
+
+flag_is : (n : ℕ) (flag : Bool) → flag_of n ≡ Some flag → number_bytes w8 n ≡ flag_bytes flag
+flag_is n flag e = tested (eqb n 0) (eqb n 1) refl refl e
+  where
+    tested : (b c : Bool) → eqb n 0 ≡ b → eqb n 1 ≡ c → cond b (Some false) (cond c (Some true) None) ≡ Some flag → number_bytes w8 n ≡ flag_bytes flag
+    tested true c p q r = ap (number_bytes w8) (eqb-true n 0 p) ∙ ap flag_bytes (bool_is false flag r)
+      where
+        bool_is : (x y : Bool) → Some x ≡ Some y → x ≡ y
+        bool_is x y s = cc
+    tested false true p q r = ap (number_bytes w8) (eqb-true n 1 q) ∙ ap flag_bytes (bool_is true flag r)
+      where
+        bool_is : (x y : Bool) → Some x ≡ Some y → x ≡ y
+        bool_is x y s = cc
+    tested false false p q r = absurd (none_is flag r)
+      where
+        none_is : (y : Bool) → None ≡ Some y → ⊥
+        none_is y s = cc
+
+flag_take : (place : Place) (flag : Bool) (behind : Place) → IsBytes place.rest → flag_at place ≡ Some (flag, behind) → Takes place (flag_bytes flag) behind × Any flag
+unfolding flag_at
+flag_take place flag behind fits e =
+    let a = bind_some (number_at w8 place) (λ n. flag_of n.0 >>= λ f. Some (f, n.1)) (flag, behind) e in
+    let b = bind_some (flag_of a.0.0) (λ f. Some (f, a.0.1)) (flag, behind) a.2 in
+    let t = IsField-u8.takes place a.0.0 a.0.1 fits a.1 in
+    subst (λ (p : Bool × Place). Takes place (flag_bytes p.0) p.1 × Any p.0) (some_is (b.0, a.0.1) (flag, behind) b.2) (subst (λ (text : List ℕ). Takes place text a.0.1) (flag_is a.0.0 b.0 b.1) t.0, tt)
+
+flag_again : (at : ℕ) (flag : Bool) (rest : List ℕ) → Any flag → flag_at (record { at = at; rest = flag_bytes flag ++ rest }) ≡ Some (flag, record { at = at + length (flag_bytes flag); rest = rest })
+unfolding flag_at
+flag_again at true rest h = rw (IsField-u8.again at 1 rest (omega arith)) refl
+flag_again at false rest h = rw (IsField-u8.again at 0 rest (omega arith)) refl
+
+pub IsField-flag : IsField flag_at flag_bytes Any
+IsField-flag = record { takes = flag_take; again = flag_again }
+
+-- ---- addresses and authorization data
+
+abbrev pub FitsTyped : TypedBytes → Type 0
+FitsTyped element = Below16 element.kind × Short32 element.bytes
+
+typed_made : IsMade typed_of (λ parts. number_bytes w16 parts.0 ++ data_bytes w32 parts.1) (λ parts. Below16 parts.0 × Short32 parts.1) typed_bytes FitsTyped
+typed_made = record {
+  parts = λ element. (element.kind, element.bytes);
+  back = λ element. refl;
+  spelled = λ parts. refl;
+  ranges = λ parts h. h;
+  in_parts = λ element h. h;
+}
+
+IsField-typed : IsField typed_at typed_bytes FitsTyped
+unfolding typed_at
+IsField-typed =
+    IsField-made typed_of (both_at (number_at w16) (data_at w32)) (λ parts. number_bytes w16 parts.0 ++ data_bytes w32 parts.1) (λ parts. Below16 parts.0 × Short32 parts.1)
+    (IsField-both (number_at w16) (number_bytes w16) Below16 IsField-u16 (data_at w32) (data_bytes w32) Short32 IsField-data32) typed_bytes FitsTyped typed_made
+
+list_from : (list : List TypedBytes) → (length list < 2 ^ 32) × All FitsTyped list → FitsList list
+list_from list h = record {
+  lengths = record { count = h.0; each = λ k d lt. (h.1 k d lt).1 };
+  kinds = λ k d lt. (h.1 k d lt).0;
+}
+
+list_to : (list : List TypedBytes) → FitsList list → (length list < 2 ^ 32) × All FitsTyped list
+list_to list fits = (fits.lengths.count, λ k d lt. (fits.kinds k d lt, fits.lengths.each k d lt))
+
+pub IsField-list : IsField list_at list_bytes FitsList
+unfolding list_at
+IsField-list =
+    let counted = IsField-counted typed_at typed_bytes FitsTyped IsField-typed in
+    record {
+      takes = λ place list behind fits e. let t = counted.takes place list behind fits e in (t.0, list_from list t.1);
+      again = λ at list rest fits. counted.again at list rest (list_to list fits);
+    }
+
+-- ---- a credential
+
+abbrev FitsParts : Parts → Type 0
+FitsParts p =
+    FitsName p.0 × (FitsName p.1.0 × (FitsSigned w16 p.1.1.0 × (Short32 p.1.1.1.0 × (Below32 p.1.1.1.1.0 × (Below32 p.1.1.1.1.1.0 × (Below32 p.1.1.1.1.1.1.0 × (Below32 p.1.1.1.1.1.1.1.0 × (Any p.1.1.1.1.1.1.1.1.0 × (Below32 p.1.1.1.1.1.1.1.1.1.0 × (FitsList p.1.1.1.1.1.1.1.1.1.1.0 × (FitsList p.1.1.1.1.1.1.1.1.1.1.1.0 × (Short32 p.1.1.1.1.1.1.1.1.1.1.1.1.0 × Short32 p.1.1.1.1.1.1.1.1.1.1.1.1.1))))))))))))
+
+credential_field : IsField parts_at (λ p. credential_bytes (credential_of p)) FitsParts
+credential_field =
+    IsField-both _ _ _ IsField-name _ _ _ (
+    IsField-both _ _ _ IsField-name _ _ _ (
+    IsField-both _ _ _ IsField-i16 _ _ _ (
+    IsField-both _ _ _ IsField-data32 _ _ _ (
+    IsField-both _ _ _ IsField-u32 _ _ _ (
+    IsField-both _ _ _ IsField-u32 _ _ _ (
+    IsField-both _ _ _ IsField-u32 _ _ _ (
+    IsField-both _ _ _ IsField-u32 _ _ _ (
+    IsField-both _ _ _ IsField-flag _ _ _ (
+    IsField-both _ _ _ IsField-u32 _ _ _ (
+    IsField-both _ _ _ IsField-list _ _ _ (
+    IsField-both _ _ _ IsField-list _ _ _ (
+    IsField-both _ _ _ IsField-data32 _ _ _ IsField-data32))))))))))))
+
+parts_of : Credential → Parts
+parts_of c = (c.client, (c.server, (c.etype, (c.key, (c.authtime, (c.starttime, (c.endtime, (c.renew_till, (c.is_skey, (c.ticket_flags, (c.addresses, (c.authdata, (c.ticket, c.second_ticket)))))))))))))
+
+fits_parts : (c : Credential) → FitsCredential c → FitsParts (parts_of c)
+unfolding parts_of
+fits_parts c h = (h.client, (h.server, (h.etype, (h.key, (h.authtime, (h.starttime, (h.endtime, (h.renew_till, (tt, (h.ticket_flags, (h.addresses, (h.authdata, (h.ticket, h.second_ticket)))))))))))))
+
+parts_fit : (p : Parts) → FitsParts p → FitsCredential (credential_of p)
+parts_fit p (client, (server, (etype, (key, (authtime, (starttime, (endtime, (renew_till, (is_skey, (ticket_flags, (addresses, (authdata, (ticket, second_ticket))))))))))))) = record {
+  client = client;
+  server = server;
+  etype = etype;
+  key = key;
+  authtime = authtime;
+  starttime = starttime;
+  endtime = endtime;
+  renew_till = renew_till;
+  ticket_flags = ticket_flags;
+  addresses = addresses;
+  authdata = authdata;
+  ticket = ticket;
+  second_ticket = second_ticket;
+}
+
+credential_made : IsMade credential_of (λ p. credential_bytes (credential_of p)) FitsParts credential_bytes FitsCredential
+unfolding parts_of
+credential_made = record { parts = parts_of; back = λ c. refl; spelled = λ p. refl; ranges = parts_fit; in_parts = fits_parts }
+
+pub IsField-credential : IsField credential_at credential_bytes FitsCredential
+unfolding credential_at
+IsField-credential = IsField-made credential_of parts_at (λ p. credential_bytes (credential_of p)) FitsParts credential_field credential_bytes FitsCredential credential_made

@@ -1,0 +1,85 @@
+-- Things of one kind stand one behind the other until there are no more.
+use Rattle.std.proofs.Common.{◌≡◌, ◌≢◌, ◌⊎◌, ℕ, zero, suc, ◌+◌, ◌<◌, ◌≤◌, List, [], ◌∷◌, ◌++◌, length, Option, Some, None, refl, sym, ap, subst, ◌∙◌, append_assoc, append-nil, arith, inl, inr}
+use Rattle.std.specs.Prelude.{All}
+use Rattle.std.specs.List.{flat_map, AllByRecursion}
+use Rattle.std.proofs.lemmas.List.{length-append, nil_from_length}
+use Rattle.std.proofs.lemmas.List.Concat.{flat_map-append}
+use Rattle.std.proofs.lemmas.List.Elements.{All-push, All-from_recursion, recursion_from_All}
+use Rattle.krb_name.specs.Cursor.{Place}
+use Rattle.krb_name.specs.Field.{IsBytes, Takes, IsField}
+use Rattle.krb_name.proofs.CursorLaws.{some_is, Takes-then}
+use Rattle.krb_ccache.specs.Inner.Standing.{IsMissing, Reaches}
+
+module _ {X : Type 0} (r : Place → Option (X × Place)) (s : X → List ℕ) (P : X → Type 0) (f : IsField r s P) where
+  -- one thing is no beginning of another
+  pub same_front : (x y : X) (a b : List ℕ) → P x → P y → s x ++ a ≡ s y ++ b → (x ≡ y) × (a ≡ b)
+  same_front x y a b p q e =
+      let one = f.again 0 x a p in
+      let other = f.again 0 y b q in
+      let both = some_is (x, record { at = 0 + length (s x); rest = a }) (y, record { at = 0 + length (s y); rest = b }) (sym one ∙ ap (λ (t : List ℕ). r (record { at = 0; rest = t })) e ∙ other) in
+      (ap (λ (k : X × Place). k.0) both, ap (λ (k : X × Place). k.1.rest) both)
+
+  -- where nothing is read, nothing stands
+  pub missing_where : (place : Place) → r place ≡ None → IsMissing s P place.rest
+  missing_where place none x others p e =
+      let read : r place ≡ Some (x, record { at = place.at + length (s x); rest = others }) = ap (λ (t : List ℕ). r (record { at = place.at; rest = t })) e ∙ f.again place.at x others p in
+      cc
+
+  module _ (some : (x : X) → 0 < length (s x)) where
+    -- there are no bytes, or nothing stands there
+    abbrev pub Ends : List ℕ → Type 0
+    Ends bytes = (bytes ≡ []) ⊎ IsMissing s P bytes
+
+    not_ended : (x : X) (others bytes : List ℕ) → P x → Ends bytes → bytes ≡ s x ++ others → ⊥
+    not_ended x others bytes p (inl none) e = let some_bytes : 0 < length (s x) = some x in omega (arith, ap length (sym none ∙ e), length-append (s x) others)
+    not_ended x others bytes p (inr missing) e = missing x others p e
+
+    parts_of : (x : X) (xs : List X) (bytes : List ℕ) → flat_map s (x ∷ xs) ++ bytes ≡ s x ++ (flat_map s xs ++ bytes)
+    parts_of x xs bytes = append_assoc (s x) (flat_map s xs) bytes
+
+    -- there is one way to read to the end
+    pub same_things : (xs ys : List X) (a b : List ℕ) → AllByRecursion P xs → AllByRecursion P ys → Ends a → Ends b → flat_map s xs ++ a ≡ flat_map s ys ++ b → (xs ≡ ys) × (a ≡ b)
+    same_things [] [] a b p q ends also e = (refl, e)
+    same_things [] (y ∷ ys) a b p q ends also e = absurd (not_ended y (flat_map s ys ++ b) a q.0 ends (e ∙ parts_of y ys b))
+    same_things (x ∷ xs) [] a b p q ends also e = absurd (not_ended x (flat_map s xs ++ a) b p.0 also (sym e ∙ parts_of x xs a))
+    same_things (x ∷ xs) (y ∷ ys) a b p q ends also e =
+        let first = same_front x y (flat_map s xs ++ a) (flat_map s ys ++ b) p.0 q.0 (sym (parts_of x xs a) ∙ e ∙ parts_of y ys b) in
+        let others = same_things xs ys a b p.1 q.1 ends also first.1 in
+        (ap (λ (k : X). k ∷ xs) first.0 ∙ ap (λ (k : List X). y ∷ k) others.0, others.1)
+
+  -- ---- one more
+
+  pub reach_none : (place : Place) → IsBytes place.rest → Reaches s P place [] place
+  reach_none place fits = record { fit = All-from_recursion P [] tt; takes = record { parts = refl; at = omega arith; text_fits = λ i. omega arith; rest_fits = fits } }
+
+  pub reach_more : (place : Place) (xs : List X) (middle : Place) (x : X) (behind : Place) → Reaches s P place xs middle → r middle ≡ Some (x, behind) → Reaches s P place (xs ++ x ∷ []) behind
+  reach_more place xs middle x behind so_far read =
+      let t = f.takes middle x behind so_far.takes.rest_fits read in
+      let flat : flat_map s (xs ++ x ∷ []) ≡ flat_map s xs ++ s x = flat_map-append s xs (x ∷ []) ∙ ap (λ (k : List ℕ). flat_map s xs ++ k) (append-nil (s x)) in
+      record {
+        fit = All-push P xs x so_far.fit t.1;
+        takes = subst (λ (k : List ℕ). Takes place k behind) (sym flat) (Takes-then place (flat_map s xs) middle (s x) behind so_far.takes t.0);
+      }
+
+  -- ---- reading comes to an end
+
+  pub record Ended (place : Place) : Type 0 where
+    pub xs : List X
+    pub behind : Place
+    pub reach : Reaches s P place xs behind
+    pub end : (behind.rest ≡ []) ⊎ IsMissing s P behind.rest
+
+  module _ (some : (x : X) → 0 < length (s x)) where
+    step_from : (place : Place) (xs : List X) (middle : Place) → Reaches s P place xs middle → ((x : X) (behind : Place) → Reaches s P place (xs ++ x ∷ []) behind → length behind.rest < length middle.rest → Ended place)
+        → (read : Option (X × Place)) → r middle ≡ read → Ended place
+    step_from place xs middle so_far next None e = record { xs = xs; behind = middle; reach = so_far; end = inr (missing_where middle e) }
+    step_from place xs middle so_far next (Some (x, behind)) e =
+        let t = f.takes middle x behind so_far.takes.rest_fits e in
+        let first : 0 < length (s x) = some x in
+        next x behind (reach_more place xs middle x behind so_far e) (omega (arith, ap length t.0.parts, length-append (s x) behind.rest))
+    run_from : (most : ℕ) (place : Place) (xs : List X) (middle : Place) → Reaches s P place xs middle → length middle.rest ≤ most → Ended place
+    run_from zero place xs middle so_far few = record { xs = xs; behind = middle; reach = so_far; end = inl (nil_from_length middle.rest (omega arith)) }
+    run_from (suc most) place xs middle so_far few = step_from place xs middle so_far (λ x behind more smaller. run_from most place (xs ++ x ∷ []) behind more (omega arith)) (r middle) refl
+
+    pub runs_out : (place : Place) → IsBytes place.rest → Ended place
+    runs_out place fits = run_from (length place.rest) place [] place (reach_none place fits) (omega arith)

@@ -1,0 +1,13 @@
+use Rattle.std.proofs.Common.{◌≢◌}
+use Rattle.std.proofs.lemmas.Option.{IfSome_then}
+use Rattle.krb_ccache.proofs.FitsLaws.{all_seen}
+use Rattle.krb_ccache.proofs.OffsetLaws.{offset_held}
+use Rattle.krb_ccache.proofs.configuration.first_offset.Goals as goal
+
+pub returns-then-field-eq-OFFSET_TAG-clause-some : goal.returns-then-field-eq-OFFSET_TAG-clause-some
+returns-then-field-eq-OFFSET_TAG-clause-some c =
+    IfSome_then c.offset_of.result c.offset_of.ensures.some
+    (λ offset o. offset_held c.args.header.now c.loop-field.field-index c.field-item.result offset.0 offset.1 c.loop-field-test.true c.field-item.is c.loop-field.invariant c.if-field-eq-OFFSET_TAG.true (rw c.as_slice.ensures at o))
+
+pub returns-clause-none : goal.returns-clause-none
+returns-clause-none c = all_seen (λ field. field.tag ≢ 1) c.args.header.now c.loop-field.field-index c.loop-field.invariant c.loop-field-test.false

@@ -1,0 +1,16 @@
+use Rattle.std.proofs.Common.{◌≡◌, Err}
+use Rattle.krb_ccache.specs.Inner.Reading.{typed_at}
+use Rattle.std.proofs.lemmas.Result.{err_from_is_err_and}
+use Rattle.krb_name.proofs.Repeated.{times_goes_on, times_stops, times_done}
+use Rattle.krb_ccache.proofs.items.read_elements.Goals as goal
+
+pub returns-in_err-read_typed-clause-missing : goal.returns-in_err-read_typed-clause-missing
+returns-in_err-read_typed-clause-missing c = λ e.
+    let p = err_from_is_err_and c.from_residual.result c.from_residual.ensures.1 in
+    times_stops typed_at c.loop.list c.args.count c.loop.counter c.loop.cursor _ c.loop-test.true (c.in_err-read_typed.ensures.missing (cc (p.1, p.2, e))) c.loop.invariant
+
+pub loop-preserved : goal.loop-preserved
+loop-preserved c = rw c.in_ok-push.ensures.ok (times_goes_on typed_at c.loop.list c.args.count c.loop.counter c.loop.cursor c.in_ok-read_typed.field-0 _ _ c.loop-test.true c.in_ok-read_typed.ensures.read c.loop.invariant)
+
+pub returns-clause-read : goal.returns-clause-read
+returns-clause-read c = times_done typed_at c.loop.list c.args.count c.loop.counter c.loop.cursor _ c.loop-test.false c.loop.invariant

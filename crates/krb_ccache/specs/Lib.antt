@@ -1,0 +1,8 @@
+pub mod Spelling
+pub mod Value
+pub mod Format
+pub mod Configuration
+pub mod Offset
+pub mod Fault
+pub mod Source
+pub mod Inner

@@ -1,0 +1,14 @@
+-- The KDC's clock offset of a header as a computation. It is exactly what the header holds: `laws` says so.
+use Rattle.std.specs.Prelude.{ℕ, ◌==◌, ℤ, List, [], ◌∷◌, take, drop, Option, Some, None, if◌then◌else◌}
+use Rattle.std.specs.Int.{w32, from_be_bytes, cast_signed}
+use Rattle.krb_ccache.specs.declared.credential.HeaderField.{HeaderField}
+
+-- four bytes as a signed number
+abbrev pub signed_of : List ℕ → ℤ
+signed_of bytes = cast_signed w32 (from_be_bytes w32 bytes)
+
+-- the value of the first field of tag 1
+abbrev pub clock_offset : List HeaderField → Option (ℤ × ℤ)
+clock_offset [] = None
+clock_offset (field ∷ header) =
+    if field.tag == 1 then Some (signed_of (take 4 field.value), signed_of (drop 4 field.value)) else clock_offset header

@@ -1,0 +1,274 @@
+//! A credential cache.
+
+ghost use Rattle.std.specs.Prelude.{◌≡◌, ◌≢◌, ◌⊎◌, ◌≤◌, ◌<◌, ◌^◌, ◌-◌, ◌+◌, ◌++◌, ℕ, ℤ, List, [], All, IsTrue, ◌↔◌, IfOk, IfErr, IfSome, IfNone, OnOk, Some, Ok, Err, Result, SomeIff, None, length};
+ghost use Rattle.std.specs.List.{flat_map};
+ghost use Rattle.std.specs.Io.KnownBytes.{IsAtEnd};
+ghost use Rattle.krb_name.specs.Field.{IsBytes};
+ghost use Rattle.krb_ccache.specs.Spelling.{name_bytes, credential_bytes};
+ghost use Rattle.krb_ccache.specs.Value.{Cache, cache_of, HasLengths, Fits, FitsName, FitsCredential};
+ghost use Rattle.krb_ccache.specs.Configuration.{HoldsOffset, IsConfiguration};
+ghost use Rattle.krb_ccache.specs.Fault.{offset_of, failed_reads};
+ghost use Rattle.krb_ccache.specs.Format.{file_limit, cache_bytes, IsCache, IsFaultOf, IsAnswerOf};
+ghost use Rattle.krb_ccache.specs.Offset.{clock_offset};
+ghost use Rattle.krb_ccache.specs.Source.{IsGiven};
+ghost use Rattle.krb_ccache.specs.Inner.Reading.{credential_at};
+ghost use Rattle.krb_ccache.specs.Inner.Standing.{Lies, Reaches, IsMissing, StopsBy};
+
+use crate::configuration::{first_offset, is_entry};
+use crate::credential::{Credential, HeaderField};
+use crate::fault::CacheFault;
+use crate::fits::{all_fit, header_fits, name_fits};
+use crate::header::{FILE_LIMIT, VERSION, open, read_header};
+use crate::item_fault::ItemFault;
+use crate::items::{read_credential, read_name};
+use crate::writing::{write_credential, write_header, write_name, write_u16};
+use krb_name::{FileCursor, Principal, Source, read_to_limit};
+use std::alloc::Global;
+use std::marker::Model;
+
+/// A credential cache: the fields of its header, its default principal and its credentials, in
+/// their order. A contract sees it as the record of these.
+///
+/// Its parts have the counts and lengths that the file format has room for.
+#[derive(Drop)]
+pub struct CCache {
+    header: Vec<HeaderField>,
+    default_principal: Principal,
+    credentials: Vec<Credential>,
+}
+
+impl Model for CCache {
+    ghost Value = { Cache };
+
+    ghost view = { λ c. record {
+      header = c.header.items;
+      default_principal = c.default_principal;
+      credentials = c.credentials.items;
+    } };
+
+    ghost invariant = { λ c. Fits (record {
+      header = c.header.items;
+      default_principal = c.default_principal;
+      credentials = c.credentials.items;
+    }) };
+}
+
+impl CCache {
+    /// Makes a cache of the fields of its header, its default principal and its credentials.
+    ///
+    /// Answers `None` where the value of a field of the header, or all fields with their tags and
+    /// lengths, have more than 65,535 bytes; where a field of tag 1 hasn't 8 bytes; or where there
+    /// are more than 4,294,967,295 components, addresses or elements of authorization data, or bytes
+    /// in a realm, a component, a key, an address, an element or a ticket. No memory is taken.
+    pub fn from_parts(
+        header: Vec<HeaderField>,
+        default_principal: Principal,
+        credentials: Vec<Credential>,
+    ) -> Option<CCache>
+        ensures { SomeIff result
+            (HasLengths (cache_of header.items default_principal credentials.items))
+            (cache_of header.items default_principal credentials.items) }
+    {
+        if !header_fits(&header) || !name_fits(&default_principal) || !all_fit(&credentials) {
+            return None;
+        }
+        Some(CCache {
+            header,
+            default_principal,
+            credentials,
+        })
+    }
+
+    /// Parses the bytes of a file.
+    ///
+    /// Memory is taken as parts are met, and not by a count or a length that the bytes don't bear
+    /// out.
+    ///
+    /// # Errors
+    /// `OutOfMemory` where there was no room for a part; else the first that holds:
+    /// - `TooLong`: there are more than 16,777,216 bytes.
+    /// - `Version`: they don't begin with 0x05 0x04.
+    /// - `Header`: the header is cut off, fields don't fill it exactly, or a field of tag 1 hasn't 8
+    ///   bytes.
+    /// - `BadItem`, with the offset behind the header where no principal stands there, or else with
+    ///   that of the first credential that isn't whole, or whose `is_skey` byte is neither 0 nor 1.
+    ///
+    /// Source: MIT krb5, "Credential cache file format", version 4.
+    pub fn parse(alloc: Global, bytes: &[u8]) -> Result<CCache, CacheFault>
+        ensures found { IfOk result (λ cache. IsCache bytes.now cache) }
+        ensures fault { IfErr result (λ fault.
+            fault ≢ CacheFault.OutOfMemory → IsFaultOf bytes.now fault) }
+
+        // Where the bytes are a cache, and where they have a fault, that is the answer.
+        ensures only { (answer : Result Cache CacheFault) → IsAnswerOf bytes.now answer
+            → (result ≡ answer) ⊎ (result ≡ Err CacheFault.OutOfMemory) }
+        ensures offset { IfErr result (λ fault.
+            IfSome (offset_of fault) (λ at. at ≤ length bytes.now)) }
+    {
+        CCache::of_parts(alloc, bytes)
+    }
+
+    /// Reads a source to its end, or to one byte past 16,777,216, and parses what it gave.
+    ///
+    /// Condition: fewer than 18,446,744,073,709,551,615 reads of the source have failed so far.
+    ///
+    /// # Errors
+    /// - `Read`: a read of the source failed. Its count of failures grew, as it does for no other
+    ///   answer.
+    /// - Those of `parse`, for all the bytes that were still to come of the source.
+    ///
+    /// Source: MIT krb5, "Credential cache file format", version 4.
+    pub fn read<S: Source>(alloc: Global, source: &mut S) -> Result<CCache, CacheFault>
+        requires { S.failure_count source.old < 2 ^ 64 - 1 }
+        ensures found { IfOk result (λ cache.
+            IfSome (S.remaining source.old) (λ bytes. IsCache bytes cache)) }
+        ensures end { OnOk result (IsAtEnd (S.remaining source.new)) }
+        ensures fault { IfErr result (λ fault.
+            fault ≢ CacheFault.OutOfMemory → fault ≢ CacheFault.Read
+            → IfSome (S.remaining source.old) (λ bytes. IsFaultOf bytes fault)) }
+
+        // Where the bytes to come are a cache, and where they have a fault, that is the answer.
+        ensures only { (bytes : List ℕ) (answer : Result Cache CacheFault)
+            → S.remaining source.old ≡ Some bytes → IsAnswerOf bytes answer
+            → (result ≡ answer) ⊎ ((result ≡ Err CacheFault.OutOfMemory) ⊎ (result ≡ Err CacheFault.Read)) }
+        ensures given { IfErr result (λ fault.
+            fault ≢ CacheFault.OutOfMemory → fault ≢ CacheFault.Read
+            → (bytes : List ℕ) × IsGiven (S.remaining source.old) (S.remaining source.new) bytes
+            × IsFaultOf bytes fault) }
+        ensures failed { S.failure_count source.new
+            ≡ S.failure_count source.old + failed_reads result }
+    {
+        let bytes = read_to_limit(alloc, source, FILE_LIMIT)?;
+        CCache::parse(alloc, &bytes)
+    }
+
+    fn of_parts(alloc: Global, bytes: &[u8]) -> Result<CCache, CacheFault>
+        ensures found { IfOk result (λ cache. IsCache bytes.now cache) }
+        ensures fault { IfErr result (λ fault.
+            fault ≢ CacheFault.OutOfMemory → IsFaultOf bytes.now fault) }
+    {
+        let mut cursor = open(bytes)?;
+        let header = match read_header(alloc, &mut cursor) {
+            Ok(header) => header,
+            Err(ItemFault::Missing) => return Err(CacheFault::Header),
+            Err(ItemFault::OutOfMemory) => return Err(CacheFault::OutOfMemory),
+        };
+        let default_principal = read_default(alloc, &mut cursor)?;
+        let credentials = read_credentials(alloc, &mut cursor)?;
+        Ok(CCache {
+            header,
+            default_principal,
+            credentials,
+        })
+    }
+
+    /// Answers the KDC's clock offset, in seconds and microseconds: that of the header's first
+    /// field of tag 1. `None` where it has no such field.
+    pub fn kdc_offset(&self) -> Option<(i32, i32)>
+        ensures some { IfSome result (λ offset. HoldsOffset self.now.header offset.0 offset.1) }
+        ensures none { IfNone result (All (λ field. field.tag ≢ 1) self.now.header) }
+        ensures computed { result ≡ clock_offset self.now.header }
+    {
+        first_offset(self.header.as_slice())
+    }
+
+    /// Answers whether `credential` is a configuration entry: its server's realm is `X-CACHECONF:`
+    /// and its server's first component `krb5_ccache_conf_data`.
+    pub fn is_configuration(credential: &Credential) -> bool
+        ensures { IsTrue result ↔ IsConfiguration credential.now }
+    {
+        is_entry(credential)
+    }
+
+    /// Writes the bytes of the file.
+    ///
+    /// # Errors
+    /// - `TooLong`: the file would have more than 16,777,216 bytes.
+    /// - `OutOfMemory`: there was no room for the bytes.
+    ///
+    /// Source: MIT krb5, "Credential cache file format", version 4.
+    pub fn to_bytes(&self, alloc: Global) -> Result<Vec<u8>, CacheFault>
+        ensures found { IfOk result (λ bytes. IsCache bytes.items self.now) }
+        ensures fault { IfErr result (λ fault. fault ≢ CacheFault.OutOfMemory
+            → (fault ≡ CacheFault.TooLong) × (file_limit < length (cache_bytes self.now))) }
+    {
+        let mut bytes = Vec::new(alloc);
+        write_u16(&mut bytes, VERSION)?;
+        write_header(&mut bytes, self.header.as_slice())?;
+        write_name(&mut bytes, &self.default_principal)?;
+        for credential in &self.credentials {
+            if bytes.len() > FILE_LIMIT {
+                return Err(CacheFault::TooLong);
+            }
+            write_credential(&mut bytes, credential)?;
+        }
+        if bytes.len() <= FILE_LIMIT {
+            Ok(bytes)
+        } else {
+            Err(CacheFault::TooLong)
+        }
+    }
+
+    /// Lends the default principal: whose cache it is.
+    pub fn default_principal(&self) -> &Principal
+        ensures { result.now ≡ self.now.default_principal }
+    {
+        &self.default_principal
+    }
+
+    /// Lends the credentials, configuration entries among them, in the order of the file.
+    pub fn credentials(&self) -> &[Credential]
+        ensures { result.now ≡ self.now.credentials }
+    {
+        self.credentials.as_slice()
+    }
+}
+
+// Reads the principal that begins here, and stands behind it.
+fn read_default(alloc: Global, cursor: &mut FileCursor<'_>) -> Result<Principal, CacheFault>
+    requires { IsBytes cursor.old.rest }
+    ensures read { IfOk result (λ name. Lies name_bytes FitsName cursor.old name cursor.new) }
+    ensures missing { IfErr result (λ fault. fault ≢ CacheFault.OutOfMemory
+        → (fault ≡ CacheFault.BadItem cursor.old.at) × IsMissing name_bytes FitsName cursor.old.rest) }
+{
+    let at = cursor.at();
+    match read_name(alloc, cursor) {
+        Ok(name) => Ok(name),
+        Err(ItemFault::Missing) => Err(CacheFault::BadItem { at }),
+        Err(ItemFault::OutOfMemory) => Err(CacheFault::OutOfMemory),
+    }
+}
+
+// Reads the credential that begins here, and stands behind it.
+fn read_one(alloc: Global, cursor: &mut FileCursor<'_>) -> Result<Credential, CacheFault>
+    ensures read { IfOk result (λ credential.
+        credential_at cursor.old ≡ Some (credential, cursor.new)) }
+    ensures missing { IfErr result (λ fault. fault ≢ CacheFault.OutOfMemory
+        → (fault ≡ CacheFault.BadItem cursor.old.at) × (credential_at cursor.old ≡ None)) }
+{
+    let at = cursor.at();
+    match read_credential(alloc, cursor) {
+        Ok(credential) => Ok(credential),
+        Err(ItemFault::Missing) => Err(CacheFault::BadItem { at }),
+        Err(ItemFault::OutOfMemory) => Err(CacheFault::OutOfMemory),
+    }
+}
+
+// Reads the credentials from here to the end.
+fn read_credentials(
+    alloc: Global,
+    cursor: &mut FileCursor<'_>,
+) -> Result<Vec<Credential>, CacheFault>
+    requires { IsBytes cursor.old.rest }
+    ensures read { IfOk result (λ credentials.
+        Reaches credential_bytes FitsCredential cursor.old credentials.items cursor.new) }
+    ensures end { OnOk result (cursor.new.rest ≡ []) }
+    ensures missing { IfErr result (λ fault.
+        fault ≢ CacheFault.OutOfMemory → StopsBy cursor.old fault) }
+{
+    let mut credentials = Vec::new(alloc);
+    while !cursor.is_at_end() {
+        credentials.push(read_one(alloc, cursor)?)?;
+    }
+    Ok(credentials)
+}

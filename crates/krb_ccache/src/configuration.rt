@@ -1,0 +1,58 @@
+//! What a cache says beside its tickets: the KDC's clock offset, and configuration entries.
+
+ghost use Rattle.std.specs.Prelude.{◌≡◌, ◌≢◌, ◌↔◌, All, IsTrue, IfNone, IfSome, codes, length};
+ghost use Rattle.krb_ccache.specs.Configuration.{IsOffset, HoldsOffset, BeginsWith, IsConfiguration};
+
+use crate::credential::{Credential, HeaderField};
+use crate::header::OFFSET_TAG;
+use krb_name::{Bytes, FileCursor};
+
+// The realm and the first component of the server of a configuration entry.
+const CONFIGURATION_REALM: &[u8] = b"X-CACHECONF:";
+const CONFIGURATION_NAME: &[u8] = b"krb5_ccache_conf_data";
+
+/// Answers the clock offset that the first field of tag 1 holds.
+pub(crate) fn first_offset(header: &[HeaderField]) -> Option<(i32, i32)>
+    requires { All (λ field. field.tag ≡ 1 → length field.value ≡ 8) header.now }
+    ensures some { IfSome result (λ offset. HoldsOffset header.now offset.0 offset.1) }
+    ensures none { IfNone result (All (λ field. field.tag ≢ 1) header.now) }
+{
+    for field in header {
+        if field.tag == OFFSET_TAG {
+            return offset_of(field.value.as_slice());
+        }
+    }
+    None
+}
+
+fn offset_of(value: &[u8]) -> Option<(i32, i32)>
+    requires { length value.now ≡ 8 }
+    ensures some { IfSome result (λ offset. IsOffset value.now offset.0 offset.1) }
+    ensures none { IfNone result ⊥ }
+{
+    let mut cursor = FileCursor::new(value);
+    let Ok(seconds) = cursor.read_i32() else {
+        return None;
+    };
+    let Ok(microseconds) = cursor.read_i32() else {
+        return None;
+    };
+    Some((seconds, microseconds))
+}
+
+/// Answers whether `credential` is a configuration entry.
+pub(crate) fn is_entry(credential: &Credential) -> bool
+    ensures { IsTrue result ↔ IsConfiguration credential.now }
+{
+    credential.server.realm.as_slice() == CONFIGURATION_REALM
+        && has_name(credential.server.components.as_slice())
+}
+
+fn has_name(components: &[Bytes]) -> bool
+    ensures { IsTrue result ↔ BeginsWith components.now (codes "krb5_ccache_conf_data") }
+{
+    match components {
+        [first, ..] => first.as_slice() == CONFIGURATION_NAME,
+        [] => false,
+    }
+}

@@ -1,0 +1,51 @@
+//! A credential of a cache, and a field of its header.
+
+use crate::typed::TypedList;
+use krb_name::{Bytes, Principal};
+
+/// A field of a cache's header. Tag 1 holds the KDC's clock offset, in 8 bytes; other tags are
+/// kept as they are.
+#[derive(Debug, Drop)]
+pub struct HeaderField {
+    /// The tag.
+    pub tag: u16,
+    /// The value.
+    pub value: Bytes,
+}
+
+/// A credential: a ticket, its session key, and what the KDC said of them (`EncKDCRepPart`, RFC
+/// 4120, section 5.4.2). The fields are those of the file format, in its order.
+///
+/// In a configuration entry `ticket` holds a value, and no ticket. There is no `Debug`, so that no
+/// log shows a key.
+#[derive(Drop)]
+pub struct Credential {
+    /// Whose ticket it is.
+    pub client: Principal,
+    /// For which service.
+    pub server: Principal,
+    /// The encryption type of the session key.
+    pub etype: i16,
+    /// The bytes of the session key.
+    pub key: Bytes,
+    /// When the client was authenticated, in seconds since 1970-01-01.
+    pub authtime: u32,
+    /// When the ticket begins to be valid, in the same seconds; 0 where nothing was said.
+    pub starttime: u32,
+    /// When the ticket ends.
+    pub endtime: u32,
+    /// Until when it can be renewed; 0 where it can't.
+    pub renew_till: u32,
+    /// Whether the ticket is sealed under the session key of another ticket.
+    pub is_skey: bool,
+    /// The ticket's flags; bit 0 of RFC 4120, section 5.3, is the most significant.
+    pub ticket_flags: u32,
+    /// The addresses that the ticket is for.
+    pub addresses: TypedList,
+    /// Authorization data.
+    pub authdata: TypedList,
+    /// The bytes of the ticket.
+    pub ticket: Bytes,
+    /// The bytes of a second ticket, or none.
+    pub second_ticket: Bytes,
+}

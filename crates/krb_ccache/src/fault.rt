@@ -1,0 +1,82 @@
+//! Why bytes are no credential cache, or a cache could not be had.
+
+ghost use Rattle.std.specs.Prelude.{◌≡◌};
+ghost use Rattle.krb_ccache.specs.declared.fault.CacheFault.TheVariants.{OutOfMemory};
+
+use krb_name::ReadFault;
+use std::alloc::{AllocError, AllocFailed};
+use thiserror::Error;
+
+/// Why bytes are no credential cache, or a cache could not be had.
+///
+/// Where several hold, `TooLong` goes before all others, then `Version`, then `Header`, then the
+/// first item from the left that has a fault. An offset counts bytes from the start of the file, is
+/// that of the item's first byte, and is at most the length of the file.
+#[derive(Clone, Copy, Debug, PartialEq, Eq, Error)]
+pub enum CacheFault {
+    /// The file doesn't begin with 0x05 0x04.
+    #[error("the file isn't a credential cache of version 0x0504")]
+    Version,
+    /// The file ends before its header does, fields don't fill the header, or a field of tag 1
+    /// hasn't 8 bytes.
+    #[error("the header of the file is malformed")]
+    Header,
+    /// No principal or credential stands here.
+    #[error("there is no principal or credential at offset {at}")]
+    BadItem {
+        /// Where the default principal or the credential would begin, in bytes.
+        at: usize,
+    },
+    /// The file has, or would have, more than 16,777,216 bytes.
+    #[error("the file is longer than 16777216 bytes")]
+    TooLong,
+    /// The source could not be read.
+    #[error("the file could not be read")]
+    Read,
+    /// There was no room in memory.
+    #[error("out of memory")]
+    OutOfMemory,
+}
+
+impl CacheFault {
+    ghost use Rattle.krb_ccache.specs.Fault.{offset_of};
+
+    /// Answers the offset of the item at fault, in bytes: that of `BadItem`.
+    pub fn at(&self) -> Option<usize>
+        ensures { result ≡ offset_of self.now }
+    {
+        match *self {
+            CacheFault::BadItem { at } => Some(at),
+            _ => None,
+        }
+    }
+}
+
+impl From<AllocError> for CacheFault {
+    ghost from_gives = { λ _ fault. fault ≡ OutOfMemory };
+
+    fn from(_: AllocError) -> CacheFault {
+        CacheFault::OutOfMemory
+    }
+}
+
+impl<T: Drop> From<AllocFailed<T>> for CacheFault {
+    ghost from_gives = { λ _ fault. fault ≡ OutOfMemory };
+
+    fn from(_: AllocFailed<T>) -> CacheFault {
+        CacheFault::OutOfMemory
+    }
+}
+
+impl From<ReadFault> for CacheFault {
+    ghost use Rattle.krb_ccache.specs.Fault.{source_fault};
+
+    ghost from_gives = { λ read fault. fault ≡ source_fault read };
+
+    fn from(fault: ReadFault) -> CacheFault {
+        match fault {
+            ReadFault::Read => CacheFault::Read,
+            ReadFault::OutOfMemory => CacheFault::OutOfMemory,
+        }
+    }
+}

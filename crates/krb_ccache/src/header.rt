@@ -1,0 +1,90 @@
+//! What stands before the default principal of a cache.
+
+ghost use Rattle.std.specs.Prelude.{◌≡◌, ◌≤◌, ◌<◌, ◌^◌, ◌++◌, List, Err, None, Some, IfOk, IfErr, length};
+ghost use Rattle.krb_name.specs.Field.{IsBytes};
+ghost use Rattle.krb_ccache.specs.declared.credential.HeaderField.{HeaderField as HeaderFieldValue};
+ghost use Rattle.krb_ccache.specs.Spelling.{header_bytes};
+ghost use Rattle.krb_ccache.specs.Value.{FitsHeader};
+ghost use Rattle.krb_ccache.specs.Format.{version, file_limit, IsFaultOf};
+ghost use Rattle.krb_ccache.specs.Inner.Reading.{field_at};
+ghost use Rattle.krb_ccache.specs.Inner.Standing.{Lies, IsMissing, Fills};
+
+use crate::credential::HeaderField;
+use crate::fault::CacheFault;
+use crate::item_fault::ItemFault;
+use krb_name::{Bytes, FileCursor};
+use std::alloc::Global;
+
+/// How many bytes a cache has at most.
+pub(crate) const FILE_LIMIT: usize = 16_777_216;
+
+/// The version of the format.
+pub(crate) const VERSION: u16 = 0x0504;
+
+// The tag of the KDC's clock offset, and how many bytes it has.
+pub(crate) const OFFSET_TAG: u16 = 1;
+pub(crate) const OFFSET_LENGTH: usize = 8;
+
+/// Stands behind the version of a cache.
+///
+/// # Errors
+/// `TooLong` or `Version`.
+pub(crate) fn open<'a>(bytes: &'a [u8]) -> Result<FileCursor<'a>, CacheFault>
+    ensures limit { IfOk result (λ cursor. length bytes.now ≤ file_limit) }
+    ensures at { IfOk result (λ cursor. cursor.at ≡ 2) }
+    ensures rest { IfOk result (λ cursor. bytes.now ≡ version ++ cursor.rest) }
+    ensures fault { IfErr result (λ fault. IsFaultOf bytes.now fault) }
+{
+    if bytes.len() > FILE_LIMIT {
+        return Err(CacheFault::TooLong);
+    }
+    let mut cursor = FileCursor::new(bytes);
+    match cursor.read_u16() {
+        Ok(VERSION) => Ok(cursor),
+        _ => Err(CacheFault::Version),
+    }
+}
+
+/// Reads the header that begins here, and stands behind it.
+pub(crate) fn read_header(
+    alloc: Global,
+    cursor: &mut FileCursor<'_>,
+) -> Result<Vec<HeaderField>, ItemFault>
+    requires { IsBytes cursor.old.rest }
+    ensures read { IfOk result (λ header.
+        Lies header_bytes FitsHeader cursor.old header.items cursor.new) }
+    ensures missing { result ≡ Err ItemFault.Missing
+        → IsMissing header_bytes FitsHeader cursor.old.rest }
+{
+    let body = cursor.read_data16()?;
+    read_fields(alloc, body)
+}
+
+// Reads the fields that fill the bytes of a header.
+fn read_fields(alloc: Global, body: &[u8]) -> Result<Vec<HeaderField>, ItemFault>
+    requires { length body.now < 2 ^ 16 }
+    ensures read { IfOk result (λ header. Fills body.now header.items) }
+    ensures missing { result ≡ Err ItemFault.Missing
+        → (header : List HeaderFieldValue) → ¬ Fills body.now header }
+{
+    let mut cursor = FileCursor::new(body);
+    let mut header = Vec::new(alloc);
+    while !cursor.is_at_end() {
+        header.push(read_field(alloc, &mut cursor)?)?;
+    }
+    Ok(header)
+}
+
+#[tactic(auto, unfolding(crate::specs::Inner::Reading::field_at))]
+fn read_field(alloc: Global, cursor: &mut FileCursor<'_>) -> Result<HeaderField, ItemFault>
+    ensures read { IfOk result (λ field. field_at cursor.old ≡ Some (field, cursor.new)) }
+    ensures missing { result ≡ Err ItemFault.Missing → field_at cursor.old ≡ None }
+{
+    let tag = cursor.read_u16()?;
+    let value = cursor.read_data16()?;
+    if tag == OFFSET_TAG && value.len() != OFFSET_LENGTH {
+        return Err(ItemFault::Missing);
+    }
+    let value = Bytes::from_slice(alloc, value)?;
+    Ok(HeaderField { tag, value })
+}

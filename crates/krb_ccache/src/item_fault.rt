@@ -1,0 +1,40 @@
+//! Why a part of a cache could not be read.
+
+ghost use Rattle.std.specs.Prelude.{◌≡◌};
+ghost use Rattle.krb_ccache.specs.declared.item_fault.ItemFault.TheVariants.{Missing, OutOfMemory};
+
+use krb_name::Short;
+use std::alloc::{AllocError, AllocFailed};
+
+/// Why a part of a cache could not be read.
+#[derive(Clone, Copy)]
+pub(crate) enum ItemFault {
+    /// The part doesn't stand here.
+    Missing,
+    /// There was no room in memory.
+    OutOfMemory,
+}
+
+impl From<Short> for ItemFault {
+    ghost from_gives = { λ _ fault. fault ≡ Missing };
+
+    fn from(_: Short) -> ItemFault {
+        ItemFault::Missing
+    }
+}
+
+impl From<AllocError> for ItemFault {
+    ghost from_gives = { λ _ fault. fault ≡ OutOfMemory };
+
+    fn from(_: AllocError) -> ItemFault {
+        ItemFault::OutOfMemory
+    }
+}
+
+impl<T: Drop> From<AllocFailed<T>> for ItemFault {
+    ghost from_gives = { λ _ fault. fault ≡ OutOfMemory };
+
+    fn from(_: AllocFailed<T>) -> ItemFault {
+        ItemFault::OutOfMemory
+    }
+}

@@ -1,0 +1,47 @@
+//! Laws over the definitions, for proofs to cite. Each function does nothing: its contract is the law.
+
+ghost use Rattle.std.specs.Prelude.{◌≡◌, ◌≢◌, ℕ, ℤ, All, List, None, Some, Result};
+ghost use Rattle.krb_name.specs.Field.{IsBytes};
+ghost use Rattle.krb_ccache.specs.declared.credential.HeaderField.{HeaderField};
+ghost use Rattle.krb_ccache.specs.declared.fault.CacheFault.{CacheFault};
+ghost use Rattle.krb_ccache.specs.Configuration.{HoldsOffset};
+ghost use Rattle.krb_ccache.specs.Format.{IsCache, IsAnswerOf};
+ghost use Rattle.krb_ccache.specs.Offset.{clock_offset};
+ghost use Rattle.krb_ccache.specs.Value.{Cache};
+
+/// Says that bytes are a cache or have a fault; and that they are a cache of one value only, or
+/// have one fault only, and not both.
+pub fn each_file_has_one_answer()
+    ensures some { (bytes : List ℕ) → IsBytes bytes
+        → (answer : Result Cache CacheFault) × IsAnswerOf bytes answer }
+    ensures one { (bytes : List ℕ) (answer other : Result Cache CacheFault)
+        → IsAnswerOf bytes answer → IsAnswerOf bytes other → answer ≡ other }
+{}
+
+/// Says that bytes are a cache of one value only, and that a value has one spelling only.
+pub fn each_value_has_one_spelling()
+    ensures value { (bytes : List ℕ) (one other : Cache)
+        → IsCache bytes one → IsCache bytes other → one ≡ other }
+    ensures spelling { (bytes others : List ℕ) (cache : Cache)
+        → IsCache bytes cache → IsCache others cache → bytes ≡ others }
+{}
+
+/// Says that a header holds one clock offset at most.
+pub fn a_header_holds_one_offset()
+    ensures seconds { (header : List HeaderField) (seconds microseconds others more : ℤ)
+        → HoldsOffset header seconds microseconds → HoldsOffset header others more
+        → seconds ≡ others }
+    ensures microseconds { (header : List HeaderField) (seconds microseconds others more : ℤ)
+        → HoldsOffset header seconds microseconds → HoldsOffset header others more
+        → microseconds ≡ more }
+{}
+
+/// Says that the clock offset that a header holds is the one that is computed, and that none is
+/// computed of a header without a field of tag 1.
+pub fn the_offset_is_computed()
+    ensures held { (header : List HeaderField) (seconds microseconds : ℤ)
+        → HoldsOffset header seconds microseconds
+        → clock_offset header ≡ Some (seconds, microseconds) }
+    ensures none { (header : List HeaderField) → All (λ field. field.tag ≢ 1) header
+        → clock_offset header ≡ None }
+{}

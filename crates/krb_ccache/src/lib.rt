@@ -1,0 +1,42 @@
+//! Credential caches: the files that hold a client's tickets.
+//!
+//! A [`CCache`] is the value of a file in MIT krb5's format, version 0x0504: the fields of its
+//! header, its default principal and its credentials. It is parsed of bytes, read of a `Source` or
+//! made of its parts, and written back as bytes. A [`Credential`] is a ticket with its session key,
+//! or a configuration entry.
+//!
+//! ```rust
+//! let cache = CCache::read(alloc, &mut ReadSource::new(file))?;
+//! let default = cache.default_principal().to_text(alloc)?;
+//! println!(rt; "default {default}")?; // default alice@EX
+//! for credential in cache.credentials() {
+//!     if !CCache::is_configuration(credential) {
+//!         let server = credential.server.to_text(alloc)?;
+//!         let endtime = credential.endtime;
+//!         println!(rt; "{endtime} {server}")?; // 1700036000 host/web@EX
+//!     }
+//! }
+//! ```
+#![tactic(auto)]
+
+mod cache;
+mod configuration;
+mod credential;
+mod fault;
+mod fits;
+mod header;
+mod item_fault;
+mod items;
+pub mod laws;
+mod typed;
+mod writing;
+
+pub use cache::CCache;
+pub use credential::{Credential, HeaderField};
+pub use fault::CacheFault;
+pub use typed::{TypedBytes, TypedList};
+
+#[cfg(test)]
+mod samples;
+#[cfg(test)]
+mod tests;

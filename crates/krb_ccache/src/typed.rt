@@ -1,0 +1,70 @@
+//! Addresses and authorization data: bytes of a type.
+
+ghost use Rattle.std.specs.Prelude.{◌≡◌, ◌==◌, List, [], ◌∷◌, ◌++◌, length, OnErr, OnOk};
+ghost use Rattle.krb_ccache.specs.declared.typed.TypedBytes.{TypedBytes as TypedBytesValue};
+
+use krb_name::Bytes;
+use std::alloc::{AllocError, Global};
+use std::marker::Model;
+
+/// Bytes of a type: an address (`HostAddress`, RFC 4120, section 5.2.5), or an element of
+/// authorization data (`AuthorizationData`, section 5.2.6).
+#[derive(Debug, Drop)]
+pub struct TypedBytes {
+    /// The type's number: `addr-type` or `ad-type`.
+    pub kind: u16,
+    /// The bytes.
+    pub bytes: Bytes,
+}
+
+/// Addresses, or elements of authorization data, in their order. A contract sees them as a list.
+#[derive(Debug, Drop)]
+pub struct TypedList {
+    items: Vec<TypedBytes>,
+}
+
+impl Model for TypedList {
+    ghost Value = { List TypedBytesValue };
+
+    ghost view = { λ list. list.items.items };
+}
+
+impl TypedList {
+    /// Makes a list of nothing, which takes no memory yet.
+    pub fn new(alloc: Global) -> Self
+        ensures { result ≡ [] }
+    {
+        TypedList {
+            items: Vec::new(alloc),
+        }
+    }
+
+    /// Lends the elements, in their order.
+    pub fn as_slice(&self) -> &[TypedBytes]
+        ensures { result.now ≡ self.now }
+    {
+        self.items.as_slice()
+    }
+
+    /// Answers how many elements there are.
+    pub fn len(&self) -> usize
+        ensures { result ≡ length self.now }
+    {
+        self.items.len()
+    }
+
+    /// Answers whether there are no elements.
+    pub fn is_empty(&self) -> bool
+        ensures { result ≡ (length self.now == 0) }
+    {
+        self.items.is_empty()
+    }
+
+    /// Puts `element` at the end. Where memory is refused, the list stays as it was.
+    pub fn push(&mut self, element: TypedBytes) -> Result<(), AllocError>
+        ensures ok { OnOk result (self.new ≡ self.old ++ element ∷ []) }
+        ensures err { OnErr result (self.new ≡ self.old) }
+    {
+        Ok(self.items.push(element)?)
+    }
+}
