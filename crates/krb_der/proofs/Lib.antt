@@ -20,3 +20,5 @@ pub mod WriteLaws
 pub mod Messages
 pub mod EncodeLaws
 pub mod Lists
+pub mod Exact
+pub mod Offsets

@@ -2,9 +2,9 @@
 
 ghost use Rattle.std.specs.Prelude.{◌≡◌, true};
 ghost use Rattle.krb_der.specs.Kind.{Kind, ValueOf};
-ghost use Rattle.krb_der.specs.Inner.Clear.{is_clear};
-ghost use Rattle.krb_der.specs.Inner.Gives.{Gives};
-ghost use Rattle.krb_der.specs.Inner.Read.{element_at};
+ghost use Rattle.krb_der.specs.Clear.{is_clear};
+ghost use Rattle.krb_der.specs.Computed.Gives.{Gives};
+ghost use Rattle.krb_der.specs.Computed.Read.{element_at};
 
 use crate::{Cursor, Fault};
 
