@@ -22,3 +22,4 @@ pub mod EncodeLaws
 pub mod Lists
 pub mod Exact
 pub mod Offsets
+pub mod ListWrites

@@ -1,8 +1,8 @@
 //! Laws of the definitions, for all kinds at once. Each function is its contract: its body does nothing.
 
-ghost use Rattle.std.specs.Prelude.{◌≡◌, ℕ, ◌≤◌, ◌++◌, ◌⊎◌, ◌↔◌, List, length, true};
+ghost use Rattle.std.specs.Prelude.{◌≡◌, ℕ, ◌≤◌, ◌++◌, ◌∷◌, ◌⊎◌, ◌↔◌, List, [], length, true};
 ghost use Rattle.krb_der.specs.declared.fault.Fault.{Fault};
-ghost use Rattle.krb_der.specs.Kind.{Kind, Fields, ValueOf, FieldsOf};
+ghost use Rattle.krb_der.specs.Kind.{Kind, Fields, each, ValueOf, FieldsOf};
 ghost use Rattle.krb_der.specs.Content.{Elementary};
 ghost use Rattle.krb_der.specs.Place.{Place};
 ghost use Rattle.krb_der.specs.Spells.{Spells, SpellsFields, StandsAt, IsMessage};
@@ -79,4 +79,11 @@ pub fn message_read()
 pub fn message_refused()
     ensures { (k : Kind) (bytes : List ℕ) (fault : Fault)
         → message_of k bytes ≡ Err fault → IsFault k bytes fault }
+{}
+
+/// What is left as elements of one kind is nothing, or one element and others.
+pub fn list_next()
+    ensures { (k : Kind) (here : Place) (vs : List (ValueOf k)) → fields_at (each k) here ≡ Ok vs
+        → ((here.rest ≡ []) × (vs ≡ [])) ⊎ ((v : ValueOf k) × (after : Place) × (ws : List (ValueOf k))
+          × (vs ≡ v ∷ ws) × (element_at k here ≡ Ok (v, after)) × (fields_at (each k) after ≡ Ok ws)) }
 {}

@@ -23,6 +23,7 @@ mod head;
 pub mod laws;
 mod leaf;
 mod length;
+mod list;
 mod message;
 mod row;
 mod tag;
