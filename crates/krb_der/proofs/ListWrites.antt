@@ -53,10 +53,10 @@ module _ {X : Type 0} (k : Kind) (view : X → ValueOf k) (items : List X) where
         record {
           bytes = a.bytes ++ b.bytes;
           is =
-            subst (λ (l : List X). Items l (a.bytes ++ b.bytes)) (sym front_is)
-            (subst (λ (l : List (ValueOf k)). SpellsFields Elementary (each k) l (a.bytes ++ b.bytes)) (sym (map-append view (take i items) (x ∷ [])))
-            (each-append (Spells k) (map view (take i items)) (view x ∷ []) a.bytes b.bytes a.is
-            (record { front = b.bytes; back = []; first = b.is; rest = refl; whole = sym (append-nil b.bytes) })));
+              subst (λ (l : List X). Items l (a.bytes ++ b.bytes)) (sym front_is)
+              (subst (λ (l : List (ValueOf k)). SpellsFields Elementary (each k) l (a.bytes ++ b.bytes)) (sym (map-append view (take i items) (x ∷ [])))
+              (each-append (Spells k) (map view (take i items)) (view x ∷ []) a.bytes b.bytes a.is
+              (record { front = b.bytes; back = []; first = b.is; rest = refl; whole = sym (append-nil b.bytes) })));
           whole = b.whole ∙ ap (λ (l : List ℕ). l ++ b.bytes) a.whole ∙ append_assoc old a.bytes b.bytes;
         }
 
@@ -74,10 +74,18 @@ module _ {X : Type 0} (k : Kind) (view : X → ValueOf k) (items : List X) where
         (record {
           ok = tt;
           too_long = λ t bytes h.
-            let j = all_joined bytes h in
-            omega (arith, e.too_long t j.rest.front j.rest.first, ap length a.whole, length-append old a.bytes,
-            ap length (fields_one (each k) (map view (take i items)) a.bytes j.front a.is j.first),
-            ap length j.whole, length-append j.front j.back, ap length j.rest.whole, length-append j.rest.front j.rest.back);
+              let j = all_joined bytes h in
+              omega (
+                arith,
+                e.too_long t j.rest.front j.rest.first,
+                ap length a.whole,
+                length-append old a.bytes,
+                ap length (fields_one (each k) (map view (take i items)) a.bytes j.front a.is j.first),
+                ap length j.whole,
+                length-append j.front j.back,
+                ap length j.rest.whole,
+                length-append j.rest.front j.rest.back,
+              );
           kept = left ∙ ap (λ y. settled y start end) same ∙ ap (take start) e.kept ∙ before_appended (Items (take i items)) start old mid at a;
         })
 

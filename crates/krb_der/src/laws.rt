@@ -85,5 +85,5 @@ pub fn message_refused()
 pub fn list_next()
     ensures { (k : Kind) (here : Place) (vs : List (ValueOf k)) → fields_at (each k) here ≡ Ok vs
         → ((here.rest ≡ []) × (vs ≡ [])) ⊎ ((v : ValueOf k) × (after : Place) × (ws : List (ValueOf k))
-          × (vs ≡ v ∷ ws) × (element_at k here ≡ Ok (v, after)) × (fields_at (each k) after ≡ Ok ws)) }
+        × (vs ≡ v ∷ ws) × (element_at k here ≡ Ok (v, after)) × (fields_at (each k) after ≡ Ok ws)) }
 {}

@@ -71,7 +71,11 @@ impl Writer {
     }
 
     /// What becomes of a call that wrote from `start` on: nothing stays of what was refused or passes the limit of a message.
-    pub(crate) fn limited(&mut self, start: usize, written: Result<(), AllocError>) -> Result<(), EncodeFault>
+    pub(crate) fn limited(
+        &mut self,
+        start: usize,
+        written: Result<(), AllocError>,
+    ) -> Result<(), EncodeFault>
         requires { start ≤ length self.old }
         ensures answer { result ≡ limited_of written self.old }
         ensures left { self.new ≡ settled result start self.old }
@@ -81,7 +85,11 @@ impl Writer {
     }
 
     /// Takes back what was written from `start` on where it was refused.
-    pub(crate) fn settle(&mut self, start: usize, written: Result<(), EncodeFault>) -> Result<(), EncodeFault>
+    pub(crate) fn settle(
+        &mut self,
+        start: usize,
+        written: Result<(), EncodeFault>,
+    ) -> Result<(), EncodeFault>
         requires { start ≤ length self.old }
         ensures answer { result ≡ written }
         ensures left { self.new ≡ settled result start self.old }
@@ -147,7 +155,7 @@ impl Writer {
         self.element(tag::INTEGER, shortest(&bytes))
     }
 
-    /// Writes an OCTET STRING.
+    /// Writes an OCTET STRING of `bytes`, which are at most 4,294,967,295.
     pub fn octets(&mut self, bytes: &[u8]) -> Result<(), AllocError>
         requires { length bytes.now < 2 ^ 32 }
         ensures { Writes (leaf octets) bytes.now result self.old self.new }
@@ -155,7 +163,7 @@ impl Writer {
         self.element(tag::OCTET_STRING, bytes)
     }
 
-    /// Writes a GeneralString, of any bytes.
+    /// Writes a GeneralString of `bytes`, which are any bytes, at most 4,294,967,295.
     pub fn string(&mut self, bytes: &[u8]) -> Result<(), AllocError>
         requires { length bytes.now < 2 ^ 32 }
         ensures { Writes (leaf string) bytes.now result self.old self.new }
@@ -179,7 +187,7 @@ impl Writer {
     }
 
     /// Makes what was written from `start` on the content of an element with this tag: puts the tag and the shortest
-    /// length before it.
+    /// length before it. `start` is at most [`len`](Self::len), and there are at most 4,294,967,295 bytes from it on.
     ///
     /// # Errors
     /// There was no room. The writer then stays.

@@ -9,12 +9,11 @@ returns-in-Err g c =
     c.loop-item.invariant.0 c.loop-item.invariant.1 c.in-Err.ensures c.settle.ensures.answer c.settle.ensures.left
 
 pub loop-item-preserved : goal.loop-item-preserved
-loop-item-preserved g c =
-    (
-      c.loop-item.invariant.0,
-      items_more g.T.Encode.kind g.T.Encode.view c.args.items.now c.loop-item.item-index c.item-item.result (omega arith) c.item-item.is
+loop-item-preserved g c = (
+  c.loop-item.invariant.0,
+  items_more g.T.Encode.kind g.T.Encode.view c.args.items.now c.loop-item.item-index c.item-item.result (omega arith) c.item-item.is
       c.args.out.now c.loop-item.out c.write.new.out c.loop-item.invariant.1 c.in_default.ensures.ok.0,
-    )
+)
 
 pub returns : goal.returns
 returns g c =
