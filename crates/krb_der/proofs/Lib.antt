@@ -23,3 +23,4 @@ pub mod Lists
 pub mod Exact
 pub mod Offsets
 pub mod ListWrites
+pub mod Listed

@@ -5,3 +5,4 @@ pub mod Whole
 pub mod Clock
 pub mod Read
 pub mod Gives
+pub mod Listed

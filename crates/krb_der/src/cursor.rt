@@ -1,13 +1,13 @@
 //! Reading elements from left to right.
 
 ghost use Rattle.std.specs.Prelude.{◌≡◌, ◌≤◌, ◌↔◌, [], length, true, IsTrue, IsOk, IfOk, IfErr};
-ghost use Rattle.krb_der.specs.Kind.{leaf, int32, uint32, microseconds, constant, octets, string, flags, time, wrapped, sequence, each};
+ghost use Rattle.krb_der.specs.Kind.{leaf, int32, uint32, microseconds, constant, octets, string, flags, time, wrapped, sequence};
 ghost use Rattle.krb_der.specs.Place.{begin_at, begins};
 ghost use Rattle.krb_der.specs.Spells.{limit};
-ghost use Rattle.krb_der.specs.Reading.{Reads, ReadsList, Enters, MayEnter};
+ghost use Rattle.krb_der.specs.Reading.{Reads, Enters, MayEnter};
 ghost use Rattle.krb_der.specs.Clear.{are_clear};
-ghost use Rattle.krb_der.specs.Computed.Gives.{Gives, checked};
-ghost use Rattle.krb_der.specs.Computed.Read.{enter_at, may_enter, split_at, length_fault, element_at, fields_at, finish_at};
+ghost use Rattle.krb_der.specs.Computed.Gives.{Gives};
+ghost use Rattle.krb_der.specs.Computed.Read.{enter_at, may_enter, split_at, length_fault, element_at, finish_at};
 
 use crate::element::is_clear;
 use crate::length::length;
@@ -284,31 +284,6 @@ impl<'a> Cursor<'a> {
         content.finish_here()?;
         *self = after;
         Ok(value)
-    }
-
-    /// Checks that all that is left are elements of the type's kind, one after another, as in a SEQUENCE OF. The cursor stays.
-    ///
-    /// # Errors
-    /// The first fault from left to right.
-    pub fn check_each<T: Element<'a> + Drop>(&self) -> Result<(), Fault>
-        ensures checks { ReadsList T.kind result self.now }
-        ensures computed { result ≡ checked (fields_at (each T.kind) self.now) }
-    {
-        is_clear::<T>();
-        self.check_each_here::<T>()
-    }
-
-    fn check_each_here<T: Element<'a> + Drop>(&self) -> Result<(), Fault>
-        ensures { result ≡ checked (fields_at (each T.kind) self.now) }
-    {
-        let mut left = self.again();
-        while !left.is_at_end() {
-            match T::read(&mut left) {
-                Ok(value) => drop(value),
-                Err(fault) => return Err(fault),
-            }
-        }
-        Ok(())
     }
 
     #[tactic(auto, unfolding(crate::specs::Computed::Read::finish_at))]
