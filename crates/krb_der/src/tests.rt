@@ -1,6 +1,7 @@
 //! Values from outside: the rules worked out by tests/der_rules.py, and encodings of RFC 4120's types.
 
 mod cases;
+mod names;
 mod table;
 
 ghost use Rattle.std.specs.Prelude.{◌≡◌, refl};
