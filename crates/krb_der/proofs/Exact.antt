@@ -1,5 +1,5 @@
 -- Computed reading gives exactly what the relations say.
-use Rattle.std.proofs.Common.{◌≡◌, true, List, ◌++◌, Result, Ok, Err, sym, subst, ◌∙◌}
+use Rattle.std.proofs.Common.{◌≡◌, true, List, Result, Ok, Err, sym, subst, ◌∙◌}
 use Rattle.std.specs.Prelude.{◌↔◌}
 use Rattle.krb_der.specs.declared.fault.Fault.{Fault}
 use Rattle.krb_der.specs.Kind.{Kind, Fields, each, ValueOf, FieldsOf}

@@ -1,4 +1,4 @@
-use Rattle.std.proofs.Common.{None, Some, Err, sym, ap, subst, ◌∙◌}
+use Rattle.std.proofs.Common.{Some, Err, sym, ap, subst, ◌∙◌}
 use Rattle.std.proofs.lemmas.Result.{err_from_is_err_and}
 use Rattle.std.specs.Option.{option_map}
 use Rattle.krb_der.specs.Kind.{wrapped}
