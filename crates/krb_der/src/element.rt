@@ -14,7 +14,7 @@ pub trait Element<'a>: Sized {
 
     ghost view: { Self → ValueOf kind };
 
-    /// Reads the element that stands next. A refused call leaves the cursor.
+    /// Reads the element that stands next, as `specs::Computed` has it. A refused call leaves the cursor.
     fn read(cursor: &mut Cursor<'a>) -> Result<Self, Fault>
         ensures { Gives view result cursor.old cursor.new (element_at kind cursor.old) };
 

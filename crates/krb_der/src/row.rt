@@ -22,7 +22,7 @@ pub trait Row<'a>: Sized {
 
     ghost view: { Self → FieldsOf fields };
 
-    /// Reads the fields, up to the end of the content.
+    /// Reads the fields, up to the end of the content, as `specs::Computed` has it.
     fn read_row(content: Cursor<'a>) -> Result<Self, Fault>
         ensures { Fills view result (fields_at fields content.entry) };
 }
