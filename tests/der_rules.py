@@ -16,8 +16,13 @@ The rules (X.690, sections 8.1, 8.3, 8.6, 8.7 and 10.1; RFC 4120, section 5.2):
   Flags or Time at the element; bytes behind the last element: Trailing at the first of them; a message above 1,048,576
   bytes: TooLong at 0, before all else.
 
-This script writes src/tests/cases.rt of krb_der: `tests/der_rules.py > crates/krb_der/src/tests/cases.rt`.
+This script writes src/tests/cases.rt of krb_der: `tests/der_rules.py > crates/krb_der/src/tests/cases.rt`, which `rt fmt` then
+lays out. `tests/der_rules.py --check FILE` says whether the file is the table, layout aside.
 """
+import re
+import sys
+from pathlib import Path
+
 
 class Refused(Exception):
     def __init__(self, kind, at):
@@ -263,11 +268,11 @@ def nested_cases():
         yield "name", alice[:cut]
 
 
-def main():
-    print("//! Written by tests/der_rules.py, from the rules; not edited by hand.\n")
-    print("use super::table::Kind;\nuse crate::FaultKind;\n")
-    print("/// The kind that is read, the bytes, and the number that the value is, or the fault and its offset.")
-    print("pub type Case = (Kind, &'static [u8], Result<i64, (FaultKind, usize)>);")
+def table():
+    """The text of the file, before it is laid out."""
+    lines = ["//! Written by tests/der_rules.py, from the rules; not edited by hand.\n", "use super::table::Kind;\nuse crate::FaultKind;\n"]
+    lines.append("/// The kind that is read, the bytes, and the number that the value is, or the fault and its offset.")
+    lines.append("pub type Case = (Kind, &'static [u8], Result<i64, (FaultKind, usize)>);")
     tables = {}
     for kind, data in cases():
         text = "b\"" + "".join(f"\\x{b:02x}" for b in data) + "\""
@@ -279,10 +284,23 @@ def main():
     for kind, rows in tables.items():
         for part in range(0, len(rows), 12):
             some = rows[part : part + 12]
-            print(f"\npub static {kind.upper()}_{part // 12}: [Case; {len(some)}] = [")
-            print("\n".join(some))
-            print("];")
+            lines.append(f"\npub static {kind.upper()}_{part // 12}: [Case; {len(some)}] = [")
+            lines += [*some, "];"]
+    return "\n".join(lines) + "\n"
+
+
+def plain(text):
+    return re.sub(r",(?=[)\]])", "", re.sub(r"\s+", "", text))
+
+
+def main():
+    if sys.argv[1:2] != ["--check"]:
+        sys.stdout.write(table())
+        return 0
+    same = plain(Path(sys.argv[2]).read_text()) == plain(table())
+    print("1 passed, 0 failed" if same else "0 passed, 1 failed")
+    return 0 if same else 1
 
 
 if __name__ == "__main__":
-    main()
+    sys.exit(main())
