@@ -8,13 +8,21 @@ The rules (X.690, sections 8.1, 8.3, 8.6, 8.7 and 10.1; RFC 4120, section 5.2):
   number is at least 128.
 * Whole numbers are two's complement in the fewest bytes, and lie in the range of their kind.
 * Flags are 00 and four bytes. A time is YYYYMMDDHHMMSSZ on the calendar, without a second 60.
+* An element with a tag round it has exactly that element as its content; a SEQUENCE has its fields in order, one that may be
+  left out is there exactly where its tag is the next byte; a SEQUENCE OF has elements up to its end.
+* Elements are read from left to right, contents before what follows, and the first fault is the answer.
 * Where a fault comes: nothing left, or a length or content cut off: Truncated at the end of what encloses the element;
   another tag: Tag at the element; a length that is none: Length behind the tag; a content that spells no value: Integer,
   Flags or Time at the element; bytes behind the last element: Trailing at the first of them; a message above 1,048,576
   bytes: TooLong at 0, before all else.
 
-This script writes src/tests/cases.rt of krb_der: `tests/der_rules.py > crates/krb_der/src/tests/cases.rt`.
+This script writes src/tests/cases.rt of krb_der: `tests/der_rules.py > crates/krb_der/src/tests/cases.rt`, which `rt fmt` then
+lays out. `tests/der_rules.py --check FILE` says whether the file is the table, layout aside.
 """
+import re
+import sys
+from pathlib import Path
+
 
 class Refused(Exception):
     def __init__(self, kind, at):
@@ -79,26 +87,74 @@ def seconds(content):
 RANGES = {"int32": (-(2**31), 2**31 - 1), "uint32": (0, 2**32 - 1), "microseconds": (0, 999_999), "five": (5, 5)}
 
 
-def read(kind, data):
-    """The number that the value is (for texts their length), of an element that is all of the data."""
-    if len(data) > 1_048_576:
-        raise Refused("TooLong", 0)
-    start, end = head(data, 0, len(data), TAGS[kind])
-    content = data[start:end]
+def leaf_at(kind, data, at, end):
+    """The number that the value is (for texts their length), and where what follows begins."""
+    start, after = head(data, at, end, TAGS[kind])
+    content = data[start:after]
     if kind in RANGES:
         value, (low, high) = whole(content), RANGES[kind]
         if value is None or not low <= value <= high:
-            raise Refused("Integer", 0)
+            raise Refused("Integer", at)
     elif kind == "flags":
         if len(content) != 5 or content[0] != 0:
-            raise Refused("Flags", 0)
+            raise Refused("Flags", at)
         value = int.from_bytes(content[1:], "big")
     elif kind == "time":
         value = seconds(content)
         if value is None:
-            raise Refused("Time", 0)
+            raise Refused("Time", at)
     else:
         value = len(content)
+    return value, after
+
+
+# A shape is the name of an element without parts, (tag, shape) for one with a tag round it, or a list of fields for a SEQUENCE:
+# ("must", shape), ("may", shape), or ("each", shape) alone.
+SHAPES = {kind: kind for kind in TAGS} | {
+    "tagged": (0xA0, "int32"),
+    "nested": (0x61, (0xA0, "octets")),
+    "pair": [("must", (0xA0, "int32")), ("must", (0xA1, "string"))],
+    "options": [("may", (0xA0, "int32")), ("may", (0xA1, "octets")), ("may", (0xA2, "flags"))],
+    "mixed": (0x6E, [("must", (0xA0, "five")), ("may", (0xA1, "time")), ("must", (0xA2, "uint32")), ("may", (0xA3, "octets"))]),
+    "texts": [("each", "string")],
+    "name": [("must", (0xA0, "int32")), ("must", (0xA1, [("each", "string")]))],
+}
+
+
+def tag_of(shape):
+    return TAGS[shape] if isinstance(shape, str) else 0x30 if isinstance(shape, list) else shape[0]
+
+
+def element_at(shape, data, at, end):
+    """The sum of the numbers of the elements without parts, and where what follows begins."""
+    if isinstance(shape, str):
+        return leaf_at(shape, data, at, end)
+    start, after = head(data, at, end, tag_of(shape))
+    if isinstance(shape, list):
+        return fields_at(shape, data, start, after), after
+    value, left = element_at(shape[1], data, start, after)
+    if left != after:
+        raise Refused("Trailing", left)
+    return value, after
+
+
+def fields_at(fields, data, at, end):
+    total = 0
+    for way, shape in fields:
+        times = {"must": 1, "may": int(at < end and data[at] == tag_of(shape)), "each": end}[way]
+        while times > 0 and not (way == "each" and at == end):
+            value, at = element_at(shape, data, at, end)
+            total, times = total + value, times - 1
+    if at != end:
+        raise Refused("Trailing", at)
+    return total
+
+
+def read(kind, data):
+    """What a message of this shape is read as: its element is all of the data."""
+    if len(data) > 1_048_576:
+        raise Refused("TooLong", 0)
+    value, end = element_at(SHAPES[kind], data, 0, len(data))
     if end != len(data):
         raise Refused("Trailing", end)
     return value
@@ -154,12 +210,69 @@ def cases():
     ):
         yield "time", element(0x18, text.encode())
 
+    for year in (0, 4, 100, 400, 1900, 1970, 2000, 2023, 2024, 2100, 9900, 9996, 9999):
+        for rest in ("0101000000", "0228235959", "0229000000", "0301000000", "1231235959"):
+            yield "time", element(0x18, f"{year:04}{rest}Z".encode())
+    yield from nested_cases()
 
-def main():
-    print("//! Written by tests/der_rules.py, from the rules; not edited by hand.\n")
-    print("use super::Kind;\nuse crate::FaultKind;\n")
-    print("/// The kind that is read, the bytes, and the number that the value is, or the fault and its offset.")
-    print("pub type Case = (Kind, &'static [u8], Result<i64, (FaultKind, usize)>);")
+
+def tagged(number, *parts):
+    return element(0xA0 + number, b"".join(parts))
+
+
+def sequence(*parts):
+    return element(0x30, b"".join(parts))
+
+
+def nested_cases():
+    one, five, name = element(2, [1]), element(2, [5]), element(0x1B, b"alice")
+    text, flags, time = element(4, b"xy"), element(3, [0, 0, 0, 0, 3]), element(0x18, b"19700101000010Z")
+    # an element with a tag round it: no content, a cut one, another tag inside, a bad value, something behind it inside and outside
+    for data in (tagged(0, one), b"", b"\xa0", b"\xa0\x03\x02\x01", tagged(0), tagged(1, one), tagged(0, name), tagged(0, one, one), tagged(0, one) + b"\0",
+        bytes.fromhex("a003020201"), bytes.fromhex("a004028101ff"), bytes.fromhex("a002 0200"), bytes.fromhex("a004 02020001"), bytes.fromhex("a0810302 0101"),
+        bytes.fromhex("a0 01 02"), bytes.fromhex("a0 02 0280"), bytes.fromhex("a0 02 0281"), one):
+        yield "tagged", data
+    inner = tagged(0, text)
+    for data in (element(0x61, inner), element(0x61, text), element(0x61, inner + inner), element(0x61, tagged(0, text, text)), element(0x61, b""), element(0x62, inner),
+        element(0x61, tagged(0)), bytes.fromhex("6104a00404026162"), bytes.fromhex("6105a003040261"), bytes.fromhex("6106a00304026162"), element(0x61, element(0xA0, b"", b"\x84")),
+        element(0x61, tagged(0, bytes.fromhex("048100"))), element(0x61, tagged(0, element(4, [9] * 130)))):
+        yield "nested", data
+    first, second = tagged(0, one), tagged(1, name)
+    for data in (sequence(first, second), sequence(first), sequence(), sequence(second), sequence(second, first), sequence(first, first, second), sequence(first, second, first),
+        sequence(first, tagged(1, text)), sequence(tagged(0, element(2, [0, 1])), second), sequence(first, second)[:-1], sequence(first, b"\xa1"), sequence(first, b"\xa1\x03\x1b\x02a"),
+        sequence(first, second) + first, element(0x31, first + second), element(0x30, first + second, b"\x81\x0e")):
+        yield "pair", data
+    a, b, c = tagged(0, one), tagged(1, text), tagged(2, flags)
+    for data in (sequence(), sequence(a), sequence(b), sequence(c), sequence(a, b), sequence(a, c), sequence(b, c), sequence(a, b, c), sequence(b, a), sequence(c, b), sequence(a, a),
+        sequence(tagged(3, one)), sequence(a, one), sequence(a, b, c, c), sequence(b"\xa1"), sequence(a, b"\xa1\x80"), sequence(b"\xa0\x01"), sequence(a, tagged(1, one)), sequence(a, tagged(2)),
+        sequence(tagged(0, element(2, [0] * 2)), b), sequence(a, b, tagged(2, element(3, [0] * 4)))):
+        yield "options", data
+    v, t, u, o = tagged(0, five), tagged(1, time), tagged(2, element(2, [7])), tagged(3, text)
+    for parts in ((v, t, u, o), (v, u), (v, t, u), (v, u, o), (v, o), (v,), (v, t), (), (u,), (v, u, t), (v, t, o), (v, t, t, u), (v, u, o, o), (tagged(0, one), u),
+        (v, tagged(1, element(0x18, b"19000229000000Z")), u), (v, tagged(2, element(2, [255]))), (v, u, tagged(3, one)), (v, u, tagged(4, text)), (v, u, b"\0"), (v, b"\xa1\x00", u)):
+        yield "mixed", element(0x6E, sequence(*parts))
+    for data in (element(0x6E, v + u), element(0x6E, sequence(v, u) + o), element(0x6F, sequence(v, u)), element(0x6E, sequence(v, u))[:-1], sequence(v, u)):
+        yield "mixed", data
+    # a list: none, some, another tag is Tag and not Trailing, the second one is cut off
+    for data in (sequence(), sequence(name), sequence(name, element(0x1B, b"")), sequence(*[element(0x1B, [n] * n) for n in range(9)]), sequence(text), sequence(name, text),
+        sequence(name, b"\x1b"), sequence(name, b"\x1b\x05ab"), sequence(name, b"\x1b\x81\x01a"), sequence(name, b"\0"), sequence(name) + name, name, b"\x30\x81\x00", b"\x30\x05\x1b\x01a"):
+        yield "texts", data
+    alice = sequence(tagged(0, one), tagged(1, sequence(name)))
+    yield "name", alice
+    yield "name", alice[:1] + b"\x81" + alice[1:]
+    for parts in (b"", name + name, text, name + one, b"\x1b\x06alice"):
+        yield "name", sequence(tagged(0, one), tagged(1, sequence(parts)))
+    yield "name", sequence(tagged(0, one), tagged(1, name))
+    yield "name", sequence(tagged(0, one), tagged(1, sequence(name), name))
+    for cut in range(len(alice)):
+        yield "name", alice[:cut]
+
+
+def table():
+    """The text of the file, before it is laid out."""
+    lines = ["//! Written by tests/der_rules.py, from the rules; not edited by hand.\n", "use super::table::Kind;\nuse crate::FaultKind;\n"]
+    lines.append("/// The kind that is read, the bytes, and the number that the value is, or the fault and its offset.")
+    lines.append("pub type Case = (Kind, &'static [u8], Result<i64, (FaultKind, usize)>);")
     tables = {}
     for kind, data in cases():
         text = "b\"" + "".join(f"\\x{b:02x}" for b in data) + "\""
@@ -171,10 +284,23 @@ def main():
     for kind, rows in tables.items():
         for part in range(0, len(rows), 12):
             some = rows[part : part + 12]
-            print(f"\npub static {kind.upper()}_{part // 12}: [Case; {len(some)}] = [")
-            print("\n".join(some))
-            print("];")
+            lines.append(f"\npub static {kind.upper()}_{part // 12}: [Case; {len(some)}] = [")
+            lines += [*some, "];"]
+    return "\n".join(lines) + "\n"
+
+
+def plain(text):
+    return re.sub(r",(?=[)\]])", "", re.sub(r"\s+", "", text))
+
+
+def main():
+    if sys.argv[1:2] != ["--check"]:
+        sys.stdout.write(table())
+        return 0
+    same = plain(Path(sys.argv[2]).read_text()) == plain(table())
+    print("1 passed, 0 failed" if same else "0 passed, 1 failed")
+    return 0 if same else 1
 
 
 if __name__ == "__main__":
-    main()
+    sys.exit(main())

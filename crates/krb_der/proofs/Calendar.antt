@@ -10,7 +10,7 @@ use Rattle.std.specs.Result.{result_ok}
 use Rattle.jiff_core.proofs.CalendarLemmas.{day_count-lt_year, days_from_civil-day_count}
 use Rattle.jiff_core.proofs.DateLemmas.{civil}
 use Rattle.krb_der.specs.Time as own
-use Rattle.krb_der.specs.Inner.Clock.{day_of, clock_of, seconds_if}
+use Rattle.krb_der.specs.Computed.Clock.{day_of, clock_of, seconds_if}
 use Rattle.jiff_core.specs.Calendar as jiff
 use Rattle.jiff_core.specs.declared.civil.date.Date.{Date}
 

@@ -8,8 +8,8 @@ use Rattle.jiff_core.specs.declared.civil.date.Date.{Date}
 use Rattle.jiff_core.proofs.CalendarLemmas.{days_in_month_bounds}
 use Rattle.jiff_core.proofs.DateLemmas.{epoch_day_injective}
 use Rattle.krb_der.specs.Time.{Civil, IsCivil, IsTime, days_in_month, day_number, seconds_of, text_of, two}
-use Rattle.krb_der.specs.Inner.Steps.{◌>>?◌}
-use Rattle.krb_der.specs.Inner.Clock.{is_digit, pair_of, pair_at, is_date, is_clock, day_of, clock_of, civil_of, seconds_if, time_of}
+use Rattle.krb_der.specs.Computed.Steps.{◌>>?◌}
+use Rattle.krb_der.specs.Computed.Clock.{is_digit, pair_of, pair_at, is_date, is_clock, day_of, clock_of, civil_of, seconds_if, time_of}
 use Rattle.krb_der.proofs.Calendar.{day_of-some, day_number_agree}
 use Rattle.krb_der.proofs.IntegerLaws.{bind_some, none_some, same_some}
 use Rattle.krb_der.proofs.LengthLaws.{chosen}

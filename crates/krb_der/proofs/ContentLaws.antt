@@ -8,9 +8,9 @@ use Rattle.std.proofs.lemmas.Int.{ints}
 use Rattle.krb_der.specs.Kind.{Content, int32, uint32, microseconds, constant, octets, string, flags, time, ContentValue}
 use Rattle.krb_der.specs.Content.{number, AreFlags, IsInteger, IsNatural, Elementary}
 use Rattle.krb_der.specs.Spells.{Contents}
-use Rattle.krb_der.specs.Inner.Steps.{◌>>?◌}
-use Rattle.krb_der.specs.Inner.Whole.{are_bytes, whole_of, natural_below, int32_within, constant_at, flags_of}
-use Rattle.krb_der.specs.Inner.Read.{content_of, LeafReader}
+use Rattle.krb_der.specs.Computed.Steps.{◌>>?◌}
+use Rattle.krb_der.specs.Computed.Whole.{are_bytes, whole_of, natural_below, int32_within, constant_at, flags_of}
+use Rattle.krb_der.specs.Computed.Read.{content_of, LeafReader}
 use Rattle.krb_der.proofs.Numbers.{AreBytes-true}
 use Rattle.krb_der.proofs.WholeSteps.{flags_of-some}
 use Rattle.krb_der.proofs.LengthLaws.{number_injective}

@@ -5,7 +5,7 @@ use Rattle.std.proofs.lemmas.List.{nil_from_length}
 use Rattle.krb_der.specs.declared.fault.Fault.{Fault}
 use Rattle.krb_der.specs.declared.fault.FaultKind.TheVariants.{Truncated, Tag}
 use Rattle.krb_der.specs.Place.{Place, end_of}
-use Rattle.krb_der.specs.Inner.Read.{enter_at, split_at, sized_at, length_of, head_from, fault_at}
+use Rattle.krb_der.specs.Computed.Read.{enter_at, split_at, sized_at, length_of, head_from, fault_at}
 
 pub split_at-cut : (p : Place) (n : ℕ) (bytes : List ℕ) → length bytes < n → split_at p n bytes ≡ fault_at Truncated (end_of p)
 unfolding split_at

@@ -6,8 +6,8 @@ use Rattle.krb_der.specs.declared.fault.FaultKind.{FaultKind}
 use Rattle.krb_der.specs.Place.{Place, begins}
 use Rattle.krb_der.specs.Spells.{IsElement, IsJoined, IfPresent, ForEach}
 use Rattle.krb_der.specs.Fault.{HasHead}
-use Rattle.krb_der.specs.Inner.Steps.{◌>>=◌}
-use Rattle.krb_der.specs.Inner.Read.{enter_at, finish_at, leaf_at, wrapped_at, sequence_at, must_at, may_at, each_from, value_or}
+use Rattle.krb_der.specs.Computed.Steps.{◌>>=◌}
+use Rattle.krb_der.specs.Computed.Read.{enter_at, finish_at, leaf_at, wrapped_at, sequence_at, must_at, may_at, each_from, value_or}
 use Rattle.krb_der.proofs.LengthLaws.{chosen, no_value, same_error}
 use Rattle.krb_der.proofs.ElementSteps.{Taken, bind_ok, same_ok, enter_at-read, finish_at-read}
 

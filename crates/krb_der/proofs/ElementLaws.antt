@@ -6,8 +6,8 @@ use Rattle.krb_der.specs.Kind.{Kind, leaf, wrapped, sequence, Fields, ends, must
 use Rattle.krb_der.specs.Place.{Place, begins}
 use Rattle.krb_der.specs.Spells.{IsElement, IfPresent, Contents, SpellsContent, SpellsFields, SpellsBy}
 use Rattle.krb_der.specs.Fault.{content_fault}
-use Rattle.krb_der.specs.Inner.Clear.{can_begin, is_clear, are_clear}
-use Rattle.krb_der.specs.Inner.Read.{LeafReader, finish_at, element_by, fields_by}
+use Rattle.krb_der.specs.Clear.{can_begin, is_clear, are_clear}
+use Rattle.krb_der.specs.Computed.Read.{LeafReader, finish_at, element_by, fields_by}
 use Rattle.krb_der.proofs.ContentLaws.{AreRead}
 use Rattle.krb_der.proofs.ElementSteps.{Taken, finish_at-read, finish_at-end}
 use Rattle.krb_der.proofs.ElementFound.{leaf_found, wrapped_found, sequence_found, must_found, may_found, each_from_found}

@@ -5,8 +5,8 @@ use Rattle.std.proofs.lemmas.List.{append-nil}
 use Rattle.krb_der.specs.declared.fault.Fault.{Fault}
 use Rattle.krb_der.specs.Place.{Place, begins}
 use Rattle.krb_der.specs.Spells.{IsElement, IsJoined, IfPresent, ForEach}
-use Rattle.krb_der.specs.Inner.Steps.{◌>>=◌}
-use Rattle.krb_der.specs.Inner.Read.{enter_at, finish_at, leaf_at, wrapped_at, sequence_at, must_at, may_at, each_from, value_or}
+use Rattle.krb_der.specs.Computed.Steps.{◌>>=◌}
+use Rattle.krb_der.specs.Computed.Read.{enter_at, finish_at, leaf_at, wrapped_at, sequence_at, must_at, may_at, each_from, value_or}
 use Rattle.krb_der.proofs.ElementSteps.{bind_at, enter_at-spelled, finish_at-end}
 
 -- a reader that reads each part that is spelled

@@ -9,8 +9,8 @@ use Rattle.krb_der.specs.Kind.{Kind, Fields, ends, must, tag_of}
 use Rattle.krb_der.specs.Place.{Place, end_of}
 use Rattle.krb_der.specs.Spells.{IsLength, Contents}
 use Rattle.krb_der.specs.Fault.{HasHead, IsBroken, nothing, other_tag, cut_length, bad_length, cut_content, left_over}
-use Rattle.krb_der.specs.Inner.Steps.{◌>>=◌}
-use Rattle.krb_der.specs.Inner.Read.{fault_at, enter_at, sized_at, split_at, length_of, length_fault, finish_at, finish_from}
+use Rattle.krb_der.specs.Computed.Steps.{◌>>=◌}
+use Rattle.krb_der.specs.Computed.Read.{fault_at, enter_at, sized_at, split_at, length_of, length_fault, finish_at, finish_from}
 use Rattle.krb_der.proofs.CursorSteps.{enter_at-empty, enter_at-other, enter_at-sized, split_at-ok, split_at-cut}
 use Rattle.krb_der.proofs.LengthLaws.{length_of-spelled, length_of-read, length_of-fault, no_value, same_error, IsLengthFault}
 

@@ -6,8 +6,8 @@ use Rattle.krb_der.specs.Kind.{Content, Kind, leaf, wrapped, sequence, Fields, e
 use Rattle.krb_der.specs.Place.{Place, begins}
 use Rattle.krb_der.specs.Spells.{Contents, StandsAt}
 use Rattle.krb_der.specs.Fault.{content_fault, Reached, inside_wrapped, inside_sequence, after_element, is_there, is_absent, one_more, IsBroken, bad_content, IsFaulty}
-use Rattle.krb_der.specs.Inner.Steps.{◌>>=◌}
-use Rattle.krb_der.specs.Inner.Read.{LeafReader, enter_at, finish_at, leaf_at, wrapped_at, sequence_at, must_at, may_at, each_from, value_or, element_by, fields_by}
+use Rattle.krb_der.specs.Computed.Steps.{◌>>=◌}
+use Rattle.krb_der.specs.Computed.Read.{LeafReader, enter_at, finish_at, leaf_at, wrapped_at, sequence_at, must_at, may_at, each_from, value_or, element_by, fields_by}
 use Rattle.krb_der.proofs.ContentLaws.{AreRead}
 use Rattle.krb_der.proofs.LengthLaws.{chosen, no_value}
 use Rattle.krb_der.proofs.IntegerLaws.{none_some}

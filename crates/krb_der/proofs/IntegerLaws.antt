@@ -6,8 +6,8 @@ use Rattle.std.proofs.lemmas.Int.{ints}
 use Rattle.std.proofs.Math.Nat.{mul-le-mul_right, pow-le-pow_right}
 use Rattle.krb_der.specs.Content.{AreBytes, number, IsShortest, IsNatural, turned, IsInteger}
 use Rattle.krb_der.specs.Place.{begins}
-use Rattle.krb_der.specs.Inner.Steps.{◌>>?◌}
-use Rattle.krb_der.specs.Inner.Whole.{are_bytes, is_redundant, is_negative, contents_of, whole_of}
+use Rattle.krb_der.specs.Computed.Steps.{◌>>?◌}
+use Rattle.krb_der.specs.Computed.Whole.{are_bytes, is_redundant, is_negative, contents_of, whole_of}
 use Rattle.krb_der.proofs.Numbers.{AreBytes-true, pow_step}
 use Rattle.krb_der.proofs.WholeSteps.{contents_of-some, whole_of-some}
 use Rattle.krb_der.proofs.LengthLaws.{chosen, digits_injective}

@@ -10,8 +10,8 @@ use Rattle.krb_der.specs.Content.{AreBytes, number}
 use Rattle.krb_der.specs.Place.{begins}
 use Rattle.krb_der.specs.Spells.{IsLength, short, long}
 use Rattle.krb_der.specs.Fault.{IsCutLength, IsBadLength, no_form, not_shortest}
-use Rattle.krb_der.specs.Inner.Read.{long_of, length_of, are_length, Sized}
-use Rattle.krb_der.specs.Inner.Whole.{are_bytes}
+use Rattle.krb_der.specs.Computed.Read.{long_of, length_of, are_length, Sized}
+use Rattle.krb_der.specs.Computed.Whole.{are_bytes}
 use Rattle.krb_der.proofs.Numbers.{are_bytes-true, AreBytes-true, number_below}
 use Rattle.krb_der.proofs.LengthSteps.{long_of-ok}
 

@@ -4,7 +4,7 @@ use Rattle.std.proofs.lemmas.Bool.{le-ltb, le-leb}
 use Rattle.krb_der.specs.declared.fault.FaultKind.TheVariants.{Truncated, Length}
 use Rattle.krb_der.specs.Content.{AreBytes, number}
 use Rattle.krb_der.specs.Place.{begins}
-use Rattle.krb_der.specs.Inner.Read.{long_of, are_length}
+use Rattle.krb_der.specs.Computed.Read.{long_of, are_length}
 use Rattle.krb_der.proofs.Numbers.{are_bytes-true}
 
 -- a list that begins with another byte, or doesn't begin

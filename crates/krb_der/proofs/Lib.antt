@@ -20,3 +20,7 @@ pub mod WriteLaws
 pub mod Messages
 pub mod EncodeLaws
 pub mod Lists
+pub mod Exact
+pub mod Offsets
+pub mod ListWrites
+pub mod Listed

@@ -6,9 +6,9 @@ use Rattle.krb_der.specs.Kind.{Kind, each, tag_of, ValueOf}
 use Rattle.krb_der.specs.Content.{Elementary}
 use Rattle.krb_der.specs.Place.{Place}
 use Rattle.krb_der.specs.Spells.{SpellsContent}
-use Rattle.krb_der.specs.Inner.Steps.{◌>>=◌}
-use Rattle.krb_der.specs.Inner.Gives.{checked}
-use Rattle.krb_der.specs.Inner.Read.{each_from, each_at, element_at, fields_at, fields_by}
+use Rattle.krb_der.specs.Computed.Steps.{◌>>=◌}
+use Rattle.krb_der.specs.Computed.Gives.{checked}
+use Rattle.krb_der.specs.Computed.Read.{each_from, each_at, element_at, fields_at, fields_by}
 use Rattle.krb_der.proofs.ElementSteps.{bind_ok, bind_at, same_ok}
 use Rattle.krb_der.proofs.ElementLaws.{element_some}
 use Rattle.krb_der.proofs.Reading.{element_at-found}

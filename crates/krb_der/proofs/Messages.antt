@@ -1,7 +1,7 @@
 -- Whole messages.
 use Rattle.std.proofs.Common.{◌≡◌, ◌⊎◌, inl, inr, ℕ, ◌<◌, ◌≤◌, true, List, [], ◌++◌, length, Result, Ok, Err, refl, sym, ap, subst, ◌∙◌, arith}
-use Rattle.std.specs.Prelude.{IfOk, IfErr, IsOkAnd}
-use Rattle.krb_der.specs.Inner.Gives.{Fills}
+use Rattle.std.specs.Prelude.{◌↔◌, IfOk, IfErr, IsOkAnd}
+use Rattle.krb_der.specs.Computed.Gives.{Fills}
 use Rattle.std.proofs.lemmas.Bool.{le-ltb, lt-ltb, cases_lt}
 use Rattle.std.proofs.lemmas.List.{append-nil}
 use Rattle.krb_der.specs.declared.fault.Fault.{Fault}
@@ -11,9 +11,9 @@ use Rattle.krb_der.specs.Content.{Elementary}
 use Rattle.krb_der.specs.Place.{begin_at}
 use Rattle.krb_der.specs.Spells.{Spells, IsMessage, limit}
 use Rattle.krb_der.specs.Fault.{IsFault, IsFaulty, too_long, faulty, start, after_element}
-use Rattle.krb_der.specs.Inner.Steps.{◌>>=◌}
-use Rattle.krb_der.specs.Inner.Clear.{is_clear}
-use Rattle.krb_der.specs.Inner.Read.{fault_at, element_at, content_of, finish_at, message_of, message_by}
+use Rattle.krb_der.specs.Computed.Steps.{◌>>=◌}
+use Rattle.krb_der.specs.Clear.{is_clear}
+use Rattle.krb_der.specs.Computed.Read.{fault_at, element_at, content_of, finish_at, message_of, message_by}
 use Rattle.krb_der.proofs.ContentLaws.{elementary_read, elementary_unique}
 use Rattle.krb_der.proofs.LengthLaws.{no_value, same_error}
 use Rattle.krb_der.proofs.ElementSteps.{bind_ok, bind_err, bind_at, same_ok, finish_at-read, finish_at-fault, finish_at-end}
@@ -22,6 +22,7 @@ use Rattle.krb_der.proofs.ElementLaws.{element_read}
 use Rattle.krb_der.proofs.FaultLaws.{element_fault}
 use Rattle.krb_der.proofs.Reading.{element_at-found}
 use Rattle.krb_der.proofs.Unique.{spelling_unique}
+use Rattle.krb_der.proofs.Offsets.{fault_within}
 
 -- what is spelled is read, whatever follows
 reads : (k : Kind) (v : ValueOf k) (front rest : List ℕ) → is_clear k ≡ true → Spells k v front
@@ -121,3 +122,10 @@ fills-only k view (Err f) bytes clear e v m = absurd (no_value f v (sym e ∙ me
 pub fills-faulty : {X : Type 0} (k : Kind) (view : X → ValueOf k) (r : Result X Fault) (bytes : List ℕ) → Fills view r (message_of k bytes) → IfErr r (IsFault k bytes)
 fills-faulty k view (Ok x) bytes e = tt
 fills-faulty k view (Err f) bytes e = message_fault k bytes f e
+
+pub message_read : (k : Kind) → is_clear k ≡ true → (v : ValueOf k) (bytes : List ℕ) → (message_of k bytes ≡ Ok v) ↔ IsMessage k v bytes
+message_read k clear v bytes = (message_found k v bytes, message_only k v bytes clear)
+
+pub fills-offset : {X : Type 0} (k : Kind) (view : X → ValueOf k) (r : Result X Fault) (bytes : List ℕ) → Fills view r (message_of k bytes) → IfErr r (λ f. f.at ≤ length bytes)
+fills-offset k view (Ok x) bytes e = tt
+fills-offset k view (Err f) bytes e = fault_within k bytes f (message_fault k bytes f e)

@@ -5,7 +5,7 @@ use Rattle.std.proofs.lemmas.List.{take_more}
 use Rattle.std.proofs.Math.Nat.{pow-succ', mul-le-mul_right, pow-le-pow_right}
 use Rattle.std.proofs.lemmas.Nat.{pow-add}
 use Rattle.krb_der.specs.Content.{AreBytes, number}
-use Rattle.krb_der.specs.Inner.Whole.{are_bytes}
+use Rattle.krb_der.specs.Computed.Whole.{are_bytes}
 
 pub AreBytes-from : (bytes : List ℕ) → ((i : ℕ) → get_or bytes i 0 < 256) → AreBytes bytes
 AreBytes-from [] h = tt

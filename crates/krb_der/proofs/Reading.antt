@@ -2,7 +2,7 @@
 use Rattle.std.proofs.Common.{◌≡◌, inl, inr, Option, Some, None, subst, true, false, List, ℕ, Result, Ok, Err, refl, sym, ap, ◌∙◌, arith, length-append}
 use Rattle.std.specs.Prelude.{IsSomeAnd}
 use Rattle.std.proofs.lemmas.Bool.{cases_Bool, eq-eqb}
-use Rattle.krb_der.specs.Inner.Steps.{◌>>=◌}
+use Rattle.krb_der.specs.Computed.Steps.{◌>>=◌}
 use Rattle.krb_der.specs.declared.fault.Fault.{Fault}
 use Rattle.krb_der.specs.Kind.{Kind, wrapped, ValueOf, must}
 use Rattle.krb_der.specs.Content.{Elementary}
@@ -10,9 +10,9 @@ use Rattle.krb_der.specs.Place.{Place, begins}
 use Rattle.krb_der.specs.Spells.{StandsAt}
 use Rattle.krb_der.specs.Fault.{HasHead, IsElementFault, IsHeadFault, start}
 use Rattle.krb_der.specs.Reading.{Reads, Enters, MayEnter}
-use Rattle.krb_der.specs.Inner.Clear.{is_clear}
-use Rattle.krb_der.specs.Inner.Gives.{Gives}
-use Rattle.krb_der.specs.Inner.Read.{element_at, enter_at, may_enter, content_of}
+use Rattle.krb_der.specs.Clear.{is_clear}
+use Rattle.krb_der.specs.Computed.Gives.{Gives}
+use Rattle.krb_der.specs.Computed.Read.{element_at, enter_at, may_enter, content_of}
 use Rattle.krb_der.proofs.ContentLaws.{elementary_read}
 use Rattle.krb_der.proofs.LengthLaws.{no_value}
 use Rattle.krb_der.proofs.ElementSteps.{bind_ok, bind_err, enter_at-spelled, enter_at-read, enter_at-fault}

@@ -6,4 +6,6 @@ pub mod Place
 pub mod Fault
 pub mod Reading
 pub mod Writing
+pub mod Clear
+pub mod Computed
 pub mod Inner

@@ -1,11 +1,11 @@
 -- What a call answers that reads the element that stands next.
-use Rattle.std.specs.Prelude.{◌≡◌, ℕ, true, false, Option, Some, None, IsSomeAnd, Result, Ok, IfOk, IsOkAnd, IfErr, OnErr}
+use Rattle.std.specs.Prelude.{◌≡◌, ℕ, List, true, false, Option, Some, None, IsSomeAnd, Result, Ok, IfOk, IsOk, IsOkAnd, IfErr, OnOk, OnErr}
 use Rattle.krb_der.specs.declared.fault.Fault.{Fault}
-use Rattle.krb_der.specs.Kind.{Kind, ValueOf}
+use Rattle.krb_der.specs.Kind.{Kind, each, ValueOf}
 use Rattle.krb_der.specs.Content.{Elementary}
 use Rattle.krb_der.specs.Place.{Place, begins}
-use Rattle.krb_der.specs.Spells.{StandsAt}
-use Rattle.krb_der.specs.Fault.{HasHead, IsElementFault, IsHeadFault}
+use Rattle.krb_der.specs.Spells.{SpellsFields, StandsAt}
+use Rattle.krb_der.specs.Fault.{HasHead, IsElementFault, IsHeadFault, IsFaulty}
 
 -- The call succeeds exactly where an element of the kind stands at the old place, with its value, of which view is what
 -- clauses see, and the new place is behind it. Else it answers a fault of that element, and the place stays.
@@ -15,6 +15,13 @@ pub record Reads {X : Type 0} (k : Kind) (view : X → ValueOf k) (result : Resu
       → IsOkAnd result (λ x. (view x ≡ v) × (new ≡ after))
   pub faulty : IfErr result (IsElementFault Elementary k old)
   pub kept : OnErr result (new ≡ old)
+
+-- The call succeeds exactly where all that is left at the place are elements of the kind, one after another. Else it answers a
+-- fault of what is left.
+pub record ReadsList (k : Kind) (result : Result (Unit {0}) Fault) (here : Place) : Type 0 where
+  pub found : OnOk result ((vs : List (ValueOf k)) × SpellsFields Elementary (each k) vs here.rest)
+  pub only : (vs : List (ValueOf k)) → SpellsFields Elementary (each k) vs here.rest → IsOk result
+  pub faulty : IfErr result (IsFaulty Elementary (each k) here)
 
 -- The call enters the element with the tag that stands next: it gives the place of its content, and the new place is behind it.
 pub record Enters (tag : ℕ) (result : Result Place Fault) (old new : Place) : Type 0 where

@@ -22,8 +22,9 @@ pub record Wraps (tag start : ℕ) (old new : List ℕ) : Type 0 where
   pub is : IsElement tag (λ content. content ≡ drop start old) bytes
   pub whole : new ≡ take start old ++ bytes
 
--- The call appends such bytes, and no message has more than the limit then. TooLong says that it would pass the limit with
--- any such bytes.
+-- The call appends such bytes, and there are at most as many as the limit then. Else nothing changes; TooLong says that there
+-- would be more than the limit with any such bytes.
 pub record Encodes (Part : List ℕ → Type 0) (result : Result (Unit {0}) EncodeFault) (old new : List ℕ) : Type 0 where
   pub ok : OnOk result (Appends Part old new × (length new ≤ limit))
   pub too_long : IsErrOf result TooLong → (bytes : List ℕ) → Part bytes → limit < length old + length bytes
+  pub kept : OnErr result (new ≡ old)

@@ -1,12 +1,13 @@
 //! Reading elements from left to right.
 
-ghost use Rattle.std.specs.Prelude.{◌≡◌, ◌≤◌, ◌↔◌, [], length, IsOk, IfOk, IfErr};
-ghost use Rattle.krb_der.specs.Kind.{leaf, int32, uint32, microseconds, constant, octets, string, flags, time, wrapped, sequence, each};
+ghost use Rattle.std.specs.Prelude.{◌≡◌, ◌≤◌, ◌↔◌, [], length, true, IsTrue, IsOk, IfOk, IfErr};
+ghost use Rattle.krb_der.specs.Kind.{leaf, int32, uint32, microseconds, constant, octets, string, flags, time, wrapped, sequence};
 ghost use Rattle.krb_der.specs.Place.{begin_at, begins};
 ghost use Rattle.krb_der.specs.Spells.{limit};
 ghost use Rattle.krb_der.specs.Reading.{Reads, Enters, MayEnter};
-ghost use Rattle.krb_der.specs.Inner.Gives.{Gives, checked};
-ghost use Rattle.krb_der.specs.Inner.Read.{enter_at, may_enter, split_at, length_fault, element_at, fields_at, finish_at};
+ghost use Rattle.krb_der.specs.Clear.{are_clear};
+ghost use Rattle.krb_der.specs.Computed.Gives.{Gives};
+ghost use Rattle.krb_der.specs.Computed.Read.{enter_at, may_enter, split_at, length_fault, element_at, finish_at};
 
 use crate::element::is_clear;
 use crate::length::length;
@@ -53,6 +54,23 @@ impl<'a> Cursor<'a> {
             });
         }
         Ok(Cursor { at: 0, rest: bytes })
+    }
+
+    /// A second cursor at this place.
+    pub fn again(&self) -> Cursor<'a>
+        ensures { result ≡ self.now }
+    {
+        Cursor {
+            at: self.at,
+            rest: self.rest,
+        }
+    }
+
+    /// Whether nothing is left of what encloses the place.
+    pub fn is_at_end(&self) -> bool
+        ensures { IsTrue result ↔ (self.now.rest ≡ []) }
+    {
+        self.rest.is_empty()
     }
 
     /// Reads the element of the type's kind that stands next.
@@ -110,7 +128,7 @@ impl<'a> Cursor<'a> {
         self.optional_here(tag)
     }
 
-    #[tactic(auto, unfolding(crate::specs::Inner::Read::may_enter))]
+    #[tactic(auto, unfolding(crate::specs::Computed::Read::may_enter))]
     fn optional_here(&mut self, tag: u8) -> Result<Option<Cursor<'a>>, Fault>
         ensures { Gives (λ o. o) result self.old self.new (may_enter tag self.old) }
     {
@@ -211,8 +229,15 @@ impl<'a> Cursor<'a> {
     }
 
     /// Reads a SEQUENCE of these fields. Errors as of [`read`](Self::read).
-    #[tactic(auto, unfolding(crate::specs::Inner::Read::element_at, crate::specs::Inner::Read::fields_at, crate::specs::Inner::Read::element_by))]
     pub fn sequence<R: Row<'a> + Drop>(&mut self) -> Result<R, Fault>
+        ensures reads { are_clear R.fields ≡ true → Reads (sequence R.fields) R.view result self.old self.new }
+        ensures computed { Gives R.view result self.old self.new (element_at (sequence R.fields) self.old) }
+    {
+        self.sequence_here()
+    }
+
+    #[tactic(auto, unfolding(crate::specs::Computed::Read::element_at, crate::specs::Computed::Read::fields_at, crate::specs::Computed::Read::element_by))]
+    fn sequence_here<R: Row<'a> + Drop>(&mut self) -> Result<R, Fault>
         ensures { Gives R.view result self.old self.new (element_at (sequence R.fields) self.old) }
     {
         let (content, after) = self.head(tag::SEQUENCE)?;
@@ -223,20 +248,35 @@ impl<'a> Cursor<'a> {
 
     /// Reads a SEQUENCE of these fields with this tag round it, as that of `[APPLICATION 2]` is 62 (hexadecimal). Errors as of
     /// [`read`](Self::read).
-    #[tactic(auto, unfolding(crate::specs::Inner::Read::element_at, crate::specs::Inner::Read::element_by))]
     pub fn application<R: Row<'a> + Drop>(&mut self, tag: u8) -> Result<R, Fault>
+        ensures reads { are_clear R.fields ≡ true → Reads (wrapped tag (sequence R.fields)) R.view result self.old self.new }
+        ensures computed { Gives R.view result self.old self.new (element_at (wrapped tag (sequence R.fields)) self.old) }
+    {
+        self.application_here(tag)
+    }
+
+    #[tactic(auto, unfolding(crate::specs::Computed::Read::element_at, crate::specs::Computed::Read::element_by))]
+    fn application_here<R: Row<'a> + Drop>(&mut self, tag: u8) -> Result<R, Fault>
         ensures { Gives R.view result self.old self.new (element_at (wrapped tag (sequence R.fields)) self.old) }
     {
         let (mut content, after) = self.head(tag)?;
-        let row = content.sequence()?;
+        let row = content.sequence_here()?;
         content.finish_here()?;
         *self = after;
         Ok(row)
     }
 
     /// Reads an element with this tag round it. Errors as of [`read`](Self::read).
-    #[tactic(auto, unfolding(crate::specs::Inner::Read::element_at, crate::specs::Inner::Read::element_by))]
     pub fn wrapped<T: Element<'a> + Drop>(&mut self, tag: u8) -> Result<T, Fault>
+        ensures reads { Reads (wrapped tag T.kind) T.view result self.old self.new }
+        ensures computed { Gives T.view result self.old self.new (element_at (wrapped tag T.kind) self.old) }
+    {
+        is_clear::<T>();
+        self.wrapped_here(tag)
+    }
+
+    #[tactic(auto, unfolding(crate::specs::Computed::Read::element_at, crate::specs::Computed::Read::element_by))]
+    pub(crate) fn wrapped_here<T: Element<'a> + Drop>(&mut self, tag: u8) -> Result<T, Fault>
         ensures { Gives T.view result self.old self.new (element_at (wrapped tag T.kind) self.old) }
     {
         let (mut content, after) = self.head(tag)?;
@@ -246,27 +286,7 @@ impl<'a> Cursor<'a> {
         Ok(value)
     }
 
-    /// Checks that all that is left are elements of the type's kind, one after another, as in a SEQUENCE OF. The cursor stays.
-    ///
-    /// # Errors
-    /// The first fault from left to right.
-    pub fn check_each<T: Element<'a> + Drop>(&self) -> Result<(), Fault>
-        ensures { result ≡ checked (fields_at (each T.kind) self.now) }
-    {
-        let mut left = Cursor {
-            at: self.at,
-            rest: self.rest,
-        };
-        while !left.rest.is_empty() {
-            match T::read(&mut left) {
-                Ok(value) => drop(value),
-                Err(fault) => return Err(fault),
-            }
-        }
-        Ok(())
-    }
-
-    #[tactic(auto, unfolding(crate::specs::Inner::Read::finish_at))]
+    #[tactic(auto, unfolding(crate::specs::Computed::Read::finish_at))]
     pub(crate) fn finish_here(&self) -> Result<(), Fault>
         ensures { result ≡ finish_at self.now }
     {

@@ -2,9 +2,9 @@
 
 ghost use Rattle.std.specs.Prelude.{◌≡◌, true};
 ghost use Rattle.krb_der.specs.Kind.{Kind, ValueOf};
-ghost use Rattle.krb_der.specs.Inner.Clear.{is_clear};
-ghost use Rattle.krb_der.specs.Inner.Gives.{Gives};
-ghost use Rattle.krb_der.specs.Inner.Read.{element_at};
+ghost use Rattle.krb_der.specs.Clear.{is_clear};
+ghost use Rattle.krb_der.specs.Computed.Gives.{Gives};
+ghost use Rattle.krb_der.specs.Computed.Read.{element_at};
 
 use crate::{Cursor, Fault};
 
@@ -14,7 +14,7 @@ pub trait Element<'a>: Sized {
 
     ghost view: { Self → ValueOf kind };
 
-    /// Reads the element that stands next. A refused call leaves the cursor.
+    /// Reads the element that stands next, as `specs::Computed` has it. A refused call leaves the cursor.
     fn read(cursor: &mut Cursor<'a>) -> Result<Self, Fault>
         ensures { Gives view result cursor.old cursor.new (element_at kind cursor.old) };
 

@@ -1,8 +1,8 @@
 //! What can be written as one element, or as a row of fields.
 
-ghost use Rattle.std.specs.Prelude.{◌≡◌, ◌≤◌, ◌<◌, List, ℕ, length, IfOk, IsErrOf};
+ghost use Rattle.std.specs.Prelude.{◌≡◌, ◌<◌, List, ℕ, length, map, IfOk, IsErrOf};
 ghost use Rattle.std.specs.Option.{option_map};
-ghost use Rattle.krb_der.specs.Kind.{Kind, Fields, ValueOf, FieldsOf, leaf, int32, uint32, microseconds, constant, octets, string, flags, time, wrapped, sequence, ends, must, may};
+ghost use Rattle.krb_der.specs.Kind.{Kind, Fields, ValueOf, FieldsOf, leaf, int32, uint32, microseconds, constant, octets, string, flags, time, wrapped, sequence, ends, must, may, each};
 ghost use Rattle.krb_der.specs.Content.{Elementary};
 ghost use Rattle.krb_der.specs.Spells.{Spells, SpellsFields, IsMessage, limit};
 ghost use Rattle.krb_der.specs.Writing.{Encodes};
@@ -18,12 +18,13 @@ pub trait Encode {
 
     ghost view: { Self → ValueOf kind };
 
-    /// Writes the value's spelling. What the writer holds after a refusal is no part of a message.
+    /// Writes the value's spelling.
     ///
     /// # Errors
-    /// `TooLong` where the message would pass 1,048,576 bytes; `OutOfMemory`.
+    /// The writer then stays.
+    /// - `TooLong`: it would hold more than 1,048,576 bytes.
+    /// - `OutOfMemory`: there was no room.
     fn write(&self, out: &mut Writer) -> Result<(), EncodeFault>
-        requires { length out.old ≤ limit }
         ensures { Encodes (Spells kind (view self.now)) result out.old out.new };
 }
 
@@ -35,7 +36,6 @@ pub trait EncodeRow {
 
     /// Writes the fields one after another. Errors as of [`Encode::write`].
     fn write_row(&self, out: &mut Writer) -> Result<(), EncodeFault>
-        requires { length out.old ≤ limit }
         ensures { Encodes (SpellsFields Elementary fields (view self.now)) result out.old out.new };
 }
 
@@ -55,8 +55,9 @@ impl Encode for i32 {
     ghost view = { λ z. z };
 
     fn write(&self, out: &mut Writer) -> Result<(), EncodeFault> {
+        let start = out.len();
         let written = out.int32(*self);
-        out.limited(written)
+        out.limited(start, written)
     }
 }
 
@@ -66,8 +67,9 @@ impl Encode for u32 {
     ghost view = { λ n. n };
 
     fn write(&self, out: &mut Writer) -> Result<(), EncodeFault> {
+        let start = out.len();
         let written = out.uint32(*self);
-        out.limited(written)
+        out.limited(start, written)
     }
 }
 
@@ -77,8 +79,9 @@ impl Encode for Microseconds {
     ghost view = { λ n. n };
 
     fn write(&self, out: &mut Writer) -> Result<(), EncodeFault> {
+        let start = out.len();
         let written = out.microseconds(*self);
-        out.limited(written)
+        out.limited(start, written)
     }
 }
 
@@ -88,8 +91,9 @@ impl<const N: u32> Encode for Constant<N> {
     ghost view = { λ _. tt };
 
     fn write(&self, out: &mut Writer) -> Result<(), EncodeFault> {
+        let start = out.len();
         let written = out.constant::<N>();
-        out.limited(written)
+        out.limited(start, written)
     }
 }
 
@@ -99,8 +103,9 @@ impl Encode for Flags {
     ghost view = { λ f. f.0 };
 
     fn write(&self, out: &mut Writer) -> Result<(), EncodeFault> {
+        let start = out.len();
         let written = out.flags(*self);
-        out.limited(written)
+        out.limited(start, written)
     }
 }
 
@@ -110,8 +115,9 @@ impl Encode for Seconds {
     ghost view = { λ s. s };
 
     fn write(&self, out: &mut Writer) -> Result<(), EncodeFault> {
+        let start = out.len();
         let written = out.time(*self);
-        out.limited(written)
+        out.limited(start, written)
     }
 }
 
@@ -124,8 +130,9 @@ impl Encode for Octets<'_> {
         if self.0.len() > LIMIT {
             return Err(EncodeFault::TooLong);
         }
+        let start = out.len();
         let written = out.octets(self.0);
-        out.limited(written)
+        out.limited(start, written)
     }
 }
 
@@ -138,31 +145,30 @@ impl Encode for Text<'_> {
         if self.0.len() > LIMIT {
             return Err(EncodeFault::TooLong);
         }
+        let start = out.len();
         let written = out.string(self.0);
-        out.limited(written)
+        out.limited(start, written)
     }
 }
 
 /// Writes an element with this tag round it.
 fn write_wrapped<T: Encode>(value: &T, tag: u8, out: &mut Writer) -> Result<(), EncodeFault>
-    requires { length out.old ≤ limit }
     ensures { Encodes (Spells (wrapped tag T.kind) (T.view value.now)) result out.old out.new }
 {
     let start = out.len();
     value.write(out)?;
     let written = out.wrap(tag, start);
-    out.limited(written)
+    out.limited(start, written)
 }
 
 /// Writes a SEQUENCE of these fields. Errors as of [`Encode::write`].
 pub fn write_sequence<R: EncodeRow>(row: &R, out: &mut Writer) -> Result<(), EncodeFault>
-    requires { length out.old ≤ limit }
     ensures { Encodes (Spells (sequence R.fields) (R.view row.now)) result out.old out.new }
 {
     let start = out.len();
     row.write_row(out)?;
     let written = out.wrap(tag::SEQUENCE, start);
-    out.limited(written)
+    out.limited(start, written)
 }
 
 /// Writes a SEQUENCE of these fields with this tag round it. Errors as of [`Encode::write`].
@@ -171,13 +177,12 @@ pub fn write_application<R: EncodeRow>(
     tag: u8,
     out: &mut Writer,
 ) -> Result<(), EncodeFault>
-    requires { length out.old ≤ limit }
     ensures { Encodes (Spells (wrapped tag (sequence R.fields)) (R.view row.now)) result out.old out.new }
 {
     let start = out.len();
     write_sequence(row, out)?;
     let written = out.wrap(tag, start);
-    out.limited(written)
+    out.limited(start, written)
 }
 
 impl<const TAG: u8, T: Encode> Encode for Field<TAG, T> {
@@ -196,8 +201,8 @@ impl EncodeRow for () {
     ghost view = { λ _. tt };
 
     fn write_row(&self, out: &mut Writer) -> Result<(), EncodeFault> {
-        let _ = out;
-        Ok(())
+        let start = out.len();
+        out.limited(start, Ok(()))
     }
 }
 
@@ -207,8 +212,10 @@ impl<const TAG: u8, T: Encode, R: EncodeRow> EncodeRow for (Field<TAG, T>, R) {
     ghost view = { λ r. (T.view r.0.0, R.view r.1) };
 
     fn write_row(&self, out: &mut Writer) -> Result<(), EncodeFault> {
+        let start = out.len();
         write_wrapped(&self.0.0, TAG, out)?;
-        self.1.write_row(out)
+        let written = self.1.write_row(out);
+        out.settle(start, written)
     }
 }
 
@@ -220,8 +227,10 @@ impl<const TAG: u8, T: Encode, R: EncodeRow> EncodeRow for (Maybe<TAG, T>, R) {
     fn write_row(&self, out: &mut Writer) -> Result<(), EncodeFault> {
         match &self.0.0 {
             Some(value) => {
+                let start = out.len();
                 write_wrapped(value, TAG, out)?;
-                self.1.write_row(out)
+                let written = self.1.write_row(out);
+                out.settle(start, written)
             }
             None => self.1.write_row(out),
         }

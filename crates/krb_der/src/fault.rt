@@ -26,9 +26,11 @@ pub enum FaultKind {
     TooLong,
 }
 
-/// What is wrong with the bytes, and at which of them.
-#[derive(Clone, Copy, Debug, PartialEq, Eq)]
+/// What is wrong with the bytes, and at which of them. Shown as `Truncated at 12`.
+#[derive(Clone, Copy, Debug, PartialEq, Eq, Error)]
+#[error("{kind:?} at {at}")]
 pub struct Fault {
+    /// The rule that is broken.
     pub kind: FaultKind,
     /// An offset in the input, at most its length.
     pub at: usize,

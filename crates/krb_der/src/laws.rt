@@ -1,11 +1,14 @@
 //! Laws of the definitions, for all kinds at once. Each function is its contract: its body does nothing.
 
-ghost use Rattle.std.specs.Prelude.{◌≡◌, ℕ, ◌≤◌, ◌++◌, ◌⊎◌, List, true};
-ghost use Rattle.krb_der.specs.Kind.{Kind, ValueOf};
-ghost use Rattle.krb_der.specs.Spells.{Spells, IsMessage};
-ghost use Rattle.krb_der.specs.Fault.{IsFault};
+ghost use Rattle.std.specs.Prelude.{◌≡◌, ℕ, ◌≤◌, ◌++◌, ◌∷◌, ◌⊎◌, ◌↔◌, List, [], length, true};
 ghost use Rattle.krb_der.specs.declared.fault.Fault.{Fault};
-ghost use Rattle.krb_der.specs.Inner.Clear.{is_clear};
+ghost use Rattle.krb_der.specs.Kind.{Kind, Fields, each, ValueOf, FieldsOf};
+ghost use Rattle.krb_der.specs.Content.{Elementary};
+ghost use Rattle.krb_der.specs.Place.{Place};
+ghost use Rattle.krb_der.specs.Spells.{Spells, SpellsFields, StandsAt, IsMessage};
+ghost use Rattle.krb_der.specs.Fault.{IsFault, IsFaulty, IsElementFault};
+ghost use Rattle.krb_der.specs.Clear.{is_clear, are_clear};
+ghost use Rattle.krb_der.specs.Computed.Read.{element_at, fields_at, message_of};
 
 /// A spelling has one value.
 pub fn one_value()
@@ -34,4 +37,53 @@ pub fn decided()
 pub fn faulty()
     ensures { (k : Kind) → is_clear k ≡ true → (bytes : List ℕ)
         → ((v : ValueOf k) → IsMessage k v bytes → ⊥) → (fault : Fault) × IsFault k bytes fault }
+{}
+
+/// A fault lies within the message: at one of its bytes, or at its end.
+pub fn within()
+    ensures { (k : Kind) (bytes : List ℕ) (fault : Fault) → IsFault k bytes fault → fault.at ≤ length bytes }
+{}
+
+/// Reading an element, as `specs::Computed` has it, gives a value and a place exactly where that value's spelling stands and
+/// that place is behind it.
+pub fn element_read()
+    ensures { (k : Kind) → is_clear k ≡ true → (v : ValueOf k) (here after : Place)
+        → (element_at k here ≡ Ok (v, after)) ↔ StandsAt Elementary k v here after }
+{}
+
+/// Else it gives a fault of that element by the rules.
+pub fn element_refused()
+    ensures { (k : Kind) (here : Place) (fault : Fault)
+        → element_at k here ≡ Err fault → IsElementFault Elementary k here fault }
+{}
+
+/// Reading fields, as `specs::Computed` has it, gives their values exactly where all that is left spells them.
+pub fn fields_read()
+    ensures { (fs : Fields) → are_clear fs ≡ true → (v : FieldsOf fs) (here : Place)
+        → (fields_at fs here ≡ Ok v) ↔ SpellsFields Elementary fs v here.rest }
+{}
+
+/// Else it gives a fault of what is left by the rules.
+pub fn fields_refused()
+    ensures { (fs : Fields) (here : Place) (fault : Fault)
+        → fields_at fs here ≡ Err fault → IsFaulty Elementary fs here fault }
+{}
+
+/// Reading a message, as `specs::Computed` has it, gives a value exactly where the bytes are a message with that value.
+pub fn message_read()
+    ensures { (k : Kind) → is_clear k ≡ true → (v : ValueOf k) (bytes : List ℕ)
+        → (message_of k bytes ≡ Ok v) ↔ IsMessage k v bytes }
+{}
+
+/// Else it gives a fault of the bytes by the rules.
+pub fn message_refused()
+    ensures { (k : Kind) (bytes : List ℕ) (fault : Fault)
+        → message_of k bytes ≡ Err fault → IsFault k bytes fault }
+{}
+
+/// What is left as elements of one kind is nothing, or one element and others.
+pub fn list_next()
+    ensures { (k : Kind) (here : Place) (vs : List (ValueOf k)) → fields_at (each k) here ≡ Ok vs
+        → ((here.rest ≡ []) × (vs ≡ [])) ⊎ ((v : ValueOf k) × (after : Place) × (ws : List (ValueOf k))
+        × (vs ≡ v ∷ ws) × (element_at k here ≡ Ok (v, after)) × (fields_at (each k) after ≡ Ok ws)) }
 {}

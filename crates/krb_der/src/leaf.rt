@@ -16,7 +16,7 @@ impl<'a> Element<'a> for i32 {
 
     ghost clear = { refl };
 
-    #[tactic(auto, unfolding(crate::specs::Inner::Read::element_at, crate::specs::Inner::Read::element_by))]
+    #[tactic(auto, unfolding(crate::specs::Computed::Read::element_at, crate::specs::Computed::Read::element_by))]
     fn read(cursor: &mut Cursor<'a>) -> Result<i32, Fault> {
         let (content, after) = cursor.head(tag::INTEGER)?;
         let value = int32_in(content.rest()).ok_or(cursor.fault(FaultKind::Integer))?;
@@ -32,7 +32,7 @@ impl<'a> Element<'a> for u32 {
 
     ghost clear = { refl };
 
-    #[tactic(auto, unfolding(crate::specs::Inner::Read::element_at, crate::specs::Inner::Read::element_by))]
+    #[tactic(auto, unfolding(crate::specs::Computed::Read::element_at, crate::specs::Computed::Read::element_by))]
     fn read(cursor: &mut Cursor<'a>) -> Result<u32, Fault> {
         let (content, after) = cursor.head(tag::INTEGER)?;
         let value = uint32_in(content.rest()).ok_or(cursor.fault(FaultKind::Integer))?;
@@ -48,7 +48,7 @@ impl<'a> Element<'a> for Microseconds {
 
     ghost clear = { refl };
 
-    #[tactic(auto, unfolding(crate::specs::Inner::Read::element_at, crate::specs::Inner::Read::element_by))]
+    #[tactic(auto, unfolding(crate::specs::Computed::Read::element_at, crate::specs::Computed::Read::element_by))]
     fn read(cursor: &mut Cursor<'a>) -> Result<Microseconds, Fault> {
         let (content, after) = cursor.head(tag::INTEGER)?;
         let value = micros_in(content.rest()).ok_or(cursor.fault(FaultKind::Integer))?;
@@ -64,7 +64,7 @@ impl<'a, const N: u32> Element<'a> for Constant<N> {
 
     ghost clear = { refl };
 
-    #[tactic(auto, unfolding(crate::specs::Inner::Read::element_at, crate::specs::Inner::Read::element_by))]
+    #[tactic(auto, unfolding(crate::specs::Computed::Read::element_at, crate::specs::Computed::Read::element_by))]
     fn read(cursor: &mut Cursor<'a>) -> Result<Constant<N>, Fault> {
         let (content, after) = cursor.head(tag::INTEGER)?;
         if !is_number(content.rest(), N) {
@@ -82,7 +82,7 @@ impl<'a> Element<'a> for Octets<'a> {
 
     ghost clear = { refl };
 
-    #[tactic(auto, unfolding(crate::specs::Inner::Read::element_at, crate::specs::Inner::Read::element_by))]
+    #[tactic(auto, unfolding(crate::specs::Computed::Read::element_at, crate::specs::Computed::Read::element_by))]
     fn read(cursor: &mut Cursor<'a>) -> Result<Octets<'a>, Fault> {
         let (content, after) = cursor.head(tag::OCTET_STRING)?;
         *cursor = after;
@@ -97,7 +97,7 @@ impl<'a> Element<'a> for Text<'a> {
 
     ghost clear = { refl };
 
-    #[tactic(auto, unfolding(crate::specs::Inner::Read::element_at, crate::specs::Inner::Read::element_by))]
+    #[tactic(auto, unfolding(crate::specs::Computed::Read::element_at, crate::specs::Computed::Read::element_by))]
     fn read(cursor: &mut Cursor<'a>) -> Result<Text<'a>, Fault> {
         let (content, after) = cursor.head(tag::GENERAL_STRING)?;
         *cursor = after;
@@ -112,7 +112,7 @@ impl<'a> Element<'a> for Flags {
 
     ghost clear = { refl };
 
-    #[tactic(auto, unfolding(crate::specs::Inner::Read::element_at, crate::specs::Inner::Read::element_by))]
+    #[tactic(auto, unfolding(crate::specs::Computed::Read::element_at, crate::specs::Computed::Read::element_by))]
     fn read(cursor: &mut Cursor<'a>) -> Result<Flags, Fault> {
         let (content, after) = cursor.head(tag::BIT_STRING)?;
         let value = flags_in(content.rest()).ok_or(cursor.fault(FaultKind::Flags))?;
@@ -128,7 +128,7 @@ impl<'a> Element<'a> for Seconds {
 
     ghost clear = { refl };
 
-    #[tactic(auto, unfolding(crate::specs::Inner::Read::element_at, crate::specs::Inner::Read::element_by))]
+    #[tactic(auto, unfolding(crate::specs::Computed::Read::element_at, crate::specs::Computed::Read::element_by))]
     fn read(cursor: &mut Cursor<'a>) -> Result<Seconds, Fault> {
         let (content, after) = cursor.head(tag::GENERALIZED_TIME)?;
         let value = time_in(content.rest()).ok_or(cursor.fault(FaultKind::Time))?;

@@ -1,14 +1,14 @@
 //! Lengths (X.690, sections 8.1.3 and 10.1).
 
 ghost use Rattle.std.specs.Prelude.{◌≡◌, ◌<◌, ◌≤◌, length, IfOk};
-ghost use Rattle.krb_der.specs.Inner.Read.{length_of, long_of};
+ghost use Rattle.krb_der.specs.Computed.Read.{length_of, long_of};
 ghost use Rattle.krb_der.specs.Inner.LengthView.{plain_length};
 
 use crate::FaultKind;
 use crate::whole::number;
 
 /// The length that the next `count` bytes are, and the bytes behind it.
-#[tactic(auto, unfolding(crate::specs::Inner::Read::long_of))]
+#[tactic(auto, unfolding(crate::specs::Computed::Read::long_of))]
 fn long(count: usize, bytes: &[u8]) -> Result<(usize, &[u8]), FaultKind>
     requires few { count ≤ 4 }
     requires some { 1 ≤ count }
@@ -27,7 +27,7 @@ fn long(count: usize, bytes: &[u8]) -> Result<(usize, &[u8]), FaultKind>
 }
 
 /// The length that the bytes begin with, and the bytes behind it.
-#[tactic(auto, unfolding(crate::specs::Inner::Read::length_of))]
+#[tactic(auto, unfolding(crate::specs::Computed::Read::length_of))]
 pub fn length(bytes: &[u8]) -> Result<(usize, &[u8]), FaultKind>
     ensures value { plain_length result ≡ length_of bytes.now }
     ensures shorter { IfOk result (λ x. length x.1.now < length bytes.now) }

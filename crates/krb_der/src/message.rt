@@ -1,11 +1,11 @@
 //! Whole messages.
 
-ghost use Rattle.std.specs.Prelude.{◌≡◌, IfOk, IfErr, IsOkAnd};
+ghost use Rattle.std.specs.Prelude.{◌≡◌, ◌≤◌, length, IfOk, IfErr, IsOkAnd};
 ghost use Rattle.krb_der.specs.Kind.{ValueOf};
 ghost use Rattle.krb_der.specs.Spells.{IsMessage};
 ghost use Rattle.krb_der.specs.Fault.{IsFault};
-ghost use Rattle.krb_der.specs.Inner.Gives.{Fills};
-ghost use Rattle.krb_der.specs.Inner.Read.{message_of};
+ghost use Rattle.krb_der.specs.Computed.Gives.{Fills};
+ghost use Rattle.krb_der.specs.Computed.Read.{message_of};
 
 use crate::element::is_clear;
 use crate::{Cursor, Element, Fault};
@@ -24,12 +24,13 @@ pub fn parse<'a, T: Message<'a> + Drop>(bytes: &'a [u8]) -> Result<T, Fault>
     ensures only { (v : ValueOf T.kind) → IsMessage T.kind v bytes.entry.now → IsOkAnd result (λ x. T.view x ≡ v) }
     // Else the answer is a fault by the rules.
     ensures faulty { IfErr result (IsFault T.kind bytes.entry.now) }
+    ensures offset { IfErr result (λ fault. fault.at ≤ length bytes.entry.now) }
 {
     is_clear::<T>();
     all(bytes)
 }
 
-#[tactic(auto, unfolding(crate::specs::Inner::Read::message_of, crate::specs::Inner::Read::message_by, crate::specs::Inner::Read::element_at))]
+#[tactic(auto, unfolding(crate::specs::Computed::Read::message_of, crate::specs::Computed::Read::message_by, crate::specs::Computed::Read::element_at))]
 fn all<'a, T: Element<'a> + Drop>(bytes: &'a [u8]) -> Result<T, Fault>
     ensures { Fills T.view result (message_of T.kind bytes.entry.now) }
 {

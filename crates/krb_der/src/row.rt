@@ -3,8 +3,8 @@
 ghost use Rattle.std.specs.Prelude.{◌≡◌};
 ghost use Rattle.std.specs.Option.{option_map};
 ghost use Rattle.krb_der.specs.Kind.{Fields, FieldsOf, ends, must, may, wrapped};
-ghost use Rattle.krb_der.specs.Inner.Gives.{Gives, Fills};
-ghost use Rattle.krb_der.specs.Inner.Read.{element_at, fields_at};
+ghost use Rattle.krb_der.specs.Computed.Gives.{Gives, Fills};
+ghost use Rattle.krb_der.specs.Computed.Read.{element_at, fields_at};
 
 use crate::{Cursor, Element, Fault};
 
@@ -22,7 +22,7 @@ pub trait Row<'a>: Sized {
 
     ghost view: { Self → FieldsOf fields };
 
-    /// Reads the fields, up to the end of the content.
+    /// Reads the fields, up to the end of the content, as `specs::Computed` has it.
     fn read_row(content: Cursor<'a>) -> Result<Self, Fault>
         ensures { Fills view result (fields_at fields content.entry) };
 }
@@ -32,7 +32,7 @@ impl<'a> Row<'a> for () {
 
     ghost view = { λ _. tt };
 
-    #[tactic(auto, unfolding(crate::specs::Inner::Read::fields_at, crate::specs::Inner::Read::element_by))]
+    #[tactic(auto, unfolding(crate::specs::Computed::Read::fields_at, crate::specs::Computed::Read::element_by))]
     fn read_row(content: Cursor<'a>) -> Result<(), Fault> {
         content.finish_here()
     }
@@ -46,7 +46,7 @@ impl<'a, const TAG: u8, T: Element<'a> + Drop> Element<'a> for Field<TAG, T> {
     ghost clear = { T.clear };
 
     fn read(cursor: &mut Cursor<'a>) -> Result<Field<TAG, T>, Fault> {
-        let value = cursor.wrapped(TAG)?;
+        let value = cursor.wrapped_here(TAG)?;
         Ok(Field(value))
     }
 }
@@ -56,10 +56,10 @@ impl<'a, const TAG: u8, T: Element<'a> + Drop, R: Row<'a>> Row<'a> for (Field<TA
 
     ghost view = { λ r. (T.view r.0.0, R.view r.1) };
 
-    #[tactic(auto, unfolding(crate::specs::Inner::Read::fields_at, crate::specs::Inner::Read::element_at, crate::specs::Inner::Read::element_by))]
+    #[tactic(auto, unfolding(crate::specs::Computed::Read::fields_at, crate::specs::Computed::Read::element_at, crate::specs::Computed::Read::element_by))]
     fn read_row(content: Cursor<'a>) -> Result<(Field<TAG, T>, R), Fault> {
         let mut content = content;
-        let value = content.wrapped(TAG)?;
+        let value = content.wrapped_here(TAG)?;
         let others = R::read_row(content)?;
         Ok((Field(value), others))
     }
@@ -70,14 +70,14 @@ impl<'a, const TAG: u8, T: Element<'a> + Drop, R: Row<'a>> Row<'a> for (Maybe<TA
 
     ghost view = { λ r. (option_map T.view r.0.0, R.view r.1) };
 
-    #[tactic(auto, unfolding(crate::specs::Inner::Read::fields_at, crate::specs::Inner::Read::element_at, crate::specs::Inner::Read::element_by))]
+    #[tactic(auto, unfolding(crate::specs::Computed::Read::fields_at, crate::specs::Computed::Read::element_at, crate::specs::Computed::Read::element_by))]
     fn read_row(content: Cursor<'a>) -> Result<(Maybe<TAG, T>, R), Fault> {
         let mut content = content;
         if !content.begins(TAG) {
             let others = R::read_row(content)?;
             return Ok((Maybe(None), others));
         }
-        let value = content.wrapped(TAG)?;
+        let value = content.wrapped_here(TAG)?;
         let others = R::read_row(content)?;
         Ok((Maybe(Some(value)), others))
     }

@@ -1,113 +1,15 @@
 //! Values from outside: the rules worked out by tests/der_rules.py, and encodings of RFC 4120's types.
 
 mod cases;
+mod names;
+mod table;
 
 ghost use Rattle.std.specs.Prelude.{◌≡◌, refl};
 ghost use Rattle.std.specs.Option.{option_map};
 ghost use Rattle.krb_der.specs.Kind.{leaf, sequence, must, may, ends, field, application, int32, uint32, microseconds, constant, octets, string, flags, time};
 
 use super::*;
-use cases::Case;
-use std::process::Abort;
 use std::test::Fail;
-
-/// What a row of the table reads.
-#[derive(Clone, Copy, Debug, PartialEq, Eq)]
-pub enum Kind {
-    Int32,
-    Uint32,
-    Microseconds,
-    Five,
-    Octets,
-    String,
-    Flags,
-    Time,
-}
-
-/// The number that the value is; of a text its length.
-fn read(kind: Kind, bytes: &[u8]) -> Result<i64, Fault> {
-    let mut cursor = Cursor::new(bytes)?;
-    let value = match kind {
-        Kind::Int32 => i64::from(cursor.int32()?),
-        Kind::Uint32 => i64::from(cursor.uint32()?),
-        Kind::Microseconds => i64::from(cursor.microseconds()?.get()),
-        Kind::Five => {
-            let Constant = cursor.constant::<5>()?;
-            5
-        }
-        Kind::Octets => i64::try_from(cursor.octets()?.len()).unwrap_or(-1),
-        Kind::String => i64::try_from(cursor.string()?.len()).unwrap_or(-1),
-        Kind::Flags => i64::from(cursor.flags()?.bits()),
-        Kind::Time => cursor.time()?.get(),
-    };
-    cursor.finish()?;
-    Ok(value)
-}
-
-/// Checks some rows of the table.
-fn check(rt: &impl Abort, cases: &[Case]) {
-    for (kind, bytes, want) in cases {
-        let got = read(*kind, bytes).map_err(|fault| (fault.kind, fault.at));
-        assert_eq!(rt; got, *want, "{kind:?} of {bytes:?}");
-    }
-}
-
-#[test]
-fn int32_at_its_edges(rt: HostRuntime) {
-    check(&rt, &cases::INT32_0);
-    check(&rt, &cases::INT32_1);
-    check(&rt, &cases::INT32_2);
-    check(&rt, &cases::INT32_3);
-    check(&rt, &cases::INT32_4);
-    check(&rt, &cases::INT32_5);
-}
-
-#[test]
-fn uint32_at_its_edges(rt: HostRuntime) {
-    check(&rt, &cases::UINT32_0);
-    check(&rt, &cases::UINT32_1);
-    check(&rt, &cases::UINT32_2);
-    check(&rt, &cases::UINT32_3);
-    check(&rt, &cases::UINT32_4);
-    check(&rt, &cases::UINT32_5);
-}
-
-#[test]
-fn microseconds_at_its_edges(rt: HostRuntime) {
-    check(&rt, &cases::MICROSECONDS_0);
-}
-
-#[test]
-fn five_at_its_edges(rt: HostRuntime) {
-    check(&rt, &cases::FIVE_0);
-}
-
-#[test]
-fn octets_at_its_edges(rt: HostRuntime) {
-    check(&rt, &cases::OCTETS_0);
-    check(&rt, &cases::OCTETS_1);
-    check(&rt, &cases::OCTETS_2);
-    check(&rt, &cases::OCTETS_3);
-}
-
-#[test]
-fn string_at_its_edges(rt: HostRuntime) {
-    check(&rt, &cases::STRING_0);
-}
-
-#[test]
-fn flags_at_its_edges(rt: HostRuntime) {
-    check(&rt, &cases::FLAGS_0);
-}
-
-#[test]
-fn time_at_its_edges(rt: HostRuntime) {
-    check(&rt, &cases::TIME_0);
-    check(&rt, &cases::TIME_1);
-    check(&rt, &cases::TIME_2);
-    check(&rt, &cases::TIME_3);
-    check(&rt, &cases::TIME_4);
-}
 
 /// A message of eleven fields, with the kinds of all of them.
 #[derive(Debug, PartialEq, Drop)]
@@ -121,7 +23,7 @@ struct Sample<'a> {
     sequence: Option<u32>,
     flags: Flags,
     end: Option<Seconds>,
-    data: Option<Octets<'a>>,
+    extra: Option<Octets<'a>>,
 }
 
 impl<'a> Element<'a> for Sample<'a> {
@@ -150,7 +52,7 @@ impl<'a> Element<'a> for Sample<'a> {
                       s.flags.0,
                       (
                         option_map (λ t. t) s.end,
-                        (option_map (λ o. o.0.now) s.data, tt),
+                        (option_map (λ o. o.0.now) s.extra, tt),
                       ),
                     ),
                   ),
@@ -167,29 +69,23 @@ impl<'a> Element<'a> for Sample<'a> {
     fn read(cursor: &mut Cursor<'a>) -> Result<Sample<'a>, Fault> {
         let row: Result<SampleRow<'a>, Fault> = cursor.application(0x62);
         match row {
-            Ok(
-                (
-                    _,
-                    (
-                        realm,
-                        (
-                            number,
-                            (sum, (micros, (time, (key, (sequence, (flags, (end, (data, ())))))))),
-                        ),
-                    ),
-                ),
-            ) => Ok(Sample {
-                realm: realm.0,
-                number: number.0,
-                sum: sum.0,
-                micros: micros.0,
-                time: time.0,
-                key: key.0,
-                sequence: sequence.0,
-                flags: flags.0,
-                end: end.0,
-                data: data.0,
-            }),
+            Ok((_, (realm, (number, rest)))) => {
+                let (sum, (micros, (time, rest))) = rest;
+                let (key, (sequence, rest)) = rest;
+                let (flags, (end, (extra, ()))) = rest;
+                Ok(Sample {
+                    realm: realm.0,
+                    number: number.0,
+                    sum: sum.0,
+                    micros: micros.0,
+                    time: time.0,
+                    key: key.0,
+                    sequence: sequence.0,
+                    flags: flags.0,
+                    end: end.0,
+                    extra: extra.0,
+                })
+            }
             Err(fault) => Err(fault),
         }
     }
@@ -244,7 +140,7 @@ impl Encode for Sample<'_> {
                       s.flags.0,
                       (
                         option_map (λ t. t) s.end,
-                        (option_map (λ o. o.0.now) s.data, tt),
+                        (option_map (λ o. o.0.now) s.extra, tt),
                       ),
                     ),
                   ),
@@ -257,7 +153,10 @@ impl Encode for Sample<'_> {
     ) };
 
     fn write(&self, out: &mut Writer) -> Result<(), EncodeFault> {
-        let rest = (Field(self.flags), (Maybe(self.end), (Maybe(self.data), ())));
+        let rest = (
+            Field(self.flags),
+            (Maybe(self.end), (Maybe(self.extra), ())),
+        );
         let rest = (Maybe(self.key), (Maybe(self.sequence), rest));
         let rest = (
             Maybe(self.sum),
@@ -362,5 +261,51 @@ fn limits(rt: HostRuntime) -> Result<(), Fail> {
     assert_eq!(rt; Seconds::new(253_402_300_800), None);
     assert!(rt; Seconds::new(253_402_300_799).is_some());
     assert_eq!(rt; Microseconds::new(1_000_000), None);
+    Ok(())
+}
+
+/// The name with its outer length in the long form.
+#[test]
+fn a_long_form_of_a_short_length(rt: HostRuntime) -> Result<(), Fail> {
+    let mut bytes = ALICE[..1].to_vec(rt.alloc())?;
+    bytes.push(0x81)?;
+    bytes.extend_from_slice(&ALICE[1..])?;
+    let fault = Cursor::new(bytes.as_slice())?.enter(0x30).map(|_| ());
+    assert_eq!(rt;
+        fault,
+        Err(Fault {
+            kind: FaultKind::Length,
+            at: 1
+        })
+    );
+    Ok(())
+}
+
+#[test]
+fn a_list_is_written(rt: HostRuntime) -> Result<(), Fail> {
+    let texts = [Text(b"alice"), Text(b"")];
+    let bytes = encoded(rt.alloc(), &texts.as_slice())?;
+    assert_eq!(rt;
+        bytes.as_slice(),
+        b"\x30\x09\x1b\x05alice\x1b\x00".as_slice()
+    );
+    let none: [Text; 0] = [];
+    assert_eq!(rt;
+        encoded(rt.alloc(), &none.as_slice())?.as_slice(),
+        b"\x30\x00".as_slice()
+    );
+    Ok(())
+}
+
+#[test]
+fn a_fault_is_shown(rt: HostRuntime) -> Result<(), Fail> {
+    let fault = Fault {
+        kind: FaultKind::Truncated,
+        at: 12,
+    };
+    assert_eq!(rt;
+        format!(in rt.alloc(); "{fault}")?.as_str(),
+        "Truncated at 12"
+    );
     Ok(())
 }

@@ -5,7 +5,7 @@ ghost use Rattle.std.specs.Option.{option_map};
 ghost use Rattle.jiff_core.specs.Calendar.{IsBetween};
 ghost use Rattle.krb_der.specs.Time.{IsSeconds, IsCivil, IsTime, seconds_of, two};
 ghost use Rattle.krb_der.specs.Inner.CivilView.{plain_civil, AreTwoDigits};
-ghost use Rattle.krb_der.specs.Inner.Clock.{pair_of, pair_at, day_of, clock_of, civil_of, seconds_if, time_of};
+ghost use Rattle.krb_der.specs.Computed.Clock.{pair_of, pair_at, day_of, clock_of, civil_of, seconds_if, time_of};
 
 use jiff_core::civil::Date;
 use std::marker::Model;
@@ -83,7 +83,7 @@ fn pair_in(content: &[u8], at: usize) -> Option<u8>
 }
 
 /// What fourteen digits name: `YYYYMMDDHHMMSS`.
-#[tactic(auto, unfolding(crate::specs::Inner::Clock::civil_of))]
+#[tactic(auto, unfolding(crate::specs::Computed::Clock::civil_of))]
 fn civil_in(content: &[u8]) -> Option<Civil>
     requires { length content.now ≡ 15 }
     ensures value { option_map plain_civil result ≡ civil_of content.now }
@@ -130,7 +130,7 @@ fn clock(hour: u8, minute: u8, second: u8) -> Option<u32>
 }
 
 /// The seconds of a second of the calendar, if it has it.
-#[tactic(auto, unfolding(crate::specs::Inner::Clock::seconds_if))]
+#[tactic(auto, unfolding(crate::specs::Computed::Clock::seconds_if))]
 fn seconds_of(civil: &Civil) -> Option<Seconds>
     requires { AreTwoDigits civil.now }
     ensures { result ≡ seconds_if (plain_civil civil.now) }
@@ -143,7 +143,7 @@ fn seconds_of(civil: &Civil) -> Option<Seconds>
 }
 
 /// The time that the content is.
-#[tactic(auto, unfolding(crate::specs::Inner::Clock::time_of))]
+#[tactic(auto, unfolding(crate::specs::Computed::Clock::time_of))]
 pub fn time_in(content: &[u8]) -> Option<Seconds>
     ensures { result ≡ time_of content.now }
 {

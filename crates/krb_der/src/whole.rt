@@ -3,9 +3,9 @@
 ghost use Rattle.std.specs.Prelude.{◌≡◌, ◌<◌, ◌≤◌, ◌^◌, length, is_some};
 ghost use Rattle.krb_der.specs.Kind.{int32, uint32, microseconds, constant};
 ghost use Rattle.krb_der.specs.Content.{number};
-ghost use Rattle.krb_der.specs.Inner.Read.{content_of};
+ghost use Rattle.krb_der.specs.Computed.Read.{content_of};
 ghost use Rattle.krb_der.specs.Inner.Shortest.{shortest_of};
-ghost use Rattle.krb_der.specs.Inner.Whole.{is_redundant, is_negative, whole_of, flags_of, contents_of};
+ghost use Rattle.krb_der.specs.Computed.Whole.{is_redundant, is_negative, whole_of, flags_of, contents_of};
 
 use crate::value::Microseconds;
 
@@ -43,7 +43,7 @@ pub fn number(bytes: &[u8]) -> u64
 }
 
 /// How many contents of one to five bytes there are.
-#[tactic(auto, unfolding(crate::specs::Inner::Whole::contents_of))]
+#[tactic(auto, unfolding(crate::specs::Computed::Whole::contents_of))]
 fn contents(len: usize) -> Option<i64>
     ensures { result ≡ contents_of len }
 {

@@ -4,7 +4,7 @@ ghost use Rattle.std.specs.Prelude.{◌≡◌, ◌+◌, ◌-◌, ◌≤◌, ◌<
 ghost use Rattle.krb_der.specs.Kind.{leaf, int32, uint32, microseconds, constant, octets, string, flags, time};
 ghost use Rattle.krb_der.specs.Content.{IsInteger};
 ghost use Rattle.krb_der.specs.Spells.{IsElement};
-ghost use Rattle.krb_der.specs.Inner.Limited.{limited_of};
+ghost use Rattle.krb_der.specs.Inner.Limited.{limited_of, settled};
 ghost use Rattle.krb_der.specs.Inner.HeadView.{turned_at};
 ghost use Rattle.krb_der.specs.Writing.{Appends, Wraps, Writes};
 
@@ -70,8 +70,41 @@ impl Writer {
         append_element(&mut self.bytes, tag, content)
     }
 
-    /// What becomes of a call that wrote: it may have passed the limit of a message.
-    pub(crate) fn limited(&self, written: Result<(), AllocError>) -> Result<(), EncodeFault>
+    /// What becomes of a call that wrote from `start` on: nothing stays of what was refused or passes the limit of a message.
+    pub(crate) fn limited(
+        &mut self,
+        start: usize,
+        written: Result<(), AllocError>,
+    ) -> Result<(), EncodeFault>
+        requires { start ≤ length self.old }
+        ensures answer { result ≡ limited_of written self.old }
+        ensures left { self.new ≡ settled result start self.old }
+    {
+        let written = self.within(written);
+        self.settle(start, written)
+    }
+
+    /// Takes back what was written from `start` on where it was refused.
+    pub(crate) fn settle(
+        &mut self,
+        start: usize,
+        written: Result<(), EncodeFault>,
+    ) -> Result<(), EncodeFault>
+        requires { start ≤ length self.old }
+        ensures answer { result ≡ written }
+        ensures left { self.new ≡ settled result start self.old }
+    {
+        match written {
+            Ok(()) => Ok(()),
+            Err(fault) => {
+                self.bytes.truncate(start);
+                Err(fault)
+            }
+        }
+    }
+
+    /// Whether what was written is within the limit of a message.
+    fn within(&self, written: Result<(), AllocError>) -> Result<(), EncodeFault>
         ensures { result ≡ limited_of written self.now }
     {
         if written.is_err() {
@@ -122,7 +155,7 @@ impl Writer {
         self.element(tag::INTEGER, shortest(&bytes))
     }
 
-    /// Writes an OCTET STRING.
+    /// Writes an OCTET STRING of `bytes`, which are at most 4,294,967,295.
     pub fn octets(&mut self, bytes: &[u8]) -> Result<(), AllocError>
         requires { length bytes.now < 2 ^ 32 }
         ensures { Writes (leaf octets) bytes.now result self.old self.new }
@@ -130,7 +163,7 @@ impl Writer {
         self.element(tag::OCTET_STRING, bytes)
     }
 
-    /// Writes a GeneralString, of any bytes.
+    /// Writes a GeneralString of `bytes`, which are any bytes, at most 4,294,967,295.
     pub fn string(&mut self, bytes: &[u8]) -> Result<(), AllocError>
         requires { length bytes.now < 2 ^ 32 }
         ensures { Writes (leaf string) bytes.now result self.old self.new }
@@ -154,7 +187,7 @@ impl Writer {
     }
 
     /// Makes what was written from `start` on the content of an element with this tag: puts the tag and the shortest
-    /// length before it.
+    /// length before it. `start` is at most [`len`](Self::len), and there are at most 4,294,967,295 bytes from it on.
     ///
     /// # Errors
     /// There was no room. The writer then stays.

@@ -1,6 +1,6 @@
 -- Whole numbers, written.
 use Rattle.std.specs.Prelude.{ℕ, List, [], ◌∷◌, if◌then◌else◌}
-use Rattle.krb_der.specs.Inner.Whole.{is_redundant}
+use Rattle.krb_der.specs.Computed.Whole.{is_redundant}
 
 -- the bytes without those in front that the number doesn't need
 unfoldable pub shortest_of : List ℕ → List ℕ

@@ -8,5 +8,5 @@ returns g c =
     let kind = sequence g.R.EncodeRow.fields in
     let value = g.R.EncodeRow.view c.args.row.now in
     encodes-wrapped c.args.tag c.len-start.result (Spells kind value) (spelling_one kind value)
-    c.wrap-written.result c.limited.result c.args.out.now c.write_sequence.new.out c.wrap-written.new.self
-    c.len-start.ensures c.in_ok-write_sequence.ensures.ok.0 c.wrap-written.ensures.ok c.limited.ensures
+    c.wrap-written.result c.limited.result c.args.out.now c.write_sequence.new.out c.wrap-written.new.self c.limited.new.self
+    c.len-start.ensures c.in_ok-write_sequence.ensures.ok.0 c.wrap-written.ensures.ok c.wrap-written.ensures.kept c.limited.ensures.answer c.limited.ensures.left

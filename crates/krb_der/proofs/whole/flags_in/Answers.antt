@@ -1,7 +1,7 @@
 use Rattle.std.proofs.Common.{◌≡◌, ◌∷◌, ◌∙◌, sym, ap, subst, Some, inl, inr, arith}
 use Rattle.std.proofs.lemmas.List.{nil_from_length}
 use Rattle.krb_der.specs.Content.{AreBytes}
-use Rattle.krb_der.specs.Inner.Whole.{flags_of}
+use Rattle.krb_der.specs.Computed.Whole.{flags_of}
 use Rattle.krb_der.proofs.Numbers.{AreBytes-from, number_within}
 use Rattle.krb_der.proofs.WholeSteps.{flags_of-some, flags_of-used}
 use Rattle.krb_der.proofs.whole.flags_in.Goals as goal

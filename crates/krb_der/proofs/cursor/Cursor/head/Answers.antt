@@ -1,5 +1,5 @@
 use Rattle.std.proofs.Common.{sym, ap, ◌∙◌, Err}
-use Rattle.krb_der.specs.Inner.Read.{enter_at, sized_at}
+use Rattle.krb_der.specs.Computed.Read.{enter_at, sized_at}
 use Rattle.krb_der.specs.Place.{Place}
 use Rattle.krb_der.proofs.CursorSteps.{enter_at-empty, enter_at-other, enter_at-sized}
 use Rattle.krb_der.proofs.cursor.Cursor.head.Goals as goal

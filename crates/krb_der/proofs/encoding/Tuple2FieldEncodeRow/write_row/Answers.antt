@@ -9,4 +9,5 @@ returns g c =
     let kind = wrapped g.row.TAG g.T.Encode.kind in
     let value = g.T.Encode.view c.args.self.now.0.0 in
     encodes-joined (Spells kind value) (SpellsFields Elementary g.R.EncodeRow.fields (g.R.EncodeRow.view c.args.self.now.1)) (spelling_one kind value)
-    c.write_row.result c.args.out.now c.write_wrapped.new.out c.write_row.new.out c.in_ok-write_wrapped.ensures.ok.0 c.write_row.ensures
+    c.write_row-written.result c.settle.result c.len-start.result c.args.out.now c.write_wrapped.new.out c.write_row-written.new.out c.settle.new.self
+    c.len-start.ensures c.in_ok-write_wrapped.ensures.ok.0 c.write_row-written.ensures c.settle.ensures.answer c.settle.ensures.left

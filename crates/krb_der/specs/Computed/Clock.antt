@@ -1,7 +1,7 @@
 -- Times, read.
 use Rattle.std.specs.Prelude.{ℕ, ◌+◌, ◌-◌, ◌*◌, ℤ, pos, ◌+ℤ◌, ◌*ℤ◌, Bool, ◌&&◌, ◌==◌, nat_lt, nat_le, if◌then◌else◌, List, length, slice_index, Option, Some, None}
 use Rattle.krb_der.specs.Time.{days_in_month, day_number, Civil}
-use Rattle.krb_der.specs.Inner.Steps.{◌>>?◌, only_if}
+use Rattle.krb_der.specs.Computed.Steps.{◌>>?◌, only_if}
 
 abbrev pub is_digit : ℕ → Bool
 is_digit c = nat_le 48 c && nat_le c 57

@@ -8,9 +8,9 @@ use Rattle.krb_der.specs.Content.{number}
 use Rattle.krb_der.specs.Place.{Place, begin_at, end_of, begins}
 use Rattle.krb_der.specs.Fault.{content_fault}
 use Rattle.krb_der.specs.Spells.{limit}
-use Rattle.krb_der.specs.Inner.Steps.{◌>>=◌, ◌>>?◌}
-use Rattle.krb_der.specs.Inner.Whole.{are_bytes, whole_of, natural_below, int32_within, constant_at, flags_of}
-use Rattle.krb_der.specs.Inner.Clock.{time_of}
+use Rattle.krb_der.specs.Computed.Steps.{◌>>=◌, ◌>>?◌}
+use Rattle.krb_der.specs.Computed.Whole.{are_bytes, whole_of, natural_below, int32_within, constant_at, flags_of}
+use Rattle.krb_der.specs.Computed.Clock.{time_of}
 
 abbrev pub fault_at : {A : Type 0} → FaultKind → ℕ → Result A Fault
 fault_at kind at = Err (record { kind = kind; at = at })

@@ -1,0 +1,75 @@
+-- Elements of one kind, one after another: read as a whole, and one by one.
+use Rattle.std.proofs.Common.{◌≡◌, inl, inr, List, [], ◌∷◌, length, Result, Ok, Err, refl, sym, ap, ◌∙◌, arith}
+use Rattle.std.specs.Prelude.{IsOk, is_ok}
+use Rattle.krb_der.specs.declared.fault.Fault.{Fault}
+use Rattle.krb_der.specs.Kind.{Kind, sequence, each, ValueOf}
+use Rattle.krb_der.specs.Place.{Place}
+use Rattle.krb_der.specs.Computed.Steps.{◌>>=◌}
+use Rattle.krb_der.specs.Computed.Gives.{checked}
+use Rattle.krb_der.specs.Computed.Listed.{AreListed, values_of, listed}
+use Rattle.krb_der.specs.Computed.Read.{enter_at, element_at, fields_at, element_by, sequence_at}
+use Rattle.krb_der.proofs.LengthLaws.{no_value}
+use Rattle.krb_der.proofs.ElementSteps.{bind_at}
+use Rattle.krb_der.proofs.ElementFound.{answer}
+use Rattle.krb_der.proofs.Lists.{list_next, element_at-shrinks}
+
+checked-ok : {V : Type 0} (r : Result (List V) Fault) → checked r ≡ Ok tt → r ≡ Ok (values_of r)
+checked-ok (Ok vs) e = refl
+checked-ok (Err f) e = absurd (no_value f tt e)
+
+checked-err : {V : Type 0} (r : Result (List V) Fault) (f : Fault) → checked r ≡ Err f → r ≡ Err f
+checked-err (Ok vs) f e = absurd (no_value f tt (sym e))
+checked-err (Err g) f e = let same : g ≡ f = cc in ap Err same
+
+is-ok : {V : Type 0} (r : Result (List V) Fault) → IsOk r → r ≡ Ok (values_of r)
+is-ok (Ok vs) e = refl
+is-ok (Err f) e = cc
+
+sequence-ok : {V : Type 0} (read : Place → Result V Fault) (p inside after : Place) (v : V)
+    → enter_at 0x30 p ≡ Ok (inside, after) → read inside ≡ Ok v → sequence_at read p ≡ Ok (v, after)
+sequence-ok read p inside after v e f =
+    bind_at (enter_at 0x30 p) (λ e. read e.0 >>= λ x. Ok (x, e.1)) (inside, after) e ∙ bind_at (read inside) (λ x. Ok (x, after)) v f
+
+sequence-err : {V : Type 0} (read : Place → Result V Fault) (p inside after : Place) (f : Fault)
+    → enter_at 0x30 p ≡ Ok (inside, after) → read inside ≡ Err f → sequence_at read p ≡ Err f
+sequence-err read p inside after f e g =
+    bind_at (enter_at 0x30 p) (λ e. read e.0 >>= λ x. Ok (x, e.1)) (inside, after) e ∙ ap (λ r. r >>= λ x. Ok (x, after)) g
+
+sequence_is : (k : Kind) (p : Place) → element_at (sequence (each k)) p ≡ sequence_at (fields_at (each k)) p
+unfolding element_at fields_at element_by
+sequence_is k p = refl
+
+pub list-ok : (k : Kind) (p inside after : Place) → enter_at 0x30 p ≡ Ok (inside, after) → checked (fields_at (each k) inside) ≡ Ok tt
+    → (element_at (sequence (each k)) p ≡ Ok (listed k inside, after)) × AreListed k inside
+list-ok k p inside after e c =
+    let f = checked-ok (fields_at (each k) inside) c in
+    (sequence_is k p ∙ sequence-ok (fields_at (each k)) p inside after (listed k inside) e f, ap is_ok f)
+
+pub list-err : (k : Kind) (p inside after : Place) (f : Fault) → enter_at 0x30 p ≡ Ok (inside, after) → checked (fields_at (each k) inside) ≡ Err f
+    → element_at (sequence (each k)) p ≡ Err f
+list-err k p inside after f e c =
+    sequence_is k p ∙ sequence-err (fields_at (each k)) p inside after f e (checked-err (fields_at (each k) inside) f c)
+
+pub listed-end : (k : Kind) (p : Place) → AreListed k p → p.rest ≡ [] → listed k p ≡ []
+listed-end k p h none =
+    elim (list_next k p (listed k p) (is-ok (fields_at (each k) p) h)) [
+      | inl e ↦ e.1
+      | inr e ↦ absurd (omega (arith, element_at-shrinks k p e.0 e.1 e.4, ap length none))
+    ]
+
+pub listed-next : (k : Kind) (p : Place) (v : ValueOf k) (q : Place) → AreListed k p → element_at k p ≡ Ok (v, q) → (listed k p ≡ v ∷ listed k q) × AreListed k q
+listed-next k p v q h e =
+    elim (list_next k p (listed k p) (is-ok (fields_at (each k) p) h)) [
+      | inl n ↦ absurd (omega (arith, element_at-shrinks k p v q e, ap length n.0))
+      | inr n ↦
+          let a = answer n.0 v n.1 q (sym n.4 ∙ e) in
+          let rest : fields_at (each k) q ≡ Ok n.2 = ap (fields_at (each k)) (sym a.1) ∙ n.5 in
+          (n.3 ∙ ap (λ x. x ∷ n.2) a.0 ∙ ap (λ (l : List (ValueOf k)). v ∷ l) (sym (ap values_of rest)), ap is_ok rest)
+    ]
+
+pub listed-some : (k : Kind) (p : Place) (f : Fault) → AreListed k p → element_at k p ≡ Err f → p.rest ≡ []
+listed-some k p f h e =
+    elim (list_next k p (listed k p) (is-ok (fields_at (each k) p) h)) [
+      | inl n ↦ n.0
+      | inr n ↦ absurd (no_value f (n.0, n.1) (sym e ∙ n.4))
+    ]

@@ -1,0 +1,14 @@
+use Rattle.std.proofs.Common.{map}
+use Rattle.krb_der.specs.Kind.{each}
+use Rattle.krb_der.specs.Content.{Elementary}
+use Rattle.krb_der.specs.Spells.{SpellsFields}
+use Rattle.krb_der.proofs.EncodeLaws.{encodes-wrapped, fields_one}
+use Rattle.krb_der.proofs.list.RefSliceEncode.write.Goals as goal
+
+pub returns : goal.returns
+returns g c =
+    let fields = each g.T.Encode.kind in
+    let values = map g.T.Encode.view c.args.self.now.now in
+    encodes-wrapped 0x30 c.len-start.result (SpellsFields Elementary fields values) (fields_one fields values)
+    c.wrap-written.result c.limited.result c.args.out.now c.write_each.new.out c.wrap-written.new.self c.limited.new.self
+    c.len-start.ensures c.in_ok-write_each.ensures.ok.0 c.wrap-written.ensures.ok c.wrap-written.ensures.kept c.limited.ensures.answer c.limited.ensures.left

@@ -1,0 +1,107 @@
+//! A SEQUENCE OF: read as a cursor over its content, and written from a slice.
+
+ghost use Rattle.std.specs.Prelude.{◌≡◌, [], ◌∷◌, map, IfOk, IfSome, IfNone};
+ghost use Rattle.krb_der.specs.Kind.{sequence, each};
+ghost use Rattle.krb_der.specs.Content.{Elementary};
+ghost use Rattle.krb_der.specs.Spells.{SpellsFields};
+ghost use Rattle.krb_der.specs.Reading.{Reads, ReadsList};
+ghost use Rattle.krb_der.specs.Writing.{Encodes};
+ghost use Rattle.krb_der.specs.Computed.Gives.{Gives, checked};
+ghost use Rattle.krb_der.specs.Computed.Listed.{AreListed, listed};
+ghost use Rattle.krb_der.specs.Computed.Read.{element_at, fields_at};
+
+use crate::element::is_clear;
+use crate::{Cursor, Element, Encode, EncodeFault, Fault, Writer, tag};
+
+impl<'a> Cursor<'a> {
+    /// Checks that all that is left are elements of the type's kind, one after another, as in a SEQUENCE OF. The cursor stays.
+    ///
+    /// # Errors
+    /// The first fault from left to right.
+    pub fn check_each<T: Element<'a> + Drop>(&self) -> Result<(), Fault>
+        ensures checks { ReadsList T.kind result self.now }
+        ensures computed { result ≡ checked (fields_at (each T.kind) self.now) }
+    {
+        is_clear::<T>();
+        self.check_each_here::<T>()
+    }
+
+    fn check_each_here<T: Element<'a> + Drop>(&self) -> Result<(), Fault>
+        ensures { result ≡ checked (fields_at (each T.kind) self.now) }
+    {
+        let mut left = self.again();
+        while !left.is_at_end() {
+            match T::read(&mut left) {
+                Ok(value) => drop(value),
+                Err(fault) => return Err(fault),
+            }
+        }
+        Ok(())
+    }
+
+    /// Reads a SEQUENCE OF elements of the type's kind: answers a cursor over its content, for [`next`](Self::next).
+    ///
+    /// # Errors
+    /// As of [`read`](Self::read): the first fault, also of an element. The cursor then stays.
+    pub fn list<T: Element<'a> + Drop>(&mut self) -> Result<Cursor<'a>, Fault>
+        ensures reads { Reads (sequence (each T.kind)) (listed T.kind) result self.old self.new }
+        ensures listed { IfOk result (AreListed T.kind) }
+        ensures computed { Gives (listed T.kind) result self.old self.new (element_at (sequence (each T.kind)) self.old) }
+    {
+        is_clear::<T>();
+        self.list_here::<T>()
+    }
+
+    #[tactic(auto, unfolding(crate::specs::Computed::Read::element_at, crate::specs::Computed::Read::element_by))]
+    fn list_here<T: Element<'a> + Drop>(&mut self) -> Result<Cursor<'a>, Fault>
+        ensures listed { IfOk result (AreListed T.kind) }
+        ensures computed { Gives (listed T.kind) result self.old self.new (element_at (sequence (each T.kind)) self.old) }
+    {
+        let (content, after) = self.head(tag::SEQUENCE)?;
+        content.check_each_here::<T>()?;
+        *self = after;
+        Ok(content)
+    }
+
+    /// Reads the next element of a [`list`](Self::list) and goes behind it; `None` at the end.
+    pub fn next<T: Element<'a>>(&mut self) -> Option<T>
+        requires { AreListed T.kind self.old }
+        ensures end { IfNone result ((listed T.kind self.old ≡ []) × (self.new ≡ self.old)) }
+        ensures some { IfSome result (λ x. listed T.kind self.old ≡ T.view x ∷ listed T.kind self.new) }
+        ensures listed { AreListed T.kind self.new }
+    {
+        if self.is_at_end() {
+            return None;
+        }
+        match T::read(self) {
+            Ok(value) => Some(value),
+            Err(_) => unreachable!(),
+        }
+    }
+}
+
+impl<T: Encode> Encode for &[T] {
+    ghost kind = { sequence (each T.kind) };
+
+    ghost view = { λ items. map T.view items.now };
+
+    fn write(&self, out: &mut Writer) -> Result<(), EncodeFault> {
+        let start = out.len();
+        write_each(self, out)?;
+        let written = out.wrap(tag::SEQUENCE, start);
+        out.limited(start, written)
+    }
+}
+
+/// Writes the elements one after another.
+fn write_each<T: Encode>(items: &[T], out: &mut Writer) -> Result<(), EncodeFault>
+    ensures { Encodes (SpellsFields Elementary (each T.kind) (map T.view items.now)) result out.old out.new }
+{
+    let start = out.len();
+    for item in items {
+        if let Err(fault) = item.write(out) {
+            return out.settle(start, Err(fault));
+        }
+    }
+    out.limited(start, Ok(()))
+}
