@@ -61,8 +61,7 @@ def peak(command):
     return usage.ru_maxrss * 1024
 
 
-def main():
-    program = os.path.abspath(sys.argv[1])
+def tables(program):
     with tempfile.TemporaryDirectory() as folder:
         path = Path(folder) / "keytab"
         print("| what | krbtool | other | ratio |\n|---|---|---|---|")
@@ -84,4 +83,4 @@ def main():
 
 
 if __name__ == "__main__":
-    main()
+    tables(os.path.abspath(sys.argv[1]))

@@ -64,14 +64,15 @@ def keytab_entry(data, at, end):
     count = reader.number("H")
     realm = reader.data16()
     components = [reader.data16() for _ in range(count)]
-    reader.number("i")
+    name_type = reader.number("i")
     timestamp = reader.number("I")
     kvno = reader.number("B")
     etype = reader.number("h")
     key = reader.data16()
     if reader.end - reader.at >= 4:
         kvno = reader.number("I") or kvno
-    return {"realm": realm, "components": components, "timestamp": timestamp, "kvno": kvno, "etype": etype, "key": key}
+    return {"realm": realm, "components": components, "name_type": name_type, "timestamp": timestamp, "kvno": kvno,
+            "etype": etype, "key": key}
 
 
 def keytab(data):
@@ -103,3 +104,121 @@ def list_keytab(data):
     return "".join(
         f"{it['kvno']} {it['etype']} {it['timestamp']} {principal_text(it['realm'], it['components'])}\n" for it in keytab(data)
     )
+
+
+def check_keytab(data):
+    return f"ok {len(keytab(data))}\n"
+
+
+def data16_of(text):
+    return struct.pack(">H", len(text)) + text
+
+
+def record_of(entry):
+    body = struct.pack(">H", len(entry["components"])) + data16_of(entry["realm"])
+    body += b"".join(data16_of(it) for it in entry["components"])
+    body += struct.pack(">iIBh", entry["name_type"], entry["timestamp"], entry["kvno"] % 256, entry["etype"])
+    body += data16_of(entry["key"]) + struct.pack(">I", entry["kvno"])
+    return struct.pack(">i", len(body)) + body
+
+
+def convert_keytab(data):
+    """The keytab without holes, rests and end word."""
+    made = b"\x05\x02" + b"".join(record_of(it) for it in keytab(data))
+    if len(made) > LIMIT:
+        raise Fault("TooLong")
+    return made
+
+
+def cache_principal(reader):
+    name_type, count = reader.number("i"), reader.number("I")
+    realm = reader.data32()
+    components = []
+    for _ in range(count):
+        components.append(reader.data32())
+    return {"name_type": name_type, "realm": realm, "components": components}
+
+
+def typed_list(reader):
+    count, items = reader.number("I"), []
+    for _ in range(count):
+        items.append((reader.number("H"), reader.data32()))
+    return items
+
+
+def credential(reader):
+    item = {"client": cache_principal(reader), "server": cache_principal(reader)}
+    item["etype"], item["key"] = reader.number("h"), reader.data32()
+    for word in ("authtime", "starttime", "endtime", "renew_till"):
+        item[word] = reader.number("I")
+    item["is_skey"] = reader.number("B")
+    if item["is_skey"] > 1:
+        raise Short
+    item["flags"] = reader.number("I")
+    item["addresses"], item["authdata"] = typed_list(reader), typed_list(reader)
+    item["ticket"], item["second_ticket"] = reader.data32(), reader.data32()
+    return item
+
+
+def header_fields(data):
+    reader, fields = Reader(data), []
+    while reader.at < reader.end:
+        tag, value = reader.number("H"), reader.data16()
+        if tag == 1 and len(value) != 8:
+            raise Short
+        fields.append((tag, value))
+    return fields
+
+
+def cache(data):
+    """Header fields, default principal and credentials of a credential cache; raises its Fault."""
+    if len(data) > LIMIT:
+        raise Fault("TooLong")
+    if data[:2] != b"\x05\x04":
+        raise Fault("Version")
+    reader = Reader(data, 2)
+    try:
+        fields = header_fields(reader.data16())
+    except Short:
+        raise Fault("Header") from None
+    start = reader.at
+    try:
+        default = cache_principal(reader)
+        credentials = []
+        while reader.at < reader.end:
+            start = reader.at
+            credentials.append(credential(reader))
+    except Short:
+        raise Fault("BadItem", start) from None
+    return fields, default, credentials
+
+
+def name_text(name):
+    return principal_text(name["realm"], name["components"])
+
+
+def credential_line(item):
+    server = item["server"]
+    if server["realm"] == b"X-CACHECONF:" and server["components"][:1] == [b"krb5_ccache_conf_data"]:
+        return f"config {name_text(server)}\n"
+    times = " ".join(str(item[word]) for word in ("authtime", "starttime", "endtime", "renew_till"))
+    return f"ticket {item['etype']} {times} {item['flags']:08x} {name_text(item['client'])} {name_text(server)}\n"
+
+
+def list_ccache(data):
+    fields, default, credentials = cache(data)
+    offset = next((struct.unpack(">ii", value) for tag, value in fields if tag == 1), None)
+    lines = [f"default {name_text(default)}\n"]
+    if offset:
+        lines.append(f"offset {offset[0]} {offset[1]}\n")
+    return "".join(lines + [credential_line(it) for it in credentials])
+
+
+def check_ccache(data):
+    return f"ok {len(cache(data)[2])}\n"
+
+
+def convert_ccache(data):
+    """A cache that can be read is written as the same bytes."""
+    cache(data)
+    return data

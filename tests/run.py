@@ -3,6 +3,8 @@
 
     tests/run.py PROGRAM [WORD]      the cases whose names hold WORD, or all
 
+It ends with what MIT's tools say of files that the program wrote (tests/peers.py; Debian's package krb5-user).
+
 A case is a table [[case]] of a TOML file:
 
     name    what it shows
@@ -24,6 +26,7 @@ import subprocess
 import sys
 import tempfile
 import tomllib
+from concurrent.futures import ThreadPoolExecutor
 from pathlib import Path
 
 HERE = Path(__file__).resolve().parent
@@ -32,6 +35,7 @@ sys.path.insert(0, str(HERE))
 sys.dont_write_bytecode = True
 
 import generated  # noqa: E402
+import peers  # noqa: E402
 
 KEYS = set("name args files folders stdin stdout stdout_begins stderr stderr_begins status after output".split())
 
@@ -96,17 +100,24 @@ def run(program, case):
         return difference(case, ran, room)
 
 
+def results(program, word):
+    """The name of each case and what is wrong with it, or None. Cases run side by side, each in a folder of its own."""
+    chosen = [case for case in [*stored_cases(), *generated.cases()] if word in case["name"]]
+    with ThreadPoolExecutor(max_workers=os.cpu_count()) as pool:
+        yield from zip((case["name"] for case in chosen), pool.map(lambda case: run(program, case), chosen))
+    for name, wrong in peers.checks(program):
+        if word in name:
+            yield name, wrong
+
+
 def main():
     program = os.path.abspath(sys.argv[1])
     word = sys.argv[2] if len(sys.argv) > 2 else ""
     passed = failed = 0
-    for case in [*stored_cases(), *generated.cases()]:
-        if word not in case["name"]:
-            continue
-        wrong = run(program, case)
+    for name, wrong in results(program, word):
         if wrong:
             failed += 1
-            print(f"FAILED {case['name']}: {wrong}")
+            print(f"FAILED {name}: {wrong}")
         else:
             passed += 1
     print(f"{passed} passed, {failed} failed")

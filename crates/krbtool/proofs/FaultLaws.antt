@@ -1,31 +1,55 @@
--- The faults of a keytab that an engine passes on.
-use Rattle.std.proofs.Common.{◌≡◌, ◌⊎◌, Result, Ok, Err, sym, ap, ◌∙◌, inl, inr}
-use Rattle.krb_keytab.specs.declared.fault.KeytabFault.{KeytabFault}
-use Rattle.krb_keytab.specs.declared.fault.KeytabFault.TheVariants.{Read, OutOfMemory}
-use Rattle.krbtool.specs.declared.fault.EngineFault.{EngineFault}
-use Rattle.krbtool.specs.declared.fault.EngineFault.TheVariants.{Keytab}
+-- The faults of a file that an engine passes on.
+use Rattle.std.proofs.Common.{◌≡◌, ◌⊎◌, Result, Ok, Err, ap, ◌∙◌, sym, inl, inr}
 
--- the fault, or that of memory or of the source
-abbrev pub IsOneOf : {X : Type 0} → Result X KeytabFault → KeytabFault → Type 0
-IsOneOf read fault = (read ≡ Err fault) ⊎ ((read ≡ Err OutOfMemory) ⊎ (read ≡ Err Read))
+-- the answer is this fault, or one of two others
+abbrev pub IsOneOf : {X F : Type 0} → Result X F → F → F → F → Type 0
+IsOneOf answer fault memory read = (answer ≡ Err fault) ⊎ ((answer ≡ Err memory) ⊎ (answer ≡ Err read))
 
-abbrev pub PassesOneOf : {Y : Type 0} → Result Y EngineFault → KeytabFault → Type 0
-PassesOneOf result fault = (result ≡ Err (Keytab fault)) ⊎ ((result ≡ Err (Keytab OutOfMemory)) ⊎ (result ≡ Err (Keytab Read)))
+same_err : {X F : Type 0} (one other : F) → ◌≡◌ {A = Result X F} (Err one) (Err other) → one ≡ other
+same_err one other e = cc
 
-pub passed_on : {X Y : Type 0} (read : Result X KeytabFault) (result : Result Y EngineFault) (met fault : KeytabFault) → read ≡ Err met → result ≡ Err (Keytab met)
-    → IsOneOf read fault → PassesOneOf result fault
-passed_on read result met fault is passed one =
+no_ok : {X F : Type 0} (value : X) (fault : F) → ◌≡◌ {A = Result X F} (Ok value) (Err fault) → ⊥
+no_ok value fault e = cc
+
+-- it is passed on as it was met
+pub passed_on : {X Y F E : Type 0} (wrap : F → E) (memory source : F) (read : Result X F) (result : Result Y E) (met fault : F)
+    → read ≡ Err met → result ≡ Err (wrap met) → IsOneOf read fault memory source
+    → IsOneOf result (wrap fault) (wrap memory) (wrap source)
+passed_on {F = F} wrap memory source read result met fault is passed one =
+    let passes : (other : F) → read ≡ Err other → result ≡ Err (wrap other) =
+    λ other e. passed ∙ ap (λ (f : F). Err (wrap f)) (same_err met other (sym is ∙ e)) in
     elim one [
-      | inl a ↦ inl (let e : met ≡ fault = cc in passed ∙ ap (λ (f : KeytabFault). Err (Keytab f)) e)
-      | inr b ↦ inr (elim b [
-        | inl m ↦ inl (let e : met ≡ OutOfMemory = cc in passed ∙ ap (λ (f : KeytabFault). Err (Keytab f)) e)
-        | inr r ↦ inr (let e : met ≡ Read = cc in passed ∙ ap (λ (f : KeytabFault). Err (Keytab f)) e)
-      ])
+      | inl e ↦ inl (passes fault e)
+      | inr b ↦ elim b [ inl e ↦ inr (inl (passes memory e)) | inr e ↦ inr (inr (passes source e)) ]
     ]
 
-pub none_met : {X : Type 0} (read : Result X KeytabFault) (value : X) (fault : KeytabFault) → read ≡ Ok value → IsOneOf read fault → ⊥
-none_met read value fault is one =
+pub none_met : {X F : Type 0} (memory source : F) (read : Result X F) (value : X) (fault : F) → read ≡ Ok value
+    → IsOneOf read fault memory source → ⊥
+none_met memory source read value fault is one =
     elim one [
-      | inl a ↦ cc
-      | inr b ↦ elim b [ inl m ↦ cc | inr r ↦ cc ]
+      | inl e ↦ no_ok value fault (sym is ∙ e)
+      | inr b ↦ elim b [ inl e ↦ no_ok value memory (sym is ∙ e) | inr e ↦ no_ok value source (sym is ∙ e) ]
     ]
+
+-- what was met instead of a value is of memory or of the source
+pub value_missed : {X Y F E : Type 0} (wrap : F → E) (memory source : F) (read : Result X F) (result : Result Y E) (met other : F) (value : X)
+    → read ≡ Err met → result ≡ Err (wrap met) → (read ≡ Ok value) ⊎ ((read ≡ Err memory) ⊎ (read ≡ Err source))
+    → IsOneOf result (wrap other) (wrap memory) (wrap source)
+value_missed {F = F} wrap memory source read result met other value is passed one =
+    let passes : (f : F) → read ≡ Err f → result ≡ Err (wrap f) =
+    λ f e. passed ∙ ap (λ (g : F). Err (wrap g)) (same_err met f (sym is ∙ e)) in
+    elim one [
+      | inl e ↦ absurd (no_ok value met (sym e ∙ is))
+      | inr b ↦ elim b [ inl e ↦ inr (inl (passes memory e)) | inr e ↦ inr (inr (passes source e)) ]
+    ]
+
+same_ok : {X F : Type 0} (one other : X) → ◌≡◌ {A = Result X F} (Ok one) (Ok other) → one ≡ other
+same_ok one other e = cc
+
+-- the value that was met is the one
+pub value_met : {X F : Type 0} (memory source : F) (read : Result X F) (met value : X) → read ≡ Ok met
+    → (read ≡ Ok value) ⊎ ((read ≡ Err memory) ⊎ (read ≡ Err source)) → met ≡ value
+value_met memory source read met value is one = elim one [
+  | inl e ↦ same_ok met value (sym is ∙ e)
+  | inr b ↦ elim b [ inl e ↦ absurd (no_ok met memory (sym is ∙ e)) | inr e ↦ absurd (no_ok met source (sym is ∙ e)) ]
+]

@@ -1,3 +1,4 @@
 pub mod Getters
 pub mod LineLaws
 pub mod FaultLaws
+pub mod FileLaws

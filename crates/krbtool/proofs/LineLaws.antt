@@ -1,5 +1,5 @@
 -- Lines that are written one after another.
-use Rattle.std.proofs.Common.{◌≡◌, ℕ, ◌+◌, ◌<◌, ◌≤◌, List, [], ◌∷◌, ◌++◌, length, take, drop, get_or, Option, refl, sym, subst, ap, ◌∙◌, append_assoc, append-nil, arith}
+use Rattle.std.proofs.Common.{◌≡◌, ℕ, ◌+◌, ◌<◌, List, [], ◌∷◌, ◌++◌, length, take, drop, get_or, Option, refl, sym, subst, ap, ◌∙◌, append_assoc, append-nil}
 use Rattle.std.specs.List.{flat_map}
 use Rattle.std.proofs.lemmas.List.{take-append-drop, take_at, take_more}
 use Rattle.std.proofs.lemmas.Grind.{flat_map-append}
@@ -45,3 +45,14 @@ begun_within line entries i entry old now new lt is written begun =
     ap (λ (t : List ℕ). take (length front + length part) t) whole ∙ take-append-add front (line entry ++ rest) (length part)
     ∙ ap (λ (t : List ℕ). front ++ t) (take-length-take begun.0 (line entry) rest) in
     (length front + length part, subst (Appends old new) (sym same) (Appends-trans old now new front part written begun.1))
+
+-- a beginning of the first part is one of both
+pub begun_front : (front back : List ℕ) (old new : Option (List ℕ)) → AppendsBeginning old new front → AppendsBeginning old new (front ++ back)
+begun_front front back old new begun =
+    (length (take begun.0 front), subst (Appends old new) (sym (take-length-take begun.0 front back)) begun.1)
+
+-- so are the first part and a beginning of the second
+pub begun_back : (front back : List ℕ) (old now new : Option (List ℕ)) → Appends old now front → AppendsBeginning now new back
+    → AppendsBeginning old new (front ++ back)
+begun_back front back old now new written begun =
+    (length front + begun.0, subst (Appends old new) (sym (take-append-add front back begun.0)) (Appends-trans old now new front (take begun.0 back) written begun.1))

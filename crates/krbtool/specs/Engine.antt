@@ -1,21 +1,42 @@
 -- What an engine's answer tells of its source and of its sink.
-use Rattle.std.specs.Prelude.{ℕ, Option, Some, None, Result, Ok, Err}
+use Rattle.std.specs.Prelude.{◌≡◌, ◌⊎◌, ℕ, List, Option, Some, None, Result, Err, IfSome}
 use Rattle.krb_keytab.specs.declared.fault.KeytabFault.{KeytabFault}
 use Rattle.krb_keytab.specs.declared.fault.KeytabFault.TheVariants as keytab
+use Rattle.krb_ccache.specs.declared.fault.CacheFault.{CacheFault}
+use Rattle.krb_ccache.specs.declared.fault.CacheFault.TheVariants as cache
 use Rattle.krbtool.specs.declared.fault.EngineFault.{EngineFault}
-use Rattle.krbtool.specs.declared.fault.EngineFault.TheVariants.{Keytab, Write, OutOfMemory}
+use Rattle.krbtool.specs.declared.fault.EngineFault.TheVariants.{Keytab, Cache, Write, OutOfMemory}
+
+-- the bytes that were to come, where the source tells them, are a file with some value, of which this holds
+abbrev pub OfFile : {V : Type 0} → (List ℕ → V → Type 0) → Option (List ℕ) → (V → Type 0) → Type 0
+OfFile {V} IsFile given Holds = IfSome given (λ bytes. (value : V) × (IsFile bytes value × Holds value))
 
 -- the fault that the content of a keytab has: neither the source nor memory failed
-abbrev pub content_fault : EngineFault → Option KeytabFault
-content_fault (Keytab keytab.Read) = None
-content_fault (Keytab keytab.OutOfMemory) = None
-content_fault (Keytab fault) = Some fault
-content_fault Write = None
-content_fault OutOfMemory = None
+abbrev pub keytab_fault : EngineFault → Option KeytabFault
+keytab_fault (Keytab keytab.Read) = None
+keytab_fault (Keytab keytab.OutOfMemory) = None
+keytab_fault (Keytab fault) = Some fault
+keytab_fault _ = None
+
+-- the same of a credential cache
+abbrev pub cache_fault : EngineFault → Option CacheFault
+cache_fault (Cache cache.Read) = None
+cache_fault (Cache cache.OutOfMemory) = None
+cache_fault (Cache fault) = Some fault
+cache_fault _ = None
+
+-- the answer is this fault of the keytab, unless its source or memory failed
+abbrev pub FailsWith : {X : Type 0} → Result X EngineFault → KeytabFault → Type 0
+FailsWith result fault = (result ≡ Err (Keytab fault)) ⊎ ((result ≡ Err (Keytab keytab.OutOfMemory)) ⊎ (result ≡ Err (Keytab keytab.Read)))
+
+-- the same of a credential cache
+abbrev pub FailsWithCache : {X : Type 0} → Result X EngineFault → CacheFault → Type 0
+FailsWithCache result fault = (result ≡ Err (Cache fault)) ⊎ ((result ≡ Err (Cache cache.OutOfMemory)) ⊎ (result ≡ Err (Cache cache.Read)))
 
 -- how many reads failed
 abbrev pub failed_reads : {X : Type 0} → Result X EngineFault → ℕ
 failed_reads (Err (Keytab keytab.Read)) = 1
+failed_reads (Err (Cache cache.Read)) = 1
 failed_reads _ = 0
 
 -- how many writes failed

@@ -1,11 +1,14 @@
 -- The line that the program prints of a fault.
-use Rattle.std.specs.Prelude.{ℕ, List, [], ◌∷◌, ◌++◌, Option, Some, None, codes}
+use Rattle.std.specs.Prelude.{ℕ, List, ◌++◌, Option, Some, None, codes}
 use Rattle.std.specs.Fmt.{decimal}
 use Rattle.krb_keytab.specs.declared.fault.KeytabFault.{KeytabFault}
 use Rattle.krb_keytab.specs.declared.fault.KeytabFault.TheVariants as keytab
 use Rattle.krb_keytab.specs.Fault.{offset_of}
+use Rattle.krb_ccache.specs.declared.fault.CacheFault.{CacheFault}
+use Rattle.krb_ccache.specs.declared.fault.CacheFault.TheVariants as cache
+use Rattle.krb_ccache.specs.Fault as in_cache
 use Rattle.krbtool.specs.declared.fault.EngineFault.{EngineFault}
-use Rattle.krbtool.specs.declared.fault.EngineFault.TheVariants.{Keytab, Write, OutOfMemory}
+use Rattle.krbtool.specs.declared.fault.EngineFault.TheVariants.{Keytab, Cache, Write, OutOfMemory}
 
 abbrev pub keytab_name : KeytabFault → List ℕ
 keytab_name keytab.Version = codes "Version"
@@ -16,13 +19,23 @@ keytab_name keytab.NoSuchEntry = codes "NoSuchEntry"
 keytab_name keytab.Read = codes "Read"
 keytab_name keytab.OutOfMemory = codes "OutOfMemory"
 
+abbrev pub cache_name : CacheFault → List ℕ
+cache_name cache.Version = codes "Version"
+cache_name cache.Header = codes "Header"
+cache_name (cache.BadItem at) = codes "BadItem"
+cache_name cache.TooLong = codes "TooLong"
+cache_name cache.Read = codes "Read"
+cache_name cache.OutOfMemory = codes "OutOfMemory"
+
 abbrev pub name_of : EngineFault → List ℕ
 name_of (Keytab fault) = keytab_name fault
+name_of (Cache fault) = cache_name fault
 name_of Write = codes "Write"
 name_of OutOfMemory = codes "OutOfMemory"
 
 abbrev pub place_of : EngineFault → Option ℕ
 place_of (Keytab fault) = offset_of fault
+place_of (Cache fault) = in_cache.offset_of fault
 place_of Write = None
 place_of OutOfMemory = None
 

@@ -1,9 +1,18 @@
 -- The lines that the commands print. Each ends in the byte 10, and its words have the byte 32 between them.
-use Rattle.std.specs.Prelude.{List, [], ◌∷◌, ◌++◌, ℕ}
+use Rattle.std.specs.Prelude.{◌≡◌, ◌≢◌, List, [], ◌∷◌, ◌++◌, ℕ, ℤ, Bool, false, ◌&&◌, Option, Some, None, All, codes, if◌then◌else◌}
+use Rattle.std.specs.Int.{w32}
 use Rattle.std.specs.List.{flat_map}
+use Rattle.std.specs.Str.{bytes_eq}
 use Rattle.std.specs.Fmt.{decimal, signed_decimal}
+use Rattle.hex.specs.Hex.{encode_lower}
+use Rattle.krb_name.specs.Cursor.{number_bytes}
 use Rattle.krb_name.specs.Text.{text_of}
+use Rattle.krb_name.specs.declared.principal.Principal.{Principal}
 use Rattle.krb_keytab.specs.Entry.{KeytabEntry}
+use Rattle.krb_ccache.specs.Configuration.{HoldsOffset}
+use Rattle.krb_ccache.specs.Value.{Cache}
+use Rattle.krb_ccache.specs.declared.credential.Credential.{Credential}
+use Rattle.krb_ccache.specs.declared.credential.HeaderField.{HeaderField}
 
 -- key version number, enctype, timestamp and principal
 abbrev pub keytab_line : KeytabEntry → List ℕ
@@ -13,3 +22,52 @@ keytab_line entry =
 -- what list-keytab prints: a line for each entry, in their order
 abbrev pub keytab_lines : List KeytabEntry → List ℕ
 keytab_lines entries = flat_map keytab_line entries
+
+-- what a check prints of so many entries or credentials
+abbrev pub ok_line : ℕ → List ℕ
+ok_line count = codes "ok " ++ (decimal count ++ 10 ∷ [])
+
+-- ---- list-ccache
+
+abbrev pub is_first : List ℕ → List (List ℕ) → Bool
+is_first text [] = false
+is_first text (first ∷ others) = bytes_eq first text
+
+-- whether the credential is a configuration entry, by its server's realm and first component
+abbrev pub is_config : Credential → Bool
+is_config c = bytes_eq c.server.realm (codes "X-CACHECONF:") && is_first (codes "krb5_ccache_conf_data") c.server.components
+
+abbrev pub config_line : Credential → List ℕ
+config_line c = codes "config " ++ (text_of c.server ++ 10 ∷ [])
+
+-- authtime, starttime, endtime and renew_till
+abbrev pub times_of : Credential → List ℕ
+times_of c = decimal c.authtime ++ (32 ∷ (decimal c.starttime ++ (32 ∷ (decimal c.endtime ++ (32 ∷ decimal c.renew_till)))))
+
+-- client and server
+abbrev pub names_of : Credential → List ℕ
+names_of c = text_of c.client ++ (32 ∷ text_of c.server)
+
+-- enctype, times, flags in hexadecimal, and names
+abbrev pub ticket_line : Credential → List ℕ
+ticket_line c =
+    codes "ticket " ++ (signed_decimal c.etype ++ (32 ∷ (times_of c ++ (32 ∷ (encode_lower (number_bytes w32 c.ticket_flags)
+    ++ (32 ∷ (names_of c ++ 10 ∷ [])))))))
+
+abbrev pub credential_line : Credential → List ℕ
+credential_line c = if is_config c then config_line c else ticket_line c
+
+-- the KDC's clock offset that a header holds, if any
+abbrev pub IsOffset : List HeaderField → Option (ℤ × ℤ) → Type 0
+IsOffset header None = All (λ field. field.tag ≢ 1) header
+IsOffset header (Some offset) = HoldsOffset header offset.0 offset.1
+
+-- the default principal, and the offset where there is one
+abbrev pub head_lines : Principal → Option (ℤ × ℤ) → List ℕ
+head_lines name None = codes "default " ++ (text_of name ++ 10 ∷ [])
+head_lines name (Some offset) =
+    codes "default " ++ (text_of name ++ (codes "\noffset " ++ (signed_decimal offset.0 ++ (32 ∷ (signed_decimal offset.1 ++ 10 ∷ [])))))
+
+-- what list-ccache prints: these, and a line for each credential, in their order
+abbrev pub cache_lines : Cache → Option (ℤ × ℤ) → List ℕ
+cache_lines cache offset = head_lines cache.default_principal offset ++ flat_map credential_line cache.credentials

@@ -1,10 +1,11 @@
 //! Why an engine ended early, what the program says of it, and its exit status.
 
 ghost use Rattle.std.specs.Prelude.{◌≡◌, List, ℕ, Some, None, codes};
-ghost use Rattle.krbtool.specs.FaultText.{keytab_name, name_of, place_of, line_of};
+ghost use Rattle.krbtool.specs.FaultText.{keytab_name, cache_name, name_of, place_of, line_of};
 ghost use Rattle.krbtool.specs.Status.{status_of};
-ghost use Rattle.krbtool.specs.declared.fault.EngineFault.TheVariants.{Keytab, OutOfMemory, Write};
+ghost use Rattle.krbtool.specs.declared.fault.EngineFault.TheVariants.{Keytab, Cache, OutOfMemory, Write};
 
+use krb_ccache::CacheFault;
 use krb_keytab::KeytabFault;
 use krb_name::SinkFailed;
 use std::alloc::AllocError;
@@ -18,10 +19,13 @@ pub enum EngineFault {
     /// The keytab couldn't be read, there was no room for it, or what was read is none.
     #[error("{0}")]
     Keytab(KeytabFault),
+    /// The credential cache couldn't be read, there was no room for it, or what was read is none.
+    #[error("{0}")]
+    Cache(CacheFault),
     /// The sink couldn't be written.
     #[error("the output could not be written")]
     Write,
-    /// There was no room, other than for the keytab.
+    /// There was no room, other than for the keytab or the credential cache.
     #[error("out of memory")]
     OutOfMemory,
 }
@@ -31,6 +35,14 @@ impl From<KeytabFault> for EngineFault {
 
     fn from(fault: KeytabFault) -> EngineFault {
         EngineFault::Keytab(fault)
+    }
+}
+
+impl From<CacheFault> for EngineFault {
+    ghost from_gives = { λ cache fault. fault ≡ Cache cache };
+
+    fn from(fault: CacheFault) -> EngineFault {
+        EngineFault::Cache(fault)
     }
 }
 
@@ -57,6 +69,7 @@ impl EngineFault {
     {
         match self {
             EngineFault::Keytab(fault) => keytab_name(fault),
+            EngineFault::Cache(fault) => cache_name(fault),
             EngineFault::Write => "Write",
             EngineFault::OutOfMemory => "OutOfMemory",
         }
@@ -68,6 +81,7 @@ impl EngineFault {
     {
         match self {
             EngineFault::Keytab(fault) => fault.at(),
+            EngineFault::Cache(fault) => fault.at(),
             EngineFault::Write | EngineFault::OutOfMemory => None,
         }
     }
@@ -87,6 +101,19 @@ fn keytab_name(fault: &KeytabFault) -> &'static str
     }
 }
 
+fn cache_name(fault: &CacheFault) -> &'static str
+    ensures { result.now ≡ cache_name fault.now }
+{
+    match fault {
+        CacheFault::Version => "Version",
+        CacheFault::Header => "Header",
+        CacheFault::BadItem { .. } => "BadItem",
+        CacheFault::TooLong => "TooLong",
+        CacheFault::Read => "Read",
+        CacheFault::OutOfMemory => "OutOfMemory",
+    }
+}
+
 /// Answers the exit status for a fault: 3 where a file, an output or memory failed, 1 where the
 /// content is refused.
 pub fn status(fault: &EngineFault) -> u8
@@ -94,7 +121,8 @@ pub fn status(fault: &EngineFault) -> u8
 {
     match fault {
         EngineFault::Keytab(KeytabFault::Read | KeytabFault::OutOfMemory) => FAILED,
-        EngineFault::Keytab(_) => REFUSED,
+        EngineFault::Cache(CacheFault::Read | CacheFault::OutOfMemory) => FAILED,
+        EngineFault::Keytab(_) | EngineFault::Cache(_) => REFUSED,
         EngineFault::Write | EngineFault::OutOfMemory => FAILED,
     }
 }

@@ -4,7 +4,10 @@
 //! command answers is said by the contract of its engine over a source and a sink, as `list_keytab`.
 #![tactic(auto)]
 
+mod check;
+mod convert;
 mod fault;
+mod line;
 mod list;
 mod order;
 mod run;
@@ -54,5 +57,7 @@ fn show(rt: &HostRuntime, error: &clap::Error) -> u8 {
     }
 }
 
+#[cfg(test)]
+mod cache_tests;
 #[cfg(test)]
 mod tests;

@@ -1,9 +1,38 @@
 /// What a command line asks for.
-#[derive(Clone, Copy, Debug)]
+#[derive(Clone, Copy, Debug, PartialEq, Eq)]
 pub enum Order<'a> {
     /// `list-keytab FILE`: a line for each entry of a keytab.
     ListKeytab {
         /// The keytab's path.
         file: &'a str,
+    },
+    /// `list-ccache FILE`: a line for each credential of a cache, behind what the cache says of itself.
+    ListCcache {
+        /// The cache's path.
+        file: &'a str,
+    },
+    /// `check-keytab FILE`: how many entries a keytab has.
+    CheckKeytab {
+        /// The keytab's path.
+        file: &'a str,
+    },
+    /// `check-ccache FILE`: how many credentials a cache has.
+    CheckCcache {
+        /// The cache's path.
+        file: &'a str,
+    },
+    /// `convert-keytab FILE OUT`: a keytab written anew.
+    ConvertKeytab {
+        /// The keytab's path.
+        file: &'a str,
+        /// The path of what is written.
+        out: &'a str,
+    },
+    /// `convert-ccache FILE OUT`: a cache written anew.
+    ConvertCcache {
+        /// The cache's path.
+        file: &'a str,
+        /// The path of what is written.
+        out: &'a str,
     },
 }

@@ -1,46 +1,153 @@
 //! Running an order: files are opened, output is buffered, and a fault is printed.
 
+ghost use Rattle.std.specs.Prelude.{◌<◌, ◌-◌, ◌^◌};
+
+use crate::check::{check_ccache, check_keytab};
+use crate::convert::{convert_ccache, convert_keytab};
 use crate::fault::{EngineFault, FAILED, FaultLine, fault_line, file_line, status};
-use crate::list::list_keytab;
+use crate::list::{list_ccache, list_keytab};
 use crate::order::Order;
-use krb_name::{ReadSource, WriteSink};
+use krb_name::{ReadSource, Sink, Source, WriteSink};
+use std::alloc::Global;
 use std::fs::File;
 use std::io;
 use std::io::{BufWriter, Write};
 use std::rt::Files;
 
+// What is done with the one file that a command has.
+#[derive(Clone, Copy)]
+enum OnFile {
+    ListKeytab,
+    ListCcache,
+    CheckKeytab,
+    CheckCcache,
+}
+
+impl OnFile {
+    fn name(self) -> &'static str {
+        match self {
+            OnFile::ListKeytab => "list-keytab",
+            OnFile::ListCcache => "list-ccache",
+            OnFile::CheckKeytab => "check-keytab",
+            OnFile::CheckCcache => "check-ccache",
+        }
+    }
+
+    fn run<S: Source, T: Sink>(
+        self,
+        alloc: Global,
+        source: &mut S,
+        sink: &mut T,
+    ) -> Result<(), EngineFault>
+        requires source { S.failure_count source.old < 2 ^ 64 - 1 }
+        requires sink { T.failure_count sink.old < 2 ^ 64 - 1 }
+    {
+        match self {
+            OnFile::ListKeytab => list_keytab(alloc, source, sink),
+            OnFile::ListCcache => list_ccache(alloc, source, sink),
+            OnFile::CheckKeytab => check_keytab(alloc, source, sink),
+            OnFile::CheckCcache => check_ccache(alloc, source, sink),
+        }
+    }
+}
+
+// Which kind of file is written anew.
+#[derive(Clone, Copy)]
+enum Convert {
+    Keytab,
+    Ccache,
+}
+
+impl Convert {
+    fn run<S: Source, T: Sink>(
+        self,
+        alloc: Global,
+        source: &mut S,
+        sink: &mut T,
+    ) -> Result<usize, EngineFault>
+        requires source { S.failure_count source.old < 2 ^ 64 - 1 }
+        requires sink { T.failure_count sink.old < 2 ^ 64 - 1 }
+    {
+        match self {
+            Convert::Keytab => convert_keytab(alloc, source, sink),
+            Convert::Ccache => convert_ccache(alloc, source, sink),
+        }
+    }
+}
+
 /// Runs an order, and answers the exit status: 0 where all is well, 1 where content is refused, 3
 /// where a file, the output or memory failed.
 pub(crate) fn run<R: AllocGlobal + Files + Print + Eprint>(rt: &R, order: Order<'_>) -> u8 {
     match order {
-        Order::ListKeytab { file } => run_list_keytab(rt, file),
+        Order::ListKeytab { file } => run_on_file(rt, OnFile::ListKeytab, file),
+        Order::ListCcache { file } => run_on_file(rt, OnFile::ListCcache, file),
+        Order::CheckKeytab { file } => run_on_file(rt, OnFile::CheckKeytab, file),
+        Order::CheckCcache { file } => run_on_file(rt, OnFile::CheckCcache, file),
+        Order::ConvertKeytab { file, out } => run_convert(rt, Convert::Keytab, file, out),
+        Order::ConvertCcache { file, out } => run_convert(rt, Convert::Ccache, file, out),
     }
 }
 
-fn run_list_keytab<R: AllocGlobal + Files + Print + Eprint>(rt: &R, file: &str) -> u8 {
+fn run_on_file<R: AllocGlobal + Files + Print + Eprint>(rt: &R, command: OnFile, file: &str) -> u8 {
     let Ok(opened) = File::open(rt, file) else {
         return complain(rt, file_line(file), FAILED);
     };
-    match listed(rt, opened) {
+    match printed(rt, command, opened) {
         Ok(()) => 0,
         Err(fault) => {
             let name = match fault {
-                EngineFault::Keytab(_) => file,
+                EngineFault::Keytab(_) | EngineFault::Cache(_) => file,
                 EngineFault::Write => "output",
-                EngineFault::OutOfMemory => "list-keytab",
+                EngineFault::OutOfMemory => command.name(),
             };
             complain(rt, fault_line(name, &fault), status(&fault))
         }
     }
 }
 
-// Lists the keytab in a file on standard output.
-fn listed<R: AllocGlobal + Files + Print>(rt: &R, file: R::File) -> Result<(), EngineFault> {
+// Runs the command on the file, with standard output as its sink.
+fn printed<R: AllocGlobal + Files + Print>(
+    rt: &R,
+    command: OnFile,
+    file: R::File,
+) -> Result<(), EngineFault> {
     let mut source = ReadSource::new(file);
     let writer = BufWriter::new(rt.alloc(), io::writer(rt)).map_err(|_| EngineFault::OutOfMemory)?;
     let mut sink = WriteSink::new(writer);
-    list_keytab(rt.alloc(), &mut source, &mut sink)?;
+    command.run(rt.alloc(), &mut source, &mut sink)?;
     sink.into_inner().flush().map_err(|_| EngineFault::Write)
+}
+
+// Writes the file anew into OUT, and says on standard output how many bytes that took.
+fn run_convert<R: AllocGlobal + Files + Print + Eprint>(
+    rt: &R,
+    kind: Convert,
+    file: &str,
+    out: &str,
+) -> u8 {
+    let Ok(opened) = File::open(rt, file) else {
+        return complain(rt, file_line(file), FAILED);
+    };
+    let Ok(made) = File::create(rt, out) else {
+        return complain(rt, file_line(out), FAILED);
+    };
+    let mut source = ReadSource::new(opened);
+    let mut sink = WriteSink::new(made);
+    match kind.run(rt.alloc(), &mut source, &mut sink) {
+        Ok(count) => tell_wrote(rt, count),
+        Err(EngineFault::Write) => complain(rt, file_line(out), FAILED),
+        Err(fault) => complain(rt, fault_line(file, &fault), status(&fault)),
+    }
+}
+
+fn tell_wrote<R: Print + Eprint>(rt: &R, count: usize) -> u8 {
+    match println!(rt; "wrote {count}") {
+        Ok(()) => 0,
+        Err(_) => {
+            let fault = EngineFault::Write;
+            complain(rt, fault_line("output", &fault), status(&fault))
+        }
+    }
 }
 
 // Prints the line, and answers the status.

@@ -1,3 +1,5 @@
+use crate::check::check_keytab;
+use crate::convert::convert_keytab;
 use crate::fault::{EngineFault, fault_line, file_line, status};
 use crate::list::list_keytab;
 use crate::order::Order;
@@ -21,6 +23,50 @@ fn lists_an_entry_behind_a_hole(rt: HostRuntime) -> Result<(), Fail> {
     let mut sink = WriteSink::new(Vec::new(rt.alloc()));
     list_keytab(rt.alloc(), &mut source, &mut sink)?;
     assert_eq!(rt; sink.into_inner().as_slice(), LINE.as_bytes());
+    Ok(())
+}
+
+// Holes aren't counted.
+#[test]
+fn counts_the_entries(rt: HostRuntime) -> Result<(), Fail> {
+    for (bytes, wanted) in [(b"\x05\x02".as_slice(), "ok 0\n"), (&KEYTAB, "ok 1\n")] {
+        let mut source = SliceSource::new(bytes);
+        let mut sink = WriteSink::new(Vec::new(rt.alloc()));
+        check_keytab(rt.alloc(), &mut source, &mut sink)?;
+        assert_eq!(rt; sink.into_inner().as_slice(), wanted.as_bytes());
+    }
+    let mut source = SliceSource::new(KEYTAB.get(..59).unwrap_or(b""));
+    let mut sink = WriteSink::new(Vec::new(rt.alloc()));
+    let checked = check_keytab(rt.alloc(), &mut source, &mut sink);
+    let fault = KeytabFault::Truncated { at: 10 };
+    assert_eq!(rt; checked, Err(EngineFault::Keytab(fault)));
+    assert_eq!(rt; sink.into_inner().as_slice(), b"".as_slice());
+    Ok(())
+}
+
+// The hole is left out; the entry stays as it was.
+#[test]
+fn converts_without_holes(rt: HostRuntime) -> Result<(), Fail> {
+    let mut source = SliceSource::new(&KEYTAB);
+    let mut sink = WriteSink::new(Vec::new(rt.alloc()));
+    let count = convert_keytab(rt.alloc(), &mut source, &mut sink)?;
+    let made = sink.into_inner();
+    assert_eq!(rt; count, 52);
+    assert_eq!(rt; made.get(..2), KEYTAB.get(..2));
+    assert_eq!(rt; made.get(2..), KEYTAB.get(10..));
+    for call in 1..3 {
+        let mut taken = [0u8; 64];
+        let mut source = SliceSource::new(&KEYTAB);
+        let mut sink = PieceSink::new(&mut taken, 40, Some(call));
+        let converted = convert_keytab(rt.alloc(), &mut source, &mut sink);
+        assert_eq!(rt; converted, Err(EngineFault::Write), "write {call}");
+        let before = 40 * (call as usize - 1);
+        assert_eq!(rt;
+            sink.taken(),
+            made.get(..before).unwrap_or(b""),
+            "write {call}"
+        );
+    }
     Ok(())
 }
 
@@ -143,13 +189,31 @@ fn lines_and_statuses_of_faults(rt: HostRuntime) -> Result<(), Fail> {
 
 #[test]
 fn orders_of_words(rt: HostRuntime) -> Result<(), Fail> {
-    let words = ["krbtool", "list-keytab", "a file"];
-    let Order::ListKeytab { file } = read_words(rt.alloc(), &words)?;
-    assert_eq!(rt; file, "a file");
+    let file = "a file";
+    for (command, wanted) in [
+        ("list-keytab", Order::ListKeytab { file }),
+        ("list-ccache", Order::ListCcache { file }),
+        ("check-keytab", Order::CheckKeytab { file }),
+        ("check-ccache", Order::CheckCcache { file }),
+    ] {
+        let words = ["krbtool", command, file];
+        assert_eq!(rt; read_words(rt.alloc(), &words)?, wanted, "{command}");
+    }
+    let out = "b";
+    for (command, wanted) in [
+        ("convert-keytab", Order::ConvertKeytab { file, out }),
+        ("convert-ccache", Order::ConvertCcache { file, out }),
+    ] {
+        let words = ["krbtool", command, file, out];
+        assert_eq!(rt; read_words(rt.alloc(), &words)?, wanted, "{command}");
+    }
     for words in [
         ["krbtool", "list-keytab", "--all"].as_slice(),
         ["krbtool", "list-keytab", "a", "b"].as_slice(),
         ["krbtool", "list-keytab"].as_slice(),
+        ["krbtool", "check-keytab"].as_slice(),
+        ["krbtool", "convert-keytab", "a"].as_slice(),
+        ["krbtool", "convert-keytab", "a", "b", "c"].as_slice(),
         ["krbtool", "list"].as_slice(),
         ["krbtool"].as_slice(),
     ] {

@@ -1,0 +1,92 @@
+"""MIT krb5's own tools on files that the built program wrote (Debian's package krb5-user).
+
+Each check is a pair: its name, and what is wrong, or None.
+"""
+import os
+import subprocess
+import tempfile
+from pathlib import Path
+
+import generated
+import reference
+
+TOP = Path(__file__).resolve().parent.parent
+TYPES = {19: "aes128-cts-hmac-sha256-128", 20: "aes256-cts-hmac-sha384-192"}
+
+
+def ran(command, **more):
+    """Standard output of a command that ended well; else what it said is raised."""
+    try:
+        done = subprocess.run(command, stdout=subprocess.PIPE, stderr=subprocess.PIPE, timeout=60, text=True, **more)
+    except (OSError, subprocess.TimeoutExpired) as error:
+        raise RuntimeError(str(error)) from None
+    if done.returncode:
+        raise RuntimeError(f"{command[0]} ended with {done.returncode}: {done.stderr[:300]!r}")
+    return done.stdout
+
+
+def listed_by_klist(path):
+    """Key version number, principal, enctype and key of each entry, as klist tells them."""
+    lines = ran(["klist", "-kteK", str(path)], env={**os.environ, "TZ": "UTC"}).splitlines()
+    start = next(at for at, line in enumerate(lines) if line.startswith("----"))
+    return [tuple(line.split()) for line in lines[start + 1 :]]
+
+
+def listed_by_ktutil(path):
+    said = ran(["ktutil"], input=f"read_kt {path}\nlist -e\nquit\n").splitlines()
+    start = next(at for at, line in enumerate(said) if line.startswith("----"))
+    return [tuple(line.split()[1:]) for line in said[start + 1 :] if line.split() and line.split()[0].isdigit()]
+
+
+def told_by_the_rules(data):
+    return [
+        (str(it["kvno"]), reference.principal_text(it["realm"], it["components"]), f"({TYPES[it['etype']]})", f"(0x{it['key'].hex()})")
+        for it in reference.keytab(data)
+    ]
+
+
+def keytabs():
+    for path in sorted((TOP / "examples").glob("*.keytab")):
+        yield path.name, path.read_bytes()
+    yield "fixture", generated.FIXTURE_KEYTAB
+    yield "holes", generated.HOLED_KEYTAB
+
+
+def keytab_checks(program, folder):
+    for name, data in keytabs():
+        given, made = folder / f"{name}.given", folder / f"{name}.made"
+        given.write_bytes(data)
+        ran([program, "convert-keytab", str(given), str(made)])
+        wanted = told_by_the_rules(data)
+        found = [(it[0], it[3], it[4], it[5]) for it in listed_by_klist(made)]
+        yield f"klist on the converted {name}", None if found == wanted else f"it lists {found}, not {wanted}"
+        found = [it[:3] for it in listed_by_ktutil(made)]
+        yield f"ktutil on the converted {name}", None if found == [it[:3] for it in wanted] else f"it lists {found}"
+
+
+def listed_caches(path):
+    """What klist tells of a cache: its principal, and the times and the service of each ticket."""
+    return ran(["klist", "-e", "-f", "-c", f"FILE:{path}"], env={**os.environ, "TZ": "UTC"}).splitlines()[1:]
+
+
+def cache_checks(program, folder):
+    """A converted cache is the same to klist as the one that it was made of, and names the services that we list."""
+    caches = {path.name: path.read_bytes() for path in sorted((TOP / "examples").glob("*.ccache"))}
+    for name, data in {**caches, "fixture cache": generated.FIXTURE_CACHE}.items():
+        given, made = folder / f"{name}.given", folder / f"{name}.made"
+        given.write_bytes(data)
+        ran([program, "convert-ccache", str(given), str(made)])
+        told = listed_caches(made)
+        yield f"klist on the converted {name}", None if told == listed_caches(given) else f"it says {told}"
+        ours = [line.split()[-1] for line in ran([program, "list-ccache", str(made)]).splitlines() if line.startswith("ticket ")]
+        theirs = [line.split()[-1] for line in told if line[:2].isdigit()]
+        yield f"klist's services of {name}", None if ours == theirs else f"klist lists {theirs}, we {ours}"
+
+
+def checks(program):
+    with tempfile.TemporaryDirectory(prefix="krbtool-peers-") as folder:
+        try:
+            yield from keytab_checks(program, Path(folder))
+            yield from cache_checks(program, Path(folder))
+        except (RuntimeError, StopIteration) as error:
+            yield "a tool of krb5-user", str(error)

@@ -1,0 +1,109 @@
+#!/usr/bin/env python3
+"""Makes the small exchange that tests share: a ticket, a credential cache, and requests, by the standards' rules alone.
+
+The DER writer here is a second one (RFC 4120, sections 5.2 to 5.5); sealing is that of sealing.py. Needs the Python package
+`cryptography`. It prints what was made, in hex, for tests to keep.
+"""
+import struct
+
+from sealing import sealed
+
+SERVICE_KEY = bytes.fromhex("3705d96080c17728a0e800eab6e0d23c")
+SESSION_KEY = bytes(range(16))
+
+
+def element(tag, content):
+    size = len(content)
+    if size < 128:
+        return bytes([tag, size]) + content
+    digits = size.to_bytes((size.bit_length() + 7) // 8, "big")
+    return bytes([tag, 0x80 + len(digits)]) + digits + content
+
+
+def integer(number):
+    return element(2, number.to_bytes((number + (number < 0)).bit_length() // 8 + 1, "big", signed=True))
+
+
+def field(number, content):
+    return element(0xA0 + number, content)
+
+
+def sequence(*fields):
+    return element(0x30, b"".join(fields))
+
+
+def string(text):
+    return element(0x1B, text)
+
+
+def octets(data):
+    return element(4, data)
+
+
+def time(text):
+    return element(0x18, text.encode())
+
+
+def name(name_type, *components):
+    return sequence(field(0, integer(name_type)), field(1, sequence(*(string(it) for it in components))))
+
+
+def encrypted(etype, cipher, kvno=None):
+    version = [] if kvno is None else [field(1, integer(kvno))]
+    return sequence(field(0, integer(etype)), *version, field(2, octets(cipher)))
+
+
+def ticket_part():
+    return element(0x63, sequence(
+        field(0, element(3, bytes(5))),
+        field(1, sequence(field(0, integer(19)), field(1, octets(SESSION_KEY)))),
+        field(2, string(b"EX")),
+        field(3, name(1, b"alice")),
+        field(4, sequence(field(0, integer(1)), field(1, octets(b"")))),
+        field(5, time("20231114221320Z")),
+        field(7, time("20231115081320Z")),
+    ))
+
+
+def ticket():
+    cipher = sealed(19, SERVICE_KEY, 2, bytes(range(0x10, 0x20)), ticket_part())
+    return element(0x61, sequence(
+        field(0, integer(5)), field(1, string(b"EX")), field(2, name(3, b"host", b"web")), field(3, encrypted(19, cipher, 3)),
+    ))
+
+
+def data(text):
+    return struct.pack(">I", len(text)) + text
+
+
+def principal(name_type, realm, *components):
+    return struct.pack(">iI", name_type, len(components)) + data(realm) + b"".join(data(it) for it in components)
+
+
+def credential(client, server, etype, key, times, ticket_bytes):
+    return (client + server + struct.pack(">h", etype) + data(key) + struct.pack(">4I", *times)
+            + struct.pack(">BI", 0, 0) + struct.pack(">II", 0, 0) + data(ticket_bytes) + data(b""))
+
+
+def cache():
+    client, server = principal(1, b"EX", b"alice"), principal(3, b"EX", b"host", b"web")
+    times = (1_700_000_000, 0, 1_700_036_000, 0)
+    return b"\x05\x04\x00\x00" + client + credential(client, server, 19, SESSION_KEY, times, ticket())
+
+
+def configured_cache():
+    client = principal(1, b"EX", b"alice")
+    server = principal(0, b"X-CACHECONF:", b"krb5_ccache_conf_data", b"fast_avail")
+    header = bytes.fromhex("00010008fffffffe00000007" "00020003aabbcc")
+    return b"\x05\x04" + struct.pack(">H", len(header)) + header + client + credential(client, server, 0, b"", (0, 0, 0, 0), b"yes")
+
+
+def main():
+    assert len(ticket_part()) == 119 and len(ticket()) == 214
+    assert len(cache()) == 352 and len(configured_cache()) == 178
+    for made, value in [("ticket part", ticket_part()), ("ticket", ticket()), ("cache", cache()), ("configured cache", configured_cache())]:
+        print(f"{made} {value.hex()}")
+
+
+if __name__ == "__main__":
+    main()
