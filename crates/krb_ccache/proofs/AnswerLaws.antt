@@ -1,10 +1,10 @@
 -- Each file is a cache or has a fault, and only one of these.
-use Rattle.std.proofs.Common.{◌≡◌, ◌≢◌, ◌⊎◌, ℕ, ◌+◌, ◌<◌, ◌≤◌, Bool, true, false, eqb, List, [], ◌∷◌, ◌++◌, length, Option, Some, None, Result, Ok, Err, refl, sym, ap, subst, ◌∙◌, append_assoc, append-nil, arith, inl, inr}
+use Rattle.std.proofs.Common.{◌≡◌, ◌≢◌, ◌⊎◌, ℕ, ◌<◌, ◌≤◌, Bool, true, false, eqb, List, [], ◌∷◌, ◌++◌, length, Option, Some, None, Result, Ok, Err, refl, sym, ap, subst, ◌∙◌, append_assoc, append-nil, arith, inl, inr}
 use Rattle.std.specs.Int.{w16}
 use Rattle.std.specs.Prelude.{IfOk, IfErr}
 use Rattle.std.specs.List.{flat_map}
 use Rattle.std.proofs.lemmas.Bool.{cases_lt, eqb-true, eqb-false}
-use Rattle.std.proofs.lemmas.List.{length-append, append_cancel_left, drop_at}
+use Rattle.std.proofs.lemmas.List.{append_cancel_left, drop_at}
 use Rattle.std.proofs.lemmas.List.Elements.{recursion_from_All}
 use Rattle.krb_name.specs.Cursor.{Place, data_at, number_bytes, data_bytes}
 use Rattle.krb_name.specs.Field.{IsBytes}
@@ -14,15 +14,15 @@ use Rattle.krb_ccache.specs.declared.credential.HeaderField.{HeaderField}
 use Rattle.krb_ccache.specs.declared.credential.Credential.{Credential}
 use Rattle.krb_ccache.specs.Spelling.{field_bytes, fields_bytes, header_bytes, name_bytes, credential_bytes}
 use Rattle.krb_ccache.specs.Value.{Cache, FitsHeader, FitsName, FitsCredential, Fits}
-use Rattle.krb_ccache.specs.Format.{version, file_limit, start_bytes, cache_bytes, IsCache, LacksVersion, LacksHeader, LacksDefault, LacksCredential, IsFaultOf, IsAnswerOf}
+use Rattle.krb_ccache.specs.Format.{version, file_limit, start_bytes, cache_bytes, IsCache, LacksVersion, LacksHeader, LacksDefault, IsFaultOf, IsAnswerOf}
 use Rattle.krb_ccache.specs.declared.fault.CacheFault.{CacheFault}
 use Rattle.krb_ccache.specs.declared.fault.CacheFault.TheVariants.{Version, Header, BadItem, TooLong, Read, OutOfMemory}
 use Rattle.krb_ccache.specs.Inner.Reading.{field_at, name_at, credential_at}
 use Rattle.krb_ccache.specs.Inner.Standing.{Lies, Reaches, IsMissing, Fills}
-use Rattle.krb_ccache.proofs.PartLaws.{Short16, FitsField, IsField-field, IsField-name, IsField-credential}
-use Rattle.krb_ccache.proofs.Repeats.{same_front, same_things, missing_where, Ended, runs_out}
+use Rattle.krb_ccache.proofs.PartLaws.{FitsField, IsField-field, IsField-name, IsField-credential}
+use Rattle.krb_ccache.proofs.Repeats.{same_front, same_things, runs_out}
 use Rattle.krb_ccache.proofs.HeaderLaws.{field_some, fits_fields, filled, filled_same, header_lies, header_cut, header_wrong}
-use Rattle.krb_ccache.proofs.FileLaws.{credential_some, name_lies, name_missing, Begun, HasStart, HasCache, header_read, cache_read, cache_found, header_fault, default_fault, begun_fits}
+use Rattle.krb_ccache.proofs.FileLaws.{credential_some, name_lies, name_missing, Begun, HasStart, header_read, cache_read, cache_found, header_fault, default_fault, begun_fits}
 
 -- ---- at most one answer
 
@@ -72,7 +72,7 @@ same_cache one other a b p q ends also e =
     (recursion_from_All FitsCredential other.credentials q.credentials) ends also name.1 in
     record {
       cache = ap (λ (header : List HeaderField). record one { header = header }) start.0 ∙ ap (λ (n : Principal). record { header = other.header; default_principal = n; credentials = one.credentials }) name.0
-      ∙ ap (λ (cs : List Credential). record other { credentials = cs }) all.0;
+          ∙ ap (λ (cs : List Credential). record other { credentials = cs }) all.0;
       behind = all.1;
     }
 

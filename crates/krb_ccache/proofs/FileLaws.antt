@@ -1,11 +1,11 @@
 -- What is read of a file, part by part, is what the file says.
-use Rattle.std.proofs.Common.{◌≡◌, ◌≢◌, ◌⊎◌, ℕ, ◌+◌, ◌<◌, ◌≤◌, List, [], ◌∷◌, ◌++◌, length, Option, Some, None, Result, Ok, Err, refl, sym, ap, subst, ◌∙◌, append_assoc, append-nil, arith, inl, inr}
+use Rattle.std.proofs.Common.{◌≡◌, ℕ, ◌<◌, ◌≤◌, List, [], ◌∷◌, ◌++◌, length, Some, None, refl, sym, ap, subst, ◌∙◌, append_assoc, append-nil, arith, inl, inr}
 use Rattle.std.specs.Int.{w16, w32}
-use Rattle.std.specs.Prelude.{IfSome, IfErr}
+use Rattle.std.specs.Prelude.{IfSome}
 use Rattle.std.specs.List.{flat_map}
 use Rattle.std.proofs.lemmas.List.{length-append, drop_at}
 use Rattle.krb_name.specs.Cursor.{Place, number_bytes, signed_bytes, data_bytes}
-use Rattle.krb_name.specs.Field.{IsBytes, Takes, IsField}
+use Rattle.krb_name.specs.Field.{IsBytes}
 use Rattle.krb_name.proofs.CursorLaws.{IsBytes-drop}
 use Rattle.krb_name.specs.declared.principal.Principal.{Principal}
 use Rattle.krb_ccache.specs.declared.credential.HeaderField.{HeaderField}
@@ -38,8 +38,8 @@ name_some name =
 pub credential_some : (credential : Credential) → 0 < length (credential_bytes credential)
 credential_some c =
     let others : List ℕ =
-        name_bytes c.server ++ (signed_bytes w16 c.etype ++ (data_bytes w32 c.key ++ (number_bytes w32 c.authtime ++ (number_bytes w32 c.starttime ++ (number_bytes w32 c.endtime ++ (number_bytes w32 c.renew_till
-        ++ (flag_bytes c.is_skey ++ (number_bytes w32 c.ticket_flags ++ (list_bytes c.addresses ++ (list_bytes c.authdata ++ (data_bytes w32 c.ticket ++ data_bytes w32 c.second_ticket))))))))))) in
+    name_bytes c.server ++ (signed_bytes w16 c.etype ++ (data_bytes w32 c.key ++ (number_bytes w32 c.authtime ++ (number_bytes w32 c.starttime ++ (number_bytes w32 c.endtime ++ (number_bytes w32 c.renew_till
+    ++ (flag_bytes c.is_skey ++ (number_bytes w32 c.ticket_flags ++ (list_bytes c.addresses ++ (list_bytes c.authdata ++ (data_bytes w32 c.ticket ++ data_bytes w32 c.second_ticket))))))))))) in
     omega (arith, name_some c.client, length-append (name_bytes c.client) others)
 
 pub none_reached : (start place : Place) (credentials : List Credential) → IsBytes start.rest → place ≡ start → credentials ≡ [] → Reaches credential_bytes FitsCredential start credentials place

@@ -1,5 +1,5 @@
 -- Whether a file has room for lists of parts.
-use Rattle.std.proofs.Common.{◌≡◌, ℕ, ◌+◌, ◌<◌, ◌≤◌, ◌^◌, Bool, true, false, List, [], ◌∷◌, ◌++◌, length, get_or, take, drop, refl, sym, ap, subst, ◌∙◌, append-nil, arith}
+use Rattle.std.proofs.Common.{◌≡◌, ℕ, ◌+◌, ◌<◌, ◌≤◌, ◌^◌, List, [], ◌∷◌, ◌++◌, length, get_or, take, drop, sym, ap, subst, ◌∙◌, append-nil, arith}
 use Rattle.std.specs.Prelude.{All}
 use Rattle.std.specs.List.{flat_map}
 use Rattle.std.specs.Int.{w16}
@@ -11,9 +11,8 @@ use Rattle.krb_ccache.specs.declared.typed.TypedBytes.{TypedBytes}
 use Rattle.krb_ccache.specs.declared.credential.HeaderField.{HeaderField}
 use Rattle.krb_ccache.specs.declared.credential.Credential.{Credential}
 use Rattle.krb_ccache.specs.Spelling.{field_bytes, fields_bytes}
-use Rattle.krb_ccache.specs.Value.{HasHeaderLengths, HasListLengths, HasCredentialLengths, FitsHeader, FitsName, FitsList, FitsCredential}
+use Rattle.krb_ccache.specs.Value.{HasHeaderLengths, FitsHeader, FitsName, FitsList, FitsCredential}
 use Rattle.krb_ccache.specs.Inner.Fitting.{HasDataLengths, HasNumbers}
-use Rattle.krb_ccache.specs.Inner.Reading.{is_field}
 use Rattle.krb_ccache.proofs.PartLaws.{FitsField, FitsTyped}
 use Rattle.krb_ccache.proofs.HeaderLaws.{fields_fit}
 

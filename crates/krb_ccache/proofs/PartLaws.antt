@@ -1,11 +1,11 @@
 -- Each part of a cache is read as it is spelled.
-use Rattle.std.proofs.Common.{◌≡◌, ℕ, ◌+◌, ◌<◌, ◌^◌, Bool, true, false, cond, eqb, not, ◌&&◌, ℤ, List, ◌++◌, length, Option, Some, None, refl, sym, ap, subst, ◌∙◌, append_assoc, arith}
+use Rattle.std.proofs.Common.{◌≡◌, ℕ, ◌+◌, ◌<◌, ◌^◌, Bool, true, false, cond, eqb, List, ◌++◌, length, Some, None, refl, sym, ap, subst, ◌∙◌, append_assoc, arith}
 use Rattle.std.specs.Int.{w8, w16, w32}
 use Rattle.std.specs.Prelude.{All, FitsSigned}
-use Rattle.std.specs.List.{flat_map, AllByRecursion}
-use Rattle.std.proofs.lemmas.Bool.{eqb-true, eqb-false, ne_eqb}
+use Rattle.std.specs.List.{flat_map}
+use Rattle.std.proofs.lemmas.Bool.{eqb-true}
 use Rattle.std.proofs.lemmas.List.{length-append}
-use Rattle.std.proofs.lemmas.List.Elements.{All-from_recursion, recursion_from_All, All-weaker}
+use Rattle.std.proofs.lemmas.List.Elements.{All-from_recursion, recursion_from_All}
 use Rattle.krb_name.specs.Cursor.{Place, ◌>>=◌, number_at, signed_at, data_at, times_at, number_bytes, signed_bytes, data_bytes}
 use Rattle.krb_name.specs.Field.{IsBytes, Takes, IsField}
 use Rattle.krb_name.proofs.CursorLaws.{bind_some, some_is, Takes-then, IsField-u8, IsField-u16, IsField-u32, IsField-i16, IsField-i32, IsField-data16, IsField-data32}
@@ -16,7 +16,7 @@ use Rattle.krb_ccache.specs.declared.credential.HeaderField.{HeaderField}
 use Rattle.krb_ccache.specs.declared.credential.Credential.{Credential}
 use Rattle.krb_ccache.specs.Spelling.{field_bytes, name_bytes, flag_bytes, typed_bytes, list_bytes, credential_bytes}
 use Rattle.krb_ccache.specs.Value.{FitsName, FitsList, FitsCredential}
-use Rattle.krb_ccache.specs.Inner.Reading.{both_at, made_at, passing_at, counted_at, field_of, is_field, field_at, name_at, flag_of, flag_at, typed_of, typed_at, list_at, Parts, credential_of, parts_at, credential_at}
+use Rattle.krb_ccache.specs.Inner.Reading.{both_at, made_at, field_of, is_field, field_at, name_at, flag_of, flag_at, typed_of, typed_at, list_at, Parts, credential_of, parts_at, credential_at}
 use Rattle.krb_ccache.proofs.Fields.{IsField-both, IsMade, IsField-made, IsField-passing, IsField-counted}
 
 abbrev pub Below16 : ℕ → Type 0
@@ -50,7 +50,7 @@ unfolding field_at
 IsField-field =
     IsField-passing is_field (made_at field_of (both_at (number_at w16) (data_at w16))) field_bytes (λ field. Below16 field.tag × Short16 field.value)
     (IsField-made field_of (both_at (number_at w16) (data_at w16)) (λ parts. number_bytes w16 parts.0 ++ data_bytes w16 parts.1) (λ parts. Below16 parts.0 × Short16 parts.1)
-      (IsField-both (number_at w16) (number_bytes w16) Below16 IsField-u16 (data_at w16) (data_bytes w16) Short16 IsField-data16) field_bytes (λ field. Below16 field.tag × Short16 field.value) field_made)
+    (IsField-both (number_at w16) (number_bytes w16) Below16 IsField-u16 (data_at w16) (data_bytes w16) Short16 IsField-data16) field_bytes (λ field. Below16 field.tag × Short16 field.value) field_made)
 
 -- ---- a principal
 

@@ -1,10 +1,9 @@
 -- Things of one kind stand one behind the other until there are no more.
-use Rattle.std.proofs.Common.{◌≡◌, ◌≢◌, ◌⊎◌, ℕ, zero, suc, ◌+◌, ◌<◌, ◌≤◌, List, [], ◌∷◌, ◌++◌, length, Option, Some, None, refl, sym, ap, subst, ◌∙◌, append_assoc, append-nil, arith, inl, inr}
-use Rattle.std.specs.Prelude.{All}
+use Rattle.std.proofs.Common.{◌≡◌, ◌⊎◌, ℕ, zero, suc, ◌+◌, ◌<◌, ◌≤◌, List, [], ◌∷◌, ◌++◌, length, Option, Some, None, refl, sym, ap, subst, ◌∙◌, append_assoc, append-nil, arith, inl, inr}
 use Rattle.std.specs.List.{flat_map, AllByRecursion}
 use Rattle.std.proofs.lemmas.List.{length-append, nil_from_length}
 use Rattle.std.proofs.lemmas.List.Concat.{flat_map-append}
-use Rattle.std.proofs.lemmas.List.Elements.{All-push, All-from_recursion, recursion_from_All}
+use Rattle.std.proofs.lemmas.List.Elements.{All-push, All-from_recursion}
 use Rattle.krb_name.specs.Cursor.{Place}
 use Rattle.krb_name.specs.Field.{IsBytes, Takes, IsField}
 use Rattle.krb_name.proofs.CursorLaws.{some_is, Takes-then}
@@ -77,6 +76,7 @@ module _ {X : Type 0} (r : Place → Option (X × Place)) (s : X → List ℕ) (
         let t = f.takes middle x behind so_far.takes.rest_fits e in
         let first : 0 < length (s x) = some x in
         next x behind (reach_more place xs middle x behind so_far e) (omega (arith, ap length t.0.parts, length-append (s x) behind.rest))
+
     run_from : (most : ℕ) (place : Place) (xs : List X) (middle : Place) → Reaches s P place xs middle → length middle.rest ≤ most → Ended place
     run_from zero place xs middle so_far few = record { xs = xs; behind = middle; reach = so_far; end = inl (nil_from_length middle.rest (omega arith)) }
     run_from (suc most) place xs middle so_far few = step_from place xs middle so_far (λ x behind more smaller. run_from most place (xs ++ x ∷ []) behind more (omega arith)) (r middle) refl

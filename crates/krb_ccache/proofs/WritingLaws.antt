@@ -1,14 +1,10 @@
 -- What is written part by part, as one text.
-use Rattle.std.proofs.Common.{◌≡◌, ℕ, ◌+◌, ◌<◌, ◌≤◌, List, [], ◌∷◌, ◌++◌, length, get_or, take, drop, refl, sym, ap, subst, ◌∙◌, append_assoc, append-nil, arith}
-use Rattle.std.specs.Int.{w16, w32}
+use Rattle.std.proofs.Common.{◌≡◌, ℕ, ◌+◌, ◌<◌, ◌≤◌, List, ◌++◌, length, get_or, take, drop, sym, ap, subst, ◌∙◌, append_assoc, arith}
 use Rattle.std.specs.List.{flat_map}
-use Rattle.std.proofs.lemmas.List.{length-append, take-append-drop, take_all}
+use Rattle.std.proofs.lemmas.List.{length-append, take-append-drop}
 use Rattle.std.proofs.lemmas.List.Concat.{flat_map-append}
-use Rattle.krb_name.specs.Cursor.{number_bytes, signed_bytes, data_bytes}
-use Rattle.krb_name.specs.declared.principal.Principal.{Principal}
-use Rattle.krb_ccache.specs.declared.typed.TypedBytes.{TypedBytes}
 use Rattle.krb_ccache.specs.declared.credential.Credential.{Credential}
-use Rattle.krb_ccache.specs.Spelling.{name_bytes, flag_bytes, list_bytes, credential_bytes}
+use Rattle.krb_ccache.specs.Spelling.{name_bytes, credential_bytes}
 use Rattle.krb_ccache.specs.Value.{Cache}
 use Rattle.krb_ccache.specs.Format.{file_limit, start_bytes, cache_bytes}
 use Rattle.krb_ccache.proofs.FitsLaws.{spelled_more}
@@ -31,7 +27,7 @@ wrote_same {old = old} other e p = record { is = p.is ∙ ap (λ (t : List ℕ).
 pub front_within : (credentials : List Credential) (i : ℕ) → length (flat_map credential_bytes (take i credentials)) ≤ length (flat_map credential_bytes credentials)
 front_within credentials i =
     let parts : flat_map credential_bytes credentials ≡ flat_map credential_bytes (take i credentials) ++ flat_map credential_bytes (drop i credentials) =
-        ap (flat_map credential_bytes) (sym (take-append-drop i credentials)) ∙ flat_map-append credential_bytes (take i credentials) (drop i credentials) in
+    ap (flat_map credential_bytes) (sym (take-append-drop i credentials)) ∙ flat_map-append credential_bytes (take i credentials) (drop i credentials) in
     omega (arith, ap length parts, length-append (flat_map credential_bytes (take i credentials)) (flat_map credential_bytes (drop i credentials)))
 
 -- what is written once so many credentials are
@@ -42,8 +38,14 @@ pub written_within : (cache : Cache) (i : ℕ) → length (written cache i) ≤ 
 written_within cache i =
     let s : List ℕ = start_bytes cache.header in
     let n : List ℕ = name_bytes cache.default_principal in
-    omega (arith, front_within cache.credentials i, length-append s (n ++ flat_map credential_bytes (take i cache.credentials)), length-append n (flat_map credential_bytes (take i cache.credentials)), length-append s (n ++ flat_map credential_bytes cache.credentials),
-        length-append n (flat_map credential_bytes cache.credentials))
+    omega (
+      arith,
+      front_within cache.credentials i,
+      length-append s (n ++ flat_map credential_bytes (take i cache.credentials)),
+      length-append n (flat_map credential_bytes (take i cache.credentials)),
+      length-append s (n ++ flat_map credential_bytes cache.credentials),
+      length-append n (flat_map credential_bytes cache.credentials),
+    )
 
 pub written_more : (cache : Cache) (items : List Credential) (i : ℕ) (credential : Credential) (old new : List ℕ) → items ≡ cache.credentials → i < length items → credential ≡ get_or items i credential → old ≡ written cache i
     → new ≡ old ++ credential_bytes credential → new ≡ written cache (i + 1)
@@ -55,7 +57,7 @@ written_more cache items i credential old new same lt e f g =
     let item : credential ≡ get_or cache.credentials i credential = subst (λ (k : List Credential). credential ≡ get_or k i credential) same e in
     let more = spelled_more credential_bytes cache.credentials i credential within item in
     let grouped : (s ++ (n ++ front)) ++ credential_bytes credential ≡ s ++ (n ++ (front ++ credential_bytes credential)) =
-        append_assoc s (n ++ front) (credential_bytes credential) ∙ ap (λ (t : List ℕ). s ++ t) (append_assoc n front (credential_bytes credential)) in
+    append_assoc s (n ++ front) (credential_bytes credential) ∙ ap (λ (t : List ℕ). s ++ t) (append_assoc n front (credential_bytes credential)) in
     g ∙ ap (λ (t : List ℕ). t ++ credential_bytes credential) f ∙ grouped ∙ ap (λ (t : List ℕ). s ++ (n ++ t)) (sym more)
 
 -- the bytes so far are too many, so all are

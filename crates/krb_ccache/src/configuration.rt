@@ -9,6 +9,7 @@ use krb_name::{Bytes, FileCursor};
 
 // The realm and the first component of the server of a configuration entry.
 const CONFIGURATION_REALM: &[u8] = b"X-CACHECONF:";
+
 const CONFIGURATION_NAME: &[u8] = b"krb5_ccache_conf_data";
 
 /// Answers the clock offset that the first field of tag 1 holds.

@@ -12,6 +12,7 @@ use krb_name::{Bytes, Principal};
 
 // The greatest count or length of a field of 16 bits, and of one of 32.
 const MOST_16: usize = 65_535;
+
 const MOST_32: usize = 4_294_967_295;
 
 // How many bytes stand before the value of a field of the header.
@@ -56,7 +57,9 @@ pub(crate) fn name_fits(name: &Principal) -> bool
 fn components_fit(components: &[Bytes]) -> bool
     ensures { IsTrue result ↔ All (λ component. length component < 2 ^ 32) components.now }
 {
-    components.iter().all(|component| component.len() <= MOST_32)
+    components
+        .iter()
+        .all(|component| component.len() <= MOST_32)
 }
 
 fn list_fits(list: &[TypedBytes]) -> bool

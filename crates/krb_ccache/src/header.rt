@@ -23,6 +23,7 @@ pub(crate) const VERSION: u16 = 0x0504;
 
 // The tag of the KDC's clock offset, and how many bytes it has.
 pub(crate) const OFFSET_TAG: u16 = 1;
+
 pub(crate) const OFFSET_LENGTH: usize = 8;
 
 /// Stands behind the version of a cache.

@@ -1,14 +1,39 @@
 use super::*;
-use crate::samples::{CONFIGURED, FIXTURE, FULL};
+use crate::samples::{configured, empty, fixture, full};
 use krb_name::{Bytes, Components, PieceSource, Principal, ReadSource};
 use std::alloc::Global;
 use std::test::*;
 
-// A cache without credentials, written by hand from the format: alice@EX.
-const EMPTY: [u8; 27] = [
-    0x05, 0x04, 0, 0, 0, 0, 0, 1, 0, 0, 0, 1, 0, 0, 0, 2, 0x45, 0x58, 0, 0, 0, 5, 0x61, 0x6c, 0x69,
-    0x63, 0x65,
-];
+// The lines of a cache: default principal, clock offset, and a line for each credential.
+fn listed(alloc: Global, cache: &CCache) -> Result<String, Fail> {
+    let default = cache.default_principal().to_text(alloc)?;
+    let mut list = format!(in alloc; "default {default}\n")?;
+    if let Some((seconds, microseconds)) = cache.kdc_offset() {
+        let line = format!(in alloc; "offset {seconds} {microseconds}\n")?;
+        list.push_str(line.as_str())?;
+    }
+    for credential in cache.credentials() {
+        let line = line_of(alloc, credential)?;
+        list.push_str(line.as_str())?;
+    }
+    Ok(list)
+}
+
+fn line_of(alloc: Global, credential: &Credential) -> Result<String, Fail> {
+    let server = credential.server.to_text(alloc)?;
+    if CCache::is_configuration(credential) {
+        return Ok(format!(in alloc; "config {server}\n")?);
+    }
+    let client = credential.client.to_text(alloc)?;
+    let etype = credential.etype;
+    let authtime = credential.authtime;
+    let starttime = credential.starttime;
+    let endtime = credential.endtime;
+    let renew_till = credential.renew_till;
+    let flags = credential.ticket_flags;
+    let times = format!(in alloc; "{authtime} {starttime} {endtime} {renew_till}")?;
+    Ok(format!(in alloc; "ticket {etype} {times} {flags:08x} {client} {server}\n")?)
+}
 
 fn fault_of(alloc: Global, bytes: &[u8]) -> Option<CacheFault> {
     CCache::parse(alloc, bytes).err()
@@ -26,8 +51,15 @@ fn name_of(alloc: Global, name_type: i32, components: &[&[u8]]) -> Result<Princi
     })
 }
 
-// The credential of FULL.
-fn full(alloc: Global) -> Result<Credential, Fail> {
+fn typed(alloc: Global, kind: u16, bytes: &[u8]) -> Result<TypedBytes, Fail> {
+    Ok(TypedBytes {
+        kind,
+        bytes: Bytes::from_slice(alloc, bytes)?,
+    })
+}
+
+// A credential in which each field has a value of its own, with this ticket.
+fn credential_of(alloc: Global, ticket: Bytes) -> Result<Credential, Fail> {
     let mut addresses = TypedList::new(alloc);
     addresses.push(typed(alloc, 2, &[127, 0, 0, 1])?)?;
     let mut authdata = TypedList::new(alloc);
@@ -46,30 +78,32 @@ fn full(alloc: Global) -> Result<Credential, Fail> {
         ticket_flags: 0x4061_0000,
         addresses,
         authdata,
-        ticket: Bytes::from_slice(alloc, b"t")?,
+        ticket,
         second_ticket: Bytes::from_slice(alloc, b"uv")?,
     })
 }
 
-fn typed(alloc: Global, kind: u16, bytes: &[u8]) -> Result<TypedBytes, Fail> {
-    Ok(TypedBytes {
-        kind,
-        bytes: Bytes::from_slice(alloc, bytes)?,
-    })
+fn with_credential(alloc: Global, ticket: Bytes) -> Result<CCache, Fail> {
+    let mut credentials = Vec::new(alloc);
+    credentials.push(credential_of(alloc, ticket)?)?;
+    let default = name_of(alloc, 1, &[b"alice"])?;
+    let made = CCache::from_parts(Vec::new(alloc), default, credentials);
+    Ok(made.ok_or("the parts fit")?)
 }
 
-fn field(alloc: Global, tag: u16, value: &[u8]) -> Result<HeaderField, Fail> {
-    Ok(HeaderField {
-        tag,
-        value: Bytes::from_slice(alloc, value)?,
-    })
+fn with_field(alloc: Global, tag: u16, length: usize) -> Result<Option<CCache>, Fail> {
+    let value = Bytes::from(vec![in alloc; 7u8; length]?);
+    let mut header = Vec::new(alloc);
+    header.push(HeaderField { tag, value })?;
+    let default = name_of(alloc, 1, &[b"alice"])?;
+    Ok(CCache::from_parts(header, default, Vec::new(alloc)))
 }
 
 // Looks for an offset that isn't that of the item that is cut off.
 #[test]
 fn prefixes_of_a_cache(rt: HostRuntime) -> Result<(), Fail> {
     let alloc = rt.alloc();
-    for length in 0..FIXTURE.len() {
+    for length in 0..352 {
         let wanted = match length {
             0..=1 => Some(CacheFault::Version),
             2..=3 => Some(CacheFault::Header),
@@ -77,131 +111,124 @@ fn prefixes_of_a_cache(rt: HostRuntime) -> Result<(), Fail> {
             27 => None,
             _ => Some(CacheFault::BadItem { at: 27 }),
         };
-        assert_eq!(rt; fault_of(alloc, &FIXTURE[..length]), wanted, "{length} bytes");
+        let prefix = fixture().get(..length).ok_or("the cache is longer")?;
+        assert_eq!(rt; fault_of(alloc, prefix), wanted, "{length} bytes");
     }
-    let cache = CCache::parse(alloc, &FIXTURE)?;
-    assert_eq!(rt; cache.default_principal().to_text(alloc)?.as_str(), "alice@EX");
-    assert_eq!(rt; cache.kdc_offset(), None);
-    assert_eq!(rt; cache.credentials().len(), 1);
-    let ticket = &cache.credentials()[0];
-    assert_eq!(rt; ticket.client.to_text(alloc)?.as_str(), "alice@EX");
-    assert_eq!(rt; ticket.server.to_text(alloc)?.as_str(), "host/web@EX");
-    assert_eq!(rt; ticket.etype, 19);
-    assert_eq!(rt; ticket.key.len(), 16);
-    assert_eq!(rt; ticket.authtime, 1_700_000_000);
-    assert_eq!(rt; ticket.endtime, 1_700_036_000);
-    assert_eq!(rt; ticket.ticket.len(), 214);
-    assert!(rt; !CCache::is_configuration(ticket));
-    assert_eq!(rt; cache.to_bytes(alloc)?.as_slice(), FIXTURE.as_slice());
     Ok(())
 }
 
-// Looks for a reader that takes a bad header, an item of the wrong length or a flag of 2.
+// Looks for a field in another's place, an offset without its sign, and bytes that aren't written back.
+#[test]
+fn whole_files(rt: HostRuntime) -> Result<(), Fail> {
+    let alloc = rt.alloc();
+    let table = [
+        (empty(), "default alice@EX\n"),
+        (
+            fixture(),
+            "default alice@EX\nticket 19 1700000000 0 1700036000 0 00000000 alice@EX host/web@EX\n",
+        ),
+        (
+            configured(),
+            "default alice@EX\noffset -2 7\n\
+            config krb5_ccache_conf_data/fast_avail@X-CACHECONF:\n",
+        ),
+        (
+            full(),
+            "default alice@EX\nticket -3 1 2 3 4 40610000 host/web@EX alice@EX\n",
+        ),
+    ];
+    for (bytes, lines) in table {
+        let cache = CCache::parse(alloc, bytes)?;
+        let list = listed(alloc, &cache)?;
+        assert_eq!(rt; list.as_str(), lines);
+        let written = cache.to_bytes(alloc)?;
+        assert_eq!(rt; written.as_slice(), bytes);
+    }
+    Ok(())
+}
+
+// Looks for a reader that takes a bad header or an item of the wrong length.
 #[test]
 fn small_files(rt: HostRuntime) -> Result<(), Fail> {
     let alloc = rt.alloc();
-    let table: [(&[u8], Option<CacheFault>); 10] = [
-        (&EMPTY, None),
-        (&[0x05, 0x03, 0, 0], Some(CacheFault::Version)),
-        (&[0x04, 0x05, 0, 0], Some(CacheFault::Version)),
-        (&[0x05, 0x04, 0, 1], Some(CacheFault::Header)),
-        (&[0x05, 0x04, 0, 1, 0], Some(CacheFault::Header)),
-        (&[0x05, 0x04, 0, 4, 0, 2, 0, 1], Some(CacheFault::Header)),
+    let table: [(&[u8], CacheFault); 9] = [
+        (&[], CacheFault::Version),
+        (&[5, 3, 0, 0], CacheFault::Version),
+        (&[4, 5, 0, 0], CacheFault::Version),
+        (&[5, 4, 0, 1], CacheFault::Header),
+        (&[5, 4, 0, 1, 0], CacheFault::Header),
+        (&[5, 4, 0, 4, 0, 2, 0, 1], CacheFault::Header),
+        (&[5, 4, 0, 8, 0, 1, 0, 4, 0, 0, 0, 0], CacheFault::Header),
+        (&[5, 4, 0, 4, 0, 2, 0, 0], CacheFault::BadItem { at: 8 }),
         (
-            &[0x05, 0x04, 0, 8, 0, 1, 0, 4, 0, 0, 0, 0],
-            Some(CacheFault::Header),
+            &[5, 4, 0, 0, 0, 0, 0, 1, 255, 255, 255, 255],
+            CacheFault::BadItem { at: 4 },
         ),
-        (
-            &[0x05, 0x04, 0, 4, 0, 2, 0, 0],
-            Some(CacheFault::BadItem { at: 8 }),
-        ),
-        (
-            &[0x05, 0x04, 0, 0, 0, 0, 0, 1, 0xff, 0xff, 0xff, 0xff],
-            Some(CacheFault::BadItem { at: 4 }),
-        ),
-        (&[], Some(CacheFault::Version)),
     ];
     for (bytes, wanted) in table {
-        assert_eq!(rt; fault_of(alloc, bytes), wanted, "{bytes:?}");
+        assert_eq!(rt; fault_of(alloc, bytes), Some(wanted), "{bytes:?}");
     }
-    let mut flagged = FULL;
-    assert_eq!(rt; flagged[102], 1);
-    flagged[102] = 2;
-    assert_eq!(rt; fault_of(alloc, &flagged), Some(CacheFault::BadItem { at: 27 }));
-    let cache = CCache::parse(alloc, &EMPTY)?;
-    assert_eq!(rt; cache.to_bytes(alloc)?.as_slice(), EMPTY.as_slice());
-    let mut long = vec![in alloc; 0u8; 16_777_217]?;
-    assert_eq!(rt; fault_of(alloc, &long), Some(CacheFault::TooLong));
-    long.truncate(16_777_216);
-    assert_eq!(rt; fault_of(alloc, &long), Some(CacheFault::Version));
     Ok(())
 }
 
-// Looks for header fields that are dropped, an offset without its sign and an entry overlooked.
+// Looks for a flag of 2 that is taken, and for a cut that is reported at another item.
 #[test]
-fn configurations(rt: HostRuntime) -> Result<(), Fail> {
+fn bad_credentials(rt: HostRuntime) -> Result<(), Fail> {
     let alloc = rt.alloc();
-    let cache = CCache::parse(alloc, &CONFIGURED)?;
-    assert_eq!(rt; cache.kdc_offset(), Some((-2, 7)));
-    assert_eq!(rt; cache.credentials().len(), 1);
-    let entry = &cache.credentials()[0];
-    assert!(rt; CCache::is_configuration(entry));
+    let cut = configured().get(..177).ok_or("the cache is longer")?;
+    assert_eq!(rt; fault_of(alloc, cut), Some(CacheFault::BadItem { at: 46 }));
+    let mut flagged = Vec::from_slice(alloc, full())?;
+    let flag = flagged.get_mut(102).ok_or("the cache is longer")?;
+    *flag = 2;
     assert_eq!(rt;
-        entry.server.to_text(alloc)?.as_str(),
-        "krb5_ccache_conf_data/fast_avail@X-CACHECONF:"
+        fault_of(alloc, &flagged),
+        Some(CacheFault::BadItem { at: 27 })
     );
-    assert_eq!(rt; entry.ticket.as_slice(), b"yes".as_slice());
-    assert_eq!(rt; cache.to_bytes(alloc)?.as_slice(), CONFIGURED.as_slice());
-    assert_eq!(rt; fault_of(alloc, &CONFIGURED[..177]), Some(CacheFault::BadItem { at: 46 }));
     Ok(())
 }
 
-// Looks for two fields in one another's place.
+// Looks for two fields in one another's place, and a list that isn't lent.
 #[test]
 fn caches_are_made(rt: HostRuntime) -> Result<(), Fail> {
     let alloc = rt.alloc();
-    let made = CCache::from_parts(
-        Vec::new(alloc),
-        name_of(alloc, 1, &[b"alice"])?,
-        vec![in alloc; full(alloc)?]?,
-    );
-    let cache = made.ok_or("the parts fit")?;
-    assert_eq!(rt; cache.to_bytes(alloc)?.as_slice(), FULL.as_slice());
-    let back = CCache::parse(alloc, &FULL)?;
-    assert_eq!(rt; back.to_bytes(alloc)?.as_slice(), FULL.as_slice());
-    assert_eq!(rt; back.credentials()[0].authdata.as_slice()[1].kind, 65_535);
-    assert_eq!(rt; back.credentials()[0].addresses.len(), 1);
-    assert!(rt; !back.credentials()[0].addresses.is_empty());
+    let cache = with_credential(alloc, Bytes::from_slice(alloc, b"t")?)?;
+    let written = cache.to_bytes(alloc)?;
+    assert_eq!(rt; written.as_slice(), full());
+    let list = credential_of(alloc, Bytes::new(alloc))?.authdata;
+    assert_eq!(rt; list.len(), 2);
+    assert!(rt; !list.is_empty());
+    let last = list.as_slice().last().ok_or("there are two")?;
+    assert_eq!(rt; last.kind, 65_535);
     Ok(())
 }
 
-// Looks for a header that no file has room for, and a file above the limit.
+// Looks for a header that no file has room for.
 #[test]
-fn parts_that_do_not_fit(rt: HostRuntime) -> Result<(), Fail> {
+fn headers_that_fit(rt: HostRuntime) -> Result<(), Fail> {
     let alloc = rt.alloc();
-    let long = vec![in alloc; 7u8; 65_536]?;
-    for (tag, length, fits) in [
+    let table = [
         (1, 8, true),
         (1, 7, false),
         (2, 65_531, true),
         (2, 65_532, false),
         (2, 65_536, false),
-    ] {
-        let made = CCache::from_parts(
-            vec![in alloc; field(alloc, tag, &long[..length])?]?,
-            name_of(alloc, 1, &[b"alice"])?,
-            Vec::new(alloc),
-        );
+    ];
+    for (tag, length, fits) in table {
+        let made = with_field(alloc, tag, length)?;
         assert_eq!(rt; made.is_some(), fits, "tag {tag}, {length} bytes");
     }
-    let mut credential = full(alloc)?;
-    credential.ticket = Bytes::from(vec![in alloc; 0u8; 16_777_216]?);
-    let made = CCache::from_parts(
-        Vec::new(alloc),
-        name_of(alloc, 1, &[b"alice"])?,
-        vec![in alloc; credential]?,
-    );
-    let cache = made.ok_or("the parts fit")?;
+    Ok(())
+}
+
+// Looks for a limit that isn't told, or told of the wrong length.
+#[test]
+fn long_files(rt: HostRuntime) -> Result<(), Fail> {
+    let alloc = rt.alloc();
+    let mut long = vec![in alloc; 0u8; 16_777_217]?;
+    assert_eq!(rt; fault_of(alloc, &long), Some(CacheFault::TooLong));
+    long.truncate(16_777_216);
+    assert_eq!(rt; fault_of(alloc, &long), Some(CacheFault::Version));
+    let cache = with_credential(alloc, Bytes::from(long))?;
     assert_eq!(rt; cache.to_bytes(alloc).err(), Some(CacheFault::TooLong));
     Ok(())
 }
@@ -210,13 +237,11 @@ fn parts_that_do_not_fit(rt: HostRuntime) -> Result<(), Fail> {
 #[test]
 fn sources(rt: HostRuntime) -> Result<(), Fail> {
     let alloc = rt.alloc();
-    let cache = CCache::read(alloc, &mut ReadSource::new(&FIXTURE[..]))?;
-    assert_eq!(rt; cache.to_bytes(alloc)?.as_slice(), FIXTURE.as_slice());
-    let short = CCache::read(alloc, &mut ReadSource::new(&FIXTURE[..351])).err();
-    assert_eq!(rt; short, Some(CacheFault::BadItem { at: 27 }));
-    let cache = CCache::read(alloc, &mut PieceSource::new(&FIXTURE, 3, None))?;
+    let cache = CCache::read(alloc, &mut ReadSource::new(fixture()))?;
     assert_eq!(rt; cache.credentials().len(), 1);
-    let failed = CCache::read(alloc, &mut PieceSource::new(&FIXTURE, 3, Some(2))).err();
+    let cache = CCache::read(alloc, &mut PieceSource::new(fixture(), 3, None))?;
+    assert_eq!(rt; cache.credentials().len(), 1);
+    let failed = CCache::read(alloc, &mut PieceSource::new(fixture(), 3, Some(2))).err();
     assert_eq!(rt; failed, Some(CacheFault::Read));
     Ok(())
 }
@@ -228,6 +253,9 @@ fn texts_of_faults(rt: HostRuntime) -> Result<(), Fail> {
     assert_eq!(rt; fault.at(), Some(46));
     assert_eq!(rt; CacheFault::Header.at(), None);
     let text = format!(in alloc; "{fault}")?;
-    assert_eq!(rt; text.as_str(), "there is no principal or credential at offset 46");
+    assert_eq!(rt;
+        text.as_str(),
+        "there is no principal or credential at offset 46"
+    );
     Ok(())
 }

@@ -101,10 +101,7 @@ fn write_elements(out: &mut Vec<u8>, elements: &[TypedBytes]) -> Result<(), Allo
     Ok(())
 }
 
-pub(crate) fn write_credential(
-    out: &mut Vec<u8>,
-    credential: &Credential,
-) -> Result<(), AllocError>
+pub(crate) fn write_credential(out: &mut Vec<u8>, credential: &Credential) -> Result<(), AllocError>
     requires { HasCredentialLengths credential.now }
     ensures { OnOk result (out.new.items ≡ out.old.items ++ credential_bytes credential.now) }
 {

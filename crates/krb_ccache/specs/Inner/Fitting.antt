@@ -1,5 +1,5 @@
 -- Parts of what a file has room for.
-use Rattle.std.specs.Prelude.{ℕ, ◌<◌, ◌^◌, length, FitsSigned}
+use Rattle.std.specs.Prelude.{◌<◌, ◌^◌, length, FitsSigned}
 use Rattle.std.specs.Int.{w16}
 use Rattle.krb_ccache.specs.declared.credential.Credential.{Credential}
 

@@ -6,8 +6,8 @@ pub returns-in_err-read_one-clause-missing : goal.returns-in_err-read_one-clause
 returns-in_err-read_one-clause-missing c =
     let p = err_from_is_err_and c.from_residual.result c.from_residual.ensures.1 in
     rw (p.1, p.2) (λ other.
-        stops c.args.cursor.now c.loop-alloc.cursor c.loop-alloc.credentials.items c.in_err-read_one.field-0.0 c.loop-alloc.invariant
-        (λ end. let at_end = rw end at c.is_at_end.ensures in cc (at_end, c.loop-alloc-test.true)) (c.in_err-read_one.ensures.missing other))
+    stops c.args.cursor.now c.loop-alloc.cursor c.loop-alloc.credentials.items c.in_err-read_one.field-0.0 c.loop-alloc.invariant
+    (λ end. let at_end = rw end at c.is_at_end.ensures in cc (at_end, c.loop-alloc-test.true)) (c.in_err-read_one.ensures.missing other))
 
 pub loop-alloc-smaller : goal.loop-alloc-smaller
 loop-alloc-smaller c =

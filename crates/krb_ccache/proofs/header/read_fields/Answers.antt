@@ -1,7 +1,5 @@
-use Rattle.std.proofs.Common.{ap, sym, ◌∙◌, arith, [], length}
-use Rattle.std.proofs.lemmas.Bool.{ne_eqb}
 use Rattle.std.proofs.lemmas.Result.{err_from_is_err_and}
-use Rattle.krb_ccache.proofs.HeaderLaws.{field_goes, not_filled, filled}
+use Rattle.krb_ccache.proofs.HeaderLaws.{field_goes, not_filled}
 use Rattle.krb_ccache.proofs.header.read_fields.Goals as goal
 
 pub returns-in_err-read_field-clause-missing : goal.returns-in_err-read_field-clause-missing

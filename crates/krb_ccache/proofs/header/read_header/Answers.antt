@@ -1,5 +1,3 @@
-use Rattle.std.proofs.Common.{Ok, Err}
-use Rattle.std.specs.Int.{w16}
 use Rattle.std.proofs.lemmas.Result.{IfOk-weaker}
 use Rattle.krb_name.proofs.CursorLaws.{IsField-data16}
 use Rattle.krb_ccache.proofs.HeaderLaws.{header_lies, header_cut, header_wrong}

@@ -1,4 +1,3 @@
-use Rattle.std.proofs.Common.{◌≡◌, Err}
 use Rattle.std.specs.Int.{w32}
 use Rattle.krb_name.specs.Cursor.{data_at}
 use Rattle.std.proofs.lemmas.Result.{err_from_is_err_and}

@@ -1,4 +1,3 @@
-use Rattle.std.proofs.Common.{◌≡◌, Err}
 use Rattle.krb_ccache.specs.Inner.Reading.{typed_at}
 use Rattle.std.proofs.lemmas.Result.{err_from_is_err_and}
 use Rattle.krb_name.proofs.Repeated.{times_goes_on, times_stops, times_done}

@@ -16,7 +16,7 @@ returns c =
     let server = wrote c.write_name.new.out.items (name_bytes credential.server) c.write_name-2.new.out.items c.in_ok-write_name-2.ensures in
     let fits : FitsSigned w16 credential.etype = search rules in
     let etype =
-        wrote_same (signed_bytes w16 credential.etype) (ap (signed_bytes w16) (to_z-of_z w16 credential.etype fits)) (wrote c.write_name-2.new.out.items (signed_bytes w16 (to_z w16 (of_z w16 credential.etype))) c.write_i16.new.out.items c.in_ok-write_i16.ensures) in
+    wrote_same (signed_bytes w16 credential.etype) (ap (signed_bytes w16) (to_z-of_z w16 credential.etype fits)) (wrote c.write_name-2.new.out.items (signed_bytes w16 (to_z w16 (of_z w16 credential.etype))) c.write_i16.new.out.items c.in_ok-write_i16.ensures) in
     let key = wrote c.write_i16.new.out.items (data_bytes w32 credential.key) c.write_data.new.out.items c.in_ok-write_data.ensures in
     let authtime = wrote c.write_data.new.out.items (number_bytes w32 credential.authtime) c.write_u32.new.out.items c.in_ok-write_u32.ensures in
     let starttime = wrote c.write_u32.new.out.items (number_bytes w32 credential.starttime) c.write_u32-2.new.out.items c.in_ok-write_u32-2.ensures in
@@ -28,5 +28,5 @@ returns c =
     let authdata = wrote_same (list_bytes credential.authdata) (ap list_bytes c.as_slice-2.ensures) (wrote c.write_list.new.out.items (list_bytes c.as_slice-2.result.now) c.write_list-2.new.out.items c.in_ok-write_list-2.ensures) in
     let ticket = wrote c.write_list-2.new.out.items (data_bytes w32 credential.ticket) c.write_data-2.new.out.items c.in_ok-write_data-2.ensures in
     on_ok_weaker c.write_data-3.result (λ e.
-        let second_ticket = wrote c.write_data-2.new.out.items (data_bytes w32 credential.second_ticket) c.write_data-3.new.out.items e in
-        (then_wrote client (then_wrote server (then_wrote etype (then_wrote key (then_wrote authtime (then_wrote starttime (then_wrote endtime (then_wrote renew_till (then_wrote is_skey (then_wrote ticket_flags (then_wrote addresses (then_wrote authdata (then_wrote ticket (second_ticket)))))))))))))).is) c.write_data-3.ensures
+    let second_ticket = wrote c.write_data-2.new.out.items (data_bytes w32 credential.second_ticket) c.write_data-3.new.out.items e in
+    (then_wrote client (then_wrote server (then_wrote etype (then_wrote key (then_wrote authtime (then_wrote starttime (then_wrote endtime (then_wrote renew_till (then_wrote is_skey (then_wrote ticket_flags (then_wrote addresses (then_wrote authdata (then_wrote ticket (second_ticket)))))))))))))).is) c.write_data-3.ensures

@@ -14,10 +14,10 @@ returns c =
     let name = c.args.name.now in
     let fits : FitsSigned w32 name.name_type = search rules in
     let first =
-        wrote_same (signed_bytes w32 name.name_type) (ap (signed_bytes w32) (to_z-of_z w32 name.name_type fits)) (wrote c.args.out.now.items (signed_bytes w32 (to_z w32 (of_z w32 name.name_type))) c.write_i32.new.out.items c.in_ok-write_i32.ensures) in
+    wrote_same (signed_bytes w32 name.name_type) (ap (signed_bytes w32) (to_z-of_z w32 name.name_type fits)) (wrote c.args.out.now.items (signed_bytes w32 (to_z w32 (of_z w32 name.name_type))) c.write_i32.new.out.items c.in_ok-write_i32.ensures) in
     let count = wrote c.write_i32.new.out.items (number_bytes w32 c.len.result) c.write_u32.new.out.items c.in_ok-write_u32.ensures in
     let counted = wrote_same (number_bytes w32 (length name.components)) (ap (number_bytes w32) c.len.ensures) count in
     let realm = wrote c.write_u32.new.out.items (data_bytes w32 name.realm) c.write_data.new.out.items c.in_ok-write_data.ensures in
     on_ok_weaker c.write_components.result (λ e.
-        let components = wrote_same (flat_map (data_bytes w32) name.components) (ap (flat_map (data_bytes w32)) c.as_slice.ensures) (wrote c.write_data.new.out.items (flat_map (data_bytes w32) c.as_slice.result.now) c.write_components.new.out.items e) in
-        (then_wrote first (then_wrote counted (then_wrote realm components))).is) c.write_components.ensures
+    let components = wrote_same (flat_map (data_bytes w32) name.components) (ap (flat_map (data_bytes w32)) c.as_slice.ensures) (wrote c.write_data.new.out.items (flat_map (data_bytes w32) c.as_slice.result.now) c.write_components.new.out.items e) in
+    (then_wrote first (then_wrote counted (then_wrote realm components))).is) c.write_components.ensures

@@ -12,5 +12,5 @@ returns-in_err-credentials-clause-fault c =
     let start = header_read c.args.bytes.now c.in_ok-cursor.cursor c.in-Ok.header.items c.read_header.new.cursor (record { limit = c.in_ok-cursor.ensures.limit; at = c.in_ok-cursor.ensures.at; rest = c.in_ok-cursor.ensures.rest })
     c.in-Ok.ensures.read in
     rw (p.1, p.2) (λ other.
-        credential_fault c.args.bytes.now c.in-Ok.header.items c.read_header.new.cursor c.in_ok-default_principal.default_principal c.read_default.new.cursor c.in_err-credentials.field-0.0 start c.in_ok-default_principal.ensures.read
-        (c.in_err-credentials.ensures.missing other))
+    credential_fault c.args.bytes.now c.in-Ok.header.items c.read_header.new.cursor c.in_ok-default_principal.default_principal c.read_default.new.cursor c.in_err-credentials.field-0.0 start c.in_ok-default_principal.ensures.read
+    (c.in_err-credentials.ensures.missing other))

@@ -1,5 +1,4 @@
 use Rattle.std.proofs.Common.{◌≡◌}
-use Rattle.krb_ccache.specs.Value.{cache_of}
 use Rattle.krb_ccache.proofs.WritingLaws.{written}
 use Rattle.krb_ccache.proofs.cache.CCache.to_bytes.Given as goal
 
