@@ -34,6 +34,7 @@ TOP = HERE.parent
 sys.path.insert(0, str(HERE))
 sys.dont_write_bytecode = True
 
+import der_rules  # noqa: E402
 import generated  # noqa: E402
 import peers  # noqa: E402
 
@@ -100,12 +101,18 @@ def run(program, case):
         return difference(case, ran, room)
 
 
+def der_table():
+    """What is wrong with the table of the crate krb_der's tests, which tests/der_rules.py works out anew."""
+    table = (TOP / "crates/krb_der/src/tests/cases.rt").read_text()
+    return None if der_rules.plain(table) == der_rules.plain(der_rules.table()) else "it isn't what the rules give"
+
+
 def results(program, word):
     """The name of each case and what is wrong with it, or None. Cases run side by side, each in a folder of its own."""
     chosen = [case for case in [*stored_cases(), *generated.cases()] if word in case["name"]]
     with ThreadPoolExecutor(max_workers=os.cpu_count()) as pool:
         yield from zip((case["name"] for case in chosen), pool.map(lambda case: run(program, case), chosen))
-    for name, wrong in peers.checks(program):
+    for name, wrong in [("the table of DER cases by the rules", der_table()), *peers.checks(program)]:
         if word in name:
             yield name, wrong
 
