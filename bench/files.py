@@ -37,6 +37,31 @@ def small_keytab(limit):
     return b"\x05\x02" + record * ((limit - 2) // len(record))
 
 
+def data32(text):
+    return struct.pack(">I", len(text)) + text
+
+
+def principal(*components):
+    return struct.pack(">iI", 1, len(components)) + data32(b"EXAMPLE.TEST") + b"".join(data32(it) for it in components)
+
+
+def credential(index):
+    times = struct.pack(">4I", 1_700_000_000, 1_700_000_000, 1_700_036_000, 0)
+    names = principal(b"alice") + principal(b"host", b"web%d.example.test" % index)
+    lists = struct.pack(">II", 0, 0)
+    return names + struct.pack(">h", 20) + data32(bytes(32)) + times + struct.pack(">BI", 0, 0x4061_0000) + lists + data32(bytes(470)) + data32(b"")
+
+
+def cache(credentials):
+    return b"\x05\x04\x00\x00" + principal(b"alice") + b"".join(credential(index) for index in range(credentials))
+
+
+def small_cache(limit):
+    empty = bytes(12)
+    one = empty + empty + bytes(2 + 4 + 16 + 1 + 4 + 8 + 8)
+    return b"\x05\x04\x00\x00" + empty + one * ((limit - 16) // len(one))
+
+
 def timed(command, env=None):
     """The best of five runs in seconds, and the largest resident size of a child so far in bytes."""
     best = None
@@ -61,25 +86,43 @@ def peak(command):
     return usage.ru_maxrss * 1024
 
 
+def compared(name, ours, theirs):
+    """A row of two commands."""
+    here, there = timed(ours), timed(theirs)
+    print(f"| {name} | {here * 1000:.1f} ms | {there * 1000:.1f} ms | {here / there:.2f} |")
+
+
+def growing(word, path, made, most):
+    """Rows of one command on a half, a quarter .. of the largest file."""
+    for part in (8, 4, 2, 1):
+        path.write_bytes(made(most // part))
+        size = path.stat().st_size
+        took = timed([word[0], word[1], str(path)])
+        print(f"| {size:,} bytes: {word[1]} | {took * 1000:.1f} ms | | {took / size * 1e9:.1f} ns a byte |")
+
+
+def at_the_limit(word, path, files):
+    for name, data in files.items():
+        path.write_bytes(data)
+        used = peak([word[0], word[1], str(path)])
+        print(f"| {word[1]}, memory at {len(data):,} bytes, {name} | {used:,} bytes | | {used / len(data):.1f} times the file |")
+
+
 def tables(program):
     with tempfile.TemporaryDirectory() as folder:
-        path = Path(folder) / "keytab"
+        keys, tickets = Path(folder) / "keytab", Path(folder) / "ccache"
         print("| what | krbtool | other | ratio |\n|---|---|---|---|")
-        path.write_bytes(keytab(10_000))
-        ours = timed([program, "list-keytab", str(path)])
-        mit = timed(["klist", "-kte", str(path)])
-        print(f"| 10,000 entries: list-keytab, klist -kte | {ours * 1000:.1f} ms | {mit * 1000:.1f} ms | {ours / mit:.2f} |")
+        keys.write_bytes(keytab(10_000))
+        tickets.write_bytes(cache(10_000))
+        compared("10,000 entries: list-keytab, klist -kte", [program, "list-keytab", str(keys)], ["klist", "-kte", str(keys)])
+        compared(f"10,000 credentials, {tickets.stat().st_size:,} bytes: list-ccache, klist", [program, "list-ccache", str(tickets)],
+                 ["klist", f"FILE:{tickets}"])
         most = (LIMIT - 2) // len(keytab_record(999_999))
-        whole = keytab(most)
-        for part in (8, 4, 2, 1):
-            path.write_bytes(keytab(most // part))
-            size = path.stat().st_size
-            took = timed([program, "list-keytab", str(path)])
-            print(f"| {size:,} bytes: list-keytab | {took * 1000:.1f} ms | | {took / size * 1e9:.1f} ns a byte |")
-        for name, data in {"large": whole, "smallest records": small_keytab(LIMIT)}.items():
-            path.write_bytes(data)
-            used = peak([program, "list-keytab", str(path)])
-            print(f"| memory at {len(data):,} bytes, {name} | {used:,} bytes | | {used / len(data):.1f} times the file |")
+        growing((program, "list-keytab"), keys, keytab, most)
+        at_the_limit((program, "list-keytab"), keys, {"large": keytab(most), "smallest records": small_keytab(LIMIT)})
+        most = (LIMIT - 100) // len(credential(99_999))
+        growing((program, "list-ccache"), tickets, cache, most)
+        at_the_limit((program, "list-ccache"), tickets, {"large": cache(most), "smallest credentials": small_cache(LIMIT)})
 
 
 if __name__ == "__main__":

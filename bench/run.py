@@ -7,6 +7,7 @@ Needs a C compiler and Debian's packages krb5-user, libkrb5-dev, libssl-dev and 
 times, which takes a while on a new clone. Nothing here is a test: it asserts nothing but that all programs end well.
 """
 import os
+import shutil
 import subprocess
 import sys
 import tempfile
@@ -33,8 +34,8 @@ def built(folder):
     """Our program and the two in C. Ours is built in a repository of its own, with these crates and the program."""
     (folder / "crates").mkdir()
     for name in CRATES:
-        (folder / "crates" / name).symlink_to(TOP / "crates" / name)
-    (folder / "crates" / "krb_bench").symlink_to(HERE / "krb_bench")
+        shutil.copytree(TOP / "crates" / name, folder / "crates" / name)
+    shutil.copytree(HERE / "krb_bench", folder / "crates" / "krb_bench")
     lines = (TOP / "crates.txt").read_text().splitlines()
     kept = [line for line in lines if line.split(":")[0] in CRATES]
     (folder / "crates.txt").write_text("\n".join([*kept, "krb_bench: krb_aes krb_enc"]) + "\n")
