@@ -37,7 +37,7 @@ pub(crate) fn find_entry(bytes: &[u8], index: usize) -> Result<Option<Extent>, K
     let mut cursor = open(bytes)?;
     let mut found = None;
     let mut count = 0;
-    loop {
+    'each_record: loop {
         let from = cursor.at();
         match next_record(&mut cursor)? {
             Record::End => return Ok(found),

@@ -5,8 +5,8 @@ use Rattle.krb_keytab.proofs.ScanLaws.{start_spans, start_counts, hole_passed, e
 use Rattle.krb_keytab.proofs.finding.find_entry.Goals as goal
 use Rattle.krb_keytab.proofs.finding.find_entry.Goals.{then-count-index, else-count-index}
 
-pub loop-cursor-init : goal.loop-cursor-init
-loop-cursor-init c =
+pub each_record-init : goal.each_record-init
+each_record-init c =
     let start = c.in_ok-cursor.ensures in
     record {
       records = [];
@@ -18,22 +18,22 @@ loop-cursor-init c =
 pub returns-in_err-next_record-clause-found : goal.returns-in_err-next_record-clause-found
 returns-in_err-next_record-clause-found c =
     let p = err_from_is_err_and c.from_residual-in_err-next_record.result c.from_residual-in_err-next_record.ensures.1 in
-    rw (p.1, p.2) (stopped c.in_err-next_record.field-0.0 c.loop-cursor.invariant.spans c.in_err-next_record.ensures)
+    rw (p.1, p.2) (stopped c.in_err-next_record.field-0.0 c.each_record.invariant.spans c.in_err-next_record.ensures)
 
 pub returns-in-End-clause-found : goal.returns-in-End-clause-found
 returns-in-End-clause-found c =
-    let now = c.loop-cursor.invariant in
+    let now = c.each_record.invariant in
     let read = rw c.in-End.is at c.in_ok-next_record.ensures in
-    counted c.args.index c.loop-cursor.count c.loop-cursor.found (ended c.next_record.new.cursor now.spans read) now.counts
+    counted c.args.index c.each_record.count c.each_record.found (ended c.next_record.new.cursor now.spans read) now.counts
 
-pub loop-cursor-smaller-in-Hole : goal.loop-cursor-smaller-in-Hole
-loop-cursor-smaller-in-Hole c =
+pub each_record-smaller-in-Hole : goal.each_record-smaller-in-Hole
+each_record-smaller-in-Hole c =
     let read = rw c.in-Hole.is at c.in_ok-next_record.ensures in
-    (hole_passed c.next_record.new.cursor c.loop-cursor.invariant.spans read).passes.smaller
+    (hole_passed c.next_record.new.cursor c.each_record.invariant.spans read).passes.smaller
 
-pub loop-cursor-preserved-in-Hole : goal.loop-cursor-preserved-in-Hole
-loop-cursor-preserved-in-Hole c =
-    let now = c.loop-cursor.invariant in
+pub each_record-preserved-in-Hole : goal.each_record-preserved-in-Hole
+each_record-preserved-in-Hole c =
+    let now = c.each_record.invariant in
     let read = rw c.in-Hole.is at c.in_ok-next_record.ensures in
     let passed = hole_passed c.next_record.new.cursor now.spans read in
     record {
@@ -43,14 +43,14 @@ loop-cursor-preserved-in-Hole c =
       few = omega (arith, now.few, further passed.passes);
     }
 
-pub loop-cursor-smaller : goal.loop-cursor-smaller
-loop-cursor-smaller c =
+pub each_record-smaller : goal.each_record-smaller
+each_record-smaller c =
     let read = rw c.in-Entry.is at c.in_ok-next_record.ensures in
-    (entry_passed c.in-Entry.field-0 c.next_record.new.cursor c.loop-cursor.invariant.spans read).passes.smaller
+    (entry_passed c.in-Entry.field-0 c.next_record.new.cursor c.each_record.invariant.spans read).passes.smaller
 
-pub loop-cursor-preserved : goal.loop-cursor-preserved
-loop-cursor-preserved c =
-    let now = c.loop-cursor.invariant in
+pub each_record-preserved : goal.each_record-preserved
+each_record-preserved c =
+    let now = c.each_record.invariant in
     let e = c.in-Entry.field-0 in
     let read = rw c.in-Entry.is at c.in_ok-next_record.ensures in
     let passed = entry_passed e c.next_record.new.cursor now.spans read in

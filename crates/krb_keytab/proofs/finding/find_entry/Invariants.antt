@@ -3,13 +3,13 @@ use Rattle.krb_keytab.specs.Format.{KeytabRecord}
 use Rattle.krb_keytab.proofs.ScanLaws.{Spans, Counts}
 use Rattle.krb_keytab.proofs.finding.find_entry.Given as goal
 
-abbrev pub invariant-loop-cursor : goal.invariant-loop-cursor
-invariant-loop-cursor l = record {
+abbrev pub invariant-each_record : goal.invariant-each_record
+invariant-each_record l = record {
   records : List KeytabRecord;
   spans : Spans l.bytes l.cursor records;
   counts : Counts records l.index l.count l.found;
   few : l.count ≤ l.cursor.at;
 }
 
-abbrev pub decreases-loop-cursor : goal.decreases-loop-cursor
-decreases-loop-cursor l = length l.cursor.rest
+abbrev pub decreases-each_record : goal.decreases-each_record
+decreases-each_record l = length l.cursor.rest

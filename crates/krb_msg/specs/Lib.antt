@@ -1,0 +1,3 @@
+pub mod Moments
+pub mod Module
+pub mod Borrowed

@@ -1,0 +1,155 @@
+//! The sealed part of a ticket.
+
+ghost use Rattle.std.specs.Prelude.{refl, ◌≡◌, ◌≤◌, length, IfOk, IfErr, IsOkAnd};
+ghost use Rattle.krb_der.specs.Kind.{ValueOf, leaf, must, may, ends, field, time};
+ghost use Rattle.krb_der.specs.Fault.{IsFault};
+ghost use Rattle.krb_der.specs.Spells.{IsMessage};
+ghost use Rattle.krb_msg.specs.Borrowed.{enc_ticket_part_of, typed_of};
+ghost use Rattle.krb_msg.specs.Module.{authorization_data, enc_ticket_part, host_address, sequence_of, transited_encoding};
+ghost use Rattle.std.specs.Option.{option_map};
+
+use crate::name::NameRef;
+use crate::typed::{KeyRef, TypedListRef, TypedRef};
+use krb_der::{Cursor, Element, Fault, Field, Flags, Maybe, Message, Row, Seconds, Text};
+
+/// An `EncTicketPart` (RFC 4120, section 5.3), whose texts and octets are slices of the input.
+#[derive(Drop)]
+pub struct EncTicketRef<'a> {
+    /// The ticket's flags: bit 7 is invalid, bit 12 transited-policy-checked.
+    pub flags: Flags,
+    /// The session key.
+    pub key: KeyRef<'a>,
+    /// The client's realm.
+    pub crealm: &'a [u8],
+    /// The client's name.
+    pub cname: NameRef<'a>,
+    /// The realms that took part in the client's authentication.
+    pub transited: TypedRef<'a>,
+    /// When the client was authenticated.
+    pub authtime: Seconds,
+    /// From when on the ticket is valid; authtime where it is absent.
+    pub starttime: Option<Seconds>,
+    /// Until when the ticket is valid.
+    pub endtime: Seconds,
+    /// Until when the ticket can be renewed.
+    pub renew_till: Option<Seconds>,
+    /// The addresses that the ticket is for.
+    pub caddr: Option<TypedListRef<'a>>,
+    /// Authorization data.
+    pub authorization: Option<TypedListRef<'a>>,
+}
+
+type EncTicketRow<'a> = (
+    Field<0xa0, Flags>,
+    (
+        Field<0xa1, KeyRef<'a>>,
+        (
+            Field<0xa2, Text<'a>>,
+            (Field<0xa3, NameRef<'a>>, EncTicketTail<'a>),
+        ),
+    ),
+);
+
+impl<'a> Element<'a> for EncTicketRef<'a> {
+    ghost kind = { enc_ticket_part };
+
+    ghost view = { enc_ticket_part_of };
+
+    ghost clear = { refl };
+
+    fn read(cursor: &mut Cursor<'a>) -> Result<EncTicketRef<'a>, Fault> {
+        let row: Result<EncTicketRow<'a>, Fault> = cursor.application(0x63);
+        match row {
+            Ok((flags, (key, (crealm, (cname, tail))))) => Ok(EncTicketRef {
+                flags: flags.0,
+                key: key.0,
+                crealm: crealm.0.0,
+                cname: cname.0,
+                transited: tail.transited,
+                authtime: tail.authtime,
+                starttime: tail.starttime,
+                endtime: tail.endtime,
+                renew_till: tail.renew_till,
+                caddr: tail.caddr,
+                authorization: tail.authorization,
+            }),
+            Err(fault) => Err(fault),
+        }
+    }
+}
+
+// The fields from the transited realms on.
+#[derive(Drop)]
+struct EncTicketTail<'a> {
+    transited: TypedRef<'a>,
+    authtime: Seconds,
+    starttime: Option<Seconds>,
+    endtime: Seconds,
+    renew_till: Option<Seconds>,
+    caddr: Option<TypedListRef<'a>>,
+    authorization: Option<TypedListRef<'a>>,
+}
+
+type EncTicketTailRow<'a> = (
+    Field<0xa4, TypedRef<'a>>,
+    (
+        Field<0xa5, Seconds>,
+        (
+            Maybe<0xa6, Seconds>,
+            (Field<0xa7, Seconds>, EncTicketEndRow<'a>),
+        ),
+    ),
+);
+
+type EncTicketEndRow<'a> = (
+    Maybe<0xa8, Seconds>,
+    (
+        Maybe<0xa9, TypedListRef<'a>>,
+        (Maybe<0xaa, TypedListRef<'a>>, ()),
+    ),
+);
+
+impl<'a> Row<'a> for EncTicketTail<'a> {
+    ghost fields = { must (field 4 transited_encoding) (must (field 5 (leaf time)) (may (field 6 (leaf time)) (must (field 7 (leaf time)) (may (field 8 (leaf time)) (may (field 9 (sequence_of host_address)) (may (field 10 authorization_data) ends)))))) };
+
+    ghost view = { λ t. (typed_of t.transited, (t.authtime, (option_map (λ x. x) t.starttime, (t.endtime, (option_map (λ x. x) t.renew_till, (option_map (λ x. x) t.caddr, (option_map (λ x. x) t.authorization, tt))))))) };
+
+    fn read_row(content: Cursor<'a>) -> Result<EncTicketTail<'a>, Fault> {
+        let row: Result<EncTicketTailRow<'a>, Fault> = Row::read_row(content);
+        match row {
+            Ok(
+                (
+                    transited,
+                    (authtime, (starttime, (endtime, (renew_till, (caddr, (authorization, ())))))),
+                ),
+            ) => Ok(EncTicketTail {
+                transited: transited.0,
+                authtime: authtime.0,
+                starttime: starttime.0,
+                endtime: endtime.0,
+                renew_till: renew_till.0,
+                caddr: caddr.0,
+                authorization: authorization.0,
+            }),
+            Err(fault) => Err(fault),
+        }
+    }
+}
+
+impl<'a> Message<'a> for EncTicketRef<'a> {}
+
+impl<'a> EncTicketRef<'a> {
+    /// Reads a message of this type, which is all of the bytes. It takes no memory.
+    ///
+    /// # Errors
+    /// `TooLong` at 0 above 1,048,576 bytes. Else the first fault from left to right, contents before what follows.
+    pub fn parse(bytes: &'a [u8]) -> Result<EncTicketRef<'a>, Fault>
+        ensures found { IfOk result (λ m. IsMessage enc_ticket_part (enc_ticket_part_of m) bytes.entry.now) }
+        ensures only { (v : ValueOf enc_ticket_part) → IsMessage enc_ticket_part v bytes.entry.now
+            → IsOkAnd result (λ m. enc_ticket_part_of m ≡ v) }
+        ensures faulty { IfErr result (IsFault enc_ticket_part bytes.entry.now) }
+        ensures offset { IfErr result (λ fault. fault.at ≤ length bytes.entry.now) }
+    {
+        krb_der::parse(bytes)
+    }
+}

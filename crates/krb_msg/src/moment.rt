@@ -1,0 +1,42 @@
+//! Moments.
+
+ghost use Rattle.std.specs.Prelude.{◌≡◌, ◌<◌, SomeIff};
+ghost use Rattle.krb_der.specs.Time.{IsSeconds};
+ghost use Rattle.krb_msg.specs.Moments.{micros_of};
+
+use std::marker::Model;
+
+/// A microsecond of the years 0000 to 9999. Moments are ordered by time. A contract sees one as its microseconds from
+/// 1970-01-01T00:00:00Z on, which before it are negative.
+#[derive(Clone, Copy, Debug, PartialEq, Eq, PartialOrd, Ord, Hash)]
+pub struct Moment {
+    micros: i64,
+}
+
+impl Model for Moment {
+    ghost use Rattle.std.specs.Prelude.{ℤ};
+    ghost use Rattle.krb_msg.specs.Moments.{IsMoment};
+
+    ghost Value = { ℤ };
+
+    ghost view = { λ m. m.micros };
+
+    ghost invariant = { λ m. IsMoment m.micros };
+
+    ghost inverse = { λ z. record { micros = z } };
+}
+
+impl Moment {
+    /// The moment so many microseconds after a second, which is counted from 1970-01-01T00:00:00Z. `None` outside the years 0000
+    /// to 9999, and from 1,000,000 microseconds on.
+    pub fn new(seconds: i64, micros: u32) -> Option<Moment>
+        ensures { SomeIff result (IsSeconds seconds × (micros < 1_000_000)) (micros_of seconds micros) }
+    {
+        if seconds < -62_167_219_200 || seconds > 253_402_300_799 || micros >= 1_000_000 {
+            return None;
+        }
+        Some(Moment {
+            micros: 1_000_000 * seconds + i64::from(micros),
+        })
+    }
+}

@@ -1,0 +1,273 @@
+//! Values from outside: the fixture of the project, and messages that tests/msg_values.py puts together.
+
+mod values;
+
+use super::*;
+use std::test::Fail;
+use values::*;
+
+const SESSION_KEY: [u8; 16] = [0, 1, 2, 3, 4, 5, 6, 7, 8, 9, 10, 11, 12, 13, 14, 15];
+
+#[test]
+fn a_ticket(rt: HostRuntime) -> Result<(), Fail> {
+    let mut ticket = TicketRef::parse(&TICKET)?;
+    assert_eq!(rt; ticket.realm, b"EX".as_slice());
+    assert_eq!(rt; ticket.sname.name_type, 3);
+    assert_eq!(rt;
+        ticket.sname.components.next_text(),
+        Some(b"host".as_slice())
+    );
+    assert_eq!(rt;
+        ticket.sname.components.next_text(),
+        Some(b"web".as_slice())
+    );
+    assert_eq!(rt; ticket.sname.components.next_text(), None);
+    assert_eq!(rt; ticket.enc_part.etype, 19);
+    assert_eq!(rt; ticket.enc_part.kvno, Some(3));
+    assert_eq!(rt; ticket.enc_part.cipher, &TICKET[63..]);
+    Ok(())
+}
+
+#[test]
+fn names_are_walked_again(rt: HostRuntime) -> Result<(), Fail> {
+    let mut ticket = TicketRef::parse(&TICKET)?;
+    let first = ticket.sname.components.next_text();
+    let mut others = ticket.sname.components.again();
+    assert_eq!(rt; first, Some(b"host".as_slice()));
+    assert_eq!(rt; others.next_text(), Some(b"web".as_slice()));
+    assert_eq!(rt;
+        ticket.sname.components.next_text(),
+        Some(b"web".as_slice())
+    );
+    Ok(())
+}
+
+#[test]
+fn a_request(rt: HostRuntime) -> Result<(), Fail> {
+    let request = ApReqRef::parse(&AP_REQ)?;
+    assert_eq!(rt; request.options.bits(), 0x2000_0000);
+    assert_eq!(rt; request.ticket.realm, b"EX".as_slice());
+    assert_eq!(rt; request.ticket.enc_part.cipher, &TICKET[63..]);
+    assert_eq!(rt; request.authenticator.etype, 19);
+    assert_eq!(rt; request.authenticator.kvno, None);
+    assert_eq!(rt; request.authenticator.cipher, [1, 2, 3, 4].as_slice());
+    Ok(())
+}
+
+#[test]
+fn a_reply(rt: HostRuntime) -> Result<(), Fail> {
+    let reply = ApRepRef::parse(&AP_REP)?;
+    assert_eq!(rt; reply.enc_part.etype, 20);
+    assert_eq!(rt; reply.enc_part.kvno, Some(4_294_967_295));
+    assert_eq!(rt; reply.enc_part.cipher, [0xa1, 0xa2, 0xa3].as_slice());
+    Ok(())
+}
+
+#[test]
+fn what_a_reply_seals(rt: HostRuntime) {
+    match EncApRepRef::parse(&ENC_AP_REP) {
+        Ok(short) => {
+            assert_eq!(rt; (short.ctime.get(), short.cusec.get()), (1_700_000_100, 5));
+            assert!(rt; short.subkey.is_none());
+            assert_eq!(rt; short.seq_number, None);
+        }
+        Err(_) => assert!(rt; false),
+    }
+}
+
+#[test]
+fn what_a_reply_seals_with_all_fields(rt: HostRuntime) {
+    match EncApRepRef::parse(&FULL_ENC_AP_REP) {
+        Ok(full) => {
+            assert_eq!(rt;
+                (full.ctime.get(), full.cusec.get()),
+                (1_700_000_100, 999_999)
+            );
+            assert_eq!(rt; full.seq_number, Some(7));
+            match full.subkey {
+                Some(key) => assert_eq!(rt; (key.etype, key.bytes), (19, [0x0b, 0x0c].as_slice())),
+                None => assert!(rt; false),
+            }
+        }
+        Err(_) => assert!(rt; false),
+    }
+}
+
+#[test]
+fn a_short_authenticator(rt: HostRuntime) -> Result<(), Fail> {
+    let mut read = AuthenticatorRef::parse(&AUTHENTICATOR)?;
+    assert_eq!(rt; read.crealm, b"EX".as_slice());
+    assert_eq!(rt; read.cname.name_type, 1);
+    assert_eq!(rt;
+        read.cname.components.next_text(),
+        Some(b"alice".as_slice())
+    );
+    assert_eq!(rt; read.cname.components.next_text(), None);
+    assert_eq!(rt; read.checksum, None);
+    assert_eq!(rt; (read.ctime.get(), read.cusec.get()), (1_700_000_100, 5));
+    assert!(rt; read.subkey.is_none());
+    assert_eq!(rt; read.seq_number, None);
+    assert!(rt; read.authorization.is_none());
+    Ok(())
+}
+
+#[test]
+fn an_authenticator_with_all_fields(rt: HostRuntime) -> Result<(), Fail> {
+    let mut read = AuthenticatorRef::parse(&FULL_AUTHENTICATOR)?;
+    assert_eq!(rt;
+        read.cname.components.next_text(),
+        Some(b"alice".as_slice())
+    );
+    assert_eq!(rt;
+        read.cname.components.next_text(),
+        Some(b"admin".as_slice())
+    );
+    let checksum = read.checksum.ok_or("a checksum")?;
+    assert_eq!(rt;
+        (checksum.kind, checksum.bytes),
+        (32_771, [0xaa, 0xbb].as_slice())
+    );
+    assert_eq!(rt; (read.ctime.get(), read.cusec.get()), (0, 0));
+    let key = read.subkey.ok_or("a subkey")?;
+    assert_eq!(rt; (key.etype, key.bytes), (20, [0x0c].as_slice()));
+    assert_eq!(rt; read.seq_number, Some(128));
+    Ok(())
+}
+
+#[test]
+fn authorization_data_is_walked(rt: HostRuntime) -> Result<(), Fail> {
+    let read = AuthenticatorRef::parse(&FULL_AUTHENTICATOR)?;
+    let mut list = read.authorization.ok_or("authorization data")?;
+    let mut once_more = list.again();
+    let first = list.next_element().ok_or("a first element")?;
+    assert_eq!(rt; (first.kind, first.bytes), (1, [0x30, 0x00].as_slice()));
+    let second = list.next_element().ok_or("a second element")?;
+    assert_eq!(rt; (second.kind, second.bytes), (64, b"".as_slice()));
+    assert_eq!(rt; list.next_element(), None);
+    assert_eq!(rt; once_more.next_element(), Some(first));
+    Ok(())
+}
+
+#[test]
+fn what_a_ticket_seals(rt: HostRuntime) -> Result<(), Fail> {
+    let mut read = EncTicketRef::parse(&ENC_TICKET)?;
+    assert_eq!(rt; read.flags.bits(), 0);
+    assert_eq!(rt;
+        (read.key.etype, read.key.bytes),
+        (19, SESSION_KEY.as_slice())
+    );
+    assert_eq!(rt; read.crealm, b"EX".as_slice());
+    assert_eq!(rt;
+        read.cname.components.next_text(),
+        Some(b"alice".as_slice())
+    );
+    assert_eq!(rt;
+        (read.transited.kind, read.transited.bytes),
+        (1, b"".as_slice())
+    );
+    assert_eq!(rt;
+        (read.authtime.get(), read.endtime.get()),
+        (1_700_000_000, 1_700_036_000)
+    );
+    assert_eq!(rt; (read.starttime, read.renew_till), (None, None));
+    assert!(rt; read.caddr.is_none());
+    assert!(rt; read.authorization.is_none());
+    Ok(())
+}
+
+#[test]
+fn what_a_ticket_seals_with_all_fields(rt: HostRuntime) -> Result<(), Fail> {
+    let read = EncTicketRef::parse(&FULL_ENC_TICKET)?;
+    assert_eq!(rt; read.flags.bits(), 0x0100_0000);
+    assert_eq!(rt; read.transited.bytes, b"AB".as_slice());
+    let starttime = read.starttime.ok_or("a start")?;
+    assert_eq!(rt;
+        (starttime.get(), read.endtime.get()),
+        (1_700_000_001, 1_700_036_000)
+    );
+    let renew_till = read.renew_till.ok_or("a last renewal")?;
+    assert_eq!(rt; renew_till.get(), 1_700_122_400);
+    let mut addresses = read.caddr.ok_or("addresses")?;
+    let address = addresses.next_element().ok_or("an address")?;
+    assert_eq!(rt;
+        (address.kind, address.bytes),
+        (2, [127, 0, 0, 1].as_slice())
+    );
+    let mut authorization = read.authorization.ok_or("authorization data")?;
+    assert!(rt; authorization.next_element().is_some());
+    assert!(rt; authorization.next_element().is_none());
+    Ok(())
+}
+
+fn fault_of<T: Drop>(answer: Result<T, Fault>) -> Option<(FaultKind, usize)> {
+    match answer {
+        Ok(_) => None,
+        Err(fault) => Some((fault.kind, fault.at)),
+    }
+}
+
+fn reply_fault(bytes: &[u8]) -> Option<(FaultKind, usize)> {
+    match EncApRepRef::parse(bytes) {
+        Ok(_) => None,
+        Err(fault) => Some((fault.kind, fault.at)),
+    }
+}
+
+// A part of a message from its start on lacks what comes next, right where it ends.
+#[test]
+fn messages_cut_off(rt: HostRuntime) {
+    for end in [0, 1, 2, 3, 5, 10, 27, 28, 58, 118, 213] {
+        let cut = Some((FaultKind::Truncated, end));
+        assert_eq!(rt; fault_of(TicketRef::parse(&TICKET[..end])), cut);
+        assert_eq!(rt; fault_of(ApReqRef::parse(&AP_REQ[..end])), cut);
+    }
+    for end in [0, 1, 2, 5, 20, 27] {
+        let cut = Some((FaultKind::Truncated, end));
+        assert_eq!(rt; fault_of(ApRepRef::parse(&AP_REP[..end])), cut);
+        assert_eq!(rt; reply_fault(&ENC_AP_REP[..end]), cut);
+        assert_eq!(rt;
+            fault_of(AuthenticatorRef::parse(&AUTHENTICATOR[..end])),
+            cut
+        );
+        assert_eq!(rt; fault_of(EncTicketRef::parse(&ENC_TICKET[..end])), cut);
+    }
+}
+
+#[test]
+fn messages_of_another_type(rt: HostRuntime) {
+    let wrong = Some((FaultKind::Tag, 0));
+    assert_eq!(rt; fault_of(TicketRef::parse(&AP_REQ)), wrong);
+    assert_eq!(rt; fault_of(ApReqRef::parse(&AP_REP)), wrong);
+    assert_eq!(rt; fault_of(ApRepRef::parse(&AP_REQ)), wrong);
+    assert_eq!(rt; reply_fault(&AP_REP), wrong);
+    assert_eq!(rt; fault_of(AuthenticatorRef::parse(&ENC_TICKET)), wrong);
+    assert_eq!(rt; fault_of(EncTicketRef::parse(&AUTHENTICATOR)), wrong);
+}
+
+#[test]
+fn what_follows_a_message(rt: HostRuntime) {
+    let mut bytes = [0; 29];
+    bytes[..28].copy_from_slice(&ENC_AP_REP);
+    assert_eq!(rt; reply_fault(&bytes), Some((FaultKind::Trailing, 28)));
+    assert_eq!(rt; reply_fault(&bytes[..28]), None);
+}
+
+#[test]
+fn moments_of_the_calendar(rt: HostRuntime) {
+    assert!(rt; Moment::new(-62_167_219_200, 0).is_some());
+    assert!(rt; Moment::new(-62_167_219_201, 999_999).is_none());
+    assert!(rt; Moment::new(253_402_300_799, 999_999).is_some());
+    assert!(rt; Moment::new(253_402_300_800, 0).is_none());
+    assert!(rt; Moment::new(0, 1_000_000).is_none());
+}
+
+#[test]
+fn moments_are_ordered_by_time(rt: HostRuntime) -> Result<(), Fail> {
+    let before = Moment::new(-1, 999_999).ok_or("a moment of 1969")?;
+    let first = Moment::new(0, 0).ok_or("the first moment of 1970")?;
+    let next = Moment::new(0, 1).ok_or("the next moment")?;
+    assert!(rt; before < first);
+    assert!(rt; first < next);
+    assert_eq!(rt; first, Moment::new(0, 0).ok_or("the same")?);
+    Ok(())
+}
