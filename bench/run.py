@@ -31,11 +31,13 @@ def said(command, **more):
 
 
 def built(folder):
-    """Our program and the two in C. Ours is built in a repository of its own, with these crates and the program."""
+    """Our program and the two in C. Ours is built in a repository of its own, with copies of these crates; here its source has
+    another ending, since the gate wants each .rt file in a crate."""
     (folder / "crates").mkdir()
     for name in CRATES:
         shutil.copytree(TOP / "crates" / name, folder / "crates" / name)
-    shutil.copytree(HERE / "krb_bench", folder / "crates" / "krb_bench")
+    (folder / "crates" / "krb_bench" / "src").mkdir(parents=True)
+    shutil.copy(HERE / "krb_bench.rt.in", folder / "crates" / "krb_bench" / "src" / "main.rt")
     lines = (TOP / "crates.txt").read_text().splitlines()
     kept = [line for line in lines if line.split(":")[0] in CRATES]
     (folder / "crates.txt").write_text("\n".join([*kept, "krb_bench: krb_aes krb_enc"]) + "\n")
