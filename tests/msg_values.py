@@ -1,0 +1,105 @@
+#!/usr/bin/env python3
+"""The messages of crates/krb_msg/src/tests/values.rt that no document shows: put together from RFC 4120's tables, by hand-written
+DER, without the project's code. Prints that file."""
+
+
+def element(tag, *parts):
+    content = b"".join(parts)
+    size = len(content)
+    if size < 128:
+        return bytes([tag, size]) + content
+    digits = size.to_bytes((size.bit_length() + 7) // 8, "big")
+    return bytes([tag, 128 + len(digits)]) + digits + content
+
+
+def sequence(*parts):
+    return element(0x30, *parts)
+
+
+def fields(*numbered):
+    return sequence(*(element(0xA0 + number, part) for number, part in numbered))
+
+
+def integer(number):
+    return element(0x02, number.to_bytes(number.bit_length() // 8 + 1, "big"))
+
+
+def octets(text):
+    return element(0x04, bytes.fromhex(text))
+
+
+def string(text):
+    return element(0x1B, text.encode())
+
+
+def time(text):
+    return element(0x18, text.encode())
+
+
+def flags(number):
+    return element(0x03, b"\0", number.to_bytes(4, "big"))
+
+
+def typed(number, text):
+    return fields((0, integer(number)), (1, octets(text)))
+
+
+def name(kind, *texts):
+    return fields((0, integer(kind)), (1, sequence(*map(string, texts))))
+
+
+TICKET = bytes.fromhex(
+    "6181d33081d0a003020105a1041b024558a2163014a003020103a10d300b1b04686f73741b03776562a381aa3081a7a003020113a103020103a2819a"
+    "0481972cac51baf4f4c370efcbdd00f93b9d31830054d5323e8734b4b5a50307713a1fd99ffd06764979def1146b8e3adf2c98c2df1302be0dcc1497"
+    "65c2cd15fad1e8306ccef3d45266a106fe35eac396a6c62084a22951ba75e405af0537f589be46b4cc49c8f8e0049838022cf69c6910afbee3e7a76c"
+    "c801913abcef0c7d16fb3eae94f34bc0bd18d13fed928de348d70f9b9771240ffda4"
+)
+ENC_TICKET = bytes.fromhex(
+    "63753073a00703050000000000a11b3019a003020113a1120410000102030405060708090a0b0c0d0e0fa2041b024558a3123010a003020101a10930"
+    "071b05616c696365a40b3009a003020101a1020400a511180f32303233313131343232313332305aa711180f32303233313131353038313332305a"
+)
+AUTHENTICATOR = bytes.fromhex(
+    "62393037a003020105a1041b024558a2123010a003020101a10930071b05616c696365a403020105a511180f32303233313131343232313530305a"
+)
+ENC_AP_REP = bytes.fromhex("7b1a3018a011180f32303233313131343232313530305aa103020105")
+
+VALUES = [
+    ("A ticket for host/web@EX.", "TICKET", TICKET),
+    ("What is sealed in it.", "ENC_TICKET", ENC_TICKET),
+    ("The client's authenticator.", "AUTHENTICATOR", AUTHENTICATOR),
+    ("What is sealed in the reply to it.", "ENC_AP_REP", ENC_AP_REP),
+    ("A request with that ticket, mutual-required, and an authenticator of four bytes.", "AP_REQ",
+     element(0x6E, fields(
+         (0, integer(5)), (1, integer(14)), (2, flags(1 << 29)), (3, TICKET),
+         (4, fields((0, integer(19)), (2, octets("01020304"))))))),
+    ("A reply with the key's version 2^32 - 1.", "AP_REP",
+     element(0x6F, fields(
+         (0, integer(5)), (1, integer(15)),
+         (2, fields((0, integer(20)), (1, integer(2**32 - 1)), (2, octets("a1a2a3"))))))),
+    ("What is sealed in a reply, with all fields.", "FULL_ENC_AP_REP",
+     element(0x7B, fields(
+         (0, time("20231114221500Z")), (1, integer(999999)), (2, typed(19, "0b0c")), (3, integer(7))))),
+    ("An authenticator with all fields.", "FULL_AUTHENTICATOR",
+     element(0x62, fields(
+         (0, integer(5)), (1, string("EX")), (2, name(1, "alice", "admin")), (3, typed(32771, "aabb")), (4, integer(0)),
+         (5, time("19700101000000Z")), (6, typed(20, "0c")), (7, integer(128)),
+         (8, sequence(typed(1, "3000"), typed(64, "")))))),
+    ("What is sealed in a ticket, with all fields.", "FULL_ENC_TICKET",
+     element(0x63, fields(
+         (0, flags(1 << 24)), (1, typed(19, "0d")), (2, string("EX")), (3, name(1, "alice")), (4, typed(1, "4142")),
+         (5, time("20231114221320Z")), (6, time("20231114221321Z")), (7, time("20231115081320Z")),
+         (8, time("20231116081320Z")), (9, sequence(typed(2, "7f000001"))), (10, sequence(typed(1, "3000")))))),
+]
+
+
+def main():
+    print("//! Messages: four of the project's fixture, the others by tests/msg_values.py, which prints this file.")
+    for title, word, value in VALUES:
+        print(f"\n// {title}\npub(crate) const {word}: [u8; {len(value)}] = [")
+        for start in range(0, len(value), 16):
+            print("    " + ", ".join(f"0x{b:02x}" for b in value[start:start + 16]) + ",")
+        print("];")
+
+
+if __name__ == "__main__":
+    main()
