@@ -1,11 +1,12 @@
 //! Laws over the definitions, for proofs to cite. Each function does nothing: its contract is the law.
 
-ghost use Rattle.std.specs.Prelude.{◌≡◌, ◌≢◌, ℕ, ℤ, All, List, None, Some, Result};
+ghost use Rattle.std.specs.Prelude.{◌≡◌, ◌≢◌, ◌≤◌, ℕ, ℤ, All, IfSome, List, None, Some, Result, length};
 ghost use Rattle.krb_name.specs.Field.{IsBytes};
 ghost use Rattle.krb_ccache.specs.declared.credential.HeaderField.{HeaderField};
 ghost use Rattle.krb_ccache.specs.declared.fault.CacheFault.{CacheFault};
 ghost use Rattle.krb_ccache.specs.Configuration.{HoldsOffset};
-ghost use Rattle.krb_ccache.specs.Format.{IsCache, IsAnswerOf};
+ghost use Rattle.krb_ccache.specs.Format.{IsCache, IsAnswerOf, IsFaultOf};
+ghost use Rattle.krb_ccache.specs.Fault.{offset_of};
 ghost use Rattle.krb_ccache.specs.Offset.{clock_offset};
 ghost use Rattle.krb_ccache.specs.Value.{Cache};
 
@@ -44,4 +45,10 @@ pub fn the_offset_is_computed()
         → clock_offset header ≡ Some (seconds, microseconds) }
     ensures none { (header : List HeaderField) → All (λ field. field.tag ≢ 1) header
         → clock_offset header ≡ None }
+{}
+
+/// Says that a fault lies within the bytes: at one of them, or at their end.
+pub fn each_fault_lies_within()
+    ensures { (bytes : List ℕ) (fault : CacheFault) → IsFaultOf bytes fault
+        → IfSome (offset_of fault) (λ at. at ≤ length bytes) }
 {}

@@ -1,11 +1,11 @@
 -- A fault lies within the message.
 use Rattle.std.proofs.Common.{ℕ, ◌≤◌, List, ◌++◌, length, subst, sym, ap, arith, length-append}
 use Rattle.krb_der.specs.declared.fault.Fault.{Fault}
-use Rattle.krb_der.specs.Kind.{Kind, Fields, ValueOf}
+use Rattle.krb_der.specs.Kind.{Kind, leaf, int32, Fields, ends, must, ValueOf}
 use Rattle.krb_der.specs.Content.{Elementary}
 use Rattle.krb_der.specs.Place.{Place, end_of}
 use Rattle.krb_der.specs.Spells.{Contents, StandsAt}
-use Rattle.krb_der.specs.Fault.{HasHead, Reached, start, inside_wrapped, inside_sequence, after_element, is_there, is_absent, one_more, IsBroken, nothing, other_tag, cut_length, bad_length, cut_content, bad_content, left_over, IsFault, too_long, faulty}
+use Rattle.krb_der.specs.Fault.{HasHead, Reached, start, inside_wrapped, inside_sequence, after_element, is_there, is_absent, one_more, IsBroken, nothing, other_tag, cut_length, bad_length, cut_content, bad_content, left_over, IsFault, IsFaulty, IsElementFault, IsHeadFault, too_long, faulty}
 
 head_within : (tag : ℕ) (here inside after : Place) → HasHead tag here inside after → end_of inside ≤ end_of here
 head_within tag here inside after h =
@@ -37,3 +37,12 @@ module _ (Leaf : Contents) where
 pub fault_within : (k : Kind) (bytes : List ℕ) (fault : Fault) → IsFault k bytes fault → fault.at ≤ length bytes
 fault_within k bytes fault (too_long lt e) = subst (λ (f : Fault). f.at ≤ length bytes) (sym e) (omega arith)
 fault_within k bytes fault (faulty le f) = omega (arith, broken_within Elementary f.broken, reached_within Elementary _ _ f.reached)
+
+pub place_within : (fs : Fields) (here : Place) (fault : Fault) → IsFaulty Elementary fs here fault → fault.at ≤ end_of here
+place_within fs here fault f = omega (arith, broken_within Elementary f.broken, reached_within Elementary _ _ f.reached)
+
+pub element_fault_within : (k : Kind) (here : Place) (fault : Fault) → IsElementFault Elementary k here fault → fault.at ≤ end_of here
+element_fault_within k here fault f = place_within (must k ends) here fault (f ends)
+
+pub head_fault_within : (tag : ℕ) (here : Place) (fault : Fault) → IsHeadFault Elementary tag here fault → fault.at ≤ end_of here
+head_fault_within tag here fault f = broken_within Elementary (f (leaf int32) ends)

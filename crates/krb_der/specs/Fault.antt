@@ -8,7 +8,7 @@ use Rattle.krb_der.specs.Content.{Elementary}
 use Rattle.krb_der.specs.Place.{Place, begin_at, end_of, begins}
 use Rattle.krb_der.specs.Spells.{IsLength, Contents, StandsAt, limit}
 
--- An element with this tag begins at the place, its head is good, and its content ends before what encloses the place does:
+-- An element with this tag begins at the place, its head is good, and its content ends within what encloses the place:
 -- where the content stands, and where the element ends.
 pub record HasHead (tag : ℕ) (here inside after : Place) : Type 0 where
   pub size : List ℕ

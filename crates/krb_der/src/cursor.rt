@@ -121,7 +121,7 @@ impl<'a> Cursor<'a> {
     /// Enters the element with this tag where its tag is the next byte; answers `None` where it isn't.
     ///
     /// # Errors
-    /// Those of [`enter`](Self::enter) but `Tag`.
+    /// Those of [`enter`](Self::enter) where its tag is the next byte.
     pub fn optional(&mut self, tag: u8) -> Result<Option<Cursor<'a>>, Fault>
         ensures { MayEnter tag result self.old self.new }
     {

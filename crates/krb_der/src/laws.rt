@@ -4,9 +4,9 @@ ghost use Rattle.std.specs.Prelude.{◌≡◌, ℕ, ◌≤◌, ◌++◌, ◌∷�
 ghost use Rattle.krb_der.specs.declared.fault.Fault.{Fault};
 ghost use Rattle.krb_der.specs.Kind.{Kind, Fields, each, ValueOf, FieldsOf};
 ghost use Rattle.krb_der.specs.Content.{Elementary};
-ghost use Rattle.krb_der.specs.Place.{Place};
+ghost use Rattle.krb_der.specs.Place.{Place, end_of};
 ghost use Rattle.krb_der.specs.Spells.{Spells, SpellsFields, StandsAt, IsMessage};
-ghost use Rattle.krb_der.specs.Fault.{IsFault, IsFaulty, IsElementFault};
+ghost use Rattle.krb_der.specs.Fault.{IsFault, IsFaulty, IsElementFault, IsHeadFault};
 ghost use Rattle.krb_der.specs.Clear.{is_clear, are_clear};
 ghost use Rattle.krb_der.specs.Computed.Read.{element_at, fields_at, message_of};
 
@@ -42,6 +42,16 @@ pub fn faulty()
 /// A fault lies within the message: at one of its bytes, or at its end.
 pub fn within()
     ensures { (k : Kind) (bytes : List ℕ) (fault : Fault) → IsFault k bytes fault → fault.at ≤ length bytes }
+{}
+
+/// So does a fault of an element, of its head, or of fields that must stand at a place: within what encloses the place.
+pub fn within_a_place()
+    ensures element { (k : Kind) (here : Place) (fault : Fault)
+        → IsElementFault Elementary k here fault → fault.at ≤ end_of here }
+    ensures head { (tag : ℕ) (here : Place) (fault : Fault)
+        → IsHeadFault Elementary tag here fault → fault.at ≤ end_of here }
+    ensures fields { (fs : Fields) (here : Place) (fault : Fault)
+        → IsFaulty Elementary fs here fault → fault.at ≤ end_of here }
 {}
 
 /// Reading an element, as `specs::Computed` has it, gives a value and a place exactly where that value's spelling stands and

@@ -3,7 +3,8 @@
 ghost use Rattle.std.specs.Prelude.{◌≡◌, [], ◌∷◌, map, IfOk, IfSome, IfNone};
 ghost use Rattle.krb_der.specs.Kind.{sequence, each};
 ghost use Rattle.krb_der.specs.Content.{Elementary};
-ghost use Rattle.krb_der.specs.Spells.{SpellsFields};
+ghost use Rattle.krb_der.specs.Fault.{HasHead};
+ghost use Rattle.krb_der.specs.Spells.{SpellsFields, StandsAt};
 ghost use Rattle.krb_der.specs.Reading.{Reads, ReadsList};
 ghost use Rattle.krb_der.specs.Writing.{Encodes};
 ghost use Rattle.krb_der.specs.Computed.Gives.{Gives, checked};
@@ -45,6 +46,7 @@ impl<'a> Cursor<'a> {
     /// As of [`read`](Self::read): the first fault, also of an element. The cursor then stays.
     pub fn list<T: Element<'a> + Drop>(&mut self) -> Result<Cursor<'a>, Fault>
         ensures reads { Reads (sequence (each T.kind)) (listed T.kind) result self.old self.new }
+        ensures inside { IfOk result (λ content. HasHead 0x30 self.old content self.new) }
         ensures listed { IfOk result (AreListed T.kind) }
         ensures computed { Gives (listed T.kind) result self.old self.new (element_at (sequence (each T.kind)) self.old) }
     {
@@ -54,6 +56,7 @@ impl<'a> Cursor<'a> {
 
     #[tactic(auto, unfolding(crate::specs::Computed::Read::element_at, crate::specs::Computed::Read::element_by))]
     fn list_here<T: Element<'a> + Drop>(&mut self) -> Result<Cursor<'a>, Fault>
+        ensures inside { IfOk result (λ content. HasHead 0x30 self.old content self.new) }
         ensures listed { IfOk result (AreListed T.kind) }
         ensures computed { Gives (listed T.kind) result self.old self.new (element_at (sequence (each T.kind)) self.old) }
     {
@@ -67,6 +70,7 @@ impl<'a> Cursor<'a> {
     pub fn next<T: Element<'a>>(&mut self) -> Option<T>
         requires { AreListed T.kind self.old }
         ensures end { IfNone result ((listed T.kind self.old ≡ []) × (self.new ≡ self.old)) }
+        ensures stands { IfSome result (λ x. StandsAt Elementary T.kind (T.view x) self.old self.new) }
         ensures some { IfSome result (λ x. listed T.kind self.old ≡ T.view x ∷ listed T.kind self.new) }
         ensures listed { AreListed T.kind self.new }
     {

@@ -14,3 +14,4 @@ pub mod ScanLaws
 pub mod EditLaws
 pub mod OneSplit
 pub mod AddLaws
+pub mod FaultPlaces

@@ -1,11 +1,13 @@
 //! Laws over the definitions, for proofs to cite. Each function does nothing: its contract is the law.
 
-ghost use Rattle.std.specs.Prelude.{◌≡◌, ℕ, ℤ, List, Option, Result};
+ghost use Rattle.std.specs.Prelude.{◌≡◌, ◌≤◌, ℕ, ℤ, IfSome, List, Option, Result, length};
+ghost use Rattle.std.specs.List.{flat_map};
 ghost use Rattle.krb_name.specs.Field.{IsBytes};
 ghost use Rattle.krb_name.specs.declared.principal.Principal.{Principal};
 ghost use Rattle.krb_keytab.specs.Entry.{KeytabEntry};
 ghost use Rattle.krb_keytab.specs.Edit.{IsMadeOf};
-ghost use Rattle.krb_keytab.specs.Format.{KeytabRecord, IsAnswerOf};
+ghost use Rattle.krb_keytab.specs.Fault.{offset_of};
+ghost use Rattle.krb_keytab.specs.Format.{KeytabRecord, IsAnswerOf, IsFaultOf, IsKeytab, entries_of};
 ghost use Rattle.krb_keytab.specs.Pick.{IsPicked, IsSamePick};
 ghost use Rattle.krb_keytab.specs.declared.fault.KeytabFault.{KeytabFault};
 ghost use Rattle.krb_keytab.specs.declared.pick.Picked.{Picked};
@@ -32,4 +34,17 @@ pub fn each_keytab_is_divided_once()
     ensures { (bytes : List ℕ) (records others : List KeytabRecord) (end other_end : List ℕ)
         → IsMadeOf bytes records end → IsMadeOf bytes others other_end
         → (records ≡ others) × (end ≡ other_end) }
+{}
+
+/// Says that the entries of a keytab are those of its records, in their order: so an entry that was added
+/// stands behind those of the records before its own.
+pub fn records_hold_the_entries()
+    ensures { (bytes : List ℕ) (records : List KeytabRecord) (end : List ℕ)
+        → IsMadeOf bytes records end → IsKeytab bytes (flat_map entries_of records) }
+{}
+
+/// Says that a fault lies within the bytes: at one of them, or at their end.
+pub fn each_fault_lies_within()
+    ensures { (bytes : List ℕ) (fault : KeytabFault) → IsFaultOf bytes fault
+        → IfSome (offset_of fault) (λ at. at ≤ length bytes) }
 {}

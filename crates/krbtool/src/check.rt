@@ -25,7 +25,7 @@ use std::alloc::{AllocError, Global};
 /// # Errors
 /// - `Keytab`: what was read is no keytab, or couldn't be read, or there was no room for it.
 /// - `Write`: the sink failed; it took a beginning of the line.
-/// - `OutOfMemory`: there was no room for the line; the sink took nothing.
+/// - `OutOfMemory`: there was no room for the line.
 ///
 /// Condition: fewer than 18,446,744,073,709,551,615 reads and writes have failed so far.
 pub fn check_keytab<S: Source, T: Sink>(
@@ -51,6 +51,7 @@ pub fn check_keytab<S: Source, T: Sink>(
     ensures begun { (result ≡ Err EngineFault.Write) ⊎ (result ≡ Err EngineFault.OutOfMemory)
         → OfFile IsKeytab (S.remaining source.old) (λ entries.
         AppendsBeginning (T.taken sink.old) (T.taken sink.new) (ok_line (length entries))) }
+    ensures kind { (other : CacheFault) → result ≡ Err (EngineFault.Cache other) → ⊥ }
     ensures reads { S.failure_count source.new ≡ S.failure_count source.old + failed_reads result }
     ensures writes { T.failure_count sink.new ≡ T.failure_count sink.old + failed_writes result }
 {
@@ -67,7 +68,7 @@ pub fn check_keytab<S: Source, T: Sink>(
 /// # Errors
 /// - `Cache`: what was read is no credential cache, or couldn't be read, or there was no room for it.
 /// - `Write`: the sink failed; it took a beginning of the line.
-/// - `OutOfMemory`: there was no room for the line; the sink took nothing.
+/// - `OutOfMemory`: there was no room for the line.
 ///
 /// Condition: fewer than 18,446,744,073,709,551,615 reads and writes have failed so far.
 pub fn check_ccache<S: Source, T: Sink>(
@@ -93,6 +94,7 @@ pub fn check_ccache<S: Source, T: Sink>(
     ensures begun { (result ≡ Err EngineFault.Write) ⊎ (result ≡ Err EngineFault.OutOfMemory)
         → OfFile IsCache (S.remaining source.old) (λ cache.
         AppendsBeginning (T.taken sink.old) (T.taken sink.new) (ok_line (length cache.credentials))) }
+    ensures kind { (other : KeytabFault) → result ≡ Err (EngineFault.Keytab other) → ⊥ }
     ensures reads { S.failure_count source.new ≡ S.failure_count source.old + failed_reads result }
     ensures writes { T.failure_count sink.new ≡ T.failure_count sink.old + failed_writes result }
 {

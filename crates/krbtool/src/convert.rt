@@ -59,6 +59,7 @@ pub fn convert_keytab<S: Source, T: Sink>(
         → OfFile IsKeytab (S.remaining source.old) (λ entries.
         AppendsBeginning (T.taken sink.old) (T.taken sink.new) (written entries)) }
     ensures memory { result ≡ Err EngineFault.OutOfMemory → ⊥ }
+    ensures kind { (other : CacheFault) → result ≡ Err (EngineFault.Cache other) → ⊥ }
     ensures reads { S.failure_count source.new ≡ S.failure_count source.old + failed_reads result }
     ensures writes { T.failure_count sink.new ≡ T.failure_count sink.old + failed_writes result }
 {
@@ -78,6 +79,7 @@ fn write_keytab<T: Sink>(alloc: Global, keytab: &Keytab, sink: &mut T) -> Result
     ensures begun { result ≡ Err EngineFault.Write
         → AppendsBeginning (T.taken sink.old) (T.taken sink.new) (written keytab.now) }
     ensures memory { result ≡ Err EngineFault.OutOfMemory → ⊥ }
+    ensures kind { (other : CacheFault) → result ≡ Err (EngineFault.Cache other) → ⊥ }
     ensures reads { failed_reads result ≡ 0 }
     ensures writes { T.failure_count sink.new ≡ T.failure_count sink.old + failed_writes result }
 {
@@ -93,8 +95,8 @@ fn write_keytab<T: Sink>(alloc: Global, keytab: &Keytab, sink: &mut T) -> Result
 /// was.
 ///
 /// # Errors
-/// - `Cache`: what was read is no credential cache, or couldn't be read, or there was no room for it or for what
-///   is written; `TooLong` also where that would have more than 16,777,216 bytes.
+/// - `Cache`: what was read is no credential cache, or couldn't be read, or there was no room for it or for
+///   what is written.
 /// - `Write`: the sink failed; it took a beginning of the bytes.
 ///
 /// Condition: fewer than 18,446,744,073,709,551,615 reads and writes have failed so far.
@@ -126,6 +128,7 @@ pub fn convert_ccache<S: Source, T: Sink>(
         → OfFile IsCache (S.remaining source.old) (λ cache.
         AppendsBeginning (T.taken sink.old) (T.taken sink.new) (cache_bytes cache)) }
     ensures memory { result ≡ Err EngineFault.OutOfMemory → ⊥ }
+    ensures kind { (other : KeytabFault) → result ≡ Err (EngineFault.Keytab other) → ⊥ }
     ensures reads { S.failure_count source.new ≡ S.failure_count source.old + failed_reads result }
     ensures writes { T.failure_count sink.new ≡ T.failure_count sink.old + failed_writes result }
 {
@@ -148,6 +151,7 @@ fn write_ccache<T: Sink>(alloc: Global, cache: &CCache, sink: &mut T) -> Result<
     ensures begun { result ≡ Err EngineFault.Write
         → AppendsBeginning (T.taken sink.old) (T.taken sink.new) (cache_bytes cache.now) }
     ensures memory { result ≡ Err EngineFault.OutOfMemory → ⊥ }
+    ensures kind { (other : KeytabFault) → result ≡ Err (EngineFault.Keytab other) → ⊥ }
     ensures reads { failed_reads result ≡ 0 }
     ensures writes { T.failure_count sink.new ≡ T.failure_count sink.old + failed_writes result }
 {

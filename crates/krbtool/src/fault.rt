@@ -16,7 +16,8 @@ use thiserror::Error;
 /// Why an engine ended early.
 #[derive(Clone, Copy, Debug, PartialEq, Eq, Error)]
 pub enum EngineFault {
-    /// The keytab couldn't be read, there was no room for it, or what was read is none.
+    /// The keytab couldn't be read, there was no room for it, what was read is none, or what is to be
+    /// written of it would be too long.
     #[error("{0}")]
     Keytab(KeytabFault),
     /// The credential cache couldn't be read, there was no room for it, or what was read is none.

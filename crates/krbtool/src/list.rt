@@ -53,6 +53,7 @@ pub fn list_keytab<S: Source, T: Sink>(
     ensures begun { (result ≡ Err EngineFault.Write) ⊎ (result ≡ Err EngineFault.OutOfMemory)
         → OfFile IsKeytab (S.remaining source.old) (λ entries.
         AppendsBeginning (T.taken sink.old) (T.taken sink.new) (keytab_lines entries)) }
+    ensures kind { (other : CacheFault) → result ≡ Err (EngineFault.Cache other) → ⊥ }
     ensures reads { S.failure_count source.new ≡ S.failure_count source.old + failed_reads result }
     ensures writes { T.failure_count sink.new ≡ T.failure_count sink.old + failed_writes result }
 {
@@ -111,6 +112,7 @@ pub fn list_ccache<S: Source, T: Sink>(
         → OfFile IsCache (S.remaining source.old) (λ cache.
         (offset : Option (ℤ × ℤ)) × (IsOffset cache.header offset
         × AppendsBeginning (T.taken sink.old) (T.taken sink.new) (cache_lines cache offset))) }
+    ensures kind { (other : KeytabFault) → result ≡ Err (EngineFault.Keytab other) → ⊥ }
     ensures reads { S.failure_count source.new ≡ S.failure_count source.old + failed_reads result }
     ensures writes { T.failure_count sink.new ≡ T.failure_count sink.old + failed_writes result }
 {

@@ -4,6 +4,7 @@ use Rattle.krb_der.specs.Kind.{sequence, each}
 use Rattle.krb_der.specs.Computed.Gives.{Gives}
 use Rattle.krb_der.specs.Computed.Listed.{listed}
 use Rattle.krb_der.specs.Computed.Read.{element_at}
+use Rattle.krb_der.proofs.ElementSteps.{enter_at-read}
 use Rattle.krb_der.proofs.Listed.{list-ok, list-err}
 use Rattle.krb_der.proofs.cursor.Cursor.list_here.Goals as goal
 
@@ -18,3 +19,6 @@ returns-in_err-check_each_here-clause-computed g c =
 pub returns-clause-computed : goal.returns-clause-computed
 returns-clause-computed g c =
     (list-ok g.T.Element.kind c.args.self.now c.in_ok-content.content c.in_ok-content.after (sym c.in_ok-content.ensures) (sym c.in_ok-check_each_here.ensures)).0
+
+pub returns-clause-inside : goal.returns-clause-inside
+returns-clause-inside g c = enter_at-read 0x30 c.args.self.now c.in_ok-content.content c.in_ok-content.after (sym c.in_ok-content.ensures)
