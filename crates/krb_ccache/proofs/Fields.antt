@@ -14,26 +14,26 @@ use Rattle.krb_ccache.specs.Inner.Reading.{both_at, made_at, passing_at, counted
 
 -- ---- one behind the other
 
-module _ {X Y : Type 0} (r1 : Place → Option (X × Place)) (s1 : X → List ℕ) (P1 : X → Type 0) (f1 : IsField r1 s1 P1) (r2 : Place → Option (Y × Place)) (s2 : Y → List ℕ) (P2 : Y → Type 0) (f2 : IsField r2 s2 P2) where
-  both_take : (place : Place) (x : X × Y) (behind : Place) → IsBytes place.rest → both_at r1 r2 place ≡ Some (x, behind) → Takes place (s1 x.0 ++ s2 x.1) behind × (P1 x.0 × P2 x.1)
+module _ {X Y : Type 0} (read_one : Place → Option (X × Place)) (bytes_one : X → List ℕ) (IsOne : X → Type 0) (one : IsField read_one bytes_one IsOne) (read_other : Place → Option (Y × Place)) (bytes_other : Y → List ℕ) (IsOther : Y → Type 0) (other : IsField read_other bytes_other IsOther) where
+  both_take : (place : Place) (x : X × Y) (behind : Place) → IsBytes place.rest → both_at read_one read_other place ≡ Some (x, behind) → Takes place (bytes_one x.0 ++ bytes_other x.1) behind × (IsOne x.0 × IsOther x.1)
   both_take place x behind fits e =
-      let a = bind_some (r1 place) (λ p. r2 p.1 >>= λ q. Some ((p.0, q.0), q.1)) (x, behind) e in
-      let b = bind_some (r2 a.0.1) (λ q. Some ((a.0.0, q.0), q.1)) (x, behind) a.2 in
-      let t = f1.takes place a.0.0 a.0.1 fits a.1 in
-      let u = f2.takes a.0.1 b.0.0 b.0.1 t.0.rest_fits b.1 in
-      subst (λ (p : (X × Y) × Place). Takes place (s1 p.0.0 ++ s2 p.0.1) p.1 × (P1 p.0.0 × P2 p.0.1)) (some_is ((a.0.0, b.0.0), b.0.1) (x, behind) b.2)
-      (Takes-then place (s1 a.0.0) a.0.1 (s2 b.0.0) b.0.1 t.0 u.0, (t.1, u.1))
+      let a = bind_some (read_one place) (λ p. read_other p.1 >>= λ q. Some ((p.0, q.0), q.1)) (x, behind) e in
+      let b = bind_some (read_other a.0.1) (λ q. Some ((a.0.0, q.0), q.1)) (x, behind) a.2 in
+      let t = one.takes place a.0.0 a.0.1 fits a.1 in
+      let u = other.takes a.0.1 b.0.0 b.0.1 t.0.rest_fits b.1 in
+      subst (λ (p : (X × Y) × Place). Takes place (bytes_one p.0.0 ++ bytes_other p.0.1) p.1 × (IsOne p.0.0 × IsOther p.0.1)) (some_is ((a.0.0, b.0.0), b.0.1) (x, behind) b.2)
+      (Takes-then place (bytes_one a.0.0) a.0.1 (bytes_other b.0.0) b.0.1 t.0 u.0, (t.1, u.1))
 
-  both_again : (at : ℕ) (x : X × Y) (rest : List ℕ) → P1 x.0 × P2 x.1
-      → both_at r1 r2 (record { at = at; rest = (s1 x.0 ++ s2 x.1) ++ rest }) ≡ Some (x, record { at = at + length (s1 x.0 ++ s2 x.1); rest = rest })
+  both_again : (at : ℕ) (x : X × Y) (rest : List ℕ) → IsOne x.0 × IsOther x.1
+      → both_at read_one read_other (record { at = at; rest = (bytes_one x.0 ++ bytes_other x.1) ++ rest }) ≡ Some (x, record { at = at + length (bytes_one x.0 ++ bytes_other x.1); rest = rest })
   both_again at x rest h =
-      let grouped : (s1 x.0 ++ s2 x.1) ++ rest ≡ s1 x.0 ++ (s2 x.1 ++ rest) = append_assoc (s1 x.0) (s2 x.1) rest in
-      let first = f1.again at x.0 (s2 x.1 ++ rest) h.0 in
-      let second = f2.again (at + length (s1 x.0)) x.1 rest h.1 in
-      let place : (at + length (s1 x.0)) + length (s2 x.1) ≡ at + length (s1 x.0 ++ s2 x.1) = omega (arith, length-append (s1 x.0) (s2 x.1)) in
+      let grouped : (bytes_one x.0 ++ bytes_other x.1) ++ rest ≡ bytes_one x.0 ++ (bytes_other x.1 ++ rest) = append_assoc (bytes_one x.0) (bytes_other x.1) rest in
+      let first = one.again at x.0 (bytes_other x.1 ++ rest) h.0 in
+      let second = other.again (at + length (bytes_one x.0)) x.1 rest h.1 in
+      let place : (at + length (bytes_one x.0)) + length (bytes_other x.1) ≡ at + length (bytes_one x.0 ++ bytes_other x.1) = omega (arith, length-append (bytes_one x.0) (bytes_other x.1)) in
       rw (grouped, first, second, place) refl
 
-  pub IsField-both : IsField (both_at r1 r2) (λ x. s1 x.0 ++ s2 x.1) (λ x. P1 x.0 × P2 x.1)
+  pub IsField-both : IsField (both_at read_one read_other) (λ x. bytes_one x.0 ++ bytes_other x.1) (λ x. IsOne x.0 × IsOther x.1)
   IsField-both = record { takes = both_take; again = both_again }
 
 -- ---- what is made of another
