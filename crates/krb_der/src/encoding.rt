@@ -8,7 +8,7 @@ ghost use Rattle.krb_der.specs.Spells.{Spells, SpellsFields, IsMessage, limit};
 ghost use Rattle.krb_der.specs.Writing.{Encodes};
 
 use crate::cursor::LIMIT;
-use crate::row::{Field, Maybe};
+use crate::row::{Field, Maybe, MaybeRef};
 use crate::{Constant, EncodeFault, Flags, Microseconds, Octets, Seconds, Text, Writer, tag};
 use std::alloc::Global;
 
@@ -219,21 +219,43 @@ impl<const TAG: u8, T: Encode, R: EncodeRow> EncodeRow for (Field<TAG, T>, R) {
     }
 }
 
+/// Writes an element with this tag round it where there is one, and then the rest of the row.
+fn write_maybe<T: Encode, R: EncodeRow>(
+    maybe: &Option<T>,
+    tag: u8,
+    rest: &R,
+    out: &mut Writer,
+) -> Result<(), EncodeFault>
+    ensures { Encodes (SpellsFields Elementary (may (wrapped tag T.kind) R.fields) (option_map T.view maybe.now, R.view rest.now)) result out.old out.new }
+{
+    match maybe {
+        Some(value) => {
+            let start = out.len();
+            write_wrapped(value, tag, out)?;
+            let written = rest.write_row(out);
+            out.settle(start, written)
+        }
+        None => rest.write_row(out),
+    }
+}
+
 impl<const TAG: u8, T: Encode, R: EncodeRow> EncodeRow for (Maybe<TAG, T>, R) {
     ghost fields = { may (wrapped TAG T.kind) R.fields };
 
     ghost view = { λ r. (option_map T.view r.0.0, R.view r.1) };
 
     fn write_row(&self, out: &mut Writer) -> Result<(), EncodeFault> {
-        match &self.0.0 {
-            Some(value) => {
-                let start = out.len();
-                write_wrapped(value, TAG, out)?;
-                let written = self.1.write_row(out);
-                out.settle(start, written)
-            }
-            None => self.1.write_row(out),
-        }
+        write_maybe(&self.0.0, TAG, &self.1, out)
+    }
+}
+
+impl<const TAG: u8, T: Encode, R: EncodeRow> EncodeRow for (MaybeRef<'_, TAG, T>, R) {
+    ghost fields = { may (wrapped TAG T.kind) R.fields };
+
+    ghost view = { λ r. (option_map T.view r.0.0.now, R.view r.1) };
+
+    fn write_row(&self, out: &mut Writer) -> Result<(), EncodeFault> {
+        write_maybe(self.0.0, TAG, &self.1, out)
     }
 }
 

@@ -1,10 +1,10 @@
 //! A SEQUENCE OF: read as a cursor over its content, and written from a slice.
 
 ghost use Rattle.std.specs.Prelude.{◌≡◌, [], ◌∷◌, map, IfOk, IfSome, IfNone};
-ghost use Rattle.krb_der.specs.Kind.{sequence, each};
+ghost use Rattle.krb_der.specs.Kind.{Kind, ValueOf, sequence, each, leaf, string};
 ghost use Rattle.krb_der.specs.Content.{Elementary};
 ghost use Rattle.krb_der.specs.Fault.{HasHead};
-ghost use Rattle.krb_der.specs.Spells.{SpellsFields, StandsAt};
+ghost use Rattle.krb_der.specs.Spells.{Spells, SpellsFields, StandsAt};
 ghost use Rattle.krb_der.specs.Reading.{Reads, ReadsList};
 ghost use Rattle.krb_der.specs.Writing.{Encodes};
 ghost use Rattle.krb_der.specs.Computed.Gives.{Gives, checked};
@@ -12,7 +12,8 @@ ghost use Rattle.krb_der.specs.Computed.Listed.{AreListed, listed};
 ghost use Rattle.krb_der.specs.Computed.Read.{element_at, fields_at};
 
 use crate::element::is_clear;
-use crate::{Cursor, Element, Encode, EncodeFault, Fault, Writer, tag};
+use crate::{Cursor, Element, Encode, EncodeFault, Fault, Text, Writer, tag};
+use std::convert::AsSlice;
 
 impl<'a> Cursor<'a> {
     /// Checks that all that is left are elements of the type's kind, one after another, as in a SEQUENCE OF. The cursor stays.
@@ -84,26 +85,93 @@ impl<'a> Cursor<'a> {
     }
 }
 
+/// How the items of a slice are written.
+trait Item<T> {
+    ghost kind: { Kind };
+
+    ghost view: { T → ValueOf kind };
+
+    fn write_item(item: &T, out: &mut Writer) -> Result<(), EncodeFault>
+        ensures { Encodes (Spells kind (view item.now)) result out.old out.new };
+}
+
+/// As the elements that they are.
+struct AsElements;
+
+impl<T: Encode> Item<T> for AsElements {
+    ghost kind = { T.kind };
+
+    ghost view = { T.view };
+
+    fn write_item(item: &T, out: &mut Writer) -> Result<(), EncodeFault> {
+        item.write(out)
+    }
+}
+
+/// As GeneralStrings of their bytes.
+struct AsTexts;
+
+impl<T: AsSlice<u8>> Item<T> for AsTexts {
+    ghost kind = { leaf string };
+
+    ghost view = { T.items };
+
+    fn write_item(item: &T, out: &mut Writer) -> Result<(), EncodeFault> {
+        Text(item.as_slice()).write(out)
+    }
+}
+
 impl<T: Encode> Encode for &[T] {
     ghost kind = { sequence (each T.kind) };
 
     ghost view = { λ items. map T.view items.now };
 
     fn write(&self, out: &mut Writer) -> Result<(), EncodeFault> {
-        let start = out.len();
-        write_each(self, out)?;
-        let written = out.wrap(tag::SEQUENCE, start);
-        out.limited(start, written)
+        write_list::<T, AsElements>(self, out)
     }
 }
 
-/// Writes the elements one after another.
-fn write_each<T: Encode>(items: &[T], out: &mut Writer) -> Result<(), EncodeFault>
-    ensures { Encodes (SpellsFields Elementary (each T.kind) (map T.view items.now)) result out.old out.new }
+impl<T: Encode> Encode for Vec<T> {
+    ghost kind = { sequence (each T.kind) };
+
+    ghost view = { λ list. map T.view list.items };
+
+    fn write(&self, out: &mut Writer) -> Result<(), EncodeFault> {
+        write_list::<T, AsElements>(self.as_slice(), out)
+    }
+}
+
+/// TextSlice that stand somewhere, to be written as a SEQUENCE OF GeneralString.
+#[derive(Clone, Copy, Debug)]
+pub struct TextSlice<'a, T>(pub &'a [T]);
+
+impl<T: AsSlice<u8>> Encode for TextSlice<'_, T> {
+    ghost kind = { sequence (each (leaf string)) };
+
+    ghost view = { λ texts. map T.items texts.0.now };
+
+    fn write(&self, out: &mut Writer) -> Result<(), EncodeFault> {
+        write_list::<T, AsTexts>(self.0, out)
+    }
+}
+
+/// Writes a SEQUENCE OF the items.
+fn write_list<T, As: Item<T>>(items: &[T], out: &mut Writer) -> Result<(), EncodeFault>
+    ensures { Encodes (Spells (sequence (each As.kind)) (map As.view items.now)) result out.old out.new }
+{
+    let start = out.len();
+    write_each::<T, As>(items, out)?;
+    let written = out.wrap(tag::SEQUENCE, start);
+    out.limited(start, written)
+}
+
+/// Writes the items one after another.
+fn write_each<T, As: Item<T>>(items: &[T], out: &mut Writer) -> Result<(), EncodeFault>
+    ensures { Encodes (SpellsFields Elementary (each As.kind) (map As.view items.now)) result out.old out.new }
 {
     let start = out.len();
     for item in items {
-        if let Err(fault) = item.write(out) {
+        if let Err(fault) = As::write_item(item, out) {
             return out.settle(start, Err(fault));
         }
     }

@@ -16,6 +16,10 @@ pub struct Field<const TAG: u8, T>(pub T);
 #[derive(Clone, Copy, Debug, PartialEq, Eq)]
 pub struct Maybe<const TAG: u8, T>(pub Option<T>);
 
+/// The same, for writing it where it stands.
+#[derive(Clone, Copy, Debug, PartialEq, Eq)]
+pub struct MaybeRef<'a, const TAG: u8, T>(pub &'a Option<T>);
+
 /// A type whose values are those of a row of fields.
 pub trait Row<'a>: Sized {
     ghost fields: { Fields };

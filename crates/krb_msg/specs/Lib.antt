@@ -1,3 +1,4 @@
 pub mod Moments
 pub mod Module
 pub mod Borrowed
+pub mod Owned

@@ -117,3 +117,13 @@ krb_error = application 30 (sequence
     (must (field 10 principal_name)
     (may (field 11 (leaf string))
     (may (field 12 (leaf octets)) ends))))))))))))))
+
+-- the messages, of which each stands alone
+pub data IsMessageKind : Kind → Type 0 where
+  is_ticket : IsMessageKind ticket
+  is_authenticator : IsMessageKind authenticator
+  is_enc_ticket_part : IsMessageKind enc_ticket_part
+  is_ap_req : IsMessageKind ap_req
+  is_ap_rep : IsMessageKind ap_rep
+  is_enc_ap_rep_part : IsMessageKind enc_ap_rep_part
+  is_krb_error : IsMessageKind krb_error

@@ -1,16 +1,19 @@
-//! The sealed part of a ticket.
+//! The sealed part of a ticket, read in place.
 
 ghost use Rattle.std.specs.Prelude.{refl, ◌≡◌, ◌≤◌, length, IfOk, IfErr, IsOkAnd};
 ghost use Rattle.krb_der.specs.Kind.{ValueOf, leaf, must, may, ends, field, time};
 ghost use Rattle.krb_der.specs.Fault.{IsFault};
 ghost use Rattle.krb_der.specs.Spells.{IsMessage};
-ghost use Rattle.krb_msg.specs.Borrowed.{enc_ticket_part_of, typed_of};
+ghost use Rattle.krb_msg.specs.Borrowed.{as_it_is, enc_ticket_part_of, typed_of};
 ghost use Rattle.krb_msg.specs.Module.{authorization_data, enc_ticket_part, host_address, sequence_of, transited_encoding};
-ghost use Rattle.std.specs.Option.{option_map};
+ghost use Rattle.krb_msg.specs.Owned.{owned_enc_ticket_part_of};
 
+use crate::enc_ticket_part::EncTicketPart;
+use crate::key::KeyRef;
 use crate::name::NameRef;
-use crate::typed::{KeyRef, TypedListRef, TypedRef};
+use crate::typed::{TypedListRef, TypedRef, owned_list};
 use krb_der::{Cursor, Element, Fault, Field, Flags, Maybe, Message, Row, Seconds, Text};
+use std::alloc::{AllocError, Global};
 
 /// An `EncTicketPart` (RFC 4120, section 5.3), whose texts and octets are slices of the input.
 #[derive(Drop)]
@@ -112,7 +115,7 @@ type EncTicketEndRow<'a> = (
 impl<'a> Row<'a> for EncTicketTail<'a> {
     ghost fields = { must (field 4 transited_encoding) (must (field 5 (leaf time)) (may (field 6 (leaf time)) (must (field 7 (leaf time)) (may (field 8 (leaf time)) (may (field 9 (sequence_of host_address)) (may (field 10 authorization_data) ends)))))) };
 
-    ghost view = { λ t. (typed_of t.transited, (t.authtime, (option_map (λ x. x) t.starttime, (t.endtime, (option_map (λ x. x) t.renew_till, (option_map (λ x. x) t.caddr, (option_map (λ x. x) t.authorization, tt))))))) };
+    ghost view = { λ t. (typed_of t.transited, (t.authtime, (as_it_is t.starttime, (t.endtime, (as_it_is t.renew_till, (as_it_is t.caddr, (as_it_is t.authorization, tt))))))) };
 
     fn read_row(content: Cursor<'a>) -> Result<EncTicketTail<'a>, Fault> {
         let row: Result<EncTicketTailRow<'a>, Fault> = Row::read_row(content);
@@ -151,5 +154,26 @@ impl<'a> EncTicketRef<'a> {
         ensures offset { IfErr result (λ fault. fault.at ≤ length bytes.entry.now) }
     {
         krb_der::parse(bytes)
+    }
+
+    /// A copy of the message.
+    ///
+    /// # Errors
+    /// There was no room.
+    pub fn to_owned(&self, alloc: Global) -> Result<EncTicketPart, AllocError>
+        ensures { IfOk result (λ made. owned_enc_ticket_part_of made ≡ enc_ticket_part_of self.now) }
+    {
+        Ok(EncTicketPart {
+            flags: self.flags,
+            key: self.key.to_owned(alloc)?,
+            client: self.cname.to_principal(alloc, self.crealm)?,
+            transited: self.transited.to_owned(alloc)?,
+            authtime: self.authtime,
+            starttime: self.starttime,
+            endtime: self.endtime,
+            renew_till: self.renew_till,
+            caddr: owned_list(alloc, &self.caddr)?,
+            authorization: owned_list(alloc, &self.authorization)?,
+        })
     }
 }

@@ -17,7 +17,13 @@
 //! ```
 #![tactic(auto)]
 
+mod authenticator;
 mod enc_ticket;
+mod enc_ticket_part;
+mod error;
+mod key;
+mod krb_error;
+pub mod laws;
 mod moment;
 mod name;
 mod reply;
@@ -26,15 +32,21 @@ mod texts;
 mod ticket;
 mod typed;
 
+pub use authenticator::{Authenticator, AuthenticatorRef};
 pub use enc_ticket::EncTicketRef;
-pub use krb_der::{Fault, FaultKind, Flags, Microseconds, Seconds};
+pub use enc_ticket_part::EncTicketPart;
+pub use error::KrbErrorRef;
+pub use key::{KeyRef, RawKey};
+pub use krb_der::{EncodeFault, Fault, FaultKind, Flags, Microseconds, Seconds};
+pub use krb_error::KrbError;
+pub use krb_name::{Bytes, Components, Principal};
 pub use moment::Moment;
-pub use name::NameRef;
-pub use reply::{ApRepRef, EncApRepRef};
-pub use request::{ApReqRef, AuthenticatorRef};
+pub use name::{Name, NameRef};
+pub use reply::{ApRep, ApRepRef, EncApRepPart, EncApRepRef};
+pub use request::{ApReq, ApReqRef};
 pub use texts::Texts;
-pub use ticket::{EncryptedRef, TicketRef};
-pub use typed::{KeyRef, TypedListRef, TypedRef};
+pub use ticket::{Encrypted, EncryptedRef, Ticket, TicketRef};
+pub use typed::{Typed, TypedListRef, TypedRef};
 
 #[cfg(test)]
 mod tests;

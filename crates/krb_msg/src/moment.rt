@@ -4,6 +4,7 @@ ghost use Rattle.std.specs.Prelude.{◌≡◌, ◌<◌, SomeIff};
 ghost use Rattle.krb_der.specs.Time.{IsSeconds};
 ghost use Rattle.krb_msg.specs.Moments.{micros_of};
 
+use krb_der::{Microseconds, Seconds};
 use std::marker::Model;
 
 /// A microsecond of the years 0000 to 9999. Moments are ordered by time. A contract sees one as its microseconds from
@@ -38,5 +39,25 @@ impl Moment {
         Some(Moment {
             micros: 1_000_000 * seconds + i64::from(micros),
         })
+    }
+    /// The moment of a message's time, so many microseconds after a second.
+    pub fn at(second: Seconds, micros: Microseconds) -> Moment
+        ensures { result ≡ micros_of second micros }
+    {
+        Moment {
+            micros: 1_000_000 * second.get() + i64::from(micros.get()),
+        }
+    }
+
+    /// The second that the moment lies in, and the microseconds since it began, as messages tell them.
+    pub fn parts(self) -> (Seconds, Microseconds)
+        ensures { self ≡ micros_of result.0 result.1 }
+    {
+        let second = Seconds::new(self.micros.div_euclid(1_000_000));
+        let micros = Microseconds::new(self.micros.rem_euclid(1_000_000) as u32);
+        match (second, micros) {
+            (Some(second), Some(micros)) => (second, micros),
+            _ => unreachable!(),
+        }
     }
 }

@@ -1,11 +1,19 @@
 //! A name without its realm.
 
-ghost use Rattle.std.specs.Prelude.{refl};
+ghost use Rattle.std.specs.Prelude.{refl, ◌≡◌, IfOk};
+ghost use Rattle.std.specs.Option.{option_map};
+ghost use Rattle.krb_der.specs.Spells.{Spells};
+ghost use Rattle.krb_der.specs.Writing.{Encodes};
 ghost use Rattle.krb_msg.specs.Borrowed.{name_of};
 ghost use Rattle.krb_msg.specs.Module.{principal_name};
+ghost use Rattle.krb_msg.specs.Owned.{owned_name_of, principal_name_of};
 
 use crate::texts::Texts;
-use krb_der::{Cursor, Element, Fault, Field};
+use krb_der::{
+    Cursor, Element, Encode, EncodeFault, Fault, Field, TextSlice, Writer, write_sequence,
+};
+use krb_name::{Bytes, Components, Principal};
+use std::alloc::{AllocError, Global};
 
 /// A `PrincipalName` (RFC 4120, section 5.2.2) of a message.
 #[derive(Debug, Drop)]
@@ -35,4 +43,87 @@ impl<'a> Element<'a> for NameRef<'a> {
             Err(fault) => Err(fault),
         }
     }
+}
+
+impl<'a> NameRef<'a> {
+    /// A copy of the name.
+    ///
+    /// # Errors
+    /// There was no room.
+    pub fn to_owned(&self, alloc: Global) -> Result<Name, AllocError>
+        ensures { IfOk result (λ made. owned_name_of made ≡ name_of self.now) }
+    {
+        Ok(Name {
+            name_type: self.name_type,
+            components: self.components.to_owned(alloc)?,
+        })
+    }
+
+    /// The principal of this name in a realm, as copies of both.
+    ///
+    /// # Errors
+    /// There was no room.
+    pub fn to_principal(&self, alloc: Global, realm: &[u8]) -> Result<Principal, AllocError>
+        ensures realm { IfOk result (λ made. made.realm ≡ realm.now) }
+        ensures name { IfOk result (λ made. principal_name_of made ≡ name_of self.now) }
+    {
+        Ok(Principal {
+            realm: Bytes::from_slice(alloc, realm)?,
+            name_type: self.name_type,
+            components: self.components.to_owned(alloc)?,
+        })
+    }
+}
+
+/// A copy of the name, where there is one.
+pub(crate) fn owned_name(alloc: Global, name: &Option<NameRef>) -> Result<Option<Name>, AllocError>
+    ensures { IfOk result (λ made. option_map owned_name_of made ≡ option_map name_of name.now) }
+{
+    match name {
+        Some(name) => Ok(Some(name.to_owned(alloc)?)),
+        None => Ok(None),
+    }
+}
+
+/// A `PrincipalName` (RFC 4120, section 5.2.2): a name that tells no realm.
+#[derive(Debug, Drop)]
+pub struct Name {
+    /// The name type (RFC 4120, section 6.2).
+    pub name_type: i32,
+    /// The components, in their order.
+    pub components: Components,
+}
+
+impl Encode for Name {
+    ghost kind = { principal_name };
+
+    ghost view = { owned_name_of };
+
+    fn write(&self, out: &mut Writer) -> Result<(), EncodeFault> {
+        write_name(&self.name_type, &self.components, out)
+    }
+}
+
+/// The name of a principal without its realm, to be written where it stands.
+#[derive(Clone, Copy)]
+pub(crate) struct NameIn<'a>(pub(crate) &'a Principal);
+
+impl Encode for NameIn<'_> {
+    ghost kind = { principal_name };
+
+    ghost view = { λ n. principal_name_of n.0.now };
+
+    fn write(&self, out: &mut Writer) -> Result<(), EncodeFault> {
+        write_name(&self.0.name_type, &self.0.components, out)
+    }
+}
+
+fn write_name(name_type: &i32, components: &Components, out: &mut Writer) -> Result<(), EncodeFault>
+    ensures { Encodes (Spells principal_name (name_type.now, (components.now, tt))) result out.old out.new }
+{
+    let row: (Field<0xa0, &i32>, (Field<0xa1, TextSlice<Bytes>>, ())) = (
+        Field(name_type),
+        (Field(TextSlice(components.as_slice())), ()),
+    );
+    write_sequence(&row, out)
 }

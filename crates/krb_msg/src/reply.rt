@@ -1,15 +1,20 @@
 //! Replies.
 
-ghost use Rattle.std.specs.Prelude.{refl, ◌≡◌, ◌≤◌, length, IfOk, IfErr, IsOkAnd};
+ghost use Rattle.std.specs.Prelude.{refl, ◌≡◌, ◌≤◌, ◌<◌, List, ℕ, length, IfOk, IfErr, IsOkAnd, IsErrOf};
 ghost use Rattle.krb_der.specs.Kind.{ValueOf};
 ghost use Rattle.krb_der.specs.Fault.{IsFault};
-ghost use Rattle.krb_der.specs.Spells.{IsMessage};
+ghost use Rattle.krb_der.specs.Spells.{IsMessage, Spells, limit};
 ghost use Rattle.krb_msg.specs.Borrowed.{ap_rep_of, enc_ap_rep_part_of};
 ghost use Rattle.krb_msg.specs.Module.{ap_rep, enc_ap_rep_part};
+ghost use Rattle.krb_msg.specs.Owned.{owned_ap_rep_of, owned_enc_ap_rep_part_of};
 
-use crate::ticket::EncryptedRef;
-use crate::typed::KeyRef;
-use krb_der::{Constant, Cursor, Element, Fault, Field, Maybe, Message, Microseconds, Seconds};
+use crate::key::{KeyRef, RawKey, owned_key};
+use crate::ticket::{Encrypted, EncryptedRef};
+use krb_der::{
+    Constant, Cursor, Element, Encode, EncodeFault, Fault, Field, Maybe, MaybeRef, Message,
+    Microseconds, Seconds, Writer, write_application,
+};
+use std::alloc::{AllocError, Global};
 
 /// An `AP-REP` (RFC 4120, section 5.5.2), whose octets are slices of the input.
 #[derive(Debug, Drop)]
@@ -59,6 +64,57 @@ impl<'a> ApRepRef<'a> {
         ensures offset { IfErr result (λ fault. fault.at ≤ length bytes.entry.now) }
     {
         krb_der::parse(bytes)
+    }
+
+    /// A copy of the message.
+    ///
+    /// # Errors
+    /// There was no room.
+    pub fn to_owned(&self, alloc: Global) -> Result<ApRep, AllocError>
+        ensures { IfOk result (λ made. owned_ap_rep_of made ≡ ap_rep_of self.now) }
+    {
+        Ok(ApRep {
+            enc_part: self.enc_part.to_owned(alloc)?,
+        })
+    }
+}
+
+/// An `AP-REP` (RFC 4120, section 5.5.2).
+#[derive(Debug, Drop)]
+pub struct ApRep {
+    /// The sealed `EncAPRepPart`.
+    pub enc_part: Encrypted,
+}
+
+impl Encode for ApRep {
+    ghost kind = { ap_rep };
+
+    ghost view = { owned_ap_rep_of };
+
+    fn write(&self, out: &mut Writer) -> Result<(), EncodeFault> {
+        let row: (
+            Field<0xa0, Constant<5>>,
+            (Field<0xa1, Constant<15>>, (Field<0xa2, &Encrypted>, ())),
+        ) = (
+            Field(Constant),
+            (Field(Constant), (Field(&self.enc_part), ())),
+        );
+        write_application(&row, 0x6f, out)
+    }
+}
+
+impl ApRep {
+    /// The bytes of the message.
+    ///
+    /// # Errors
+    /// - `TooLong`: they would be more than 1,048,576.
+    /// - `OutOfMemory`: there was no room.
+    pub fn encode(&self, alloc: Global) -> Result<Vec<u8>, EncodeFault>
+        ensures ok { IfOk result (λ bytes. IsMessage ap_rep (owned_ap_rep_of self.now) bytes.items) }
+        ensures too_long { IsErrOf result EncodeFault.TooLong
+            → (bytes : List ℕ) → Spells ap_rep (owned_ap_rep_of self.now) bytes → limit < length bytes }
+    {
+        krb_der::encoded(alloc, self)
     }
 }
 
@@ -119,5 +175,66 @@ impl<'a> EncApRepRef<'a> {
         ensures offset { IfErr result (λ fault. fault.at ≤ length bytes.entry.now) }
     {
         krb_der::parse(bytes)
+    }
+
+    /// A copy of the message.
+    ///
+    /// # Errors
+    /// There was no room.
+    pub fn to_owned(&self, alloc: Global) -> Result<EncApRepPart, AllocError>
+        ensures { IfOk result (λ made. owned_enc_ap_rep_part_of made ≡ enc_ap_rep_part_of self.now) }
+    {
+        Ok(EncApRepPart {
+            ctime: self.ctime,
+            cusec: self.cusec,
+            subkey: owned_key(alloc, &self.subkey)?,
+            seq_number: self.seq_number,
+        })
+    }
+}
+
+/// An `EncAPRepPart` (RFC 4120, section 5.5.2).
+#[derive(Drop)]
+pub struct EncApRepPart {
+    /// The client's time, as its authenticator told it.
+    pub ctime: Seconds,
+    /// The microseconds of the client's time.
+    pub cusec: Microseconds,
+    /// A key for this session that the service chose.
+    pub subkey: Option<RawKey>,
+    /// The service's first sequence number.
+    pub seq_number: Option<u32>,
+}
+
+impl Encode for EncApRepPart {
+    ghost kind = { enc_ap_rep_part };
+
+    ghost view = { owned_enc_ap_rep_part_of };
+
+    fn write(&self, out: &mut Writer) -> Result<(), EncodeFault> {
+        let rest = (MaybeRef(&self.subkey), (MaybeRef(&self.seq_number), ()));
+        let row: (
+            Field<0xa0, Seconds>,
+            (
+                Field<0xa1, Microseconds>,
+                (MaybeRef<0xa2, RawKey>, (MaybeRef<0xa3, u32>, ())),
+            ),
+        ) = (Field(self.ctime), (Field(self.cusec), rest));
+        write_application(&row, 0x7b, out)
+    }
+}
+
+impl EncApRepPart {
+    /// The bytes of the message.
+    ///
+    /// # Errors
+    /// - `TooLong`: they would be more than 1,048,576.
+    /// - `OutOfMemory`: there was no room.
+    pub fn encode(&self, alloc: Global) -> Result<Vec<u8>, EncodeFault>
+        ensures ok { IfOk result (λ bytes. IsMessage enc_ap_rep_part (owned_enc_ap_rep_part_of self.now) bytes.items) }
+        ensures too_long { IsErrOf result EncodeFault.TooLong
+            → (bytes : List ℕ) → Spells enc_ap_rep_part (owned_enc_ap_rep_part_of self.now) bytes → limit < length bytes }
+    {
+        krb_der::encoded(alloc, self)
     }
 }

@@ -1,14 +1,20 @@
 //! Tickets and encrypted parts of messages.
 
-ghost use Rattle.std.specs.Prelude.{refl, ◌≡◌, ◌≤◌, length, IfOk, IfErr, IsOkAnd};
+ghost use Rattle.std.specs.Prelude.{refl, ◌≡◌, ◌≤◌, ◌<◌, List, ℕ, length, IfOk, IfErr, IsOkAnd, IsErrOf};
 ghost use Rattle.krb_der.specs.Kind.{ValueOf};
 ghost use Rattle.krb_der.specs.Fault.{IsFault};
-ghost use Rattle.krb_der.specs.Spells.{IsMessage};
+ghost use Rattle.krb_der.specs.Spells.{IsMessage, Spells, limit};
 ghost use Rattle.krb_msg.specs.Borrowed.{encrypted_of, ticket_of};
 ghost use Rattle.krb_msg.specs.Module.{encrypted_data, ticket};
+ghost use Rattle.krb_msg.specs.Owned.{owned_encrypted_of, owned_ticket_of};
 
-use crate::name::NameRef;
-use krb_der::{Constant, Cursor, Element, Fault, Field, Flags, Maybe, Message, Octets, Text};
+use crate::name::{NameIn, NameRef};
+use krb_der::{
+    Constant, Cursor, Element, Encode, EncodeFault, Fault, Field, Maybe, MaybeRef, Message, Octets,
+    Text, Writer, write_application, write_sequence,
+};
+use krb_name::Principal;
+use std::alloc::{AllocError, Global};
 
 /// What was sealed (`EncryptedData`, RFC 4120, section 5.2.9), as a slice of the input.
 #[derive(Clone, Copy, Debug, PartialEq, Eq)]
@@ -43,6 +49,53 @@ impl<'a> Element<'a> for EncryptedRef<'a> {
             }),
             Err(fault) => Err(fault),
         }
+    }
+}
+
+impl<'a> EncryptedRef<'a> {
+    /// A copy of it.
+    ///
+    /// # Errors
+    /// There was no room.
+    pub fn to_owned(&self, alloc: Global) -> Result<Encrypted, AllocError>
+        ensures { IfOk result (λ made. owned_encrypted_of made ≡ encrypted_of self.now) }
+    {
+        Ok(Encrypted {
+            etype: self.etype,
+            kvno: self.kvno,
+            cipher: self.cipher.to_vec(alloc)?,
+        })
+    }
+}
+
+/// What was sealed (`EncryptedData`, RFC 4120, section 5.2.9).
+#[derive(Debug, Drop)]
+pub struct Encrypted {
+    /// The encryption type.
+    pub etype: i32,
+    /// The version number of the key, where it is told.
+    pub kvno: Option<u32>,
+    /// The sealed bytes.
+    pub cipher: Vec<u8>,
+}
+
+impl Encode for Encrypted {
+    ghost kind = { encrypted_data };
+
+    ghost view = { owned_encrypted_of };
+
+    fn write(&self, out: &mut Writer) -> Result<(), EncodeFault> {
+        let row: (
+            Field<0xa0, &i32>,
+            (MaybeRef<0xa1, u32>, (Field<0xa2, Octets>, ())),
+        ) = (
+            Field(&self.etype),
+            (
+                MaybeRef(&self.kvno),
+                (Field(Octets(self.cipher.as_slice())), ()),
+            ),
+        );
+        write_sequence(&row, out)
     }
 }
 
@@ -103,5 +156,63 @@ impl<'a> TicketRef<'a> {
         ensures offset { IfErr result (λ fault. fault.at ≤ length bytes.entry.now) }
     {
         krb_der::parse(bytes)
+    }
+
+    /// A copy of the message.
+    ///
+    /// # Errors
+    /// There was no room.
+    pub fn to_owned(&self, alloc: Global) -> Result<Ticket, AllocError>
+        ensures { IfOk result (λ made. owned_ticket_of made ≡ ticket_of self.now) }
+    {
+        Ok(Ticket {
+            service: self.sname.to_principal(alloc, self.realm)?,
+            enc_part: self.enc_part.to_owned(alloc)?,
+        })
+    }
+}
+
+/// A `Ticket` (RFC 4120, section 5.3).
+#[derive(Debug, Drop)]
+pub struct Ticket {
+    /// The service: `realm` and `sname`.
+    pub service: Principal,
+    /// The sealed `EncTicketPart`.
+    pub enc_part: Encrypted,
+}
+
+impl Encode for Ticket {
+    ghost kind = { ticket };
+
+    ghost view = { owned_ticket_of };
+
+    fn write(&self, out: &mut Writer) -> Result<(), EncodeFault> {
+        let rest = (Field(NameIn(&self.service)), (Field(&self.enc_part), ()));
+        let row: (
+            Field<0xa0, Constant<5>>,
+            (
+                Field<0xa1, Text>,
+                (Field<0xa2, NameIn>, (Field<0xa3, &Encrypted>, ())),
+            ),
+        ) = (
+            Field(Constant),
+            (Field(Text(self.service.realm.as_slice())), rest),
+        );
+        write_application(&row, 0x61, out)
+    }
+}
+
+impl Ticket {
+    /// The bytes of the message.
+    ///
+    /// # Errors
+    /// - `TooLong`: they would be more than 1,048,576.
+    /// - `OutOfMemory`: there was no room.
+    pub fn encode(&self, alloc: Global) -> Result<Vec<u8>, EncodeFault>
+        ensures ok { IfOk result (λ bytes. IsMessage ticket (owned_ticket_of self.now) bytes.items) }
+        ensures too_long { IsErrOf result EncodeFault.TooLong
+            → (bytes : List ℕ) → Spells ticket (owned_ticket_of self.now) bytes → limit < length bytes }
+    {
+        krb_der::encoded(alloc, self)
     }
 }

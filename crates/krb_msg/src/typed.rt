@@ -1,11 +1,14 @@
 //! A number that says a type, and bytes of that type.
 
-ghost use Rattle.std.specs.Prelude.{refl, ◌≡◌, [], ◌∷◌, IfSome, IfNone};
+ghost use Rattle.std.specs.Prelude.{refl, ◌≡◌, [], ◌∷◌, IfSome, IfNone, IfOk};
+ghost use Rattle.std.specs.Option.{option_map};
 ghost use Rattle.krb_der.specs.Kind.{leaf, octets};
-ghost use Rattle.krb_msg.specs.Borrowed.{typed_of, key_of};
+ghost use Rattle.krb_msg.specs.Borrowed.{as_it_is, typed_of};
 ghost use Rattle.krb_msg.specs.Module.{sequence_of, typed};
+ghost use Rattle.krb_msg.specs.Owned.{owned_list_of, owned_typed_of};
 
-use krb_der::{Cursor, Element, Fault, Field, Octets};
+use krb_der::{Cursor, Element, Encode, EncodeFault, Fault, Field, Octets, Writer, write_sequence};
+use std::alloc::{AllocError, Global};
 use std::marker::Model;
 
 /// Bytes, and the number of their type: a checksum, an address, an element of authorization data, or a transited encoding (RFC
@@ -18,17 +21,7 @@ pub struct TypedRef<'a> {
     pub bytes: &'a [u8],
 }
 
-/// A key of any type (`EncryptionKey`, RFC 4120, section 5.2.9), as a slice of the input. There is no `Debug`, so that no log
-/// shows a key.
-#[derive(Clone, Copy)]
-pub struct KeyRef<'a> {
-    /// The encryption type that the key is for.
-    pub etype: i32,
-    /// The bytes of the key.
-    pub bytes: &'a [u8],
-}
-
-type TypedRow<'a> = (Field<0xa0, i32>, (Field<0xa1, Octets<'a>>, ()));
+pub(crate) type TypedRow<'a> = (Field<0xa0, i32>, (Field<0xa1, Octets<'a>>, ()));
 
 impl<'a> Element<'a> for TypedRef<'a> {
     ghost kind = { typed (leaf octets) };
@@ -49,22 +42,55 @@ impl<'a> Element<'a> for TypedRef<'a> {
     }
 }
 
-impl<'a> Element<'a> for KeyRef<'a> {
+impl<'a> TypedRef<'a> {
+    /// A copy of it.
+    ///
+    /// # Errors
+    /// There was no room.
+    pub fn to_owned(&self, alloc: Global) -> Result<Typed, AllocError>
+        ensures { IfOk result (λ made. owned_typed_of made ≡ typed_of self.now) }
+    {
+        Ok(Typed {
+            kind: self.kind,
+            bytes: self.bytes.to_vec(alloc)?,
+        })
+    }
+}
+
+/// A copy of it, where it is there.
+pub(crate) fn owned_typed(
+    alloc: Global,
+    typed: &Option<TypedRef>,
+) -> Result<Option<Typed>, AllocError>
+    ensures { IfOk result (λ made. option_map owned_typed_of made ≡ option_map typed_of typed.now) }
+{
+    match typed {
+        Some(typed) => Ok(Some(typed.to_owned(alloc)?)),
+        None => Ok(None),
+    }
+}
+
+/// Bytes, and the number of their type: a checksum, an address, an element of authorization data, or a transited encoding (RFC
+/// 4120, sections 5.2.9, 5.2.5, 5.2.6 and 5.3).
+#[derive(Debug, Drop)]
+pub struct Typed {
+    /// The type: `cksumtype`, `addr-type`, `ad-type` or `tr-type`.
+    pub kind: i32,
+    /// The bytes: `checksum`, `address`, `ad-data` or `contents`.
+    pub bytes: Vec<u8>,
+}
+
+impl Encode for Typed {
     ghost kind = { typed (leaf octets) };
 
-    ghost view = { key_of };
+    ghost view = { owned_typed_of };
 
-    ghost clear = { refl };
-
-    fn read(cursor: &mut Cursor<'a>) -> Result<KeyRef<'a>, Fault> {
-        let row: Result<TypedRow<'a>, Fault> = cursor.sequence();
-        match row {
-            Ok((etype, (bytes, ()))) => Ok(KeyRef {
-                etype: etype.0,
-                bytes: bytes.0.0,
-            }),
-            Err(fault) => Err(fault),
-        }
+    fn write(&self, out: &mut Writer) -> Result<(), EncodeFault> {
+        let row: (Field<0xa0, &i32>, (Field<0xa1, Octets>, ())) = (
+            Field(&self.kind),
+            (Field(Octets(self.bytes.as_slice())), ()),
+        );
+        write_sequence(&row, out)
     }
 }
 
@@ -104,6 +130,34 @@ impl<'a> TypedListRef<'a> {
         ensures end { IfNone result ((self.old ≡ []) × (self.new ≡ [])) }
     {
         self.content.next::<TypedRef>()
+    }
+
+    /// Copies of the elements that weren't taken off, in their order.
+    ///
+    /// # Errors
+    /// There was no room.
+    pub fn to_owned(&self, alloc: Global) -> Result<Vec<Typed>, AllocError>
+        ensures { IfOk result (λ made. owned_list_of made.items ≡ self.now) }
+    {
+        let mut made = Vec::new(alloc);
+        let mut left = self.again();
+        while let Some(element) = left.next_element() {
+            made.push(element.to_owned(alloc)?)?;
+        }
+        Ok(made)
+    }
+}
+
+/// Copies of the elements, where there is a list.
+pub(crate) fn owned_list(
+    alloc: Global,
+    list: &Option<TypedListRef>,
+) -> Result<Option<Vec<Typed>>, AllocError>
+    ensures { IfOk result (λ made. option_map (λ l. owned_list_of l.items) made ≡ as_it_is list.now) }
+{
+    match list {
+        Some(list) => Ok(Some(list.to_owned(alloc)?)),
+        None => Ok(None),
     }
 }
 

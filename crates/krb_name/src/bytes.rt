@@ -6,6 +6,7 @@ ghost use Rattle.std.proofs.Common.{rules};
 ghost use Rattle.std.specs.Cmp.Rules.{comparing};
 
 use std::alloc::{AllocError, Global};
+use std::convert::AsSlice;
 use std::marker::Model;
 
 /// A string of bytes: a realm, or one component of a name (`KerberosString`, RFC 4120, section
@@ -67,6 +68,14 @@ impl Bytes {
         ensures err { OnErr result (self.new ≡ self.old) }
     {
         Ok(self.bytes.push(byte)?)
+    }
+}
+
+impl AsSlice<u8> for Bytes {
+    ghost items = { λ b. b };
+
+    fn as_slice(&self) -> &[u8] {
+        self.bytes.as_slice()
     }
 }
 

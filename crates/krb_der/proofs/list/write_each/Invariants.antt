@@ -7,4 +7,4 @@ use Rattle.krb_der.proofs.list.write_each.Given as goal
 
 abbrev pub invariant-loop-item : goal.invariant-loop-item
 invariant-loop-item g l =
-    (l.start ≡ length l.fn.out) × Appends (SpellsFields Elementary (each g.T.Encode.kind) (map g.T.Encode.view (take l.item-index l.items))) l.fn.out l.out
+    (l.start ≡ length l.fn.out) × Appends (SpellsFields Elementary (each g.As.Item.kind) (map g.As.Item.view (take l.item-index l.items))) l.fn.out l.out

@@ -6,19 +6,19 @@ use Rattle.krb_der.specs.Content.{Elementary}
 use Rattle.krb_der.specs.Spells.{IsJoined, IfPresent, Spells, SpellsFields}
 use Rattle.krb_der.specs.Writing.{Encodes}
 use Rattle.krb_der.proofs.EncodeLaws.{encodes-joined, encodes-absent, joined-refused, present_one}
-use Rattle.krb_der.proofs.encoding.Tuple2MaybeEncodeRow.write_row.Goals as goal
+use Rattle.krb_der.proofs.encoding.write_maybe.Goals as goal
 
 pub returns-in-None : goal.returns-in-None
 returns-in-None g c =
-    let kind = wrapped g.row.TAG g.T.Encode.kind in
-    let rest = SpellsFields Elementary g.R.EncodeRow.fields (g.R.EncodeRow.view c.args.self.now.1) in
+    let kind = wrapped c.args.tag g.T.Encode.kind in
+    let rest = SpellsFields Elementary g.R.EncodeRow.fields (g.R.EncodeRow.view c.args.rest.now) in
     subst (λ o. Encodes (IsJoined (IfPresent (Spells kind) (option_map g.T.Encode.view o)) rest) c.write_row.result c.args.out.now c.write_row.new.out) (sym c.in-None.is)
     (encodes-absent (Spells kind) rest c.write_row.result c.args.out.now c.write_row.new.out c.write_row.ensures)
 
 pub returns-in_ok-write_wrapped-in-Some : goal.returns-in_ok-write_wrapped-in-Some
 returns-in_ok-write_wrapped-in-Some g c =
-    let kind = wrapped g.row.TAG g.T.Encode.kind in
-    let rest = SpellsFields Elementary g.R.EncodeRow.fields (g.R.EncodeRow.view c.args.self.now.1) in
+    let kind = wrapped c.args.tag g.T.Encode.kind in
+    let rest = SpellsFields Elementary g.R.EncodeRow.fields (g.R.EncodeRow.view c.args.rest.now) in
     let value = g.T.Encode.view c.in-Some.value in
     subst (λ o. Encodes (IsJoined (IfPresent (Spells kind) (option_map g.T.Encode.view o)) rest) c.settle.result c.args.out.now c.settle.new.self) (sym c.in-Some.is)
     (encodes-joined (IfPresent (Spells kind) (Some value)) rest (present_one kind (Some value)) c.write_row-written.result c.settle.result c.len-start.result
@@ -27,8 +27,8 @@ returns-in_ok-write_wrapped-in-Some g c =
 
 pub returns-in_err-write_wrapped-in-Some : goal.returns-in_err-write_wrapped-in-Some
 returns-in_err-write_wrapped-in-Some g c =
-    let kind = wrapped g.row.TAG g.T.Encode.kind in
-    let rest = SpellsFields Elementary g.R.EncodeRow.fields (g.R.EncodeRow.view c.args.self.now.1) in
+    let kind = wrapped c.args.tag g.T.Encode.kind in
+    let rest = SpellsFields Elementary g.R.EncodeRow.fields (g.R.EncodeRow.view c.args.rest.now) in
     let value = g.T.Encode.view c.in-Some.value in
     let p = err_from_is_err_and c.from_residual.result c.from_residual.ensures.1 in
     subst (λ o. Encodes (IsJoined (IfPresent (Spells kind) (option_map g.T.Encode.view o)) rest) c.from_residual.result c.args.out.now c.write_wrapped.new.out) (sym c.in-Some.is)

@@ -1,4 +1,4 @@
-use Rattle.krb_msg.proofs.request.AuthenticatorRefElement.read.Goals as goal
+use Rattle.krb_msg.proofs.authenticator.AuthenticatorRefElement.read.Goals as goal
 
 pub returns-in-Ok : goal.returns-in-Ok
 returns-in-Ok c = rw (c.in-Ok.is) at c.application-row.ensures.computed

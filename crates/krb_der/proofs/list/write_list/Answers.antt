@@ -3,12 +3,12 @@ use Rattle.krb_der.specs.Kind.{each}
 use Rattle.krb_der.specs.Content.{Elementary}
 use Rattle.krb_der.specs.Spells.{SpellsFields}
 use Rattle.krb_der.proofs.EncodeLaws.{encodes-wrapped, fields_one}
-use Rattle.krb_der.proofs.list.RefSliceEncode.write.Goals as goal
+use Rattle.krb_der.proofs.list.write_list.Goals as goal
 
 pub returns : goal.returns
 returns g c =
-    let fields = each g.T.Encode.kind in
-    let values = map g.T.Encode.view c.args.self.now.now in
+    let fields = each g.As.Item.kind in
+    let values = map g.As.Item.view c.args.items.now in
     encodes-wrapped 0x30 c.len-start.result (SpellsFields Elementary fields values) (fields_one fields values)
     c.wrap-written.result c.limited.result c.args.out.now c.write_each.new.out c.wrap-written.new.self c.limited.new.self
     c.len-start.ensures c.in_ok-write_each.ensures.ok.0 c.wrap-written.ensures.ok c.wrap-written.ensures.kept c.limited.ensures.answer c.limited.ensures.left

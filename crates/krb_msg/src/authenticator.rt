@@ -1,0 +1,238 @@
+//! What a client seals for a service in a request.
+
+ghost use Rattle.std.specs.Prelude.{refl, ◌≡◌, ◌≤◌, ◌<◌, List, ℕ, length, IfOk, IfErr, IsOkAnd, IsErrOf};
+ghost use Rattle.std.specs.Option.{option_map};
+ghost use Rattle.krb_der.specs.Fault.{IsFault};
+ghost use Rattle.krb_der.specs.Kind.{ValueOf, leaf, must, may, ends, field, microseconds, time, uint32};
+ghost use Rattle.krb_der.specs.Spells.{IsMessage, Spells, limit};
+ghost use Rattle.krb_msg.specs.Borrowed.{as_it_is, authenticator_of, typed_of, key_of};
+ghost use Rattle.krb_msg.specs.Module.{authenticator, authorization_data, checksum, encryption_key};
+ghost use Rattle.krb_msg.specs.Owned.{owned_authenticator_of};
+
+use crate::key::{KeyRef, RawKey, owned_key};
+use crate::name::{NameIn, NameRef};
+use crate::typed::{Typed, TypedListRef, TypedRef, owned_list, owned_typed};
+use krb_der::{
+    Constant, Cursor, Element, Encode, EncodeFault, Fault, Field, Maybe, MaybeRef, Message,
+    Microseconds, Row, Seconds, Text, Writer, write_application,
+};
+use krb_name::Principal;
+use std::alloc::{AllocError, Global};
+
+/// An `Authenticator` (RFC 4120, section 5.5.1), whose texts and octets are slices of the input.
+#[derive(Drop)]
+pub struct AuthenticatorRef<'a> {
+    /// The client's realm.
+    pub crealm: &'a [u8],
+    /// The client's name.
+    pub cname: NameRef<'a>,
+    /// A checksum of what the application sends along.
+    pub checksum: Option<TypedRef<'a>>,
+    /// The microseconds of the client's time.
+    pub cusec: Microseconds,
+    /// The client's time.
+    pub ctime: Seconds,
+    /// A key for this session that the client chose.
+    pub subkey: Option<KeyRef<'a>>,
+    /// The client's first sequence number.
+    pub seq_number: Option<u32>,
+    /// Authorization data.
+    pub authorization: Option<TypedListRef<'a>>,
+}
+
+type AuthenticatorRow<'a> = (
+    Field<0xa0, Constant<5>>,
+    (
+        Field<0xa1, Text<'a>>,
+        (Field<0xa2, NameRef<'a>>, AuthenticatorTail<'a>),
+    ),
+);
+
+impl<'a> Element<'a> for AuthenticatorRef<'a> {
+    ghost kind = { authenticator };
+
+    ghost view = { authenticator_of };
+
+    ghost clear = { refl };
+
+    fn read(cursor: &mut Cursor<'a>) -> Result<AuthenticatorRef<'a>, Fault> {
+        let row: Result<AuthenticatorRow<'a>, Fault> = cursor.application(0x62);
+        match row {
+            Ok((_, (crealm, (cname, tail)))) => Ok(AuthenticatorRef {
+                crealm: crealm.0.0,
+                cname: cname.0,
+                checksum: tail.checksum,
+                cusec: tail.cusec,
+                ctime: tail.ctime,
+                subkey: tail.subkey,
+                seq_number: tail.seq_number,
+                authorization: tail.authorization,
+            }),
+            Err(fault) => Err(fault),
+        }
+    }
+}
+
+// The fields from the checksum on.
+#[derive(Drop)]
+struct AuthenticatorTail<'a> {
+    checksum: Option<TypedRef<'a>>,
+    cusec: Microseconds,
+    ctime: Seconds,
+    subkey: Option<KeyRef<'a>>,
+    seq_number: Option<u32>,
+    authorization: Option<TypedListRef<'a>>,
+}
+
+type AuthenticatorTailRow<'a> = (
+    Maybe<0xa3, TypedRef<'a>>,
+    (
+        Field<0xa4, Microseconds>,
+        (
+            Field<0xa5, Seconds>,
+            (
+                Maybe<0xa6, KeyRef<'a>>,
+                (Maybe<0xa7, u32>, (Maybe<0xa8, TypedListRef<'a>>, ())),
+            ),
+        ),
+    ),
+);
+
+impl<'a> Row<'a> for AuthenticatorTail<'a> {
+    ghost fields = { may (field 3 checksum) (must (field 4 (leaf microseconds)) (must (field 5 (leaf time)) (may (field 6 encryption_key) (may (field 7 (leaf uint32)) (may (field 8 authorization_data) ends))))) };
+
+    ghost view = { λ t. (option_map typed_of t.checksum, (t.cusec, (t.ctime, (option_map key_of t.subkey, (as_it_is t.seq_number, (as_it_is t.authorization, tt)))))) };
+
+    fn read_row(content: Cursor<'a>) -> Result<AuthenticatorTail<'a>, Fault> {
+        let row: Result<AuthenticatorTailRow<'a>, Fault> = Row::read_row(content);
+        match row {
+            Ok((checksum, (cusec, (ctime, (subkey, (seq_number, (authorization, ()))))))) => {
+                Ok(AuthenticatorTail {
+                    checksum: checksum.0,
+                    cusec: cusec.0,
+                    ctime: ctime.0,
+                    subkey: subkey.0,
+                    seq_number: seq_number.0,
+                    authorization: authorization.0,
+                })
+            }
+            Err(fault) => Err(fault),
+        }
+    }
+}
+
+impl<'a> Message<'a> for AuthenticatorRef<'a> {}
+
+impl<'a> AuthenticatorRef<'a> {
+    /// Reads a message of this type, which is all of the bytes. It takes no memory.
+    ///
+    /// # Errors
+    /// `TooLong` at 0 above 1,048,576 bytes. Else the first fault from left to right, contents before what follows.
+    pub fn parse(bytes: &'a [u8]) -> Result<AuthenticatorRef<'a>, Fault>
+        ensures found { IfOk result (λ m. IsMessage authenticator (authenticator_of m) bytes.entry.now) }
+        ensures only { (v : ValueOf authenticator) → IsMessage authenticator v bytes.entry.now
+            → IsOkAnd result (λ m. authenticator_of m ≡ v) }
+        ensures faulty { IfErr result (IsFault authenticator bytes.entry.now) }
+        ensures offset { IfErr result (λ fault. fault.at ≤ length bytes.entry.now) }
+    {
+        krb_der::parse(bytes)
+    }
+
+    /// A copy of the message.
+    ///
+    /// # Errors
+    /// There was no room.
+    pub fn to_owned(&self, alloc: Global) -> Result<Authenticator, AllocError>
+        ensures { IfOk result (λ made. owned_authenticator_of made ≡ authenticator_of self.now) }
+    {
+        Ok(Authenticator {
+            client: self.cname.to_principal(alloc, self.crealm)?,
+            checksum: owned_typed(alloc, &self.checksum)?,
+            cusec: self.cusec,
+            ctime: self.ctime,
+            subkey: owned_key(alloc, &self.subkey)?,
+            seq_number: self.seq_number,
+            authorization: owned_list(alloc, &self.authorization)?,
+        })
+    }
+}
+
+/// An `Authenticator` (RFC 4120, section 5.5.1).
+#[derive(Drop)]
+pub struct Authenticator {
+    /// The client: `crealm` and `cname`.
+    pub client: Principal,
+    /// A checksum of what the application sends along.
+    pub checksum: Option<Typed>,
+    /// The microseconds of the client's time.
+    pub cusec: Microseconds,
+    /// The client's time.
+    pub ctime: Seconds,
+    /// A key for this session that the client chose.
+    pub subkey: Option<RawKey>,
+    /// The client's first sequence number.
+    pub seq_number: Option<u32>,
+    /// Authorization data.
+    pub authorization: Option<Vec<Typed>>,
+}
+
+type AuthenticatorOut<'a> = (
+    Field<0xa0, Constant<5>>,
+    (
+        Field<0xa1, Text<'a>>,
+        (
+            Field<0xa2, NameIn<'a>>,
+            (MaybeRef<'a, 0xa3, Typed>, AuthenticatorOutTail<'a>),
+        ),
+    ),
+);
+
+type AuthenticatorOutTail<'a> = (
+    Field<0xa4, Microseconds>,
+    (
+        Field<0xa5, Seconds>,
+        (
+            MaybeRef<'a, 0xa6, RawKey>,
+            (
+                MaybeRef<'a, 0xa7, u32>,
+                (MaybeRef<'a, 0xa8, Vec<Typed>>, ()),
+            ),
+        ),
+    ),
+);
+
+impl Encode for Authenticator {
+    ghost kind = { authenticator };
+
+    ghost view = { owned_authenticator_of };
+
+    fn write(&self, out: &mut Writer) -> Result<(), EncodeFault> {
+        let rest = (
+            MaybeRef(&self.seq_number),
+            (MaybeRef(&self.authorization), ()),
+        );
+        let rest = (Field(self.ctime), (MaybeRef(&self.subkey), rest));
+        let rest = (MaybeRef(&self.checksum), (Field(self.cusec), rest));
+        let rest = (Field(NameIn(&self.client)), rest);
+        let row: AuthenticatorOut = (
+            Field(Constant),
+            (Field(Text(self.client.realm.as_slice())), rest),
+        );
+        write_application(&row, 0x62, out)
+    }
+}
+
+impl Authenticator {
+    /// The bytes of the message.
+    ///
+    /// # Errors
+    /// - `TooLong`: they would be more than 1,048,576.
+    /// - `OutOfMemory`: there was no room.
+    pub fn encode(&self, alloc: Global) -> Result<Vec<u8>, EncodeFault>
+        ensures ok { IfOk result (λ bytes. IsMessage authenticator (owned_authenticator_of self.now) bytes.items) }
+        ensures too_long { IsErrOf result EncodeFault.TooLong
+            → (bytes : List ℕ) → Spells authenticator (owned_authenticator_of self.now) bytes → limit < length bytes }
+    {
+        krb_der::encoded(alloc, self)
+    }
+}

@@ -1,0 +1,101 @@
+//! The sealed part of a ticket, owned.
+
+ghost use Rattle.std.specs.Prelude.{◌<◌, List, ℕ, length, IfOk, IsErrOf};
+ghost use Rattle.krb_der.specs.Spells.{IsMessage, Spells, limit};
+ghost use Rattle.krb_msg.specs.Module.{enc_ticket_part};
+ghost use Rattle.krb_msg.specs.Owned.{owned_enc_ticket_part_of};
+
+use crate::key::RawKey;
+use crate::name::NameIn;
+use crate::typed::Typed;
+use krb_der::{
+    Encode, EncodeFault, Field, Flags, MaybeRef, Seconds, Text, Writer, write_application,
+};
+use krb_name::Principal;
+use std::alloc::Global;
+
+/// An `EncTicketPart` (RFC 4120, section 5.3).
+#[derive(Drop)]
+pub struct EncTicketPart {
+    /// The ticket's flags: bit 7 is invalid, bit 12 transited-policy-checked.
+    pub flags: Flags,
+    /// The session key.
+    pub key: RawKey,
+    /// The client: `crealm` and `cname`.
+    pub client: Principal,
+    /// The realms that took part in the client's authentication.
+    pub transited: Typed,
+    /// When the client was authenticated.
+    pub authtime: Seconds,
+    /// From when on the ticket is valid; authtime where it is absent.
+    pub starttime: Option<Seconds>,
+    /// Until when the ticket is valid.
+    pub endtime: Seconds,
+    /// Until when the ticket can be renewed.
+    pub renew_till: Option<Seconds>,
+    /// The addresses that the ticket is for.
+    pub caddr: Option<Vec<Typed>>,
+    /// Authorization data.
+    pub authorization: Option<Vec<Typed>>,
+}
+
+type EncTicketOut<'a> = (
+    Field<0xa0, Flags>,
+    (
+        Field<0xa1, &'a RawKey>,
+        (
+            Field<0xa2, Text<'a>>,
+            (
+                Field<0xa3, NameIn<'a>>,
+                (Field<0xa4, &'a Typed>, EncTicketTimesOut<'a>),
+            ),
+        ),
+    ),
+);
+
+type EncTicketTimesOut<'a> = (
+    Field<0xa5, Seconds>,
+    (
+        MaybeRef<'a, 0xa6, Seconds>,
+        (
+            Field<0xa7, Seconds>,
+            (MaybeRef<'a, 0xa8, Seconds>, EncTicketEndOut<'a>),
+        ),
+    ),
+);
+
+type EncTicketEndOut<'a> = (
+    MaybeRef<'a, 0xa9, Vec<Typed>>,
+    (MaybeRef<'a, 0xaa, Vec<Typed>>, ()),
+);
+
+impl Encode for EncTicketPart {
+    ghost kind = { enc_ticket_part };
+
+    ghost view = { owned_enc_ticket_part_of };
+
+    fn write(&self, out: &mut Writer) -> Result<(), EncodeFault> {
+        let rest = (MaybeRef(&self.caddr), (MaybeRef(&self.authorization), ()));
+        let rest = (Field(self.endtime), (MaybeRef(&self.renew_till), rest));
+        let rest = (Field(self.authtime), (MaybeRef(&self.starttime), rest));
+        let rest = (Field(NameIn(&self.client)), (Field(&self.transited), rest));
+        let rest = (Field(Text(self.client.realm.as_slice())), rest);
+        let row: EncTicketOut = (Field(self.flags), (Field(&self.key), rest));
+        write_application(&row, 0x63, out)
+    }
+}
+
+impl EncTicketPart {
+    /// The bytes of the message.
+    ///
+    /// # Errors
+    /// - `TooLong`: they would be more than 1,048,576.
+    /// - `OutOfMemory`: there was no room.
+    pub fn encode(&self, alloc: Global) -> Result<Vec<u8>, EncodeFault>
+        ensures ok { IfOk result (λ bytes. IsMessage enc_ticket_part (owned_enc_ticket_part_of self.now) bytes.items) }
+        ensures too_long { IsErrOf result EncodeFault.TooLong
+            → (bytes : List ℕ) → Spells enc_ticket_part (owned_enc_ticket_part_of self.now) bytes → limit < length bytes }
+    {
+        krb_der::encoded(alloc, self)
+    }
+}

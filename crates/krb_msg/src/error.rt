@@ -1,0 +1,208 @@
+//! Error messages.
+
+ghost use Rattle.std.specs.Prelude.{refl, ◌≡◌, ◌≤◌, length, IfOk, IfErr, IsOkAnd};
+ghost use Rattle.std.specs.Option.{option_map};
+ghost use Rattle.krb_der.specs.Fault.{IsFault};
+ghost use Rattle.krb_der.specs.Kind.{ValueOf, leaf, must, may, ends, field, int32, octets, string};
+ghost use Rattle.krb_der.specs.Spells.{IsMessage};
+ghost use Rattle.krb_msg.specs.Borrowed.{as_it_is, krb_error_of, name_of};
+ghost use Rattle.krb_msg.specs.Module.{krb_error, principal_name};
+ghost use Rattle.krb_msg.specs.Owned.{owned_krb_error_of};
+
+use crate::krb_error::KrbError;
+use crate::name::{NameRef, owned_name};
+use crate::texts::owned_text;
+use krb_der::{
+    Constant, Cursor, Element, Fault, Field, Maybe, Message, Microseconds, Octets, Row, Seconds,
+    Text,
+};
+use std::alloc::{AllocError, Global};
+
+/// A `KRB-ERROR` (RFC 4120, section 5.9.1), whose texts and octets are slices of the input.
+#[derive(Debug, Drop)]
+pub struct KrbErrorRef<'a> {
+    /// The client's time, where the request told it.
+    pub ctime: Option<Seconds>,
+    /// The microseconds of the client's time.
+    pub cusec: Option<Microseconds>,
+    /// The service's time.
+    pub stime: Seconds,
+    /// The microseconds of the service's time.
+    pub susec: Microseconds,
+    /// What went wrong (RFC 4120, section 7.5.9).
+    pub error_code: i32,
+    /// The client's realm.
+    pub crealm: Option<&'a [u8]>,
+    /// The client's name.
+    pub cname: Option<NameRef<'a>>,
+    /// The service's realm.
+    pub realm: &'a [u8],
+    /// The service's name.
+    pub sname: NameRef<'a>,
+    /// A text for people.
+    pub e_text: Option<&'a [u8]>,
+    /// More about the error.
+    pub e_data: Option<&'a [u8]>,
+}
+
+type KrbErrorRow<'a> = (
+    Field<0xa0, Constant<5>>,
+    (
+        Field<0xa1, Constant<30>>,
+        (
+            Maybe<0xa2, Seconds>,
+            (Maybe<0xa3, Microseconds>, KrbErrorRow2<'a>),
+        ),
+    ),
+);
+
+type KrbErrorRow2<'a> = (
+    Field<0xa4, Seconds>,
+    (Field<0xa5, Microseconds>, KrbErrorTail<'a>),
+);
+
+impl<'a> Element<'a> for KrbErrorRef<'a> {
+    ghost kind = { krb_error };
+
+    ghost view = { krb_error_of };
+
+    ghost clear = { refl };
+
+    fn read(cursor: &mut Cursor<'a>) -> Result<KrbErrorRef<'a>, Fault> {
+        let row: Result<KrbErrorRow<'a>, Fault> = cursor.application(0x7e);
+        match row {
+            Ok((_, (_, (ctime, (cusec, (stime, (susec, tail))))))) => Ok(KrbErrorRef {
+                ctime: ctime.0,
+                cusec: cusec.0,
+                stime: stime.0,
+                susec: susec.0,
+                error_code: tail.error_code,
+                crealm: tail.crealm,
+                cname: tail.cname,
+                realm: tail.realm,
+                sname: tail.sname,
+                e_text: tail.e_text,
+                e_data: tail.e_data,
+            }),
+            Err(fault) => Err(fault),
+        }
+    }
+}
+
+// The fields from the error code on.
+#[derive(Drop)]
+struct KrbErrorTail<'a> {
+    error_code: i32,
+    crealm: Option<&'a [u8]>,
+    cname: Option<NameRef<'a>>,
+    realm: &'a [u8],
+    sname: NameRef<'a>,
+    e_text: Option<&'a [u8]>,
+    e_data: Option<&'a [u8]>,
+}
+
+type KrbErrorTailRow<'a> = (
+    Field<0xa6, i32>,
+    (
+        Maybe<0xa7, Text<'a>>,
+        (Maybe<0xa8, NameRef<'a>>, KrbErrorEndRow<'a>),
+    ),
+);
+
+type KrbErrorEndRow<'a> = (
+    Field<0xa9, Text<'a>>,
+    (
+        Field<0xaa, NameRef<'a>>,
+        (Maybe<0xab, Text<'a>>, (Maybe<0xac, Octets<'a>>, ())),
+    ),
+);
+
+impl<'a> Row<'a> for KrbErrorTail<'a> {
+    ghost fields = { must (field 6 (leaf int32)) (may (field 7 (leaf string)) (may (field 8 principal_name) (must (field 9 (leaf string)) (must (field 10 principal_name) (may (field 11 (leaf string)) (may (field 12 (leaf octets)) ends)))))) };
+
+    ghost view = { λ t. (t.error_code, (option_map (λ x. x.now) t.crealm, (option_map name_of t.cname, (t.realm.now, (name_of t.sname, (option_map (λ x. x.now) t.e_text, (option_map (λ x. x.now) t.e_data, tt))))))) };
+
+    fn read_row(content: Cursor<'a>) -> Result<KrbErrorTail<'a>, Fault> {
+        let row: Result<KrbErrorTailRow<'a>, Fault> = Row::read_row(content);
+        match row {
+            Ok((error_code, (crealm, (cname, (realm, (sname, (e_text, (e_data, ())))))))) => {
+                Ok(KrbErrorTail {
+                    error_code: error_code.0,
+                    crealm: text_bytes(crealm.0),
+                    cname: cname.0,
+                    realm: realm.0.0,
+                    sname: sname.0,
+                    e_text: text_bytes(e_text.0),
+                    e_data: octets_bytes(e_data.0),
+                })
+            }
+            Err(fault) => Err(fault),
+        }
+    }
+}
+
+fn text_bytes<'a>(text: Option<Text<'a>>) -> Option<&'a [u8]>
+    ensures { option_map (λ x. x.now) result ≡ option_map (λ t. t.0.now) text.entry }
+{
+    match text {
+        Some(text) => Some(text.0),
+        None => None,
+    }
+}
+
+fn octets_bytes<'a>(octets: Option<Octets<'a>>) -> Option<&'a [u8]>
+    ensures { option_map (λ x. x.now) result ≡ option_map (λ o. o.0.now) octets.entry }
+{
+    match octets {
+        Some(octets) => Some(octets.0),
+        None => None,
+    }
+}
+
+impl<'a> Message<'a> for KrbErrorRef<'a> {}
+
+impl<'a> KrbErrorRef<'a> {
+    /// Reads a message of this type, which is all of the bytes. It takes no memory.
+    ///
+    /// # Errors
+    /// `TooLong` at 0 above 1,048,576 bytes. Else the first fault from left to right, contents before what follows.
+    pub fn parse(bytes: &'a [u8]) -> Result<KrbErrorRef<'a>, Fault>
+        ensures found { IfOk result (λ m. IsMessage krb_error (krb_error_of m) bytes.entry.now) }
+        ensures only { (v : ValueOf krb_error) → IsMessage krb_error v bytes.entry.now
+            → IsOkAnd result (λ m. krb_error_of m ≡ v) }
+        ensures faulty { IfErr result (IsFault krb_error bytes.entry.now) }
+        ensures offset { IfErr result (λ fault. fault.at ≤ length bytes.entry.now) }
+    {
+        krb_der::parse(bytes)
+    }
+
+    /// A copy of the message.
+    ///
+    /// # Errors
+    /// There was no room.
+    pub fn to_owned(&self, alloc: Global) -> Result<KrbError, AllocError>
+        ensures { IfOk result (λ made. owned_krb_error_of made ≡ krb_error_of self.now) }
+    {
+        Ok(KrbError {
+            ctime: self.ctime,
+            cusec: self.cusec,
+            stime: self.stime,
+            susec: self.susec,
+            error_code: self.error_code,
+            crealm: owned_text(alloc, &self.crealm)?,
+            cname: owned_name(alloc, &self.cname)?,
+            service: self.sname.to_principal(alloc, self.realm)?,
+            e_text: owned_text(alloc, &self.e_text)?,
+            e_data: owned_octets(alloc, &self.e_data)?,
+        })
+    }
+}
+
+fn owned_octets(alloc: Global, bytes: &Option<&[u8]>) -> Result<Option<Vec<u8>>, AllocError>
+    ensures { IfOk result (λ made. option_map (λ x. x.items) made ≡ option_map (λ x. x.now) bytes.now) }
+{
+    match bytes {
+        Some(bytes) => Ok(Some(bytes.to_vec(alloc)?)),
+        None => Ok(None),
+    }
+}

@@ -1,0 +1,88 @@
+//! Keys of any encryption type.
+
+ghost use Rattle.std.specs.Prelude.{refl, ◌≡◌, IfOk};
+ghost use Rattle.std.specs.Option.{option_map};
+ghost use Rattle.krb_msg.specs.Borrowed.{key_of};
+ghost use Rattle.krb_msg.specs.Module.{encryption_key};
+ghost use Rattle.krb_msg.specs.Owned.{owned_key_of};
+
+use crate::typed::TypedRow;
+use krb_der::{Cursor, Element, Encode, EncodeFault, Fault, Field, Octets, Writer, write_sequence};
+use std::alloc::{AllocError, Global};
+
+/// A key of any type (`EncryptionKey`, RFC 4120, section 5.2.9), as a slice of the input. There is no `Debug`, so that no log
+/// shows a key.
+#[derive(Clone, Copy)]
+pub struct KeyRef<'a> {
+    /// The encryption type that the key is for.
+    pub etype: i32,
+    /// The bytes of the key.
+    pub bytes: &'a [u8],
+}
+
+impl<'a> Element<'a> for KeyRef<'a> {
+    ghost kind = { encryption_key };
+
+    ghost view = { key_of };
+
+    ghost clear = { refl };
+
+    fn read(cursor: &mut Cursor<'a>) -> Result<KeyRef<'a>, Fault> {
+        let row: Result<TypedRow<'a>, Fault> = cursor.sequence();
+        match row {
+            Ok((etype, (bytes, ()))) => Ok(KeyRef {
+                etype: etype.0,
+                bytes: bytes.0.0,
+            }),
+            Err(fault) => Err(fault),
+        }
+    }
+}
+
+impl<'a> KeyRef<'a> {
+    /// A copy of the key.
+    ///
+    /// # Errors
+    /// There was no room.
+    pub fn to_owned(&self, alloc: Global) -> Result<RawKey, AllocError>
+        ensures { IfOk result (λ made. owned_key_of made ≡ key_of self.now) }
+    {
+        Ok(RawKey {
+            etype: self.etype,
+            bytes: self.bytes.to_vec(alloc)?,
+        })
+    }
+}
+
+/// A copy of the key, where there is one.
+pub(crate) fn owned_key(alloc: Global, key: &Option<KeyRef>) -> Result<Option<RawKey>, AllocError>
+    ensures { IfOk result (λ made. option_map owned_key_of made ≡ option_map key_of key.now) }
+{
+    match key {
+        Some(key) => Ok(Some(key.to_owned(alloc)?)),
+        None => Ok(None),
+    }
+}
+
+/// A key of any type (`EncryptionKey`, RFC 4120, section 5.2.9). There is no `Debug`, so that no log shows a key.
+#[derive(Drop)]
+pub struct RawKey {
+    /// The encryption type that the key is for.
+    pub etype: i32,
+    /// The bytes of the key.
+    pub bytes: Vec<u8>,
+}
+
+impl Encode for RawKey {
+    ghost kind = { encryption_key };
+
+    ghost view = { owned_key_of };
+
+    fn write(&self, out: &mut Writer) -> Result<(), EncodeFault> {
+        let row: (Field<0xa0, &i32>, (Field<0xa1, Octets>, ())) = (
+            Field(&self.etype),
+            (Field(Octets(self.bytes.as_slice())), ()),
+        );
+        write_sequence(&row, out)
+    }
+}

@@ -1,0 +1,48 @@
+//! Laws of the messages. Each function is its contract, over the definitions alone: its body does nothing that is seen.
+
+ghost use Rattle.std.specs.Prelude.{◌≡◌, ◌++◌, ◌⊎◌, List, ℕ};
+ghost use Rattle.krb_der.specs.Kind.{Kind, ValueOf};
+ghost use Rattle.krb_der.specs.Spells.{Spells, IsMessage};
+ghost use Rattle.krb_msg.specs.Module.{IsMessageKind, ap_req, ap_rep};
+
+/// A spelling of a message has one value.
+pub fn one_value()
+    ensures { (k : Kind) → IsMessageKind k → (v w : ValueOf k) (bytes : List ℕ)
+        → Spells k v bytes → Spells k w bytes → v ≡ w }
+{
+    krb_der::laws::one_value()
+}
+
+/// A value has at most one spelling. So it is the one that `encode` writes.
+pub fn one_spelling()
+    ensures { (k : Kind) → IsMessageKind k → (v : ValueOf k) (a b : List ℕ)
+        → Spells k v a → Spells k v b → a ≡ b }
+{
+    krb_der::laws::one_spelling()
+}
+
+/// No spelling begins another, of whichever types: where bytes begin with one and with another, they are the same.
+pub fn no_prefix()
+    ensures spelling { (k : Kind) → IsMessageKind k → (v w : ValueOf k) (a b x y : List ℕ)
+        → Spells k v a → Spells k w b → a ++ x ≡ b ++ y → (a ≡ b) × (v ≡ w) }
+    ensures kind { (k l : Kind) → IsMessageKind k → IsMessageKind l → (v : ValueOf k) (w : ValueOf l)
+        (a b x y : List ℕ) → Spells k v a → Spells l w b → a ++ x ≡ b ++ y → k ≡ l }
+{
+    krb_der::laws::no_prefix()
+}
+
+/// Bytes are a message of one type at most. So none are both a request and a reply.
+pub fn one_type()
+    ensures kind { (k l : Kind) → IsMessageKind k → IsMessageKind l → (v : ValueOf k) (w : ValueOf l) (bytes : List ℕ)
+        → Spells k v bytes → Spells l w bytes → k ≡ l }
+    ensures request_or_reply { (v : ValueOf ap_req) (w : ValueOf ap_rep) (bytes : List ℕ)
+        → Spells ap_req v bytes → Spells ap_rep w bytes → ⊥ }
+{}
+
+/// Bytes are a message of a type, or they are none.
+pub fn decided()
+    ensures { (k : Kind) → IsMessageKind k → (bytes : List ℕ)
+        → ((v : ValueOf k) × IsMessage k v bytes) ⊎ ((v : ValueOf k) → IsMessage k v bytes → ⊥) }
+{
+    krb_der::laws::decided()
+}
