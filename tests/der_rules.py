@@ -30,7 +30,9 @@ class Refused(Exception):
         self.kind, self.at = kind, at
 
 
-TAGS = {"int32": 0x02, "uint32": 0x02, "microseconds": 0x02, "five": 0x02, "octets": 0x04, "string": 0x1B, "flags": 0x03, "time": 0x18}
+CONSTANTS = {"five": 5, "fourteen": 14, "fifteen": 15, "thirty": 30}
+NUMBERS = ["int32", "uint32", "microseconds", *CONSTANTS]
+TAGS = {kind: 0x02 for kind in NUMBERS} | {"octets": 0x04, "string": 0x1B, "flags": 0x03, "time": 0x18}
 
 
 def head(data, at, end, tag):
@@ -84,7 +86,8 @@ def seconds(content):
     return 86400 * number + 3600 * hour + 60 * minute + second
 
 
-RANGES = {"int32": (-(2**31), 2**31 - 1), "uint32": (0, 2**32 - 1), "microseconds": (0, 999_999), "five": (5, 5)}
+RANGES = {"int32": (-(2**31), 2**31 - 1), "uint32": (0, 2**32 - 1), "microseconds": (0, 999_999)}
+RANGES |= {kind: (value, value) for kind, value in CONSTANTS.items()}
 
 
 def leaf_at(kind, data, at, end):
@@ -150,11 +153,11 @@ def fields_at(fields, data, at, end):
     return total
 
 
-def read(kind, data):
+def read(shape, data):
     """What a message of this shape is read as: its element is all of the data."""
     if len(data) > 1_048_576:
         raise Refused("TooLong", 0)
-    value, end = element_at(SHAPES[kind], data, 0, len(data))
+    value, end = element_at(shape, data, 0, len(data))
     if end != len(data):
         raise Refused("Trailing", end)
     return value
@@ -277,7 +280,7 @@ def table():
     for kind, data in cases():
         text = "b\"" + "".join(f"\\x{b:02x}" for b in data) + "\""
         try:
-            answer = f"Ok({read(kind, data)})"
+            answer = f"Ok({read(SHAPES[kind], data)})"
         except Refused as fault:
             answer = f"Err((FaultKind::{fault.kind}, {fault.at}))"
         tables.setdefault(kind, []).append(f"    (Kind::{kind.capitalize()}, {text}, {answer}),")

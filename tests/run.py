@@ -36,6 +36,7 @@ sys.dont_write_bytecode = True
 
 import der_rules  # noqa: E402
 import generated  # noqa: E402
+import msg_rules  # noqa: E402
 import peers  # noqa: E402
 
 KEYS = set("name args files folders stdin stdout stdout_begins stderr stderr_begins status after output".split())
@@ -107,12 +108,19 @@ def der_table():
     return None if der_rules.plain(table) == der_rules.plain(der_rules.table()) else "it isn't what the rules give"
 
 
+def msg_table():
+    """What is wrong with the table of the crate krb_msg's tests, which tests/msg_rules.py works out anew."""
+    table = (TOP / "crates/krb_msg/src/tests/flipped.rt").read_text()
+    return None if msg_rules.plain(table) == msg_rules.plain(msg_rules.table()) else "it isn't what the rules give"
+
+
 def results(program, word):
     """The name of each case and what is wrong with it, or None. Cases run side by side, each in a folder of its own."""
     chosen = [case for case in [*stored_cases(), *generated.cases()] if word in case["name"]]
     with ThreadPoolExecutor(max_workers=os.cpu_count()) as pool:
         yield from zip((case["name"] for case in chosen), pool.map(lambda case: run(program, case), chosen))
-    for name, wrong in [("the table of DER cases by the rules", der_table()), *peers.checks(program)]:
+    tables = [("the table of DER cases by the rules", der_table()), ("the table of messages by the rules", msg_table())]
+    for name, wrong in [*tables, *peers.checks(program)]:
         if word in name:
             yield name, wrong
 

@@ -1,5 +1,7 @@
 //! Values from outside: the fixture of the project, and messages that tests/msg_values.py puts together.
 
+mod faults;
+mod flipped;
 mod values;
 
 use super::*;
