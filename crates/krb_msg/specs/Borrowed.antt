@@ -12,7 +12,7 @@ use Rattle.krb_msg.specs.declared.request.ApReqRef.{ApReqRef}
 use Rattle.krb_msg.specs.declared.authenticator.AuthenticatorRef.{AuthenticatorRef}
 use Rattle.krb_msg.specs.declared.enc_ticket.EncTicketRef.{EncTicketRef}
 use Rattle.krb_msg.specs.declared.reply.ApRepRef.{ApRepRef}
-use Rattle.krb_msg.specs.declared.reply.EncApRepRef.{EncApRepRef}
+use Rattle.krb_msg.specs.declared.enc_reply.EncApRepRef.{EncApRepRef}
 use Rattle.krb_msg.specs.declared.error.KrbErrorRef.{KrbErrorRef}
 
 -- a field that may be left out, whose value is what the type holds

@@ -14,7 +14,7 @@ use Rattle.krb_msg.specs.declared.request.ApReq.{ApReq}
 use Rattle.krb_msg.specs.declared.authenticator.Authenticator.{Authenticator}
 use Rattle.krb_msg.specs.declared.enc_ticket_part.EncTicketPart.{EncTicketPart}
 use Rattle.krb_msg.specs.declared.reply.ApRep.{ApRep}
-use Rattle.krb_msg.specs.declared.reply.EncApRepPart.{EncApRepPart}
+use Rattle.krb_msg.specs.declared.enc_reply.EncApRepPart.{EncApRepPart}
 use Rattle.krb_msg.specs.declared.krb_error.KrbError.{KrbError}
 
 abbrev pub owned_name_of : Name → ValueOf principal_name

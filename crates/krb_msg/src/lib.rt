@@ -18,6 +18,7 @@
 #![tactic(auto)]
 
 mod authenticator;
+mod enc_reply;
 mod enc_ticket;
 mod enc_ticket_part;
 mod error;
@@ -33,6 +34,7 @@ mod ticket;
 mod typed;
 
 pub use authenticator::{Authenticator, AuthenticatorRef};
+pub use enc_reply::{EncApRepPart, EncApRepRef};
 pub use enc_ticket::EncTicketRef;
 pub use enc_ticket_part::EncTicketPart;
 pub use error::KrbErrorRef;
@@ -42,7 +44,7 @@ pub use krb_error::KrbError;
 pub use krb_name::{Bytes, Components, Principal};
 pub use moment::Moment;
 pub use name::{Name, NameRef};
-pub use reply::{ApRep, ApRepRef, EncApRepPart, EncApRepRef};
+pub use reply::{ApRep, ApRepRef};
 pub use request::{ApReq, ApReqRef};
 pub use texts::Texts;
 pub use ticket::{Encrypted, EncryptedRef, Ticket, TicketRef};

@@ -67,10 +67,14 @@ impl<'a> NameRef<'a> {
         ensures realm { IfOk result (λ made. made.realm ≡ realm.now) }
         ensures name { IfOk result (λ made. principal_name_of made ≡ name_of self.now) }
     {
+        let Name {
+            name_type,
+            components,
+        } = self.to_owned(alloc)?;
         Ok(Principal {
             realm: Bytes::from_slice(alloc, realm)?,
-            name_type: self.name_type,
-            components: self.components.to_owned(alloc)?,
+            name_type,
+            components,
         })
     }
 }

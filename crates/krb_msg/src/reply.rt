@@ -4,15 +4,14 @@ ghost use Rattle.std.specs.Prelude.{refl, ◌≡◌, ◌≤◌, ◌<◌, List, �
 ghost use Rattle.krb_der.specs.Kind.{ValueOf};
 ghost use Rattle.krb_der.specs.Fault.{IsFault};
 ghost use Rattle.krb_der.specs.Spells.{IsMessage, Spells, limit};
-ghost use Rattle.krb_msg.specs.Borrowed.{ap_rep_of, enc_ap_rep_part_of};
-ghost use Rattle.krb_msg.specs.Module.{ap_rep, enc_ap_rep_part};
-ghost use Rattle.krb_msg.specs.Owned.{owned_ap_rep_of, owned_enc_ap_rep_part_of};
+ghost use Rattle.krb_msg.specs.Borrowed.{ap_rep_of};
+ghost use Rattle.krb_msg.specs.Module.{ap_rep};
+ghost use Rattle.krb_msg.specs.Owned.{owned_ap_rep_of};
 
-use crate::key::{KeyRef, RawKey, owned_key};
 use crate::ticket::{Encrypted, EncryptedRef};
 use krb_der::{
-    Constant, Cursor, Element, Encode, EncodeFault, Fault, Field, Maybe, MaybeRef, Message,
-    Microseconds, Seconds, Writer, write_application,
+    Constant, Cursor, Element, Encode, EncodeFault, Fault, Field, Message, Writer,
+    write_application,
 };
 use std::alloc::{AllocError, Global};
 
@@ -113,127 +112,6 @@ impl ApRep {
         ensures ok { IfOk result (λ bytes. IsMessage ap_rep (owned_ap_rep_of self.now) bytes.items) }
         ensures too_long { IsErrOf result EncodeFault.TooLong
             → (bytes : List ℕ) → Spells ap_rep (owned_ap_rep_of self.now) bytes → limit < length bytes }
-    {
-        krb_der::encoded(alloc, self)
-    }
-}
-
-/// An `EncAPRepPart` (RFC 4120, section 5.5.2), whose octets are slices of the input.
-#[derive(Drop)]
-pub struct EncApRepRef<'a> {
-    /// The client's time, as its authenticator told it.
-    pub ctime: Seconds,
-    /// The microseconds of the client's time.
-    pub cusec: Microseconds,
-    /// A key for this session that the service chose.
-    pub subkey: Option<KeyRef<'a>>,
-    /// The service's first sequence number.
-    pub seq_number: Option<u32>,
-}
-
-type EncApRepRow<'a> = (
-    Field<0xa0, Seconds>,
-    (
-        Field<0xa1, Microseconds>,
-        (Maybe<0xa2, KeyRef<'a>>, (Maybe<0xa3, u32>, ())),
-    ),
-);
-
-impl<'a> Element<'a> for EncApRepRef<'a> {
-    ghost kind = { enc_ap_rep_part };
-
-    ghost view = { enc_ap_rep_part_of };
-
-    ghost clear = { refl };
-
-    fn read(cursor: &mut Cursor<'a>) -> Result<EncApRepRef<'a>, Fault> {
-        let row: Result<EncApRepRow<'a>, Fault> = cursor.application(0x7b);
-        match row {
-            Ok((ctime, (cusec, (subkey, (seq_number, ()))))) => Ok(EncApRepRef {
-                ctime: ctime.0,
-                cusec: cusec.0,
-                subkey: subkey.0,
-                seq_number: seq_number.0,
-            }),
-            Err(fault) => Err(fault),
-        }
-    }
-}
-
-impl<'a> Message<'a> for EncApRepRef<'a> {}
-
-impl<'a> EncApRepRef<'a> {
-    /// Reads a message of this type, which is all of the bytes. It takes no memory.
-    ///
-    /// # Errors
-    /// `TooLong` at 0 above 1,048,576 bytes. Else the first fault from left to right, contents before what follows.
-    pub fn parse(bytes: &'a [u8]) -> Result<EncApRepRef<'a>, Fault>
-        ensures found { IfOk result (λ m. IsMessage enc_ap_rep_part (enc_ap_rep_part_of m) bytes.entry.now) }
-        ensures only { (v : ValueOf enc_ap_rep_part) → IsMessage enc_ap_rep_part v bytes.entry.now
-            → IsOkAnd result (λ m. enc_ap_rep_part_of m ≡ v) }
-        ensures faulty { IfErr result (IsFault enc_ap_rep_part bytes.entry.now) }
-        ensures offset { IfErr result (λ fault. fault.at ≤ length bytes.entry.now) }
-    {
-        krb_der::parse(bytes)
-    }
-
-    /// A copy of the message.
-    ///
-    /// # Errors
-    /// There was no room.
-    pub fn to_owned(&self, alloc: Global) -> Result<EncApRepPart, AllocError>
-        ensures { IfOk result (λ made. owned_enc_ap_rep_part_of made ≡ enc_ap_rep_part_of self.now) }
-    {
-        Ok(EncApRepPart {
-            ctime: self.ctime,
-            cusec: self.cusec,
-            subkey: owned_key(alloc, &self.subkey)?,
-            seq_number: self.seq_number,
-        })
-    }
-}
-
-/// An `EncAPRepPart` (RFC 4120, section 5.5.2).
-#[derive(Drop)]
-pub struct EncApRepPart {
-    /// The client's time, as its authenticator told it.
-    pub ctime: Seconds,
-    /// The microseconds of the client's time.
-    pub cusec: Microseconds,
-    /// A key for this session that the service chose.
-    pub subkey: Option<RawKey>,
-    /// The service's first sequence number.
-    pub seq_number: Option<u32>,
-}
-
-impl Encode for EncApRepPart {
-    ghost kind = { enc_ap_rep_part };
-
-    ghost view = { owned_enc_ap_rep_part_of };
-
-    fn write(&self, out: &mut Writer) -> Result<(), EncodeFault> {
-        let rest = (MaybeRef(&self.subkey), (MaybeRef(&self.seq_number), ()));
-        let row: (
-            Field<0xa0, Seconds>,
-            (
-                Field<0xa1, Microseconds>,
-                (MaybeRef<0xa2, RawKey>, (MaybeRef<0xa3, u32>, ())),
-            ),
-        ) = (Field(self.ctime), (Field(self.cusec), rest));
-        write_application(&row, 0x7b, out)
-    }
-}
-
-impl EncApRepPart {
-    /// The bytes of the message.
-    ///
-    /// # Errors
-    /// - `TooLong`: they would be more than 1,048,576.
-    /// - `OutOfMemory`: there was no room.
-    pub fn encode(&self, alloc: Global) -> Result<Vec<u8>, EncodeFault>
-        ensures ok { IfOk result (λ bytes. IsMessage enc_ap_rep_part (owned_enc_ap_rep_part_of self.now) bytes.items) }
-        ensures too_long { IsErrOf result EncodeFault.TooLong
-            → (bytes : List ℕ) → Spells enc_ap_rep_part (owned_enc_ap_rep_part_of self.now) bytes → limit < length bytes }
     {
         krb_der::encoded(alloc, self)
     }

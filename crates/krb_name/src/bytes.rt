@@ -75,7 +75,7 @@ impl AsSlice<u8> for Bytes {
     ghost items = { λ b. b };
 
     fn as_slice(&self) -> &[u8] {
-        self.bytes.as_slice()
+        Bytes::as_slice(self)
     }
 }
 
