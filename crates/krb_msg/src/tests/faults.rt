@@ -17,6 +17,7 @@ enum Type {
     Authenticator,
     ApRep,
     EncApRep,
+    KrbError,
 }
 
 /// The fault that the bytes have, or `None` where they are a message of this type.
@@ -28,6 +29,7 @@ fn fault_in(kind: Type, bytes: &[u8]) -> Option<(FaultKind, usize)> {
         Type::Authenticator => fault_of(AuthenticatorRef::parse(bytes)),
         Type::ApRep => fault_of(ApRepRef::parse(bytes)),
         Type::EncApRep => reply_fault(bytes),
+        Type::KrbError => fault_of(KrbErrorRef::parse(bytes)),
     }
 }
 
@@ -298,6 +300,34 @@ fn what_replies_seal(rt: HostRuntime) -> Result<(), Fail> {
         "ENC_AP_REP",
         Type::EncApRep,
         &flipped::LACKING_ENC_AP_REP,
+    );
+    Ok(())
+}
+
+#[test]
+fn errors(rt: HostRuntime) -> Result<(), Fail> {
+    let alloc = rt.alloc();
+    check(
+        &rt,
+        alloc,
+        "KRB_ERROR",
+        Type::KrbError,
+        &KRB_ERROR,
+        &flipped::KRB_ERROR,
+    )?;
+    check(
+        &rt,
+        alloc,
+        "FULL_KRB_ERROR",
+        Type::KrbError,
+        &FULL_KRB_ERROR,
+        &flipped::FULL_KRB_ERROR,
+    )?;
+    check_lacking(
+        &rt,
+        "KRB_ERROR",
+        Type::KrbError,
+        &flipped::LACKING_KRB_ERROR,
     );
     Ok(())
 }
