@@ -2,6 +2,7 @@
 
 mod faults;
 mod flipped;
+mod owned;
 mod values;
 
 use super::*;
@@ -215,26 +216,6 @@ fn reply_fault(bytes: &[u8]) -> Option<(FaultKind, usize)> {
     }
 }
 
-// A part of a message from its start on lacks what comes next, right where it ends.
-#[test]
-fn messages_cut_off(rt: HostRuntime) {
-    for end in [0, 1, 2, 3, 5, 10, 27, 28, 58, 118, 213] {
-        let cut = Some((FaultKind::Truncated, end));
-        assert_eq!(rt; fault_of(TicketRef::parse(&TICKET[..end])), cut);
-        assert_eq!(rt; fault_of(ApReqRef::parse(&AP_REQ[..end])), cut);
-    }
-    for end in [0, 1, 2, 5, 20, 27] {
-        let cut = Some((FaultKind::Truncated, end));
-        assert_eq!(rt; fault_of(ApRepRef::parse(&AP_REP[..end])), cut);
-        assert_eq!(rt; reply_fault(&ENC_AP_REP[..end]), cut);
-        assert_eq!(rt;
-            fault_of(AuthenticatorRef::parse(&AUTHENTICATOR[..end])),
-            cut
-        );
-        assert_eq!(rt; fault_of(EncTicketRef::parse(&ENC_TICKET[..end])), cut);
-    }
-}
-
 #[test]
 fn messages_of_another_type(rt: HostRuntime) {
     let wrong = Some((FaultKind::Tag, 0));
@@ -244,14 +225,6 @@ fn messages_of_another_type(rt: HostRuntime) {
     assert_eq!(rt; reply_fault(&AP_REP), wrong);
     assert_eq!(rt; fault_of(AuthenticatorRef::parse(&ENC_TICKET)), wrong);
     assert_eq!(rt; fault_of(EncTicketRef::parse(&AUTHENTICATOR)), wrong);
-}
-
-#[test]
-fn what_follows_a_message(rt: HostRuntime) {
-    let mut bytes = [0; 29];
-    bytes[..28].copy_from_slice(&ENC_AP_REP);
-    assert_eq!(rt; reply_fault(&bytes), Some((FaultKind::Trailing, 28)));
-    assert_eq!(rt; reply_fault(&bytes[..28]), None);
 }
 
 #[test]

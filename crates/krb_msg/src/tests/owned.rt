@@ -1,16 +1,170 @@
-//! Each message is read, copied and written back to the same bytes.
+//! Messages are read, copied, and written back to the same bytes; and made by hand.
 
 use super::values::*;
 use crate::*;
+use std::alloc::Global;
 use std::test::Fail;
 
 #[test]
 fn tickets(rt: HostRuntime) -> Result<(), Fail> {
-    let alloc = rt.alloc();
-    let owned = TicketRef::parse(&TICKET)?.to_owned(alloc)?;
-    assert_eq!(rt; owned.service.to_text(alloc)?.as_str(), "host/web@EX");
-    assert_eq!(rt; owned.service.name_type, 3);
-    assert_eq!(rt; (owned.enc_part.etype, owned.enc_part.kvno), (19, Some(3)));
-    assert_eq!(rt; owned.encode(alloc)?.as_slice(), TICKET.as_slice());
+    for message in [
+        TICKET.as_slice(),
+        SHORT_TICKET.as_slice(),
+        EDGE_TICKET.as_slice(),
+    ] {
+        let owned = TicketRef::parse(message)?.to_owned(rt.alloc())?;
+        assert_eq!(rt; owned.encode(rt.alloc())?.as_slice(), message);
+    }
+    Ok(())
+}
+
+#[test]
+fn requests(rt: HostRuntime) -> Result<(), Fail> {
+    for message in [
+        AP_REQ.as_slice(),
+        SHORT_AP_REQ.as_slice(),
+        FULL_AP_REQ.as_slice(),
+    ] {
+        let owned = ApReqRef::parse(message)?.to_owned(rt.alloc())?;
+        assert_eq!(rt; owned.encode(rt.alloc())?.as_slice(), message);
+    }
+    Ok(())
+}
+
+#[test]
+fn authenticators(rt: HostRuntime) -> Result<(), Fail> {
+    for message in [
+        AUTHENTICATOR.as_slice(),
+        FULL_AUTHENTICATOR.as_slice(),
+        EDGE_AUTHENTICATOR.as_slice(),
+    ] {
+        let owned = AuthenticatorRef::parse(message)?.to_owned(rt.alloc())?;
+        assert_eq!(rt; owned.encode(rt.alloc())?.as_slice(), message);
+    }
+    Ok(())
+}
+
+#[test]
+fn what_tickets_seal(rt: HostRuntime) -> Result<(), Fail> {
+    for message in [
+        ENC_TICKET.as_slice(),
+        FULL_ENC_TICKET.as_slice(),
+        EDGE_ENC_TICKET.as_slice(),
+    ] {
+        let owned = EncTicketRef::parse(message)?.to_owned(rt.alloc())?;
+        assert_eq!(rt; owned.encode(rt.alloc())?.as_slice(), message);
+    }
+    Ok(())
+}
+
+#[test]
+fn replies(rt: HostRuntime) -> Result<(), Fail> {
+    for message in [AP_REP.as_slice(), SHORT_AP_REP.as_slice()] {
+        let owned = ApRepRef::parse(message)?.to_owned(rt.alloc())?;
+        assert_eq!(rt; owned.encode(rt.alloc())?.as_slice(), message);
+    }
+    Ok(())
+}
+
+#[test]
+fn what_replies_seal(rt: HostRuntime) -> Result<(), Fail> {
+    for message in [
+        ENC_AP_REP.as_slice(),
+        FULL_ENC_AP_REP.as_slice(),
+        EDGE_ENC_AP_REP.as_slice(),
+    ] {
+        match EncApRepRef::parse(message) {
+            Ok(read) => {
+                let written = read.to_owned(rt.alloc())?.encode(rt.alloc())?;
+                assert_eq!(rt; written.as_slice(), message);
+            }
+            Err(_) => assert!(rt; false),
+        }
+    }
+    Ok(())
+}
+
+#[test]
+fn errors(rt: HostRuntime) -> Result<(), Fail> {
+    for message in [KRB_ERROR.as_slice(), FULL_KRB_ERROR.as_slice()] {
+        let owned = KrbErrorRef::parse(message)?.to_owned(rt.alloc())?;
+        assert_eq!(rt; owned.encode(rt.alloc())?.as_slice(), message);
+    }
+    Ok(())
+}
+
+/// The client of the fixture.
+fn alice(alloc: Global) -> Result<Principal, Fail> {
+    Ok(Principal::from_text(alloc, "alice@EX", 1)?)
+}
+
+#[test]
+fn an_authenticator_by_hand(rt: HostRuntime) -> Result<(), Fail> {
+    let made = Authenticator {
+        client: alice(rt.alloc())?,
+        checksum: None,
+        cusec: Microseconds::new(5).ok_or("microseconds")?,
+        ctime: Seconds::new(1_700_000_100).ok_or("a second")?,
+        subkey: None,
+        seq_number: None,
+        authorization: None,
+    };
+    assert_eq!(rt;
+        made.encode(rt.alloc())?.as_slice(),
+        AUTHENTICATOR.as_slice()
+    );
+    Ok(())
+}
+
+#[test]
+fn an_error_by_hand(rt: HostRuntime) -> Result<(), Fail> {
+    let (stime, susec) = Moment::new(1_700_000_100, 7).ok_or("a moment")?.parts();
+    let made = KrbError {
+        ctime: None,
+        cusec: None,
+        stime,
+        susec,
+        error_code: 37,
+        crealm: None,
+        cname: None,
+        service: Principal::from_text(rt.alloc(), "host/web@EX", 3)?,
+        e_text: None,
+        e_data: None,
+    };
+    assert_eq!(rt; made.encode(rt.alloc())?.as_slice(), KRB_ERROR.as_slice());
+    Ok(())
+}
+
+/// A reply of as many bytes as a message may have at most, and of one more. 45 of them aren't sealed.
+#[test]
+fn the_limit_of_a_message(rt: HostRuntime) -> Result<(), Fail> {
+    for (more, is_written) in [(0, true), (1, false)] {
+        let reply = ApRep {
+            enc_part: Encrypted {
+                etype: 19,
+                kvno: None,
+                cipher: vec![in rt.alloc(); 7u8; 1_048_531 + more]?,
+            },
+        };
+        match reply.encode(rt.alloc()) {
+            Ok(bytes) => assert_eq!(rt; (bytes.len(), is_written), (1_048_576, true)),
+            Err(fault) => {
+                assert!(rt; !is_written && matches!(fault, EncodeFault::TooLong));
+            }
+        }
+    }
+    Ok(())
+}
+
+#[test]
+fn moments_apart_and_together(rt: HostRuntime) -> Result<(), Fail> {
+    let (second, micros) = Moment::new(-1, 999_999).ok_or("a moment")?.parts();
+    assert_eq!(rt; (second.get(), micros.get()), (-1, 999_999));
+    let (second, micros) = Moment::new(1_700_000_100, 5).ok_or("a moment")?.parts();
+    assert_eq!(rt; (second.get(), micros.get()), (1_700_000_100, 5));
+    assert_eq!(rt;
+        Moment::at(second, micros),
+        Moment::new(1_700_000_100, 5).ok_or("the same")?
+    );
     Ok(())
 }
