@@ -11,8 +11,9 @@
 //!   [`Field`] and [`Maybe`]. With [`Message`] too, [`parse`] reads it. Bind the answer of `sequence` with its type and match
 //!   on it: `?` there is refused for rows that hold both a slice and a time. With [`Encode`], whose `write` hands such a row to
 //!   [`write_sequence`], [`encoded`] writes it. A field that is an `i32` goes into that row as `Field(&self.number)`.
-//! - A SEQUENCE OF is read by `cursor.list::<T>()` as a cursor over its content, and that by `next::<T>()`; a slice is written
-//!   as one.
+//!   A field that may be left out goes there as `MaybeRef(&self.field)`.
+//! - A SEQUENCE OF is read by `cursor.list::<T>()` as a cursor over its content, and that by `next::<T>()`; a slice or a vector
+//!   is written as one, and texts that aren't of this crate as [`TextSlice`].
 //!
 //! What `Element::read` and `Row::read_row` answer is `specs::Computed`'s reading from left to right, of which [`laws`] says that
 //! it gives exactly what `specs::Spells` and `specs::Fault` say.

@@ -1,19 +1,32 @@
-//! The messages of the AP exchange (RFC 4120, sections 5.2 to 5.5), read in place, and moments.
+//! The messages of the AP exchange (RFC 4120, sections 5.2 to 5.5 and 5.9), read in place, copied and written, and moments.
 //!
 //! `specs::Module` has each message as a kind of `krb_der`, which reads like the table of the RFC. A view, as [`TicketRef`],
 //! holds the fields of one message: numbers and times as values, texts and octets as slices of the input, lists as walks over
 //! the input. `parse` is `Ok` exactly on the spellings of the kind, with the one value that they spell; else it tells the first
-//! fault and its offset. No call here takes memory.
+//! fault and its offset. It takes no memory.
+//!
+//! An owned message, as [`Ticket`], holds copies: `to_owned` of a view makes one of the same value, and `encode` writes the one
+//! spelling of that value. [`laws`] says that values and spellings belong together one to one.
 //!
 //! ```rust
 //! let request = ApReqRef::parse(bytes)?;
-//! let mutual = request.options.bits() & 0x2000_0000 != 0;
+//! let is_mutual = request.options.bits() & 0x2000_0000 != 0;
 //! let mut service = request.ticket.sname.components.again();
 //! while let Some(component) = service.next_text() {
 //!     println!(rt; "{component:?}")?;
 //! }
-//! let sealed = request.ticket.enc_part.cipher;
-//! let now = Moment::new(1_700_000_100, 5);
+//!
+//! let (ctime, cusec) = now.parts();
+//! let authenticator = Authenticator {
+//!     client,
+//!     checksum: None,
+//!     cusec,
+//!     ctime,
+//!     subkey: None,
+//!     seq_number: None,
+//!     authorization: None,
+//! };
+//! let plain = authenticator.encode(alloc)?;
 //! ```
 #![tactic(auto)]
 
