@@ -1,18 +1,15 @@
 //! Reading elements from left to right.
 
 ghost use Rattle.std.specs.Prelude.{◌≡◌, ◌≤◌, ◌↔◌, [], length, true, IsTrue, IsOk, IfOk, IfErr};
-ghost use Rattle.krb_der.specs.Kind.{leaf, int32, uint32, microseconds, constant, octets, string, flags, time, wrapped, sequence};
 ghost use Rattle.krb_der.specs.Place.{begin_at, begins};
 ghost use Rattle.krb_der.specs.Spells.{limit};
 ghost use Rattle.krb_der.specs.Reading.{Reads, Enters, MayEnter};
-ghost use Rattle.krb_der.specs.Clear.{are_clear};
 ghost use Rattle.krb_der.specs.Computed.Gives.{Gives};
 ghost use Rattle.krb_der.specs.Computed.Read.{enter_at, may_enter, split_at, length_fault, element_at, finish_at};
 
 use crate::element::is_clear;
 use crate::length::length;
-use crate::row::Row;
-use crate::{Constant, Element, Fault, FaultKind, Flags, Microseconds, Octets, Seconds, Text, tag};
+use crate::{Element, Fault, FaultKind};
 use std::marker::Model;
 
 /// The most bytes that a message has.
@@ -147,143 +144,6 @@ impl<'a> Cursor<'a> {
             Some(first) => *first == tag,
             None => false,
         }
-    }
-
-    /// Reads a whole number from -2,147,483,648 to 2,147,483,647 (RFC 4120, section 5.2.4).
-    ///
-    /// # Errors
-    /// Those of [`enter`](Self::enter), then `Integer` here: empty, not in its shortest form, or out of range.
-    pub fn int32(&mut self) -> Result<i32, Fault>
-        ensures { Reads (leaf int32) (λ z. z) result self.old self.new }
-    {
-        self.read::<i32>()
-    }
-
-    /// Reads a whole number from 0 to 4,294,967,295 (RFC 4120, section 5.2.4). Errors as of [`int32`](Self::int32).
-    pub fn uint32(&mut self) -> Result<u32, Fault>
-        ensures { Reads (leaf uint32) (λ n. n) result self.old self.new }
-    {
-        self.read::<u32>()
-    }
-
-    /// Reads a whole number from 0 to 999,999 (RFC 4120, section 5.2.4). Errors as of [`int32`](Self::int32).
-    pub fn microseconds(&mut self) -> Result<Microseconds, Fault>
-        ensures { Reads (leaf microseconds) (λ n. n) result self.old self.new }
-    {
-        self.read::<Microseconds>()
-    }
-
-    /// Reads the whole number `N`. Errors as of [`int32`](Self::int32); `Integer` also for any other number.
-    pub fn constant<const N: u32>(&mut self) -> Result<Constant<N>, Fault>
-        ensures { Reads (leaf (constant N)) (λ _. tt) result self.old self.new }
-    {
-        self.read::<Constant<N>>()
-    }
-
-    /// Reads an OCTET STRING: answers a slice of the input. Errors as of [`enter`](Self::enter).
-    pub fn octets(&mut self) -> Result<&'a [u8], Fault>
-        ensures { Reads (leaf octets) (λ s. s.now) result self.old self.new }
-    {
-        self.octets_here()
-    }
-
-    fn octets_here(&mut self) -> Result<&'a [u8], Fault>
-        ensures { Gives (λ s. s.now) result self.old self.new (element_at (leaf octets) self.old) }
-    {
-        let octets = Octets::read(self)?;
-        Ok(octets.0)
-    }
-
-    /// Reads a GeneralString, of any bytes: answers a slice of the input. Errors as of [`enter`](Self::enter).
-    pub fn string(&mut self) -> Result<&'a [u8], Fault>
-        ensures { Reads (leaf string) (λ s. s.now) result self.old self.new }
-    {
-        self.string_here()
-    }
-
-    fn string_here(&mut self) -> Result<&'a [u8], Fault>
-        ensures { Gives (λ s. s.now) result self.old self.new (element_at (leaf string) self.old) }
-    {
-        let text = Text::read(self)?;
-        Ok(text.0)
-    }
-
-    /// Reads a BIT STRING of 32 bits (RFC 4120, section 5.2.8).
-    ///
-    /// # Errors
-    /// Those of [`enter`](Self::enter), then `Flags` here: not 32 bits.
-    pub fn flags(&mut self) -> Result<Flags, Fault>
-        ensures { Reads (leaf flags) (λ f. f.0) result self.old self.new }
-    {
-        self.read::<Flags>()
-    }
-
-    /// Reads a GeneralizedTime of the form `YYYYMMDDHHMMSSZ` (RFC 4120, section 5.2.3).
-    ///
-    /// # Errors
-    /// Those of [`enter`](Self::enter), then `Time` here: not of the form, or not of the calendar.
-    pub fn time(&mut self) -> Result<Seconds, Fault>
-        ensures { Reads (leaf time) (λ s. s) result self.old self.new }
-    {
-        self.read::<Seconds>()
-    }
-
-    /// Reads a SEQUENCE of these fields. Errors as of [`read`](Self::read).
-    pub fn sequence<R: Row<'a> + Drop>(&mut self) -> Result<R, Fault>
-        ensures reads { are_clear R.fields ≡ true → Reads (sequence R.fields) R.view result self.old self.new }
-        ensures computed { Gives R.view result self.old self.new (element_at (sequence R.fields) self.old) }
-    {
-        self.sequence_here()
-    }
-
-    #[tactic(auto, unfolding(crate::specs::Computed::Read::element_at, crate::specs::Computed::Read::fields_at, crate::specs::Computed::Read::element_by))]
-    fn sequence_here<R: Row<'a> + Drop>(&mut self) -> Result<R, Fault>
-        ensures { Gives R.view result self.old self.new (element_at (sequence R.fields) self.old) }
-    {
-        let (content, after) = self.head(tag::SEQUENCE)?;
-        let row = R::read_row(content)?;
-        *self = after;
-        Ok(row)
-    }
-
-    /// Reads a SEQUENCE of these fields with this tag round it, as that of `[APPLICATION 2]` is 62 (hexadecimal). Errors as of
-    /// [`read`](Self::read).
-    pub fn application<R: Row<'a> + Drop>(&mut self, tag: u8) -> Result<R, Fault>
-        ensures reads { are_clear R.fields ≡ true → Reads (wrapped tag (sequence R.fields)) R.view result self.old self.new }
-        ensures computed { Gives R.view result self.old self.new (element_at (wrapped tag (sequence R.fields)) self.old) }
-    {
-        self.application_here(tag)
-    }
-
-    #[tactic(auto, unfolding(crate::specs::Computed::Read::element_at, crate::specs::Computed::Read::element_by))]
-    fn application_here<R: Row<'a> + Drop>(&mut self, tag: u8) -> Result<R, Fault>
-        ensures { Gives R.view result self.old self.new (element_at (wrapped tag (sequence R.fields)) self.old) }
-    {
-        let (mut content, after) = self.head(tag)?;
-        let row = content.sequence_here()?;
-        content.finish_here()?;
-        *self = after;
-        Ok(row)
-    }
-
-    /// Reads an element with this tag round it. Errors as of [`read`](Self::read).
-    pub fn wrapped<T: Element<'a> + Drop>(&mut self, tag: u8) -> Result<T, Fault>
-        ensures reads { Reads (wrapped tag T.kind) T.view result self.old self.new }
-        ensures computed { Gives T.view result self.old self.new (element_at (wrapped tag T.kind) self.old) }
-    {
-        is_clear::<T>();
-        self.wrapped_here(tag)
-    }
-
-    #[tactic(auto, unfolding(crate::specs::Computed::Read::element_at, crate::specs::Computed::Read::element_by))]
-    pub(crate) fn wrapped_here<T: Element<'a> + Drop>(&mut self, tag: u8) -> Result<T, Fault>
-        ensures { Gives T.view result self.old self.new (element_at (wrapped tag T.kind) self.old) }
-    {
-        let (mut content, after) = self.head(tag)?;
-        let value = T::read(&mut content)?;
-        content.finish_here()?;
-        *self = after;
-        Ok(value)
     }
 
     #[tactic(auto, unfolding(crate::specs::Computed::Read::finish_at))]

@@ -21,9 +21,11 @@
 //! Slices that reading answers are of the input; only writing takes memory. No call runs longer than linear in its bytes.
 #![tactic(auto)]
 
+mod contents;
 mod cursor;
 mod element;
 mod encoding;
+mod encoding_rows;
 mod fault;
 mod head;
 pub mod laws;
@@ -31,6 +33,7 @@ mod leaf;
 mod length;
 mod list;
 mod message;
+mod parts;
 mod row;
 mod tag;
 mod time;
@@ -40,7 +43,8 @@ mod writer;
 
 pub use cursor::Cursor;
 pub use element::Element;
-pub use encoding::{Encode, EncodeRow, encoded, write_application, write_sequence};
+pub use encoding::{Encode, encoded};
+pub use encoding_rows::{EncodeRow, write_application, write_sequence};
 pub use fault::{EncodeFault, Fault, FaultKind};
 pub use list::TextSlice;
 pub use message::{Message, parse};

@@ -1,6 +1,6 @@
 use Rattle.krb_der.specs.Spells.{Spells}
 use Rattle.krb_der.proofs.EncodeLaws.{encodes-wrapped, spelling_one}
-use Rattle.krb_der.proofs.encoding.write_wrapped.Goals as goal
+use Rattle.krb_der.proofs.encoding_rows.write_wrapped.Goals as goal
 
 pub returns : goal.returns
 returns g c =

@@ -6,7 +6,7 @@ use Rattle.krb_der.specs.Content.{Elementary}
 use Rattle.krb_der.specs.Spells.{IsJoined, IfPresent, Spells, SpellsFields}
 use Rattle.krb_der.specs.Writing.{Encodes}
 use Rattle.krb_der.proofs.EncodeLaws.{encodes-joined, encodes-absent, joined-refused, present_one}
-use Rattle.krb_der.proofs.encoding.write_maybe.Goals as goal
+use Rattle.krb_der.proofs.encoding_rows.write_maybe.Goals as goal
 
 pub returns-in-None : goal.returns-in-None
 returns-in-None g c =

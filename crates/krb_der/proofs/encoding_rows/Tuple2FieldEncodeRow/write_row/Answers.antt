@@ -2,7 +2,7 @@ use Rattle.krb_der.specs.Kind.{wrapped}
 use Rattle.krb_der.specs.Content.{Elementary}
 use Rattle.krb_der.specs.Spells.{Spells, SpellsFields}
 use Rattle.krb_der.proofs.EncodeLaws.{encodes-joined, spelling_one}
-use Rattle.krb_der.proofs.encoding.Tuple2FieldEncodeRow.write_row.Goals as goal
+use Rattle.krb_der.proofs.encoding_rows.Tuple2FieldEncodeRow.write_row.Goals as goal
 
 pub returns : goal.returns
 returns g c =

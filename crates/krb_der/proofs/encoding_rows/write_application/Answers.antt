@@ -1,7 +1,7 @@
 use Rattle.krb_der.specs.Kind.{sequence}
 use Rattle.krb_der.specs.Spells.{Spells}
 use Rattle.krb_der.proofs.EncodeLaws.{encodes-wrapped, spelling_one}
-use Rattle.krb_der.proofs.encoding.write_application.Goals as goal
+use Rattle.krb_der.proofs.encoding_rows.write_application.Goals as goal
 
 pub returns : goal.returns
 returns g c =

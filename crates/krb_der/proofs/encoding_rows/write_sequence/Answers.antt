@@ -1,7 +1,7 @@
 use Rattle.krb_der.specs.Content.{Elementary}
 use Rattle.krb_der.specs.Spells.{SpellsFields}
 use Rattle.krb_der.proofs.EncodeLaws.{encodes-wrapped, fields_one}
-use Rattle.krb_der.proofs.encoding.write_sequence.Goals as goal
+use Rattle.krb_der.proofs.encoding_rows.write_sequence.Goals as goal
 
 pub returns : goal.returns
 returns g c =

@@ -1,0 +1,129 @@
+//! What can be written as a row of fields.
+
+ghost use Rattle.std.specs.Option.{option_map};
+ghost use Rattle.krb_der.specs.Kind.{Fields, FieldsOf, wrapped, sequence, ends, must, may};
+ghost use Rattle.krb_der.specs.Content.{Elementary};
+ghost use Rattle.krb_der.specs.Spells.{Spells, SpellsFields};
+ghost use Rattle.krb_der.specs.Writing.{Encodes};
+
+use crate::row::{Field, Maybe, MaybeRef};
+use crate::{Encode, EncodeFault, Writer, tag};
+
+/// A type whose values are written as a row of fields.
+pub trait EncodeRow {
+    ghost fields: { Fields };
+
+    ghost view: { Self → FieldsOf fields };
+
+    /// Writes the fields one after another. Errors as of [`Encode::write`].
+    fn write_row(&self, out: &mut Writer) -> Result<(), EncodeFault>
+        ensures { Encodes (SpellsFields Elementary fields (view self.now)) result out.old out.new };
+}
+
+/// Writes an element with this tag round it.
+fn write_wrapped<T: Encode>(value: &T, tag: u8, out: &mut Writer) -> Result<(), EncodeFault>
+    ensures { Encodes (Spells (wrapped tag T.kind) (T.view value.now)) result out.old out.new }
+{
+    let start = out.len();
+    value.write(out)?;
+    let written = out.wrap(tag, start);
+    out.limited(start, written)
+}
+
+/// Writes a SEQUENCE of these fields. Errors as of [`Encode::write`].
+pub fn write_sequence<R: EncodeRow>(row: &R, out: &mut Writer) -> Result<(), EncodeFault>
+    ensures { Encodes (Spells (sequence R.fields) (R.view row.now)) result out.old out.new }
+{
+    let start = out.len();
+    row.write_row(out)?;
+    let written = out.wrap(tag::SEQUENCE, start);
+    out.limited(start, written)
+}
+
+/// Writes a SEQUENCE of these fields with this tag round it. Errors as of [`Encode::write`].
+pub fn write_application<R: EncodeRow>(
+    row: &R,
+    tag: u8,
+    out: &mut Writer,
+) -> Result<(), EncodeFault>
+    ensures { Encodes (Spells (wrapped tag (sequence R.fields)) (R.view row.now)) result out.old out.new }
+{
+    let start = out.len();
+    write_sequence(row, out)?;
+    let written = out.wrap(tag, start);
+    out.limited(start, written)
+}
+
+impl<const TAG: u8, T: Encode> Encode for Field<TAG, T> {
+    ghost kind = { wrapped TAG T.kind };
+
+    ghost view = { λ f. T.view f.0 };
+
+    fn write(&self, out: &mut Writer) -> Result<(), EncodeFault> {
+        write_wrapped(&self.0, TAG, out)
+    }
+}
+
+impl EncodeRow for () {
+    ghost fields = { ends };
+
+    ghost view = { λ _. tt };
+
+    fn write_row(&self, out: &mut Writer) -> Result<(), EncodeFault> {
+        let start = out.len();
+        out.limited(start, Ok(()))
+    }
+}
+
+impl<const TAG: u8, T: Encode, R: EncodeRow> EncodeRow for (Field<TAG, T>, R) {
+    ghost fields = { must (wrapped TAG T.kind) R.fields };
+
+    ghost view = { λ r. (T.view r.0.0, R.view r.1) };
+
+    fn write_row(&self, out: &mut Writer) -> Result<(), EncodeFault> {
+        let start = out.len();
+        write_wrapped(&self.0.0, TAG, out)?;
+        let written = self.1.write_row(out);
+        out.settle(start, written)
+    }
+}
+
+/// Writes an element with this tag round it where there is one, and then the rest of the row.
+fn write_maybe<T: Encode, R: EncodeRow>(
+    maybe: &Option<T>,
+    tag: u8,
+    rest: &R,
+    out: &mut Writer,
+) -> Result<(), EncodeFault>
+    ensures { Encodes (SpellsFields Elementary (may (wrapped tag T.kind) R.fields) (option_map T.view maybe.now, R.view rest.now)) result out.old out.new }
+{
+    match maybe {
+        Some(value) => {
+            let start = out.len();
+            write_wrapped(value, tag, out)?;
+            let written = rest.write_row(out);
+            out.settle(start, written)
+        }
+        None => rest.write_row(out),
+    }
+}
+
+impl<const TAG: u8, T: Encode, R: EncodeRow> EncodeRow for (Maybe<TAG, T>, R) {
+    ghost fields = { may (wrapped TAG T.kind) R.fields };
+
+    ghost view = { λ r. (option_map T.view r.0.0, R.view r.1) };
+
+    fn write_row(&self, out: &mut Writer) -> Result<(), EncodeFault> {
+        write_maybe(&self.0.0, TAG, &self.1, out)
+    }
+}
+
+impl<const TAG: u8, T: Encode, R: EncodeRow> EncodeRow for (MaybeRef<'_, TAG, T>, R) {
+    ghost fields = { may (wrapped TAG T.kind) R.fields };
+
+    ghost view = { λ r. (option_map T.view r.0.0.now, R.view r.1) };
+
+    fn write_row(&self, out: &mut Writer) -> Result<(), EncodeFault> {
+        write_maybe(self.0.0, TAG, &self.1, out)
+    }
+}
