@@ -13,12 +13,12 @@
 //!   [`write_sequence`], [`encoded`] writes it. A field that is an `i32` goes into that row as `Field(&self.number)`.
 //!   A field that may be left out goes there as `MaybeRef(&self.field)`.
 //! - A SEQUENCE OF is read by `cursor.list::<T>()` as a cursor over its content, and that by `next::<T>()`; a slice or a vector
-//!   is written as one, and texts that aren't of this crate as [`TextSlice`].
+//!   is written as one, and texts that aren't of this crate as [`TextList`].
 //!
 //! What `Element::read` and `Row::read_row` answer is `specs::Computed`'s reading from left to right, of which [`laws`] says that
 //! it gives exactly what `specs::Spells` and `specs::Fault` say.
 //!
-//! Slices that reading answers are of the input; only writing takes memory. No call runs longer than linear in its bytes.
+//! Slices that reading answers are of the input; only writing takes memory. No call runs longer than linear in its bytes, times the depth of its elements where it writes.
 #![tactic(auto)]
 
 mod contents;
@@ -46,7 +46,7 @@ pub use element::Element;
 pub use encoding::{Encode, encoded};
 pub use encoding_rows::{EncodeRow, write_application, write_sequence};
 pub use fault::{EncodeFault, Fault, FaultKind};
-pub use list::TextSlice;
+pub use list::TextList;
 pub use message::{Message, parse};
 pub use row::{Field, Maybe, MaybeRef, Row};
 pub use time::Seconds;

@@ -141,11 +141,11 @@ impl<T: Encode> Encode for Vec<T> {
     }
 }
 
-/// TextSlice that stand somewhere, to be written as a SEQUENCE OF GeneralString.
+/// Texts that stand somewhere, to be written as a SEQUENCE OF GeneralString.
 #[derive(Clone, Copy, Debug)]
-pub struct TextSlice<'a, T>(pub &'a [T]);
+pub struct TextList<'a, T>(pub &'a [T]);
 
-impl<T: AsSlice<u8>> Encode for TextSlice<'_, T> {
+impl<T: AsSlice<u8>> Encode for TextList<'_, T> {
     ghost kind = { sequence (each (leaf string)) };
 
     ghost view = { λ texts. map T.items texts.0.now };

@@ -10,12 +10,12 @@ use Rattle.krb_msg.specs.declared.ticket.EncryptedRef.{EncryptedRef}
 use Rattle.krb_msg.specs.declared.ticket.TicketRef.{TicketRef}
 use Rattle.krb_msg.specs.declared.request.ApReqRef.{ApReqRef}
 use Rattle.krb_msg.specs.declared.authenticator.AuthenticatorRef.{AuthenticatorRef}
-use Rattle.krb_msg.specs.declared.enc_ticket.EncTicketRef.{EncTicketRef}
+use Rattle.krb_msg.specs.declared.enc_ticket_ref.EncTicketRef.{EncTicketRef}
 use Rattle.krb_msg.specs.declared.reply.ApRepRef.{ApRepRef}
 use Rattle.krb_msg.specs.declared.enc_reply.EncApRepRef.{EncApRepRef}
-use Rattle.krb_msg.specs.declared.error.KrbErrorRef.{KrbErrorRef}
+use Rattle.krb_msg.specs.declared.krb_error_ref.KrbErrorRef.{KrbErrorRef}
 
--- a field that may be left out, whose value is what the type holds
+-- a field that may be left out, whose value is what the type holds: the same option, in the form that a row of fields gives it
 abbrev pub as_it_is : {A : Type 0} → Option A → Option A
 as_it_is o = option_map (λ x. x) o
 

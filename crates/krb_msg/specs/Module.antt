@@ -6,7 +6,7 @@ use Rattle.krb_der.specs.Kind.{Kind, leaf, sequence, ends, must, may, each, fiel
 abbrev pub sequence_of : Kind → Kind
 sequence_of k = sequence (each k)
 
--- a SEQUENCE of a field 0 that is a number, and a field 1
+-- a SEQUENCE of a field 0 that is an Int32, and a field 1
 abbrev pub typed : Kind → Kind
 typed k = sequence (must (field 0 (leaf int32)) (must (field 1 k) ends))
 

@@ -4,7 +4,7 @@ use Rattle.std.specs.Option.{option_map}
 use Rattle.krb_name.specs.declared.principal.Principal.{Principal}
 use Rattle.krb_der.specs.Kind.{leaf, octets, ValueOf}
 use Rattle.krb_msg.specs.Borrowed.{as_it_is}
-use Rattle.krb_msg.specs.Module.{typed, principal_name, encrypted_data, authorization_data, ticket, ap_req, authenticator, enc_ticket_part, ap_rep, enc_ap_rep_part, krb_error}
+use Rattle.krb_msg.specs.Module.{typed, principal_name, encrypted_data, ticket, ap_req, authenticator, enc_ticket_part, ap_rep, enc_ap_rep_part, krb_error}
 use Rattle.krb_msg.specs.declared.name.Name.{Name}
 use Rattle.krb_msg.specs.declared.typed.Typed.{Typed}
 use Rattle.krb_msg.specs.declared.key.RawKey.{RawKey}
@@ -27,7 +27,7 @@ principal_name_of p = (p.name_type, (p.components, tt))
 abbrev pub owned_typed_of : Typed → ValueOf (typed (leaf octets))
 owned_typed_of t = (t.kind, (t.bytes.items, tt))
 
-abbrev pub owned_list_of : List Typed → ValueOf authorization_data
+abbrev pub owned_list_of : List Typed → List (ValueOf (typed (leaf octets)))
 owned_list_of ts = map owned_typed_of ts
 
 abbrev pub owned_key_of : RawKey → ValueOf (typed (leaf octets))

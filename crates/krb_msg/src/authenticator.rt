@@ -99,9 +99,19 @@ type AuthenticatorTailRow<'a> = (
 );
 
 impl<'a> Row<'a> for AuthenticatorTail<'a> {
-    ghost fields = { may (field 3 checksum) (must (field 4 (leaf microseconds)) (must (field 5 (leaf time)) (may (field 6 encryption_key) (may (field 7 (leaf uint32)) (may (field 8 authorization_data) ends))))) };
+    ghost fields = { may (field 3 checksum) (must (field 4 (leaf microseconds)) (must (field 5 (leaf time))
+        (may (field 6 encryption_key) (may (field 7 (leaf uint32)) (may (field 8 authorization_data) ends))))) };
 
-    ghost view = { λ t. (option_map typed_of t.checksum, (t.cusec, (t.ctime, (option_map key_of t.subkey, (as_it_is t.seq_number, (as_it_is t.authorization, tt)))))) };
+    ghost view = { λ t. (
+      option_map typed_of t.checksum,
+      (
+        t.cusec,
+        (
+          t.ctime,
+          (option_map key_of t.subkey, (as_it_is t.seq_number, (as_it_is t.authorization, tt))),
+        ),
+      ),
+    ) };
 
     fn read_row(content: Cursor<'a>) -> Result<AuthenticatorTail<'a>, Fault> {
         let row: Result<AuthenticatorTailRow<'a>, Fault> = Row::read_row(content);

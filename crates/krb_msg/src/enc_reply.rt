@@ -60,7 +60,7 @@ impl<'a> Element<'a> for EncApRepRef<'a> {
 impl<'a> Message<'a> for EncApRepRef<'a> {}
 
 impl<'a> EncApRepRef<'a> {
-    /// Reads a message of this type, which is all of the bytes. It takes no memory.
+    /// Reads a message of this type, which is all of the bytes. It takes no memory. Match on the answer: `?` isn't accepted here.
     ///
     /// # Errors
     /// `TooLong` at 0 above 1,048,576 bytes. Else the first fault from left to right, contents before what follows.

@@ -62,9 +62,19 @@ type EndRow<'a> = (
 );
 
 impl EncodeRow for Tail<'_> {
-    ghost fields = { must (field 6 (leaf int32)) (may (field 7 (leaf string)) (may (field 8 principal_name) (must (field 9 (leaf string)) (must (field 10 principal_name) (may (field 11 (leaf string)) (may (field 12 (leaf octets)) ends)))))) };
+    ghost fields = { must (field 6 (leaf int32)) (may (field 7 (leaf string)) (may (field 8 principal_name)
+        (must (field 9 (leaf string)) (must (field 10 principal_name) (may (field 11 (leaf string)) (may (field 12 (leaf octets)) ends)))))) };
 
-    ghost view = { λ t. (t.0.now.error_code, (as_it_is t.0.now.crealm, (option_map owned_name_of t.0.now.cname, (t.0.now.service.realm, (principal_name_of t.0.now.service, (as_it_is t.0.now.e_text, (option_map (λ x. x.items) t.0.now.e_data, tt))))))) };
+    ghost view = { λ t. (
+      t.0.now.error_code,
+      (
+        as_it_is t.0.now.crealm,
+        (
+          option_map owned_name_of t.0.now.cname,
+          (t.0.now.service.realm, (principal_name_of t.0.now.service, (as_it_is t.0.now.e_text, (option_map (λ x. x.items) t.0.now.e_data, tt)))),
+        ),
+      ),
+    ) };
 
     fn write_row(&self, out: &mut Writer) -> Result<(), EncodeFault> {
         let message = self.0;

@@ -5,14 +5,13 @@
 //! the input. `parse` is `Ok` exactly on the spellings of the kind, with the one value that they spell; else it tells the first
 //! fault and its offset. It takes no memory.
 //!
-//! An owned message, as [`Ticket`], holds copies: `to_owned` of a view makes one of the same value, and `encode` writes the one
-//! spelling of that value. [`laws`] says that values and spellings belong together one to one.
+//! An owned message, as [`Ticket`], holds copies: `to_owned` of a view makes one of the same value, and `encode` writes a spelling
+//! of that value. [`laws`] says that a value has at most one spelling, and a spelling one value.
 //!
 //! ```rust
 //! let request = ApReqRef::parse(bytes)?;
 //! let is_mutual = request.options.bits() & 0x2000_0000 != 0;
-//! let mut service = request.ticket.sname.components.again();
-//! while let Some(component) = service.next_text() {
+//! for component in request.ticket.sname.components.iter() {
 //!     println!(rt; "{component:?}")?;
 //! }
 //!
@@ -32,11 +31,11 @@
 
 mod authenticator;
 mod enc_reply;
-mod enc_ticket;
 mod enc_ticket_part;
-mod error;
+mod enc_ticket_ref;
 mod key;
 mod krb_error;
+mod krb_error_ref;
 pub mod laws;
 mod moment;
 mod name;
@@ -48,20 +47,20 @@ mod typed;
 
 pub use authenticator::{Authenticator, AuthenticatorRef};
 pub use enc_reply::{EncApRepPart, EncApRepRef};
-pub use enc_ticket::EncTicketRef;
 pub use enc_ticket_part::EncTicketPart;
-pub use error::KrbErrorRef;
+pub use enc_ticket_ref::EncTicketRef;
 pub use key::{KeyRef, RawKey};
 pub use krb_der::{EncodeFault, Fault, FaultKind, Flags, Microseconds, Seconds};
 pub use krb_error::KrbError;
+pub use krb_error_ref::KrbErrorRef;
 pub use krb_name::{Bytes, Components, Principal};
 pub use moment::Moment;
 pub use name::{Name, NameRef};
 pub use reply::{ApRep, ApRepRef};
 pub use request::{ApReq, ApReqRef};
-pub use texts::Texts;
+pub use texts::{Texts, TextsIter};
 pub use ticket::{Encrypted, EncryptedRef, Ticket, TicketRef};
-pub use typed::{Typed, TypedListRef, TypedRef};
+pub use typed::{Typed, TypedIter, TypedListRef, TypedRef};
 
 #[cfg(test)]
 mod tests;

@@ -3,13 +3,18 @@
 ghost use Rattle.std.specs.Prelude.{◌≡◌, ◌<◌, SomeIff};
 ghost use Rattle.krb_der.specs.Time.{IsSeconds};
 ghost use Rattle.krb_msg.specs.Moments.{micros_of};
+ghost use Rattle.std.proofs.Common.{rules};
+ghost use Rattle.std.specs.Cmp.{partial_order_from_own_ties};
+ghost use Rattle.std.specs.Cmp.Rules.{comparing};
+ghost use Rattle.std.specs.Ordering.{as_partial_cmp, int_cmp};
 
 use krb_der::{Microseconds, Seconds};
+use std::cmp::Ordering;
 use std::marker::Model;
 
 /// A microsecond of the years 0000 to 9999. Moments are ordered by time. A contract sees one as its microseconds from
 /// 1970-01-01T00:00:00Z on, which before it are negative.
-#[derive(Clone, Copy, Debug, PartialEq, Eq, PartialOrd, Ord, Hash)]
+#[derive(Clone, Copy, Debug, PartialEq, Eq, Hash)]
 pub struct Moment {
     micros: i64,
 }
@@ -40,6 +45,7 @@ impl Moment {
             micros: 1_000_000 * seconds + i64::from(micros),
         })
     }
+
     /// The moment of a message's time, so many microseconds after a second.
     pub fn at(second: Seconds, micros: Microseconds) -> Moment
         ensures { result ≡ micros_of second micros }
@@ -47,6 +53,13 @@ impl Moment {
         Moment {
             micros: 1_000_000 * second.get() + i64::from(micros.get()),
         }
+    }
+
+    /// The microseconds from 1970-01-01T00:00:00Z on, which before it are negative.
+    pub fn micros(self) -> i64
+        ensures { result ≡ self }
+    {
+        self.micros
     }
 
     /// The second that the moment lies in, and the microseconds since it began, as messages tell them.
@@ -59,5 +72,29 @@ impl Moment {
             (Some(second), Some(micros)) => (second, micros),
             _ => unreachable!(),
         }
+    }
+}
+
+impl Ord for Moment {
+    ghost cmp = { int_cmp };
+
+    ghost total = { Prim.search (comparing, rules) };
+
+    ghost matches_partial_cmp = { Prim.search (comparing, rules) };
+
+    ghost matches_eq = { Prim.search (comparing, rules) };
+
+    fn cmp(&self, other: &Moment) -> Ordering {
+        self.micros.cmp(&other.micros)
+    }
+}
+
+impl PartialOrd for Moment {
+    ghost partial_cmp = { as_partial_cmp int_cmp };
+
+    ghost laws = { partial_order_from_own_ties (Prim.search (comparing, rules)) (Prim.search (comparing, rules)) };
+
+    fn partial_cmp(&self, other: &Moment) -> Option<Ordering> {
+        Some(self.cmp(other))
     }
 }

@@ -10,7 +10,7 @@ ghost use Rattle.krb_msg.specs.Owned.{owned_name_of, principal_name_of};
 
 use crate::texts::Texts;
 use krb_der::{
-    Cursor, Element, Encode, EncodeFault, Fault, Field, TextSlice, Writer, write_sequence,
+    Cursor, Element, Encode, EncodeFault, Fault, Field, TextList, Writer, write_sequence,
 };
 use krb_name::{Bytes, Components, Principal};
 use std::alloc::{AllocError, Global};
@@ -125,9 +125,9 @@ impl Encode for NameIn<'_> {
 fn write_name(name_type: &i32, components: &Components, out: &mut Writer) -> Result<(), EncodeFault>
     ensures { Encodes (Spells principal_name (name_type.now, (components.now, tt))) result out.old out.new }
 {
-    let row: (Field<0xa0, &i32>, (Field<0xa1, TextSlice<Bytes>>, ())) = (
+    let row: (Field<0xa0, &i32>, (Field<0xa1, TextList<Bytes>>, ())) = (
         Field(name_type),
-        (Field(TextSlice(components.as_slice())), ()),
+        (Field(TextList(components.as_slice())), ()),
     );
     write_sequence(&row, out)
 }

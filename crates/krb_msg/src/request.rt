@@ -32,12 +32,12 @@ type ApReqRow<'a> = (
         Field<0xa1, Constant<14>>,
         (
             Field<0xa2, Flags>,
-            (Field<0xa3, TicketRef<'a>>, ApReqRow2<'a>),
+            (Field<0xa3, TicketRef<'a>>, ApReqEndRow<'a>),
         ),
     ),
 );
 
-type ApReqRow2<'a> = (Field<0xa4, EncryptedRef<'a>>, ());
+type ApReqEndRow<'a> = (Field<0xa4, EncryptedRef<'a>>, ());
 
 impl<'a> Element<'a> for ApReqRef<'a> {
     ghost kind = { ap_req };

@@ -1,6 +1,7 @@
 //! Texts that stand one after another.
 
-ghost use Rattle.std.specs.Prelude.{refl, ◌≡◌, [], ◌∷◌, List, ℕ, IfSome, IfNone, IfOk};
+ghost use Rattle.std.specs.Prelude.{refl, ◌≡◌, IfOk};
+ghost use Rattle.std.specs.Iterator.{YieldsFirstBy, item_count};
 ghost use Rattle.std.specs.Option.{option_map};
 ghost use Rattle.krb_der.specs.Kind.{leaf, string};
 ghost use Rattle.krb_msg.specs.Borrowed.{as_it_is};
@@ -31,27 +32,16 @@ impl<'a> Model for Texts<'a> {
 }
 
 impl<'a> Texts<'a> {
-    /// The same texts once more, to be walked apart.
-    pub fn again(&self) -> Texts<'a>
+    /// Walks over the texts, in their order.
+    pub fn iter(&self) -> TextsIter<'a>
         ensures { result ≡ self.now }
     {
-        Texts {
-            content: self.content.again(),
+        TextsIter {
+            left: self.content.again(),
         }
     }
 
-    /// Takes the first text off, or answers `None` where there is none.
-    pub fn next_text(&mut self) -> Option<&'a [u8]>
-        ensures next { IfSome result (λ text. self.old ≡ text.now ∷ self.new) }
-        ensures end { IfNone result ((self.old ≡ []) × (self.new ≡ [])) }
-    {
-        match self.content.next::<Text>() {
-            Some(text) => Some(text.0),
-            None => None,
-        }
-    }
-
-    /// Copies of the texts that weren't taken off, in their order.
+    /// Copies of the texts, in their order.
     ///
     /// # Errors
     /// There was no room.
@@ -59,11 +49,43 @@ impl<'a> Texts<'a> {
         ensures { IfOk result (λ made. made ≡ self.now) }
     {
         let mut made = Components::new(alloc);
-        let mut left = self.again();
-        while let Some(text) = left.next_text() {
+        for text in self.iter() {
             made.push(Bytes::from_slice(alloc, text)?)?;
         }
         Ok(made)
+    }
+}
+
+/// A walk over [`Texts`], which takes no memory. A contract sees it as the texts that are left.
+#[derive(Debug, Drop)]
+pub struct TextsIter<'a> {
+    left: Cursor<'a>,
+}
+
+impl<'a> Model for TextsIter<'a> {
+    ghost use Rattle.std.specs.Prelude.{List, ℕ};
+    ghost use Rattle.krb_der.specs.Kind.{leaf, string};
+    ghost use Rattle.krb_der.specs.Computed.Listed.{AreListed, listed};
+
+    ghost Value = { List (List ℕ) };
+
+    ghost view = { λ t. listed (leaf string) t.left };
+
+    ghost invariant = { λ t. AreListed (leaf string) t.left };
+}
+
+impl<'a> Iterator for TextsIter<'a> {
+    type Item = &'a [u8];
+
+    ghost next_gives = { YieldsFirstBy (λ x. x.now) (λ t. t) };
+
+    ghost remaining = { item_count (λ t. t) };
+
+    fn next(&mut self) -> Option<&'a [u8]> {
+        match self.left.next::<Text>() {
+            Some(text) => Some(text.0),
+            None => None,
+        }
     }
 }
 

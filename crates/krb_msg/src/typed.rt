@@ -1,6 +1,7 @@
 //! A number that says a type, and bytes of that type.
 
-ghost use Rattle.std.specs.Prelude.{refl, ◌≡◌, [], ◌∷◌, IfSome, IfNone, IfOk};
+ghost use Rattle.std.specs.Prelude.{refl, ◌≡◌, IfOk};
+ghost use Rattle.std.specs.Iterator.{YieldsFirstBy, item_count};
 ghost use Rattle.std.specs.Option.{option_map};
 ghost use Rattle.krb_der.specs.Kind.{leaf, octets};
 ghost use Rattle.krb_msg.specs.Borrowed.{as_it_is, typed_of};
@@ -115,24 +116,16 @@ impl<'a> Model for TypedListRef<'a> {
 }
 
 impl<'a> TypedListRef<'a> {
-    /// The same list once more, to be walked apart.
-    pub fn again(&self) -> TypedListRef<'a>
+    /// Walks over the elements, in their order.
+    pub fn iter(&self) -> TypedIter<'a>
         ensures { result ≡ self.now }
     {
-        TypedListRef {
-            content: self.content.again(),
+        TypedIter {
+            left: self.content.again(),
         }
     }
 
-    /// Takes the first element off, or answers `None` where there is none.
-    pub fn next_element(&mut self) -> Option<TypedRef<'a>>
-        ensures next { IfSome result (λ t. self.old ≡ typed_of t ∷ self.new) }
-        ensures end { IfNone result ((self.old ≡ []) × (self.new ≡ [])) }
-    {
-        self.content.next::<TypedRef>()
-    }
-
-    /// Copies of the elements that weren't taken off, in their order.
+    /// Copies of the elements, in their order.
     ///
     /// # Errors
     /// There was no room.
@@ -140,11 +133,41 @@ impl<'a> TypedListRef<'a> {
         ensures { IfOk result (λ made. owned_list_of made.items ≡ self.now) }
     {
         let mut made = Vec::new(alloc);
-        let mut left = self.again();
-        while let Some(element) = left.next_element() {
+        for element in self.iter() {
             made.push(element.to_owned(alloc)?)?;
         }
         Ok(made)
+    }
+}
+
+/// A walk over a [`TypedListRef`], which takes no memory. A contract sees it as the elements that are left.
+#[derive(Debug, Drop)]
+pub struct TypedIter<'a> {
+    left: Cursor<'a>,
+}
+
+impl<'a> Model for TypedIter<'a> {
+    ghost use Rattle.std.specs.Prelude.{List};
+    ghost use Rattle.krb_der.specs.Kind.{leaf, octets, ValueOf};
+    ghost use Rattle.krb_der.specs.Computed.Listed.{AreListed, listed};
+    ghost use Rattle.krb_msg.specs.Module.{typed};
+
+    ghost Value = { List (ValueOf (typed (leaf octets))) };
+
+    ghost view = { λ l. listed (typed (leaf octets)) l.left };
+
+    ghost invariant = { λ l. AreListed (typed (leaf octets)) l.left };
+}
+
+impl<'a> Iterator for TypedIter<'a> {
+    type Item = TypedRef<'a>;
+
+    ghost next_gives = { YieldsFirstBy typed_of (λ l. l) };
+
+    ghost remaining = { item_count (λ l. l) };
+
+    fn next(&mut self) -> Option<TypedRef<'a>> {
+        self.left.next::<TypedRef>()
     }
 }
 

@@ -51,12 +51,12 @@ type KrbErrorRow<'a> = (
         Field<0xa1, Constant<30>>,
         (
             Maybe<0xa2, Seconds>,
-            (Maybe<0xa3, Microseconds>, KrbErrorRow2<'a>),
+            (Maybe<0xa3, Microseconds>, KrbErrorMiddleRow<'a>),
         ),
     ),
 );
 
-type KrbErrorRow2<'a> = (
+type KrbErrorMiddleRow<'a> = (
     Field<0xa4, Seconds>,
     (Field<0xa5, Microseconds>, KrbErrorTail<'a>),
 );
@@ -118,9 +118,19 @@ type KrbErrorEndRow<'a> = (
 );
 
 impl<'a> Row<'a> for KrbErrorTail<'a> {
-    ghost fields = { must (field 6 (leaf int32)) (may (field 7 (leaf string)) (may (field 8 principal_name) (must (field 9 (leaf string)) (must (field 10 principal_name) (may (field 11 (leaf string)) (may (field 12 (leaf octets)) ends)))))) };
+    ghost fields = { must (field 6 (leaf int32)) (may (field 7 (leaf string)) (may (field 8 principal_name)
+        (must (field 9 (leaf string)) (must (field 10 principal_name) (may (field 11 (leaf string)) (may (field 12 (leaf octets)) ends)))))) };
 
-    ghost view = { λ t. (t.error_code, (option_map (λ x. x.now) t.crealm, (option_map name_of t.cname, (t.realm.now, (name_of t.sname, (option_map (λ x. x.now) t.e_text, (option_map (λ x. x.now) t.e_data, tt))))))) };
+    ghost view = { λ t. (
+      t.error_code,
+      (
+        option_map (λ x. x.now) t.crealm,
+        (
+          option_map name_of t.cname,
+          (t.realm.now, (name_of t.sname, (option_map (λ x. x.now) t.e_text, (option_map (λ x. x.now) t.e_data, tt)))),
+        ),
+      ),
+    ) };
 
     fn read_row(content: Cursor<'a>) -> Result<KrbErrorTail<'a>, Fault> {
         let row: Result<KrbErrorTailRow<'a>, Fault> = Row::read_row(content);

@@ -113,9 +113,19 @@ type EncTicketEndRow<'a> = (
 );
 
 impl<'a> Row<'a> for EncTicketTail<'a> {
-    ghost fields = { must (field 4 transited_encoding) (must (field 5 (leaf time)) (may (field 6 (leaf time)) (must (field 7 (leaf time)) (may (field 8 (leaf time)) (may (field 9 (sequence_of host_address)) (may (field 10 authorization_data) ends)))))) };
+    ghost fields = { must (field 4 transited_encoding) (must (field 5 (leaf time)) (may (field 6 (leaf time))
+        (must (field 7 (leaf time)) (may (field 8 (leaf time)) (may (field 9 (sequence_of host_address)) (may (field 10 authorization_data) ends)))))) };
 
-    ghost view = { λ t. (typed_of t.transited, (t.authtime, (as_it_is t.starttime, (t.endtime, (as_it_is t.renew_till, (as_it_is t.caddr, (as_it_is t.authorization, tt))))))) };
+    ghost view = { λ t. (
+      typed_of t.transited,
+      (
+        t.authtime,
+        (
+          as_it_is t.starttime,
+          (t.endtime, (as_it_is t.renew_till, (as_it_is t.caddr, (as_it_is t.authorization, tt)))),
+        ),
+      ),
+    ) };
 
     fn read_row(content: Cursor<'a>) -> Result<EncTicketTail<'a>, Fault> {
         let row: Result<EncTicketTailRow<'a>, Fault> = Row::read_row(content);
