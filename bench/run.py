@@ -1,5 +1,6 @@
 #!/usr/bin/env python3
-"""Times this repository's cipher, sealing and listings beside OpenSSL and MIT krb5 in one run, and prints tables of ratios.
+"""Times this repository's cipher, sealing, messages and listings beside OpenSSL and MIT krb5 in one run, and prints tables of
+ratios.
 
     bench/run.py
 
@@ -17,7 +18,10 @@ import files
 
 HERE = Path(__file__).resolve().parent
 TOP = HERE.parent
-CRATES = ["krb_aes", "krb_cts", "krb_kdf", "krb_enc"]
+sys.path.append(str(TOP / "tests"))
+import msg_values as der
+
+CRATES = ["krb_aes", "krb_cts", "krb_kdf", "krb_enc", "krb_der", "krb_name", "krb_msg"]
 NO_AES_NI = {"OPENSSL_ia32cap": "~0x200000200000000"}
 SIZES = [(60, "60 bytes"), (1024, "1 KiB"), (65_536, "64 KiB"), (1_048_576, "1 MiB")]
 RUNS = 5
@@ -31,7 +35,7 @@ def said(command, **more):
 
 
 def built(folder):
-    """Our program and the two in C. Ours is built in a repository of its own, with copies of these crates; here its source has
+    """Our program and the three in C. Ours is built in a repository of its own, with copies of these crates; here its source has
     another ending, since the gate wants each .rt file in a crate."""
     (folder / "crates").mkdir()
     for name in CRATES:
@@ -40,18 +44,29 @@ def built(folder):
     shutil.copy(HERE / "krb_bench.rt.in", folder / "crates" / "krb_bench" / "src" / "main.rt")
     lines = (TOP / "crates.txt").read_text().splitlines()
     kept = [line for line in lines if line.split(":")[0] in CRATES]
-    (folder / "crates.txt").write_text("\n".join([*kept, "krb_bench: krb_aes krb_enc"]) + "\n")
+    (folder / "crates.txt").write_text("\n".join([*kept, "krb_bench: krb_aes krb_enc krb_msg hex"]) + "\n")
     (folder / "HANDLES").write_text((TOP / "HANDLES").read_text())
     said(["rt", "run", "--", "seal", "19", "60", "1"], cwd=folder / "crates" / "krb_bench")
     flags = said(["pkg-config", "--cflags", "--libs", "krb5"]).split()
-    said(["cc", "-O2", "-o", str(folder / "mit_crypto"), str(HERE / "mit_crypto.c"), *flags])
+    for name in ("mit_crypto", "mit_messages"):
+        said(["cc", "-O2", "-o", str(folder / name), str(HERE / f"{name}.c"), *flags])
     said(["cc", "-O2", "-o", str(folder / "aes_blocks"), str(HERE / "aes_blocks.c"), "-lcrypto"])
-    return [str(folder / name) for name in ("crates/krb_bench/out/krb_bench", "mit_crypto", "aes_blocks")]
+    return [str(folder / name) for name in ("crates/krb_bench/out/krb_bench", "mit_crypto", "mit_messages", "aes_blocks")]
+
+
+def once(command, env=None):
+    """What a program measured: nanoseconds a block or a call."""
+    return float(said(command, env={**os.environ, **(env or {})}).split()[0])
 
 
 def best(command, env=None):
-    """The least of some runs: nanoseconds a block or a call."""
-    return min(float(said(command, env={**os.environ, **(env or {})}).split()[0]) for _ in range(RUNS))
+    """The least of some runs."""
+    return min(once(command, env) for _ in range(RUNS))
+
+
+def best_in_turn(commands):
+    """The least of some runs of each command. They run in turn, so that other work on the machine slows down all of them."""
+    return [min(runs) for runs in zip(*([once(command) for command in commands] for _ in range(RUNS)))]
 
 
 def block_table(ours, blocks):
@@ -76,11 +91,42 @@ def sealing_table(ours, mit):
                 print(f"| {way}, type {etype}, {name} | {here / 1000:,.1f} µs | {there / 1000:,.1f} µs | {there / here:.2f} |")
 
 
+def messages():
+    """The messages that are timed: a name, the word that the programs know the type by, and the bytes. The last byte is one of an
+    OCTET STRING."""
+    request = der.fields(
+        (0, der.integer(5)), (1, der.integer(14)), (2, der.flags(0)), (3, der.TICKET), (4, der.sealed(19, "5a" * 91)))
+    ticket_part = der.fields(
+        (0, der.flags(0)), (1, der.typed(19, bytes(range(16)).hex())), (2, der.string("EX")), (3, der.name(1, "alice")),
+        (4, der.typed(1, "")), (5, der.time("20231114221320Z")), (7, der.time("20231115081320Z")),
+        (10, der.sequence(*[der.typed(1, "5a" * 32)] * 20)))
+    return [
+        ("AP-REQ", "ap-req", der.element(0x6E, request)),
+        ("Ticket", "ticket", der.TICKET),
+        ("EncTicketPart, 20 elements of authorization data", "enc-ticket", der.element(0x63, ticket_part)),
+    ]
+
+
+def message_table(ours, mit):
+    """Ours is read in place, or read and copied; MIT's decoding always copies. Each time includes freeing what was made."""
+    ways = [(ours, "parse"), (ours, "own"), (ours, "encode"), (mit, "decode"), (mit, "encode")]
+    print("\n| | bytes | parse | parse and to_owned | encode | MIT krb5's decode | its encode "
+          "| decode / parse | decode / parse and to_owned | its encode / encode |")
+    print("|---|---|---|---|---|---|---|---|---|---|")
+    for name, word, message in messages():
+        size = len(message)
+        times = best_in_turn([[program, word, way, message.hex(), str(20_000_000 // size)] for program, way in ways])
+        parse, own, encode, decoded, encoded = times
+        shown = " | ".join(f"{time:,.0f} ns" for time in times)
+        print(f"| {name} | {size} | {shown} | {decoded / parse:.1f} | {decoded / own:.1f} | {encoded / encode:.2f} |")
+
+
 def main():
     with tempfile.TemporaryDirectory() as name:
-        ours, mit, blocks = built(Path(name))
+        ours, mit, mit_messages, blocks = built(Path(name))
         block_table(ours, blocks)
         sealing_table(ours, mit)
+        message_table(ours, mit_messages)
     said([str(TOP / "krbtool"), "--help"])
     print()
     files.tables(str(TOP / "crates" / "krbtool" / "out" / "krbtool"))
