@@ -1,9 +1,8 @@
 -- Heads that are written, and bytes whose end is moved.
-use Rattle.std.proofs.Common.{◌≡◌, ℕ, ◌+◌, ◌-◌, ◌/◌, ◌%◌, ◌^◌, ◌<◌, ◌≤◌, List, [], ◌∷◌, ◌++◌, length, get_or, take, drop, refl, sym, ap, ◌∙◌, arith, length-drop, append_assoc}
+use Rattle.std.proofs.Common.{◌≡◌, ℕ, ◌-◌, ◌/◌, ◌%◌, ◌^◌, ◌<◌, ◌≤◌, List, [], ◌∷◌, ◌++◌, length, get_or, take, drop, refl, sym, ap, ◌∙◌, arith, length-drop, append_assoc}
 use Rattle.std.specs.Int.{w32, to_be_bytes}
 use Rattle.std.proofs.lemmas.Bool.{ne_eqb}
-use Rattle.std.proofs.lemmas.List.{take_at, drop_at, take_all, drop_all, drop-drop, take-append-le, drop-append-le, take_rest, append-nil}
-use borrow.Rule.Slice.PartMut.{put_mid}
+use Rattle.std.proofs.lemmas.List.{take_at, drop_at, take_all, drop_all, take-append-le, drop-append-le, append-nil}
 use Rattle.krb_der.specs.Spells.{short, long, IsElement}
 use Rattle.krb_der.specs.Writing.{Appends, Wraps}
 use Rattle.krb_der.specs.Inner.HeadView.{IsHeadOf, turned_at}
@@ -76,23 +75,6 @@ unfolding turned_at
 turned_at-appended old head start end le e =
     let len : length (drop start old) ≡ end - start = omega (arith, length-drop start old, e) in
     rw (take-append-le start old head le, drop_at old head end (sym e), drop-append-le start old head le, take_at (drop start old) head (end - start) len) refl
-
-pub turned_at-turn : (bytes turned' : List ℕ) (start count : ℕ) → start + count ≤ length bytes
-    → turned' ≡ drop (length (take (length bytes - start) (drop start bytes)) - count) (take (length bytes - start) (drop start bytes))
-    ++ take (length (take (length bytes - start) (drop start bytes)) - count) (take (length bytes - start) (drop start bytes))
-    → put_mid start (length bytes - start) bytes turned' ≡ turned_at start (length bytes - count) bytes
-unfolding turned_at
-turned_at-turn bytes turned' start count le e =
-    let rest : take (length bytes - start) (drop start bytes) ≡ drop start bytes = take_rest bytes start in
-    let len : length (drop start bytes) ≡ length bytes - start = length-drop start bytes in
-    let post : drop (length bytes - start) (drop start bytes) ≡ [] = drop_all (length bytes - start) (drop start bytes) (omega (arith, len)) in
-    let up : start + (length (drop start bytes) - count) ≡ length bytes - count = omega (arith, len) in
-    let down : length (drop start bytes) - count ≡ (length bytes - count) - start = omega (arith, len) in
-    let turned : turned' ≡ drop (length bytes - count) bytes ++ take ((length bytes - count) - start) (drop start bytes) =
-    e ∙ ap (λ (l : List ℕ). drop (length l - count) l ++ take (length l - count) l) rest
-    ∙ ap (λ (l : List ℕ). l ++ take (length (drop start bytes) - count) (drop start bytes)) (drop-drop (length (drop start bytes) - count) start bytes ∙ ap (λ k. drop k bytes) up)
-    ∙ ap (λ k. drop (length bytes - count) bytes ++ take k (drop start bytes)) down in
-    ap (λ (l : List ℕ). take start bytes ++ (turned' ++ l)) post ∙ ap (λ (l : List ℕ). take start bytes ++ l) (append-nil turned' ∙ turned)
 
 pub wraps-turned : (tag start : ℕ) (old head mid new : List ℕ) → start ≤ length old → IsHeadOf tag (length (drop start old)) head → mid ≡ old ++ head
     → new ≡ turned_at start (length old) mid → Wraps tag start old new

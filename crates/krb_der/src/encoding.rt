@@ -137,6 +137,9 @@ impl Encode for Text<'_> {
     }
 }
 
+/// The room that a message gets at first, in bytes: most messages need no more.
+const FIRST_ROOM: usize = 512;
+
 /// The message that the value is.
 ///
 /// # Errors
@@ -146,7 +149,7 @@ pub fn encoded<T: Encode>(alloc: Global, value: &T) -> Result<Vec<u8>, EncodeFau
     ensures too_long { IsErrOf result EncodeFault.TooLong
         → (bytes : List ℕ) → Spells T.kind (T.view value.now) bytes → limit < length bytes }
 {
-    let mut out = Writer::new(alloc);
+    let mut out = Writer::with_room(alloc, FIRST_ROOM)?;
     value.write(&mut out)?;
     Ok(out.into_bytes())
 }

@@ -1,6 +1,6 @@
 //! Writing elements.
 
-ghost use Rattle.std.specs.Prelude.{◌≡◌, ◌+◌, ◌-◌, ◌≤◌, ◌<◌, ◌^◌, ◌↔◌, [], length, drop, IsTrue, OnOk, OnErr};
+ghost use Rattle.std.specs.Prelude.{◌≡◌, ◌+◌, ◌-◌, ◌≤◌, ◌<◌, ◌^◌, ◌↔◌, [], length, drop, IsTrue, IfOk, OnOk, OnErr};
 ghost use Rattle.krb_der.specs.Kind.{leaf, int32, uint32, microseconds, constant, octets, string, flags, time};
 ghost use Rattle.krb_der.specs.Content.{IsInteger};
 ghost use Rattle.krb_der.specs.Spells.{IsElement};
@@ -37,6 +37,14 @@ impl Writer {
     {
         let bytes = Vec::new(alloc);
         Writer { bytes }
+    }
+
+    /// Nothing written yet, with room for that many bytes.
+    pub(crate) fn with_room(alloc: Global, bytes: usize) -> Result<Self, AllocError>
+        ensures { IfOk result (λ made. made ≡ []) }
+    {
+        let bytes = Vec::with_capacity(alloc, bytes)?;
+        Ok(Writer { bytes })
     }
 
     /// How many bytes were written.
@@ -228,10 +236,15 @@ fn wrap_from(bytes: &mut Vec<u8>, tag: u8, start: usize) -> Result<(), AllocErro
     Ok(())
 }
 
-/// Moves the last `count` bytes to `start`.
+/// Moves the last `count` bytes, a head of at most six, to `start`.
 fn turn(bytes: &mut [u8], start: usize, count: usize)
-    requires { start + count ≤ length bytes.old }
+    requires within { start + count ≤ length bytes.old }
+    requires few { count ≤ 6 }
     ensures { bytes.new ≡ turned_at start (length bytes.old - count) bytes.old }
 {
-    bytes[start..].rotate_right(count);
+    let end = bytes.len() - count;
+    let mut head = [0u8; 6];
+    head[..count].copy_from_slice(&bytes[end..]);
+    bytes.copy_within(start..end, start + count);
+    bytes[start..start + count].copy_from_slice(&head[..count]);
 }

@@ -1,5 +1,8 @@
-use Rattle.krb_der.proofs.HeadLaws.{turned_at-turn}
+use Rattle.std.proofs.Common.{arith}
+use Rattle.std.proofs.lemmas.List.{same_lists, places}
+use Rattle.krb_der.specs.Inner.HeadView.{turned_at}
 use Rattle.krb_der.proofs.writer.turn.Goals as goal
 
 pub returns : goal.returns
-returns c = turned_at-turn c.args.bytes.now c.rotate_right.new.self c.args.start c.args.count c.requires c.rotate_right.ensures.after
+unfolding turned_at
+returns c = same_lists _ _ (grind (arith, places)) (λ k d h. grind (arith, places))
