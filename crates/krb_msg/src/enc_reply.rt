@@ -14,6 +14,7 @@ use krb_der::{
     Seconds, Writer, write_application,
 };
 use std::alloc::{AllocError, Global};
+use std::marker::PhantomData;
 
 /// An `EncAPRepPart` (RFC 4120, section 5.5.2), whose octets are slices of the input.
 #[derive(Drop)]
@@ -26,6 +27,8 @@ pub struct EncApRepRef<'a> {
     pub subkey: Option<KeyRef<'a>>,
     /// The service's first sequence number.
     pub seq_number: Option<u32>,
+    // Without this field the borrow checker refuses `?` on what `parse` answers.
+    input: PhantomData<&'a [u8]>,
 }
 
 type EncApRepRow<'a> = (
@@ -51,6 +54,7 @@ impl<'a> Element<'a> for EncApRepRef<'a> {
                 cusec: cusec.0,
                 subkey: subkey.0,
                 seq_number: seq_number.0,
+                input: PhantomData,
             }),
             Err(fault) => Err(fault),
         }
@@ -60,7 +64,7 @@ impl<'a> Element<'a> for EncApRepRef<'a> {
 impl<'a> Message<'a> for EncApRepRef<'a> {}
 
 impl<'a> EncApRepRef<'a> {
-    /// Reads a message of this type, which is all of the bytes. It takes no memory. Match on the answer: `?` isn't accepted here.
+    /// Reads a message of this type, which is all of the bytes. It takes no memory.
     ///
     /// # Errors
     /// `TooLong` at 0 above 1,048,576 bytes. Else the first fault from left to right, contents before what follows.

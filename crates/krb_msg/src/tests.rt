@@ -61,33 +61,25 @@ fn a_reply(rt: HostRuntime) -> Result<(), Fail> {
 }
 
 #[test]
-fn what_a_reply_seals(rt: HostRuntime) {
-    match EncApRepRef::parse(&ENC_AP_REP) {
-        Ok(short) => {
-            assert_eq!(rt; (short.ctime.get(), short.cusec.get()), (1_700_000_100, 5));
-            assert!(rt; short.subkey.is_none());
-            assert_eq!(rt; short.seq_number, None);
-        }
-        Err(_) => assert!(rt; false),
-    }
+fn what_a_reply_seals(rt: HostRuntime) -> Result<(), Fail> {
+    let short = EncApRepRef::parse(&ENC_AP_REP)?;
+    assert_eq!(rt; (short.ctime.get(), short.cusec.get()), (1_700_000_100, 5));
+    assert!(rt; short.subkey.is_none());
+    assert_eq!(rt; short.seq_number, None);
+    Ok(())
 }
 
 #[test]
-fn what_a_reply_seals_with_all_fields(rt: HostRuntime) {
-    match EncApRepRef::parse(&FULL_ENC_AP_REP) {
-        Ok(full) => {
-            assert_eq!(rt;
-                (full.ctime.get(), full.cusec.get()),
-                (1_700_000_100, 999_999)
-            );
-            assert_eq!(rt; full.seq_number, Some(7));
-            match full.subkey {
-                Some(key) => assert_eq!(rt; (key.etype, key.bytes), (19, [0x0b, 0x0c].as_slice())),
-                None => assert!(rt; false),
-            }
-        }
-        Err(_) => assert!(rt; false),
-    }
+fn what_a_reply_seals_with_all_fields(rt: HostRuntime) -> Result<(), Fail> {
+    let full = EncApRepRef::parse(&FULL_ENC_AP_REP)?;
+    assert_eq!(rt;
+        (full.ctime.get(), full.cusec.get()),
+        (1_700_000_100, 999_999)
+    );
+    assert_eq!(rt; full.seq_number, Some(7));
+    let key = full.subkey.ok_or("a subkey")?;
+    assert_eq!(rt; (key.etype, key.bytes), (19, [0x0b, 0x0c].as_slice()));
+    Ok(())
 }
 
 #[test]
@@ -197,20 +189,13 @@ fn fault_of<T: Drop>(answer: Result<T, Fault>) -> Option<(FaultKind, usize)> {
     }
 }
 
-fn reply_fault(bytes: &[u8]) -> Option<(FaultKind, usize)> {
-    match EncApRepRef::parse(bytes) {
-        Ok(_) => None,
-        Err(fault) => Some((fault.kind, fault.at)),
-    }
-}
-
 #[test]
 fn messages_of_another_type(rt: HostRuntime) {
     let wrong = Some((FaultKind::Tag, 0));
     assert_eq!(rt; fault_of(TicketRef::parse(&AP_REQ)), wrong);
     assert_eq!(rt; fault_of(ApReqRef::parse(&AP_REP)), wrong);
     assert_eq!(rt; fault_of(ApRepRef::parse(&AP_REQ)), wrong);
-    assert_eq!(rt; reply_fault(&AP_REP), wrong);
+    assert_eq!(rt; fault_of(EncApRepRef::parse(&AP_REP)), wrong);
     assert_eq!(rt; fault_of(AuthenticatorRef::parse(&ENC_TICKET)), wrong);
     assert_eq!(rt; fault_of(EncTicketRef::parse(&AUTHENTICATOR)), wrong);
 }

@@ -1,8 +1,8 @@
 //! The first fault of bytes that are not quite a message, as tests/msg_rules.py works it out from the rules.
 
+use super::fault_of;
 use super::flipped::{self, Lacking, Run};
 use super::values::*;
-use super::{fault_of, reply_fault};
 use crate::*;
 use std::alloc::Global;
 use std::process::Abort;
@@ -28,7 +28,7 @@ fn fault_in(kind: Type, bytes: &[u8]) -> Option<(FaultKind, usize)> {
         Type::ApReq => fault_of(ApReqRef::parse(bytes)),
         Type::Authenticator => fault_of(AuthenticatorRef::parse(bytes)),
         Type::ApRep => fault_of(ApRepRef::parse(bytes)),
-        Type::EncApRep => reply_fault(bytes),
+        Type::EncApRep => fault_of(EncApRepRef::parse(bytes)),
         Type::KrbError => fault_of(KrbErrorRef::parse(bytes)),
     }
 }
