@@ -296,7 +296,8 @@ def plain(text):
     return re.sub(r",(?=[)\]])", "", re.sub(r"\s+", "", text))
 
 
-def main():
+def main(table):
+    """Writes the table, or says whether a file is the table, layout aside."""
     if sys.argv[1:2] != ["--check"]:
         sys.stdout.write(table())
         return 0
@@ -306,4 +307,4 @@ def main():
 
 
 if __name__ == "__main__":
-    sys.exit(main())
+    sys.exit(main(table))
