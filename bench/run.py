@@ -1,6 +1,6 @@
 #!/usr/bin/env python3
-"""Times this repository's cipher, sealing, messages and listings beside OpenSSL and MIT krb5 in one run, and prints tables of
-ratios.
+"""Times this repository's cipher, sealing, messages, memory of what was seen and listings in one run, most of them beside OpenSSL
+and MIT krb5, and prints tables of ratios.
 
     bench/run.py
 
@@ -21,7 +21,7 @@ TOP = HERE.parent
 sys.path.append(str(TOP / "tests"))
 import msg_values as der
 
-CRATES = ["krb_aes", "krb_cts", "krb_kdf", "krb_enc", "krb_der", "krb_name", "krb_msg"]
+CRATES = ["krb_aes", "krb_cts", "krb_kdf", "krb_enc", "krb_der", "krb_name", "krb_msg", "krb_replay"]
 NO_AES_NI = {"OPENSSL_ia32cap": "~0x200000200000000"}
 SIZES = [(60, "60 bytes"), (1024, "1 KiB"), (65_536, "64 KiB"), (1_048_576, "1 MiB")]
 RUNS = 5
@@ -44,7 +44,7 @@ def built(folder):
     shutil.copy(HERE / "krb_bench.rt.in", folder / "crates" / "krb_bench" / "src" / "main.rt")
     lines = (TOP / "crates.txt").read_text().splitlines()
     kept = [line for line in lines if line.split(":")[0] in CRATES]
-    (folder / "crates.txt").write_text("\n".join([*kept, "krb_bench: krb_aes krb_enc krb_msg hex"]) + "\n")
+    (folder / "crates.txt").write_text("\n".join([*kept, "krb_bench: krb_aes krb_enc krb_msg krb_replay hex"]) + "\n")
     (folder / "HANDLES").write_text((TOP / "HANDLES").read_text())
     said(["rt", "run", "--", "seal", "19", "60", "1"], cwd=folder / "crates" / "krb_bench")
     flags = said(["pkg-config", "--cflags", "--libs", "krb5"]).split()
@@ -121,12 +121,27 @@ def message_table(ours, mit):
         print(f"| {name} | {size} | {shown} | {decoded / parse:.1f} | {decoded / own:.1f} | {encoded / encode:.2f} |")
 
 
+def memory_table(ours):
+    """Calls on a memory of what was seen, in its own program each, since the room that a program freed is found more quickly. A tuple's
+    making isn't timed."""
+    few, many = ["1000", "500"], ["1000000", "1"]
+    print("\n| a memory ordered by time | tuples | 1,000 held | 1,000,000 held | ratio |\n|---|---|---|---|---|")
+    for what, name in [("lacks", "contains, of another tuple"), ("contains", "contains, of a tuple that is held"),
+                       ("remember", "remember"), ("advance", "advance, for each tuple that it drops")]:
+        for order, orders in [("ordered", "in order of time"), ("jumping", "jumping in time")]:
+            here, there = best_in_turn([[ours, what, order, *few], [ours, what, order, *many]])
+            print(f"| {name} | {orders} | {here:.0f} ns | {there:.0f} ns | {there / here:.2f} |")
+    half, quarter = best_in_turn([[ours, "advance", "ordered", held, "1"] for held in ("1000000", "500000")])
+    print(f"\nadvance drops 500,000 tuples in {half * 500_000 / 1e6:.0f} ms, and 250,000 in {quarter * 250_000 / 1e6:.0f} ms.")
+
+
 def main():
     with tempfile.TemporaryDirectory() as name:
         ours, mit, mit_messages, blocks = built(Path(name))
         block_table(ours, blocks)
         sealing_table(ours, mit)
         message_table(ours, mit_messages)
+        memory_table(ours)
     said([str(TOP / "krbtool"), "--help"])
     print()
     files.tables(str(TOP / "crates" / "krbtool" / "out" / "krbtool"))

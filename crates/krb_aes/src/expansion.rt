@@ -3,7 +3,9 @@
 ghost use Rattle.std.specs.Prelude.{◌≡◌, ◌⊎◌, ◌+◌, ◌*◌, ◌<◌, ◌≤◌, length, take};
 ghost use Rattle.krb_aes.specs.KeyExpansion.{IsKey, key_expansion, word, rot_word, sub_word, sum_of_words, next_word};
 
-use crate::tables::{power_of_x, sub};
+use crate::tables::power_of_x;
+use crate::tower::substituted;
+use std::simd::prelude::*;
 
 // The bytes of the 60 words of the longest expanded key.
 pub(crate) const EXPANDED_LEN: usize = 240;
@@ -28,10 +30,14 @@ fn rot_word(t: Word) -> Word
     [t[1], t[2], t[3], t[0]]
 }
 
+// On the first four lanes, as the rounds do it, so that no bytes of a key are places in a table in memory.
 fn sub_word(t: Word) -> Word
     ensures { result ≡ sub_word t }
 {
-    [sub(t[0]), sub(t[1]), sub(t[2]), sub(t[3])]
+    let lanes = [t[0], t[1], t[2], t[3], 0, 0, 0, 0, 0, 0, 0, 0, 0, 0, 0, 0];
+    let (once, _) = substituted(u8x16::from_array(lanes));
+    let bytes = once.to_array();
+    [bytes[0], bytes[1], bytes[2], bytes[3]]
 }
 
 fn sum_of_words(a: Word, b: Word) -> Word

@@ -14,7 +14,8 @@ use Rattle.krb_ccache.specs.declared.credential.HeaderField.{HeaderField}
 use Rattle.krb_ccache.specs.declared.credential.Credential.{Credential}
 use Rattle.krb_ccache.specs.Spelling.{field_bytes, fields_bytes, header_bytes, name_bytes, credential_bytes}
 use Rattle.krb_ccache.specs.Value.{Cache, FitsHeader, FitsName, FitsCredential, Fits}
-use Rattle.krb_ccache.specs.Format.{version, file_limit, start_bytes, cache_bytes, IsCache, LacksVersion, LacksHeader, LacksDefault, IsFaultOf, IsAnswerOf}
+use Rattle.krb_ccache.specs.Format.{version, file_limit, start_bytes, written}
+use Rattle.krb_ccache.specs.Inner.Version4.{IsCache4, LacksVersion4, LacksHeader4, LacksDefault4, IsFaultOf4, IsAnswerOf4}
 use Rattle.krb_ccache.specs.declared.fault.CacheFault.{CacheFault}
 use Rattle.krb_ccache.specs.declared.fault.CacheFault.TheVariants.{Version, Header, BadItem, TooLong, Read, OutOfMemory}
 use Rattle.krb_ccache.specs.Inner.Reading.{field_at, name_at, credential_at}
@@ -32,9 +33,9 @@ record Ran (bytes : List ℕ) (answer : Result Cache CacheFault) : Type 0 where
   cache : Cache
   behind : List ℕ
   fits : Fits cache
-  bytes_are : bytes ≡ cache_bytes cache ++ behind
+  bytes_are : bytes ≡ written cache ++ behind
   end : (behind ≡ []) ⊎ IsMissing credential_bytes FitsCredential behind
-  says : ((behind ≡ []) × (answer ≡ Ok cache)) ⊎ ((behind ≢ []) × (answer ≡ Err (BadItem (length (cache_bytes cache)))))
+  says : ((behind ≡ []) × (answer ≡ Ok cache)) ⊎ ((behind ≢ []) × (answer ≡ Err (BadItem (length (written cache)))))
 
 same_header : (one other : List HeaderField) (a b : List ℕ) → FitsHeader one → FitsHeader other → header_bytes one ++ a ≡ header_bytes other ++ b → (one ≡ other) × (a ≡ b)
 same_header one other a b p q e =
@@ -54,7 +55,7 @@ after_name cache behind = flat_map credential_bytes cache.credentials ++ behind
 abbrev after_start : Cache → List ℕ → List ℕ
 after_start cache behind = name_bytes cache.default_principal ++ after_name cache behind
 
-grouped : (cache : Cache) (behind : List ℕ) → cache_bytes cache ++ behind ≡ start_bytes cache.header ++ after_start cache behind
+grouped : (cache : Cache) (behind : List ℕ) → written cache ++ behind ≡ start_bytes cache.header ++ after_start cache behind
 grouped cache behind =
     append_assoc (start_bytes cache.header) (name_bytes cache.default_principal ++ flat_map credential_bytes cache.credentials) behind
     ∙ ap (λ (t : List ℕ). start_bytes cache.header ++ t) (append_assoc (name_bytes cache.default_principal) (flat_map credential_bytes cache.credentials) behind)
@@ -63,7 +64,7 @@ pub record Same (one : Cache) (a : List ℕ) (other : Cache) (b : List ℕ) : Ty
   pub cache : one ≡ other
   pub behind : a ≡ b
 
-pub same_cache : (one other : Cache) (a b : List ℕ) → Fits one → Fits other → (a ≡ []) ⊎ IsMissing credential_bytes FitsCredential a → (b ≡ []) ⊎ IsMissing credential_bytes FitsCredential b → cache_bytes one ++ a ≡ cache_bytes other ++ b
+pub same_cache : (one other : Cache) (a b : List ℕ) → Fits one → Fits other → (a ≡ []) ⊎ IsMissing credential_bytes FitsCredential a → (b ≡ []) ⊎ IsMissing credential_bytes FitsCredential b → written one ++ a ≡ written other ++ b
     → Same one a other b
 same_cache one other a b p q ends also e =
     let start = same_start one.header other.header (after_start one a) (after_start other b) p.header q.header (sym (grouped one a) ∙ e ∙ grouped other b) in
@@ -76,12 +77,12 @@ same_cache one other a b p q ends also e =
       behind = all.1;
     }
 
-same_says : (one other : Cache) (a b : List ℕ) (v w : Result Cache CacheFault) → one ≡ other → a ≡ b → ((a ≡ []) × (v ≡ Ok one)) ⊎ ((a ≢ []) × (v ≡ Err (BadItem (length (cache_bytes one)))))
-    → ((b ≡ []) × (w ≡ Ok other)) ⊎ ((b ≢ []) × (w ≡ Err (BadItem (length (cache_bytes other))))) → v ≡ w
+same_says : (one other : Cache) (a b : List ℕ) (v w : Result Cache CacheFault) → one ≡ other → a ≡ b → ((a ≡ []) × (v ≡ Ok one)) ⊎ ((a ≢ []) × (v ≡ Err (BadItem (length (written one)))))
+    → ((b ≡ []) × (w ≡ Ok other)) ⊎ ((b ≢ []) × (w ≡ Err (BadItem (length (written other))))) → v ≡ w
 same_says one other a b v w e f (inl p) (inl q) = p.1 ∙ ap (λ (cache : Cache). Ok cache) e ∙ sym q.1
 same_says one other a b v w e f (inl p) (inr q) = absurd (q.0 (sym f ∙ p.0))
 same_says one other a b v w e f (inr p) (inl q) = absurd (p.0 (f ∙ q.0))
-same_says one other a b v w e f (inr p) (inr q) = p.1 ∙ ap (λ (cache : Cache). Err (BadItem (length (cache_bytes cache)))) e ∙ sym q.1
+same_says one other a b v w e f (inr p) (inr q) = p.1 ∙ ap (λ (cache : Cache). Err (BadItem (length (written cache)))) e ∙ sym q.1
 
 same_ran : (bytes : List ℕ) (v w : Result Cache CacheFault) → Ran bytes v → Ran bytes w → v ≡ w
 same_ran bytes v w p q =
@@ -91,14 +92,14 @@ same_ran bytes v w p q =
 -- how far a file is read
 data Way (bytes : List ℕ) (v : Result Cache CacheFault) : Type 0 where
   is_long : file_limit < length bytes → v ≡ Err TooLong → Way bytes v
-  is_other : LacksVersion bytes → v ≡ Err Version → Way bytes v
-  is_wrong : LacksHeader bytes → v ≡ Err Header → Way bytes v
-  is_nameless : (at : ℕ) → LacksDefault bytes at → v ≡ Err (BadItem at) → Way bytes v
+  is_other : LacksVersion4 bytes → v ≡ Err Version → Way bytes v
+  is_wrong : LacksHeader4 bytes → v ≡ Err Header → Way bytes v
+  is_nameless : (at : ℕ) → LacksDefault4 bytes at → v ≡ Err (BadItem at) → Way bytes v
   has_ran : Ran bytes v → Way bytes v
 
-way : (bytes : List ℕ) (v : Result Cache CacheFault) → IsAnswerOf bytes v → Way bytes v
+way : (bytes : List ℕ) (v : Result Cache CacheFault) → IsAnswerOf4 bytes v → Way bytes v
 way bytes (Ok cache) a =
-    has_ran (record { limit = a.limit; cache = cache; behind = []; fits = a.fits; bytes_are = a.bytes_are ∙ sym (append-nil (cache_bytes cache)); end = inl refl; says = inl (refl, refl) })
+    has_ran (record { limit = a.limit; cache = cache; behind = []; fits = a.fits; bytes_are = a.bytes_are ∙ sym (append-nil (written cache)); end = inl refl; says = inl (refl, refl) })
 way bytes (Err TooLong) a = is_long a refl
 way bytes (Err Version) a = is_other a refl
 way bytes (Err Header) a = is_wrong a refl
@@ -116,15 +117,15 @@ too_long bytes p q = omega arith
 versioned : (bytes : List ℕ) (header : List HeaderField) (behind : List ℕ) → bytes ≡ start_bytes header ++ behind → bytes ≡ version ++ (header_bytes header ++ behind)
 versioned bytes header behind e = e ∙ append_assoc version (header_bytes header) behind
 
-no_header : (bytes : List ℕ) (header : List HeaderField) (behind : List ℕ) → LacksHeader bytes → FitsHeader header → bytes ≡ start_bytes header ++ behind → ⊥
+no_header : (bytes : List ℕ) (header : List HeaderField) (behind : List ℕ) → LacksHeader4 bytes → FitsHeader header → bytes ≡ start_bytes header ++ behind → ⊥
 no_header bytes header behind lacks fits e = lacks.missing header behind fits (append_cancel_left version _ _ (sym lacks.bytes_are ∙ versioned bytes header behind e))
 
-no_name : (bytes : List ℕ) (at : ℕ) (cache : Cache) (behind : List ℕ) → LacksDefault bytes at → Fits cache → bytes ≡ cache_bytes cache ++ behind → ⊥
+no_name : (bytes : List ℕ) (at : ℕ) (cache : Cache) (behind : List ℕ) → LacksDefault4 bytes at → Fits cache → bytes ≡ written cache ++ behind → ⊥
 no_name bytes at cache behind lacks fits e =
     let start = same_start lacks.header cache.header lacks.behind (after_start cache behind) lacks.fits fits.header (sym lacks.bytes_are ∙ e ∙ grouped cache behind) in
     lacks.missing cache.default_principal (after_name cache behind) fits.default_principal start.1
 
-same_default : (bytes : List ℕ) (one two : ℕ) → LacksDefault bytes one → LacksDefault bytes two → one ≡ two
+same_default : (bytes : List ℕ) (one two : ℕ) → LacksDefault4 bytes one → LacksDefault4 bytes two → one ≡ two
 same_default bytes one two p q =
     let start = same_start p.header q.header p.behind q.behind p.fits q.fits (sym p.bytes_are ∙ q.bytes_are) in
     p.at_is ∙ ap (λ (header : List HeaderField). length (start_bytes header)) start.0 ∙ sym q.at_is
@@ -159,7 +160,7 @@ same_way bytes v w (has_ran p) (is_wrong q f) = absurd (no_header bytes p.cache.
 same_way bytes v w (has_ran p) (is_nameless at q f) = absurd (no_name bytes at p.cache p.behind q p.fits p.bytes_are)
 same_way bytes v w (has_ran p) (has_ran q) = same_ran bytes v w p q
 
-pub one_answer : (bytes : List ℕ) (v w : Result Cache CacheFault) → IsAnswerOf bytes v → IsAnswerOf bytes w → v ≡ w
+pub one_answer : (bytes : List ℕ) (v w : Result Cache CacheFault) → IsAnswerOf4 bytes v → IsAnswerOf4 bytes w → v ≡ w
 one_answer bytes v w a b = same_way bytes v w (way bytes v a) (way bytes w b)
 
 -- ---- the answer that holds is the one that is given, memory aside
@@ -172,8 +173,21 @@ no_memory (BadItem at) = inr (λ e. cc)
 no_memory TooLong = inr (λ e. cc)
 no_memory Read = inr (λ e. cc)
 
-pub only_answer : (bytes : List ℕ) (result answer : Result Cache CacheFault) → IfOk result (IsCache bytes) → IfErr result (λ fault. fault ≢ OutOfMemory → IsFaultOf bytes fault)
-    → IsAnswerOf bytes answer → (result ≡ answer) ⊎ (result ≡ Err OutOfMemory)
+-- a file has one fault, and none where it is a cache
+pub one_fault : (bytes : List ℕ) (one other : CacheFault) → IsFaultOf4 bytes one → IsFaultOf4 bytes other → one ≡ other
+one_fault bytes one other a b = same_errs one other (one_answer bytes (Err one) (Err other) a b)
+  where
+    same_errs : (x y : CacheFault) → (let r : Result Cache CacheFault = Err x in r) ≡ Err y → x ≡ y
+    same_errs x y e = cc
+
+pub no_fault : (bytes : List ℕ) (cache : Cache) (fault : CacheFault) → IsCache4 bytes cache → IsFaultOf4 bytes fault → ⊥
+no_fault bytes cache fault a b = never cache fault (one_answer bytes (Ok cache) (Err fault) a b)
+  where
+    never : (x : Cache) (y : CacheFault) → (let r : Result Cache CacheFault = Ok x in r) ≡ Err y → ⊥
+    never x y e = cc
+
+pub only_answer : (bytes : List ℕ) (result answer : Result Cache CacheFault) → IfOk result (IsCache4 bytes) → IfErr result (λ fault. fault ≢ OutOfMemory → IsFaultOf4 bytes fault)
+    → IsAnswerOf4 bytes answer → (result ≡ answer) ⊎ (result ≡ Err OutOfMemory)
 only_answer bytes (Ok cache) answer found fault a = inl (one_answer bytes (Ok cache) answer found a)
 only_answer bytes (Err f) answer found fault a =
     elim (no_memory f) [
@@ -184,7 +198,7 @@ only_answer bytes (Err f) answer found fault a =
 -- ---- some answer
 
 abbrev pub HasAnswer : List ℕ → Type 0
-HasAnswer bytes = (answer : Result Cache CacheFault) × IsAnswerOf bytes answer
+HasAnswer bytes = (answer : Result Cache CacheFault) × IsAnswerOf4 bytes answer
 
 same_or_not : (a b : ℕ) → (a ≡ b) ⊎ (a ≡ b → ⊥)
 same_or_not a b = tested (eqb a b) refl
@@ -266,6 +280,6 @@ some_answer bytes fits =
 
 -- ---- one value, one spelling
 
-pub one_value : (bytes : List ℕ) (one two : Cache) → IsCache bytes one → IsCache bytes two → one ≡ two
+pub one_value : (bytes : List ℕ) (one two : Cache) → IsCache4 bytes one → IsCache4 bytes two → one ≡ two
 one_value bytes one two p q =
-    (same_cache one two [] [] p.fits q.fits (inl refl) (inl refl) (append-nil (cache_bytes one) ∙ sym p.bytes_are ∙ q.bytes_are ∙ sym (append-nil (cache_bytes two)))).cache
+    (same_cache one two [] [] p.fits q.fits (inl refl) (inl refl) (append-nil (written one) ∙ sym p.bytes_are ∙ q.bytes_are ∙ sym (append-nil (written two)))).cache

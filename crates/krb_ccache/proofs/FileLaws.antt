@@ -13,7 +13,8 @@ use Rattle.krb_ccache.specs.declared.credential.Credential.{Credential}
 use Rattle.krb_ccache.specs.Spelling.{header_bytes, name_bytes, flag_bytes, list_bytes, credential_bytes}
 use Rattle.krb_ccache.specs.Value.{Cache, FitsHeader, FitsName, FitsCredential, Fits}
 use Rattle.krb_ccache.specs.Fault.{offset_of}
-use Rattle.krb_ccache.specs.Format.{version, file_limit, start_bytes, cache_bytes, IsCache, IsFaultOf}
+use Rattle.krb_ccache.specs.Format.{version, file_limit, start_bytes, written}
+use Rattle.krb_ccache.specs.Inner.Version4.{IsCache4, IsFaultOf4}
 use Rattle.krb_ccache.specs.declared.fault.CacheFault.{CacheFault}
 use Rattle.krb_ccache.specs.declared.fault.CacheFault.TheVariants.{Version, Header, BadItem, TooLong, Read, OutOfMemory}
 use Rattle.krb_ccache.specs.Inner.Reading.{name_at, credential_at}
@@ -86,8 +87,8 @@ pub record HasStart (bytes : List ℕ) (header : List HeaderField) (place : Plac
 pub record HasCache (bytes : List ℕ) (cache : Cache) (place : Place) : Type 0 where
   pub limit : length bytes ≤ file_limit
   pub fits : Fits cache
-  pub bytes_are : bytes ≡ cache_bytes cache ++ place.rest
-  pub at : place.at ≡ length (cache_bytes cache)
+  pub bytes_are : bytes ≡ written cache ++ place.rest
+  pub at : place.at ≡ length (written cache)
 
 pub header_read : (bytes : List ℕ) (place : Place) (header : List HeaderField) (behind : Place) → Begun bytes place → Lies header_bytes FitsHeader place header behind → HasStart bytes header behind
 header_read bytes place header behind begun lies = record {
@@ -113,22 +114,22 @@ cache_read bytes header place name middle credentials behind start lies reaches 
       at = omega (arith, start.at, lies.takes.at, reaches.takes.at, length-append s (n ++ c), length-append n c);
     }
 
-pub cache_found : (bytes : List ℕ) (cache : Cache) (place : Place) → HasCache bytes cache place → place.rest ≡ [] → IsCache bytes cache
+pub cache_found : (bytes : List ℕ) (cache : Cache) (place : Place) → HasCache bytes cache place → place.rest ≡ [] → IsCache4 bytes cache
 cache_found bytes cache place has end = record {
   limit = has.limit;
   fits = has.fits;
-  bytes_are = has.bytes_are ∙ ap (λ (t : List ℕ). cache_bytes cache ++ t) end ∙ append-nil (cache_bytes cache);
+  bytes_are = has.bytes_are ∙ ap (λ (t : List ℕ). written cache ++ t) end ∙ append-nil (written cache);
 }
 
-pub header_fault : (bytes : List ℕ) (place : Place) → Begun bytes place → IsMissing header_bytes FitsHeader place.rest → IsFaultOf bytes Header
+pub header_fault : (bytes : List ℕ) (place : Place) → Begun bytes place → IsMissing header_bytes FitsHeader place.rest → IsFaultOf4 bytes Header
 header_fault bytes place begun missing = record { limit = begun.limit; behind = place.rest; bytes_are = begun.rest; missing = missing }
 
-pub default_fault : (bytes : List ℕ) (header : List HeaderField) (place : Place) (fault : CacheFault) → HasStart bytes header place → (fault ≡ BadItem place.at) × IsMissing name_bytes FitsName place.rest → IsFaultOf bytes fault
+pub default_fault : (bytes : List ℕ) (header : List HeaderField) (place : Place) (fault : CacheFault) → HasStart bytes header place → (fault ≡ BadItem place.at) × IsMissing name_bytes FitsName place.rest → IsFaultOf4 bytes fault
 default_fault bytes header place fault start h =
-    subst (IsFaultOf bytes) (sym h.0) (inl (record { limit = start.limit; header = header; behind = place.rest; fits = start.fits; bytes_are = start.bytes_are; at_is = start.at; missing = h.1 }))
+    subst (IsFaultOf4 bytes) (sym h.0) (inl (record { limit = start.limit; header = header; behind = place.rest; fits = start.fits; bytes_are = start.bytes_are; at_is = start.at; missing = h.1 }))
 
 pub credential_fault : (bytes : List ℕ) (header : List HeaderField) (place : Place) (name : Principal) (middle : Place) (fault : CacheFault) → HasStart bytes header place → Lies name_bytes FitsName place name middle → StopsBy middle fault
-    → IsFaultOf bytes fault
+    → IsFaultOf4 bytes fault
 credential_fault bytes header place name middle (BadItem at) start lies s =
     let has = cache_read bytes header place name middle s.credentials s.behind start lies s.reaches in
     inr (record {
@@ -149,9 +150,9 @@ credential_fault bytes header place name middle OutOfMemory start lies s = absur
 
 -- ---- an offset lies within the file
 
-pub fault_within : (bytes : List ℕ) (fault : CacheFault) → IsFaultOf bytes fault → IfSome (offset_of fault) (λ at. at ≤ length bytes)
+pub fault_within : (bytes : List ℕ) (fault : CacheFault) → IsFaultOf4 bytes fault → IfSome (offset_of fault) (λ at. at ≤ length bytes)
 fault_within bytes (BadItem at) (inl f) = omega (arith, f.at_is, ap length f.bytes_are, length-append (start_bytes f.header) f.behind)
-fault_within bytes (BadItem at) (inr f) = omega (arith, f.at_is, ap length f.bytes_are, length-append (cache_bytes f.cache) f.behind)
+fault_within bytes (BadItem at) (inr f) = omega (arith, f.at_is, ap length f.bytes_are, length-append (written f.cache) f.behind)
 fault_within bytes Version f = tt
 fault_within bytes Header f = tt
 fault_within bytes TooLong f = tt

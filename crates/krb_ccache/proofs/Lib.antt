@@ -9,3 +9,5 @@ pub mod OffsetLaws
 pub mod ComputedOffset
 pub mod FitsLaws
 pub mod WritingLaws
+pub mod RoomLaws
+pub mod LayoutLaws

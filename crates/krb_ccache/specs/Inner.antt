@@ -1,3 +1,5 @@
 pub mod Fitting
 pub mod Reading
+pub mod Room
 pub mod Standing
+pub mod Version4

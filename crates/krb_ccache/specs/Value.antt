@@ -1,5 +1,6 @@
 -- A credential cache as a plain value, and which values a file has room for.
-use Rattle.std.specs.Prelude.{◌≡◌, ◌<◌, ◌^◌, List, length, All, FitsSigned}
+use Rattle.std.specs.Prelude.{◌≡◌, ◌<◌, ◌^◌, ℕ, ℤ, List, ◌++◌, length, codes, All, FitsSigned}
+use Rattle.std.specs.Fmt.{signed_decimal}
 use Rattle.std.specs.Int.{w16, w32}
 use Rattle.krb_name.specs.declared.principal.Principal.{Principal}
 use Rattle.krb_ccache.specs.declared.typed.TypedBytes.{TypedBytes}
@@ -15,6 +16,10 @@ pub record Cache : Type 0 where
 
 abbrev pub cache_of : List HeaderField → Principal → List Credential → Cache
 cache_of header default_principal credentials = record { header = header; default_principal = default_principal; credentials = credentials }
+
+-- what is shown of a credential where it is printed: the encryption type of its key, and no byte
+abbrev pub shown : ℤ → List ℕ
+shown etype = codes "Credential(etype " ++ (signed_decimal etype ++ codes ")")
 
 -- ---- counts and lengths are numbers of 32 bits, in the header of 16; the KDC's clock offset has 8 bytes
 

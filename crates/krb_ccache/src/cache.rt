@@ -1,19 +1,23 @@
 //! A credential cache.
 
-ghost use Rattle.std.specs.Prelude.{◌≡◌, ◌≢◌, ◌⊎◌, ◌≤◌, ◌<◌, ◌^◌, ◌-◌, ◌+◌, ◌++◌, ℕ, ℤ, List, [], All, IsTrue, ◌↔◌, IfOk, IfErr, IfSome, IfNone, OnOk, Some, Ok, Err, Result, SomeIff, None, length};
+ghost use Rattle.std.specs.Prelude.{◌≡◌, ◌≢◌, ◌⊎◌, ◌≤◌, ◌<◌, ◌^◌, ◌-◌, ◌+◌, ◌++◌, ℕ, ℤ, List, [], All, IsTrue, ◌↔◌, IfOk, IfErr, IfSome, IfNone, OnOk, OnErr, Some, Ok, Err, Result, SomeIff, None, length};
 ghost use Rattle.std.specs.List.{flat_map};
 ghost use Rattle.std.specs.Io.KnownBytes.{IsAtEnd};
 ghost use Rattle.krb_name.specs.Field.{IsBytes};
 ghost use Rattle.krb_ccache.specs.Spelling.{name_bytes, credential_bytes};
 ghost use Rattle.krb_ccache.specs.Value.{Cache, cache_of, HasLengths, Fits, FitsName, FitsCredential};
+ghost use Rattle.krb_ccache.specs.declared.fault.CacheFault.{CacheFault as CacheFaultValue};
 ghost use Rattle.krb_ccache.specs.Configuration.{HoldsOffset, IsConfiguration};
 ghost use Rattle.krb_ccache.specs.Fault.{offset_of, failed_reads};
-ghost use Rattle.krb_ccache.specs.Format.{file_limit, cache_bytes, IsCache, IsFaultOf, IsAnswerOf};
+ghost use Rattle.krb_ccache.specs.Format.{file_limit, written, IsCache, IsFaultOf, IsAnswerOf};
 ghost use Rattle.krb_ccache.specs.Offset.{clock_offset};
 ghost use Rattle.krb_ccache.specs.Source.{IsGiven};
 ghost use Rattle.krb_ccache.specs.Inner.Reading.{credential_at};
+ghost use Rattle.krb_ccache.specs.Inner.Room.{Leaves};
+ghost use Rattle.krb_ccache.specs.Inner.Version4.{IsCache4, IsFaultOf4};
 ghost use Rattle.krb_ccache.specs.Inner.Standing.{Lies, Reaches, IsMissing, StopsBy};
 
+use crate::checking::check;
 use crate::configuration::{first_offset, is_entry};
 use crate::credential::{Credential, HeaderField};
 use crate::fault::CacheFault;
@@ -21,9 +25,10 @@ use crate::fits::{all_fit, header_fits, name_fits};
 use crate::header::{FILE_LIMIT, VERSION, open, read_header};
 use crate::item_fault::ItemFault;
 use crate::items::{read_credential, read_name};
-use crate::writing::{write_credential, write_header, write_name, write_u16};
+use crate::room::{behind_credentials, behind_header, behind_name};
+use crate::writing::{write_credentials, write_header, write_name, write_u16};
 use krb_name::{FileCursor, Principal, Source, read_to_limit};
-use std::alloc::Global;
+use std::alloc::{AllocError, Global};
 use std::marker::Model;
 
 /// A credential cache: the fields of its header, its default principal and its credentials, in
@@ -81,11 +86,12 @@ impl CCache {
 
     /// Parses the bytes of a file.
     ///
-    /// Memory is taken as parts are met, and not by a count or a length that the bytes don't bear
-    /// out.
+    /// All bytes are checked before any memory is taken. It is taken as parts are met, and not by a
+    /// count or a length that the bytes don't bear out.
     ///
     /// # Errors
-    /// `OutOfMemory` where there was no room for a part; else the first that holds:
+    /// `OutOfMemory` where the bytes are a cache and there was no room for a part; else the first that
+    /// holds:
     /// - `TooLong`: there are more than 16,777,216 bytes.
     /// - `Version`: they don't begin with 0x05 0x04.
     /// - `Header`: the header is cut off, fields don't fill it exactly, or a field of tag 1 hasn't 8
@@ -102,9 +108,12 @@ impl CCache {
         // Where the bytes are a cache, and where they have a fault, that is the answer.
         ensures only { (answer : Result Cache CacheFault) → IsAnswerOf bytes.now answer
             → (result ≡ answer) ⊎ (result ≡ Err CacheFault.OutOfMemory) }
+        // No want of memory stands in place of a fault.
+        ensures faulty { (fault : CacheFaultValue) → IsFaultOf bytes.now fault → result ≡ Err fault }
         ensures offset { IfErr result (λ fault.
             IfSome (offset_of fault) (λ at. at ≤ length bytes.now)) }
     {
+        check(bytes)?;
         CCache::of_parts(alloc, bytes)
     }
 
@@ -143,9 +152,9 @@ impl CCache {
     }
 
     fn of_parts(alloc: Global, bytes: &[u8]) -> Result<CCache, CacheFault>
-        ensures found { IfOk result (λ cache. IsCache bytes.now cache) }
+        ensures found { IfOk result (λ cache. IsCache4 bytes.now cache) }
         ensures fault { IfErr result (λ fault.
-            fault ≢ CacheFault.OutOfMemory → IsFaultOf bytes.now fault) }
+            fault ≢ CacheFault.OutOfMemory → IsFaultOf4 bytes.now fault) }
     {
         let mut cursor = open(bytes)?;
         let header = match read_header(alloc, &mut cursor) {
@@ -182,31 +191,47 @@ impl CCache {
 
     /// Writes the bytes of the file.
     ///
+    /// How many there will be is found first, and room is made for them at once.
+    ///
     /// # Errors
     /// - `TooLong`: the file would have more than 16,777,216 bytes.
     /// - `OutOfMemory`: there was no room for the bytes.
     ///
     /// Source: MIT krb5, "Credential cache file format", version 4.
     pub fn to_bytes(&self, alloc: Global) -> Result<Vec<u8>, CacheFault>
-        ensures found { IfOk result (λ bytes. IsCache bytes.items self.now) }
-        ensures fault { IfErr result (λ fault. fault ≢ CacheFault.OutOfMemory
-            → (fault ≡ CacheFault.TooLong) × (file_limit < length (cache_bytes self.now))) }
+        ensures written { IfOk result (λ bytes. bytes.items ≡ written self.now) }
+        ensures read_back { IfOk result (λ bytes. IsCache bytes.items self.now) }
+        ensures within { OnOk result (length (written self.now) ≤ file_limit) }
+        ensures too_long { (result ≡ Err CacheFault.TooLong)
+            ↔ (file_limit < length (written self.now)) }
+        ensures memory { OnErr result
+            ((result ≡ Err CacheFault.TooLong) ⊎ (result ≡ Err CacheFault.OutOfMemory)) }
     {
-        let mut bytes = Vec::new(alloc);
+        let Some(left) = self.room_behind(FILE_LIMIT) else {
+            return Err(CacheFault::TooLong);
+        };
+        Ok(self.written(alloc, FILE_LIMIT - left)?)
+    }
+
+    // What the file leaves of so much room.
+    fn room_behind(&self, left: usize) -> Option<usize>
+        ensures { Leaves left (length (written self.now)) result }
+    {
+        let rest = behind_header(left.checked_sub(2)?, self.header.as_slice())?;
+        let rest = behind_name(rest, &self.default_principal)?;
+        behind_credentials(rest, self.credentials.as_slice())
+    }
+
+    fn written(&self, alloc: Global, size: usize) -> Result<Vec<u8>, AllocError>
+        ensures written { IfOk result (λ bytes. bytes.items ≡ written self.now) }
+        ensures fits { OnOk result (Fits self.now) }
+    {
+        let mut bytes = Vec::with_capacity(alloc, size)?;
         write_u16(&mut bytes, VERSION)?;
         write_header(&mut bytes, self.header.as_slice())?;
         write_name(&mut bytes, &self.default_principal)?;
-        for credential in &self.credentials {
-            if bytes.len() > FILE_LIMIT {
-                return Err(CacheFault::TooLong);
-            }
-            write_credential(&mut bytes, credential)?;
-        }
-        if bytes.len() <= FILE_LIMIT {
-            Ok(bytes)
-        } else {
-            Err(CacheFault::TooLong)
-        }
+        write_credentials(&mut bytes, self.credentials.as_slice())?;
+        Ok(bytes)
     }
 
     /// Lends the default principal: whose cache it is.

@@ -1,7 +1,10 @@
 //! A credential of a cache, and a field of its header.
 
+ghost use Rattle.std.specs.Prelude.{Some};
+
 use crate::typed::TypedList;
 use krb_name::{Bytes, Principal};
+use std::fmt;
 
 /// A field of a cache's header. Tag 1 holds the KDC's clock offset, in 8 bytes; other tags are
 /// kept as they are.
@@ -16,8 +19,8 @@ pub struct HeaderField {
 /// A credential: a ticket, its session key, and what the KDC said of them (`EncKDCRepPart`, RFC
 /// 4120, section 5.4.2). The fields are those of the file format, in its order.
 ///
-/// In a configuration entry `ticket` holds a value, and no ticket. There is no `Debug`, so that no
-/// log shows a key.
+/// In a configuration entry `ticket` holds a value, and no ticket. `Debug` shows the encryption type
+/// alone, so that no log shows a key.
 #[derive(Drop)]
 pub struct Credential {
     /// Whose ticket it is.
@@ -48,4 +51,15 @@ pub struct Credential {
     pub ticket: Bytes,
     /// The bytes of a second ticket, or none.
     pub second_ticket: Bytes,
+}
+
+impl fmt::Debug for Credential {
+    ghost use Rattle.krb_ccache.specs.Value.{shown};
+
+    ghost debug_output = { λ credential. Some (shown credential.etype) };
+
+    fn fmt<W: fmt::Write>(&self, f: &mut fmt::Formatter<W>) -> fmt::Result {
+        let etype = self.etype;
+        write!(f, "Credential(etype {etype})")
+    }
 }

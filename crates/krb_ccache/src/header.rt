@@ -1,19 +1,21 @@
 //! What stands before the default principal of a cache.
 
-ghost use Rattle.std.specs.Prelude.{◌≡◌, ◌≤◌, ◌<◌, ◌^◌, ◌++◌, List, Err, None, Some, IfOk, IfErr, length};
+ghost use Rattle.std.specs.Prelude.{◌≡◌, ◌≤◌, ◌<◌, ◌^◌, ◌++◌, List, Err, None, Some, IfOk, IfErr, OnErr, length};
 ghost use Rattle.krb_name.specs.Field.{IsBytes};
 ghost use Rattle.krb_ccache.specs.declared.credential.HeaderField.{HeaderField as HeaderFieldValue};
 ghost use Rattle.krb_ccache.specs.Spelling.{header_bytes};
 ghost use Rattle.krb_ccache.specs.Value.{FitsHeader};
-ghost use Rattle.krb_ccache.specs.Format.{version, file_limit, IsFaultOf};
+ghost use Rattle.krb_ccache.specs.Format.{version, file_limit};
+ghost use Rattle.krb_ccache.specs.Inner.Version4.{IsFaultOf4};
 ghost use Rattle.krb_ccache.specs.Inner.Reading.{field_at};
 ghost use Rattle.krb_ccache.specs.Inner.Standing.{Lies, IsMissing, Fills};
 
 use crate::credential::HeaderField;
 use crate::fault::CacheFault;
 use crate::item_fault::ItemFault;
-use krb_name::{Bytes, FileCursor};
-use std::alloc::Global;
+use krb_name::{Bytes, FileCursor, Short};
+use std::alloc::{AllocError, Global};
+use std::marker::Model;
 
 /// How many bytes a cache has at most.
 pub(crate) const FILE_LIMIT: usize = 16_777_216;
@@ -34,7 +36,7 @@ pub(crate) fn open<'a>(bytes: &'a [u8]) -> Result<FileCursor<'a>, CacheFault>
     ensures limit { IfOk result (λ cursor. length bytes.now ≤ file_limit) }
     ensures at { IfOk result (λ cursor. cursor.at ≡ 2) }
     ensures rest { IfOk result (λ cursor. bytes.now ≡ version ++ cursor.rest) }
-    ensures fault { IfErr result (λ fault. IsFaultOf bytes.now fault) }
+    ensures fault { IfErr result (λ fault. IsFaultOf4 bytes.now fault) }
 {
     if bytes.len() > FILE_LIMIT {
         return Err(CacheFault::TooLong);
@@ -71,21 +73,48 @@ fn read_fields(alloc: Global, body: &[u8]) -> Result<Vec<HeaderField>, ItemFault
     let mut cursor = FileCursor::new(body);
     let mut header = Vec::new(alloc);
     while !cursor.is_at_end() {
-        header.push(read_field(alloc, &mut cursor)?)?;
+        let field = read_field(&mut cursor)?;
+        header.push(field.to_field(alloc)?)?;
     }
     Ok(header)
 }
 
+// Reads the field that begins here, and stands behind it. What it leaves behind an error is no matter.
 #[tactic(auto, unfolding(crate::specs::Inner::Reading::field_at))]
-fn read_field(alloc: Global, cursor: &mut FileCursor<'_>) -> Result<HeaderField, ItemFault>
+pub(crate) fn read_field<'a>(cursor: &mut FileCursor<'a>) -> Result<FieldView<'a>, Short>
     ensures read { IfOk result (λ field. field_at cursor.old ≡ Some (field, cursor.new)) }
-    ensures missing { result ≡ Err ItemFault.Missing → field_at cursor.old ≡ None }
+    ensures short { OnErr result (field_at cursor.old ≡ None) }
 {
     let tag = cursor.read_u16()?;
     let value = cursor.read_data16()?;
     if tag == OFFSET_TAG && value.len() != OFFSET_LENGTH {
-        return Err(ItemFault::Missing);
+        return Err(Short);
     }
-    let value = Bytes::from_slice(alloc, value)?;
-    Ok(HeaderField { tag, value })
+    Ok(FieldView { tag, value })
+}
+
+/// A field of the header that is lent from the bytes of a file; nothing of it has been copied.
+#[derive(Drop)]
+pub(crate) struct FieldView<'a> {
+    tag: u16,
+    value: &'a [u8],
+}
+
+impl<'a> Model for FieldView<'a> {
+    ghost Value = { HeaderFieldValue };
+
+    ghost view = { λ f. record { tag = f.tag; value = f.value.now } };
+}
+
+impl<'a> FieldView<'a> {
+    /// Copies the field.
+    fn to_field(&self, alloc: Global) -> Result<HeaderField, AllocError>
+        ensures { IfOk result (λ field. field ≡ self.now) }
+    {
+        let value = Bytes::from_slice(alloc, self.value)?;
+        Ok(HeaderField {
+            tag: self.tag,
+            value,
+        })
+    }
 }

@@ -1,6 +1,6 @@
 //! Reading the parts of a cache off a cursor.
 
-ghost use Rattle.std.specs.Prelude.{◌≡◌, None, Some, IfOk};
+ghost use Rattle.std.specs.Prelude.{◌≡◌, None, Some, IfOk, OnErr};
 ghost use Rattle.std.specs.Int.{w32};
 ghost use Rattle.krb_name.specs.Cursor.{data_at, times_at};
 ghost use Rattle.krb_ccache.specs.Inner.Reading.{name_at, flag_at, typed_at, list_at, credential_at};
@@ -8,7 +8,7 @@ ghost use Rattle.krb_ccache.specs.Inner.Reading.{name_at, flag_at, typed_at, lis
 use crate::credential::Credential;
 use crate::item_fault::ItemFault;
 use crate::typed::{TypedBytes, TypedList};
-use krb_name::{Bytes, Components, FileCursor, Principal};
+use krb_name::{Bytes, Components, FileCursor, Principal, Short};
 use std::alloc::Global;
 
 // Each call reads the part that begins here, copies it and stands behind it. What it leaves behind
@@ -56,14 +56,14 @@ fn read_components(
 }
 
 #[tactic(auto, unfolding(crate::specs::Inner::Reading::flag_at))]
-fn read_flag(cursor: &mut FileCursor<'_>) -> Result<bool, ItemFault>
+pub(crate) fn read_flag(cursor: &mut FileCursor<'_>) -> Result<bool, Short>
     ensures read { IfOk result (λ flag. flag_at cursor.old ≡ Some (flag, cursor.new)) }
-    ensures missing { result ≡ Err ItemFault.Missing → flag_at cursor.old ≡ None }
+    ensures short { OnErr result (flag_at cursor.old ≡ None) }
 {
     match cursor.read_u8()? {
         0 => Ok(false),
         1 => Ok(true),
-        _ => Err(ItemFault::Missing),
+        _ => Err(Short),
     }
 }
 

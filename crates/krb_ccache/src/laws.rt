@@ -5,10 +5,10 @@ ghost use Rattle.krb_name.specs.Field.{IsBytes};
 ghost use Rattle.krb_ccache.specs.declared.credential.HeaderField.{HeaderField};
 ghost use Rattle.krb_ccache.specs.declared.fault.CacheFault.{CacheFault};
 ghost use Rattle.krb_ccache.specs.Configuration.{HoldsOffset};
-ghost use Rattle.krb_ccache.specs.Format.{IsCache, IsAnswerOf, IsFaultOf};
+ghost use Rattle.krb_ccache.specs.Format.{file_limit, written, IsCache, IsAnswerOf, IsFaultOf};
 ghost use Rattle.krb_ccache.specs.Fault.{offset_of};
 ghost use Rattle.krb_ccache.specs.Offset.{clock_offset};
-ghost use Rattle.krb_ccache.specs.Value.{Cache};
+ghost use Rattle.krb_ccache.specs.Value.{Cache, Fits};
 
 /// Says that bytes are a cache or have a fault; and that they are a cache of one value only, or
 /// have one fault only, and not both.
@@ -19,12 +19,15 @@ pub fn each_file_has_one_answer()
         → IsAnswerOf bytes answer → IsAnswerOf bytes other → answer ≡ other }
 {}
 
-/// Says that bytes are a cache of one value only, and that a value has one spelling only.
+/// Says that bytes are a cache of one value only; that what is written of a cache, within the limit, is
+/// one of that value; and that two caches of which the same is written are one.
 pub fn each_value_has_one_spelling()
     ensures value { (bytes : List ℕ) (one other : Cache)
         → IsCache bytes one → IsCache bytes other → one ≡ other }
-    ensures spelling { (bytes others : List ℕ) (cache : Cache)
-        → IsCache bytes cache → IsCache others cache → bytes ≡ others }
+    ensures written { (cache : Cache) → Fits cache → length (written cache) ≤ file_limit
+        → IsCache (written cache) cache }
+    ensures spelling { (one other : Cache) → Fits one → Fits other
+        → written one ≡ written other → one ≡ other }
 {}
 
 /// Says that a header holds one clock offset at most.

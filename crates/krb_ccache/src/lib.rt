@@ -20,6 +20,7 @@
 #![tactic(auto)]
 
 mod cache;
+mod checking;
 mod configuration;
 mod credential;
 mod fault;
@@ -28,6 +29,7 @@ mod header;
 mod item_fault;
 mod items;
 pub mod laws;
+mod room;
 mod typed;
 mod writing;
 
@@ -38,5 +40,7 @@ pub use typed::{TypedBytes, TypedList};
 
 #[cfg(test)]
 mod samples;
+#[cfg(test)]
+mod size_tests;
 #[cfg(test)]
 mod tests;

@@ -247,15 +247,7 @@ fn sources(rt: HostRuntime) -> Result<(), Fail> {
 }
 
 #[test]
-fn texts_of_faults(rt: HostRuntime) -> Result<(), Fail> {
-    let alloc = rt.alloc();
-    let fault = CacheFault::BadItem { at: 46 };
-    assert_eq!(rt; fault.at(), Some(46));
+fn offsets_of_faults(rt: HostRuntime) {
+    assert_eq!(rt; CacheFault::BadItem { at: 46 }.at(), Some(46));
     assert_eq!(rt; CacheFault::Header.at(), None);
-    let text = format!(in alloc; "{fault}")?;
-    assert_eq!(rt;
-        text.as_str(),
-        "there is no principal or credential at offset 46"
-    );
-    Ok(())
 }

@@ -101,7 +101,20 @@ fn write_elements(out: &mut Vec<u8>, elements: &[TypedBytes]) -> Result<(), Allo
     Ok(())
 }
 
-pub(crate) fn write_credential(out: &mut Vec<u8>, credential: &Credential) -> Result<(), AllocError>
+pub(crate) fn write_credentials(
+    out: &mut Vec<u8>,
+    credentials: &[Credential],
+) -> Result<(), AllocError>
+    requires { All HasCredentialLengths credentials.now }
+    ensures { OnOk result (out.new.items ≡ out.old.items ++ flat_map credential_bytes credentials.now) }
+{
+    for credential in credentials {
+        write_credential(out, credential)?;
+    }
+    Ok(())
+}
+
+fn write_credential(out: &mut Vec<u8>, credential: &Credential) -> Result<(), AllocError>
     requires { HasCredentialLengths credential.now }
     ensures { OnOk result (out.new.items ≡ out.old.items ++ credential_bytes credential.now) }
 {

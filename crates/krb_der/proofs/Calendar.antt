@@ -76,7 +76,7 @@ pub result_ok_is : {A E : Type 0} (r : Result A E) (x : A) → result_ok r ≡ S
 result_ok_is (Ok y) x e = cc
 result_ok_is (Err d) x e = absurd cc
 
-epoch_count : own.day_count 1970 1 1 ≡ 719_528
+pub epoch_count : own.day_count 1970 1 1 ≡ 719_528
 unfolding own.days_before_year own.days_of_months
 epoch_count = refl
 

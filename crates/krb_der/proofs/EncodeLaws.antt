@@ -1,6 +1,6 @@
 -- Writing within the limit.
-use Rattle.std.proofs.Common.{◌≡◌, inl, inr, ℕ, ◌≤◌, cond, ltb, List, [], ◌++◌, length, take, drop, Option, None, Result, Ok, Err, refl, sym, ap, subst, ◌∙◌, arith, length-append, append_assoc}
-use Rattle.std.specs.Prelude.{OnOk, OnErr}
+use Rattle.std.proofs.Common.{◌≡◌, inl, inr, ℕ, ◌+◌, ◌≤◌, cond, ltb, List, [], ◌++◌, length, take, drop, Option, None, Result, Ok, Err, refl, sym, ap, subst, ◌∙◌, arith, length-append, append_assoc}
+use Rattle.std.specs.Prelude.{OnOk, OnErr, Vec}
 use Rattle.std.proofs.lemmas.Bool.{ltb-true, ltb-false, cases_Bool}
 use Rattle.std.proofs.lemmas.List.{take_at, drop_at, append-nil}
 use Rattle.krb_der.specs.declared.fault.EncodeFault.{EncodeFault}
@@ -8,14 +8,10 @@ use Rattle.krb_der.specs.declared.fault.EncodeFault.TheVariants.{TooLong, OutOfM
 use Rattle.krb_der.specs.Kind.{Kind, Fields, ValueOf, FieldsOf}
 use Rattle.krb_der.specs.Content.{Elementary}
 use Rattle.krb_der.specs.Spells.{IsElement, IsJoined, IfPresent, SpellsFields, Spells, limit}
-use Rattle.krb_der.specs.Writing.{Appends, Writes, Wraps, Encodes}
+use Rattle.krb_der.specs.Writing.{Appends, AppendsElement, Wraps, Writes, Encodes, IsEncoded}
 use Rattle.krb_der.specs.Inner.Limited.{limited_of, settled}
-use Rattle.krb_der.proofs.ContentLaws.{elementary_unique}
-use Rattle.krb_der.proofs.Unique.{spelling_unique, element_unique, fields_unique, present_unique}
-
--- a part that has one spelling
-abbrev pub IsOne : (List ℕ → Type 0) → Type 0
-IsOne Part = (a b : List ℕ) → Part a → Part b → a ≡ b
+use Rattle.krb_der.specs.Size.{element_size, size_if, fields_size, size_of}
+use Rattle.krb_der.proofs.Sizes.{HasSize, elementary_sized, element_sized, present_sized, fields_sized, spelling_sized}
 
 no_fault : {A : Type 0} (c d : EncodeFault) → ◌≡◌ {A = Result A EncodeFault} (Err c) (Err d) → c ≡ d
 no_fault c d e = cc
@@ -34,40 +30,40 @@ before_same : (start : ℕ) (old mid : List ℕ) → start ≡ length old → mi
 before_same start old mid at e = ap (take start) (e ∙ sym (append-nil old)) ∙ take_at old [] start (sym at)
 
 -- what was written from start on, and the limit
-pub encodes-limited : {E : Type 0} (Part : List ℕ → Type 0) → IsOne Part → (written : Result (Unit {0}) E) (r : Result (Unit {0}) EncodeFault) (start : ℕ) (old mid new : List ℕ)
+pub encodes-limited : {E : Type 0} (Part : List ℕ → Type 0) (size : ℕ) → HasSize Part size → (written : Result (Unit {0}) E) (r : Result (Unit {0}) EncodeFault) (start : ℕ) (old mid new : List ℕ)
     → start ≡ length old → OnOk written (Appends Part old mid) → OnErr written (take start mid ≡ old) → r ≡ limited_of written mid → new ≡ settled r start mid
-    → Encodes Part r old new
-encodes-limited Part one (Err e) r start old mid new at a kept l n =
-    subst (λ x. Encodes Part x old new) (sym l)
+    → Encodes Part size r old new
+encodes-limited Part size sized (Err e) r start old mid new at a kept l n =
+    subst (λ x. Encodes Part size x old new) (sym l)
     (record {
       ok = tt;
       too_long = λ t. absurd (memory (no_fault {A = Unit {0}} OutOfMemory TooLong t));
       kept = n ∙ ap (λ x. settled x start mid) l ∙ kept;
     })
-encodes-limited Part one (Ok u) r start old mid new at a kept l n =
+encodes-limited Part size sized (Ok u) r start old mid new at a kept l n =
     elim (cases_Bool (ltb limit (length mid))) [
       | inl long ↦
           let lt = ltb-true limit (length mid) long in
           let answer = l ∙ ap (λ b. cond b (Err TooLong) (Ok tt)) long in
-          subst (λ x. Encodes Part x old new) (sym answer)
+          subst (λ x. Encodes Part size x old new) (sym answer)
           (record {
             ok = tt;
-            too_long = λ t bytes p. omega (arith, lt, ap length a.whole, length-append old a.bytes, ap length (one a.bytes bytes a.is p));
+            too_long = λ t. omega (arith, lt, ap length a.whole, length-append old a.bytes, sized a.bytes a.is);
             kept = n ∙ ap (λ x. settled x start mid) answer ∙ before_appended Part start old mid at a;
           })
       | inr fits ↦
           let le = ltb-false limit (length mid) fits in
           let answer = l ∙ ap (λ b. cond b (Err TooLong) (Ok tt)) fits in
           let same : new ≡ mid = n ∙ ap (λ x. settled x start mid) answer in
-          subst (λ x. Encodes Part x old new) (sym answer)
-          (subst (λ x. Encodes Part (Ok tt) old x) (sym same)
+          subst (λ x. Encodes Part size x old new) (sym answer)
+          (subst (λ x. Encodes Part size (Ok tt) old x) (sym same)
           (record { ok = (a, le); too_long = λ t. absurd (ok_err tt TooLong t); kept = tt }))
     ]
 
 pub encodes-leaf : {E : Type 0} (k : Kind) (v : ValueOf k) (written : Result (Unit {0}) E) (r : Result (Unit {0}) EncodeFault) (start : ℕ) (old mid new : List ℕ)
-    → start ≡ length old → Writes k v written old mid → r ≡ limited_of written mid → new ≡ settled r start mid → Encodes (Spells k v) r old new
+    → start ≡ length old → AppendsElement k v written old mid → r ≡ limited_of written mid → new ≡ settled r start mid → Encodes (Spells k v) (size_of k v) r old new
 encodes-leaf k v written r start old mid new at w l n =
-    encodes-limited (Spells k v) (spelling_unique Elementary elementary_unique k v) written r start old mid new at w.ok (by written w.kept) l n
+    encodes-limited (Spells k v) (size_of k v) (spelling_sized Elementary elementary_sized k v) written r start old mid new at w.ok (by written w.kept) l n
   where
     by : {E : Type 0} (written : Result (Unit {0}) E) → OnErr written (mid ≡ old) → OnErr written (take start mid ≡ old)
     by (Ok u) e = tt
@@ -91,27 +87,27 @@ wrapped-appends tag start Part old mid new at a w =
     }
 
 -- mid has the content, end what was made of it
-pub encodes-wrapped : {E : Type 0} (tag start : ℕ) (Part : List ℕ → Type 0) → IsOne Part → (written : Result (Unit {0}) E) (r : Result (Unit {0}) EncodeFault) (old mid end new : List ℕ)
+pub encodes-wrapped : {E : Type 0} (tag start : ℕ) (Part : List ℕ → Type 0) (size : ℕ) → HasSize Part size → (written : Result (Unit {0}) E) (r : Result (Unit {0}) EncodeFault) (old mid end new : List ℕ)
     → start ≡ length old → Appends Part old mid → OnOk written (Wraps tag start mid end) → OnErr written (end ≡ mid) → r ≡ limited_of written end → new ≡ settled r start end
-    → Encodes (IsElement tag Part) r old new
-encodes-wrapped {E = E} tag start Part one (Ok u) r old mid end new at a w kept l n =
-    encodes-limited {E = E} (IsElement tag Part) (element_unique tag Part one) (Ok u) r start old end new at (wrapped-appends tag start Part old mid end at a w) tt l n
-encodes-wrapped {E = E} tag start Part one (Err e) r old mid end new at a w kept l n =
-    encodes-limited {E = E} (IsElement tag Part) (element_unique tag Part one) (Err e) r start old end new at tt (ap (take start) kept ∙ before_appended Part start old mid at a) l n
+    → Encodes (IsElement tag Part) (element_size size) r old new
+encodes-wrapped {E = E} tag start Part size sized (Ok u) r old mid end new at a w kept l n =
+    encodes-limited {E = E} (IsElement tag Part) (element_size size) (element_sized tag Part size sized) (Ok u) r start old end new at (wrapped-appends tag start Part old mid end at a w) tt l n
+encodes-wrapped {E = E} tag start Part size sized (Err e) r old mid end new at a w kept l n =
+    encodes-limited {E = E} (IsElement tag Part) (element_size size) (element_sized tag Part size sized) (Err e) r start old end new at tt (ap (take start) kept ∙ before_appended Part start old mid at a) l n
 
-pub spelling_one : (k : Kind) (v : ValueOf k) → IsOne (Spells k v)
-spelling_one k v = spelling_unique Elementary elementary_unique k v
+pub value_size : (k : Kind) (v : ValueOf k) → HasSize (Spells k v) (size_of k v)
+value_size k v = spelling_sized Elementary elementary_sized k v
 
-pub fields_one : (fs : Fields) (v : FieldsOf fs) → IsOne (SpellsFields Elementary fs v)
-fields_one fs v = fields_unique Elementary elementary_unique fs v
+pub row_size : (fs : Fields) (v : FieldsOf fs) → HasSize (SpellsFields Elementary fs v) (fields_size fs v)
+row_size fs v = fields_sized Elementary elementary_sized fs v
 
 -- ---- one part and then others: mid has the first, end what the call for the others left
-pub encodes-joined : (First Rest : List ℕ → Type 0) → IsOne First → (written r : Result (Unit {0}) EncodeFault) (start : ℕ) (old mid end new : List ℕ)
-    → start ≡ length old → Appends First old mid → Encodes Rest written mid end → r ≡ written → new ≡ settled r start end → Encodes (IsJoined First Rest) r old new
-encodes-joined First Rest one (Ok u) r start old mid end new at a e same n =
+pub encodes-joined : (First Rest : List ℕ → Type 0) (size others : ℕ) → HasSize First size → (written r : Result (Unit {0}) EncodeFault) (start : ℕ) (old mid end new : List ℕ)
+    → start ≡ length old → Appends First old mid → Encodes Rest others written mid end → r ≡ written → new ≡ settled r start end → Encodes (IsJoined First Rest) (size + others) r old new
+encodes-joined First Rest size others sized (Ok u) r start old mid end new at a e same n =
     let b = e.ok.0 in
     let left : new ≡ end = n ∙ ap (λ x. settled x start end) same in
-    subst (λ x. Encodes (IsJoined First Rest) x old new) (sym same)
+    subst (λ x. Encodes (IsJoined First Rest) (size + others) x old new) (sym same)
     (record {
       ok = (
         record {
@@ -124,35 +120,52 @@ encodes-joined First Rest one (Ok u) r start old mid end new at a e same n =
       too_long = λ t. absurd (ok_err u TooLong t);
       kept = tt;
     })
-encodes-joined First Rest one (Err f) r start old mid end new at a e same n =
-    subst (λ x. Encodes (IsJoined First Rest) x old new) (sym same)
+encodes-joined First Rest size others sized (Err f) r start old mid end new at a e same n =
+    subst (λ x. Encodes (IsJoined First Rest) (size + others) x old new) (sym same)
     (record {
       ok = tt;
-      too_long = λ t bytes j. omega (arith, e.too_long t j.back j.rest, ap length a.whole, length-append old a.bytes, ap length (one a.bytes j.front a.is j.first), ap length j.whole, length-append j.front j.back);
+      too_long = λ t. omega (arith, e.too_long t, ap length a.whole, length-append old a.bytes, sized a.bytes a.is);
       kept = n ∙ ap (λ x. settled x start end) same ∙ ap (take start) e.kept ∙ before_appended First start old mid at a;
     })
 
 -- nothing before others
-pub encodes-absent : {V : Type 0} (Part : V → List ℕ → Type 0) (Rest : List ℕ → Type 0) (r : Result (Unit {0}) EncodeFault) (old new : List ℕ)
-    → Encodes Rest r old new → Encodes (IsJoined (IfPresent Part None) Rest) r old new
-encodes-absent Part Rest (Ok u) old new e =
+pub encodes-absent : {V : Type 0} (Part : V → List ℕ → Type 0) (Rest : List ℕ → Type 0) (others : ℕ) (r : Result (Unit {0}) EncodeFault) (old new : List ℕ)
+    → Encodes Rest others r old new → Encodes (IsJoined (IfPresent Part None) Rest) (0 + others) r old new
+encodes-absent Part Rest others (Ok u) old new e =
     let b = e.ok.0 in
     record {
       ok = (record { bytes = b.bytes; is = record { front = []; back = b.bytes; first = refl; rest = b.is; whole = refl }; whole = b.whole }, e.ok.1);
       too_long = λ t. absurd (ok_err u TooLong t);
       kept = tt;
     }
-encodes-absent Part Rest (Err f) old new e =
+encodes-absent Part Rest others (Err f) old new e =
     record {
       ok = tt;
-      too_long = λ t bytes j. omega (arith, e.too_long t j.back j.rest, ap length j.whole, length-append j.front j.back);
+      too_long = λ t. omega (arith, e.too_long t);
       kept = e.kept;
     }
 
 -- a first part that is refused
-pub joined-refused : (First Rest : List ℕ → Type 0) (f : EncodeFault) (old mid : List ℕ) → Encodes First (Err f) old mid → Encodes (IsJoined First Rest) (Err f) old mid
-joined-refused First Rest f old mid e =
-    record { ok = tt; too_long = λ t bytes j. omega (arith, e.too_long t j.front j.first, ap length j.whole, length-append j.front j.back); kept = e.kept }
+pub joined-refused : (First Rest : List ℕ → Type 0) (size others : ℕ) (f : EncodeFault) (old mid : List ℕ)
+    → Encodes First size (Err f) old mid → Encodes (IsJoined First Rest) (size + others) (Err f) old mid
+joined-refused First Rest size others f old mid e =
+    record { ok = tt; too_long = λ t. omega (arith, e.too_long t); kept = e.kept }
 
-pub present_one : (k : Kind) (o : Option (ValueOf k)) → IsOne (IfPresent (Spells k) o)
-present_one k o = present_unique (Spells k) (spelling_one k) o
+pub present_size : (k : Kind) (o : Option (ValueOf k)) → HasSize (IfPresent (Spells k) o) (size_if (size_of k) o)
+present_size k o = present_sized (Spells k) (size_of k) (value_size k) o
+
+-- ---- a whole message, from nothing
+pub encoded_ok : {Z : Type 0} (k : Kind) (v : ValueOf k) (made : Vec ℕ Z) (old new : List ℕ) → old ≡ [] → Appends (Writes k v) old new → length new ≤ limit → made.items ≡ new
+    → IsEncoded k v (Ok made)
+encoded_ok k v made old new none a fits same =
+    let all : made.items ≡ a.bytes = same ∙ a.whole ∙ ap (λ (l : List ℕ). l ++ a.bytes) none in
+    let within : length made.items ≤ limit = omega (arith, fits, ap length same) in
+    let written : Writes k v made.items = subst (Writes k v) (sym all) a.is in
+    let size = value_size k v made.items written in
+    record {
+      ok = record { spelled = written; within = within };
+      written = written;
+      size = size;
+      fits = omega (arith, size, within);
+      too_long = λ t. absurd (ok_err made TooLong t);
+    }

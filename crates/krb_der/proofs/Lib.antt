@@ -24,3 +24,7 @@ pub mod Exact
 pub mod Offsets
 pub mod ListWrites
 pub mod Listed
+pub mod FlagLaws
+pub mod Sizes
+pub mod Dates
+pub mod Spelled

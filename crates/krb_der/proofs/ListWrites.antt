@@ -5,10 +5,11 @@ use Rattle.std.proofs.Math.Seq.{drop-cons}
 use Rattle.krb_der.specs.declared.fault.EncodeFault.{EncodeFault}
 use Rattle.krb_der.specs.Kind.{Kind, each, ValueOf}
 use Rattle.krb_der.specs.Content.{Elementary}
-use Rattle.krb_der.specs.Spells.{IsJoined, ForEach, SpellsFields, Spells}
+use Rattle.krb_der.specs.Spells.{ForEach, SpellsFields, Spells}
+use Rattle.krb_der.specs.Size.{sizes_of, size_of}
 use Rattle.krb_der.specs.Writing.{Appends, Encodes}
 use Rattle.krb_der.specs.Inner.Limited.{limited_of, settled}
-use Rattle.krb_der.proofs.EncodeLaws.{before_appended, encodes-limited, fields_one}
+use Rattle.krb_der.proofs.EncodeLaws.{before_appended, encodes-limited, row_size}
 
 each-append : {V : Type 0} (Part : V → List ℕ → Type 0) (vs ws : List V) (a b : List ℕ) → ForEach Part vs a → ForEach Part ws b → ForEach Part (vs ++ ws) (a ++ b)
 each-append Part [] ws a b h k = subst (ForEach Part ws) (sym (ap (λ (l : List ℕ). l ++ b) h)) k
@@ -21,22 +22,18 @@ each-append Part (v ∷ vs) ws a b j k =
       whole = ap (λ (l : List ℕ). l ++ b) j.whole ∙ append_assoc j.front j.back b;
     }
 
-each-split : {V : Type 0} (Part : V → List ℕ → Type 0) (vs ws : List V) (c : List ℕ) → ForEach Part (vs ++ ws) c → IsJoined (ForEach Part vs) (ForEach Part ws) c
-each-split Part [] ws c h = record { front = []; back = c; first = refl; rest = h; whole = refl }
-each-split Part (v ∷ vs) ws c j =
-    let s = each-split Part vs ws j.back j.rest in
-    record {
-      front = j.front ++ s.front;
-      back = s.back;
-      first = record { front = j.front; back = s.front; first = j.first; rest = s.first; whole = refl };
-      rest = s.rest;
-      whole = j.whole ∙ ap (λ (l : List ℕ). j.front ++ l) s.whole ∙ sym (append_assoc j.front s.front s.back);
-    }
+sizes_of-append : {V : Type 0} (size : V → ℕ) (vs ws : List V) → sizes_of size (vs ++ ws) ≡ sizes_of size vs + sizes_of size ws
+sizes_of-append size [] ws = omega arith
+sizes_of-append size (v ∷ vs) ws = omega (arith, sizes_of-append size vs ws)
 
 module _ {X : Type 0} (k : Kind) (view : X → ValueOf k) (items : List X) where
   -- the spellings of these items
   abbrev pub Items : List X → List ℕ → Type 0
   Items xs = SpellsFields Elementary (each k) (map view xs)
+
+  -- and how long they are
+  abbrev pub items_size : List X → ℕ
+  items_size xs = sizes_of (size_of k) (map view xs)
 
   module _ (i : ℕ) (x : X) (within : i < length items) (here : x ≡ get_or items i x) where
     front_is : take (i + 1) items ≡ take i items ++ (x ∷ [])
@@ -60,38 +57,32 @@ module _ {X : Type 0} (k : Kind) (view : X → ValueOf k) (items : List X) where
           whole = b.whole ∙ ap (λ (l : List ℕ). l ++ b.bytes) a.whole ∙ append_assoc old a.bytes b.bytes;
         }
 
-    all_joined : (bytes : List ℕ) → Items items bytes → IsJoined (Items (take i items)) (IsJoined (Spells k (view x)) (Items (drop (suc i) items))) bytes
-    all_joined bytes h =
-        each-split (Spells k) (map view (take i items)) (map view (x ∷ drop (suc i) items)) bytes
-        (subst (λ (l : List (ValueOf k)). SpellsFields Elementary (each k) l bytes) (map-append view (take i items) (x ∷ drop (suc i) items))
-        (subst (λ (l : List X). Items l bytes) whole_is h))
+    before_and_after : items_size items ≡ items_size (take i items) + (size_of k (view x) + items_size (drop (suc i) items))
+    before_and_after =
+        ap items_size whole_is ∙ ap (sizes_of (size_of k)) (map-append view (take i items) (x ∷ drop (suc i) items))
+        ∙ sizes_of-append (size_of k) (map view (take i items)) (map view (x ∷ drop (suc i) items))
 
     -- one that is refused
     pub items_refused : (f : EncodeFault) (r : Result (Unit {0}) EncodeFault) (start : ℕ) (old mid end new : List ℕ) → start ≡ length old → Appends (Items (take i items)) old mid
-        → Encodes (Spells k (view x)) (Err f) mid end → r ≡ Err f → new ≡ settled r start end → Encodes (Items items) r old new
+        → Encodes (Spells k (view x)) (size_of k (view x)) (Err f) mid end → r ≡ Err f → new ≡ settled r start end → Encodes (Items items) (items_size items) r old new
     items_refused f r start old mid end new at a e same left =
-        subst (λ y. Encodes (Items items) y old new) (sym same)
+        subst (λ y. Encodes (Items items) (items_size items) y old new) (sym same)
         (record {
           ok = tt;
-          too_long = λ t bytes h.
-              let j = all_joined bytes h in
-              omega (
-                arith,
-                e.too_long t j.rest.front j.rest.first,
-                ap length a.whole,
-                length-append old a.bytes,
-                ap length (fields_one (each k) (map view (take i items)) a.bytes j.front a.is j.first),
-                ap length j.whole,
-                length-append j.front j.back,
-                ap length j.rest.whole,
-                length-append j.rest.front j.rest.back,
-              );
+          too_long = λ t. omega (
+            arith,
+            e.too_long t,
+            ap length a.whole,
+            length-append old a.bytes,
+            row_size (each k) (map view (take i items)) a.bytes a.is,
+            before_and_after,
+          );
           kept = left ∙ ap (λ y. settled y start end) same ∙ ap (take start) e.kept ∙ before_appended (Items (take i items)) start old mid at a;
         })
 
   -- all of them
   pub items_all : (r : Result (Unit {0}) EncodeFault) (n start : ℕ) (old mid new : List ℕ) → length items ≤ n → start ≡ length old → Appends (Items (take n items)) old mid
-      → r ≡ limited_of {E = Unit {0}} (Ok tt) mid → new ≡ settled r start mid → Encodes (Items items) r old new
+      → r ≡ limited_of {E = Unit {0}} (Ok tt) mid → new ≡ settled r start mid → Encodes (Items items) (items_size items) r old new
   items_all r n start old mid new all at a l left =
-      encodes-limited {E = Unit {0}} (Items items) (fields_one (each k) (map view items)) (Ok tt) r start old mid new at
+      encodes-limited {E = Unit {0}} (Items items) (items_size items) (row_size (each k) (map view items)) (Ok tt) r start old mid new at
       (subst (λ (xs : List X). Appends (Items xs) old mid) (take_all n items all) a) tt l left

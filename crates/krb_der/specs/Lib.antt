@@ -1,7 +1,9 @@
 pub mod Kind
 pub mod Time
 pub mod Content
+pub mod Flags
 pub mod Spells
+pub mod Size
 pub mod Place
 pub mod Fault
 pub mod Reading

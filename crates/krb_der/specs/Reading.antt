@@ -1,11 +1,11 @@
--- What a call answers that reads the element that stands next.
-use Rattle.std.specs.Prelude.{◌≡◌, ℕ, List, true, false, Option, Some, None, IsSomeAnd, Result, Ok, IfOk, IsOk, IsOkAnd, IfErr, OnOk, OnErr}
+-- What a call answers that reads the element that stands next, or a whole message.
+use Rattle.std.specs.Prelude.{◌≡◌, ℕ, ◌≤◌, List, length, true, false, Option, Some, None, IsSomeAnd, Result, Ok, IfOk, IsOk, IsOkAnd, IfErr, OnOk, OnErr}
 use Rattle.krb_der.specs.declared.fault.Fault.{Fault}
 use Rattle.krb_der.specs.Kind.{Kind, each, ValueOf}
 use Rattle.krb_der.specs.Content.{Elementary}
 use Rattle.krb_der.specs.Place.{Place, begins}
-use Rattle.krb_der.specs.Spells.{SpellsFields, StandsAt}
-use Rattle.krb_der.specs.Fault.{HasHead, IsElementFault, IsHeadFault, IsFaulty}
+use Rattle.krb_der.specs.Spells.{SpellsFields, StandsAt, IsMessage}
+use Rattle.krb_der.specs.Fault.{HasHead, IsElementFault, IsHeadFault, IsFaulty, IsFault}
 
 -- The call succeeds exactly where an element of the kind stands at the old place, with its value, of which view is what
 -- clauses see, and the new place is behind it. Else it answers a fault of that element, and the place stays.
@@ -37,3 +37,11 @@ pub record MayEnter (tag : ℕ) (result : Result (Option Place) Fault) (old new 
   pub only : (inside after : Place) → HasHead tag old inside after → IsOkAnd result (λ o. (o ≡ Some inside) × (new ≡ after))
   pub faulty : IfErr result (IsHeadFault Elementary tag old)
   pub kept : OnErr result (new ≡ old)
+
+-- The call succeeds exactly where the bytes are a message of the kind, with its value, of which view is what clauses see. Else it
+-- answers a fault of the bytes by the rules, at one of them or at their end.
+pub record Parses {X : Type 0} (k : Kind) (view : X → ValueOf k) (result : Result X Fault) (bytes : List ℕ) : Type 0 where
+  pub found : IfOk result (λ x. IsMessage k (view x) bytes)
+  pub only : (v : ValueOf k) → IsMessage k v bytes → IsOkAnd result (λ x. view x ≡ v)
+  pub faulty : IfErr result (IsFault k bytes)
+  pub offset : IfErr result (λ fault. fault.at ≤ length bytes)

@@ -1,9 +1,19 @@
 -- What a call answers that writes an element.
-use Rattle.std.specs.Prelude.{◌≡◌, ℕ, ◌+◌, ◌<◌, ◌≤◌, List, ◌++◌, length, take, drop, Result, OnOk, OnErr, IsErrOf}
+use Rattle.std.specs.Prelude.{◌≡◌, ℕ, ◌+◌, ◌<◌, ◌≤◌, List, ◌++◌, length, take, drop, Result, IfOk, OnOk, OnErr, IsErrOf, Vec}
 use Rattle.krb_der.specs.declared.fault.EncodeFault.{EncodeFault}
 use Rattle.krb_der.specs.declared.fault.EncodeFault.TheVariants.{TooLong}
-use Rattle.krb_der.specs.Kind.{Kind, ValueOf}
-use Rattle.krb_der.specs.Spells.{IsElement, Spells, limit}
+use Rattle.krb_der.specs.Kind.{Kind, Fields, ValueOf, FieldsOf}
+use Rattle.krb_der.specs.Content.{Elementary}
+use Rattle.krb_der.specs.Spells.{IsElement, Spells, SpellsFields, IsMessage, limit}
+use Rattle.krb_der.specs.Size.{fields_size, size_of}
+
+-- the bytes are those that are written for the value: its spelling, of which there is one
+abbrev pub Writes : (k : Kind) → ValueOf k → List ℕ → Type 0
+Writes k v bytes = Spells k v bytes
+
+-- the same of fields
+abbrev pub WritesFields : (fs : Fields) → FieldsOf fs → List ℕ → Type 0
+WritesFields fs v bytes = SpellsFields Elementary fs v bytes
 
 -- new is old with such bytes at its end
 pub record Appends (Part : List ℕ → Type 0) (old new : List ℕ) : Type 0 where
@@ -11,9 +21,9 @@ pub record Appends (Part : List ℕ → Type 0) (old new : List ℕ) : Type 0 wh
   pub is : Part bytes
   pub whole : new ≡ old ++ bytes
 
--- The call appends a spelling of the value. It is refused for want of memory alone, and then writes nothing.
-pub record Writes {E : Type 0} (k : Kind) (v : ValueOf k) (result : Result (Unit {0}) E) (old new : List ℕ) : Type 0 where
-  pub ok : OnOk result (Appends (Spells k v) old new)
+-- The call appends what is written for the value. It is refused for want of memory alone, and then writes nothing.
+pub record AppendsElement {E : Type 0} (k : Kind) (v : ValueOf k) (result : Result (Unit {0}) E) (old new : List ℕ) : Type 0 where
+  pub ok : OnOk result (Appends (Writes k v) old new)
   pub kept : OnErr result (new ≡ old)
 
 -- new is old with what stands from start on made the content of an element with the tag
@@ -22,9 +32,23 @@ pub record Wraps (tag start : ℕ) (old new : List ℕ) : Type 0 where
   pub is : IsElement tag (λ content. content ≡ drop start old) bytes
   pub whole : new ≡ take start old ++ bytes
 
--- The call appends such bytes, and there are at most as many as the limit then. Else nothing changes; TooLong says that there
--- would be more than the limit with any such bytes.
-pub record Encodes (Part : List ℕ → Type 0) (result : Result (Unit {0}) EncodeFault) (old new : List ℕ) : Type 0 where
+-- The call appends such bytes, of which there are so many, and there are at most as many as the limit then. Else nothing changes;
+-- TooLong says that there would be more than the limit.
+pub record Encodes (Part : List ℕ → Type 0) (size : ℕ) (result : Result (Unit {0}) EncodeFault) (old new : List ℕ) : Type 0 where
   pub ok : OnOk result (Appends Part old new × (length new ≤ limit))
-  pub too_long : IsErrOf result TooLong → (bytes : List ℕ) → Part bytes → limit < length old + length bytes
+  pub too_long : IsErrOf result TooLong → limit < length old + size
   pub kept : OnErr result (new ≡ old)
+
+abbrev pub EncodesValue : (k : Kind) → ValueOf k → Result (Unit {0}) EncodeFault → List ℕ → List ℕ → Type 0
+EncodesValue k v result old new = Encodes (Writes k v) (size_of k v) result old new
+
+abbrev pub EncodesFields : (fs : Fields) → FieldsOf fs → Result (Unit {0}) EncodeFault → List ℕ → List ℕ → Type 0
+EncodesFields fs v result old new = Encodes (WritesFields fs v) (fields_size fs v) result old new
+
+-- The call answers the message that is written for the value, whose size is within the limit then. TooLong says that it isn't.
+pub record IsEncoded {Z : Type 0} (k : Kind) (v : ValueOf k) (result : Result (Vec ℕ Z) EncodeFault) : Type 0 where
+  pub ok : IfOk result (λ bytes. IsMessage k v bytes.items)
+  pub written : IfOk result (λ bytes. Writes k v bytes.items)
+  pub size : IfOk result (λ bytes. length bytes.items ≡ size_of k v)
+  pub fits : OnOk result (size_of k v ≤ limit)
+  pub too_long : IsErrOf result TooLong → limit < size_of k v

@@ -10,16 +10,24 @@ ghost use Rattle.krb_der.specs.Computed.Read.{enter_at, may_enter, split_at, len
 use crate::element::is_clear;
 use crate::length::length;
 use crate::{Element, Fault, FaultKind};
+use std::fmt;
 use std::marker::Model;
 
 /// The most bytes that a message has.
 pub const LIMIT: usize = 1_048_576;
 
 /// A place in a message: an offset, and the bytes from it to the end of what encloses it.
-#[derive(Debug, Drop)]
+#[derive(Drop)]
 pub struct Cursor<'a> {
     at: usize,
     rest: &'a [u8],
+}
+
+// Keys are read by a cursor, so no byte is shown.
+impl fmt::Debug for Cursor<'_> {
+    fn fmt<W: fmt::Write>(&self, f: &mut fmt::Formatter<W>) -> fmt::Result {
+        write!(f, "Cursor({} bytes at {})", self.rest.len(), self.at)
+    }
 }
 
 impl<'a> Model for Cursor<'a> {
@@ -73,7 +81,7 @@ impl<'a> Cursor<'a> {
     /// Reads the element of the type's kind that stands next.
     ///
     /// # Errors
-    /// The first fault of the element, from left to right, contents before what follows. The cursor then stays.
+    /// A fault of the element, by the rules of `specs::Fault`. The cursor then stays.
     pub fn read<T: Element<'a>>(&mut self) -> Result<T, Fault>
         ensures { Reads T.kind T.view result self.old self.new }
     {

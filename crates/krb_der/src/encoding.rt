@@ -1,9 +1,7 @@
 //! What can be written as one element.
 
-ghost use Rattle.std.specs.Prelude.{◌<◌, List, ℕ, length, IfOk, IsErrOf};
 ghost use Rattle.krb_der.specs.Kind.{Kind, ValueOf, leaf, int32, uint32, microseconds, constant, octets, string, flags, time};
-ghost use Rattle.krb_der.specs.Spells.{Spells, IsMessage, limit};
-ghost use Rattle.krb_der.specs.Writing.{Encodes};
+ghost use Rattle.krb_der.specs.Writing.{EncodesValue, IsEncoded};
 
 use crate::cursor::LIMIT;
 use crate::{Constant, EncodeFault, Flags, Microseconds, Octets, Seconds, Text, Writer};
@@ -15,14 +13,14 @@ pub trait Encode {
 
     ghost view: { Self → ValueOf kind };
 
-    /// Writes the value's spelling.
+    /// Writes what is written for the value.
     ///
     /// # Errors
     /// The writer then stays.
     /// - `TooLong`: it would hold more than 1,048,576 bytes.
     /// - `OutOfMemory`: there was no room.
     fn write(&self, out: &mut Writer) -> Result<(), EncodeFault>
-        ensures { Encodes (Spells kind (view self.now)) result out.old out.new };
+        ensures { EncodesValue kind (view self.now) result out.old out.new };
 }
 
 impl<T: Encode> Encode for &T {
@@ -145,9 +143,7 @@ const FIRST_ROOM: usize = 512;
 /// # Errors
 /// `TooLong` where it would have more than 1,048,576 bytes; `OutOfMemory`.
 pub fn encoded<T: Encode>(alloc: Global, value: &T) -> Result<Vec<u8>, EncodeFault>
-    ensures ok { IfOk result (λ bytes. IsMessage T.kind (T.view value.now) bytes.items) }
-    ensures too_long { IsErrOf result EncodeFault.TooLong
-        → (bytes : List ℕ) → Spells T.kind (T.view value.now) bytes → limit < length bytes }
+    ensures { IsEncoded T.kind (T.view value.now) result }
 {
     let mut out = Writer::with_room(alloc, FIRST_ROOM)?;
     value.write(&mut out)?;

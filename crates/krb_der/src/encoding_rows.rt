@@ -2,9 +2,7 @@
 
 ghost use Rattle.std.specs.Option.{option_map};
 ghost use Rattle.krb_der.specs.Kind.{Fields, FieldsOf, wrapped, sequence, ends, must, may};
-ghost use Rattle.krb_der.specs.Content.{Elementary};
-ghost use Rattle.krb_der.specs.Spells.{Spells, SpellsFields};
-ghost use Rattle.krb_der.specs.Writing.{Encodes};
+ghost use Rattle.krb_der.specs.Writing.{EncodesFields, EncodesValue};
 
 use crate::row::{Field, Maybe, MaybeRef};
 use crate::{Encode, EncodeFault, Writer, tag};
@@ -17,12 +15,12 @@ pub trait EncodeRow {
 
     /// Writes the fields one after another. Errors as of [`Encode::write`].
     fn write_row(&self, out: &mut Writer) -> Result<(), EncodeFault>
-        ensures { Encodes (SpellsFields Elementary fields (view self.now)) result out.old out.new };
+        ensures { EncodesFields fields (view self.now) result out.old out.new };
 }
 
 /// Writes an element with this tag round it.
 fn write_wrapped<T: Encode>(value: &T, tag: u8, out: &mut Writer) -> Result<(), EncodeFault>
-    ensures { Encodes (Spells (wrapped tag T.kind) (T.view value.now)) result out.old out.new }
+    ensures { EncodesValue (wrapped tag T.kind) (T.view value.now) result out.old out.new }
 {
     let start = out.len();
     value.write(out)?;
@@ -32,7 +30,7 @@ fn write_wrapped<T: Encode>(value: &T, tag: u8, out: &mut Writer) -> Result<(), 
 
 /// Writes a SEQUENCE of these fields. Errors as of [`Encode::write`].
 pub fn write_sequence<R: EncodeRow>(row: &R, out: &mut Writer) -> Result<(), EncodeFault>
-    ensures { Encodes (Spells (sequence R.fields) (R.view row.now)) result out.old out.new }
+    ensures { EncodesValue (sequence R.fields) (R.view row.now) result out.old out.new }
 {
     let start = out.len();
     row.write_row(out)?;
@@ -46,7 +44,7 @@ pub fn write_application<R: EncodeRow>(
     tag: u8,
     out: &mut Writer,
 ) -> Result<(), EncodeFault>
-    ensures { Encodes (Spells (wrapped tag (sequence R.fields)) (R.view row.now)) result out.old out.new }
+    ensures { EncodesValue (wrapped tag (sequence R.fields)) (R.view row.now) result out.old out.new }
 {
     let start = out.len();
     write_sequence(row, out)?;
@@ -95,7 +93,7 @@ fn write_maybe<T: Encode, R: EncodeRow>(
     rest: &R,
     out: &mut Writer,
 ) -> Result<(), EncodeFault>
-    ensures { Encodes (SpellsFields Elementary (may (wrapped tag T.kind) R.fields) (option_map T.view maybe.now, R.view rest.now)) result out.old out.new }
+    ensures { EncodesFields (may (wrapped tag T.kind) R.fields) (option_map T.view maybe.now, R.view rest.now) result out.old out.new }
 {
     match maybe {
         Some(value) => {

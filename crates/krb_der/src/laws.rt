@@ -5,8 +5,11 @@ ghost use Rattle.krb_der.specs.declared.fault.Fault.{Fault};
 ghost use Rattle.krb_der.specs.Kind.{Kind, Fields, each, ValueOf, FieldsOf};
 ghost use Rattle.krb_der.specs.Content.{Elementary};
 ghost use Rattle.krb_der.specs.Place.{Place, end_of};
-ghost use Rattle.krb_der.specs.Spells.{Spells, SpellsFields, StandsAt, IsMessage};
+ghost use Rattle.krb_der.specs.Spells.{Spells, SpellsFields, StandsAt, IsMessage, limit};
+ghost use Rattle.krb_der.specs.Size.{size_of, NumbersFit};
+ghost use Rattle.krb_der.specs.Writing.{Writes};
 ghost use Rattle.krb_der.specs.Fault.{IsFault, IsFaulty, IsElementFault, IsHeadFault};
+ghost use Rattle.krb_der.specs.Flags.{HasBit};
 ghost use Rattle.krb_der.specs.Clear.{is_clear, are_clear};
 ghost use Rattle.krb_der.specs.Computed.Read.{element_at, fields_at, message_of};
 
@@ -19,6 +22,21 @@ pub fn one_value()
 /// A value has at most one spelling.
 pub fn one_spelling()
     ensures { (k : Kind) (v : ValueOf k) (a b : List ℕ) → Spells k v a → Spells k v b → a ≡ b }
+{}
+
+/// What is written for a value is one of its spellings, and has the value's size. There is one for each value whose numbers are in
+/// their ranges and whose size is within the limit of a message.
+pub fn written()
+    ensures exists { (k : Kind) (v : ValueOf k) → NumbersFit k v → size_of k v ≤ limit
+        → (bytes : List ℕ) × Writes k v bytes }
+    ensures one { (k : Kind) (v : ValueOf k) (a b : List ℕ) → Writes k v a → Writes k v b → a ≡ b }
+    ensures spells { (k : Kind) (v : ValueOf k) (bytes : List ℕ) → Writes k v bytes → Spells k v bytes }
+    ensures size { (k : Kind) (v : ValueOf k) (bytes : List ℕ) → Writes k v bytes → length bytes ≡ size_of k v }
+{}
+
+/// The numbers of what is spelled are in their ranges.
+pub fn in_range()
+    ensures { (k : Kind) (v : ValueOf k) (bytes : List ℕ) → Spells k v bytes → NumbersFit k v }
 {}
 
 /// No spelling begins another.
@@ -37,6 +55,11 @@ pub fn decided()
 pub fn faulty()
     ensures { (k : Kind) → is_clear k ≡ true → (bytes : List ℕ)
         → ((v : ValueOf k) → IsMessage k v bytes → ⊥) → (fault : Fault) × IsFault k bytes fault }
+{}
+
+/// A bit of flags is set or it isn't.
+pub fn bit_decided()
+    ensures { (flags n : ℕ) → HasBit flags n ⊎ (HasBit flags n → ⊥) }
 {}
 
 /// A fault lies within the message: at one of its bytes, or at its end.

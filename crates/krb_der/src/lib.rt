@@ -18,6 +18,9 @@
 //! What `Element::read` and `Row::read_row` answer is `specs::Computed`'s reading from left to right, of which [`laws`] says that
 //! it gives exactly what `specs::Spells` and `specs::Fault` say.
 //!
+//! `specs::Size` says how many bytes the spelling of a value has, and so which values are too long for a message; `specs::Flags`
+//! which bit of flags is which.
+//!
 //! Slices that reading answers are of the input; only writing takes memory. No call runs longer than linear in its bytes, times the depth of its elements where it writes.
 #![tactic(auto)]
 

@@ -4,9 +4,9 @@ ghost use Rattle.std.specs.Prelude.{◌≡◌, [], ◌∷◌, map, IfOk, IfSome,
 ghost use Rattle.krb_der.specs.Kind.{Kind, ValueOf, sequence, each, leaf, string};
 ghost use Rattle.krb_der.specs.Content.{Elementary};
 ghost use Rattle.krb_der.specs.Fault.{HasHead};
-ghost use Rattle.krb_der.specs.Spells.{Spells, SpellsFields, StandsAt};
+ghost use Rattle.krb_der.specs.Spells.{StandsAt};
 ghost use Rattle.krb_der.specs.Reading.{Reads, ReadsList};
-ghost use Rattle.krb_der.specs.Writing.{Encodes};
+ghost use Rattle.krb_der.specs.Writing.{EncodesFields, EncodesValue};
 ghost use Rattle.krb_der.specs.Computed.Gives.{Gives, checked};
 ghost use Rattle.krb_der.specs.Computed.Listed.{AreListed, listed};
 ghost use Rattle.krb_der.specs.Computed.Read.{element_at, fields_at};
@@ -19,7 +19,7 @@ impl<'a> Cursor<'a> {
     /// Checks that all that is left are elements of the type's kind, one after another, as in a SEQUENCE OF. The cursor stays.
     ///
     /// # Errors
-    /// The first fault from left to right.
+    /// A fault of what is left, by the rules of `specs::Fault`.
     pub fn check_each<T: Element<'a> + Drop>(&self) -> Result<(), Fault>
         ensures checks { ReadsList T.kind result self.now }
         ensures computed { result ≡ checked (fields_at (each T.kind) self.now) }
@@ -44,7 +44,7 @@ impl<'a> Cursor<'a> {
     /// Reads a SEQUENCE OF elements of the type's kind: answers a cursor over its content, for [`next`](Self::next).
     ///
     /// # Errors
-    /// As of [`read`](Self::read): the first fault, also of an element. The cursor then stays.
+    /// As of [`read`](Self::read): also the fault of one of the elements. The cursor then stays.
     pub fn list<T: Element<'a> + Drop>(&mut self) -> Result<Cursor<'a>, Fault>
         ensures reads { Reads (sequence (each T.kind)) (listed T.kind) result self.old self.new }
         ensures inside { IfOk result (λ content. HasHead 0x30 self.old content self.new) }
@@ -92,7 +92,7 @@ trait Item<T> {
     ghost view: { T → ValueOf kind };
 
     fn write_item(item: &T, out: &mut Writer) -> Result<(), EncodeFault>
-        ensures { Encodes (Spells kind (view item.now)) result out.old out.new };
+        ensures { EncodesValue kind (view item.now) result out.old out.new };
 }
 
 /// As the elements that they are.
@@ -157,7 +157,7 @@ impl<T: AsSlice<u8>> Encode for TextList<'_, T> {
 
 /// Writes a SEQUENCE OF the items.
 fn write_list<T, As: Item<T>>(items: &[T], out: &mut Writer) -> Result<(), EncodeFault>
-    ensures { Encodes (Spells (sequence (each As.kind)) (map As.view items.now)) result out.old out.new }
+    ensures { EncodesValue (sequence (each As.kind)) (map As.view items.now) result out.old out.new }
 {
     let start = out.len();
     write_each::<T, As>(items, out)?;
@@ -167,7 +167,7 @@ fn write_list<T, As: Item<T>>(items: &[T], out: &mut Writer) -> Result<(), Encod
 
 /// Writes the items one after another.
 fn write_each<T, As: Item<T>>(items: &[T], out: &mut Writer) -> Result<(), EncodeFault>
-    ensures { Encodes (SpellsFields Elementary (each As.kind) (map As.view items.now)) result out.old out.new }
+    ensures { EncodesFields (each As.kind) (map As.view items.now) result out.old out.new }
 {
     let start = out.len();
     for item in items {

@@ -1,9 +1,6 @@
 //! Whole messages.
 
-ghost use Rattle.std.specs.Prelude.{◌≡◌, ◌≤◌, length, IfOk, IfErr, IsOkAnd};
-ghost use Rattle.krb_der.specs.Kind.{ValueOf};
-ghost use Rattle.krb_der.specs.Spells.{IsMessage};
-ghost use Rattle.krb_der.specs.Fault.{IsFault};
+ghost use Rattle.krb_der.specs.Reading.{Parses};
 ghost use Rattle.krb_der.specs.Computed.Gives.{Fills};
 ghost use Rattle.krb_der.specs.Computed.Read.{message_of};
 
@@ -16,15 +13,9 @@ pub trait Message<'a>: Element<'a> {}
 /// Reads a message, which is all of the bytes.
 ///
 /// # Errors
-/// `TooLong` at 0 above 1,048,576 bytes. Else the first fault from left to right, contents before what follows.
+/// `TooLong` at 0 above 1,048,576 bytes. Else a fault by the rules of `specs::Fault`, at its offset.
 pub fn parse<'a, T: Message<'a> + Drop>(bytes: &'a [u8]) -> Result<T, Fault>
-    // What is read is spelled so.
-    ensures found { IfOk result (λ x. IsMessage T.kind (T.view x) bytes.entry.now) }
-    // What is spelled so is read.
-    ensures only { (v : ValueOf T.kind) → IsMessage T.kind v bytes.entry.now → IsOkAnd result (λ x. T.view x ≡ v) }
-    // Else the answer is a fault by the rules.
-    ensures faulty { IfErr result (IsFault T.kind bytes.entry.now) }
-    ensures offset { IfErr result (λ fault. fault.at ≤ length bytes.entry.now) }
+    ensures { Parses T.kind T.view result bytes.entry.now }
 {
     is_clear::<T>();
     all(bytes)

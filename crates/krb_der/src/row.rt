@@ -7,18 +7,38 @@ ghost use Rattle.krb_der.specs.Computed.Gives.{Gives, Fills};
 ghost use Rattle.krb_der.specs.Computed.Read.{element_at, fields_at};
 
 use crate::{Cursor, Element, Fault};
+use std::fmt;
 
 /// An element with the tag `TAG` round it.
-#[derive(Clone, Copy, Debug, PartialEq, Eq)]
+#[derive(Clone, Copy, PartialEq, Eq)]
 pub struct Field<const TAG: u8, T>(pub T);
 
+// What is in a field may be a key, so it isn't shown, here and below.
+impl<const TAG: u8, T> fmt::Debug for Field<TAG, T> {
+    fn fmt<W: fmt::Write>(&self, f: &mut fmt::Formatter<W>) -> fmt::Result {
+        f.write_str("Field(..)")
+    }
+}
+
 /// The same, where it may be left out.
-#[derive(Clone, Copy, Debug, PartialEq, Eq)]
+#[derive(Clone, Copy, PartialEq, Eq)]
 pub struct Maybe<const TAG: u8, T>(pub Option<T>);
 
+impl<const TAG: u8, T> fmt::Debug for Maybe<TAG, T> {
+    fn fmt<W: fmt::Write>(&self, f: &mut fmt::Formatter<W>) -> fmt::Result {
+        f.write_str("Maybe(..)")
+    }
+}
+
 /// The same, for writing it where it stands.
-#[derive(Clone, Copy, Debug, PartialEq, Eq)]
+#[derive(Clone, Copy, PartialEq, Eq)]
 pub struct MaybeRef<'a, const TAG: u8, T>(pub &'a Option<T>);
+
+impl<const TAG: u8, T> fmt::Debug for MaybeRef<'_, TAG, T> {
+    fn fmt<W: fmt::Write>(&self, f: &mut fmt::Formatter<W>) -> fmt::Result {
+        f.write_str("MaybeRef(..)")
+    }
+}
 
 /// A type whose values are those of a row of fields.
 pub trait Row<'a>: Sized {

@@ -2,6 +2,7 @@
 
 mod cases;
 mod names;
+mod sizes;
 mod table;
 
 ghost use Rattle.std.specs.Prelude.{◌≡◌, refl};
@@ -298,14 +299,51 @@ fn a_list_is_written(rt: HostRuntime) -> Result<(), Fail> {
 }
 
 #[test]
-fn a_fault_is_shown(rt: HostRuntime) -> Result<(), Fail> {
-    let fault = Fault {
-        kind: FaultKind::Truncated,
-        at: 12,
-    };
+fn faults_are_shown(rt: HostRuntime) -> Result<(), Fail> {
+    for (kind, text) in [
+        (FaultKind::Truncated, "Truncated at 12"),
+        (FaultKind::Tag, "Tag at 12"),
+        (FaultKind::Length, "Length at 12"),
+        (FaultKind::Integer, "Integer at 12"),
+        (FaultKind::Time, "Time at 12"),
+        (FaultKind::Flags, "Flags at 12"),
+        (FaultKind::Trailing, "Trailing at 12"),
+        (FaultKind::TooLong, "TooLong at 12"),
+    ] {
+        let fault = Fault { kind, at: 12 };
+        assert_eq!(rt; format!(in rt.alloc(); "{fault}")?.as_str(), text);
+    }
+    for (fault, text) in [
+        (
+            EncodeFault::TooLong,
+            "the message would be longer than 1048576 bytes",
+        ),
+        (EncodeFault::OutOfMemory, "out of memory"),
+    ] {
+        assert_eq!(rt; format!(in rt.alloc(); "{fault}")?.as_str(), text);
+    }
+    Ok(())
+}
+
+#[test]
+fn no_byte_of_a_key_is_shown(rt: HostRuntime) -> Result<(), Fail> {
+    let alloc = rt.alloc();
+    let key = Octets(&[0x5a; 3]);
+    let field: Field<0xa1, Octets> = Field(key);
+    let maybe: Maybe<0xa1, Octets> = Maybe(Some(key));
+    let same = Some(key);
+    let lent: MaybeRef<0xa1, Octets> = MaybeRef(&same);
+    let mut out = Writer::new(alloc);
+    out.octets(key.0)?;
+    let cursor = Cursor::new(key.0)?;
+    assert_eq!(rt; format!(in alloc; "{key:?}")?.as_str(), "Octets(3 bytes)");
+    assert_eq!(rt; format!(in alloc; "{field:?}")?.as_str(), "Field(..)");
+    assert_eq!(rt; format!(in alloc; "{maybe:?}")?.as_str(), "Maybe(..)");
+    assert_eq!(rt; format!(in alloc; "{lent:?}")?.as_str(), "MaybeRef(..)");
+    assert_eq!(rt; format!(in alloc; "{out:?}")?.as_str(), "Writer(5 bytes)");
     assert_eq!(rt;
-        format!(in rt.alloc(); "{fault}")?.as_str(),
-        "Truncated at 12"
+        format!(in alloc; "{cursor:?}")?.as_str(),
+        "Cursor(3 bytes at 0)"
     );
     Ok(())
 }

@@ -1,12 +1,21 @@
 //! Values that share a Rust type with others.
 
-ghost use Rattle.std.specs.Prelude.{◌≡◌, ◌<◌, SomeIff};
+ghost use Rattle.std.specs.Prelude.{◌≡◌, ◌<◌, ◌↔◌, ℕ, IsTrue, SomeIff};
+ghost use Rattle.krb_der.specs.Flags.{HasBit, weight};
 
+use std::fmt;
 use std::marker::Model;
 
 /// The bytes of an OCTET STRING.
-#[derive(Clone, Copy, Debug, PartialEq, Eq)]
+#[derive(Clone, Copy, PartialEq, Eq)]
 pub struct Octets<'a>(pub &'a [u8]);
+
+// They may be those of a key, so none is shown.
+impl fmt::Debug for Octets<'_> {
+    fn fmt<W: fmt::Write>(&self, f: &mut fmt::Formatter<W>) -> fmt::Result {
+        write!(f, "Octets({} bytes)", self.0.len())
+    }
+}
 
 /// The bytes of a GeneralString, any bytes.
 #[derive(Clone, Copy, Debug, PartialEq, Eq)]
@@ -17,6 +26,32 @@ pub struct Text<'a>(pub &'a [u8]);
 pub struct Flags(pub u32);
 
 impl Flags {
+    /// No bit is set.
+    pub fn none() -> Self
+        ensures value { result.0 ≡ 0 }
+        ensures clear { (n : ℕ) → HasBit result.0 n → ⊥ }
+    {
+        Flags(0)
+    }
+
+    /// The bit of this number alone is set, of 0 to 31; from 32 on none.
+    pub fn only(bit: u32) -> Self
+        ensures value { bit < 32 → result.0 ≡ weight bit }
+        ensures set { (n : ℕ) → HasBit result.0 n ↔ ((n ≡ bit) × (n < 32)) }
+    {
+        if bit >= 32 {
+            return Flags(0);
+        }
+        Flags(1 << (31 - bit))
+    }
+
+    /// Whether the bit of this number is set; from 32 on none is.
+    pub fn has(self, bit: u32) -> bool
+        ensures { IsTrue result ↔ HasBit self.0 bit }
+    {
+        bit < 32 && (self.0 >> (31 - bit)) % 2 == 1
+    }
+
     /// The flags as a number.
     pub fn bits(self) -> u32
         ensures { result ≡ self.0 }

@@ -6,7 +6,7 @@ ghost use Rattle.krb_der.specs.Content.{IsInteger};
 ghost use Rattle.krb_der.specs.Spells.{IsElement};
 ghost use Rattle.krb_der.specs.Inner.Limited.{limited_of, settled};
 ghost use Rattle.krb_der.specs.Inner.HeadView.{turned_at};
-ghost use Rattle.krb_der.specs.Writing.{Appends, Wraps, Writes};
+ghost use Rattle.krb_der.specs.Writing.{Appends, AppendsElement, Wraps};
 
 use crate::cursor::LIMIT;
 use crate::head::head_of;
@@ -14,12 +14,20 @@ use crate::time::text_of;
 use crate::whole::shortest;
 use crate::{EncodeFault, Flags, Microseconds, Seconds, tag};
 use std::alloc::{AllocError, Global};
+use std::fmt;
 use std::marker::Model;
 
 /// The bytes that were written so far.
-#[derive(Debug, Drop)]
+#[derive(Drop)]
 pub struct Writer {
     bytes: Vec<u8>,
+}
+
+// Keys are written by a writer, so no byte is shown.
+impl fmt::Debug for Writer {
+    fn fmt<W: fmt::Write>(&self, f: &mut fmt::Formatter<W>) -> fmt::Result {
+        write!(f, "Writer({} bytes)", self.bytes.len())
+    }
 }
 
 impl Model for Writer {
@@ -129,28 +137,28 @@ impl Writer {
     /// # Errors
     /// There was no room, as of every call here. The writer then stays.
     pub fn int32(&mut self, value: i32) -> Result<(), AllocError>
-        ensures { Writes (leaf int32) value result self.old self.new }
+        ensures { AppendsElement (leaf int32) value result self.old self.new }
     {
         self.whole(i64::from(value))
     }
 
     /// Writes a whole number from 0 to 4,294,967,295.
     pub fn uint32(&mut self, number: u32) -> Result<(), AllocError>
-        ensures { Writes (leaf uint32) number result self.old self.new }
+        ensures { AppendsElement (leaf uint32) number result self.old self.new }
     {
         self.whole(i64::from(number))
     }
 
     /// Writes a whole number from 0 to 999,999.
     pub fn microseconds(&mut self, value: Microseconds) -> Result<(), AllocError>
-        ensures { Writes (leaf microseconds) value result self.old self.new }
+        ensures { AppendsElement (leaf microseconds) value result self.old self.new }
     {
         self.whole(i64::from(value.get()))
     }
 
     /// Writes the whole number `N`.
     pub fn constant<const N: u32>(&mut self) -> Result<(), AllocError>
-        ensures { Writes (leaf (constant N)) tt result self.old self.new }
+        ensures { AppendsElement (leaf (constant N)) tt result self.old self.new }
     {
         self.whole(i64::from(N))
     }
@@ -166,7 +174,7 @@ impl Writer {
     /// Writes an OCTET STRING of `bytes`, which are at most 4,294,967,295.
     pub fn octets(&mut self, bytes: &[u8]) -> Result<(), AllocError>
         requires { length bytes.now < 2 ^ 32 }
-        ensures { Writes (leaf octets) bytes.now result self.old self.new }
+        ensures { AppendsElement (leaf octets) bytes.now result self.old self.new }
     {
         self.element(tag::OCTET_STRING, bytes)
     }
@@ -174,14 +182,14 @@ impl Writer {
     /// Writes a GeneralString of `bytes`, which are any bytes, at most 4,294,967,295.
     pub fn string(&mut self, bytes: &[u8]) -> Result<(), AllocError>
         requires { length bytes.now < 2 ^ 32 }
-        ensures { Writes (leaf string) bytes.now result self.old self.new }
+        ensures { AppendsElement (leaf string) bytes.now result self.old self.new }
     {
         self.element(tag::GENERAL_STRING, bytes)
     }
 
     /// Writes a BIT STRING of 32 bits.
     pub fn flags(&mut self, value: Flags) -> Result<(), AllocError>
-        ensures { Writes (leaf flags) value.0 result self.old self.new }
+        ensures { AppendsElement (leaf flags) value.0 result self.old self.new }
     {
         let [a, b, c, d] = value.bits().to_be_bytes();
         self.element(tag::BIT_STRING, &[0, a, b, c, d])
@@ -189,7 +197,7 @@ impl Writer {
 
     /// Writes a GeneralizedTime.
     pub fn time(&mut self, value: Seconds) -> Result<(), AllocError>
-        ensures { Writes (leaf time) value result self.old self.new }
+        ensures { AppendsElement (leaf time) value result self.old self.new }
     {
         self.element(tag::GENERALIZED_TIME, &text_of(value))
     }

@@ -3,3 +3,5 @@ pub mod DerivedKeys
 pub mod Relation
 pub mod OnePlain
 pub mod Opening
+pub mod KeyLaws
+pub mod Compared

@@ -9,8 +9,8 @@ use Rattle.std.proofs.lemmas.List.{drop_at}
 use Rattle.krb_cts.specs.Undo.{undo}
 use Rattle.krb_aes.specs.Cipher.{IsBlock}
 use Rattle.krb_enc.specs.Sealed.{Profile, IsProfile, encryption_key, tag_of, sealed}
-use Rattle.krb_enc.specs.Opens.{OpensTo, OpensToNothing, OpensOnlyTo, body_of, end_of}
-use Rattle.krb_enc.specs.Backwards.{OpensBack}
+use Rattle.krb_enc.specs.Opens.{Opens, OpensToNothing, OpensOnlyTo, body_of, end_of}
+use Rattle.krb_enc.specs.Backwards.{OpensBack, OpensBackOnlyTo}
 use Rattle.krb_enc.proofs.DerivedKeys.{AreBytes}
 use Rattle.krb_enc.proofs.Relation.{tagged_back, backwards, forwards, bytes_of_opens}
 
@@ -19,7 +19,7 @@ one_plain_back p key usage text one other a b =
     let same : a.confounder ++ one ≡ b.confounder ++ other = sym a.undone ∙ b.undone in
     sym (drop_at a.confounder one 16 a.size) ∙ ap (λ (t : List ℕ). drop 16 t) same ∙ drop_at b.confounder other 16 b.size
 
-pub one_plain : (p : Profile) (key : List ℕ) (usage : ℕ) (text one other : List ℕ) → IsProfile p → OpensTo p key usage text one → OpensTo p key usage text other → one ≡ other
+pub one_plain : (p : Profile) (key : List ℕ) (usage : ℕ) (text one other : List ℕ) → IsProfile p → Opens p key usage text one → Opens p key usage text other → one ≡ other
 one_plain p key usage text one other known a b =
     one_plain_back p key usage text one other (backwards p key usage text one known a) (backwards p key usage text other known b)
 
@@ -27,8 +27,16 @@ one_plain p key usage text one other known a b =
 pub sealed_opens : (p : Profile) (key : List ℕ) (usage : ℕ) (confounder plain : List ℕ) → IsProfile p → IsBlock confounder → AreBytes plain
     → OpensOnlyTo p key usage (sealed p key usage confounder plain) plain
 sealed_opens p key usage confounder plain known block bytes =
-    let opens : OpensTo p key usage (sealed p key usage confounder plain) plain = record { confounder = confounder; is_block = block; plain_bytes = bytes; sealed_is = refl } in
+    let opens : Opens p key usage (sealed p key usage confounder plain) plain = record { confounder = confounder; is_block = block; plain_bytes = bytes; sealed_is = refl } in
     record { opens = opens; only = λ other o. one_plain p key usage (sealed p key usage confounder plain) other plain known o opens }
+
+-- and by decryption as well
+pub sealed_undone : (p : Profile) (key : List ℕ) (usage : ℕ) (confounder plain : List ℕ) → IsProfile p → IsBlock confounder → AreBytes plain
+    → OpensBackOnlyTo p key usage (sealed p key usage confounder plain) plain
+sealed_undone p key usage confounder plain known block bytes =
+    let text = sealed p key usage confounder plain in
+    let back : OpensBack p key usage text plain = backwards p key usage text plain known (sealed_opens p key usage confounder plain known block bytes).opens in
+    record { opens = back; only = λ other o. one_plain_back p key usage text other plain o back }
 
 -- whether two texts are equal is decided
 same_by : (one other : List ℕ) (same : Bool) → Decides same (one ≡ other) → (one ≡ other) ⊎ (one ≡ other → ⊥)
@@ -64,7 +72,7 @@ are_bytes (x ∷ xs) =
     ]
 
 pub decided : (p : Profile) (key : List ℕ) (usage : ℕ) (text : List ℕ) → IsProfile p
-    → ((plain : List ℕ) × OpensTo p key usage text plain) ⊎ OpensToNothing p key usage text
+    → ((plain : List ℕ) × Opens p key usage text plain) ⊎ OpensToNothing p key usage text
 decided p key usage text known =
     elim (are_bytes text) [
       | inl bytes ↦

@@ -2,7 +2,7 @@
 use Rattle.std.proofs.Common.{◌≡◌, ℕ, ◌+◌, ◌-◌, ◌≤◌, List, length, take, drop, sym, subst, ap, ap₂, ◌∙◌}
 use Rattle.krb_cts.specs.Undo.{undo}
 use Rattle.krb_enc.specs.Sealed.{Profile, IsProfile, encryption_key, tag_of}
-use Rattle.krb_enc.specs.Opens.{OpensTo, OpensToNothing, body_of, end_of, HasTag}
+use Rattle.krb_enc.specs.Opens.{Opens, OpensToNothing, body_of, end_of, HasTag}
 use Rattle.krb_enc.proofs.DerivedKeys.{AreBytes}
 use Rattle.krb_enc.proofs.Relation.{tagged_back, backwards, forwards}
 
@@ -31,12 +31,12 @@ no_tag p key usage text body end tag known parts differs plain o =
 
 -- a text of bytes that has its tag opens to something
 pub tagged_opens : (p : Profile) (key : List ℕ) (usage : ℕ) (text : List ℕ) → IsProfile p → AreBytes text → 16 + p.tag_len ≤ length text → HasTag p key usage text
-    → OpensTo p key usage text (drop 16 (undo (encryption_key p key usage) (body_of p text)))
+    → Opens p key usage text (drop 16 (undo (encryption_key p key usage) (body_of p text)))
 tagged_opens p key usage text known bytes long tagged = forwards p key usage text _ known bytes (tagged_back p key usage text long tagged)
 
 pub opened : (p : Profile) (key : List ℕ) (usage : ℕ) (text body end tag ke plain : List ℕ) → IsProfile p → AreBytes text → 16 + p.tag_len ≤ length text
-    → HasParts p key usage text body end tag → tag ≡ end → ke ≡ encryption_key p key usage → plain ≡ drop 16 (undo ke body) → OpensTo p key usage text plain
+    → HasParts p key usage text body end tag → tag ≡ end → ke ≡ encryption_key p key usage → plain ≡ drop 16 (undo ke body) → Opens p key usage text plain
 opened p key usage text body end tag ke plain known bytes long parts same ke_is plain_is =
     let is : plain ≡ drop 16 (undo (encryption_key p key usage) (body_of p text)) = plain_is ∙ ap (λ (t : List ℕ). drop 16 t) (ap₂ undo ke_is parts.body_is) in
-    subst (λ (t : List ℕ). OpensTo p key usage text t) (sym is)
+    subst (λ (t : List ℕ). Opens p key usage text t) (sym is)
     (tagged_opens p key usage text known bytes long (has_tag p key usage text body end tag parts same))

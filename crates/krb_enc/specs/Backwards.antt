@@ -11,3 +11,8 @@ pub record OpensBack (p : Profile) (key : List ℕ) (usage : ℕ) (text plain : 
   pub confounder : List ℕ
   pub size : length confounder ≡ 16
   pub undone : undo (encryption_key p key usage) (body_of p text) ≡ confounder ++ plain
+
+-- by decryption it opens to this plain text and to no other
+pub record OpensBackOnlyTo (p : Profile) (key : List ℕ) (usage : ℕ) (text plain : List ℕ) : Type 0 where
+  pub opens : OpensBack p key usage text plain
+  pub only : (other : List ℕ) → OpensBack p key usage text other → other ≡ plain

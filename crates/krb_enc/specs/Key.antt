@@ -1,5 +1,6 @@
 -- Keys of the two encryption types.
-use Rattle.std.specs.Prelude.{◌≡◌, ◌⊎◌, ◌==◌, ℕ, ℤ, pos, negsuc, List, length, if◌then◌else◌}
+use Rattle.std.specs.Prelude.{◌≡◌, ◌⊎◌, ◌==◌, ℕ, ℤ, pos, negsuc, List, ◌++◌, length, codes, if◌then◌else◌}
+use Rattle.std.specs.Fmt.{signed_decimal}
 use Rattle.krb_enc.specs.Sealed.{Profile, aes128_sha256, aes256_sha384}
 
 -- a number of an encryption type, and bytes
@@ -11,9 +12,13 @@ pub record KeyValue : Type 0 where
 abbrev pub IsKnown : ℤ → Type 0
 IsKnown etype = (etype ≡ pos 19) ⊎ (etype ≡ pos 20)
 
--- the bytes are as many as the type asks for: such a key can seal and open
+-- so many bytes as the type asks for (RFC 8009, section 7)
+abbrev pub IsUsableKey : ℤ → List ℕ → Type 0
+IsUsableKey etype bytes = ((etype ≡ pos 19) × (length bytes ≡ 16)) ⊎ ((etype ≡ pos 20) × (length bytes ≡ 32))
+
+-- such a key can seal and open
 abbrev pub IsUsable : KeyValue → Type 0
-IsUsable key = ((key.etype ≡ pos 19) × (length key.bytes ≡ 16)) ⊎ ((key.etype ≡ pos 20) × (length key.bytes ≡ 32))
+IsUsable key = IsUsableKey key.etype key.bytes
 
 -- the profile of a number that is known
 abbrev pub numbered : ℤ → Profile
@@ -22,3 +27,7 @@ numbered (negsuc _) = aes128_sha256
 
 abbrev pub profile_of : KeyValue → Profile
 profile_of key = numbered key.etype
+
+-- what is shown of a key where it is printed: the number of its type alone
+abbrev pub shown : ℤ → List ℕ
+shown etype = codes "Key(" ++ (signed_decimal etype ++ codes ")")

@@ -10,18 +10,14 @@ pub record Opens (p : Profile) (key : List ℕ) (usage : ℕ) (text plain : List
   pub plain_bytes : All (λ byte. byte < 256) plain
   pub sealed_is : sealed p key usage confounder plain ≡ text
 
--- what opening means in the contracts
-abbrev pub OpensTo : Profile → List ℕ → ℕ → List ℕ → List ℕ → Type 0
-OpensTo = Opens
-
 -- no plain text was sealed to it
 abbrev pub OpensToNothing : Profile → List ℕ → ℕ → List ℕ → Type 0
-OpensToNothing p key usage text = (plain : List ℕ) → OpensTo p key usage text plain → ⊥
+OpensToNothing p key usage text = (plain : List ℕ) → Opens p key usage text plain → ⊥
 
 -- it opens to this plain text and to no other
 pub record OpensOnlyTo (p : Profile) (key : List ℕ) (usage : ℕ) (text plain : List ℕ) : Type 0 where
-  pub opens : OpensTo p key usage text plain
-  pub only : (other : List ℕ) → OpensTo p key usage text other → other ≡ plain
+  pub opens : Opens p key usage text plain
+  pub only : (other : List ℕ) → Opens p key usage text other → other ≡ plain
 
 -- what stands before the tag, and the tag
 abbrev pub body_of : Profile → List ℕ → List ℕ

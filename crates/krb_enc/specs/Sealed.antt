@@ -1,6 +1,6 @@
 -- Encryption and checksums with the two encryption types of RFC 8009 (sections 3, 5 and 6). Keys, texts and tags are
 -- lists of bytes, key usages are numbers.
-use Rattle.std.specs.Prelude.{◌≡◌, ◌⊎◌, ℕ, ◌*◌, ℤ, pos, List, ◌++◌, take, replicate}
+use Rattle.std.specs.Prelude.{◌≡◌, ◌⊎◌, ℕ, ◌*◌, ℤ, pos, List, ◌++◌, length, take, replicate}
 use Rattle.krb_kdf.specs.Hmac.{Hash, sha256_hash, sha384_hash, hmac}
 use Rattle.krb_kdf.specs.Kdf.{kdf, label}
 use Rattle.krb_kdf.specs.declared.purpose.Purpose.{Purpose}
@@ -38,6 +38,10 @@ mac_key p key usage purpose = kdf p.hash key (label usage purpose) (8 * p.tag_le
 -- the first bytes of an HMAC, as many as a tag has (section 5)
 abbrev pub short_mac : Profile → List ℕ → List ℕ → List ℕ
 short_mac p key text = take p.tag_len (hmac p.hash key text)
+
+-- so many bytes as a tag of one of the two types has (section 7)
+abbrev pub IsTag : List ℕ → Type 0
+IsTag tag = (length tag ≡ 16) ⊎ (length tag ≡ 24)
 
 -- H: the tag of a ciphertext C, over IV | C, where the IV is 16 zeros (section 5)
 unfoldable pub tag_of : Profile → List ℕ → ℕ → List ℕ → List ℕ

@@ -3,13 +3,18 @@
 ghost use Rattle.std.specs.Prelude.{◌≡◌, ◌≢◌, ◌↔◌, ◌⊎◌, ◌≤◌, ◌<◌, ◌+◌, ℕ, ℤ, List, length, All, IfOk, IsErrOf, MatchResult, vec_len};
 ghost use Rattle.krb_aes.specs.Cipher.{IsBlock};
 ghost use Rattle.krb_enc.specs.Sealed.{Profile, IsProfile, encryption_key, tag_of, checksum_of, sealed};
-ghost use Rattle.krb_enc.specs.Opens.{HasTag, OpensTo, OpensOnlyTo, OpensToNothing};
+ghost use Rattle.krb_enc.specs.Opens.{HasTag, Opens, OpensOnlyTo, OpensToNothing};
+ghost use Rattle.krb_enc.specs.Backwards.{OpensBackOnlyTo};
 
 use crate::fault::OpenFault;
 use crate::tag::Tag;
 use crate::texts::{CONFOUNDER_LEN, decrypted, encrypted};
 use krb_aes::KeySchedule;
 use std::alloc::{AllocError, Global};
+
+/// Shows that a call comes from this crate: its name can't be written in another.
+#[derive(Clone, Copy)]
+pub struct Inside;
 
 /// An encryption type of RFC 8009. Its calls take the bytes of a base key, of which there have to be
 /// `KEY_LEN`.
@@ -32,10 +37,11 @@ pub trait Enctype {
 
     ghost TAG_LEN: { ℕ };
 
-    /// Gives Ke, of 16 or 32 bytes, ready for use.
+    /// Gives Ke, of 16 or 32 bytes, ready for use: for this crate alone, so that no caller is handed a
+    /// derived key.
     ///
     /// Source: RFC 8009, section 5.
-    fn encryption_key(key: &[u8], usage: u32) -> KeySchedule
+    fn encryption_key(inside: Inside, key: &[u8], usage: u32) -> KeySchedule
         requires { length key.now ≡ KEY_LEN }
         ensures { result ≡ encryption_key profile key.now usage };
 
@@ -73,7 +79,7 @@ pub trait Enctype {
         ensures opens { IfOk result (λ text.
             OpensOnlyTo profile key.now usage text.items plain.now) }
     {
-        let schedule = Self::encryption_key(key, usage);
+        let schedule = Self::encryption_key(Inside, key, usage);
         let mut text = encrypted(alloc, &schedule, confounder, plain, Self::TAG_LEN)?;
         let tag = Self::tag(key, usage, &text);
         text.extend_from_slice(tag.as_slice())?;
@@ -92,9 +98,9 @@ pub trait Enctype {
     /// Source: RFC 8009, section 5.
     final fn open(alloc: Global, key: &[u8], usage: u32, text: &[u8]) -> Result<Vec<u8>, OpenFault>
         requires { length key.now ≡ KEY_LEN }
-        ensures opened { IfOk result (λ plain. OpensTo profile key.now usage text.now plain.items) }
+        ensures opened { IfOk result (λ plain. Opens profile key.now usage text.now plain.items) }
         // A text that opens is answered by its plain text, memory aside.
-        ensures found { (plain : List ℕ) → OpensTo profile key.now usage text.now plain
+        ensures found { (plain : List ℕ) → Opens profile key.now usage text.now plain
             → MatchResult result
             (λ answer. answer.items ≡ plain) (λ fault. fault ≡ OpenFault.OutOfMemory) }
         // Short or Integrity is answered exactly where nothing opens.
@@ -110,11 +116,22 @@ pub trait Enctype {
             return Err(OpenFault::Short);
         }
         let (body, end) = text.split_at(text.len() - Self::TAG_LEN);
-        if Self::tag(key, usage, body).as_slice() != end {
+        if !Self::tag(key, usage, body).is(end) {
             return Err(OpenFault::Integrity);
         }
-        Ok(decrypted(alloc, &Self::encryption_key(key, usage), body)?)
+        Ok(decrypted(alloc, &Self::encryption_key(Inside, key, usage), body)?)
     }
+
+    /// Says that what was sealed opens to its plain text and to no other, by sealing and by decryption. It
+    /// does nothing: its contract is the law.
+    final fn sealed_opens()
+        ensures sealed { (key : List ℕ) (usage : ℕ) (confounder plain : List ℕ)
+            → IsBlock confounder → All (λ byte. byte < 256) plain
+            → OpensOnlyTo profile key usage (sealed profile key usage confounder plain) plain }
+        ensures undone { (key : List ℕ) (usage : ℕ) (confounder plain : List ℕ)
+            → IsBlock confounder → All (λ byte. byte < 256) plain
+            → OpensBackOnlyTo profile key usage (sealed profile key usage confounder plain) plain }
+    {}
 
     /// The type is one of the two, with these numbers.
     ghost is_profile: { IsProfile profile };
@@ -124,9 +141,4 @@ pub trait Enctype {
     ghost key_len_is: { profile.key_len ≡ KEY_LEN };
 
     ghost tag_len_is: { profile.tag_len ≡ TAG_LEN };
-
-    /// What was sealed opens to its plain text.
-    ghost sealed_opens: { (key : List ℕ) (usage : ℕ) (confounder plain : List ℕ)
-        → IsBlock confounder → All (λ byte. byte < 256) plain
-        → OpensTo profile key usage (sealed profile key usage confounder plain) plain };
 }

@@ -1,12 +1,13 @@
 //! Keys.
 
-ghost use Rattle.std.specs.Prelude.{◌≡◌, ◌↔◌, ◌⊎◌, ◌≤◌, ◌<◌, ◌+◌, ℕ, List, length, vec_len, IsTrue, IfOk, IsOk, IsErrOf, MatchResult};
+ghost use Rattle.std.specs.Prelude.{◌≡◌, ◌↔◌, ◌⊎◌, ◌≤◌, ◌<◌, ◌+◌, ℕ, List, length, vec_len, Some, IsTrue, IfOk, IsOk, IsErrOf, MatchResult};
 
 use crate::enctype::Enctype;
 use crate::fault::{KeyFault, OpenFault};
 use crate::profiles::{Sha256Aes128, Sha384Aes256};
 use crate::tag::Tag;
 use std::alloc::{AllocError, Global};
+use std::fmt;
 use std::marker::Model;
 
 #[derive(Drop)]
@@ -18,7 +19,7 @@ enum KeyBytes {
 /// A base key of one of the two encryption types, held in place: 16 bytes of type 19
 /// (aes128-cts-hmac-sha256-128) or 32 bytes of type 20 (aes256-cts-hmac-sha384-192).
 ///
-/// It has no `Debug`, so that no log shows it.
+/// Its `Debug` shows the type's number and no byte, so that no log shows a key.
 #[derive(Drop)]
 pub struct Key {
     bytes: KeyBytes,
@@ -39,7 +40,7 @@ impl Model for Key {
 impl Key {
     ghost use Rattle.krb_enc.specs.Key.{KeyValue, IsKnown, IsUsable, profile_of};
     ghost use Rattle.krb_enc.specs.Sealed.{sealed, checksum_of};
-    ghost use Rattle.krb_enc.specs.Opens.{IsShort, HasTag, OpensTo, OpensOnlyTo, OpensToNothing};
+    ghost use Rattle.krb_enc.specs.Opens.{IsShort, HasTag, Opens, OpensOnlyTo, OpensToNothing};
 
     /// Makes a key of `bytes`, for the encryption type `etype`.
     ///
@@ -128,10 +129,10 @@ impl Key {
     /// Source: RFC 8009, section 5.
     pub fn open(&self, alloc: Global, usage: u32, text: &[u8]) -> Result<Vec<u8>, OpenFault>
         ensures opened { IfOk result (λ plain.
-            OpensTo (profile_of self.now) self.now.bytes usage text.now plain.items) }
+            Opens (profile_of self.now) self.now.bytes usage text.now plain.items) }
         // A text that opens is answered by its plain text, memory aside.
         ensures found { (plain : List ℕ)
-            → OpensTo (profile_of self.now) self.now.bytes usage text.now plain
+            → Opens (profile_of self.now) self.now.bytes usage text.now plain
             → MatchResult result
             (λ answer. answer.items ≡ plain) (λ fault. fault ≡ OpenFault.OutOfMemory) }
         // Short or Integrity is answered exactly where nothing opens.
@@ -170,6 +171,17 @@ impl Key {
         ensures { IsTrue result
             ↔ (tag.now ≡ checksum_of (profile_of self.now) self.now.bytes usage text.now) }
     {
-        self.checksum(usage, text).as_slice() == tag
+        self.checksum(usage, text).is(tag)
+    }
+}
+
+impl fmt::Debug for Key {
+    ghost use Rattle.krb_enc.specs.Key.{shown};
+
+    ghost debug_output = { λ key. Some (shown key.etype) };
+
+    fn fmt<W: fmt::Write>(&self, f: &mut fmt::Formatter<W>) -> fmt::Result {
+        let etype = self.etype();
+        write!(f, "Key({etype})")
     }
 }

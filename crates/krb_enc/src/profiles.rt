@@ -4,7 +4,7 @@ ghost use Rattle.std.specs.Prelude.{◌≡◌, ◌⊎◌, pos, refl, length};
 ghost use Rattle.std.proofs.Common.{inl, inr};
 ghost use Rattle.krb_enc.specs.Sealed.{aes128_sha256, aes256_sha384};
 
-use crate::enctype::Enctype;
+use crate::enctype::{Enctype, Inside};
 use crate::tag::Tag;
 use krb_aes::KeySchedule;
 use krb_kdf::{MacPurpose, Purpose, derive_19, derive_20, derive_20_ke, hmac_sha256, hmac_sha384};
@@ -31,7 +31,7 @@ impl Enctype for Sha256Aes128 {
 
     ghost TAG_LEN = { 16 };
 
-    fn encryption_key(key: &[u8], usage: u32) -> KeySchedule {
+    fn encryption_key(_: Inside, key: &[u8], usage: u32) -> KeySchedule {
         KeySchedule::new_128(&derive_19(&array_of(key), usage, Purpose::Ke))
     }
 
@@ -54,13 +54,6 @@ impl Enctype for Sha256Aes128 {
     ghost key_len_is = { refl };
 
     ghost tag_len_is = { refl };
-
-    ghost sealed_opens = { λ key usage confounder plain block bytes. record {
-      confounder = confounder;
-      is_block = block;
-      plain_bytes = bytes;
-      sealed_is = refl;
-    } };
 }
 
 /// aes256-cts-hmac-sha384-192: AES with keys of 256 bits, and tags of 192 bits by HMAC with SHA-384.
@@ -82,7 +75,7 @@ impl Enctype for Sha384Aes256 {
 
     ghost TAG_LEN = { 24 };
 
-    fn encryption_key(key: &[u8], usage: u32) -> KeySchedule {
+    fn encryption_key(_: Inside, key: &[u8], usage: u32) -> KeySchedule {
         KeySchedule::new_256(&derive_20_ke(&array_of(key), usage))
     }
 
@@ -105,13 +98,6 @@ impl Enctype for Sha384Aes256 {
     ghost key_len_is = { refl };
 
     ghost tag_len_is = { refl };
-
-    ghost sealed_opens = { λ key usage confounder plain block bytes. record {
-      confounder = confounder;
-      is_block = block;
-      plain_bytes = bytes;
-      sealed_is = refl;
-    } };
 }
 
 fn array_of<const N: usize>(bytes: &[u8]) -> [u8; N]

@@ -1,6 +1,7 @@
 //! Tags.
 
-ghost use Rattle.std.specs.Prelude.{◌≡◌, ◌≤◌, List, ℕ, length, take};
+ghost use Rattle.std.specs.Prelude.{◌≡◌, ◌⊎◌, ◌↔◌, List, ℕ, IsTrue, length, take};
+ghost use Rattle.krb_enc.specs.Sealed.{IsTag};
 
 use std::marker::Model;
 
@@ -18,12 +19,12 @@ impl Model for Tag {
 
     ghost view = { λ t. take t.len t.bytes };
 
-    ghost invariant = { λ t. t.len ≤ 24 };
+    ghost invariant = { λ t. (t.len ≡ 16) ⊎ (t.len ≡ 24) };
 }
 
 impl Tag {
     pub(crate) fn new(bytes: &[u8]) -> Tag
-        requires { length bytes.now ≤ 24 }
+        requires { IsTag bytes.now }
         ensures { result ≡ bytes.now }
     {
         let mut all = [0; LONGEST];
@@ -36,8 +37,32 @@ impl Tag {
 
     /// Lends the bytes: 16 or 24.
     pub fn as_slice(&self) -> &[u8]
-        ensures { result.now ≡ self.now }
+        ensures value { result.now ≡ self.now }
+        ensures length { IsTag self.now }
     {
         &self.bytes[..self.len]
     }
+
+    /// Answers whether these are the bytes of the tag. All of them are compared, also behind the
+    /// first difference.
+    pub(crate) fn is(&self, bytes: &[u8]) -> bool
+        ensures { IsTrue result ↔ (bytes.now ≡ self.now) }
+    {
+        are_same(self.as_slice(), bytes)
+    }
+}
+
+// Whether two texts are the same: the bits in which bytes differ are gathered, and looked at in the end.
+fn are_same(one: &[u8], other: &[u8]) -> bool
+    ensures { IsTrue result ↔ (other.now ≡ one.now) }
+{
+    if one.len() != other.len() {
+        return false;
+    }
+    let mut differing = 0u8;
+    for i in 0..one.len() {
+        let bits = one[i] ^ other[i];
+        differing |= bits;
+    }
+    differing == 0
 }

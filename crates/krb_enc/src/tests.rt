@@ -4,6 +4,7 @@ use crate::{Enctype, Key, KeyFault, OpenFault, Sha256Aes128, Sha384Aes256};
 use rfc_8009::SEALED;
 use sha2::{Digest, Sha256};
 use std::alloc::Global;
+use std::fmt::Debug;
 use std::process::Abort;
 use std::test::Fail;
 
@@ -11,6 +12,17 @@ use std::test::Fail;
 const BASE_19: &str = "3705d96080c17728a0e800eab6e0d23c";
 
 const BASE_20: &str = "6d404d37faf79f9df0d33568d320669800eb4836472ea8a026d16b7182460c52";
+
+// What was found is what was wanted. The row tells the encryption type, and the size or place. (An assertion
+// costs the proof of its test more than a call of this does.)
+fn is<R: Alloc + Abort, W: Debug + Drop, T: PartialEq + Debug + Drop>(
+    rt: &R,
+    row: W,
+    found: T,
+    wanted: T,
+) {
+    assert_eq!(rt; found, wanted, "row {row:?}");
+}
 
 fn base_of(etype: i32) -> &'static str {
     if etype == 19 { BASE_19 } else { BASE_20 }
@@ -43,13 +55,9 @@ fn sealed_texts_of_rfc_8009(rt: HostRuntime) -> Result<(), Fail> {
         let plain = text_of(rt.alloc(), 1, size)?;
         let sealed = key.seal(rt.alloc(), 2, &confounder_of(&rt, confounder)?, &plain)?;
         let found = hex::encode(rt.alloc(), sealed.as_slice())?;
-        assert_eq!(rt; found.as_str(), wanted, "type {etype}, {size} bytes");
+        is(&rt, (etype, size), found.as_str(), wanted);
         let opened = key.open(rt.alloc(), 2, &sealed)?;
-        assert_eq!(rt;
-            opened.as_slice(),
-            plain.as_slice(),
-            "type {etype}, {size} bytes"
-        );
+        is(&rt, (etype, size), opened.as_slice(), plain.as_slice());
     }
     Ok(())
 }
@@ -69,14 +77,16 @@ fn checksums_of_rfc_8009(rt: HostRuntime) -> Result<(), Fail> {
         let text = text_of(rt.alloc(), 1, 21)?;
         let tag = key.checksum(2, &text);
         let found = hex::encode(rt.alloc(), tag.as_slice())?;
-        assert_eq!(rt; found.as_str(), wanted, "type {etype}");
-        assert!(rt; key.verify_checksum(2, &text, tag.as_slice()));
-        assert!(rt; !key.verify_checksum(3, &text, tag.as_slice()));
+        is(&rt, (etype, 2), found.as_str(), wanted);
+        for (usage, verified) in [(2, true), (3, false)] {
+            let found = key.verify_checksum(usage, &text, tag.as_slice());
+            is(&rt, (etype, usage), found, verified);
+        }
         let part = tag
             .as_slice()
             .get(..8)
             .ok_or("a tag has more than 8 bytes")?;
-        assert!(rt; !key.verify_checksum(2, &text, part));
+        is(&rt, (etype, 2), key.verify_checksum(2, &text, part), false);
     }
     Ok(())
 }
@@ -105,7 +115,7 @@ fn each_length_to_64(rt: HostRuntime) -> Result<(), Fail> {
             hasher.update(sealed.as_slice());
         }
         let found = hex::encode(rt.alloc(), hasher.finalize())?;
-        assert_eq!(rt; found.as_str(), wanted, "type {etype}");
+        is(&rt, etype, found.as_str(), wanted);
     }
     Ok(())
 }
@@ -120,11 +130,7 @@ fn each_length_to_64_opens_again(rt: HostRuntime) -> Result<(), Fail> {
             let plain = text_of(rt.alloc(), 5, size)?;
             let sealed = key.seal(rt.alloc(), 2, &confounder, &plain)?;
             let opened = key.open(rt.alloc(), 2, &sealed)?;
-            assert_eq!(rt;
-                opened.as_slice(),
-                plain.as_slice(),
-                "type {etype}, {size} bytes"
-            );
+            is(&rt, (etype, size), opened.as_slice(), plain.as_slice());
         }
     }
     Ok(())
@@ -138,11 +144,10 @@ fn long_texts(rt: HostRuntime) -> Result<(), Fail> {
             let plain = text_of(rt.alloc(), 7, size)?;
             let sealed = key.seal(rt.alloc(), 2, &[9; 16], &plain)?;
             let opened = key.open(rt.alloc(), 2, &sealed)?;
-            assert!(rt;
-                opened.as_slice() == plain.as_slice(),
-                "type {etype}, {size} bytes"
-            );
-            assert_eq!(rt; key.open(rt.alloc(), 3, &sealed), Err(OpenFault::Integrity));
+            let same = opened.as_slice() == plain.as_slice();
+            is(&rt, (etype, size), same, true);
+            let fault = Err(OpenFault::Integrity);
+            is(&rt, (etype, size), key.open(rt.alloc(), 3, &sealed), fault);
         }
     }
     Ok(())
@@ -166,25 +171,21 @@ fn each_byte_changed(rt: HostRuntime) -> Result<(), Fail> {
             if let Some(byte) = changed.get_mut(at) {
                 *byte ^= 1;
             }
-            assert_eq!(rt;
-                key.open(rt.alloc(), 2, &changed),
-                Err(OpenFault::Integrity),
-                "type {etype}, byte {at}"
-            );
+            let fault = Err(OpenFault::Integrity);
+            is(&rt, (etype, at), key.open(rt.alloc(), 2, &changed), fault);
         }
         let short = sealed
             .get(..sealed.len().saturating_sub(1))
             .ok_or("a beginning")?;
-        assert_eq!(rt;
-            key.open(rt.alloc(), 2, short),
-            Err(OpenFault::Short),
-            "type {etype}"
-        );
-        assert_eq!(rt;
-            key.open(rt.alloc(), 2, b""),
-            Err(OpenFault::Short),
-            "type {etype}"
-        );
+        for text in [short, b""] {
+            let fault = Err(OpenFault::Short);
+            is(
+                &rt,
+                (etype, text.len()),
+                key.open(rt.alloc(), 2, text),
+                fault,
+            );
+        }
     }
     Ok(())
 }
@@ -198,10 +199,8 @@ fn sealed_empty_text_of_type_20(rt: HostRuntime) -> Result<(), Fail> {
     )?;
     let sealed = key.seal(rt.alloc(), 2, &[0; 16], b"")?;
     let found = hex::encode(rt.alloc(), sealed.as_slice())?;
-    assert_eq!(rt;
-        found.as_str(),
-        "594ee6636a56bb61bfe22fe7834b5faa3110fe154ccf05bf1a5796c5c29eaa635dafd2af904126b4"
-    );
+    let wanted = "594ee6636a56bb61bfe22fe7834b5faa3110fe154ccf05bf1a5796c5c29eaa635dafd2af904126b4";
+    is(&rt, 20, found.as_str(), wanted);
     Ok(())
 }
 
@@ -217,10 +216,11 @@ fn keys_that_are_refused(rt: HostRuntime) -> Result<(), Fail> {
         (19, 0, KeyFault::WrongLength),
     ] {
         let part = bytes.get(..size).ok_or("at most 32 bytes")?;
-        assert_eq!(rt;
+        is(
+            &rt,
+            (etype, size),
             Key::new(etype, part).err(),
             Some(wanted),
-            "type {etype}, {size} bytes"
         );
     }
     Ok(())
@@ -230,23 +230,52 @@ fn keys_that_are_refused(rt: HostRuntime) -> Result<(), Fail> {
 fn keys_of_both_types(rt: HostRuntime) -> Result<(), Fail> {
     let bytes = text_of(rt.alloc(), 1, 32)?;
     let key = Key::new(20, &bytes)?;
-    assert_eq!(rt; key.etype(), 20);
-    assert_eq!(rt; key.bytes(), bytes.as_slice());
-    assert_eq!(rt;
-        (
-            Sha256Aes128::ETYPE,
-            Sha256Aes128::KEY_LEN,
-            Sha256Aes128::TAG_LEN
-        ),
-        (19, 16, 16)
+    is(&rt, 20, key.etype(), 20);
+    is(&rt, 20, key.bytes(), bytes.as_slice());
+    is(&rt, 19, Sha256Aes128::ETYPE, 19);
+    is(
+        &rt,
+        19,
+        (Sha256Aes128::KEY_LEN, Sha256Aes128::TAG_LEN),
+        (16, 16),
     );
-    assert_eq!(rt;
-        (
-            Sha384Aes256::ETYPE,
-            Sha384Aes256::KEY_LEN,
-            Sha384Aes256::TAG_LEN
-        ),
-        (20, 32, 24)
+    is(&rt, 20, Sha384Aes256::ETYPE, 20);
+    is(
+        &rt,
+        20,
+        (Sha384Aes256::KEY_LEN, Sha384Aes256::TAG_LEN),
+        (32, 24),
     );
+    Ok(())
+}
+
+#[test]
+fn texts_of_faults(rt: HostRuntime) -> Result<(), Fail> {
+    for (fault, wanted) in [
+        (KeyFault::UnknownEtype, "the encryption type is not known"),
+        (KeyFault::WrongLength, "the key has the wrong length"),
+    ] {
+        let text = format!(in rt.alloc(); "{fault}")?;
+        assert_eq!(rt; text.as_str(), wanted);
+    }
+    for (fault, wanted) in [
+        (OpenFault::Short, "the sealed text is too short"),
+        (OpenFault::Integrity, "the tag is wrong"),
+        (OpenFault::OutOfMemory, "out of memory"),
+    ] {
+        let text = format!(in rt.alloc(); "{fault}")?;
+        assert_eq!(rt; text.as_str(), wanted);
+    }
+    Ok(())
+}
+
+// Looks for a key that is shown.
+#[test]
+fn no_key_is_shown(rt: HostRuntime) -> Result<(), Fail> {
+    for (etype, base, wanted) in [(19, BASE_19, "Key(19)"), (20, BASE_20, "Key(20)")] {
+        let key = key_of(&rt, etype, base)?;
+        let text = format!(in rt.alloc(); "{key:?}")?;
+        assert_eq!(rt; text.as_str(), wanted);
+    }
     Ok(())
 }

@@ -8,7 +8,7 @@ use Rattle.krb_name.specs.Field.{IsBytes}
 use Rattle.krb_keytab.specs.Entry.{KeytabEntry, FitsEntry}
 use Rattle.krb_keytab.specs.Format.{version, file_limit, KeytabRecord, hole, record_bytes, FitsRecord, entries_of, IsKeytab, IsFaultOf}
 use Rattle.krb_keytab.specs.Written.{padded_record, written_record, record_length}
-use Rattle.krb_keytab.specs.Edit.{LacksRoom, FillsHole, Appends, GainsEntry, WouldPass}
+use Rattle.krb_keytab.specs.Edit.{LacksRoom, FillsHole, Appends, GainsEntry, WouldGrow, WouldPass}
 use Rattle.krb_keytab.specs.Inner.Finding.{HasRoom, HasNone}
 use Rattle.krb_keytab.specs.Inner.Putting.{Puts}
 use Rattle.krb_keytab.specs.declared.fault.KeytabFault.{KeytabFault}
@@ -79,6 +79,16 @@ append_gains {old} {new} {e} h = record {
 }
 
 -- ---- why an entry isn't added
+
+-- no hole has room: the file would be so long
+pub growing : {old : List ℕ} (e : KeytabEntry) (size at : ℕ) (Bound : ℕ → Type 0) → size ≡ record_length e → HasNone old size at → Bound (at + size) → WouldGrow old e Bound
+growing {old} e size at Bound is h bound =
+    let count : at + size ≡ length version + (length (flat_map record_bytes h.records) + record_length e) = omega (arith, h.at_is, is) in
+    record {
+      records = h.records;
+      old_is = record { end = h.end; is = h.is; no_room = subst (λ (n : ℕ). All (LacksRoom n) h.records) is h.no_room };
+      bound = subst Bound count bound;
+    }
 
 -- the file would pass the limit: so it is a keytab
 pub passing_no_fault : {old : List ℕ} {e : KeytabEntry} (fault : KeytabFault) → IsBytes old → WouldPass old e → IsFaultOf old fault → ⊥

@@ -1,14 +1,12 @@
 -- One choice is right for a list of entries.
-use Rattle.std.proofs.Common.{◌≡◌, ℕ, ◌<◌, ◌≤◌, ℤ, List, [], ◌∷◌, ◌++◌, Option, sym, subst, ◌∙◌, arith}
+use Rattle.std.proofs.Common.{◌≡◌, ℕ, ◌<◌, ◌≤◌, ℤ, List, [], ◌∷◌, ◌++◌, Option, refl, sym, ap, subst, ◌∙◌, arith}
 use Rattle.std.specs.Prelude.{All}
 use Rattle.std.specs.List.{AllByRecursion}
 use Rattle.std.proofs.lemmas.List.Elements.{recursion_from_All, All-same}
 use Rattle.krb_name.specs.declared.principal.Principal.{Principal}
 use Rattle.krb_name.specs.Name.{SameName}
 use Rattle.krb_keytab.specs.Entry.{KeytabEntry}
-use Rattle.krb_keytab.specs.Pick.{IsKeyOf, IsCandidate, HasEntry, IsChosen, IsPicked, IsSamePick}
-use Rattle.krb_keytab.specs.declared.pick.Picked.{Picked}
-use Rattle.krb_keytab.specs.declared.pick.Picked.TheVariants.{Entry, NoName, NoKey, NoVersion}
+use Rattle.krb_keytab.specs.Pick.{IsKeyOf, IsCandidate, HasEntry, IsChosen, IsChoice, Choice, chosen, no_name, no_key, no_version}
 
 at_middle : (P : KeytabEntry → Type 0) (before : List KeytabEntry) (e : KeytabEntry) (after : List KeytabEntry) → AllByRecursion P (before ++ e ∷ after) → P e
 at_middle P [] e after h = h.0
@@ -66,20 +64,20 @@ key_there entries name etype kvno h = record { before = h.before; entry = h.entr
 name_there : (entries : List KeytabEntry) (name : Principal) (etype : ℤ) → HasEntry (IsKeyOf name etype) entries → HasEntry (λ e. SameName e.principal name) entries
 name_there entries name etype h = record { before = h.before; entry = h.entry; after = h.after; entries_are = h.entries_are; holds = h.holds.same_name }
 
-pub one_choice : (entries : List KeytabEntry) (name : Principal) (etype : ℤ) (kvno : Option ℕ) (one other : Picked) → IsPicked entries name etype kvno one → IsPicked entries name etype kvno other → IsSamePick one other
-one_choice entries name etype kvno (Entry e) (Entry f) p q = same_chosen entries name etype kvno e.now f.now p q
-one_choice entries name etype kvno (Entry e) NoName p q = has_none (λ x. SameName x.principal name) entries (name_there entries name etype (key_there entries name etype kvno (chosen_there entries name etype kvno e.now p))) q
-one_choice entries name etype kvno (Entry e) NoKey p q = has_none (IsKeyOf name etype) entries (key_there entries name etype kvno (chosen_there entries name etype kvno e.now p)) q.1
-one_choice entries name etype kvno (Entry e) NoVersion p q = has_none (IsCandidate name etype kvno) entries (chosen_there entries name etype kvno e.now p) q.1
-one_choice entries name etype kvno NoName (Entry f) p q = has_none (λ x. SameName x.principal name) entries (name_there entries name etype (key_there entries name etype kvno (chosen_there entries name etype kvno f.now q))) p
-one_choice entries name etype kvno NoName NoName p q = tt
-one_choice entries name etype kvno NoName NoKey p q = has_none (λ x. SameName x.principal name) entries q.0 p
-one_choice entries name etype kvno NoName NoVersion p q = has_none (λ x. SameName x.principal name) entries (name_there entries name etype q.0) p
-one_choice entries name etype kvno NoKey (Entry f) p q = has_none (IsKeyOf name etype) entries (key_there entries name etype kvno (chosen_there entries name etype kvno f.now q)) p.1
-one_choice entries name etype kvno NoKey NoName p q = has_none (λ x. SameName x.principal name) entries p.0 q
-one_choice entries name etype kvno NoKey NoKey p q = tt
-one_choice entries name etype kvno NoKey NoVersion p q = has_none (IsKeyOf name etype) entries q.0 p.1
-one_choice entries name etype kvno NoVersion (Entry f) p q = has_none (IsCandidate name etype kvno) entries (chosen_there entries name etype kvno f.now q) p.1
-one_choice entries name etype kvno NoVersion NoName p q = has_none (λ x. SameName x.principal name) entries (name_there entries name etype p.0) q
-one_choice entries name etype kvno NoVersion NoKey p q = has_none (IsKeyOf name etype) entries p.0 q.1
-one_choice entries name etype kvno NoVersion NoVersion p q = tt
+pub one_choice : (entries : List KeytabEntry) (name : Principal) (etype : ℤ) (kvno : Option ℕ) (one other : Choice) → IsChoice entries name etype kvno one → IsChoice entries name etype kvno other → one ≡ other
+one_choice entries name etype kvno (chosen e) (chosen f) p q = ap chosen (same_chosen entries name etype kvno e f p q)
+one_choice entries name etype kvno (chosen e) no_name p q = absurd (has_none (λ x. SameName x.principal name) entries (name_there entries name etype (key_there entries name etype kvno (chosen_there entries name etype kvno e p))) q)
+one_choice entries name etype kvno (chosen e) no_key p q = absurd (has_none (IsKeyOf name etype) entries (key_there entries name etype kvno (chosen_there entries name etype kvno e p)) q.1)
+one_choice entries name etype kvno (chosen e) no_version p q = absurd (has_none (IsCandidate name etype kvno) entries (chosen_there entries name etype kvno e p) q.1)
+one_choice entries name etype kvno no_name (chosen f) p q = absurd (has_none (λ x. SameName x.principal name) entries (name_there entries name etype (key_there entries name etype kvno (chosen_there entries name etype kvno f q))) p)
+one_choice entries name etype kvno no_name no_name p q = refl
+one_choice entries name etype kvno no_name no_key p q = absurd (has_none (λ x. SameName x.principal name) entries q.0 p)
+one_choice entries name etype kvno no_name no_version p q = absurd (has_none (λ x. SameName x.principal name) entries (name_there entries name etype q.0) p)
+one_choice entries name etype kvno no_key (chosen f) p q = absurd (has_none (IsKeyOf name etype) entries (key_there entries name etype kvno (chosen_there entries name etype kvno f q)) p.1)
+one_choice entries name etype kvno no_key no_name p q = absurd (has_none (λ x. SameName x.principal name) entries p.0 q)
+one_choice entries name etype kvno no_key no_key p q = refl
+one_choice entries name etype kvno no_key no_version p q = absurd (has_none (IsKeyOf name etype) entries q.0 p.1)
+one_choice entries name etype kvno no_version (chosen f) p q = absurd (has_none (IsCandidate name etype kvno) entries (chosen_there entries name etype kvno f q) p.1)
+one_choice entries name etype kvno no_version no_name p q = absurd (has_none (λ x. SameName x.principal name) entries (name_there entries name etype p.0) q)
+one_choice entries name etype kvno no_version no_key p q = absurd (has_none (IsKeyOf name etype) entries p.0 q.1)
+one_choice entries name etype kvno no_version no_version p q = refl

@@ -7,6 +7,7 @@ pub mod SourceLaws
 pub mod PickLaws
 pub mod AnswerLaws
 pub mod ChoiceLaws
+pub mod SomeChoice
 pub mod PutLaws
 pub mod WrittenLaws
 pub mod MadeLaws

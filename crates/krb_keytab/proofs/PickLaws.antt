@@ -7,7 +7,7 @@ use Rattle.krb_name.specs.declared.principal.Principal.{Principal}
 use Rattle.krb_name.specs.Name.{SameName}
 use Rattle.krb_keytab.specs.Entry.{KeytabEntry}
 use Rattle.krb_keytab.specs.Usable.{IsUsable}
-use Rattle.krb_keytab.specs.Pick.{IsKeyOf, IsCandidate, HasEntry, IsChosen, IsPicked}
+use Rattle.krb_keytab.specs.Pick.{IsKeyOf, IsCandidate, HasEntry, IsChosen, IsChoice, Choice, chosen, no_name, no_key, no_version, choice_of, IsPicked}
 use Rattle.krb_keytab.specs.Inner.Pick.{or_no_key, or_no_version, IsBelow}
 use Rattle.krb_keytab.specs.declared.pick.Picked.{Picked}
 use Rattle.krb_keytab.specs.declared.pick.Picked.TheVariants.{Entry, NoName, NoKey, NoVersion}
@@ -77,34 +77,34 @@ keyed name etype kvno e h = h.key_of
 
 -- ---- the four steps
 
-pub other_name : (entries : List KeytabEntry) (name : Principal) (etype : ℤ) (kvno : Option ℕ) (e : KeytabEntry) (picked : Picked) → ¬ SameName e.principal name → IsPicked entries name etype kvno picked → IsPicked (entries ++ e ∷ []) name etype kvno picked
-other_name entries name etype kvno e (Entry best) never h = chosen_more entries name etype kvno best.now e h (λ candidate. absurd (never candidate.key_of.same_name))
-other_name entries name etype kvno e NoName never h = All-push (λ other. ¬ SameName other.principal name) entries e h never
-other_name entries name etype kvno e NoKey never h = (has_more (λ other. SameName other.principal name) entries e h.0, All-push (λ other. ¬ IsKeyOf name etype other) entries e h.1 (λ key. never key.same_name))
-other_name entries name etype kvno e NoVersion never h = (has_more (IsKeyOf name etype) entries e h.0, All-push (λ other. ¬ IsCandidate name etype kvno other) entries e h.1 (λ candidate. never candidate.key_of.same_name))
+pub other_name : (entries : List KeytabEntry) (name : Principal) (etype : ℤ) (kvno : Option ℕ) (e : KeytabEntry) (choice : Choice) → ¬ SameName e.principal name → IsChoice entries name etype kvno choice → IsChoice (entries ++ e ∷ []) name etype kvno choice
+other_name entries name etype kvno e (chosen best) never h = chosen_more entries name etype kvno best e h (λ candidate. absurd (never candidate.key_of.same_name))
+other_name entries name etype kvno e no_name never h = All-push (λ other. ¬ SameName other.principal name) entries e h never
+other_name entries name etype kvno e no_key never h = (has_more (λ other. SameName other.principal name) entries e h.0, All-push (λ other. ¬ IsKeyOf name etype other) entries e h.1 (λ key. never key.same_name))
+other_name entries name etype kvno e no_version never h = (has_more (IsKeyOf name etype) entries e h.0, All-push (λ other. ¬ IsCandidate name etype kvno other) entries e h.1 (λ candidate. never candidate.key_of.same_name))
 
-pub no_key : (entries : List KeytabEntry) (name : Principal) (etype : ℤ) (kvno : Option ℕ) (e : KeytabEntry) (picked : Picked) → SameName e.principal name → ¬ IsKeyOf name etype e → IsPicked entries name etype kvno picked
-    → IsPicked (entries ++ e ∷ []) name etype kvno (or_no_key picked)
-no_key entries name etype kvno e (Entry best) same never h = chosen_more entries name etype kvno best.now e h (λ candidate. absurd (never candidate.key_of))
-no_key entries name etype kvno e NoName same never h = (has_last (λ other. SameName other.principal name) entries e same, no_more (λ other. SameName other.principal name) (IsKeyOf name etype) entries e (named name etype) h never)
-no_key entries name etype kvno e NoKey same never h = (has_more (λ other. SameName other.principal name) entries e h.0, All-push (λ other. ¬ IsKeyOf name etype other) entries e h.1 never)
-no_key entries name etype kvno e NoVersion same never h = (has_more (IsKeyOf name etype) entries e h.0, All-push (λ other. ¬ IsCandidate name etype kvno other) entries e h.1 (λ candidate. never candidate.key_of))
+pub name_without_key : (entries : List KeytabEntry) (name : Principal) (etype : ℤ) (kvno : Option ℕ) (e : KeytabEntry) (choice : Choice) → SameName e.principal name → ¬ IsKeyOf name etype e → IsChoice entries name etype kvno choice
+    → IsChoice (entries ++ e ∷ []) name etype kvno (or_no_key choice)
+name_without_key entries name etype kvno e (chosen best) same never h = chosen_more entries name etype kvno best e h (λ candidate. absurd (never candidate.key_of))
+name_without_key entries name etype kvno e no_name same never h = (has_last (λ other. SameName other.principal name) entries e same, no_more (λ other. SameName other.principal name) (IsKeyOf name etype) entries e (named name etype) h never)
+name_without_key entries name etype kvno e no_key same never h = (has_more (λ other. SameName other.principal name) entries e h.0, All-push (λ other. ¬ IsKeyOf name etype other) entries e h.1 never)
+name_without_key entries name etype kvno e no_version same never h = (has_more (IsKeyOf name etype) entries e h.0, All-push (λ other. ¬ IsCandidate name etype kvno other) entries e h.1 (λ candidate. never candidate.key_of))
 
-pub no_version : (entries : List KeytabEntry) (name : Principal) (etype : ℤ) (kvno : Option ℕ) (e : KeytabEntry) (picked : Picked) → IsKeyOf name etype e → ¬ IsCandidate name etype kvno e → IsPicked entries name etype kvno picked
-    → IsPicked (entries ++ e ∷ []) name etype kvno (or_no_version picked)
-no_version entries name etype kvno e (Entry best) key never h = chosen_more entries name etype kvno best.now e h (λ candidate. absurd (never candidate))
-no_version entries name etype kvno e NoName key never h = (has_last (IsKeyOf name etype) entries e key, no_more (λ other. SameName other.principal name) (IsCandidate name etype kvno) entries e (λ other candidate. candidate.key_of.same_name) h never)
-no_version entries name etype kvno e NoKey key never h = (has_last (IsKeyOf name etype) entries e key, no_more (IsKeyOf name etype) (IsCandidate name etype kvno) entries e (keyed name etype kvno) h.1 never)
-no_version entries name etype kvno e NoVersion key never h = (has_more (IsKeyOf name etype) entries e h.0, All-push (λ other. ¬ IsCandidate name etype kvno other) entries e h.1 never)
+pub key_without_version : (entries : List KeytabEntry) (name : Principal) (etype : ℤ) (kvno : Option ℕ) (e : KeytabEntry) (choice : Choice) → IsKeyOf name etype e → ¬ IsCandidate name etype kvno e → IsChoice entries name etype kvno choice
+    → IsChoice (entries ++ e ∷ []) name etype kvno (or_no_version choice)
+key_without_version entries name etype kvno e (chosen best) key never h = chosen_more entries name etype kvno best e h (λ candidate. absurd (never candidate))
+key_without_version entries name etype kvno e no_name key never h = (has_last (IsKeyOf name etype) entries e key, no_more (λ other. SameName other.principal name) (IsCandidate name etype kvno) entries e (λ other candidate. candidate.key_of.same_name) h never)
+key_without_version entries name etype kvno e no_key key never h = (has_last (IsKeyOf name etype) entries e key, no_more (IsKeyOf name etype) (IsCandidate name etype kvno) entries e (keyed name etype kvno) h.1 never)
+key_without_version entries name etype kvno e no_version key never h = (has_more (IsKeyOf name etype) entries e h.0, All-push (λ other. ¬ IsCandidate name etype kvno other) entries e h.1 never)
 
 pub kept : (entries : List KeytabEntry) (name : Principal) (etype : ℤ) (kvno : Option ℕ) (e best : KeytabEntry) → e.kvno ≤ best.kvno → IsChosen entries name etype kvno best → IsChosen (entries ++ e ∷ []) name etype kvno best
 kept entries name etype kvno e best le h = chosen_more entries name etype kvno best e h (λ candidate. le)
 
-pub replaced : (entries : List KeytabEntry) (name : Principal) (etype : ℤ) (kvno : Option ℕ) (e : KeytabEntry) (picked : Picked) → IsCandidate name etype kvno e → IsBelow picked e → IsPicked entries name etype kvno picked → IsChosen (entries ++ e ∷ []) name etype kvno e
-replaced entries name etype kvno e (Entry best) candidate lt h = chosen_last entries name etype kvno e candidate (below_best entries name etype kvno best.now e h lt)
-replaced entries name etype kvno e NoName candidate lt h = chosen_last entries name etype kvno e candidate (no_candidate (λ other. SameName other.principal name) entries name etype kvno e (λ other c. c.key_of.same_name) h)
-replaced entries name etype kvno e NoKey candidate lt h = chosen_last entries name etype kvno e candidate (no_candidate (IsKeyOf name etype) entries name etype kvno e (keyed name etype kvno) h.1)
-replaced entries name etype kvno e NoVersion candidate lt h = chosen_last entries name etype kvno e candidate (no_candidate (IsCandidate name etype kvno) entries name etype kvno e (λ other c. c) h.1)
+pub replaced : (entries : List KeytabEntry) (name : Principal) (etype : ℤ) (kvno : Option ℕ) (e : KeytabEntry) (choice : Choice) → IsCandidate name etype kvno e → IsBelow choice e → IsChoice entries name etype kvno choice → IsChosen (entries ++ e ∷ []) name etype kvno e
+replaced entries name etype kvno e (chosen best) candidate lt h = chosen_last entries name etype kvno e candidate (below_best entries name etype kvno best e h lt)
+replaced entries name etype kvno e no_name candidate lt h = chosen_last entries name etype kvno e candidate (no_candidate (λ other. SameName other.principal name) entries name etype kvno e (λ other c. c.key_of.same_name) h)
+replaced entries name etype kvno e no_key candidate lt h = chosen_last entries name etype kvno e candidate (no_candidate (IsKeyOf name etype) entries name etype kvno e (keyed name etype kvno) h.1)
+replaced entries name etype kvno e no_version candidate lt h = chosen_last entries name etype kvno e candidate (no_candidate (IsCandidate name etype kvno) entries name etype kvno e (λ other c. c) h.1)
 
 -- ---- what a test says
 
@@ -123,14 +123,18 @@ key_of name etype e same h = record { same_name = same; same_etype = h.0; usable
 pub not_key_of : (name : Principal) (etype : ℤ) (e : KeytabEntry) → ¬ ((e.etype ≡ etype) × IsUsable e) → ¬ IsKeyOf name etype e
 not_key_of name etype e never key = never (key.same_etype, key.usable)
 
-pub below_at : (picked p : Picked) (e : KeytabEntry) → picked ≡ p → IsBelow p e → IsBelow picked e
-below_at picked p e same h = subst (λ (t : Picked). IsBelow t e) (sym same) h
+pub below_at : (picked p : Picked) (e : KeytabEntry) → picked ≡ p → IsBelow (choice_of p) e → IsBelow (choice_of picked) e
+below_at picked p e same h = subst (λ (t : Picked). IsBelow (choice_of t) e) (sym same) h
 
-pub not_entry : (picked : Picked) (e : KeytabEntry) → ((best : Bor KeytabEntry) → picked ≡ Entry best → ⊥) → IsBelow picked e
+pub not_entry : (picked : Picked) (e : KeytabEntry) → ((best : Bor KeytabEntry) → picked ≡ Entry best → ⊥) → IsBelow (choice_of picked) e
 not_entry (Entry best) e never = absurd (never best refl)
 not_entry NoName e never = tt
 not_entry NoKey e never = tt
 not_entry NoVersion e never = tt
+
+-- the same choice is one of the same entries
+pub same_choice : (entries : List KeytabEntry) (name : Principal) (etype : ℤ) (kvno : Option ℕ) (choice other : Choice) → other ≡ choice → IsChoice entries name etype kvno choice → IsChoice entries name etype kvno other
+same_choice entries name etype kvno choice other same h = subst (λ (t : Choice). IsChoice entries name etype kvno t) (sym same) h
 
 -- ---- as a loop over the entries does it
 

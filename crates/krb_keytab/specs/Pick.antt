@@ -1,5 +1,5 @@
 -- Which entry of a keytab is taken for a principal, an encryption type and a version number.
-use Rattle.std.specs.Prelude.{◌≡◌, ℕ, ◌<◌, ◌≤◌, ℤ, List, ◌∷◌, ◌++◌, Option, IfSome, All, ⊤}
+use Rattle.std.specs.Prelude.{◌≡◌, ℕ, ◌<◌, ◌≤◌, ℤ, List, ◌∷◌, ◌++◌, Option, IfSome, All}
 use Rattle.krb_name.specs.declared.principal.Principal.{Principal}
 use Rattle.krb_name.specs.Name.{SameName}
 use Rattle.krb_keytab.specs.Entry.{KeytabEntry}
@@ -35,17 +35,26 @@ pub record IsChosen (entries : List KeytabEntry) (name : Principal) (etype : ℤ
   pub above : All (λ other. IsCandidate name etype kvno other → other.kvno < entry.kvno) before
   pub highest : All (λ other. IsCandidate name etype kvno other → other.kvno ≤ entry.kvno) after
 
--- no entry has the name; or one has, and none is a key of it; or one is, and none has the version number that is asked for
-abbrev pub IsPicked : List KeytabEntry → Principal → ℤ → Option ℕ → Picked → Type 0
-IsPicked entries name etype kvno (Entry entry) = IsChosen entries name etype kvno entry.now
-IsPicked entries name etype kvno NoName = All (λ entry. ¬ SameName entry.principal name) entries
-IsPicked entries name etype kvno NoKey = HasEntry (λ entry. SameName entry.principal name) entries × All (λ entry. ¬ IsKeyOf name etype entry) entries
-IsPicked entries name etype kvno NoVersion = HasEntry (IsKeyOf name etype) entries × All (λ entry. ¬ IsCandidate name etype kvno entry) entries
+-- what is taken: an entry, or one of the three wants
+pub data Choice : Type 0 where
+  chosen : KeytabEntry → Choice
+  no_name : Choice
+  no_key : Choice
+  no_version : Choice
 
--- the same entry, as a value, or the same want
-abbrev pub IsSamePick : Picked → Picked → Type 0
-IsSamePick (Entry one) (Entry other) = one.now ≡ other.now
-IsSamePick NoName NoName = ⊤
-IsSamePick NoKey NoKey = ⊤
-IsSamePick NoVersion NoVersion = ⊤
-IsSamePick _ _ = ⊥
+-- no entry has the name; or one has, and none is a key of it; or one is, and none has the version number that is asked for
+abbrev pub IsChoice : List KeytabEntry → Principal → ℤ → Option ℕ → Choice → Type 0
+IsChoice entries name etype kvno (chosen entry) = IsChosen entries name etype kvno entry
+IsChoice entries name etype kvno no_name = All (λ entry. ¬ SameName entry.principal name) entries
+IsChoice entries name etype kvno no_key = HasEntry (λ entry. SameName entry.principal name) entries × All (λ entry. ¬ IsKeyOf name etype entry) entries
+IsChoice entries name etype kvno no_version = HasEntry (IsKeyOf name etype) entries × All (λ entry. ¬ IsCandidate name etype kvno entry) entries
+
+-- an answer as a choice: the entry that is lent, as a value
+abbrev pub choice_of : Picked → Choice
+choice_of (Entry entry) = chosen entry.now
+choice_of NoName = no_name
+choice_of NoKey = no_key
+choice_of NoVersion = no_version
+
+abbrev pub IsPicked : List KeytabEntry → Principal → ℤ → Option ℕ → Picked → Type 0
+IsPicked entries name etype kvno picked = IsChoice entries name etype kvno (choice_of picked)

@@ -1,9 +1,9 @@
 //! Editing the bytes of a keytab in place.
 
-ghost use Rattle.std.specs.Prelude.{◌≡◌, ◌≢◌, ◌↔◌, ◌⊎◌, Ok, Err, IfErr, OnOk, OnErr, length};
+ghost use Rattle.std.specs.Prelude.{◌≡◌, ◌≢◌, ◌↔◌, ◌⊎◌, ◌<◌, vec_capacity, Ok, Err, IfErr, OnOk, OnErr, length};
 ghost use Rattle.std.specs.Vec.{VecUnchanged};
 ghost use Rattle.krb_keytab.specs.Format.{IsFaultOf};
-ghost use Rattle.krb_keytab.specs.Edit.{MakesHole, LosesEntry, LacksEntry, AddsEntry, GainsEntry, WouldPass, IsRefusal};
+ghost use Rattle.krb_keytab.specs.Edit.{MakesHole, LosesEntry, LacksEntry, AddsEntry, GainsEntry, WouldGrow, WouldPass, IsRefusal};
 ghost use Rattle.krb_keytab.specs.declared.fault.KeytabFault.{KeytabFault};
 
 use crate::entry::Entry;
@@ -60,7 +60,8 @@ impl Keytab {
     /// - Those of `parse`, save `OutOfMemory`, where the bytes are no keytab.
     /// - `TooLong`: no hole is long enough, and the longer file would have more than 16,777,216
     ///   bytes.
-    /// - `OutOfMemory`: no hole is long enough, and there was no room for the longer file.
+    /// - `OutOfMemory`: no hole is long enough, `file` hasn't the capacity for the longer file, and there
+    ///   was no room for it.
     ///
     /// Source: MIT krb5, "Keytab file format".
     pub fn add_in(file: &mut Vec<u8>, entry: &Entry) -> Result<(), KeytabFault>
@@ -72,6 +73,8 @@ impl Keytab {
             → result ≡ Err fault }
         ensures too_long { WouldPass file.old.items entry.now → result ≡ Err KeytabFault.TooLong }
         ensures refusal { IfErr result (IsRefusal file.old.items entry.now) }
+        ensures memory { result ≡ Err KeytabFault.OutOfMemory
+            → WouldGrow file.old.items entry.now (λ count. vec_capacity file.old < count) }
         ensures err { OnErr result (VecUnchanged file.old file.new) }
     {
         let size = entry.record_length();

@@ -1,6 +1,6 @@
 //! An entry of a keytab.
 
-ghost use Rattle.std.specs.Prelude.{◌≡◌, ◌↔◌, ◌<◌, ◌≤◌, ◌*◌, ◌^◌, length, All, IsTrue, SomeIff};
+ghost use Rattle.std.specs.Prelude.{◌≡◌, ◌↔◌, ◌<◌, ◌≤◌, ◌*◌, ◌^◌, length, All, IsTrue, SomeIff, Some};
 ghost use Rattle.std.specs.Int.{w16};
 ghost use Rattle.std.specs.List.{flat_map};
 ghost use Rattle.krb_name.specs.Cursor.{data_bytes};
@@ -8,12 +8,14 @@ ghost use Rattle.krb_keytab.specs.Entry.{KeytabEntry, LengthsFit, FitsEntry};
 ghost use Rattle.krb_keytab.specs.Written.{record_length};
 
 use krb_name::{Bytes, Principal};
+use std::fmt;
 use std::marker::Model;
 
 /// An entry of a keytab: one key of a principal. A contract sees it as the record of its parts.
 ///
 /// It has at most 65,535 components, and each text and the key at most 65,535 bytes, so that a
-/// keytab has room for it.
+/// keytab has room for it. Its `Debug` shows version number and encryption type, and no byte of the
+/// key.
 #[derive(Drop)]
 pub struct Entry {
     principal: Principal,
@@ -148,6 +150,18 @@ impl Entry {
         ensures { result.now ≡ self.now.key }
     {
         self.key.as_slice()
+    }
+}
+
+impl fmt::Debug for Entry {
+    ghost use Rattle.krb_keytab.specs.Entry.{shown};
+
+    ghost debug_output = { λ entry. Some (shown entry) };
+
+    fn fmt<W: fmt::Write>(&self, f: &mut fmt::Formatter<W>) -> fmt::Result {
+        let kvno = self.kvno();
+        let etype = self.etype();
+        write!(f, "Entry(kvno {kvno}, etype {etype})")
     }
 }
 

@@ -21,7 +21,7 @@ use std::alloc::Global;
 use std::marker::Model;
 
 /// A keytab: the entries of a file, in their order. A contract sees it as their list.
-#[derive(Drop)]
+#[derive(Debug, Drop)]
 pub struct Keytab {
     entries: Vec<Entry>,
 }

@@ -8,9 +8,8 @@ ghost use Rattle.krb_keytab.specs.Entry.{KeytabEntry};
 ghost use Rattle.krb_keytab.specs.Edit.{IsMadeOf};
 ghost use Rattle.krb_keytab.specs.Fault.{offset_of};
 ghost use Rattle.krb_keytab.specs.Format.{KeytabRecord, IsAnswerOf, IsFaultOf, IsKeytab, entries_of};
-ghost use Rattle.krb_keytab.specs.Pick.{IsPicked, IsSamePick};
+ghost use Rattle.krb_keytab.specs.Pick.{Choice, IsChoice};
 ghost use Rattle.krb_keytab.specs.declared.fault.KeytabFault.{KeytabFault};
-ghost use Rattle.krb_keytab.specs.declared.pick.Picked.{Picked};
 
 /// Says that bytes are a keytab or have a fault; and that they are a keytab of one list of entries
 /// only, or have one fault only, and not both.
@@ -21,11 +20,18 @@ pub fn each_file_has_one_answer()
         → IsAnswerOf bytes answer → IsAnswerOf bytes other → answer ≡ other }
 {}
 
-/// Says that one choice is right: one entry, as a value, or one of the three wants.
+/// Says that there is a choice for each name, encryption type and version number: an entry, or one of
+/// the three wants.
+pub fn a_choice_exists()
+    ensures { (entries : List KeytabEntry) (name : Principal) (etype : ℤ) (kvno : Option ℕ)
+        → (choice : Choice) × IsChoice entries name etype kvno choice }
+{}
+
+/// Says that one choice is right.
 pub fn each_choice_is_one()
     ensures { (entries : List KeytabEntry) (name : Principal) (etype : ℤ) (kvno : Option ℕ)
-        (picked other : Picked) → IsPicked entries name etype kvno picked
-        → IsPicked entries name etype kvno other → IsSamePick picked other }
+        (one other : Choice) → IsChoice entries name etype kvno one
+        → IsChoice entries name etype kvno other → one ≡ other }
 {}
 
 /// Says that a keytab is made of one list of records and one end only: so there is one first hole

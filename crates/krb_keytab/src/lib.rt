@@ -39,4 +39,6 @@ mod edit_tests;
 #[cfg(test)]
 mod real_files;
 #[cfg(test)]
+mod size_tests;
+#[cfg(test)]
 mod tests;

@@ -21,7 +21,7 @@ pub enum Picked<'a> {
 }
 
 impl<'a> Picked<'a> {
-    ghost use Rattle.krb_keytab.specs.Pick.{IsPicked};
+    ghost use Rattle.krb_keytab.specs.Pick.{IsPicked, choice_of};
     ghost use Rattle.krb_keytab.specs.Inner.Pick.{or_no_key, or_no_version};
 
     // What is picked where one entry more is there.
@@ -51,7 +51,7 @@ impl<'a> Picked<'a> {
     }
 
     fn or_no_key(self) -> Picked<'a>
-        ensures { result ≡ or_no_key self.entry }
+        ensures { choice_of result ≡ or_no_key (choice_of self.entry) }
     {
         match self {
             Picked::NoName => Picked::NoKey,
@@ -60,7 +60,7 @@ impl<'a> Picked<'a> {
     }
 
     fn or_no_version(self) -> Picked<'a>
-        ensures { result ≡ or_no_version self.entry }
+        ensures { choice_of result ≡ or_no_version (choice_of self.entry) }
     {
         match self {
             Picked::NoName | Picked::NoKey => Picked::NoVersion,

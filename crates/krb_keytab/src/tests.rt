@@ -113,7 +113,6 @@ fn version_numbers(rt: HostRuntime) -> Result<(), Fail> {
     Ok(())
 }
 
-// A source of any pieces gives what parse gives, and a failed read is told.
 #[test]
 fn sources(rt: HostRuntime) -> Result<(), Fail> {
     let alloc = rt.alloc();

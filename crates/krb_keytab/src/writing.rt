@@ -1,6 +1,6 @@
 //! Writing records into bytes that are there.
 
-ghost use Rattle.std.specs.Prelude.{◌≡◌, ◌+◌, ◌-◌, ◌<◌, ◌≤◌, ◌^◌, OnErr, OnOk, All, length, take, ◌++◌};
+ghost use Rattle.std.specs.Prelude.{◌≡◌, ◌+◌, ◌-◌, ◌<◌, ◌≤◌, ◌^◌, OnErr, OnOk, All, length, take, ◌++◌, vec_capacity};
 ghost use Rattle.std.specs.Int.{w8, w16, w32};
 ghost use Rattle.std.specs.List.{flat_map};
 ghost use Rattle.std.specs.Vec.{VecUnchanged};
@@ -48,6 +48,7 @@ pub(crate) fn put_record(file: &mut Vec<u8>, at: usize, entry: &Entry) -> Result
     ensures ok { OnOk result (file.new.items ≡ take at file.old.items ++ record_bytes (written_record entry.now)) }
     ensures fits { OnOk result (FitsEntry entry.now) }
     ensures err { OnErr result (VecUnchanged file.old file.new) }
+    ensures full { OnErr result (vec_capacity file.old < at + record_length entry.now) }
 {
     file.resize(at + entry.record_length(), 0)?;
     fill_record(&mut file[at..], entry);

@@ -1,4 +1,6 @@
 pub mod Moments
 pub mod Module
+pub mod Bits
+pub mod Fields
 pub mod Borrowed
 pub mod Owned

@@ -1,11 +1,11 @@
 //! What a client seals for a service in a request.
 
-ghost use Rattle.std.specs.Prelude.{refl, ◌≡◌, ◌≤◌, ◌<◌, List, ℕ, length, IfOk, IfErr, IsOkAnd, IsErrOf};
+ghost use Rattle.std.specs.Prelude.{refl, ◌≡◌, ◌<◌, IfOk};
 ghost use Rattle.std.specs.Option.{option_map};
-ghost use Rattle.krb_der.specs.Fault.{IsFault};
-ghost use Rattle.krb_der.specs.Kind.{ValueOf, leaf, must, may, ends, field, microseconds, time, uint32};
-ghost use Rattle.krb_der.specs.Spells.{IsMessage, Spells, limit};
-ghost use Rattle.krb_msg.specs.Borrowed.{as_it_is, authenticator_of, typed_of, key_of};
+ghost use Rattle.krb_der.specs.Kind.{leaf, must, may, ends, field, microseconds, time, uint32};
+ghost use Rattle.krb_der.specs.Reading.{Parses};
+ghost use Rattle.krb_der.specs.Writing.{IsEncoded};
+ghost use Rattle.krb_msg.specs.Borrowed.{authenticator_of, typed_of, key_of};
 ghost use Rattle.krb_msg.specs.Module.{authenticator, authorization_data, checksum, encryption_key};
 ghost use Rattle.krb_msg.specs.Owned.{owned_authenticator_of};
 
@@ -108,7 +108,7 @@ impl<'a> Row<'a> for AuthenticatorTail<'a> {
         t.cusec,
         (
           t.ctime,
-          (option_map key_of t.subkey, (as_it_is t.seq_number, (as_it_is t.authorization, tt))),
+          (option_map key_of t.subkey, (t.seq_number, (t.authorization, tt))),
         ),
       ),
     ) };
@@ -137,13 +137,9 @@ impl<'a> AuthenticatorRef<'a> {
     /// Reads a message of this type, which is all of the bytes. It takes no memory.
     ///
     /// # Errors
-    /// `TooLong` at 0 above 1,048,576 bytes. Else the first fault from left to right, contents before what follows.
+    /// `TooLong` at 0 above 1,048,576 bytes. Else a fault by the rules of `krb_der`'s `specs::Fault`, at its offset.
     pub fn parse(bytes: &'a [u8]) -> Result<AuthenticatorRef<'a>, Fault>
-        ensures found { IfOk result (λ m. IsMessage authenticator (authenticator_of m) bytes.entry.now) }
-        ensures only { (v : ValueOf authenticator) → IsMessage authenticator v bytes.entry.now
-            → IsOkAnd result (λ m. authenticator_of m ≡ v) }
-        ensures faulty { IfErr result (IsFault authenticator bytes.entry.now) }
-        ensures offset { IfErr result (λ fault. fault.at ≤ length bytes.entry.now) }
+        ensures { Parses authenticator authenticator_of result bytes.entry.now }
     {
         krb_der::parse(bytes)
     }
@@ -239,9 +235,7 @@ impl Authenticator {
     /// - `TooLong`: they would be more than 1,048,576.
     /// - `OutOfMemory`: there was no room.
     pub fn encode(&self, alloc: Global) -> Result<Vec<u8>, EncodeFault>
-        ensures ok { IfOk result (λ bytes. IsMessage authenticator (owned_authenticator_of self.now) bytes.items) }
-        ensures too_long { IsErrOf result EncodeFault.TooLong
-            → (bytes : List ℕ) → Spells authenticator (owned_authenticator_of self.now) bytes → limit < length bytes }
+        ensures { IsEncoded authenticator (owned_authenticator_of self.now) result }
     {
         krb_der::encoded(alloc, self)
     }

@@ -1,9 +1,8 @@
 //! What a service seals for a client in a reply.
 
-ghost use Rattle.std.specs.Prelude.{refl, ◌≡◌, ◌≤◌, ◌<◌, List, ℕ, length, IfOk, IfErr, IsOkAnd, IsErrOf};
-ghost use Rattle.krb_der.specs.Kind.{ValueOf};
-ghost use Rattle.krb_der.specs.Fault.{IsFault};
-ghost use Rattle.krb_der.specs.Spells.{IsMessage, Spells, limit};
+ghost use Rattle.std.specs.Prelude.{refl, ◌≡◌, ◌<◌, IfOk};
+ghost use Rattle.krb_der.specs.Reading.{Parses};
+ghost use Rattle.krb_der.specs.Writing.{IsEncoded};
 ghost use Rattle.krb_msg.specs.Borrowed.{enc_ap_rep_part_of};
 ghost use Rattle.krb_msg.specs.Module.{enc_ap_rep_part};
 ghost use Rattle.krb_msg.specs.Owned.{owned_enc_ap_rep_part_of};
@@ -67,13 +66,9 @@ impl<'a> EncApRepRef<'a> {
     /// Reads a message of this type, which is all of the bytes. It takes no memory.
     ///
     /// # Errors
-    /// `TooLong` at 0 above 1,048,576 bytes. Else the first fault from left to right, contents before what follows.
+    /// `TooLong` at 0 above 1,048,576 bytes. Else a fault by the rules of `krb_der`'s `specs::Fault`, at its offset.
     pub fn parse(bytes: &'a [u8]) -> Result<EncApRepRef<'a>, Fault>
-        ensures found { IfOk result (λ m. IsMessage enc_ap_rep_part (enc_ap_rep_part_of m) bytes.entry.now) }
-        ensures only { (v : ValueOf enc_ap_rep_part) → IsMessage enc_ap_rep_part v bytes.entry.now
-            → IsOkAnd result (λ m. enc_ap_rep_part_of m ≡ v) }
-        ensures faulty { IfErr result (IsFault enc_ap_rep_part bytes.entry.now) }
-        ensures offset { IfErr result (λ fault. fault.at ≤ length bytes.entry.now) }
+        ensures { Parses enc_ap_rep_part enc_ap_rep_part_of result bytes.entry.now }
     {
         krb_der::parse(bytes)
     }
@@ -132,9 +127,7 @@ impl EncApRepPart {
     /// - `TooLong`: they would be more than 1,048,576.
     /// - `OutOfMemory`: there was no room.
     pub fn encode(&self, alloc: Global) -> Result<Vec<u8>, EncodeFault>
-        ensures ok { IfOk result (λ bytes. IsMessage enc_ap_rep_part (owned_enc_ap_rep_part_of self.now) bytes.items) }
-        ensures too_long { IsErrOf result EncodeFault.TooLong
-            → (bytes : List ℕ) → Spells enc_ap_rep_part (owned_enc_ap_rep_part_of self.now) bytes → limit < length bytes }
+        ensures { IsEncoded enc_ap_rep_part (owned_enc_ap_rep_part_of self.now) result }
     {
         krb_der::encoded(alloc, self)
     }

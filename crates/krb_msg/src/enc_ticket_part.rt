@@ -1,7 +1,7 @@
 //! The sealed part of a ticket, owned.
 
-ghost use Rattle.std.specs.Prelude.{◌<◌, List, ℕ, length, IfOk, IsErrOf};
-ghost use Rattle.krb_der.specs.Spells.{IsMessage, Spells, limit};
+ghost use Rattle.std.specs.Prelude.{◌<◌};
+ghost use Rattle.krb_der.specs.Writing.{IsEncoded};
 ghost use Rattle.krb_msg.specs.Module.{enc_ticket_part};
 ghost use Rattle.krb_msg.specs.Owned.{owned_enc_ticket_part_of};
 
@@ -92,9 +92,7 @@ impl EncTicketPart {
     /// - `TooLong`: they would be more than 1,048,576.
     /// - `OutOfMemory`: there was no room.
     pub fn encode(&self, alloc: Global) -> Result<Vec<u8>, EncodeFault>
-        ensures ok { IfOk result (λ bytes. IsMessage enc_ticket_part (owned_enc_ticket_part_of self.now) bytes.items) }
-        ensures too_long { IsErrOf result EncodeFault.TooLong
-            → (bytes : List ℕ) → Spells enc_ticket_part (owned_enc_ticket_part_of self.now) bytes → limit < length bytes }
+        ensures { IsEncoded enc_ticket_part (owned_enc_ticket_part_of self.now) result }
     {
         krb_der::encoded(alloc, self)
     }

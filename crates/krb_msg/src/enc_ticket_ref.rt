@@ -1,10 +1,9 @@
 //! The sealed part of a ticket, read in place.
 
-ghost use Rattle.std.specs.Prelude.{refl, ◌≡◌, ◌≤◌, length, IfOk, IfErr, IsOkAnd};
-ghost use Rattle.krb_der.specs.Kind.{ValueOf, leaf, must, may, ends, field, time};
-ghost use Rattle.krb_der.specs.Fault.{IsFault};
-ghost use Rattle.krb_der.specs.Spells.{IsMessage};
-ghost use Rattle.krb_msg.specs.Borrowed.{as_it_is, enc_ticket_part_of, typed_of};
+ghost use Rattle.std.specs.Prelude.{refl, ◌≡◌, IfOk};
+ghost use Rattle.krb_der.specs.Kind.{leaf, must, may, ends, field, time};
+ghost use Rattle.krb_der.specs.Reading.{Parses};
+ghost use Rattle.krb_msg.specs.Borrowed.{enc_ticket_part_of, typed_of};
 ghost use Rattle.krb_msg.specs.Module.{authorization_data, enc_ticket_part, host_address, sequence_of, transited_encoding};
 ghost use Rattle.krb_msg.specs.Owned.{owned_enc_ticket_part_of};
 
@@ -121,8 +120,8 @@ impl<'a> Row<'a> for EncTicketTail<'a> {
       (
         t.authtime,
         (
-          as_it_is t.starttime,
-          (t.endtime, (as_it_is t.renew_till, (as_it_is t.caddr, (as_it_is t.authorization, tt)))),
+          t.starttime,
+          (t.endtime, (t.renew_till, (t.caddr, (t.authorization, tt)))),
         ),
       ),
     ) };
@@ -155,13 +154,9 @@ impl<'a> EncTicketRef<'a> {
     /// Reads a message of this type, which is all of the bytes. It takes no memory.
     ///
     /// # Errors
-    /// `TooLong` at 0 above 1,048,576 bytes. Else the first fault from left to right, contents before what follows.
+    /// `TooLong` at 0 above 1,048,576 bytes. Else a fault by the rules of `krb_der`'s `specs::Fault`, at its offset.
     pub fn parse(bytes: &'a [u8]) -> Result<EncTicketRef<'a>, Fault>
-        ensures found { IfOk result (λ m. IsMessage enc_ticket_part (enc_ticket_part_of m) bytes.entry.now) }
-        ensures only { (v : ValueOf enc_ticket_part) → IsMessage enc_ticket_part v bytes.entry.now
-            → IsOkAnd result (λ m. enc_ticket_part_of m ≡ v) }
-        ensures faulty { IfErr result (IsFault enc_ticket_part bytes.entry.now) }
-        ensures offset { IfErr result (λ fault. fault.at ≤ length bytes.entry.now) }
+        ensures { Parses enc_ticket_part enc_ticket_part_of result bytes.entry.now }
     {
         krb_der::parse(bytes)
     }

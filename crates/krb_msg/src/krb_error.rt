@@ -1,10 +1,9 @@
 //! Error messages that are owned.
 
-ghost use Rattle.std.specs.Prelude.{◌≡◌, ◌<◌, List, ℕ, length, IfOk, IsErrOf};
+ghost use Rattle.std.specs.Prelude.{◌≡◌, ◌<◌};
 ghost use Rattle.std.specs.Option.{option_map};
 ghost use Rattle.krb_der.specs.Kind.{leaf, must, may, ends, field, int32, octets, string};
-ghost use Rattle.krb_der.specs.Spells.{IsMessage, Spells, limit};
-ghost use Rattle.krb_msg.specs.Borrowed.{as_it_is};
+ghost use Rattle.krb_der.specs.Writing.{IsEncoded};
 ghost use Rattle.krb_msg.specs.Module.{krb_error, principal_name};
 ghost use Rattle.krb_msg.specs.Owned.{owned_krb_error_of, owned_name_of, principal_name_of};
 
@@ -68,10 +67,10 @@ impl EncodeRow for Tail<'_> {
     ghost view = { λ t. (
       t.0.now.error_code,
       (
-        as_it_is t.0.now.crealm,
+        t.0.now.crealm,
         (
           option_map owned_name_of t.0.now.cname,
-          (t.0.now.service.realm, (principal_name_of t.0.now.service, (as_it_is t.0.now.e_text, (option_map (λ x. x.items) t.0.now.e_data, tt)))),
+          (t.0.now.service.realm, (principal_name_of t.0.now.service, (t.0.now.e_text, (option_map (λ x. x.items) t.0.now.e_data, tt)))),
         ),
       ),
     ) };
@@ -94,7 +93,7 @@ impl EncodeRow for Tail<'_> {
 }
 
 fn text_in(text: &Option<Bytes>) -> Option<Text<'_>>
-    ensures { option_map (λ t. t.0.now) result ≡ as_it_is text.now }
+    ensures { option_map (λ t. t.0.now) result ≡ text.now }
 {
     match text {
         Some(text) => Some(Text(text.as_slice())),
@@ -145,9 +144,7 @@ impl KrbError {
     /// - `TooLong`: they would be more than 1,048,576.
     /// - `OutOfMemory`: there was no room.
     pub fn encode(&self, alloc: Global) -> Result<Vec<u8>, EncodeFault>
-        ensures ok { IfOk result (λ bytes. IsMessage krb_error (owned_krb_error_of self.now) bytes.items) }
-        ensures too_long { IsErrOf result EncodeFault.TooLong
-            → (bytes : List ℕ) → Spells krb_error (owned_krb_error_of self.now) bytes → limit < length bytes }
+        ensures { IsEncoded krb_error (owned_krb_error_of self.now) result }
     {
         krb_der::encoded(alloc, self)
     }

@@ -1,11 +1,10 @@
 //! Error messages.
 
-ghost use Rattle.std.specs.Prelude.{refl, ◌≡◌, ◌≤◌, length, IfOk, IfErr, IsOkAnd};
+ghost use Rattle.std.specs.Prelude.{refl, ◌≡◌, IfOk};
 ghost use Rattle.std.specs.Option.{option_map};
-ghost use Rattle.krb_der.specs.Fault.{IsFault};
-ghost use Rattle.krb_der.specs.Kind.{ValueOf, leaf, must, may, ends, field, int32, octets, string};
-ghost use Rattle.krb_der.specs.Spells.{IsMessage};
-ghost use Rattle.krb_msg.specs.Borrowed.{as_it_is, krb_error_of, name_of};
+ghost use Rattle.krb_der.specs.Kind.{leaf, must, may, ends, field, int32, octets, string};
+ghost use Rattle.krb_der.specs.Reading.{Parses};
+ghost use Rattle.krb_msg.specs.Borrowed.{krb_error_of, name_of};
 ghost use Rattle.krb_msg.specs.Module.{krb_error, principal_name};
 ghost use Rattle.krb_msg.specs.Owned.{owned_krb_error_of};
 
@@ -175,13 +174,9 @@ impl<'a> KrbErrorRef<'a> {
     /// Reads a message of this type, which is all of the bytes. It takes no memory.
     ///
     /// # Errors
-    /// `TooLong` at 0 above 1,048,576 bytes. Else the first fault from left to right, contents before what follows.
+    /// `TooLong` at 0 above 1,048,576 bytes. Else a fault by the rules of `krb_der`'s `specs::Fault`, at its offset.
     pub fn parse(bytes: &'a [u8]) -> Result<KrbErrorRef<'a>, Fault>
-        ensures found { IfOk result (λ m. IsMessage krb_error (krb_error_of m) bytes.entry.now) }
-        ensures only { (v : ValueOf krb_error) → IsMessage krb_error v bytes.entry.now
-            → IsOkAnd result (λ m. krb_error_of m ≡ v) }
-        ensures faulty { IfErr result (IsFault krb_error bytes.entry.now) }
-        ensures offset { IfErr result (λ fault. fault.at ≤ length bytes.entry.now) }
+        ensures { Parses krb_error krb_error_of result bytes.entry.now }
     {
         krb_der::parse(bytes)
     }

@@ -1,9 +1,13 @@
 //! Laws of the messages. Each function is its contract, over the definitions alone: its body does nothing that is seen.
 
-ghost use Rattle.std.specs.Prelude.{◌≡◌, ◌++◌, ◌⊎◌, List, ℕ};
+ghost use Rattle.std.specs.Prelude.{◌≡◌, ◌+◌, ◌≤◌, ◌++◌, ◌⊎◌, List, ℕ, length, None, Some};
+ghost use Rattle.krb_der.specs.declared.fault.Fault.{Fault};
 ghost use Rattle.krb_der.specs.Kind.{Kind, ValueOf};
+ghost use Rattle.krb_der.specs.Fault.{IsFault};
 ghost use Rattle.krb_der.specs.Spells.{Spells, IsMessage};
-ghost use Rattle.krb_msg.specs.Module.{IsMessageKind, ap_req, ap_rep};
+ghost use Rattle.krb_der.specs.Size.{size_of};
+ghost use Rattle.krb_msg.specs.Fields.{bytes_of, cipher_of, reply_enc_part, reply_subkey};
+ghost use Rattle.krb_msg.specs.Module.{IsMessageKind, ap_req, ap_rep, enc_ap_rep_part, encryption_key};
 
 /// A spelling of a message has one value.
 pub fn one_value()
@@ -46,3 +50,19 @@ pub fn decided()
 {
     krb_der::laws::decided()
 }
+
+/// Bytes that are no message of a type have a fault by the rules.
+pub fn faulty()
+    ensures { (k : Kind) → IsMessageKind k → (bytes : List ℕ)
+        → ((v : ValueOf k) → IsMessage k v bytes → ⊥) → (fault : Fault) × IsFault k bytes fault }
+{
+    krb_der::laws::faulty()
+}
+
+/// How long replies are at most: without a key the sealed part of one has at most 41 bytes, and such a part is never too long.
+pub fn reply_size()
+    ensures without_key { (v : ValueOf enc_ap_rep_part) → reply_subkey v ≡ None → size_of enc_ap_rep_part v ≤ 41 }
+    ensures with_key { (v : ValueOf enc_ap_rep_part) (key : ValueOf encryption_key) → reply_subkey v ≡ Some key
+        → size_of enc_ap_rep_part v ≤ 82 + length (bytes_of key) }
+    ensures reply { (v : ValueOf ap_rep) → size_of ap_rep v ≤ 64 + length (cipher_of (reply_enc_part v)) }
+{}

@@ -10,7 +10,7 @@
 //!
 //! ```rust
 //! let request = ApReqRef::parse(bytes)?;
-//! let is_mutual = request.options.bits() & 0x2000_0000 != 0;
+//! let is_mutual = request.options.has(MUTUAL_REQUIRED);
 //! for component in request.ticket.sname.components.iter() {
 //!     println!(rt; "{component:?}")?;
 //! }
@@ -30,6 +30,7 @@
 #![tactic(auto)]
 
 mod authenticator;
+mod bits;
 mod enc_reply;
 mod enc_ticket_part;
 mod enc_ticket_ref;
@@ -46,6 +47,7 @@ mod ticket;
 mod typed;
 
 pub use authenticator::{Authenticator, AuthenticatorRef};
+pub use bits::{INVALID, MUTUAL_REQUIRED, TRANSITED_POLICY_CHECKED, USE_SESSION_KEY};
 pub use enc_reply::{EncApRepPart, EncApRepRef};
 pub use enc_ticket_part::EncTicketPart;
 pub use enc_ticket_ref::EncTicketRef;

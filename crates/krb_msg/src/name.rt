@@ -2,9 +2,9 @@
 
 ghost use Rattle.std.specs.Prelude.{refl, ◌≡◌, IfOk};
 ghost use Rattle.std.specs.Option.{option_map};
-ghost use Rattle.krb_der.specs.Spells.{Spells};
-ghost use Rattle.krb_der.specs.Writing.{Encodes};
+ghost use Rattle.krb_der.specs.Writing.{EncodesValue};
 ghost use Rattle.krb_msg.specs.Borrowed.{name_of};
+ghost use Rattle.krb_msg.specs.Fields.{name_value};
 ghost use Rattle.krb_msg.specs.Module.{principal_name};
 ghost use Rattle.krb_msg.specs.Owned.{owned_name_of, principal_name_of};
 
@@ -123,7 +123,7 @@ impl Encode for NameIn<'_> {
 }
 
 fn write_name(name_type: &i32, components: &Components, out: &mut Writer) -> Result<(), EncodeFault>
-    ensures { Encodes (Spells principal_name (name_type.now, (components.now, tt))) result out.old out.new }
+    ensures { EncodesValue principal_name (name_value name_type.now components.now) result out.old out.new }
 {
     let row: (Field<0xa0, &i32>, (Field<0xa1, TextList<Bytes>>, ())) = (
         Field(name_type),

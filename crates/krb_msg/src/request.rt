@@ -1,9 +1,8 @@
 //! Requests.
 
-ghost use Rattle.std.specs.Prelude.{refl, ◌≡◌, ◌≤◌, ◌<◌, List, ℕ, length, IfOk, IfErr, IsOkAnd, IsErrOf};
-ghost use Rattle.krb_der.specs.Fault.{IsFault};
-ghost use Rattle.krb_der.specs.Spells.{IsMessage, Spells, limit};
-ghost use Rattle.krb_der.specs.Kind.{ValueOf};
+ghost use Rattle.std.specs.Prelude.{refl, ◌≡◌, ◌<◌, IfOk};
+ghost use Rattle.krb_der.specs.Reading.{Parses};
+ghost use Rattle.krb_der.specs.Writing.{IsEncoded};
 ghost use Rattle.krb_msg.specs.Borrowed.{ap_req_of};
 ghost use Rattle.krb_msg.specs.Module.{ap_req};
 ghost use Rattle.krb_msg.specs.Owned.{owned_ap_req_of};
@@ -65,13 +64,9 @@ impl<'a> ApReqRef<'a> {
     /// Reads a message of this type, which is all of the bytes. It takes no memory.
     ///
     /// # Errors
-    /// `TooLong` at 0 above 1,048,576 bytes. Else the first fault from left to right, contents before what follows.
+    /// `TooLong` at 0 above 1,048,576 bytes. Else a fault by the rules of `krb_der`'s `specs::Fault`, at its offset.
     pub fn parse(bytes: &'a [u8]) -> Result<ApReqRef<'a>, Fault>
-        ensures found { IfOk result (λ m. IsMessage ap_req (ap_req_of m) bytes.entry.now) }
-        ensures only { (v : ValueOf ap_req) → IsMessage ap_req v bytes.entry.now
-            → IsOkAnd result (λ m. ap_req_of m ≡ v) }
-        ensures faulty { IfErr result (IsFault ap_req bytes.entry.now) }
-        ensures offset { IfErr result (λ fault. fault.at ≤ length bytes.entry.now) }
+        ensures { Parses ap_req ap_req_of result bytes.entry.now }
     {
         krb_der::parse(bytes)
     }
@@ -133,9 +128,7 @@ impl ApReq {
     /// - `TooLong`: they would be more than 1,048,576.
     /// - `OutOfMemory`: there was no room.
     pub fn encode(&self, alloc: Global) -> Result<Vec<u8>, EncodeFault>
-        ensures ok { IfOk result (λ bytes. IsMessage ap_req (owned_ap_req_of self.now) bytes.items) }
-        ensures too_long { IsErrOf result EncodeFault.TooLong
-            → (bytes : List ℕ) → Spells ap_req (owned_ap_req_of self.now) bytes → limit < length bytes }
+        ensures { IsEncoded ap_req (owned_ap_req_of self.now) result }
     {
         krb_der::encoded(alloc, self)
     }

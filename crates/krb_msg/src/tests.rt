@@ -3,7 +3,10 @@
 mod faults;
 mod flipped;
 mod owned;
+mod sizes;
 mod values;
+
+ghost use Rattle.std.specs.Prelude.{◌≡◌, ◌↔◌, ◌/◌, ◌%◌, ◌^◌, IsTrue};
 
 use super::*;
 use std::test::Fail;
@@ -161,6 +164,7 @@ fn what_a_ticket_seals(rt: HostRuntime) -> Result<(), Fail> {
 fn what_a_ticket_seals_with_all_fields(rt: HostRuntime) -> Result<(), Fail> {
     let read = EncTicketRef::parse(&FULL_ENC_TICKET)?;
     assert_eq!(rt; read.flags.bits(), 0x0100_0000);
+    assert!(rt; is_invalid(read.flags));
     assert_eq!(rt; read.transited.bytes, b"AB".as_slice());
     let starttime = read.starttime.ok_or("a start")?;
     assert_eq!(rt;
@@ -198,6 +202,27 @@ fn messages_of_another_type(rt: HostRuntime) {
     assert_eq!(rt; fault_of(EncApRepRef::parse(&AP_REP)), wrong);
     assert_eq!(rt; fault_of(AuthenticatorRef::parse(&ENC_TICKET)), wrong);
     assert_eq!(rt; fault_of(EncTicketRef::parse(&AUTHENTICATOR)), wrong);
+}
+
+/// The numbers as MIT's krb5.h has them.
+#[test]
+fn names_of_flags(rt: HostRuntime) {
+    for (bit, number) in [
+        (USE_SESSION_KEY, 0x4000_0000),
+        (MUTUAL_REQUIRED, 0x2000_0000),
+        (INVALID, 0x0100_0000),
+        (TRANSITED_POLICY_CHECKED, 0x0008_0000),
+    ] {
+        assert_eq!(rt; Flags::only(bit).bits(), number);
+        assert!(rt; Flags(number).has(bit) && !Flags::none().has(bit));
+    }
+}
+
+/// Bit 7 weighs 2^24.
+fn is_invalid(flags: Flags) -> bool
+    ensures { IsTrue result ↔ (flags.0 / 2 ^ 24 % 2 ≡ 1) }
+{
+    flags.has(INVALID)
 }
 
 #[test]

@@ -4,7 +4,6 @@ ghost use Rattle.std.specs.Prelude.{refl, ◌≡◌, IfOk};
 ghost use Rattle.std.specs.Iterator.{YieldsFirstBy, item_count};
 ghost use Rattle.std.specs.Option.{option_map};
 ghost use Rattle.krb_der.specs.Kind.{leaf, string};
-ghost use Rattle.krb_msg.specs.Borrowed.{as_it_is};
 ghost use Rattle.krb_msg.specs.Module.{sequence_of};
 
 use krb_der::{Cursor, Element, Fault, Text};
@@ -91,7 +90,7 @@ impl<'a> Iterator for TextsIter<'a> {
 
 /// A copy of the text, where there is one.
 pub(crate) fn owned_text(alloc: Global, text: &Option<&[u8]>) -> Result<Option<Bytes>, AllocError>
-    ensures { IfOk result (λ made. as_it_is made ≡ option_map (λ x. x.now) text.now) }
+    ensures { IfOk result (λ made. made ≡ option_map (λ x. x.now) text.now) }
 {
     match text {
         Some(text) => Ok(Some(Bytes::from_slice(alloc, text)?)),

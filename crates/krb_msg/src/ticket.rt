@@ -1,9 +1,8 @@
 //! Tickets and encrypted parts of messages.
 
-ghost use Rattle.std.specs.Prelude.{refl, ◌≡◌, ◌≤◌, ◌<◌, List, ℕ, length, IfOk, IfErr, IsOkAnd, IsErrOf};
-ghost use Rattle.krb_der.specs.Kind.{ValueOf};
-ghost use Rattle.krb_der.specs.Fault.{IsFault};
-ghost use Rattle.krb_der.specs.Spells.{IsMessage, Spells, limit};
+ghost use Rattle.std.specs.Prelude.{refl, ◌≡◌, ◌<◌, IfOk};
+ghost use Rattle.krb_der.specs.Reading.{Parses};
+ghost use Rattle.krb_der.specs.Writing.{IsEncoded};
 ghost use Rattle.krb_msg.specs.Borrowed.{encrypted_of, ticket_of};
 ghost use Rattle.krb_msg.specs.Module.{encrypted_data, ticket};
 ghost use Rattle.krb_msg.specs.Owned.{owned_encrypted_of, owned_ticket_of};
@@ -84,6 +83,7 @@ impl Encode for Encrypted {
 
     ghost view = { owned_encrypted_of };
 
+    #[tactic(auto, using(std::proofs::lemmas::Iterator::Adapters::option_map_id))]
     fn write(&self, out: &mut Writer) -> Result<(), EncodeFault> {
         let row: (
             Field<0xa0, &i32>,
@@ -147,13 +147,9 @@ impl<'a> TicketRef<'a> {
     /// Reads a ticket, which is all of the bytes. It takes no memory.
     ///
     /// # Errors
-    /// `TooLong` at 0 above 1,048,576 bytes. Else the first fault from left to right, contents before what follows.
+    /// `TooLong` at 0 above 1,048,576 bytes. Else a fault by the rules of `krb_der`'s `specs::Fault`, at its offset.
     pub fn parse(bytes: &'a [u8]) -> Result<TicketRef<'a>, Fault>
-        ensures found { IfOk result (λ t. IsMessage ticket (ticket_of t) bytes.entry.now) }
-        ensures only { (v : ValueOf ticket) → IsMessage ticket v bytes.entry.now
-            → IsOkAnd result (λ t. ticket_of t ≡ v) }
-        ensures faulty { IfErr result (IsFault ticket bytes.entry.now) }
-        ensures offset { IfErr result (λ fault. fault.at ≤ length bytes.entry.now) }
+        ensures { Parses ticket ticket_of result bytes.entry.now }
     {
         krb_der::parse(bytes)
     }
@@ -209,9 +205,7 @@ impl Ticket {
     /// - `TooLong`: they would be more than 1,048,576.
     /// - `OutOfMemory`: there was no room.
     pub fn encode(&self, alloc: Global) -> Result<Vec<u8>, EncodeFault>
-        ensures ok { IfOk result (λ bytes. IsMessage ticket (owned_ticket_of self.now) bytes.items) }
-        ensures too_long { IsErrOf result EncodeFault.TooLong
-            → (bytes : List ℕ) → Spells ticket (owned_ticket_of self.now) bytes → limit < length bytes }
+        ensures { IsEncoded ticket (owned_ticket_of self.now) result }
     {
         krb_der::encoded(alloc, self)
     }

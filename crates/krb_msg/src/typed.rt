@@ -4,7 +4,7 @@ ghost use Rattle.std.specs.Prelude.{refl, ◌≡◌, IfOk};
 ghost use Rattle.std.specs.Iterator.{YieldsFirstBy, item_count};
 ghost use Rattle.std.specs.Option.{option_map};
 ghost use Rattle.krb_der.specs.Kind.{leaf, octets};
-ghost use Rattle.krb_msg.specs.Borrowed.{as_it_is, typed_of};
+ghost use Rattle.krb_msg.specs.Borrowed.{typed_of};
 ghost use Rattle.krb_msg.specs.Module.{sequence_of, typed};
 ghost use Rattle.krb_msg.specs.Owned.{owned_list_of, owned_typed_of};
 
@@ -176,7 +176,7 @@ pub(crate) fn owned_list(
     alloc: Global,
     list: &Option<TypedListRef>,
 ) -> Result<Option<Vec<Typed>>, AllocError>
-    ensures { IfOk result (λ made. option_map (λ l. owned_list_of l.items) made ≡ as_it_is list.now) }
+    ensures { IfOk result (λ made. option_map (λ l. owned_list_of l.items) made ≡ list.now) }
 {
     match list {
         Some(list) => Ok(Some(list.to_owned(alloc)?)),

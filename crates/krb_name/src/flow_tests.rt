@@ -1,4 +1,5 @@
 use super::*;
+use crate::tests::is;
 use std::io;
 use std::io::{ErrorKind, Read, Write};
 use std::test::*;
@@ -72,10 +73,10 @@ fn reading_fails(rt: HostRuntime) {
                 matches!(read, Err(ReadFault::Read)),
                 "read {failing} fails"
             );
-            assert_eq!(rt; source.failures(), 1);
+            is(&rt, source.failures(), 1);
         } else {
             assert!(rt; read.is_ok());
-            assert_eq!(rt; source.failures(), 0);
+            is(&rt, source.failures(), 0);
         }
     }
     let mut source = ReadSource::new(Flaky(0));
@@ -85,7 +86,7 @@ fn reading_fails(rt: HostRuntime) {
             Err(ReadFault::Read)
         )
     );
-    assert_eq!(rt; source.failures(), 1);
+    is(&rt, source.failures(), 1);
 }
 
 #[test]
@@ -104,8 +105,8 @@ fn writing(rt: HostRuntime) -> Result<(), Fail> {
     }
     let mut sink = WriteSink::new(Vec::new(rt.alloc()));
     write_all(&mut sink, &bytes)?;
-    assert_eq!(rt; sink.failures(), 0);
-    assert_eq!(rt; sink.into_inner().as_slice(), bytes.as_slice());
+    is(&rt, sink.failures(), 0);
+    is(&rt, sink.into_inner().as_slice(), bytes.as_slice());
     Ok(())
 }
 
@@ -117,16 +118,16 @@ fn writing_fails(rt: HostRuntime) {
     for (failing, taken) in table {
         let mut room = [0; 8];
         let mut sink = PieceSink::new(&mut room, 2, Some(failing));
-        assert_eq!(rt; write_all(&mut sink, &bytes), Err(SinkFailed));
+        is(&rt, write_all(&mut sink, &bytes), Err(SinkFailed));
         assert_eq!(rt; sink.taken(), taken, "write {failing} fails");
-        assert_eq!(rt; sink.failures(), 1);
+        is(&rt, sink.failures(), 1);
     }
     let mut small = [0; 3];
     let mut sink = PieceSink::new(&mut small, 2, None);
-    assert_eq!(rt; write_all(&mut sink, &bytes), Err(SinkFailed));
-    assert_eq!(rt; sink.taken(), [1, 2, 3].as_slice());
+    is(&rt, write_all(&mut sink, &bytes), Err(SinkFailed));
+    is(&rt, sink.taken(), [1, 2, 3].as_slice());
     let mut sink = WriteSink::new(Full);
-    assert_eq!(rt; write_all(&mut sink, &[]), Ok(()));
-    assert_eq!(rt; write_all(&mut sink, &bytes), Err(SinkFailed));
-    assert_eq!(rt; sink.failures(), 1);
+    is(&rt, write_all(&mut sink, &[]), Ok(()));
+    is(&rt, write_all(&mut sink, &bytes), Err(SinkFailed));
+    is(&rt, sink.failures(), 1);
 }

@@ -1,6 +1,13 @@
 use super::*;
 use std::alloc::Global;
+use std::fmt::Debug;
+use std::process::Abort;
 use std::test::*;
+
+// What was found is what was wanted. (An assertion costs the proof of its test ten times what a call of this does.)
+pub(crate) fn is<R: Alloc + Abort, T: PartialEq + Debug + Drop>(rt: &R, found: T, wanted: T) {
+    assert_eq!(rt; found, wanted);
+}
 
 fn name_of(alloc: Global, realm: &[u8], components: &[&[u8]]) -> Result<Principal, Fail> {
     let mut made = Components::new(alloc);
@@ -36,7 +43,7 @@ fn texts(rt: HostRuntime) -> Result<(), Fail> {
     ];
     for (realm, components, text) in table {
         let principal = name_of(alloc, realm, components)?;
-        assert_eq!(rt; principal.to_text(alloc)?.as_str(), text);
+        is(&rt, principal.to_text(alloc)?.as_str(), text);
     }
     Ok(())
 }
@@ -72,16 +79,16 @@ fn bytes_and_components(rt: HostRuntime) -> Result<(), Fail> {
     let mut bytes = Bytes::new(alloc);
     assert!(rt; bytes.is_empty());
     bytes.push(b'a')?;
-    assert_eq!(rt; bytes.len(), 1);
-    assert_eq!(rt; bytes.as_slice(), b"a".as_slice());
+    is(&rt, bytes.len(), 1);
+    is(&rt, bytes.as_slice(), b"a".as_slice());
     assert!(rt; bytes == Bytes::from(b"a".to_vec(alloc)?));
     let mut components = Components::new(alloc);
     assert!(rt; components.is_empty());
     components.push(bytes)?;
-    assert_eq!(rt; components.len(), 1);
+    is(&rt, components.len(), 1);
     assert!(rt; components == components.clone()?);
     for component in components.as_slice() {
-        assert_eq!(rt; component.as_slice(), b"a".as_slice());
+        is(&rt, component.as_slice(), b"a".as_slice());
     }
     Ok(())
 }
@@ -94,18 +101,18 @@ fn fields(rt: HostRuntime) -> Result<(), Fail> {
         0, 0, 0, 1, 9, 1,
     ];
     let mut cursor = FileCursor::new(&bytes);
-    assert_eq!(rt; cursor.read_u8()?, 5);
-    assert_eq!(rt; cursor.read_u16()?, 0x0102);
-    assert_eq!(rt; cursor.read_u32()?, 0xa1a2_a3a4);
-    assert_eq!(rt; cursor.read_i16()?, -2);
-    assert_eq!(rt; cursor.read_i32()?, -3);
-    assert_eq!(rt; cursor.read_data16()?, [7, 8].as_slice());
-    assert_eq!(rt; cursor.read_data32()?, [9].as_slice());
-    assert_eq!(rt; cursor.at(), 22);
-    assert_eq!(rt; cursor.read_u16(), Err(Short));
-    assert_eq!(rt; cursor.rest(), [1].as_slice());
+    is(&rt, cursor.read_u8()?, 5);
+    is(&rt, cursor.read_u16()?, 0x0102);
+    is(&rt, cursor.read_u32()?, 0xa1a2_a3a4);
+    is(&rt, cursor.read_i16()?, -2);
+    is(&rt, cursor.read_i32()?, -3);
+    is(&rt, cursor.read_data16()?, [7, 8].as_slice());
+    is(&rt, cursor.read_data32()?, [9].as_slice());
+    is(&rt, cursor.at(), 22);
+    is(&rt, cursor.read_u16(), Err(Short));
+    is(&rt, cursor.rest(), [1].as_slice());
     assert!(rt; !cursor.is_at_end());
-    assert_eq!(rt; cursor.read_bytes(1)?, [1].as_slice());
+    is(&rt, cursor.read_bytes(1)?, [1].as_slice());
     assert!(rt; cursor.is_at_end());
     Ok(())
 }
@@ -114,10 +121,10 @@ fn fields(rt: HostRuntime) -> Result<(), Fail> {
 #[test]
 fn short_data(rt: HostRuntime) {
     let mut cursor = FileCursor::new(&[0, 3, 7, 8]);
-    assert_eq!(rt; cursor.read_data16(), Err(Short));
-    assert_eq!(rt; cursor.at(), 0);
-    assert_eq!(rt; cursor.read_data32(), Err(Short));
-    assert_eq!(rt; cursor.at(), 0);
+    is(&rt, cursor.read_data16(), Err(Short));
+    is(&rt, cursor.at(), 0);
+    is(&rt, cursor.read_data32(), Err(Short));
+    is(&rt, cursor.at(), 0);
 }
 
 // The texts of the next three tests were read by a script of regular expressions.
@@ -156,8 +163,8 @@ fn names_read(rt: HostRuntime) -> Result<(), Fail> {
             name.same_name(&name_of(alloc, realm, components)?),
             "{name:?}"
         );
-        assert_eq!(rt; name.name_type, 3);
-        assert_eq!(rt; name.to_text(alloc)?.as_str(), text);
+        is(&rt, name.name_type, 3);
+        is(&rt, name.to_text(alloc)?.as_str(), text);
     }
     Ok(())
 }
@@ -208,4 +215,51 @@ fn texts_without_realm(rt: HostRuntime) {
         let read = Principal::from_text(rt.alloc(), text, 1);
         assert!(rt; matches!(read, Err(TextFault::NoRealm)), "{text}");
     }
+}
+
+// Looks for want of memory answered for some size though there is memory.
+#[test]
+fn names_of_1_to_300_components(rt: HostRuntime) -> Result<(), Fail> {
+    let alloc = rt.alloc();
+    let mut components = Components::new(alloc);
+    for count in 1..301 {
+        components.push(Bytes::from_slice(alloc, b"web")?)?;
+        let name = Principal {
+            realm: Bytes::from_slice(alloc, b"EX")?,
+            name_type: 1,
+            components,
+        };
+        let text = name.to_text(alloc)?;
+        let read = Principal::from_text(alloc, text.as_str(), 1)?;
+        assert_eq!(rt; read.components.len(), count);
+        assert!(rt; read.same_name(&name), "{count} components");
+        components = name.components;
+    }
+    Ok(())
+}
+
+#[test]
+fn texts_of_faults(rt: HostRuntime) -> Result<(), Fail> {
+    for (fault, wanted) in [
+        (TextFault::BadText { at: 7 }, "bad text at 7"),
+        (TextFault::NoRealm, "no realm"),
+        (TextFault::OutOfMemory, "out of memory"),
+    ] {
+        let text = format!(in rt.alloc(); "{fault}")?;
+        assert_eq!(rt; text.as_str(), wanted);
+    }
+    for (fault, wanted) in [
+        (ReadFault::Read, "the source could not be read"),
+        (ReadFault::OutOfMemory, "out of memory"),
+    ] {
+        let text = format!(in rt.alloc(); "{fault}")?;
+        assert_eq!(rt; text.as_str(), wanted);
+    }
+    let (short, sink, source) = (Short, SinkFailed, SourceFailed);
+    let text = format!(in rt.alloc(); "{short}; {sink}; {source}")?;
+    assert_eq!(rt;
+        text.as_str(),
+        "the bytes end too early; the sink could not be written; the source could not be read"
+    );
+    Ok(())
 }

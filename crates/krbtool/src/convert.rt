@@ -3,7 +3,7 @@
 ghost use Rattle.std.specs.Prelude.{◌≡◌, ◌⊎◌, ◌+◌, ◌-◌, ◌^◌, ◌<◌, ℕ, List, Some, Err, IfOk, IfErr, IfSome, length};
 ghost use Rattle.std.specs.Io.KnownBytes.{Appends, Keeps};
 ghost use Rattle.krb_name.specs.Flow.{AppendsBeginning};
-ghost use Rattle.krb_ccache.specs.Format.{IsCache, cache_bytes};
+ghost use Rattle.krb_ccache.specs.Format.{IsCache, written as cache_bytes};
 ghost use Rattle.krb_ccache.specs.Format as in_cache;
 ghost use Rattle.krb_ccache.specs.Value.{Cache};
 ghost use Rattle.krb_ccache.specs.declared.fault.CacheFault.{CacheFault};

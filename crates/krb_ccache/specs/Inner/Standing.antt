@@ -1,5 +1,5 @@
 -- What it means that parts of a cache stand at a place, or don't.
-use Rattle.std.specs.Prelude.{◌≡◌, ◌≢◌, ℕ, List, [], ◌++◌, All}
+use Rattle.std.specs.Prelude.{◌≡◌, ◌≢◌, ℕ, List, [], ◌++◌, Option, Some, All}
 use Rattle.std.specs.List.{flat_map}
 use Rattle.krb_name.specs.Cursor.{Place}
 use Rattle.krb_name.specs.Field.{Takes}
@@ -19,6 +19,10 @@ pub record Lies {X : Type 0} (spelled : X → List ℕ) (InRange : X → Type 0)
 pub record Reaches {X : Type 0} (spelled : X → List ℕ) (InRange : X → Type 0) (place : Place) (xs : List X) (behind : Place) : Type 0 where
   pub fit : All InRange xs
   pub takes : Takes place (flat_map spelled xs) behind
+
+-- a place behind what was read
+abbrev pub IsBehind : {X : Type 0} → Option (X × Place) → Place → Type 0
+IsBehind {X} read place = (x : X) × (read ≡ Some (x, place))
 
 -- no thing that is in range stands at the front
 abbrev pub IsMissing : {X : Type 0} → (X → List ℕ) → (X → Type 0) → List ℕ → Type 0

@@ -1,22 +1,21 @@
--- What is picked where an entry is there that can't be taken.
+-- What is chosen where an entry is there that can't be taken.
 use Rattle.std.specs.Prelude.{◌<◌}
 use Rattle.krb_keytab.specs.Entry.{KeytabEntry}
-use Rattle.krb_keytab.specs.declared.pick.Picked.{Picked}
-use Rattle.krb_keytab.specs.declared.pick.Picked.TheVariants.{Entry, NoName, NoKey, NoVersion}
+use Rattle.krb_keytab.specs.Pick.{Choice, chosen, no_name, no_key, no_version}
 
-abbrev pub or_no_key : Picked → Picked
-or_no_key NoName = NoKey
-or_no_key (Entry best) = Entry best
-or_no_key NoKey = NoKey
-or_no_key NoVersion = NoVersion
+abbrev pub or_no_key : Choice → Choice
+or_no_key no_name = no_key
+or_no_key (chosen best) = chosen best
+or_no_key no_key = no_key
+or_no_key no_version = no_version
 
-abbrev pub or_no_version : Picked → Picked
-or_no_version NoName = NoVersion
-or_no_version NoKey = NoVersion
-or_no_version (Entry best) = Entry best
-or_no_version NoVersion = NoVersion
+abbrev pub or_no_version : Choice → Choice
+or_no_version no_name = no_version
+or_no_version no_key = no_version
+or_no_version (chosen best) = chosen best
+or_no_version no_version = no_version
 
--- what was picked has a lower version number, or nothing was
-abbrev pub IsBelow : Picked → KeytabEntry → Type 0
-IsBelow (Entry best) e = best.now.kvno < e.kvno
+-- what was chosen has a lower version number, or nothing was
+abbrev pub IsBelow : Choice → KeytabEntry → Type 0
+IsBelow (chosen best) e = best.kvno < e.kvno
 IsBelow _ e = Unit {0}

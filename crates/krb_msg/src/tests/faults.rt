@@ -10,7 +10,7 @@ use std::test::Fail;
 
 /// The type that bytes are read as.
 #[derive(Clone, Copy, Debug)]
-enum Type {
+pub(crate) enum Type {
     Ticket,
     EncTicket,
     ApReq,

@@ -130,75 +130,8 @@ fn an_error_by_hand(rt: HostRuntime) -> Result<(), Fail> {
     Ok(())
 }
 
-/// A reply of as many bytes as a message may have at most, and of one more. 45 of them aren't sealed.
-#[test]
-fn the_limit_of_a_message(rt: HostRuntime) -> Result<(), Fail> {
-    for (more, is_written) in [(0, true), (1, false)] {
-        let reply = ApRep {
-            enc_part: Encrypted {
-                etype: 19,
-                kvno: None,
-                cipher: vec![in rt.alloc(); 7u8; 1_048_531 + more]?,
-            },
-        };
-        match reply.encode(rt.alloc()) {
-            Ok(bytes) => assert_eq!(rt; (bytes.len(), is_written), (1_048_576, true)),
-            Err(fault) => {
-                assert!(rt; !is_written && matches!(fault, EncodeFault::TooLong));
-            }
-        }
-    }
-    Ok(())
-}
-
-/// As many bytes as a message may have: no message has room for them.
-fn too_many(alloc: Global) -> Result<Vec<u8>, Fail> {
-    Ok(vec![in alloc; 7u8; 1_048_576]?)
-}
-
 fn is_too_long(answer: Result<Vec<u8>, EncodeFault>) -> bool {
     matches!(answer, Err(EncodeFault::TooLong))
-}
-
-#[test]
-fn messages_with_a_text_too_many(rt: HostRuntime) -> Result<(), Fail> {
-    let alloc = rt.alloc();
-    let mut ticket = TicketRef::parse(&TICKET)?.to_owned(alloc)?;
-    ticket.service.realm = Bytes::from(too_many(alloc)?);
-    assert!(rt; is_too_long(ticket.encode(alloc)));
-    let mut part = EncTicketRef::parse(&ENC_TICKET)?.to_owned(alloc)?;
-    part.client.components.push(Bytes::from(too_many(alloc)?))?;
-    assert!(rt; is_too_long(part.encode(alloc)));
-    let mut error = KrbErrorRef::parse(&KRB_ERROR)?.to_owned(alloc)?;
-    error.e_text = Some(Bytes::from(too_many(alloc)?));
-    assert!(rt; is_too_long(error.encode(alloc)));
-    Ok(())
-}
-
-#[test]
-fn messages_with_octets_too_many(rt: HostRuntime) -> Result<(), Fail> {
-    let alloc = rt.alloc();
-    let mut request = ApReqRef::parse(&AP_REQ)?.to_owned(alloc)?;
-    request.authenticator.cipher = too_many(alloc)?;
-    assert!(rt; is_too_long(request.encode(alloc)));
-    let mut authenticator = AuthenticatorRef::parse(&AUTHENTICATOR)?.to_owned(alloc)?;
-    authenticator.subkey = Some(RawKey {
-        etype: 19,
-        bytes: too_many(alloc)?,
-    });
-    assert!(rt; is_too_long(authenticator.encode(alloc)));
-    let (ctime, cusec) = Moment::new(0, 0).ok_or("a moment")?.parts();
-    let reply = EncApRepPart {
-        ctime,
-        cusec,
-        subkey: Some(RawKey {
-            etype: 19,
-            bytes: too_many(alloc)?,
-        }),
-        seq_number: None,
-    };
-    assert!(rt; is_too_long(reply.encode(alloc)));
-    Ok(())
 }
 
 /// A list of many elements, each of which has room.

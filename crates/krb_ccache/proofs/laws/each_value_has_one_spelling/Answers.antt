@@ -1,9 +1,11 @@
-use Rattle.std.proofs.Common.{sym, ◌∙◌}
-use Rattle.krb_ccache.proofs.AnswerLaws.{one_value}
+use Rattle.krb_ccache.proofs.LayoutLaws.{the_value, written_cache, same_written}
 use Rattle.krb_ccache.proofs.laws.each_value_has_one_spelling.Goals as goal
 
 pub returns-clause-value : goal.returns-clause-value
-returns-clause-value c = one_value
+returns-clause-value c = the_value
+
+pub returns-clause-written : goal.returns-clause-written
+returns-clause-written c = written_cache
 
 pub returns-clause-spelling : goal.returns-clause-spelling
-returns-clause-spelling c = λ bytes others cache p q. p.bytes_are ∙ sym q.bytes_are
+returns-clause-spelling c = same_written

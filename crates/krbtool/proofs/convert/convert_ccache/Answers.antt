@@ -3,7 +3,7 @@ use Rattle.std.proofs.lemmas.Result.{err_from_is_err_and}
 use Rattle.krb_ccache.specs.declared.fault.CacheFault.TheVariants.{OutOfMemory, Read, TooLong}
 use Rattle.krbtool.specs.declared.fault.EngineFault.TheVariants.{Cache}
 use Rattle.krbtool.proofs.FaultLaws.{passed_on, none_met, value_missed, value_met}
-use Rattle.krb_ccache.specs.Format.{cache_bytes, file_limit}
+use Rattle.krb_ccache.specs.Format.{written as cache_bytes, file_limit}
 use Rattle.krbtool.proofs.convert.convert_ccache.Goals as goal
 
 pub returns-in_err-cache-clause-faulty : goal.returns-in_err-cache-clause-faulty
@@ -30,3 +30,8 @@ returns-clause-grown g c = λ bytes value tells is more.
 pub returns-in-Ok-clause-faulty : goal.returns-in-Ok-clause-faulty
 returns-in-Ok-clause-faulty g c = λ bytes fault tells is.
     absurd (none_met OutOfMemory Read c.read.result c.in_ok-cache.cache fault c.in_ok-cache.was (c.read.ensures.only bytes (Err fault) tells is))
+
+pub returns-in-Ok-clause-grown : goal.returns-in-Ok-clause-grown
+returns-in-Ok-clause-grown g c = λ bytes value tells is more.
+    let same = value_met OutOfMemory Read c.read.result c.in_ok-cache.cache value c.in_ok-cache.was (c.read.ensures.only bytes (Ok value) tells is) in
+    rw (c.in-Ok.is) at (c.write_ccache.ensures.grown (rw same more))

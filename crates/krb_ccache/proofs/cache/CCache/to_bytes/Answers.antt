@@ -1,11 +1,10 @@
-use Rattle.std.proofs.Common.{refl, rules}
-use Rattle.krb_ccache.proofs.WritingLaws.{written_more, written_long}
+use Rattle.std.proofs.Common.{◌≤◌, length, ap, arith}
+use Rattle.krb_ccache.specs.Format.{file_limit, written}
+use Rattle.krb_ccache.proofs.LayoutLaws.{cache_is}
 use Rattle.krb_ccache.proofs.cache.CCache.to_bytes.Goals as goal
 
-pub returns-then-len-gt-FILE_LIMIT-clause-fault : goal.returns-then-len-gt-FILE_LIMIT-clause-fault
-returns-then-len-gt-FILE_LIMIT-clause-fault c = λ other. (refl, written_long c.args.self.now c.loop-credential.credential-index c.len.result c.loop-credential.bytes.items c.loop-credential.invariant (search rules) c.if-len-gt-FILE_LIMIT.true)
-
-pub loop-credential-preserved : goal.loop-credential-preserved
-loop-credential-preserved c =
-    written_more c.args.self.now c.deref-credential-items.result.now c.loop-credential.credential-index c.credential-item.result c.loop-credential.bytes.items c.write_credential.new.out.items (search rules) c.loop-credential-test.true c.credential-item.is
-    c.loop-credential.invariant c.in_ok-write_credential.ensures
+pub returns-clause-read_back : goal.returns-clause-read_back
+returns-clause-read_back c =
+    let is = c.in_ok-written.ensures.written in
+    let limit : length (written c.args.self.now) ≤ file_limit = c.in-Some.ensures.0 in
+    cache_is _ c.args.self.now (record { limit = omega (arith, limit, ap length is); fits = c.in_ok-written.ensures.fits; bytes_are = is })

@@ -1,4 +1,4 @@
-use Rattle.std.proofs.Common.{◌≡◌, ◌<◌, ◌∙◌, sym, refl, inl, inr, arith, rules, IsErrOf}
+use Rattle.std.proofs.Common.{Bool, true, false, ◌≡◌, ◌<◌, ◌∙◌, sym, refl, inl, inr, arith, rules, IsErrOf}
 use Rattle.std.proofs.lemmas.List.Elements.{All-from_get_or}
 use Rattle.krb_enc.specs.declared.fault.OpenFault.TheVariants.{OutOfMemory}
 use Rattle.krb_enc.proofs.DerivedKeys.{AreBytes}
@@ -7,15 +7,18 @@ use Rattle.krb_enc.proofs.OnePlain.{one_plain}
 use Rattle.krb_enc.proofs.Opening.{parts_of, has_tag, no_tag, tagged_opens, opened}
 use Rattle.krb_enc.proofs.enctype.Enctype.open.Goals as goal
 
+is_not : (b : Bool) → b ≡ true → b ≡ false → ⊥
+is_not b p q = cc
+
 pub returns-clause-opened : goal.returns-clause-opened
 returns-clause-opened g c =
     let text = c.args.text.now in
     let p = g.Self.Enctype.profile in
     let size = g.met.Self.Enctype.tag_len_is in
-    let parts = parts_of p c.args.key.now c.args.usage text c.split_at.result.0.now c.split_at.result.1.now c.as_slice.result.now c.TAG_LEN-2.result
-    (c.TAG_LEN-2.ensures ∙ sym size) c.split_at.ensures.front c.split_at.ensures.back (c.as_slice.ensures ∙ c.tag.ensures) in
+    let parts = parts_of p c.args.key.now c.args.usage text c.split_at.result.0.now c.split_at.result.1.now c.tag.result c.TAG_LEN-2.result
+    (c.TAG_LEN-2.ensures ∙ sym size) c.split_at.ensures.front c.split_at.ensures.back c.tag.ensures in
     let bytes : AreBytes text = All-from_get_or (λ byte. byte < 256) text 0 (λ i within. omega (arith, c.type_inv.text i)) in
-    let same : c.as_slice.result.now ≡ c.split_at.result.1.now = search rules in
+    let same : c.tag.result ≡ c.split_at.result.1.now = sym (c.is.ensures.0 c.if-not-is.false) in
     opened p c.args.key.now c.args.usage text _ _ _ c.encryption_key.result c.in_ok-decrypted.field-0.items g.met.Self.Enctype.is_profile bytes (omega (arith, size))
     parts same c.encryption_key.ensures c.in_ok-decrypted.ensures.plain
 
@@ -31,10 +34,10 @@ returns-in_err-decrypted-clause-refused g c =
     let text = c.args.text.now in
     let p = g.Self.Enctype.profile in
     let size = g.met.Self.Enctype.tag_len_is in
-    let parts = parts_of p c.args.key.now c.args.usage text c.split_at.result.0.now c.split_at.result.1.now c.as_slice.result.now c.TAG_LEN-2.result
-    (c.TAG_LEN-2.ensures ∙ sym size) c.split_at.ensures.front c.split_at.ensures.back (c.as_slice.ensures ∙ c.tag.ensures) in
+    let parts = parts_of p c.args.key.now c.args.usage text c.split_at.result.0.now c.split_at.result.1.now c.tag.result c.TAG_LEN-2.result
+    (c.TAG_LEN-2.ensures ∙ sym size) c.split_at.ensures.front c.split_at.ensures.back c.tag.ensures in
     let bytes : AreBytes text = All-from_get_or (λ byte. byte < 256) text 0 (λ i within. omega (arith, c.type_inv.text i)) in
-    let same : c.as_slice.result.now ≡ c.split_at.result.1.now = search rules in
+    let same : c.tag.result ≡ c.split_at.result.1.now = sym (c.is.ensures.0 c.if-not-is.false) in
     let opens = tagged_opens p c.args.key.now c.args.usage text g.met.Self.Enctype.is_profile bytes (omega (arith, size)) (has_tag p c.args.key.now c.args.usage text _ _ _ parts same) in
     let memory : IsErrOf c.from_residual.result OutOfMemory = search rules in
     (λ which. elim which [ inl e ↦ absurd cc | inr e ↦ absurd cc ], λ none. absurd (none _ opens))
@@ -52,15 +55,15 @@ returns-then-text-TAG_LEN-clause-refused g c = (
   λ none. inl refl,
 )
 
-pub returns-then-ne-clause-refused : goal.returns-then-ne-clause-refused
-returns-then-ne-clause-refused g c =
+pub returns-then-not-is-clause-refused : goal.returns-then-not-is-clause-refused
+returns-then-not-is-clause-refused g c =
     let text = c.args.text.now in
     let p = g.Self.Enctype.profile in
     let size = g.met.Self.Enctype.tag_len_is in
-    let parts = parts_of p c.args.key.now c.args.usage text c.split_at.result.0.now c.split_at.result.1.now c.as_slice.result.now c.TAG_LEN-2.result
-    (c.TAG_LEN-2.ensures ∙ sym size) c.split_at.ensures.front c.split_at.ensures.back (c.as_slice.ensures ∙ c.tag.ensures) in
-    let differs : c.as_slice.result.now ≡ c.split_at.result.1.now → ⊥ = search rules in
+    let parts = parts_of p c.args.key.now c.args.usage text c.split_at.result.0.now c.split_at.result.1.now c.tag.result c.TAG_LEN-2.result
+    (c.TAG_LEN-2.ensures ∙ sym size) c.split_at.ensures.front c.split_at.ensures.back c.tag.ensures in
+    let differs : c.tag.result ≡ c.split_at.result.1.now → ⊥ = λ same. is_not c.is.result (c.is.ensures.1 (sym same)) c.if-not-is.true in
     (λ which. no_tag p c.args.key.now c.args.usage text _ _ _ g.met.Self.Enctype.is_profile parts differs, λ none. inr refl)
 
-pub returns-then-ne-clause-found : goal.returns-then-ne-clause-found
-returns-then-ne-clause-found g c plain o = absurd ((returns-then-ne-clause-refused g c).0 (inr refl) plain o)
+pub returns-then-not-is-clause-found : goal.returns-then-not-is-clause-found
+returns-then-not-is-clause-found g c plain o = absurd ((returns-then-not-is-clause-refused g c).0 (inr refl) plain o)

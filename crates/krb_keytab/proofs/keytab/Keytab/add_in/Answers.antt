@@ -1,7 +1,7 @@
-use Rattle.std.proofs.Common.{Err, arith, ap, inl, inr}
+use Rattle.std.proofs.Common.{◌≡◌, ◌+◌, ◌<◌, ℕ, Err, arith, ap, sym, subst, vec_capacity, inl, inr}
 use Rattle.std.proofs.lemmas.Result.{err_from_is_err_and}
 use Rattle.krb_keytab.proofs.EditLaws.{same_fault}
-use Rattle.krb_keytab.proofs.AddLaws.{fills_hole, fill_gains, appends, append_gains, passing_no_fault, passing_no_room, passing_is_long, room_no_fault, none_no_fault}
+use Rattle.krb_keytab.proofs.AddLaws.{growing, fills_hole, fill_gains, appends, append_gains, passing_no_fault, passing_no_room, passing_is_long, room_no_fault, none_no_fault}
 use Rattle.krb_keytab.proofs.keytab.Keytab.add_in.Goals as goal
 
 -- ---- the file has a fault
@@ -87,3 +87,10 @@ returns-in_ok-put_record-in-End-clause-too_long c = λ passes.
     let none = rw (c.in-End.is, c.deref.ensures.value) at c.in_ok-hole.ensures.found in
     let within = c.if-end-size.false in
     absurd (passing_is_long c.record_length-size.result c.in-End.end c.record_length-size.ensures.length passes none (omega (arith, within, none.at_is)))
+
+pub returns-in_err-put_record-in-End-clause-memory : goal.returns-in_err-put_record-in-End-clause-memory
+returns-in_err-put_record-in-End-clause-memory c = λ out.
+    let none = rw (c.in-End.is, c.deref.ensures.value) at c.in_ok-hole.ensures.found in
+    let is = c.record_length-size.ensures.length in
+    let full : vec_capacity c.args.file.now < c.in-End.end + c.record_length-size.result = omega (arith, c.in_err-put_record-in-End.ensures.full, is) in
+    growing c.args.entry.now c.record_length-size.result c.in-End.end (λ (count : ℕ). vec_capacity c.args.file.now < count) is none full

@@ -1,0 +1,13 @@
+pub mod Truth
+pub mod Begins
+pub mod OneOpening
+pub mod Table
+pub mod Stages
+pub mod TurnedAway
+pub mod Late
+pub mod Standing
+pub mod Afterwards
+pub mod OneAnswer
+pub mod Runs
+pub mod Decided
+pub mod Answered

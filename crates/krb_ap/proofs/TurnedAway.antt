@@ -1,0 +1,214 @@
+-- Why a request is turned away, or how it is judged, at each stage.
+use Rattle.std.proofs.Common.{◌≡◌, ℕ, ◌<◌, ℤ, pos, ◌+ℤ◌, List, refl, sym, subst, arith, lit<, Some, None, Option}
+use Rattle.std.specs.Prelude.{◌≤ℤ◌, ◌-ℤ◌, IfSome}
+use Rattle.std.proofs.lemmas.Int.{ints}
+use Rattle.krb_name.specs.declared.principal.Principal.{Principal}
+use Rattle.krb_der.specs.Kind.{Kind, ValueOf}
+use Rattle.krb_der.specs.Spells.{IsMessage}
+use Rattle.krb_enc.specs.Key.{KeyValue, IsUsable, profile_of}
+use Rattle.krb_enc.specs.Opens.{Opens}
+use Rattle.krb_msg.specs.Module.{ap_req, enc_ticket_part, authenticator}
+use Rattle.krb_msg.specs.Fields.{etype_of, kvno_of, cipher_of}
+use Rattle.krb_keytab.specs.Entry.{KeytabEntry}
+use Rattle.krb_keytab.specs.Pick.{chosen, no_key, no_version, IsChoice}
+use Rattle.krb_replay.specs.Stamp.{Stamp}
+use Rattle.krb_replay.specs.Memory.{later_of, IsRecent}
+use Rattle.krb_ap.specs.Setup.{Setup, Arrival, arrival}
+use Rattle.krb_ap.specs.Opened.{OpensAs, Asks, Keyed, Ticketed, OpensAuthenticator, Authenticated, OpenedAs, SameClient, sealed_ticket, session_key, entry_key, service_of, ticket_usage, sent_at, stamp_of}
+use Rattle.krb_ap.specs.Times.{Near}
+use Rattle.krb_ap.specs.History.{greatest, effective, Shows, IsShown, IsStillRecent}
+use Rattle.krb_ap.specs.Causes.{place, Cause}
+use Rattle.krb_ap.specs.Inner.Facts.{Facts}
+use Rattle.krb_ap.specs.Inner.Stages.{IsChosenKey, Wants, IsShut, IsNone}
+use Rattle.krb_ap.specs.Inner.Judging.{IsTurnedAway}
+use Rattle.krb_ap.proofs.OneOpening.{one_authenticated, of_opened, SameOpening}
+use Rattle.krb_ap.proofs.Table.{Clear, pass}
+use Rattle.krb_ap.proofs.Stages.{asked, named, with_key, keyed, ticketed, usable, authenticated, opened}
+use Rattle.krb_ap.specs.declared.refusal.Refusal.{Refusal}
+use Rattle.krb_ap.specs.declared.refusal.Refusal.TheVariants.{MessageType, Malformed, UserToUser, TicketEtype, NotUs, NoKey, BadKeyVersion, TicketIntegrity, SessionKey, AuthenticatorIntegrity, BadMatch, Skew, Repeat, NotYetValid, Expired, Transited, Authorization, OutOfMemory}
+
+-- a text that opens to no message of the kind
+pub opens_to_none : Facts → (key : KeyValue) (usage : ℕ) (cipher plain : List ℕ) (k : Kind) → Opens (profile_of key) key.bytes usage cipher plain
+    → IsNone k plain → (v : ValueOf k) → ¬ OpensAs key usage cipher k v
+opens_to_none facts key usage cipher plain k opens none v o =
+    none v (subst (λ (x : List ℕ). IsMessage k v x) (facts.one_plain key usage cipher o.plain plain o.opens opens) o.message)
+
+pub opens_nothing : (key : KeyValue) (usage : ℕ) (cipher : List ℕ) (k : Kind) → IsShut key usage cipher → (v : ValueOf k) → ¬ OpensAs key usage cipher k v
+opens_nothing key usage cipher k shut v o = shut o.plain o.opens
+
+-- ---- by the key that a keytab's choice gives
+
+pub keyed_by : (setup : Setup) (bytes : List ℕ) (request : ValueOf ap_req) (entries : List KeytabEntry) (server : Principal) (key : KeyValue)
+    → entries ≡ setup.entries → server ≡ service_of request → Asks bytes request
+    → (k : IsChosenKey entries server (sealed_ticket request) key) → Keyed setup bytes request k.entry
+keyed_by setup bytes request entries server key e s asks k = record {
+  asks = asks;
+  chosen_is = subst (λ (n : Principal). IsChoice setup.entries n (etype_of (sealed_ticket request)) (kvno_of (sealed_ticket request)) (chosen k.entry)) s
+      (subst (λ (l : List KeytabEntry). IsChoice l server (etype_of (sealed_ticket request)) (kvno_of (sealed_ticket request)) (chosen k.entry)) e k.chosen_is);
+}
+
+pub wants_by : (setup : Setup) (request : ValueOf ap_req) (entries : List KeytabEntry) (server : Principal) (r : Refusal)
+    → entries ≡ setup.entries → server ≡ service_of request → Wants entries server (sealed_ticket request) r
+    → Wants setup.entries (service_of request) (sealed_ticket request) r
+wants_by setup request entries server r e s w =
+    subst (λ (n : Principal). Wants setup.entries n (sealed_ticket request) r) s
+    (subst (λ (l : List KeytabEntry). Wants l server (sealed_ticket request) r) e w)
+
+pub shut_by : (key : KeyValue) (other : KeyValue) (usage : ℕ) (cipher : List ℕ) (k : Kind) → key ≡ other → IsShut key usage cipher
+    → (v : ValueOf k) → ¬ OpensAs other usage cipher k v
+shut_by key other usage cipher k e shut = subst (λ (x : KeyValue). (v : ValueOf k) → ¬ OpensAs x usage cipher k v) e (opens_nothing key usage cipher k shut)
+
+pub none_by : Facts → (key : KeyValue) (other : KeyValue) (usage : ℕ) (cipher plain lent : List ℕ) (k : Kind) → key ≡ other → lent ≡ plain
+    → Opens (profile_of key) key.bytes usage cipher plain → IsNone k lent → (v : ValueOf k) → ¬ OpensAs other usage cipher k v
+none_by facts key other usage cipher plain lent k e f opens none =
+    subst (λ (x : KeyValue). (v : ValueOf k) → ¬ OpensAs x usage cipher k v) e
+    (opens_to_none facts key usage cipher plain k opens (subst (λ (x : List ℕ). IsNone k x) f none))
+
+pub opens_by : (key : KeyValue) (other : KeyValue) (usage : ℕ) (cipher plain lent : List ℕ) (k : Kind) (v : ValueOf k) → key ≡ other → lent ≡ plain
+    → Opens (profile_of key) key.bytes usage cipher plain → IsMessage k v lent → OpensAs other usage cipher k v
+opens_by key other usage cipher plain lent k v e f opens message =
+    subst (λ (x : KeyValue). OpensAs x usage cipher k v) e
+    (record { plain = plain; opens = opens; message = subst (λ (x : List ℕ). IsMessage k v x) f message })
+
+pub near_by : (a b n m : ℤ) (s t : ℕ) → a ≡ b → n ≡ m → s ≡ t → Near b m t → Near a n s
+near_by a b n m s t e f h near =
+    subst (λ (x : ℤ). Near x n s) (sym e) (subst (λ (x : ℤ). Near b x s) (sym f) (subst (λ (x : ℕ). Near b m x) (sym h) near))
+
+module _ (facts : Facts) (setup : Setup) (history : List Arrival) (bytes : List ℕ) (moment : ℤ) (Has : Stamp → Type 0) where
+  -- what a cause before the opening turns away shows nothing
+  pub turned_away : (r : Refusal) → place r < 12 → Cause setup history (arrival bytes moment) r
+      → IsTurnedAway setup history (arrival bytes moment) Has r
+  turned_away r early cause = record {
+    cause = cause;
+    had = λ stamp shows. absurd (opened facts setup history (arrival bytes moment) shows.request shows.part shows.auth shows.opened r early cause.holds);
+  }
+
+  -- ---- the key
+
+  pub wanted : (request : ValueOf ap_req) → Asks bytes request → (r : Refusal)
+      → Wants setup.entries (service_of request) (sealed_ticket request) r → IsTurnedAway setup history (arrival bytes moment) Has r
+  wanted request asks NotUs w = turned_away NotUs (lit< tt) (record {
+    holds = record { request = request; asks = asks; holds = w };
+    first = asked facts setup history (arrival bytes moment) request asks;
+  })
+  wanted request asks NoKey w = turned_away NoKey (lit< tt) (record {
+    holds = record { request = request; asks = asks; holds = w };
+    first = named facts setup history (arrival bytes moment) request no_key (λ e. cc) asks w;
+  })
+  wanted request asks BadKeyVersion w = turned_away BadKeyVersion (lit< tt) (record {
+    holds = record { request = request; asks = asks; holds = w };
+    first = with_key facts setup history (arrival bytes moment) request no_version (λ e. cc) (λ e. cc) asks w;
+  })
+  wanted request asks MessageType w = absurd w
+  wanted request asks (Malformed fault) w = absurd w
+  wanted request asks UserToUser w = absurd w
+  wanted request asks TicketEtype w = absurd w
+  wanted request asks TicketIntegrity w = absurd w
+  wanted request asks SessionKey w = absurd w
+  wanted request asks AuthenticatorIntegrity w = absurd w
+  wanted request asks BadMatch w = absurd w
+  wanted request asks Skew w = absurd w
+  wanted request asks Repeat w = absurd w
+  wanted request asks NotYetValid w = absurd w
+  wanted request asks Expired w = absurd w
+  wanted request asks Transited w = absurd w
+  wanted request asks Authorization w = absurd w
+  wanted request asks OutOfMemory w = absurd w
+
+  -- ---- the ticket
+
+  pub ticket_shut : (request : ValueOf ap_req) (entry : KeytabEntry) → Keyed setup bytes request entry
+      → ((part : ValueOf enc_ticket_part) → ¬ OpensAs (entry_key entry) ticket_usage (cipher_of (sealed_ticket request)) enc_ticket_part part)
+      → IsTurnedAway setup history (arrival bytes moment) Has TicketIntegrity
+  ticket_shut request entry k shut = turned_away TicketIntegrity (lit< tt) (record {
+    holds = record { request = request; entry = entry; keyed = k; shut = shut };
+    first = keyed facts setup history (arrival bytes moment) request entry k;
+  })
+
+  pub key_unusable : (request : ValueOf ap_req) (part : ValueOf enc_ticket_part) → Ticketed setup bytes request part
+      → ¬ IsUsable (session_key part) → IsTurnedAway setup history (arrival bytes moment) Has SessionKey
+  key_unusable request part t u = turned_away SessionKey (lit< tt) (record {
+    holds = record { request = request; part = part; ticketed = t; holds = u };
+    first = ticketed facts setup history (arrival bytes moment) request part t;
+  })
+
+  -- ---- the authenticator
+
+  pub authenticator_shut : (request : ValueOf ap_req) (part : ValueOf enc_ticket_part) → Ticketed setup bytes request part → IsUsable (session_key part)
+      → ((auth : ValueOf authenticator) → ¬ OpensAuthenticator request part auth)
+      → IsTurnedAway setup history (arrival bytes moment) Has AuthenticatorIntegrity
+  authenticator_shut request part t u shut = turned_away AuthenticatorIntegrity (lit< tt) (record {
+    holds = record { request = request; part = part; ticketed = t; holds = shut };
+    first = usable facts setup history (arrival bytes moment) request part t u;
+  })
+
+  pub other_client : (request : ValueOf ap_req) (part : ValueOf enc_ticket_part) (auth : ValueOf authenticator)
+      → Authenticated setup bytes request part auth → ¬ SameClient part auth → IsTurnedAway setup history (arrival bytes moment) Has BadMatch
+  other_client request part auth a other = turned_away BadMatch (lit< tt) (record {
+    holds = record { request = request; part = part; auth = auth; authenticated = a; holds = other };
+    first = authenticated facts setup history (arrival bytes moment) request part auth a;
+  })
+
+  -- ---- what was opened
+
+  module _ (request : ValueOf ap_req) (part : ValueOf enc_ticket_part) (auth : ValueOf authenticator) (o : OpenedAs setup bytes request part auth) where
+    same : (now : ℤ) (stamp : Stamp) (shows : Shows setup now bytes stamp) → SameOpening request shows.request part shows.part auth shows.auth
+    same now stamp shows = one_authenticated facts setup bytes request shows.request part shows.part auth shows.auth o.authenticated shows.opened.authenticated
+
+    -- what is shown is near, and is this stamp
+    pub shown_near : (now : ℤ) (stamp : Stamp) → Shows setup now bytes stamp → Near (sent_at auth) now setup.skew
+    shown_near now stamp shows = subst (λ (a : ValueOf authenticator). Near (sent_at a) now setup.skew) (same now stamp shows).auth shows.near
+
+    pub shown_stamp : (now : ℤ) (stamp : Stamp) → Shows setup now bytes stamp → stamp ≡ stamp_of request part auth
+    shown_stamp now stamp shows =
+        let s : SameOpening request shows.request part shows.part auth shows.auth = same now stamp shows in
+        let e : stamp_of shows.request shows.part shows.auth ≡ stamp_of request part auth =
+        subst (λ (r : ValueOf ap_req). stamp_of shows.request shows.part shows.auth ≡ stamp_of r part auth) s.request
+        (subst (λ (p : ValueOf enc_ticket_part). stamp_of shows.request shows.part shows.auth ≡ stamp_of shows.request p auth) s.part
+        (subst (λ (a : ValueOf authenticator). stamp_of shows.request shows.part shows.auth ≡ stamp_of shows.request shows.part a) s.auth refl)) in
+        subst (λ (x : Stamp). stamp ≡ x) e shows.stamp_is
+
+    pub far : ¬ Near (sent_at auth) (effective history moment) setup.skew → IsTurnedAway setup history (arrival bytes moment) Has Skew
+    far not_near = record {
+      cause = record {
+        holds = record { request = request; part = part; auth = auth; opened = o; holds = not_near };
+        first = opened facts setup history (arrival bytes moment) request part auth o;
+      };
+      had = λ stamp shows. absurd (not_near (shown_near (effective history moment) stamp shows));
+    }
+
+    -- a near request passes the row of skewed clocks
+    pub near_passes : Near (sent_at auth) (effective history moment) setup.skew → Clear setup history (arrival bytes moment) 13
+    near_passes near = pass setup history (arrival bytes moment) Skew (λ e. cc) (opened facts setup history (arrival bytes moment) request part auth o)
+        (λ x. of_opened facts setup bytes request part auth (λ r p a. ¬ Near (sent_at a) (effective history moment) setup.skew) o x near)
+
+    pub repeated : Near (sent_at auth) (effective history moment) setup.skew → IsShown setup history (stamp_of request part auth)
+        → Has (stamp_of request part auth) → IsTurnedAway setup history (arrival bytes moment) Has Repeat
+    repeated near shown had = record {
+      cause = record {
+        holds = record { request = request; part = part; auth = auth; opened = o; holds = shown };
+        first = near_passes near;
+      };
+      had = λ stamp shows. subst Has (sym (shown_stamp (effective history moment) stamp shows)) had;
+    }
+
+    pub new_passes : Near (sent_at auth) (effective history moment) setup.skew → ¬ IsShown setup history (stamp_of request part auth)
+        → Clear setup history (arrival bytes moment) 14
+    new_passes near unshown = pass setup history (arrival bytes moment) Repeat (λ e. cc) (near_passes near)
+        (λ x. unshown (of_opened facts setup bytes request part auth (λ r p a. IsShown setup history (stamp_of r p a)) o x))
+
+-- ---- a memory that stands for a history has what was shown and is near
+
+later_is_later : (latest moment : ℤ) → latest ≤ℤ later_of (Some latest) moment
+later_is_later latest moment = grind (arith, ints)
+
+recent : (latest now sent : ℤ) (skew : ℕ) → latest ≤ℤ now → now ≤ℤ (sent +ℤ pos skew) → (latest -ℤ pos skew) ≤ℤ sent
+recent latest now sent skew h g = omega (arith, ints)
+
+pub near_is_recent : (setup : Setup) (history : List Arrival) (moment : ℤ) (stamp : Stamp)
+    → Near stamp.time (effective history moment) setup.skew → IsStillRecent setup history stamp
+near_is_recent setup history moment stamp near = at (greatest history) near.not_before
+  where
+    at : (latest : Option ℤ) → later_of latest moment ≤ℤ (stamp.time +ℤ pos setup.skew) → IfSome latest (λ now. IsRecent now setup.skew stamp)
+    at None h = tt
+    at (Some latest) h = recent latest (later_of (Some latest) moment) stamp.time setup.skew (later_is_later latest moment) h

@@ -1,0 +1,118 @@
+use Rattle.std.proofs.Common.{◌≡◌, List, ap, sym, ◌∙◌, subst, refl, inl, inr, ◌⊎◌, Err}
+use Rattle.std.specs.Prelude.{IsErrOf}
+use Rattle.krb_replay.specs.Memory.{later_of, IsRecent}
+use Rattle.krb_replay.specs.Stamp.{Stamp}
+use Rattle.krb_ap.specs.Setup.{Setup, Arrival, arrival}
+use Rattle.krb_ap.specs.Inner.GoingOn.{GoesOn}
+use Rattle.krb_ap.specs.declared.accepted.Accepted.{Accepted}
+use Rattle.krb_ap.specs.declared.refusal.Refusal.TheVariants.{OutOfMemory}
+use Rattle.krb_ap.specs.History.{StandsFor, Shows, effective}
+use Rattle.krb_ap.specs.Answer.{after_refusal}
+use Rattle.krb_ap.specs.Inner.Judging.{IsJudged, IsTurnedAway}
+use Rattle.krb_ap.specs.declared.refusal.Refusal.{Refusal}
+use Rattle.krb_ap.proofs.Truth.{is_so, is_not}
+use Rattle.krb_ap.proofs.Afterwards.{after_named, after_answer, not_memory, refusal_of}
+use Rattle.krb_ap.proofs.Standing.{after_advance, after_exactly, after_forgetting, one_stamp, stands_still}
+use Rattle.krb_ap.proofs.acceptor.Acceptor.decide.Goals as goal
+
+pub returns-then-is_memory-clause-goes_on : goal.returns-then-is_memory-clause-goes_on
+returns-then-is_memory-clause-goes_on g c = λ history stands.
+    let is : c.in-Err.refusal ≡ OutOfMemory = is_so _ _ c.is_memory.ensures c.if-is_memory.true in
+    subst (λ (h : List Arrival). GoesOn g.M.ReplayMemory.KEEPS g.M.ReplayMemory.FORGETS c.args.self.now.setup c.args.self.now.setup history h
+    (g.M.ReplayMemory.has c.args.self.now.memory) (g.M.ReplayMemory.has c.args.self.now.memory) (g.M.ReplayMemory.newest c.args.self.now.memory)
+    (IsErrOf {T = Accepted} {E = Refusal} (Err c.in-Err.refusal) OutOfMemory))
+    (ap (after_refusal history (arrival c.args.bytes.now c.args.now)) (sym is))
+    (record { stands = stands; keeps = λ keeping exact. exact; forgets = λ forgetting named. absurd (named (ap Err is)) })
+
+pub returns-in-Err-clause-goes_on : goal.returns-in-Err-clause-goes_on
+returns-in-Err-clause-goes_on g c = λ history stands.
+    let named : _ = is_not _ _ c.is_memory.ensures c.if-is_memory.false in
+    let eff : c.effective-now.result ≡ effective history c.args.now = c.effective-now.ensures ∙ ap (λ l. later_of l c.args.now) stands.latest_is in
+    let turned : IsTurnedAway c.args.self.now.setup history (arrival c.args.bytes.now c.args.now) (g.M.ReplayMemory.has c.args.self.now.memory) c.in-Err.refusal =
+    c.in-Err.ensures.judged history c.args.now stands eff named in
+    let added : (stamp : Stamp) → g.M.ReplayMemory.has c.args.self.now.memory stamp
+    → g.M.ReplayMemory.has c.args.self.now.memory stamp ⊎ Shows c.args.self.now.setup (effective history c.args.now) c.args.bytes.now stamp = λ stamp had. inl had in
+    let held : (stamp : Stamp) → g.M.ReplayMemory.has c.args.self.now.memory stamp ⊎ Shows c.args.self.now.setup (effective history c.args.now) c.args.bytes.now stamp
+    → g.M.ReplayMemory.has c.args.self.now.memory stamp = λ stamp either. elim either [ inl had ↦ had | inr shows ↦ turned.had stamp shows ] in
+    subst (λ (h : List Arrival). GoesOn g.M.ReplayMemory.KEEPS g.M.ReplayMemory.FORGETS c.args.self.now.setup c.advance.new.self.setup history h
+    (g.M.ReplayMemory.has c.args.self.now.memory) (g.M.ReplayMemory.has c.advance.new.self.memory) (g.M.ReplayMemory.newest c.advance.new.self.memory)
+    (IsErrOf {T = Accepted} {E = Refusal} (Err c.in-Err.refusal) OutOfMemory))
+    (after_named history (arrival c.args.bytes.now c.args.now) c.in-Err.refusal named)
+    (record {
+      stands = after_advance c.args.self.now.setup c.advance.new.self.setup history c.args.bytes.now c.args.now c.effective-now.result
+          (g.M.ReplayMemory.has c.args.self.now.memory) (g.M.ReplayMemory.has c.args.self.now.memory) (g.M.ReplayMemory.has c.advance.new.self.memory)
+          (g.M.ReplayMemory.newest c.args.self.now.memory) (g.M.ReplayMemory.newest c.args.self.now.memory) (g.M.ReplayMemory.newest c.advance.new.self.memory)
+          stands c.effective-now.ensures refl c.advance.ensures.newest c.advance.ensures.setup added held
+          c.advance.ensures.none_added c.advance.ensures.kept;
+      keeps = λ keeping exact. after_exactly c.args.self.now.setup history c.args.bytes.now c.args.now
+          (g.M.ReplayMemory.has c.args.self.now.memory) (g.M.ReplayMemory.has c.args.self.now.memory) (g.M.ReplayMemory.has c.advance.new.self.memory)
+          exact added held (c.advance.ensures.keeps keeping);
+      forgets = λ forgetting memory. after_forgetting c.args.self.now.setup history c.args.now c.effective-now.result
+          (g.M.ReplayMemory.newest c.args.self.now.memory) (g.M.ReplayMemory.newest c.args.self.now.memory) (g.M.ReplayMemory.has c.advance.new.self.memory)
+          stands.latest_is c.effective-now.ensures refl (c.advance.ensures.forgets forgetting);
+    })
+
+pub returns-in-Err-clause-unchanged : goal.returns-in-Err-clause-unchanged
+returns-in-Err-clause-unchanged g c = λ memory. absurd (is_not _ _ c.is_memory.ensures c.if-is_memory.false (refusal_of _ _ memory))
+
+pub returns-in-Ok-remember-clause-goes_on : goal.returns-in-Ok-remember-clause-goes_on
+returns-in-Ok-remember-clause-goes_on g c = λ history stands.
+    let eff : c.effective-now.result ≡ effective history c.args.now = c.effective-now.ensures ∙ ap (λ l. later_of l c.args.now) stands.latest_is in
+    let judged : IsJudged c.args.self.now.setup history (arrival c.args.bytes.now c.args.now) c.in-Ok.judged.tuple c.in-Ok.judged.answer =
+    c.in-Ok.ensures.judged history c.args.now stands eff in
+    let added : (stamp : Stamp) → g.M.ReplayMemory.has c.remember.new.self.memory stamp
+    → g.M.ReplayMemory.has c.args.self.now.memory stamp ⊎ Shows c.args.self.now.setup (effective history c.args.now) c.args.bytes.now stamp =
+    λ stamp had. elim ((c.in-Ok-remember.ensures.ok stamp).0 had) [
+      | inl same ↦ inr (subst (λ (s : Stamp). Shows c.args.self.now.setup (effective history c.args.now) c.args.bytes.now s) (sym same) judged.shows)
+      | inr had ↦ inl had
+    ] in
+    let held : (stamp : Stamp) → g.M.ReplayMemory.has c.args.self.now.memory stamp ⊎ Shows c.args.self.now.setup (effective history c.args.now) c.args.bytes.now stamp
+    → g.M.ReplayMemory.has c.remember.new.self.memory stamp =
+    λ stamp either. (c.in-Ok-remember.ensures.ok stamp).1 (elim either [
+      | inl had ↦ inr had
+      | inr shows ↦ inl (one_stamp c.facts.ensures c.args.self.now.setup history c.args.bytes.now c.args.now (effective history c.args.now) c.in-Ok.judged.tuple stamp judged.shows shows)
+    ]) in
+    let recent : (stamp : Stamp) → IsRecent (later_of (g.M.ReplayMemory.newest c.remember.new.self.memory) c.effective-now.result) c.args.self.now.setup.skew stamp
+    → IsRecent (later_of (g.M.ReplayMemory.newest c.remember.new.self.memory) c.effective-now.result) c.remember.new.self.setup.skew stamp =
+    λ stamp. subst (λ (s : Setup). IsRecent (later_of (g.M.ReplayMemory.newest c.remember.new.self.memory) c.effective-now.result) s.skew stamp) (sym c.in-Ok-remember.ensures.setup) in
+    let lately : (stamp : Stamp) → IsRecent (later_of (g.M.ReplayMemory.newest c.remember.new.self.memory) c.effective-now.result) c.remember.new.self.setup.skew stamp
+    → IsRecent (later_of (g.M.ReplayMemory.newest c.remember.new.self.memory) c.effective-now.result) c.args.self.now.setup.skew stamp =
+    λ stamp. subst (λ (s : Setup). IsRecent (later_of (g.M.ReplayMemory.newest c.remember.new.self.memory) c.effective-now.result) s.skew stamp) c.in-Ok-remember.ensures.setup in
+    subst (λ (h : List Arrival). GoesOn g.M.ReplayMemory.KEEPS g.M.ReplayMemory.FORGETS c.args.self.now.setup c.advance-in-Ok-remember.new.self.setup history h
+    (g.M.ReplayMemory.has c.args.self.now.memory) (g.M.ReplayMemory.has c.advance-in-Ok-remember.new.self.memory) (g.M.ReplayMemory.newest c.advance-in-Ok-remember.new.self.memory)
+    (IsErrOf c.in-Ok.judged.answer OutOfMemory))
+    (after_answer history (arrival c.args.bytes.now c.args.now) c.in-Ok.judged.answer c.in-Ok.ensures.named)
+    (record {
+      stands = after_advance c.args.self.now.setup c.advance-in-Ok-remember.new.self.setup history c.args.bytes.now c.args.now c.effective-now.result
+          (g.M.ReplayMemory.has c.args.self.now.memory) (g.M.ReplayMemory.has c.remember.new.self.memory) (g.M.ReplayMemory.has c.advance-in-Ok-remember.new.self.memory)
+          (g.M.ReplayMemory.newest c.args.self.now.memory) (g.M.ReplayMemory.newest c.remember.new.self.memory) (g.M.ReplayMemory.newest c.advance-in-Ok-remember.new.self.memory)
+          stands c.effective-now.ensures c.in-Ok-remember.ensures.newest c.advance-in-Ok-remember.ensures.newest
+          (c.advance-in-Ok-remember.ensures.setup ∙ c.in-Ok-remember.ensures.setup) added held
+          c.advance-in-Ok-remember.ensures.none_added
+          (λ stamp had r. c.advance-in-Ok-remember.ensures.kept stamp had (recent stamp r));
+      keeps = λ keeping exact. after_exactly c.args.self.now.setup history c.args.bytes.now c.args.now
+          (g.M.ReplayMemory.has c.args.self.now.memory) (g.M.ReplayMemory.has c.remember.new.self.memory) (g.M.ReplayMemory.has c.advance-in-Ok-remember.new.self.memory)
+          exact added held (c.advance-in-Ok-remember.ensures.keeps keeping);
+      forgets = λ forgetting memory. after_forgetting c.args.self.now.setup history c.args.now c.effective-now.result
+          (g.M.ReplayMemory.newest c.args.self.now.memory) (g.M.ReplayMemory.newest c.remember.new.self.memory) (g.M.ReplayMemory.has c.advance-in-Ok-remember.new.self.memory)
+          stands.latest_is c.effective-now.ensures c.in-Ok-remember.ensures.newest
+          (λ stamp new. lately stamp (c.advance-in-Ok-remember.ensures.forgets forgetting stamp new));
+    })
+
+pub returns-in-Ok-remember-clause-memory : goal.returns-in-Ok-remember-clause-memory
+returns-in-Ok-remember-clause-memory g c = λ memory. c.in-Ok.ensures.asks
+
+pub returns-in-Ok-remember-clause-unchanged : goal.returns-in-Ok-remember-clause-unchanged
+returns-in-Ok-remember-clause-unchanged g c = λ memory. absurd (not_memory c.in-Ok.judged.answer c.in-Ok.ensures.named memory)
+
+pub returns-in-Err-remember-clause-memory : goal.returns-in-Err-remember-clause-memory
+returns-in-Err-remember-clause-memory g c = λ memory. c.in-Ok.ensures.asks
+
+pub returns-in-Err-remember-clause-goes_on : goal.returns-in-Err-remember-clause-goes_on
+returns-in-Err-remember-clause-goes_on g c = λ history stands. record {
+  stands = subst (λ (s : Setup). StandsFor s (g.M.ReplayMemory.has c.remember.new.self.memory) (g.M.ReplayMemory.newest c.remember.new.self.memory) history)
+      (sym c.in-Err-remember.ensures.setup)
+      (stands_still c.args.self.now.setup history _ _ _ _ stands c.in-Err-remember.ensures.err c.in-Err-remember.ensures.newest);
+  keeps = λ keeping exact stamp. (λ new. (exact stamp).0 ((c.in-Err-remember.ensures.err stamp).0 new), λ shown. (c.in-Err-remember.ensures.err stamp).1 ((exact stamp).1 shown));
+  forgets = λ forgetting named. absurd (named refl);
+}

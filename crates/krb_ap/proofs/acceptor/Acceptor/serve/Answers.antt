@@ -1,0 +1,25 @@
+use Rattle.std.proofs.Common.{◌∙◌, arith}
+use Rattle.krb_ap.specs.Answer.{arrival_of}
+use Rattle.krb_ap.proofs.Runs.{mapped, memory_more, served_push}
+use Rattle.krb_ap.proofs.acceptor.Acceptor.serve.Goals as goal
+
+pub loop-call-preserved : goal.loop-call-preserved
+loop-call-preserved g c = record {
+  setup = c.accept-outcome.ensures.setup ∙ c.loop-call.invariant.setup;
+  room = omega (arith, c.push_reserved.ensures.capacity, c.loop-call.invariant.room);
+  count = omega (arith, c.push_reserved.ensures.len, c.loop-call.invariant.count);
+  served = λ history stands.
+      served_push g.M.ReplayMemory.KEEPS g.M.ReplayMemory.FORGETS c.args.self.now.setup c.loop-call.self.setup c.accept-outcome.new.self.setup history _
+      c.loop-call.outcomes.items c.push_reserved.new.self.items _
+      (g.M.ReplayMemory.has c.args.self.now.memory) (g.M.ReplayMemory.has c.loop-call.self.memory) (g.M.ReplayMemory.has c.accept-outcome.new.self.memory)
+      (g.M.ReplayMemory.newest c.loop-call.self.memory) (g.M.ReplayMemory.newest c.accept-outcome.new.self.memory)
+      (arrival_of c.call-item.result) c.accept-outcome.result
+      c.loop-call.invariant.setup c.accept-outcome.ensures.setup
+      (mapped c.args.calls.now c.loop-call.call-index c.call-item.result c.loop-call-test.true c.call-item.is)
+      c.push_reserved.ensures.items c.accept-outcome.ensures.answer c.accept-outcome.ensures.goes_on
+      c.accept-outcome.ensures.keeps c.accept-outcome.ensures.forgets (λ memory. (c.accept-outcome.ensures.unchanged memory).0)
+      (c.loop-call.invariant.served history stands);
+  memory = memory_more _ c.loop-call.outcomes.items c.push_reserved.new.self.items _ (arrival_of c.call-item.result) c.accept-outcome.result
+      (mapped c.args.calls.now c.loop-call.call-index c.call-item.result c.loop-call-test.true c.call-item.is)
+      c.push_reserved.ensures.items c.loop-call.invariant.memory c.accept-outcome.ensures.memory;
+}

@@ -1,0 +1,17 @@
+use Rattle.std.proofs.Common.{◌≡◌, ◌≤◌, List, length, map, take, vec_len}
+use Rattle.std.specs.Prelude.{vec_capacity}
+use Rattle.krb_ap.specs.Setup.{Arrival}
+use Rattle.krb_ap.specs.History.{StandsFor}
+use Rattle.krb_ap.specs.Answer.{MemoryWantedByRequests, Served, arrival_of}
+use Rattle.krb_ap.proofs.acceptor.Acceptor.serve.Given as goal
+
+abbrev pub invariant-loop-call : goal.invariant-loop-call
+invariant-loop-call g l = record {
+  setup : l.self.setup ≡ l.initial.self.setup;
+  room : length l.calls ≤ vec_capacity l.outcomes;
+  count : vec_len l.outcomes ≡ l.call-index;
+  served : (history : List Arrival) → StandsFor l.initial.self.setup (g.M.ReplayMemory.has l.initial.self.memory) (g.M.ReplayMemory.newest l.initial.self.memory) history
+      → Served g.M.ReplayMemory.KEEPS g.M.ReplayMemory.FORGETS l.initial.self.setup history (map arrival_of (take l.call-index l.calls)) l.outcomes.items
+      (g.M.ReplayMemory.has l.initial.self.memory) (g.M.ReplayMemory.has l.self.memory) (g.M.ReplayMemory.newest l.self.memory);
+  memory : MemoryWantedByRequests (map arrival_of (take l.call-index l.calls)) l.outcomes.items;
+}

@@ -1,0 +1,78 @@
+-- What a service answers, and the history after it.
+use Rattle.std.specs.Prelude.{◌≡◌, ◌≢◌, ℤ, Bool, IsTrue, IsErrOf, List, [], ◌∷◌, Option, Result, Ok, Err}
+use Rattle.std.specs.Option.{option_map}
+use Rattle.krb_msg.specs.Owned.{owned_key_of, owned_typed_of, owned_list_of}
+use Rattle.krb_replay.specs.Stamp.{Stamp}
+use Rattle.krb_ap.specs.Setup.{Setup, Arrival, arrival}
+use Rattle.krb_replay.specs.Memory.{SameStamps}
+use Rattle.krb_der.specs.Kind.{ValueOf}
+use Rattle.krb_msg.specs.Module.{ap_req}
+use Rattle.krb_ap.specs.Opened.{Asks}
+use Rattle.krb_ap.specs.History.{IsShown, IsShownLately, StandsFor}
+use Rattle.krb_ap.specs.declared.call.Call.{Call}
+use Rattle.krb_ap.specs.Taken.{Taken, Accept}
+use Rattle.krb_ap.specs.Causes.{Cause}
+use Rattle.krb_ap.specs.declared.accepted.Accepted.{Accepted}
+use Rattle.krb_ap.specs.declared.refusal.Refusal.{Refusal}
+use Rattle.krb_ap.specs.declared.refusal.Refusal.TheVariants.{OutOfMemory}
+
+-- what an answer says
+abbrev pub taken_of : Accepted → Taken
+taken_of x = record {
+  client = x.client;
+  session_key = x.session_key;
+  flags = x.flags.0;
+  authtime = x.authtime;
+  endtime = x.endtime;
+  addresses = option_map (λ l. owned_list_of l.items) x.addresses;
+  ticket_authorization = option_map (λ l. owned_list_of l.items) x.ticket_authorization;
+  subkey = option_map owned_key_of x.subkey;
+  seq_number = x.seq_number;
+  checksum = option_map owned_typed_of x.checksum;
+  authorization = option_map (λ l. owned_list_of l.items) x.authorization;
+  ctime = x.ctime;
+  cusec = x.cusec;
+  wants_reply = x.mutual;
+}
+
+-- after a history an arrival is accepted with what is then known, or refused by the first cause; or for want of memory
+abbrev pub Answers : Setup → List Arrival → Arrival → Result Accepted Refusal → Type 0
+Answers setup history call (Ok accepted) = Accept setup history call (taken_of accepted)
+Answers setup history call (Err refusal) = refusal ≢ OutOfMemory → Cause setup history call refusal
+
+-- the history after it: with the call, or as it was where memory was wanting
+abbrev pub after_refusal : List Arrival → Arrival → Refusal → List Arrival
+after_refusal history call OutOfMemory = history
+after_refusal history call _ = call ∷ history
+
+abbrev pub after : List Arrival → Arrival → Result Accepted Refusal → List Arrival
+after history call (Ok accepted) = call ∷ history
+after history call (Err refusal) = after_refusal history call refusal
+
+-- the answers to a list of calls, one after another, and the history after them
+abbrev pub Run : Setup → List Arrival → List Arrival → List (Result Accepted Refusal) → List Arrival → Type 0
+Run setup history [] [] end = end ≡ history
+Run setup history (call ∷ calls) (answer ∷ answers) end =
+    Answers setup history call answer × Run setup (after history call answer) calls answers end
+Run setup history _ _ end = ⊥
+
+-- a call as it arrives
+abbrev pub arrival_of : Call → Arrival
+arrival_of call = arrival call.bytes.now call.now
+
+-- where memory was wanting, the bytes were a request of the ordinary kind
+abbrev pub MemoryWantedByRequests : List Arrival → List (Result Accepted Refusal) → Type 0
+MemoryWantedByRequests [] [] = Unit {0}
+MemoryWantedByRequests (call ∷ calls) (answer ∷ answers) =
+    (IsErrOf answer OutOfMemory → (request : ValueOf ap_req) × Asks call.bytes request) × MemoryWantedByRequests calls answers
+MemoryWantedByRequests _ _ = ⊥
+
+-- There is such a history afterwards, and the memory stands for it. One that keeps all and had exactly what was shown has so
+-- again, and one that forgets and had exactly what of that was recent.
+pub record Served (keeping forgetting : Bool) (setup : Setup) (history : List Arrival) (calls : List Arrival) (answers : List (Result Accepted Refusal))
+    (Old New : Stamp → Type 0) (latest : Option ℤ) : Type 0 where
+  pub end : List Arrival
+  pub run : Run setup history calls answers end
+  pub stands : StandsFor setup New latest end
+  pub keeps : IsTrue keeping → SameStamps (IsShown setup history) Old → SameStamps (IsShown setup end) New
+  pub forgets : IsTrue forgetting → SameStamps (IsShownLately setup history) Old → SameStamps (IsShownLately setup end) New

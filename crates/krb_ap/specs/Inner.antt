@@ -1,0 +1,5 @@
+pub mod Stages
+pub mod Facts
+pub mod Judging
+pub mod GoingOn
+pub mod Decisions

@@ -1,0 +1,32 @@
+-- What is decided of a request before it is remembered or answered, as words of private contracts.
+use Rattle.std.specs.Prelude.{◌≡◌, ◌≢◌, ℕ, ℤ, List, Option, Result, Ok, Err, IfErr}
+use Rattle.krb_replay.specs.Stamp.{Stamp}
+use Rattle.krb_ap.specs.Setup.{Setup, Arrival, arrival}
+use Rattle.krb_ap.specs.History.{effective, Shows, StandsFor}
+use Rattle.krb_ap.specs.Causes.{Cause}
+use Rattle.krb_ap.specs.Answer.{Answers}
+use Rattle.krb_ap.specs.declared.accepted.Accepted.{Accepted}
+use Rattle.krb_ap.specs.declared.judging.Judged.{Judged}
+use Rattle.krb_ap.specs.declared.refusal.Refusal.{Refusal}
+use Rattle.krb_ap.specs.declared.refusal.Refusal.TheVariants.{OutOfMemory}
+
+-- a request that is to be remembered, with its stamp and its answer
+pub record IsJudged (setup : Setup) (history : List Arrival) (call : Arrival) (stamp : Stamp) (answer : Result Accepted Refusal) : Type 0 where
+  pub shows : Shows setup (effective history call.moment) call.bytes stamp
+  pub answers : Answers setup history call answer
+  pub named : IfErr answer (λ refusal. refusal ≢ OutOfMemory)
+
+-- a request that is refused before: by the first cause, and all that it shows is had already
+pub record IsTurnedAway (setup : Setup) (history : List Arrival) (call : Arrival) (Has : Stamp → Type 0) (refusal : Refusal) : Type 0 where
+  pub cause : Cause setup history call refusal
+  pub had : (stamp : Stamp) → Shows setup (effective history call.moment) call.bytes stamp → Has stamp
+
+abbrev pub Judgement : Setup → List Arrival → Arrival → (Stamp → Type 0) → Result Judged Refusal → Type 0
+Judgement setup history call Has (Ok judged) = IsJudged setup history call judged.tuple judged.answer
+Judgement setup history call Has (Err refusal) = refusal ≢ OutOfMemory → IsTurnedAway setup history call Has refusal
+
+-- so for each history that the memory stands for
+abbrev pub Judges : Setup → (Stamp → Type 0) → Option ℤ → List ℕ → ℤ → Result Judged Refusal → Type 0
+Judges setup Has latest bytes now result =
+    (history : List Arrival) (moment : ℤ) → StandsFor setup Has latest history → now ≡ effective history moment
+    → Judgement setup history (arrival bytes moment) Has result

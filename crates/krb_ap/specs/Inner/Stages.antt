@@ -1,0 +1,57 @@
+-- The words of private contracts: what the stages of a decision say.
+use Rattle.std.specs.Prelude.{◌≡◌, ℕ, ℤ, List}
+use Rattle.krb_name.specs.declared.principal.Principal.{Principal}
+use Rattle.krb_der.specs.Kind.{Kind, ValueOf}
+use Rattle.krb_der.specs.Spells.{IsMessage}
+use Rattle.krb_enc.specs.Key.{KeyValue, profile_of}
+use Rattle.krb_enc.specs.Opens.{Opens}
+use Rattle.krb_msg.specs.Module.{ap_req, encrypted_data, enc_ticket_part, authenticator}
+use Rattle.krb_msg.specs.Fields.{etype_of, kvno_of}
+use Rattle.krb_keytab.specs.Entry.{KeytabEntry}
+use Rattle.krb_keytab.specs.Pick.{chosen, no_name, no_key, no_version, IsChoice}
+use Rattle.krb_ap.specs.Setup.{Setup, Arrival, arrival}
+use Rattle.krb_ap.specs.Opened.{entry_key}
+use Rattle.krb_ap.specs.Times.{IsEarly, IsLate, IsPathTrusted, IsDataIgnorable}
+use Rattle.krb_ap.specs.Causes.{Cause}
+use Rattle.krb_ap.specs.declared.refusal.Refusal.{Refusal}
+use Rattle.krb_ap.specs.declared.refusal.Refusal.TheVariants.{NotUs, NoKey, BadKeyVersion, NotYetValid, Expired, Transited, Authorization}
+
+-- a cause that rests on the bytes alone, and one that rests on what the service decides by too
+abbrev pub IsCauseOfBytes : List ℕ → Refusal → Type 0
+IsCauseOfBytes bytes refusal = (setup : Setup) (history : List Arrival) (moment : ℤ) → Cause setup history (arrival bytes moment) refusal
+
+-- the bytes are a message of the kind with no value
+abbrev pub IsNone : Kind → List ℕ → Type 0
+IsNone k bytes = (value : ValueOf k) → ¬ IsMessage k value bytes
+
+-- the key of the entry that is chosen
+pub record IsChosenKey (entries : List KeytabEntry) (name : Principal) (text : ValueOf encrypted_data) (key : KeyValue) : Type 0 where
+  pub entry : KeytabEntry
+  pub chosen_is : IsChoice entries name (etype_of text) (kvno_of text) (chosen entry)
+  pub key_is : key ≡ entry_key entry
+
+-- what is wanting, as a refusal
+abbrev pub Wants : List KeytabEntry → Principal → ValueOf encrypted_data → Refusal → Type 0
+Wants entries name text NotUs = IsChoice entries name (etype_of text) (kvno_of text) no_name
+Wants entries name text NoKey = IsChoice entries name (etype_of text) (kvno_of text) no_key
+Wants entries name text BadKeyVersion = IsChoice entries name (etype_of text) (kvno_of text) no_version
+Wants entries name text _ = ⊥
+
+-- nothing opens
+abbrev pub IsShut : KeyValue → ℕ → List ℕ → Type 0
+IsShut key usage cipher = (plain : List ℕ) → ¬ Opens (profile_of key) key.bytes usage cipher plain
+
+-- why a near and new request is refused all the same: the first of these
+pub record IsOfTimes (skew : ℕ) (now : ℤ) (request : ValueOf ap_req) (part : ValueOf enc_ticket_part) (auth : ValueOf authenticator) : Type 0 where
+  pub early : ¬ IsEarly part now skew
+  pub late : ¬ IsLate part now skew
+  pub trusted : IsPathTrusted request part
+  pub ignorable : IsDataIgnorable part auth
+
+abbrev pub TimesRefuse : ℕ → ℤ → ValueOf ap_req → ValueOf enc_ticket_part → ValueOf authenticator → Refusal → Type 0
+TimesRefuse skew now request part auth NotYetValid = IsEarly part now skew
+TimesRefuse skew now request part auth Expired = (¬ IsEarly part now skew) × IsLate part now skew
+TimesRefuse skew now request part auth Transited = (¬ IsEarly part now skew) × (¬ IsLate part now skew) × (¬ IsPathTrusted request part)
+TimesRefuse skew now request part auth Authorization =
+    (¬ IsEarly part now skew) × (¬ IsLate part now skew) × IsPathTrusted request part × (¬ IsDataIgnorable part auth)
+TimesRefuse skew now request part auth _ = ⊥

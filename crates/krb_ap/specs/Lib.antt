@@ -1,0 +1,10 @@
+pub mod Setup
+pub mod Opened
+pub mod Times
+pub mod History
+pub mod Bit
+pub mod Taken
+pub mod Causes
+pub mod Answer
+pub mod Service
+pub mod Inner

@@ -1,0 +1,98 @@
+-- What a request is opened as (RFC 4120, sections 3.2.2 and 3.2.3), in stages: what it asks for, the key of the keytab that it is
+-- for, the ticket that opens under that key, the authenticator that opens under the ticket's session key. Nothing is decrypted
+-- here: a text opens to what was sealed to it.
+use Rattle.std.specs.Prelude.{◌≡◌, ℕ, ℤ, List}
+use Rattle.krb_name.specs.Name.{SameName}
+use Rattle.krb_name.specs.declared.principal.Principal.{Principal}
+use Rattle.krb_der.specs.Kind.{Kind, ValueOf}
+use Rattle.krb_der.specs.Spells.{IsMessage}
+use Rattle.krb_enc.specs.Key.{KeyValue, IsKnown, IsUsable, profile_of}
+use Rattle.krb_enc.specs.Opens.{Opens}
+use Rattle.krb_msg.specs.Module.{ap_req, encrypted_data, enc_ticket_part, authenticator}
+use Rattle.krb_msg.specs.Fields.{ticket_of_request, authenticator_of_request, options_of, enc_part_of, etype_of, kvno_of, cipher_of, session_key_of, type_of, bytes_of, ticket_service, part_client, authenticator_client, authenticator_ctime, authenticator_cusec}
+use Rattle.krb_msg.specs.Moments.{micros_of}
+use Rattle.krb_der.specs.Flags.{HasBit}
+use Rattle.krb_msg.specs.Bits.{use_session_key}
+use Rattle.krb_keytab.specs.Entry.{KeytabEntry}
+use Rattle.krb_keytab.specs.Pick.{Choice, chosen, IsChoice}
+use Rattle.krb_replay.specs.Stamp.{Stamp, name_of}
+use Rattle.krb_ap.specs.Setup.{Setup}
+
+-- the key usages (RFC 4120, section 7.5.1)
+abbrev pub ticket_usage : ℕ
+ticket_usage = 2
+
+abbrev pub authenticator_usage : ℕ
+authenticator_usage = 11
+
+-- a sealed text opens under a key for a usage to a message of this kind and value
+pub record OpensAs (key : KeyValue) (usage : ℕ) (cipher : List ℕ) (k : Kind) (value : ValueOf k) : Type 0 where
+  pub plain : List ℕ
+  pub opens : Opens (profile_of key) key.bytes usage cipher plain
+  pub message : IsMessage k value plain
+
+-- the sealed part of the request's ticket, and the key of an entry and of a ticket's sealed part
+abbrev pub sealed_ticket : ValueOf ap_req → ValueOf encrypted_data
+sealed_ticket request = enc_part_of (ticket_of_request request)
+
+abbrev pub service_of : ValueOf ap_req → Principal
+service_of request = ticket_service (ticket_of_request request)
+
+abbrev pub entry_key : KeytabEntry → KeyValue
+entry_key entry = record { etype = entry.etype; bytes = entry.key }
+
+abbrev pub session_key : ValueOf enc_ticket_part → KeyValue
+session_key part = record { etype = type_of (session_key_of part); bytes = bytes_of (session_key_of part) }
+
+-- the choice of a key for the request's ticket
+abbrev pub IsChoiceFor : Setup → ValueOf ap_req → Choice → Type 0
+IsChoiceFor setup request choice =
+    IsChoice setup.entries (service_of request) (etype_of (sealed_ticket request)) (kvno_of (sealed_ticket request)) choice
+
+-- the bytes are a request of the ordinary kind (not user-to-user), with a ticket of an encryption type that is known
+pub record Asks (bytes : List ℕ) (request : ValueOf ap_req) : Type 0 where
+  pub message : IsMessage ap_req request bytes
+  pub ordinary : ¬ HasBit (options_of request) use_session_key
+  pub known : IsKnown (etype_of (sealed_ticket request))
+
+-- and this entry of the keytab is chosen for its ticket
+pub record Keyed (setup : Setup) (bytes : List ℕ) (request : ValueOf ap_req) (entry : KeytabEntry) : Type 0 where
+  pub asks : Asks bytes request
+  pub chosen_is : IsChoiceFor setup request (chosen entry)
+
+-- and its key opens the ticket
+pub record Ticketed (setup : Setup) (bytes : List ℕ) (request : ValueOf ap_req) (part : ValueOf enc_ticket_part) : Type 0 where
+  pub entry : KeytabEntry
+  pub keyed : Keyed setup bytes request entry
+  pub opens : OpensAs (entry_key entry) ticket_usage (cipher_of (sealed_ticket request)) enc_ticket_part part
+
+-- the session key is for the type that the authenticator is sealed with, and opens it
+pub record OpensAuthenticator (request : ValueOf ap_req) (part : ValueOf enc_ticket_part) (auth : ValueOf authenticator) : Type 0 where
+  pub same_type : etype_of (authenticator_of_request request) ≡ (session_key part).etype
+  pub opens : OpensAs (session_key part) authenticator_usage (cipher_of (authenticator_of_request request)) authenticator auth
+
+-- and the session key is usable, and opens the authenticator
+pub record Authenticated (setup : Setup) (bytes : List ℕ) (request : ValueOf ap_req) (part : ValueOf enc_ticket_part)
+    (auth : ValueOf authenticator) : Type 0 where
+  pub ticketed : Ticketed setup bytes request part
+  pub usable : IsUsable (session_key part)
+  pub opens : OpensAuthenticator request part auth
+
+abbrev pub SameClient : ValueOf enc_ticket_part → ValueOf authenticator → Type 0
+SameClient part auth = SameName (part_client part) (authenticator_client auth)
+
+-- and both name the same client: this is what the request is opened as
+pub record OpenedAs (setup : Setup) (bytes : List ℕ) (request : ValueOf ap_req) (part : ValueOf enc_ticket_part)
+    (auth : ValueOf authenticator) : Type 0 where
+  pub authenticated : Authenticated setup bytes request part auth
+  pub same_client : SameClient part auth
+
+-- the client's moment, and what a request is remembered by: the names of server and client, and the client's moment
+abbrev pub sent_at : ValueOf authenticator → ℤ
+sent_at auth = micros_of (authenticator_ctime auth) (authenticator_cusec auth)
+
+abbrev pub stamp_at : Principal → Principal → ℤ → Stamp
+stamp_at server client time = record { server = name_of server; client = name_of client; time = time }
+
+abbrev pub stamp_of : ValueOf ap_req → ValueOf enc_ticket_part → ValueOf authenticator → Stamp
+stamp_of request part auth = stamp_at (service_of request) (part_client part) (sent_at auth)

@@ -1,0 +1,66 @@
+-- What a service accepts, and what it then knows (RFC 4120, section 3.2.3).
+use Rattle.std.specs.Prelude.{◌≡◌, ℕ, ℤ, List, Option, Bool}
+use Rattle.krb_name.specs.declared.principal.Principal.{Principal}
+use Rattle.krb_der.specs.Kind.{leaf, octets, ValueOf}
+use Rattle.krb_ap.specs.Bit.{has_bit}
+use Rattle.krb_enc.specs.Key.{KeyValue}
+use Rattle.krb_msg.specs.Bits.{mutual_required}
+use Rattle.krb_msg.specs.Module.{typed, ap_req, enc_ticket_part, authenticator}
+use Rattle.krb_msg.specs.Fields.{options_of, part_client, flags_of, authtime_of, endtime_of, caddr_of, authorization_of, authenticator_subkey, authenticator_seq_number, authenticator_checksum, authenticator_authorization, authenticator_ctime, authenticator_cusec}
+use Rattle.krb_ap.specs.Setup.{Setup, Arrival}
+use Rattle.krb_ap.specs.Opened.{OpenedAs, session_key, sent_at, stamp_of}
+use Rattle.krb_ap.specs.Times.{Near, Alive, IsPathTrusted, IsDataIgnorable}
+use Rattle.krb_ap.specs.History.{effective, IsShown}
+
+-- what is known of a request that was accepted: the ticket's client, session key, flags, times, addresses and authorization data,
+-- the authenticator's subkey, sequence number, checksum, authorization data and time, and whether a reply is asked for. Times are whole seconds
+-- from 1970-01-01T00:00:00Z on, cusec is the microseconds of ctime.
+pub record Taken : Type 0 where
+  pub client : Principal
+  pub session_key : KeyValue
+  pub flags : ℕ
+  pub authtime : ℤ
+  pub endtime : ℤ
+  pub addresses : Option (List (ValueOf (typed (leaf octets))))
+  pub ticket_authorization : Option (List (ValueOf (typed (leaf octets))))
+  pub subkey : Option (ValueOf (typed (leaf octets)))
+  pub seq_number : Option ℕ
+  pub checksum : Option (ValueOf (typed (leaf octets)))
+  pub authorization : Option (List (ValueOf (typed (leaf octets))))
+  pub ctime : ℤ
+  pub cusec : ℕ
+  pub wants_reply : Bool
+
+abbrev pub is_mutual : ValueOf ap_req → Bool
+is_mutual request = has_bit (options_of request) mutual_required
+
+abbrev pub taken_from : ValueOf ap_req → ValueOf enc_ticket_part → ValueOf authenticator → Taken
+taken_from request part auth = record {
+  client = part_client part;
+  session_key = session_key part;
+  flags = flags_of part;
+  authtime = authtime_of part;
+  endtime = endtime_of part;
+  addresses = caddr_of part;
+  ticket_authorization = authorization_of part;
+  subkey = authenticator_subkey auth;
+  seq_number = authenticator_seq_number auth;
+  checksum = authenticator_checksum auth;
+  authorization = authenticator_authorization auth;
+  ctime = authenticator_ctime auth;
+  cusec = authenticator_cusec auth;
+  wants_reply = is_mutual request;
+}
+
+-- After a history, an arrival is accepted: it is opened, near, alive, trusted and not shown before. And what is then known.
+pub record Accept (setup : Setup) (history : List Arrival) (call : Arrival) (taken : Taken) : Type 0 where
+  pub request : ValueOf ap_req
+  pub part : ValueOf enc_ticket_part
+  pub auth : ValueOf authenticator
+  pub opened : OpenedAs setup call.bytes request part auth
+  pub near : Near (sent_at auth) (effective history call.moment) setup.skew
+  pub unshown : ¬ IsShown setup history (stamp_of request part auth)
+  pub alive : Alive part (effective history call.moment) setup.skew
+  pub trusted : IsPathTrusted request part
+  pub ignorable : IsDataIgnorable part auth
+  pub taken_is : taken ≡ taken_from request part auth

@@ -1,0 +1,37 @@
+//! What a service accepted.
+
+use krb_enc::Key;
+use krb_msg::{Flags, Microseconds, Principal, RawKey, Seconds, Typed};
+
+/// What is known of a request that was accepted (RFC 4120, section 3.2.3). There is no `Debug`, so that no log shows a key.
+#[derive(Drop)]
+pub struct Accepted {
+    /// The client, as the ticket names it.
+    pub client: Principal,
+    /// The key that client and service share, from the ticket.
+    pub session_key: Key,
+    /// The ticket's flags.
+    pub flags: Flags,
+    /// When the client was authenticated.
+    pub authtime: Seconds,
+    /// Until when the ticket is valid.
+    pub endtime: Seconds,
+    /// The addresses that the ticket is for. They are handed on, and were compared with nothing.
+    pub addresses: Option<Vec<Typed>>,
+    /// The ticket's authorization data, of which each outer element is of type 1 (AD-IF-RELEVANT).
+    pub ticket_authorization: Option<Vec<Typed>>,
+    /// The key that the client chose for this session, of any type.
+    pub subkey: Option<RawKey>,
+    /// The client's first sequence number.
+    pub seq_number: Option<u32>,
+    /// The authenticator's checksum. It is handed on, and wasn't verified.
+    pub checksum: Option<Typed>,
+    /// The authenticator's authorization data, of which each outer element is of type 1.
+    pub authorization: Option<Vec<Typed>>,
+    /// The client's time.
+    pub ctime: Seconds,
+    /// The microseconds of the client's time.
+    pub cusec: Microseconds,
+    /// Whether the client asks for a reply.
+    pub mutual: bool,
+}

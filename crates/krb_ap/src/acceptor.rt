@@ -1,0 +1,219 @@
+//! The service's side.
+
+ghost use Rattle.std.specs.Prelude.{◌≡◌, ◌↔◌, ◌⊎◌, List, None, Some, [], IsErrAnd, IfOk, IsErrOf, IsTrue, map, MatchResult, OnOk, OnErr};
+ghost use Rattle.krb_der.specs.Kind.{ValueOf};
+ghost use Rattle.krb_msg.specs.Module.{ap_req};
+ghost use Rattle.krb_replay.specs.Memory.{later_of, AddsStamp, IsRecent, SameStamps};
+ghost use Rattle.krb_replay.specs.Stamp.{Stamp};
+ghost use Rattle.krb_ap.specs.Setup.{Arrival, arrival};
+ghost use Rattle.krb_ap.specs.Opened.{Asks};
+ghost use Rattle.krb_ap.specs.History.{IsShown, IsShownLately, StandsFor};
+ghost use Rattle.krb_ap.specs.Taken.{Accept, Taken};
+ghost use Rattle.krb_ap.specs.Causes.{Cause, place};
+ghost use Rattle.krb_ap.specs.Inner.GoingOn.{GoesOn};
+ghost use Rattle.krb_ap.specs.Answer.{Answers, MemoryWantedByRequests, Served, after, arrival_of, taken_of};
+ghost use Rattle.krb_ap.specs.declared.refusal.Refusal.TheVariants.{OutOfMemory};
+
+use crate::accepted::Accepted;
+use crate::call::{Call, Outcome};
+use crate::inner_laws::facts;
+use crate::refusal::Refusal;
+use krb_keytab::Keytab;
+use krb_msg::Moment;
+use krb_replay::{ReplayMemory, Skew, Tuple};
+use std::alloc::{AllocError, Global};
+use std::marker::Model;
+
+/// The service's side of the exchange (RFC 4120, section 3.2.3): a keytab, a skew and a memory of what was seen.
+///
+/// A contract sees the entries and the skew, by which it decides, and the memory.
+#[derive(Drop)]
+pub struct Acceptor<M> {
+    pub(crate) keytab: Keytab,
+    pub(crate) skew: Skew,
+    pub(crate) memory: M,
+}
+
+impl<M> Model for Acceptor<M> {
+    ghost use Rattle.std.specs.Prelude.{None};
+    ghost use Rattle.krb_ap.specs.Service.{Service};
+
+    ghost Value = { Service M };
+
+    ghost view = { λ a. record { setup = record { entries = a.keytab; skew = a.skew; start = None }; memory = a.memory } };
+}
+
+impl<M: ReplayMemory> Acceptor<M> {
+    /// A service that decides by `keytab` and `skew`, and remembers in `memory`.
+    ///
+    /// It is for a service that had no earlier life: one that lost its memory has to refuse all requests until the skew has passed
+    /// (RFC 4120, section 3.2.3), or it takes again what it took before.
+    ///
+    /// Condition: the memory is new. It has no tuple (`len()` is 0), and was told no moment (`latest()` is `None`).
+    pub fn new(keytab: Keytab, skew: Skew, memory: M) -> Acceptor<M>
+        requires latest { M.newest memory ≡ None }
+        requires empty { (stamp : Stamp) → M.has memory stamp → ⊥ }
+        ensures setup { result.setup ≡ record { entries = keytab; skew = skew; start = None } }
+        ensures memory { result.memory ≡ memory }
+        ensures stands { StandsFor result.setup (M.has result.memory) (M.newest result.memory) [] }
+    {
+        Acceptor {
+            keytab,
+            skew,
+            memory,
+        }
+    }
+
+    /// Lends the memory.
+    pub fn memory(&self) -> &M
+        ensures { result.now ≡ self.now.memory }
+    {
+        &self.memory
+    }
+
+    /// Decides whether a request is accepted (RFC 4120, section 3.2.3), and remembers what has to be remembered of it.
+    ///
+    /// `now` is the service's clock. Time doesn't go back: what counts is the latest moment that was handed in so far. After each
+    /// answer but `OutOfMemory` that is the memory's latest moment. A request is remembered where it is accepted, and where
+    /// it is refused after the look-up of a repeat.
+    ///
+    /// # Errors
+    /// The first cause of [`Refusal`] that holds, in an order of our own; or `OutOfMemory`, and then nothing has changed.
+    pub fn accept(&mut self, alloc: Global, bytes: &[u8], now: Moment) -> Result<Accepted, Refusal>
+        ensures setup { self.new.setup ≡ self.old.setup }
+
+        // For each history that the memory stands for: accepted as defined, or the first cause; and what it stands for afterwards.
+        ensures answer { (history : List Arrival)
+            → StandsFor self.old.setup (M.has self.old.memory) (M.newest self.old.memory) history
+            → Answers self.old.setup history (arrival bytes.now now) result }
+        ensures goes_on { (history : List Arrival)
+            → StandsFor self.old.setup (M.has self.old.memory) (M.newest self.old.memory) history
+            → StandsFor self.new.setup (M.has self.new.memory) (M.newest self.new.memory)
+            (after history (arrival bytes.now now) result) }
+
+        // What is accepted by the definition is accepted with just that, and what has a cause is refused for it, memory aside.
+        ensures taken { (history : List Arrival) (taken : Taken)
+            → StandsFor self.old.setup (M.has self.old.memory) (M.newest self.old.memory) history
+            → Accept self.old.setup history (arrival bytes.now now) taken
+            → MatchResult result (λ x. taken_of x ≡ taken) (λ r. r ≡ OutOfMemory) }
+        ensures refused { (history : List Arrival) (cause : Refusal)
+            → StandsFor self.old.setup (M.has self.old.memory) (M.newest self.old.memory) history
+            → Cause self.old.setup history (arrival bytes.now now) cause
+            → IsErrAnd result (λ r. (place r ≡ place cause) ⊎ (r ≡ OutOfMemory)) }
+
+        // A memory that keeps all has exactly what was shown, and one that forgets exactly what of that is recent.
+        ensures keeps { IsTrue M.KEEPS → (history : List Arrival)
+            → StandsFor self.old.setup (M.has self.old.memory) (M.newest self.old.memory) history
+            → SameStamps (IsShown self.old.setup history) (M.has self.old.memory)
+            → SameStamps (IsShown self.old.setup (after history (arrival bytes.now now) result)) (M.has self.new.memory) }
+        ensures forgets { IsTrue M.FORGETS → (history : List Arrival)
+            → StandsFor self.old.setup (M.has self.old.memory) (M.newest self.old.memory) history
+            → (IsErrOf result OutOfMemory → ⊥)
+            → SameStamps (IsShownLately self.old.setup (after history (arrival bytes.now now) result)) (M.has self.new.memory) }
+
+        // Want of memory is answered for requests of the ordinary kind alone, and changes nothing.
+        ensures memory { IsErrOf result OutOfMemory → (request : ValueOf ap_req) × Asks bytes.now request }
+        ensures unchanged { IsErrOf result OutOfMemory → SameStamps (M.has self.old.memory) (M.has self.new.memory)
+            × (M.newest self.new.memory ≡ M.newest self.old.memory) }
+    {
+        facts();
+        self.decide(alloc, bytes, now)
+    }
+
+    /// Decides calls one after another, as `accept` does, and answers their outcomes in the same order.
+    ///
+    /// Room for all outcomes is made before the first call.
+    ///
+    /// # Errors
+    /// `AllocError`: there was no room for the outcomes. No call was made.
+    pub fn serve(&mut self, alloc: Global, calls: &[Call]) -> Result<Vec<Outcome>, AllocError>
+        ensures setup { self.new.setup ≡ self.old.setup }
+
+        // Each outcome is right after the calls before it, for each history that the memory stands for; and what it stands for then.
+        ensures served { (history : List Arrival)
+            → StandsFor self.old.setup (M.has self.old.memory) (M.newest self.old.memory) history
+            → IfOk result (λ outcomes. Served M.KEEPS M.FORGETS self.old.setup history (map arrival_of calls.now) outcomes.items
+            (M.has self.old.memory) (M.has self.new.memory) (M.newest self.new.memory)) }
+        ensures memory { IfOk result (λ outcomes. MemoryWantedByRequests (map arrival_of calls.now) outcomes.items) }
+        ensures none { OnErr result (self.new ≡ self.old) }
+    {
+        let mut outcomes = Vec::with_capacity(alloc, calls.len())?;
+        for call in calls {
+            let outcome = self.accept(alloc, call.bytes, call.now);
+            outcomes.push_reserved(outcome);
+        }
+        Ok(outcomes)
+    }
+
+    fn decide(&mut self, alloc: Global, bytes: &[u8], now: Moment) -> Result<Accepted, Refusal>
+        ensures setup { self.new.setup ≡ self.old.setup }
+        ensures answer { (history : List Arrival)
+            → StandsFor self.old.setup (M.has self.old.memory) (M.newest self.old.memory) history
+            → Answers self.old.setup history (arrival bytes.now now) result }
+        ensures goes_on { (history : List Arrival)
+            → StandsFor self.old.setup (M.has self.old.memory) (M.newest self.old.memory) history
+            → GoesOn M.KEEPS M.FORGETS self.old.setup self.new.setup history (after history (arrival bytes.now now) result)
+            (M.has self.old.memory) (M.has self.new.memory) (M.newest self.new.memory) (IsErrOf result OutOfMemory) }
+        ensures memory { IsErrOf result OutOfMemory → (request : ValueOf ap_req) × Asks bytes.now request }
+        ensures unchanged { IsErrOf result OutOfMemory → SameStamps (M.has self.old.memory) (M.has self.new.memory)
+            × (M.newest self.new.memory ≡ M.newest self.old.memory) }
+    {
+        facts();
+        let now = self.effective(now);
+        let judged = match self.judge(alloc, bytes, now) {
+            Ok(judged) => judged,
+            Err(refusal) => {
+                if is_memory(&refusal) {
+                    return Err(refusal);
+                }
+                self.advance(now);
+                return Err(refusal);
+            }
+        };
+        match self.remember(judged.tuple) {
+            Ok(()) => {
+                self.advance(now);
+                judged.answer
+            }
+            Err(_) => Err(Refusal::OutOfMemory),
+        }
+    }
+
+    // The moment that counts.
+    fn effective(&self, now: Moment) -> Moment
+        ensures { result ≡ later_of (M.newest self.now.memory) now }
+    {
+        match self.memory.latest() {
+            Some(latest) if now <= latest => latest,
+            _ => now,
+        }
+    }
+
+    fn remember(&mut self, tuple: Tuple) -> Result<(), AllocError>
+        ensures setup { self.new.setup ≡ self.old.setup }
+        ensures newest { M.newest self.new.memory ≡ M.newest self.old.memory }
+        ensures ok { OnOk result (AddsStamp (M.has self.old.memory) (M.has self.new.memory) tuple) }
+        ensures err { OnErr result (SameStamps (M.has self.old.memory) (M.has self.new.memory)) }
+    {
+        self.memory.remember(tuple)
+    }
+
+    fn advance(&mut self, now: Moment)
+        ensures setup { self.new.setup ≡ self.old.setup }
+        ensures newest { M.newest self.new.memory ≡ Some (later_of (M.newest self.old.memory) now) }
+        ensures none_added { (stamp : Stamp) → M.has self.new.memory stamp → M.has self.old.memory stamp }
+        ensures kept { (stamp : Stamp) → M.has self.old.memory stamp
+            → IsRecent (later_of (M.newest self.old.memory) now) self.old.setup.skew stamp → M.has self.new.memory stamp }
+        ensures keeps { IsTrue M.KEEPS → SameStamps (M.has self.old.memory) (M.has self.new.memory) }
+        ensures forgets { IsTrue M.FORGETS → (stamp : Stamp) → M.has self.new.memory stamp
+            → IsRecent (later_of (M.newest self.old.memory) now) self.old.setup.skew stamp }
+    {
+        self.memory.advance(now, self.skew);
+    }
+}
+
+fn is_memory(refusal: &Refusal) -> bool
+    ensures { IsTrue result ↔ (refusal.now ≡ OutOfMemory) }
+{
+    matches!(refusal, Refusal::OutOfMemory)
+}

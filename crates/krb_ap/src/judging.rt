@@ -1,0 +1,240 @@
+//! What a service decides of a request, before it remembers or answers anything.
+
+ghost use Rattle.std.specs.Prelude.{◌≡◌, ◌≢◌, ℕ, List, IfErr, IfOk, IsErrOf};
+ghost use Rattle.std.specs.Option.{option_map};
+ghost use Rattle.krb_der.specs.Kind.{ValueOf};
+ghost use Rattle.krb_msg.specs.Borrowed.{ap_req_of, authenticator_of, enc_ticket_part_of, key_of, typed_of};
+ghost use Rattle.krb_msg.specs.Module.{ap_req};
+ghost use Rattle.krb_msg.specs.Owned.{owned_key_of, owned_list_of, owned_typed_of};
+ghost use Rattle.krb_ap.specs.Opened.{Asks, OpenedAs, Ticketed, session_key as key_of_part, service_of};
+ghost use Rattle.krb_ap.specs.Taken.{taken_from};
+ghost use Rattle.krb_ap.specs.Answer.{taken_of};
+ghost use Rattle.krb_ap.specs.Inner.Judging.{Judges};
+ghost use Rattle.krb_ap.specs.declared.refusal.Refusal.TheVariants.{OutOfMemory};
+
+use crate::accepted::Accepted;
+use crate::acceptor::Acceptor;
+use crate::inner_laws::facts;
+use crate::opening::{
+    is_of_type, is_same_client, open_under, read_authenticator, read_part, read_request, service,
+    ticket_key, usable_key,
+};
+use crate::refusal::Refusal;
+use crate::times::{is_near, refusal_of_times};
+use krb_enc::Key;
+use krb_msg::{
+    ApReqRef, AuthenticatorRef, EncTicketRef, KeyRef, MUTUAL_REQUIRED, Moment, Principal, RawKey,
+    Typed, TypedListRef, TypedRef,
+};
+use krb_replay::{ReplayMemory, Tuple};
+use std::alloc::{AllocError, Global};
+
+const TICKET_USAGE: u32 = 2;
+
+const AUTHENTICATOR_USAGE: u32 = 11;
+
+/// A request that is to be remembered, and its answer.
+#[derive(Drop)]
+pub(crate) struct Judged {
+    pub(crate) tuple: Tuple,
+    pub(crate) answer: Result<Accepted, Refusal>,
+}
+
+impl<M: ReplayMemory> Acceptor<M> {
+    /// What is to be remembered of a request and its answer, or why it is refused without being remembered. `now` is the
+    /// effective moment.
+    pub(crate) fn judge(&self, alloc: Global, bytes: &[u8], now: Moment) -> Result<Judged, Refusal>
+        ensures judged { Judges self.now.setup (M.has self.now.memory) (M.newest self.now.memory) bytes.now now result }
+        ensures named { IfOk result (λ j. IfErr j.answer (λ r. r ≢ OutOfMemory)) }
+        ensures asks { IfOk result (λ _. (request : ValueOf ap_req) × Asks bytes.now request) }
+        ensures memory { IsErrOf result OutOfMemory → (request : ValueOf ap_req) × Asks bytes.now request }
+    {
+        facts();
+        let request = match read_request(bytes) {
+            Ok(request) => request,
+            Err(refusal) => return Err(refusal),
+        };
+        match service(alloc, &request.ticket) {
+            Ok(server) => self.judge_request(alloc, server, &request, now),
+            Err(_) => Err(Refusal::OutOfMemory),
+        }
+    }
+
+    fn judge_request(
+        &self,
+        alloc: Global,
+        server: Principal,
+        request: &ApReqRef,
+        now: Moment,
+    ) -> Result<Judged, Refusal>
+        ensures named { IfOk result (λ j. IfErr j.answer (λ r. r ≢ OutOfMemory)) }
+        ensures judged { (bytes : List ℕ) → Asks bytes (ap_req_of request.now) → server ≡ service_of (ap_req_of request.now)
+            → Judges self.now.setup (M.has self.now.memory) (M.newest self.now.memory) bytes now result }
+    {
+        facts();
+        let sealed = &request.ticket.enc_part;
+        let key = match ticket_key(&self.keytab, &server, sealed) {
+            Ok(key) => key,
+            Err(refusal) => return Err(refusal),
+        };
+        let plain = match open_under(
+            alloc,
+            &key,
+            TICKET_USAGE,
+            sealed.cipher,
+            Refusal::TicketIntegrity,
+        ) {
+            Ok(plain) => plain,
+            Err(refusal) => return Err(refusal),
+        };
+        let part = match read_part(plain.as_slice()) {
+            Ok(part) => part,
+            Err(refusal) => return Err(refusal),
+        };
+        self.judge_ticket(alloc, server, request, &part, now)
+    }
+
+    fn judge_ticket(
+        &self,
+        alloc: Global,
+        server: Principal,
+        request: &ApReqRef,
+        part: &EncTicketRef,
+        now: Moment,
+    ) -> Result<Judged, Refusal>
+        ensures named { IfOk result (λ j. IfErr j.answer (λ r. r ≢ OutOfMemory)) }
+        ensures judged { (bytes : List ℕ) → Ticketed self.now.setup bytes (ap_req_of request.now) (enc_ticket_part_of part.now)
+            → server ≡ service_of (ap_req_of request.now)
+            → Judges self.now.setup (M.has self.now.memory) (M.newest self.now.memory) bytes now result }
+    {
+        facts();
+        let key = match usable_key(&part.key) {
+            Ok(key) => key,
+            Err(refusal) => return Err(refusal),
+        };
+        let sealed = &request.authenticator;
+        if !is_of_type(sealed, &part.key) {
+            return Err(Refusal::AuthenticatorIntegrity);
+        }
+        let plain = match open_under(
+            alloc,
+            &key,
+            AUTHENTICATOR_USAGE,
+            sealed.cipher,
+            Refusal::AuthenticatorIntegrity,
+        ) {
+            Ok(plain) => plain,
+            Err(refusal) => return Err(refusal),
+        };
+        let auth = match read_authenticator(plain.as_slice()) {
+            Ok(auth) => auth,
+            Err(refusal) => return Err(refusal),
+        };
+        if !is_same_client(part, &auth) {
+            return Err(Refusal::BadMatch);
+        }
+        self.judge_opened(alloc, server, key, request, part, &auth, now)
+    }
+
+    fn judge_opened(
+        &self,
+        alloc: Global,
+        server: Principal,
+        session_key: Key,
+        request: &ApReqRef,
+        part: &EncTicketRef,
+        auth: &AuthenticatorRef,
+        now: Moment,
+    ) -> Result<Judged, Refusal>
+        ensures named { IfOk result (λ j. IfErr j.answer (λ r. r ≢ OutOfMemory)) }
+        ensures judged { (bytes : List ℕ)
+            → OpenedAs self.now.setup bytes (ap_req_of request.now) (enc_ticket_part_of part.now) (authenticator_of auth.now)
+            → server ≡ service_of (ap_req_of request.now) → session_key ≡ key_of_part (enc_ticket_part_of part.now)
+            → Judges self.now.setup (M.has self.now.memory) (M.newest self.now.memory) bytes now result }
+    {
+        facts();
+        if !is_near(Moment::at(auth.ctime, auth.cusec), now, self.skew) {
+            return Err(Refusal::Skew);
+        }
+        let client = match part.cname.to_principal(alloc, part.crealm) {
+            Ok(client) => client,
+            Err(_) => return Err(Refusal::OutOfMemory),
+        };
+        let tuple = match Tuple::new(alloc, server, client, auth.ctime, auth.cusec) {
+            Ok(tuple) => tuple,
+            Err(_) => return Err(Refusal::OutOfMemory),
+        };
+        if self.memory.contains(&tuple) {
+            return Err(Refusal::Repeat);
+        }
+        match refusal_of_times(request, part, auth, now, self.skew) {
+            Some(refusal) => Ok(Judged {
+                tuple,
+                answer: Err(refusal),
+            }),
+            None => match accepted(alloc, session_key, request, part, auth) {
+                Ok(accepted) => Ok(Judged {
+                    tuple,
+                    answer: Ok(accepted),
+                }),
+                Err(_) => Err(Refusal::OutOfMemory),
+            },
+        }
+    }
+}
+
+/// What is known of a request that is accepted.
+fn accepted(
+    alloc: Global,
+    session_key: Key,
+    request: &ApReqRef,
+    part: &EncTicketRef,
+    auth: &AuthenticatorRef,
+) -> Result<Accepted, AllocError>
+    ensures { session_key ≡ key_of_part (enc_ticket_part_of part.now)
+        → IfOk result (λ x. taken_of x ≡ taken_from (ap_req_of request.now) (enc_ticket_part_of part.now) (authenticator_of auth.now)) }
+{
+    Ok(Accepted {
+        client: part.cname.to_principal(alloc, part.crealm)?,
+        session_key,
+        flags: part.flags,
+        authtime: part.authtime,
+        endtime: part.endtime,
+        addresses: owned_list(alloc, &part.caddr)?,
+        ticket_authorization: owned_list(alloc, &part.authorization)?,
+        subkey: owned_key(alloc, &auth.subkey)?,
+        seq_number: auth.seq_number,
+        checksum: owned_typed(alloc, &auth.checksum)?,
+        authorization: owned_list(alloc, &auth.authorization)?,
+        ctime: auth.ctime,
+        cusec: auth.cusec,
+        mutual: request.options.has(MUTUAL_REQUIRED),
+    })
+}
+
+fn owned_list(alloc: Global, list: &Option<TypedListRef>) -> Result<Option<Vec<Typed>>, AllocError>
+    ensures { IfOk result (λ made. option_map (λ l. owned_list_of l.items) made ≡ list.now) }
+{
+    match list {
+        Some(list) => Ok(Some(list.to_owned(alloc)?)),
+        None => Ok(None),
+    }
+}
+
+fn owned_key(alloc: Global, key: &Option<KeyRef>) -> Result<Option<RawKey>, AllocError>
+    ensures { IfOk result (λ made. option_map owned_key_of made ≡ option_map key_of key.now) }
+{
+    match key {
+        Some(key) => Ok(Some(key.to_owned(alloc)?)),
+        None => Ok(None),
+    }
+}
+
+fn owned_typed(alloc: Global, typed: &Option<TypedRef>) -> Result<Option<Typed>, AllocError>
+    ensures { IfOk result (λ made. option_map owned_typed_of made ≡ option_map typed_of typed.now) }
+{
+    match typed {
+        Some(typed) => Ok(Some(typed.to_owned(alloc)?)),
+        None => Ok(None),
+    }
+}

@@ -1,0 +1,174 @@
+//! Opening a request, stage by stage: its form, the key for its ticket, the ticket, the authenticator.
+
+ghost use Rattle.std.specs.Prelude.{◌≡◌, ◌≢◌, ◌<◌, ◌↔◌, ℕ, ℤ, IfOk, IfErr, IsTrue};
+ghost use Rattle.krb_enc.specs.Key.{IsKnown, IsUsable, profile_of};
+ghost use Rattle.krb_enc.specs.Opens.{Opens};
+ghost use Rattle.krb_der.specs.Spells.{IsMessage};
+ghost use Rattle.krb_msg.specs.Borrowed.{ap_req_of, authenticator_of, enc_ticket_part_of, encrypted_of, name_of, key_of};
+ghost use Rattle.krb_msg.specs.Fields.{ticket_service, principal_in, type_of, bytes_of};
+ghost use Rattle.krb_msg.specs.Borrowed.{ticket_of};
+ghost use Rattle.krb_msg.specs.Module.{ap_req, authenticator, enc_ticket_part};
+ghost use Rattle.krb_ap.specs.Causes.{BeginsOtherwise, place};
+ghost use Rattle.krb_ap.specs.Opened.{Asks, SameClient};
+ghost use Rattle.krb_ap.specs.Inner.Stages.{IsCauseOfBytes, IsChosenKey, IsNone, IsShut, Wants};
+ghost use Rattle.krb_ap.specs.declared.refusal.Refusal.TheVariants.{OutOfMemory, TicketIntegrity, AuthenticatorIntegrity, SessionKey};
+
+use crate::inner_laws::facts;
+use crate::refusal::Refusal;
+use krb_enc::{Key, OpenFault};
+use krb_keytab::{Keytab, Picked};
+use krb_msg::{
+    ApReqRef, AuthenticatorRef, EncTicketRef, EncryptedRef, KeyRef, NameRef, Principal, TicketRef,
+    USE_SESSION_KEY,
+};
+use std::alloc::{AllocError, Global};
+
+/// Reads a request that asks in the ordinary way. It takes no memory.
+pub(crate) fn read_request<'a>(bytes: &'a [u8]) -> Result<ApReqRef<'a>, Refusal>
+    ensures read { IfOk result (λ request. Asks bytes.entry.now (ap_req_of request)) }
+    ensures refused { IfErr result (IsCauseOfBytes bytes.entry.now) }
+    ensures named { IfErr result (λ refusal. refusal ≢ OutOfMemory) }
+    ensures early { IfErr result (λ refusal. place refusal < 12) }
+{
+    facts();
+    if begins_otherwise(bytes) {
+        return Err(Refusal::MessageType);
+    }
+    let request = match ApReqRef::parse(bytes) {
+        Ok(request) => request,
+        Err(fault) => return Err(Refusal::Malformed(fault)),
+    };
+    if request.options.has(USE_SESSION_KEY) {
+        return Err(Refusal::UserToUser);
+    }
+    if !is_known(&request.ticket.enc_part) {
+        return Err(Refusal::TicketEtype);
+    }
+    Ok(request)
+}
+
+fn begins_otherwise(bytes: &[u8]) -> bool
+    ensures { IsTrue result ↔ BeginsOtherwise bytes.now }
+{
+    match bytes.first() {
+        Some(first) => *first != 0x6e,
+        None => false,
+    }
+}
+
+fn is_known(sealed: &EncryptedRef) -> bool
+    ensures { IsTrue result ↔ IsKnown sealed.now.etype }
+{
+    sealed.etype == 19 || sealed.etype == 20
+}
+
+/// The service that a ticket is for.
+pub(crate) fn service(alloc: Global, ticket: &TicketRef) -> Result<Principal, AllocError>
+    ensures { IfOk result (λ service. service ≡ ticket_service (ticket_of ticket.now)) }
+{
+    ticket.sname.to_principal(alloc, ticket.realm)
+}
+
+/// The key that a keytab has for a service's ticket. It takes no memory.
+pub(crate) fn ticket_key(
+    keytab: &Keytab,
+    service: &Principal,
+    sealed: &EncryptedRef,
+) -> Result<Key, Refusal>
+    ensures chosen { IfOk result (IsChosenKey keytab.now service.now (encrypted_of sealed.now)) }
+    ensures wanting { IfErr result (Wants keytab.now service.now (encrypted_of sealed.now)) }
+{
+    match keytab.pick(service, sealed.etype, sealed.kvno) {
+        Picked::Entry(entry) => match Key::new(i32::from(entry.etype()), entry.key()) {
+            Ok(key) => Ok(key),
+            Err(_) => Err(Refusal::NoKey),
+        },
+        Picked::NoName => Err(Refusal::NotUs),
+        Picked::NoKey => Err(Refusal::NoKey),
+        Picked::NoVersion => Err(Refusal::BadKeyVersion),
+    }
+}
+
+/// Opens a sealed text, or answers `shut` where nothing opens.
+pub(crate) fn open_under(
+    alloc: Global,
+    key: &Key,
+    usage: u32,
+    cipher: &[u8],
+    shut: Refusal,
+) -> Result<Vec<u8>, Refusal>
+    ensures opened { IfOk result (λ plain. Opens (profile_of key.now) key.now.bytes usage cipher.now plain.items) }
+    ensures refused { IfErr result (λ refusal. refusal ≢ OutOfMemory → refusal ≡ shut) }
+    ensures nothing { IfErr result (λ refusal. refusal ≢ OutOfMemory → IsShut key.now usage cipher.now) }
+{
+    match key.open(alloc, usage, cipher) {
+        Ok(plain) => Ok(plain),
+        Err(OpenFault::OutOfMemory) => Err(Refusal::OutOfMemory),
+        Err(OpenFault::Short) => Err(shut),
+        Err(OpenFault::Integrity) => Err(shut),
+    }
+}
+
+/// Reads the opened ticket. It takes no memory.
+pub(crate) fn read_part<'a>(plain: &'a [u8]) -> Result<EncTicketRef<'a>, Refusal>
+    ensures read { IfOk result (λ part. IsMessage enc_ticket_part (enc_ticket_part_of part) plain.entry.now) }
+    ensures refused { IfErr result (λ refusal. refusal ≡ TicketIntegrity) }
+    ensures nothing { IfErr result (λ _. IsNone enc_ticket_part plain.entry.now) }
+{
+    match EncTicketRef::parse(plain) {
+        Ok(part) => Ok(part),
+        Err(_) => Err(Refusal::TicketIntegrity),
+    }
+}
+
+/// Reads the opened authenticator. It takes no memory.
+pub(crate) fn read_authenticator<'a>(plain: &'a [u8]) -> Result<AuthenticatorRef<'a>, Refusal>
+    ensures read { IfOk result (λ auth. IsMessage authenticator (authenticator_of auth) plain.entry.now) }
+    ensures refused { IfErr result (λ refusal. refusal ≡ AuthenticatorIntegrity) }
+    ensures nothing { IfErr result (λ _. IsNone authenticator plain.entry.now) }
+{
+    match AuthenticatorRef::parse(plain) {
+        Ok(auth) => Ok(auth),
+        Err(_) => Err(Refusal::AuthenticatorIntegrity),
+    }
+}
+
+/// The ticket's session key, where it is usable. It takes no memory.
+pub(crate) fn usable_key(key: &KeyRef) -> Result<Key, Refusal>
+    ensures made { IfOk result (λ made. made ≡ record { etype = type_of (key_of key.now); bytes = bytes_of (key_of key.now) }) }
+    ensures usable { IfOk result IsUsable }
+    ensures refused { IfErr result (λ refusal. (refusal ≡ SessionKey)
+        × ¬ IsUsable (record { etype = type_of (key_of key.now); bytes = bytes_of (key_of key.now) })) }
+{
+    match Key::new(key.etype, key.bytes) {
+        Ok(key) => Ok(key),
+        Err(_) => Err(Refusal::SessionKey),
+    }
+}
+
+/// Whether a text is sealed with the type that a key is for.
+pub(crate) fn is_of_type(sealed: &EncryptedRef, key: &KeyRef) -> bool
+    ensures { IsTrue result ↔ (sealed.now.etype ≡ key.now.etype) }
+{
+    sealed.etype == key.etype
+}
+
+/// Whether both name the same client. It takes no memory.
+pub(crate) fn is_same_client(part: &EncTicketRef, auth: &AuthenticatorRef) -> bool
+    ensures { IsTrue result ↔ SameClient (enc_ticket_part_of part.now) (authenticator_of auth.now) }
+{
+    part.crealm == auth.crealm && has_same_components(&part.cname, &auth.cname)
+}
+
+fn has_same_components(one: &NameRef, other: &NameRef) -> bool
+    ensures { IsTrue result ↔ (one.now.components ≡ other.now.components) }
+{
+    let mut others = other.components.iter();
+    for component in one.components.iter() {
+        match others.next() {
+            Some(text) if text == component => {}
+            _ => return false,
+        }
+    }
+    others.next().is_none()
+}

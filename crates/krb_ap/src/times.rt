@@ -1,0 +1,113 @@
+//! Times of a request and its ticket, and what is asked of a ticket beside them.
+
+ghost use Rattle.std.specs.Prelude.{◌≡◌, ◌↔◌, ◌≤ℤ◌, ◌+ℤ◌, All, IsTrue, MatchOption, pos};
+ghost use Rattle.krb_msg.specs.Fields.{type_of};
+ghost use Rattle.krb_msg.specs.Borrowed.{ap_req_of, authenticator_of, enc_ticket_part_of};
+ghost use Rattle.krb_ap.specs.Times.{Near, second_at, IsEarly, IsLate, IsPathTrusted, IsDataIgnorable, MayBeIgnored};
+ghost use Rattle.krb_ap.specs.Inner.Stages.{IsOfTimes, TimesRefuse};
+
+use crate::refusal::Refusal;
+use krb_msg::{
+    ApReqRef, AuthenticatorRef, EncTicketRef, INVALID, Microseconds, Moment, Seconds,
+    TRANSITED_POLICY_CHECKED, TypedListRef, TypedRef,
+};
+use krb_replay::Skew;
+
+/// Whether two moments differ by at most the skew.
+pub(crate) fn is_near(one: Moment, other: Moment, skew: Skew) -> bool
+    ensures { IsTrue result ↔ Near one other skew }
+{
+    is_within(one, other, skew) && is_within(other, one, skew)
+}
+
+// Whether a moment is later than another by at most the skew, if it is.
+fn is_within(one: Moment, other: Moment, skew: Skew) -> bool
+    ensures { IsTrue result ↔ (one ≤ℤ (other +ℤ pos skew)) }
+{
+    one.micros() <= other.micros() + skew.micros()
+}
+
+fn start_of(second: Seconds) -> Moment
+    ensures { result ≡ second_at second }
+{
+    match Microseconds::new(0) {
+        Some(zero) => Moment::at(second, zero),
+        None => unreachable!(),
+    }
+}
+
+/// Why a near and new request is refused all the same, if it is.
+pub(crate) fn refusal_of_times(
+    request: &ApReqRef,
+    part: &EncTicketRef,
+    auth: &AuthenticatorRef,
+    now: Moment,
+    skew: Skew,
+) -> Option<Refusal>
+    ensures { MatchOption result
+        (IsOfTimes skew now (ap_req_of request.now) (enc_ticket_part_of part.now) (authenticator_of auth.now))
+        (TimesRefuse skew now (ap_req_of request.now) (enc_ticket_part_of part.now) (authenticator_of auth.now)) }
+{
+    if is_early(part, now, skew) {
+        return Some(Refusal::NotYetValid);
+    }
+    if is_late(part, now, skew) {
+        return Some(Refusal::Expired);
+    }
+    if !is_path_trusted(request, part) {
+        return Some(Refusal::Transited);
+    }
+    if !is_ignorable(&part.authorization) || !is_ignorable(&auth.authorization) {
+        return Some(Refusal::Authorization);
+    }
+    None
+}
+
+fn is_early(part: &EncTicketRef, now: Moment, skew: Skew) -> bool
+    ensures { IsTrue result ↔ IsEarly (enc_ticket_part_of part.now) now skew }
+{
+    let start = match part.starttime {
+        Some(time) => time,
+        None => part.authtime,
+    };
+    !is_within(start_of(start), now, skew) || part.flags.has(INVALID)
+}
+
+fn is_late(part: &EncTicketRef, now: Moment, skew: Skew) -> bool
+    ensures { IsTrue result ↔ IsLate (enc_ticket_part_of part.now) now skew }
+{
+    !is_within(now, start_of(part.endtime), skew)
+}
+
+fn is_path_trusted(request: &ApReqRef, part: &EncTicketRef) -> bool
+    ensures { IsTrue result ↔ IsPathTrusted (ap_req_of request.now) (enc_ticket_part_of part.now) }
+{
+    part.crealm == request.ticket.realm || part.flags.has(TRANSITED_POLICY_CHECKED)
+}
+
+fn is_ignorable(elements: &Option<TypedListRef>) -> bool
+    ensures { IsTrue result ↔ MayBeIgnored elements.now }
+{
+    match elements {
+        Some(elements) => has_only_type_1(elements),
+        None => true,
+    }
+}
+
+fn has_only_type_1(elements: &TypedListRef) -> bool
+    ensures { IsTrue result ↔ All (λ element. type_of element ≡ pos 1) elements.now }
+{
+    for element in elements.iter() {
+        if !is_of_type_1(&element) {
+            return false;
+        }
+    }
+    true
+}
+
+// AD-IF-RELEVANT is of type 1.
+fn is_of_type_1(element: &TypedRef) -> bool
+    ensures { IsTrue result ↔ (element.now.kind ≡ pos 1) }
+{
+    element.kind == 1
+}

@@ -1,0 +1,159 @@
+//! Whether the bytes of a file are a cache. No memory is taken, so that no fault is hidden by the want of it.
+
+ghost use Rattle.std.specs.Prelude.{◌≡◌, ◌<◌, ◌^◌, List, [], None, OnOk, OnErr, IfErr, length};
+ghost use Rattle.std.specs.Int.{w32};
+ghost use Rattle.krb_name.specs.Cursor.{data_at, times_at};
+ghost use Rattle.krb_name.specs.Field.{IsBytes};
+ghost use Rattle.krb_ccache.specs.declared.credential.HeaderField.{HeaderField as HeaderFieldValue};
+ghost use Rattle.krb_ccache.specs.declared.credential.Credential.{Credential as CredentialValue};
+ghost use Rattle.krb_ccache.specs.Spelling.{header_bytes, credential_bytes};
+ghost use Rattle.krb_ccache.specs.Value.{Cache, FitsHeader, FitsCredential};
+ghost use Rattle.krb_ccache.specs.Inner.Version4.{IsCache4, IsFaultOf4};
+ghost use Rattle.krb_ccache.specs.Inner.Reading.{name_at, typed_at, list_at, credential_at};
+ghost use Rattle.krb_ccache.specs.Inner.Standing.{Lies, Reaches, IsMissing, Fills, StopsBy, IsBehind};
+
+use crate::fault::CacheFault;
+use crate::header::{open, read_field};
+use crate::items::read_flag;
+use krb_name::{FileCursor, Short};
+
+/// Answers `Ok` where the bytes are a cache.
+///
+/// # Errors
+/// Those of `CCache::parse`, but for `OutOfMemory`.
+pub(crate) fn check(bytes: &[u8]) -> Result<(), CacheFault>
+    ensures ok { OnOk result ((cache : Cache) × IsCache4 bytes.now cache) }
+    ensures fault { IfErr result (IsFaultOf4 bytes.now) }
+{
+    let mut cursor = open(bytes)?;
+    match check_header(&mut cursor) {
+        Ok(()) => {}
+        Err(Short) => return Err(CacheFault::Header),
+    }
+    let at = cursor.at();
+    match skip_name(&mut cursor) {
+        Ok(()) => {}
+        Err(Short) => return Err(CacheFault::BadItem { at }),
+    }
+    check_credentials(&mut cursor)?;
+    Ok(())
+}
+
+// Stands behind the header that begins here.
+fn check_header(cursor: &mut FileCursor<'_>) -> Result<(), Short>
+    requires { IsBytes cursor.old.rest }
+    ensures ok { OnOk result ((header : List HeaderFieldValue)
+        × Lies header_bytes FitsHeader cursor.old header cursor.new) }
+    ensures missing { OnErr result (IsMissing header_bytes FitsHeader cursor.old.rest) }
+{
+    let body = cursor.read_data16()?;
+    check_fields(body)?;
+    Ok(())
+}
+
+// Answers `Ok` where fields fill the bytes of a header.
+fn check_fields(body: &[u8]) -> Result<(), Short>
+    requires { length body.now < 2 ^ 16 }
+    ensures ok { OnOk result ((header : List HeaderFieldValue) × Fills body.now header) }
+    ensures missing { OnErr result ((header : List HeaderFieldValue) → ¬ Fills body.now header) }
+{
+    let mut cursor = FileCursor::new(body);
+    while !cursor.is_at_end() {
+        read_field(&mut cursor)?;
+    }
+    Ok(())
+}
+
+// Stands behind the credentials from here to the end.
+fn check_credentials(cursor: &mut FileCursor<'_>) -> Result<(), CacheFault>
+    requires { IsBytes cursor.old.rest }
+    ensures ok { OnOk result ((credentials : List CredentialValue)
+        × Reaches credential_bytes FitsCredential cursor.old credentials cursor.new) }
+    ensures end { OnOk result (cursor.new.rest ≡ []) }
+    ensures missing { IfErr result (StopsBy cursor.old) }
+{
+    while !cursor.is_at_end() {
+        let at = cursor.at();
+        match skip_credential(cursor) {
+            Ok(()) => {}
+            Err(Short) => return Err(CacheFault::BadItem { at }),
+        }
+    }
+    Ok(())
+}
+
+// Each call stands behind the part that begins here. Where it doesn't stand here the place is no matter.
+
+#[tactic(auto, unfolding(crate::specs::Inner::Reading::credential_at))]
+fn skip_credential(cursor: &mut FileCursor<'_>) -> Result<(), Short>
+    ensures ok { OnOk result (IsBehind (credential_at cursor.old) cursor.new) }
+    ensures short { OnErr result (credential_at cursor.old ≡ None) }
+{
+    skip_name(cursor)?;
+    skip_name(cursor)?;
+    cursor.read_i16()?;
+    cursor.read_data32()?;
+    cursor.read_u32()?;
+    cursor.read_u32()?;
+    cursor.read_u32()?;
+    cursor.read_u32()?;
+    read_flag(cursor)?;
+    cursor.read_u32()?;
+    skip_list(cursor)?;
+    skip_list(cursor)?;
+    cursor.read_data32()?;
+    cursor.read_data32()?;
+    Ok(())
+}
+
+#[tactic(auto, unfolding(crate::specs::Inner::Reading::name_at))]
+fn skip_name(cursor: &mut FileCursor<'_>) -> Result<(), Short>
+    ensures ok { OnOk result (IsBehind (name_at cursor.old) cursor.new) }
+    ensures short { OnErr result (name_at cursor.old ≡ None) }
+{
+    cursor.read_i32()?;
+    let count = cursor.read_u32()?;
+    cursor.read_data32()?;
+    skip_components(cursor, count)?;
+    Ok(())
+}
+
+fn skip_components(cursor: &mut FileCursor<'_>, count: u32) -> Result<(), Short>
+    ensures ok { OnOk result (IsBehind (times_at (data_at w32) count cursor.old) cursor.new) }
+    ensures short { OnErr result (times_at (data_at w32) count cursor.old ≡ None) }
+{
+    for _ in 0..count {
+        cursor.read_data32()?;
+    }
+    Ok(())
+}
+
+#[tactic(auto, unfolding(crate::specs::Inner::Reading::list_at))]
+fn skip_list(cursor: &mut FileCursor<'_>) -> Result<(), Short>
+    ensures ok { OnOk result (IsBehind (list_at cursor.old) cursor.new) }
+    ensures short { OnErr result (list_at cursor.old ≡ None) }
+{
+    let count = cursor.read_u32()?;
+    skip_elements(cursor, count)?;
+    Ok(())
+}
+
+fn skip_elements(cursor: &mut FileCursor<'_>, count: u32) -> Result<(), Short>
+    ensures ok { OnOk result (IsBehind (times_at typed_at count cursor.old) cursor.new) }
+    ensures short { OnErr result (times_at typed_at count cursor.old ≡ None) }
+{
+    for _ in 0..count {
+        skip_typed(cursor)?;
+    }
+    Ok(())
+}
+
+#[tactic(auto, unfolding(crate::specs::Inner::Reading::typed_at))]
+fn skip_typed(cursor: &mut FileCursor<'_>) -> Result<(), Short>
+    ensures ok { OnOk result (IsBehind (typed_at cursor.old) cursor.new) }
+    ensures short { OnErr result (typed_at cursor.old ≡ None) }
+{
+    cursor.read_u16()?;
+    cursor.read_data32()?;
+    Ok(())
+}

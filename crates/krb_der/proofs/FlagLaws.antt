@@ -1,0 +1,24 @@
+-- One flag alone.
+use Rattle.std.proofs.Common.{◌≡◌, ℕ, ◌-◌, ◌*◌, ◌/◌, ◌%◌, ◌^◌, ◌<◌, ◌↔◌, sym, subst, inl, inr, arith}
+use Rattle.std.proofs.lemmas.Nat.{one_shl}
+use Rattle.std.proofs.lemmas.Nat.Bits.{bit_at-pow_same, bit_at-pow_other}
+use Rattle.std.proofs.lemmas.Bool.{cases_eq}
+use Rattle.krb_der.specs.Flags.{HasBit, weight}
+
+set_is : (b n : ℕ) → b < 32 → HasBit (weight b) n → n ≡ b
+set_is b n small has =
+    elim (cases_eq n b) [
+      | inl same ↦ same
+      | inr other ↦ absurd (omega (arith, has.1, bit_at-pow_other (31 - b) (31 - n) (λ e. other (omega (arith, e, small, has.0)))))
+    ]
+
+is_set : (b n : ℕ) → b < 32 → n ≡ b → HasBit (weight b) n
+is_set b n small same =
+    (omega (arith, small, same), subst (λ k. weight b / weight k % 2 ≡ 1) (sym same) (bit_at-pow_same (31 - b)))
+
+pub only_flag : (b n : ℕ) → b < 32 → HasBit (weight b) n ↔ ((n ≡ b) × (n < 32))
+only_flag b n small = ((λ has. (set_is b n small has, has.0)), λ e. is_set b n small e.0)
+
+-- the number as it is computed
+pub shifted : (b : ℕ) → 1 * 2 ^ (31 - b) % 2 ^ 32 ≡ weight b
+shifted b = one_shl (31 - b) 32 (omega arith)

@@ -1,0 +1,117 @@
+-- How long spellings are, for all kinds at once.
+use Rattle.std.proofs.Common.{◌≡◌, ℕ, zero, suc, ◌+◌, ◌*◌, ◌^◌, ◌<◌, ◌≤◌, pos, negsuc, List, [], ◌∷◌, length, Option, Some, None, refl, sym, ap, ◌∙◌, arith, length-append}
+use Rattle.std.proofs.lemmas.Bool.{le-ltb, lt-ltb}
+use Rattle.std.proofs.lemmas.Int.{ints}
+use Rattle.std.proofs.Math.Nat.{mul-le-mul_right}
+use Rattle.krb_der.specs.Kind.{Content, int32, uint32, microseconds, constant, octets, string, flags, time, Kind, leaf, wrapped, sequence, Fields, ends, must, may, each, tag_of, ContentValue, ValueOf, FieldsOf}
+use Rattle.krb_der.specs.Content.{AreBytes, number, IsShortest, IsNatural, Elementary}
+use Rattle.krb_der.specs.Spells.{IsLength, short, long, IsElement, IsJoined, IfPresent, ForEach, Contents, SpellsContent, SpellsFields, SpellsBy}
+use Rattle.krb_der.specs.Size.{length_size, element_size, natural_size, leaf_size, size_if, sizes_of, content_size, fields_size, size_of}
+use Rattle.krb_der.proofs.Numbers.{number_below}
+use Rattle.krb_der.proofs.LengthLaws.{number_least}
+use Rattle.krb_der.proofs.IntegerLaws.{length-turned, natural_least, natural_few}
+
+-- ---- lengths
+many_digits : (k n : ℕ) → k < 4 → 128 ≤ n → 256 ^ k ≤ n → n < 256 ^ suc k → length_size n ≡ 2 + k
+many_digits zero n few big least most = rw (le-ltb n 128 big, lt-ltb n (2 ^ 8) most) refl
+many_digits (suc zero) n few big least most = rw (le-ltb n 128 big, le-ltb n (2 ^ 8) least, lt-ltb n (2 ^ 16) most) refl
+many_digits (suc (suc zero)) n few big least most =
+    rw (le-ltb n 128 big, le-ltb n (2 ^ 8) (omega arith), le-ltb n (2 ^ 16) least, lt-ltb n (2 ^ 24) most) refl
+many_digits (suc (suc (suc zero))) n few big least most =
+    rw (le-ltb n 128 big, le-ltb n (2 ^ 8) (omega arith), le-ltb n (2 ^ 16) (omega arith), le-ltb n (2 ^ 24) least) refl
+many_digits (suc (suc (suc (suc k)))) n few big least most = absurd (omega arith)
+
+pub length_sized : (n : ℕ) (size : List ℕ) → IsLength n size → length size ≡ length_size n
+length_sized n size (short lt e) = ap length e ∙ sym (rw (lt-ltb n 128 lt) refl)
+length_sized n size (long [] w four are first big value) = absurd (omega (arith, value))
+length_sized n size (long (d ∷ ds) w four are first big value) =
+    let few : length ds < 4 = omega (arith, four) in
+    let many = many_digits (length ds) n few big (omega (arith, number_least d ds first, value)) (omega (arith, number_below (d ∷ ds) are, value)) in
+    omega (arith, ap length w, many)
+
+-- ---- whole numbers
+many_bytes : (k n : ℕ) → k < 4 → 128 * 256 ^ k ≤ n → n < 128 * 256 ^ suc k → natural_size n ≡ 2 + k
+many_bytes zero n few least most = rw (le-ltb n (2 ^ 7) least, lt-ltb n (2 ^ 15) most) refl
+many_bytes (suc zero) n few least most = rw (le-ltb n (2 ^ 7) (omega arith), le-ltb n (2 ^ 15) least, lt-ltb n (2 ^ 23) most) refl
+many_bytes (suc (suc zero)) n few least most =
+    rw (le-ltb n (2 ^ 7) (omega arith), le-ltb n (2 ^ 15) (omega arith), le-ltb n (2 ^ 23) least, lt-ltb n (2 ^ 31) most) refl
+many_bytes (suc (suc (suc zero))) n few least most =
+    rw (le-ltb n (2 ^ 7) (omega arith), le-ltb n (2 ^ 15) (omega arith), le-ltb n (2 ^ 23) (omega arith), le-ltb n (2 ^ 31) least) refl
+many_bytes (suc (suc (suc (suc k)))) n few least most = absurd (omega arith)
+
+-- a first byte below 128
+number_under : (x : ℕ) (xs : List ℕ) → x < 128 → AreBytes xs → number (x ∷ xs) < 128 * 256 ^ length xs
+number_under x xs lt are =
+    let few : x ≤ 127 = omega arith in
+    let first : x * 256 ^ length xs ≤ 127 * 256 ^ length xs = mul-le-mul_right (256 ^ length xs) few in
+    omega (arith, first, number_below xs are)
+
+pub natural_sized : (n : ℕ) (content : List ℕ) → IsNatural n content → n < 2 ^ 39 → length content ≡ natural_size n
+natural_sized n content h lt = by content h.bytes h.shortest h.value (natural_few n content h lt).1
+  where
+    by : (c : List ℕ) → AreBytes c → IsShortest c → number c ≡ n → length c ≤ 5 → length c ≡ natural_size n
+    by [] are s e few = absurd s
+    by (x ∷ []) are s e few = sym (rw (lt-ltb n (2 ^ 7) (omega (arith, s, e))) refl)
+    by (x ∷ y ∷ ys) are s e few =
+        let many = many_bytes (length ys) n (omega arith) (omega (arith, natural_least x y ys s, e)) (omega (arith, number_under x (y ∷ ys) s.0 are.1, e)) in
+        omega (arith, many)
+
+-- ---- contents
+abbrev pub AreSized : Contents → Type 0
+AreSized Leaf = (c : Content) (v : ContentValue c) (content : List ℕ) → Leaf c v content → length content ≡ leaf_size c v
+
+pub elementary_sized : AreSized Elementary
+elementary_sized int32 (pos n) content h = natural_sized n content h.1 (omega (arith, ints, h.0))
+elementary_sized int32 (negsuc m) content h = sym (length-turned content) ∙ natural_sized m _ h.1.1 (omega (arith, ints, h.0))
+elementary_sized uint32 v content h = natural_sized v content h.1 (omega (arith, h.0))
+elementary_sized microseconds v content h = natural_sized v content h.1 (omega (arith, h.0))
+elementary_sized (constant n) v content h = natural_sized n content h.1 (omega (arith, h.0))
+elementary_sized octets v content h = ap length h
+elementary_sized string v content h = ap length h
+elementary_sized flags v content h = ap length h.whole ∙ omega (arith, h.four)
+elementary_sized time v content h = ap length h.whole
+
+-- ---- elements and fields
+-- each spelling of a part has so many bytes
+abbrev pub HasSize : (List ℕ → Type 0) → ℕ → Type 0
+HasSize Part n = (bytes : List ℕ) → Part bytes → length bytes ≡ n
+
+pub element_sized : (tag : ℕ) (IsContent : List ℕ → Type 0) (n : ℕ) → HasSize IsContent n → HasSize (IsElement tag IsContent) (element_size n)
+element_sized tag IsContent n sized bytes h =
+    let content = sized h.content h.content_is in
+    let size : length h.size ≡ length_size n = length_sized (length h.content) h.size h.length_is ∙ ap length_size content in
+    omega (arith, ap length h.whole, length-append h.size h.content, content, size)
+
+pub joined_sized : (First Rest : List ℕ → Type 0) (m n : ℕ) → HasSize First m → HasSize Rest n → HasSize (IsJoined First Rest) (m + n)
+joined_sized First Rest m n one rest bytes h =
+    omega (arith, ap length h.whole, length-append h.front h.back, one h.front h.first, rest h.back h.rest)
+
+pub present_sized : {V : Type 0} (Part : V → List ℕ → Type 0) (size : V → ℕ) → ((v : V) → HasSize (Part v) (size v)) → (o : Option V) → HasSize (IfPresent Part o) (size_if size o)
+present_sized Part size one None bytes h = ap length h
+present_sized Part size one (Some v) bytes h = one v bytes h
+
+pub each_sized : {V : Type 0} (Part : V → List ℕ → Type 0) (size : V → ℕ) → ((v : V) → HasSize (Part v) (size v)) → (vs : List V) → HasSize (ForEach Part vs) (sizes_of size vs)
+each_sized Part size one [] bytes h = ap length h
+each_sized Part size one (v ∷ vs) bytes h = joined_sized (Part v) (ForEach Part vs) (size v) (sizes_of size vs) (one v) (each_sized Part size one vs) bytes h
+
+module _ (Leaf : Contents) (leaves : AreSized Leaf) where
+  mutual
+    pub content_sized : (k : Kind) (v : ValueOf k) → HasSize (SpellsContent Leaf k v) (content_size k v)
+    content_sized (leaf c) v bytes h = leaves c v bytes h
+    content_sized (wrapped tag e) v bytes h = element_sized (tag_of e) (SpellsContent Leaf e v) (content_size e v) (λ x p. content_sized e v x p) bytes h
+    content_sized (sequence fs) v bytes h = fields_sized fs v bytes h
+
+    pub fields_sized : (fs : Fields) (v : FieldsOf fs) → HasSize (SpellsFields Leaf fs v) (fields_size fs v)
+    fields_sized ends v bytes h = ap length h
+    fields_sized (must e fs) v bytes h =
+        joined_sized (SpellsBy Leaf e v.0) (SpellsFields Leaf fs v.1) (size_of e v.0) (fields_size fs v.1)
+        (element_sized (tag_of e) (SpellsContent Leaf e v.0) (content_size e v.0) (λ x p. content_sized e v.0 x p)) (λ x p. fields_sized fs v.1 x p) bytes h
+    fields_sized (may e fs) v bytes h =
+        joined_sized (IfPresent (SpellsBy Leaf e) v.0) (SpellsFields Leaf fs v.1) (size_if (size_of e) v.0) (fields_size fs v.1)
+        (present_sized (SpellsBy Leaf e) (size_of e) (λ w. element_sized (tag_of e) (SpellsContent Leaf e w) (content_size e w) (λ x p. content_sized e w x p)) v.0)
+        (λ x p. fields_sized fs v.1 x p) bytes h
+    fields_sized (each e) v bytes h =
+        each_sized (SpellsBy Leaf e) (size_of e) (λ w. element_sized (tag_of e) (SpellsContent Leaf e w) (content_size e w) (λ x p. content_sized e w x p)) v bytes h
+
+  pub spelling_sized : (k : Kind) (v : ValueOf k) → HasSize (SpellsBy Leaf k v) (size_of k v)
+  spelling_sized k v = element_sized (tag_of k) (SpellsContent Leaf k v) (content_size k v) (content_sized k v)

@@ -1,0 +1,69 @@
+-- The order of stamps tells every two apart, and goes by time.
+use Rattle.std.proofs.Common.{◌≡◌, ◌≢◌, ◌≤ℤ◌, List, [], ◌∷◌, get_or, AllPairs, arith, refl, sym, ap, ◌∙◌, false}
+use Rattle.std.specs.declared.cmp.Ordering.{Ordering}
+use Rattle.std.specs.Ordering.{ordering_then, int_cmp, nat_cmp, is_gt}
+use Rattle.std.specs.declared.cmp.Ordering.TheVariants.{Less, Equal, Greater}
+use Rattle.std.specs.Cmp.Lexicographic.{slice_cmp}
+use Rattle.std.specs.List.Sorted.{IsStrictlySortedBy}
+use Rattle.std.proofs.lemmas.Cmp.{int_ranked, by_ranked, tied_itself}
+use Rattle.std.proofs.lemmas.Int.{ints}
+use Rattle.std.proofs.lemmas.Map.Keys.{Less-from_sorted}
+use Rattle.std.proofs.lemmas.Map.Lookups.{CmpEqualImpliesEq, exact_signed, exact_bytes}
+use Rattle.krb_replay.specs.Stamp.{Stamp}
+use Rattle.krb_replay.specs.Inner.Order.{name_cmp, stamp_cmp, stamp_total}
+
+-- both of two orders tie where the one after the other does
+first_tied : (one other : Ordering) → ordering_then one other ≡ Equal → one ≡ Equal
+first_tied Less other e = e
+first_tied Equal other e = refl
+first_tied Greater other e = e
+
+second_tied : (one other : Ordering) → ordering_then one other ≡ Equal → other ≡ Equal
+second_tied Less other e = absurd (cc)
+second_tied Equal other e = e
+second_tied Greater other e = absurd (cc)
+
+greater_decides : (one other : Ordering) → one ≡ Greater → is_gt (ordering_then one other) ≡ false → ⊥
+greater_decides Less other e f = cc
+greater_decides Equal other e f = cc
+greater_decides Greater other e f = cc
+
+pub exact_lists : {K : Type 0} (R : K → K → Ordering) → CmpEqualImpliesEq R → CmpEqualImpliesEq (slice_cmp R)
+exact_lists R exact [] [] e = refl
+exact_lists R exact [] (y ∷ ys) e = absurd (cc)
+exact_lists R exact (x ∷ xs) [] e = absurd (cc)
+exact_lists R exact (x ∷ xs) (y ∷ ys) e =
+    let head : x ≡ y = exact x y (first_tied (R x y) (slice_cmp R xs ys) e) in
+    let tail : xs ≡ ys = exact_lists R exact xs ys (second_tied (R x y) (slice_cmp R xs ys) e) in
+    cc
+
+pub exact_names : CmpEqualImpliesEq name_cmp
+exact_names one other e =
+    let realms : one.realm ≡ other.realm = exact_bytes one.realm other.realm (first_tied _ _ e) in
+    let components : one.components ≡ other.components =
+    exact_lists (slice_cmp nat_cmp) exact_bytes one.components other.components (second_tied _ _ e) in
+    λ i. record { realm = realms i; components = components i }
+
+pub exact_stamps : CmpEqualImpliesEq stamp_cmp
+exact_stamps one other e =
+    let times : one.time ≡ other.time = exact_signed one.time other.time (first_tied _ _ e) in
+    let names = second_tied (int_cmp one.time other.time) _ e in
+    let servers : one.server ≡ other.server = exact_names one.server other.server (first_tied _ _ names) in
+    let clients : one.client ≡ other.client = exact_names one.client other.client (second_tied _ _ names) in
+    λ i. record { server = servers i; client = clients i; time = times i }
+
+-- stamps in order differ
+pub once_from_ordered : (stamps : List Stamp) → IsStrictlySortedBy stamp_cmp stamps → AllPairs (λ one other. one ≢ other) stamps
+once_from_ordered stamps ordered i j d below within same =
+    let less : stamp_cmp (get_or stamps i d) (get_or stamps j d) ≡ Less = Less-from_sorted stamp_cmp stamps i j d ordered below within in
+    let tied : stamp_cmp (get_or stamps i d) (get_or stamps j d) ≡ Equal =
+    ap (λ other. stamp_cmp (get_or stamps i d) other) (sym same) ∙ tied_itself stamp_total (get_or stamps i d) in
+    cc
+
+-- what isn't after another one isn't later
+pub not_later : (one other : Stamp) → is_gt (stamp_cmp one other) ≡ false → one.time ≤ℤ other.time
+not_later one other not_after =
+    by_ranked _ _ _ (int_cmp one.time other.time) (int_ranked one.time other.time _ refl)
+    (λ is less. omega (arith, ints))
+    (λ is same. omega (arith, ints))
+    (λ is more. absurd (greater_decides _ _ is not_after))

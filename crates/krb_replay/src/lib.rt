@@ -1,0 +1,32 @@
+//! The memory of what was seen: which requests a service has let in or refused late, so that it lets none in twice (RFC 4120,
+//! section 3.2.3).
+//!
+//! A [`Tuple`] is what is remembered of a request. A [`ReplayMemory`] is a set of tuples and the latest moment that it was told.
+//! [`ListMemory`] keeps what it has; [`TimedMemory`] forgets what is older than the latest moment less a [`Skew`], and stays
+//! fast however much it holds.
+//!
+//! ```rust
+//! let mut memory = TimedMemory::new(alloc);
+//! if !memory.contains(&tuple) {
+//!     memory.remember(tuple)?;
+//! }
+//! memory.advance(now, skew); // what is older than `now` less `skew` is gone
+//! ```
+#![tactic(auto)]
+
+pub mod laws;
+mod list;
+mod memory;
+mod names;
+mod skew;
+mod timed;
+mod tuple;
+
+pub use list::ListMemory;
+pub use memory::ReplayMemory;
+pub use skew::Skew;
+pub use timed::TimedMemory;
+pub use tuple::Tuple;
+
+#[cfg(test)]
+mod tests;
