@@ -1,10 +1,18 @@
-"""Cases that are made and not stored: each beginning of a file, and each file with one byte changed.
+"""Cases that are made and not stored: each beginning of a file, each file with one byte changed, files at the limit, and each way of
+closing the standard streams.
 
-What is expected comes from tests/reference.py.
+What is expected comes from tests/reference.py. A case is made when it is asked for.
 """
+import struct
+import sys
+from itertools import combinations
 from pathlib import Path
 
 import reference
+
+sys.path.insert(0, str(Path(__file__).resolve().parent / "vectors"))
+
+import fixture  # noqa: E402
 
 TOP = Path(__file__).resolve().parent.parent
 EXAMPLES = TOP / "examples"
@@ -18,23 +26,8 @@ HOLED_KEYTAB = bytes.fromhex(
     "0000002e0001000245580005616c696365000000016553f10000001300103705d96080c17728a0e800eab6e0d23c00000100"
     "fffffff800000000ffffffff" "0000000011"
 )
-
-# of tests/vectors/fixture.py
-FIXTURE_CACHE = bytes.fromhex(
-    "05040000000000010000000100000002455800000005616c696365000000010000000100000002455800000005616c696365000000030000"
-    "000200000002455800000004686f737400000003776562001300000010000102030405060708090a0b0c0d0e0f6553f1000000000065547d"
-    "a00000000000000000000000000000000000000000d66181d33081d0a003020105a1041b024558a2163014a003020103a10d300b1b04686f"
-    "73741b03776562a381aa3081a7a003020113a103020103a2819a0481972cac51baf4f4c370efcbdd00f93b9d31830054d5323e8734b4b5a5"
-    "0307713a1fd99ffd06764979def1146b8e3adf2c98c2df1302be0dcc149765c2cd15fad1e8306ccef3d45266a106fe35eac396a6c62084a2"
-    "2951ba75e405af0537f589be46b4cc49c8f8e0049838022cf69c6910afbee3e7a76cc801913abcef0c7d16fb3eae94f34bc0bd18d13fed92"
-    "8de348d70f9b9771240ffda400000000"
-)
-CONFIGURED_CACHE = bytes.fromhex(
-    "0504001300010008fffffffe0000000700020003aabbcc000000010000000100000002455800000005616c69636500000001000000010000"
-    "0002455800000005616c69636500000000000000020000000c582d4341434845434f4e463a000000156b7262355f6363616368655f636f6e"
-    "665f646174610000000a666173745f617661696c000000000000000000000000000000000000000000000000000000000000000000000000"
-    "00000379657300000000"
-)
+FIXTURE_CACHE = fixture.cache()
+CONFIGURED_CACHE = fixture.configured_cache()
 
 
 def expected(command, data):
@@ -72,6 +65,17 @@ def changes(word, name, data, command):
             yield on_bytes(word, f"{name}, byte {at} xor {mask:02x}", changed, command)
 
 
+def full_keytabs():
+    """As many records as the limit has room for: each is read as one of them alone is."""
+    for name, size in {"no 32-bit kvno": 17, "a 32-bit kvno": 21}.items():
+        record = struct.pack(">I", size) + bytes(8) + b"\x01\x07" + bytes(size - 10)
+        count = (reference.LIMIT - 2) // len(record)
+        many, one = b"\x05\x02" + record * count, reference.record_of(*reference.keytab(b"\x05\x02" + record))
+        made = b"\x05\x02" + one * count
+        yield on_bytes("check-keytab", f"a full file of records with {name}", many, lambda data: f"ok {count}\n")
+        yield converting("convert-keytab", f"a full file of records with {name}", many, lambda data: reference.within_limit(made))
+
+
 def checked_keytabs(real):
     small = {"fixture": FIXTURE_KEYTAB, "holes": HOLED_KEYTAB}
     for name, data in {**real, **small}.items():
@@ -81,11 +85,7 @@ def checked_keytabs(real):
         yield from beginnings("check-keytab", name, data, reference.check_keytab)
         for size in range(len(data)):
             yield converting("convert-keytab", f"{name}, its first {size} bytes", data[:size], reference.convert_keytab)
-    for name, bytes_of in {"no 32-bit kvno": 17, "a 32-bit kvno": 21}.items():
-        record = (bytes_of).to_bytes(4, "big") + bytes(8) + b"\x01\x07" + bytes(bytes_of - 10)
-        many = b"\x05\x02" + record * ((reference.LIMIT - 2) // len(record))
-        yield on_bytes("check-keytab", f"a full file of records with {name}", many, reference.check_keytab)
-        yield converting("convert-keytab", f"a full file of records with {name}", many, reference.convert_keytab)
+    yield from full_keytabs()
 
 
 def keytab_cases():
@@ -102,12 +102,18 @@ def keytab_cases():
     yield on_bytes("list-keytab", "one hole up to the limit", hole, reference.list_keytab)
 
 
-def full_cache():
-    """A cache of as many of the smallest credentials as the limit has room for."""
+def full_caches():
+    """As many of the smallest credentials as the limit has room for, and one byte past the limit."""
     name = bytes(12)
     one = name + name + bytes(2 + 4 + 16 + 1 + 4 + 4 + 4 + 4 + 4)
     start = b"\x05\x04\x00\x00" + name
-    return start + one * ((reference.LIMIT - len(start)) // len(one))
+    count = (reference.LIMIT - len(start)) // len(one)
+    assert len(reference.cache(start + one)[2]) == 1
+    full, over = start + one * count, bytes(reference.LIMIT + 1)
+    yield on_bytes("check-ccache", "as many credentials as there is room for", full, lambda data: f"ok {count}\n")
+    yield converting("convert-ccache", "as many credentials as there is room for", full, lambda data: data)
+    yield on_bytes("check-ccache", "one byte past the limit", over, reference.check_ccache)
+    yield converting("convert-ccache", "one byte past the limit", over, reference.convert_ccache)
 
 
 def cache_cases():
@@ -122,11 +128,38 @@ def cache_cases():
         yield from beginnings("check-ccache", name, data, reference.check_ccache)
         for size in range(len(data)):
             yield converting("convert-ccache", f"{name}, its first {size} bytes", data[:size], reference.convert_ccache)
-    for name, data in {"as many credentials as there is room for": full_cache(), "one byte past the limit": bytes(reference.LIMIT + 1)}.items():
-        yield on_bytes("check-ccache", name, data, reference.check_ccache)
-        yield converting("convert-ccache", name, data, reference.convert_ccache)
+    yield from full_caches()
+
+
+COMMANDS = {
+    "list-keytab": (HOLED_KEYTAB, reference.list_keytab),
+    "check-keytab": (HOLED_KEYTAB, reference.check_keytab),
+    "convert-keytab": (HOLED_KEYTAB, reference.convert_keytab),
+    "list-ccache": (CONFIGURED_CACHE, reference.list_ccache),
+    "check-ccache": (CONFIGURED_CACHE, reference.check_ccache),
+    "convert-ccache": (CONFIGURED_CACHE, reference.convert_ccache),
+}
+
+
+def without(streams, case):
+    """The case with these standard streams closed: nothing is written there, and a line that can't be printed has its own fault."""
+    case = {**case, "name": f"{case['name']}, without stream {' and '.join(map(str, streams))}", "closed": list(streams)}
+    if 1 in streams and case.get("stdout"):
+        case = {**case, "stdout": "", "stderr": "krbtool: output: Write\n", "status": 3}
+    return {**case, "stderr": ""} if 2 in streams else case
+
+
+def stream_cases():
+    """Each way of closing standard streams, for each command, on a good file and on a faulty one."""
+    ways = [streams for size in (1, 2, 3) for streams in combinations((0, 1, 2), size)]
+    for word, (data, command) in COMMANDS.items():
+        made = converting if word.startswith("convert") else on_bytes
+        for streams in ways:
+            yield without(streams, made(word, "a good file", data, command))
+            yield without(streams, made(word, "a faulty file", data[:20], command))
 
 
 def cases():
     yield from keytab_cases()
     yield from cache_cases()
+    yield from stream_cases()

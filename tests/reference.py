@@ -122,12 +122,15 @@ def record_of(entry):
     return struct.pack(">i", len(body)) + body
 
 
-def convert_keytab(data):
-    """The keytab without holes, rests and end word."""
-    made = b"\x05\x02" + b"".join(record_of(it) for it in keytab(data))
+def within_limit(made):
     if len(made) > LIMIT:
         raise Fault("TooLong")
     return made
+
+
+def convert_keytab(data):
+    """The keytab without holes, rests and end word."""
+    return within_limit(b"\x05\x02" + b"".join(record_of(it) for it in keytab(data)))
 
 
 def cache_principal(reader):

@@ -1,32 +1,42 @@
 #!/usr/bin/env python3
 """Runs the built program on the cases of tests/cases, and on those that tests/generated.py makes.
 
-    tests/run.py PROGRAM [WORD]      the cases whose names hold WORD, or all
+    tests/run.py PROGRAM [WORD] [--jobs N]      the cases whose names hold WORD, or all; so many side by side
 
-It ends with what MIT's tools say of files that the program wrote (tests/peers.py; Debian's package krb5-user).
+Then it compares the tables of the crates' tests with the scripts that make them (tests/tables.py), runs the example of README.md
+(tests/readme.py), refuses the program's allocations one after another (tests/refused.py), and ends with what MIT's tools say of files
+that the program wrote (tests/peers.py; Debian's package krb5-user).
 
 A case is a table [[case]] of a TOML file:
 
     name    what it shows
-    args    the words after the program's name
+    args    the words after the program's name: a text, or { hex = "ff" } for bytes that are no text
     files   files that lie where it runs: hex digits, or "@PATH" of a file of the repository
-    stdin   what it reads (text), or "@PATH"
-    stdout  what it must write on standard output, whole
-    stderr  what it must write on standard error, whole; or stderr_begins, its beginning
-    stdout_begins  the beginning of standard output, where the rest isn't ours
     folders empty folders that lie where it runs
+    given_modes  the modes of some of these files, in octal digits
+    umask   in octal digits (022 where left out)
+    stdin   what it reads (text), or "@PATH"
+    output  "full": standard output is /dev/full
+    closed  the standard streams that are closed: a list of 0, 1 and 2
     status  its exit status (0 where left out)
+    stdout  what it must write on standard output, whole; or stdout_begins, its beginning, and stdout_holds, texts that it must hold
+    stderr  what it must write on standard error, whole; or stderr_begins, its beginning
     after   files that must lie there afterwards, as hex digits or "@PATH"
-    output  "full": standard output is /dev/full; "closed": it is closed
+    modes   their modes, in octal digits
+    gone    names that must not lie there afterwards
 
 The last line is 'N passed, M failed'.
 """
+import argparse
 import os
+import stat
 import subprocess
 import sys
 import tempfile
 import tomllib
+from collections import deque
 from concurrent.futures import ThreadPoolExecutor
+from itertools import chain
 from pathlib import Path
 
 HERE = Path(__file__).resolve().parent
@@ -34,12 +44,13 @@ TOP = HERE.parent
 sys.path.insert(0, str(HERE))
 sys.dont_write_bytecode = True
 
-import der_rules  # noqa: E402
 import generated  # noqa: E402
-import msg_rules  # noqa: E402
 import peers  # noqa: E402
+import tables  # noqa: E402
 
-KEYS = set("name args files folders stdin stdout stdout_begins stderr stderr_begins status after output".split())
+WORDS = """name args files folders given_modes umask stdin output closed status stdout stdout_begins stdout_holds stderr stderr_begins
+    after modes gone"""
+KEYS = set(WORDS.split())
 
 
 def content(text):
@@ -49,6 +60,10 @@ def content(text):
     return (TOP / text[1:]).read_bytes() if text.startswith("@") else bytes.fromhex(text)
 
 
+def word_of(word):
+    return bytes.fromhex(word["hex"]) if isinstance(word, dict) else word.encode()
+
+
 def stored_cases():
     for path in sorted((HERE / "cases").glob("*.toml")):
         with open(path, "rb") as file:
@@ -56,80 +71,101 @@ def stored_cases():
                 yield {**case, "name": f"{path.stem}: {case['name']}"}
 
 
+def unlike(case, stream, wrote):
+    """What is wrong with what was written on this stream, or None."""
+    wanted, begins = case.get(stream, ""), case.get(f"{stream}_begins")
+    held = [it for it in case.get(f"{stream}_holds", []) if it.encode() not in wrote]
+    if held:
+        return f"{stream} {wrote[:800]!r} doesn't hold {held}"
+    if begins is not None:
+        return None if wrote.startswith(begins.encode()) else f"{stream} {wrote[:400]!r} doesn't begin {begins!r}"
+    return None if wrote == wanted.encode() else f"{stream} {wrote[:400]!r}, not {wanted[:400]!r}"
+
+
 def difference(case, ran, room):
     """What is wrong with the run, or None."""
-    wanted = case.get("status", 0)
-    if ran.returncode != wanted:
-        return f"status {ran.returncode}, not {wanted}; it wrote {ran.stderr[:300]!r}"
     unknown = set(case) - KEYS
     if unknown:
         return f"the case has unknown keys: {sorted(unknown)}"
-    if "stdout_begins" in case:
-        if not ran.stdout.startswith(case["stdout_begins"].encode()):
-            return f"standard output {ran.stdout[:400]!r} doesn't begin {case['stdout_begins']!r}"
-    elif "output" not in case and ran.stdout != case.get("stdout", "").encode():
-        return f"standard output {ran.stdout[:400]!r}, not {case.get('stdout', '')[:400]!r}"
-    if "stderr_begins" in case:
-        if not ran.stderr.startswith(case["stderr_begins"].encode()):
-            return f"standard error {ran.stderr[:400]!r} doesn't begin {case['stderr_begins']!r}"
-    elif ran.stderr != case.get("stderr", "").encode():
-        return f"standard error {ran.stderr[:400]!r}, not {case.get('stderr', '')!r}"
+    wanted = case.get("status", 0)
+    if ran.returncode != wanted:
+        return f"status {ran.returncode}, not {wanted}; it wrote {ran.stderr[:300]!r}"
+    wrong = unlike(case, "stdout", ran.stdout) or unlike(case, "stderr", ran.stderr)
+    if wrong:
+        return wrong
     for name, text in case.get("after", {}).items():
         found = (room / name).read_bytes() if (room / name).is_file() else None
         if found != content(text):
             return f"the file {name} is {found!r}"
-    return None
+    for name, wanted in case.get("modes", {}).items():
+        found = stat.S_IMODE((room / name).stat().st_mode)
+        if found != int(wanted, 8):
+            return f"the mode of {name} is {found:o}, not {wanted}"
+    there = [name for name in case.get("gone", []) if os.path.lexists(room / name)]
+    return f"there is a file {there[0]}" if there else None
+
+
+def laid_out(case, room):
+    for name, text in case.get("files", {}).items():
+        (room / name).write_bytes(content(text))
+    for name in case.get("folders", []):
+        (room / name).mkdir()
+    for name, mode in case.get("given_modes", {}).items():
+        (room / name).chmod(int(mode, 8))
 
 
 def run(program, case):
     with tempfile.TemporaryDirectory(prefix="krbtool-case-") as folder:
         room = Path(folder)
-        for name, text in case.get("files", {}).items():
-            (room / name).write_bytes(content(text))
-        for name in case.get("folders", []):
-            (room / name).mkdir()
+        laid_out(case, room)
         stdin = case.get("stdin", "")
         given = content(stdin) if isinstance(stdin, bytes) or stdin.startswith("@") else stdin.encode()
         out = open("/dev/full", "wb") if case.get("output") == "full" else subprocess.PIPE
-        command = [program, *case["args"]]
-        if case.get("output") == "closed":
-            command = ["sh", "-c", 'exec "$@" >&-', "sh", *command]
+        command = [program, *map(word_of, case["args"])]
+        if "closed" in case:
+            closing = " ".join(f"{it}>&-" for it in case["closed"])
+            command = ["sh", "-c", f'exec "$@" {closing}', "sh", *command]
+        umask = int(case.get("umask", "022"), 8)
         try:
-            ran = subprocess.run(command, cwd=room, input=given, stdout=out, stderr=subprocess.PIPE, timeout=60)
+            ran = subprocess.run(command, cwd=room, input=given, stdout=out, stderr=subprocess.PIPE, timeout=60, umask=umask)
         except subprocess.TimeoutExpired:
             return "it did not end within 60 seconds"
         ran.stdout = ran.stdout or b""
         return difference(case, ran, room)
 
 
-def der_table():
-    """What is wrong with the table of the crate krb_der's tests, which tests/der_rules.py works out anew."""
-    table = (TOP / "crates/krb_der/src/tests/cases.rt").read_text()
-    return None if der_rules.plain(table) == der_rules.plain(der_rules.table()) else "it isn't what the rules give"
+def in_turn(jobs, function, items):
+    """What the function gives of each item, in their order; so many run side by side, and few items are made before they run."""
+    running = deque()
+    with ThreadPoolExecutor(max_workers=jobs) as pool:
+        for item in items:
+            running.append(pool.submit(function, item))
+            if len(running) == 4 * jobs:
+                yield running.popleft().result()
+        while running:
+            yield running.popleft().result()
 
 
-def msg_table():
-    """What is wrong with the table of the crate krb_msg's tests, which tests/msg_rules.py works out anew."""
-    table = (TOP / "crates/krb_msg/src/tests/flipped.rt").read_text()
-    return None if der_rules.plain(table) == der_rules.plain(msg_rules.table()) else "it isn't what the rules give"
-
-
-def results(program, word):
+def results(program, word, jobs):
     """The name of each case and what is wrong with it, or None. Cases run side by side, each in a folder of its own."""
-    chosen = [case for case in [*stored_cases(), *generated.cases()] if word in case["name"]]
-    with ThreadPoolExecutor(max_workers=os.cpu_count()) as pool:
-        yield from zip((case["name"] for case in chosen), pool.map(lambda case: run(program, case), chosen))
-    tables = [("the table of DER cases by the rules", der_table()), ("the table of messages by the rules", msg_table())]
-    for name, wrong in [*tables, *peers.checks(program)]:
-        if word in name:
-            yield name, wrong
+    chosen = (case for case in chain(stored_cases(), generated.cases()) if word in case["name"])
+    yield from in_turn(jobs, lambda case: (case["name"], run(program, case)), chosen)
+    for part in (tables.checks, peers.checks):
+        yield from ((name, wrong) for name, wrong in part(program) if word in name)
+
+
+def read_words():
+    words = argparse.ArgumentParser(description=__doc__, formatter_class=argparse.RawDescriptionHelpFormatter)
+    words.add_argument("program", type=os.path.abspath)
+    words.add_argument("word", nargs="?", default="")
+    words.add_argument("--jobs", type=int, default=os.cpu_count())
+    return words.parse_args()
 
 
 def main():
-    program = os.path.abspath(sys.argv[1])
-    word = sys.argv[2] if len(sys.argv) > 2 else ""
+    given = read_words()
     passed = failed = 0
-    for name, wrong in results(program, word):
+    for name, wrong in results(given.program, given.word, given.jobs):
         if wrong:
             failed += 1
             print(f"FAILED {name}: {wrong}")

@@ -1,8 +1,8 @@
 #!/usr/bin/env python3
 """Makes the small exchange that tests share: a ticket, a credential cache, and requests, by the standards' rules alone.
 
-The DER writer here is a second one (RFC 4120, sections 5.2 to 5.5); sealing is that of sealing.py. Needs the Python package
-`cryptography`. It prints what was made, in hex, for tests to keep.
+The DER writer here is a second one (RFC 4120, sections 5.2 to 5.5); sealing is that of sealing.py. It prints what was made, in hex,
+for tests to keep.
 """
 import struct
 

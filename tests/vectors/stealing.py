@@ -1,10 +1,9 @@
 #!/usr/bin/env python3
-"""Prints the table of crates/krb_cts/src/tests/lengths.rt, by a second implementation.
+"""Prints the rows of crates/krb_cts/src/tests/lengths.rt, by a second implementation of CBC with ciphertext stealing.
 
-Needs the Python package `cryptography`, of which it uses AES on single blocks alone. What it computes is checked
-against the examples of RFC 3962, appendix B, before it prints.
+What it computes is checked against the examples of RFC 3962, appendix B, before it prints.
 """
-from cryptography.hazmat.primitives.ciphers import Cipher, algorithms, modes
+import aes
 
 PUBLISHED = [
     (17, "c6353568f2bf8cb4d8a580362da7ff7f97"),
@@ -19,10 +18,9 @@ SOUP = b"I would like the General Gau's Chicken, please, and wonton soup."
 
 def chained(key, text):
     """CBC of whole blocks, with an initial vector of zeros."""
-    cipher, out, previous = Cipher(algorithms.AES(key), modes.ECB()), b"", bytes(16)
+    out, previous = b"", bytes(16)
     for at in range(0, len(text), 16):
-        block = bytes(a ^ b for a, b in zip(text[at : at + 16], previous))
-        previous = cipher.encryptor().update(block)
+        previous = aes.encrypted(key, aes.added(text[at : at + 16], previous))
         out += previous
     return out
 
@@ -35,17 +33,18 @@ def stolen(key, text):
     return (out[: 16 * (blocks - 2)] + out[16 * (blocks - 1) :] + out[16 * (blocks - 2) : 16 * (blocks - 1)])[: len(text)]
 
 
-def main():
+def rows():
+    """The blocks that chaining makes of the first 192 bytes, and of each length from 16 to 200 the last two blocks, or the one."""
     for size, wanted in PUBLISHED:
         assert stolen(b"chicken teriyaki", SOUP[:size]).hex() == wanted, size
     key = bytes(range(32))
     text = bytes(7 * i % 256 for i in range(200))
-    print("    // The blocks that chaining makes of the first 192 bytes.")
-    print(f'    "{chained(key, text[:192]).hex()}",')
+    yield chained(key, text[:192]).hex()
     for size in range(16, 201):
         blocks = (size + 15) // 16
-        print(f'    "{stolen(key, text[:size])[16 * max(blocks - 2, 0) :].hex()}",')
+        yield stolen(key, text[:size])[16 * max(blocks - 2, 0) :].hex()
 
 
 if __name__ == "__main__":
-    main()
+    for row in rows():
+        print(f'    "{row}",')
