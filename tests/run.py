@@ -46,6 +46,7 @@ sys.dont_write_bytecode = True
 
 import generated  # noqa: E402
 import peers  # noqa: E402
+import refused  # noqa: E402
 import tables  # noqa: E402
 
 WORDS = """name args files folders given_modes umask stdin output closed status stdout stdout_begins stdout_holds stderr stderr_begins
@@ -150,7 +151,7 @@ def results(program, word, jobs):
     """The name of each case and what is wrong with it, or None. Cases run side by side, each in a folder of its own."""
     chosen = (case for case in chain(stored_cases(), generated.cases()) if word in case["name"])
     yield from in_turn(jobs, lambda case: (case["name"], run(program, case)), chosen)
-    for part in (tables.checks, peers.checks):
+    for part in (tables.checks, refused.checks, peers.checks):
         yield from ((name, wrong) for name, wrong in part(program) if word in name)
 
 

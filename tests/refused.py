@@ -1,0 +1,95 @@
+"""Runs the program where its calls for memory are refused, one after another, by a preloaded library (tests/refuse.c, which a C compiler
+makes).
+
+Of each command every call is refused in turn, alone and with all that come after it, until a run meets no refusal. Such a run ends by
+itself, says that there was no memory, and writes nothing that is wrong. (Only std's `collect` passes over a refusal: where room for
+all words at once is refused, it asks again as it goes.)
+
+Each check is a pair: its name, and what is wrong, or None.
+"""
+import os
+import subprocess
+import tempfile
+from pathlib import Path
+
+import generated
+
+HERE = Path(__file__).resolve().parent
+OLD = b"what OUT held"
+# More calls than any command makes.
+ALL = 1_000_000
+# How many times the words are collected.
+PASSED_OVER = 2
+
+# What is refused, by the line that says so, in the order of a run; and the status.
+WORDS = ("krbtool: words: OutOfMemory\n", 2)
+CLAP = ("error: out of memory\n", 3)
+
+
+def commands():
+    """Each command's words, the bytes of its file, and what it writes where there is memory: on standard output, and into OUT."""
+    keytab, cache = (generated.EXAMPLES / "mit-holes.keytab").read_bytes(), (generated.EXAMPLES / "heimdal.ccache").read_bytes()
+    for word, (_, command) in generated.COMMANDS.items():
+        file = keytab if word.endswith("keytab") else cache
+        if word.startswith("convert"):
+            made = command(file)
+            yield [word, "f", "out"], file, f"wrote {len(made)}\n".encode(), made
+        else:
+            yield [word, "f"], file, command(file).encode(), OLD
+
+
+def library(folder):
+    made = f"{folder}/refuse.so"
+    subprocess.run(["cc", "-shared", "-fPIC", "-O1", "-o", made, str(HERE / "refuse.c")], check=True, capture_output=True)
+    return made
+
+
+def run(program, words, file, refused, last, preloaded):
+    """Status, standard output, standard error and OUT, and whether a call was refused."""
+    with tempfile.TemporaryDirectory(prefix="krbtool-refused-") as name:
+        room = Path(name)
+        (room / "f").write_bytes(file)
+        (room / "out").write_bytes(OLD)
+        told = room / "told"
+        more = {"LD_PRELOAD": preloaded, "REFUSE_FIRST": str(refused), "REFUSE_LAST": str(last), "REFUSE_TOLD": str(told)}
+        done = subprocess.run([program, *words], cwd=room, env={**os.environ, **more}, capture_output=True, timeout=60)
+        return (done.returncode, done.stdout, done.stderr.decode(errors="replace"), (room / "out").read_bytes()), told.exists()
+
+
+def stage_of(words, found, good):
+    """Where in a run memory was refused: at the words (0), in clap (1), in the command (2); or None where the run is none such."""
+    status, wrote, said, out = found
+    if out == OLD and not wrote and (said, status) in (WORDS, CLAP):
+        return (WORDS, CLAP).index((said, status))
+    begins = good[0].startswith(wrote) and wrote != good[0]
+    named = said == f"krbtool: {words[0]}: OutOfMemory\n" and begins or said == "krbtool: f: OutOfMemory\n" and not wrote
+    return 2 if status == 3 and named and (out == good[1] == OLD or out == b"") else None
+
+
+def swept(program, words, file, good, preloaded, lasting):
+    """What is wrong with a run in which a call is refused, or None where each such run is right."""
+    stage = passed_over = refused = 0
+    while True:
+        refused += 1
+        found, met = run(program, words, file, refused, ALL if lasting else refused, preloaded)
+        well = found == (0, good[0], "", good[1])
+        if not met:
+            return None if well and stage == 2 else f"where {refused} calls are granted it gives {found}"
+        at = stage_of(words, found, good)
+        passed_over += well and not lasting
+        if not (well and not lasting and passed_over <= PASSED_OVER) and (at is None or at < stage):
+            return f"where call {refused} is refused it gives {found}"
+        stage = stage if at is None else at
+
+
+def checks(program):
+    with tempfile.TemporaryDirectory(prefix="krbtool-refuse-") as folder:
+        try:
+            preloaded = library(folder)
+        except (OSError, subprocess.CalledProcessError) as error:
+            yield "the library that refuses memory", str(error)
+            return
+        for words, file, wrote, made in commands():
+            for lasting in (False, True):
+                way = "each call and all after it" if lasting else "each call"
+                yield f"refused memory: {words[0]}, {way}", swept(program, words, file, (wrote, made), preloaded, lasting)
