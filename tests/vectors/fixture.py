@@ -72,6 +72,20 @@ def ticket():
     ))
 
 
+def authenticator():
+    """The client's, at 1,700,000,100 seconds and 5 microseconds."""
+    return element(0x62, sequence(
+        field(0, integer(5)), field(1, string(b"EX")), field(2, name(1, b"alice")), field(4, integer(5)), field(5, time("20231114221500Z")),
+    ))
+
+
+def request():
+    cipher = sealed(19, SESSION_KEY, 11, bytes(range(0x20, 0x30)), authenticator())
+    return element(0x6E, sequence(
+        field(0, integer(5)), field(1, integer(14)), field(2, element(3, bytes(5))), field(3, ticket()), field(4, encrypted(19, cipher)),
+    ))
+
+
 def data(text):
     return struct.pack(">I", len(text)) + text
 
@@ -83,6 +97,12 @@ def principal(name_type, realm, *components):
 def credential(client, server, etype, key, times, ticket_bytes):
     return (client + server + struct.pack(">h", etype) + data(key) + struct.pack(">4I", *times)
             + struct.pack(">BI", 0, 0) + struct.pack(">II", 0, 0) + data(ticket_bytes) + data(b""))
+
+
+def keytab():
+    name_of_service = struct.pack(">H", 2) + b"".join(struct.pack(">H", len(it)) + it for it in (b"EX", b"host", b"web"))
+    entry = name_of_service + struct.pack(">iIBhH", 3, 1_700_000_000, 3, 19, 16) + SERVICE_KEY + struct.pack(">I", 3)
+    return b"\x05\x02" + struct.pack(">i", len(entry)) + entry
 
 
 def cache():
@@ -100,9 +120,10 @@ def configured_cache():
 
 def main():
     assert len(ticket_part()) == 119 and len(ticket()) == 214
+    assert len(authenticator()) == 59 and len(request()) == 348
     assert len(cache()) == 352 and len(configured_cache()) == 178
-    for made, value in [("ticket part", ticket_part()), ("ticket", ticket()), ("cache", cache()), ("configured cache", configured_cache())]:
-        print(f"{made} {value.hex()}")
+    for made in (ticket_part, ticket, authenticator, request, keytab, cache, configured_cache):
+        print(f"{made.__name__} {made().hex()}")
 
 
 if __name__ == "__main__":

@@ -1,0 +1,56 @@
+//! A service in small: it opens the ticket of a request, and lets the client in once. README.md shows this file in parts.
+#![tactic(auto)]
+
+use anyhow::{Context, Result, anyhow};
+use krb_ap::Acceptor;
+use krb_enc::Key;
+use krb_keytab::{Keytab, Picked};
+use krb_msg::{ApReqRef, Moment};
+use krb_name::ReadSource;
+use krb_replay::{Skew, TimedMemory};
+use std::alloc::Global;
+use std::fs;
+use std::fs::File;
+
+/// Opens the ticket of a request, with the key that the keytab has for it.
+fn opened_ticket(alloc: Global, keytab: &Keytab, request: &[u8]) -> Result<Vec<u8>> {
+    let ticket = ApReqRef::parse(request)?.ticket;
+    let service = ticket.sname.to_principal(alloc, ticket.realm)?;
+    let sealed = ticket.enc_part;
+    match keytab.pick(&service, sealed.etype, sealed.kvno) {
+        Picked::Entry(entry) => {
+            let key = Key::new(sealed.etype, entry.key())?;
+            // 2 is the key usage of tickets.
+            Ok(key.open(alloc, 2, sealed.cipher)?)
+        }
+        _ => Err(anyhow!("the keytab has no key for this ticket")),
+    }
+}
+
+/// Lets the client of a request in, or says why not. The service remembers what it has seen.
+fn greet(
+    rt: &HostRuntime,
+    service: &mut Acceptor<TimedMemory>,
+    request: &[u8],
+    now: Moment,
+) -> Result<()> {
+    match service.accept(rt.alloc(), request, now) {
+        Ok(accepted) => println!(rt; "hello {}", accepted.client.to_text(rt.alloc())?)?,
+        Err(refusal) => println!(rt; "go away: {refusal}")?,
+    }
+    Ok(())
+}
+
+fn main(rt: HostRuntime) -> Result<()> {
+    let file = File::open(&rt, "service.keytab")?;
+    let keytab = Keytab::read(rt.alloc(), &mut ReadSource::new(file))?;
+    let request = fs::read(&rt, "request")?;
+    let plain = opened_ticket(rt.alloc(), &keytab, &request)?;
+    println!(rt; "the ticket holds {} bytes", plain.len())?;
+
+    let skew = Skew::new(300).context("at most a day")?;
+    let mut service = Acceptor::new(keytab, skew, TimedMemory::new(rt.alloc()));
+    let now = Moment::new(1_700_000_100, 5).context("a year from 0 to 9999")?;
+    greet(&rt, &mut service, &request, now)?;
+    greet(&rt, &mut service, &request, now)
+}
