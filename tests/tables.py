@@ -121,12 +121,19 @@ def caches():
     return same(found, [fixture.cache(), fixture.configured_cache()])
 
 
+def example():
+    """The files that README's example runs on."""
+    found = [(TOP / "crates/krb_example/data" / name).read_bytes() for name in ("service.keytab", "request")]
+    return same(found, [fixture.keytab(), fixture.request()])
+
+
 TABLES = {
     "DER by the rules": lambda: same_text("krb_der/src/tests/cases.rt", der_rules.table()),
     "messages by the rules": lambda: same_text("krb_msg/src/tests/flipped.rt", msg_rules.table()),
     "messages": lambda: same_text("krb_msg/src/tests/values.rt", printed("tests/msg_values.py")),
     "the fixture's messages": messages_of_fixture,
     "the fixture's caches": caches,
+    "the example's keytab and request": example,
     "random blocks under keys of 16 bytes": lambda: random_blocks("krb_aes/src/tests/random_128.rt", "RANDOM_128", 3),
     "random blocks under keys of 32 bytes": lambda: random_blocks("krb_aes/src/tests/random_256.rt", "RANDOM_256", 4),
     "the tables of the S-box on lanes": tower_tables,
