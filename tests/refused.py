@@ -27,7 +27,10 @@ CLAP = ("error: out of memory\n", 3)
 
 
 def commands():
-    """Each command's words, the bytes of its file, and what it writes where there is memory: on standard output, and into OUT."""
+    """Each command's words, the bytes of its file, and what it writes where there is memory: on standard output (None where that is
+    clap's text), and into OUT."""
+    yield ["--help"], b"", None, OLD
+    yield ["list-keytab", "--help"], b"", None, OLD
     keytab, cache = (generated.EXAMPLES / "mit-holes.keytab").read_bytes(), (generated.EXAMPLES / "heimdal.ccache").read_bytes()
     for word, (_, command) in generated.COMMANDS.items():
         file = keytab if word.endswith("keytab") else cache
@@ -66,30 +69,34 @@ def stage_of(words, found, good):
     return 2 if status == 3 and named and (out == good[1] == OLD or out == b"") else None
 
 
-def swept(program, words, file, good, preloaded, lasting):
-    """What is wrong with a run in which a call is refused, or None where each such run is right."""
-    stage = passed_over = refused = 0
-    while True:
-        refused += 1
+def swept(program, words, file, good, last, preloaded, lasting):
+    """What is wrong with a run in which a call is refused, or None where each such run is right, up to the last stage."""
+    stage = passed_over = 0
+    for refused in range(1, ALL):
         found, met = run(program, words, file, refused, ALL if lasting else refused, preloaded)
         well = found == (0, good[0], "", good[1])
         if not met:
-            return None if well and stage == 2 else f"where {refused} calls are granted it gives {found}"
+            return None if well and stage == last else f"where {refused} calls are granted it gives {found}"
+        if well and not lasting and stage == 0 and passed_over < PASSED_OVER:
+            passed_over += 1
+            continue
         at = stage_of(words, found, good)
-        passed_over += well and not lasting
-        if not (well and not lasting and passed_over <= PASSED_OVER) and (at is None or at < stage):
+        if at is None or at < stage:
             return f"where call {refused} is refused it gives {found}"
-        stage = stage if at is None else at
+        stage = at
+    return "it calls for memory again and again"
 
 
 def checks(program):
     with tempfile.TemporaryDirectory(prefix="krbtool-refuse-") as folder:
         try:
             preloaded = library(folder)
-        except (OSError, subprocess.CalledProcessError) as error:
-            yield "the library that refuses memory", str(error)
-            return
-        for words, file, wrote, made in commands():
-            for lasting in (False, True):
-                way = "each call and all after it" if lasting else "each call"
-                yield f"refused memory: {words[0]}, {way}", swept(program, words, file, (wrote, made), preloaded, lasting)
+            for words, file, wrote, made in commands():
+                # after clap's text nothing comes
+                last = 2 if wrote else 1
+                wrote = wrote or run(program, words, file, ALL, ALL, preloaded)[0][1]
+                for lasting in (False, True):
+                    name = f"refused memory: {' '.join(words)}, each call{' and all after it' if lasting else ''}"
+                    yield name, swept(program, words, file, (wrote, made), last, preloaded, lasting)
+        except (OSError, subprocess.SubprocessError) as error:
+            yield "refused memory", str(error)
