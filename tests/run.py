@@ -4,8 +4,8 @@
     tests/run.py PROGRAM [WORD] [--jobs N]      the cases whose names hold WORD, or all; so many side by side
 
 Then it compares the tables of the crates' tests with the scripts that make them (tests/tables.py), holds README.md to what is there
-(tests/readme.py), refuses the program's calls for memory one after another (tests/refused.py), and ends with what MIT's tools say of
-files that the program wrote (tests/peers.py; Debian's package krb5-user).
+(tests/readme.py), runs the script krbtool (tests/script.py), refuses the program's calls for memory one after another
+(tests/refused.py), and ends with what MIT's tools say of files that the program wrote (tests/peers.py; Debian's package krb5-user).
 
 A case is a table [[case]] of a TOML file:
 
@@ -48,6 +48,7 @@ import generated  # noqa: E402
 import peers  # noqa: E402
 import readme  # noqa: E402
 import refused  # noqa: E402
+import script  # noqa: E402
 import tables  # noqa: E402
 
 WORDS = """name args files folders given_modes umask stdin output closed status stdout stdout_begins stdout_holds stderr stderr_begins
@@ -152,7 +153,7 @@ def results(program, word, jobs):
     """The name of each case and what is wrong with it, or None. Cases run side by side, each in a folder of its own."""
     chosen = (case for case in chain(stored_cases(), generated.cases()) if word in case["name"])
     yield from in_turn(jobs, lambda case: (case["name"], run(program, case)), chosen)
-    for part in (tables.checks, readme.checks, refused.checks, peers.checks):
+    for part in (tables.checks, readme.checks, script.checks, refused.checks, peers.checks):
         yield from ((name, wrong) for name, wrong in part(program) if word in name)
 
 
