@@ -156,7 +156,20 @@ def stream_cases():
             yield without(streams, made(word, "a faulty file", data[:20], command))
 
 
+def mode_cases():
+    """A new OUT is its owner's alone, also where FILE is faulty; one that is there keeps its mode. Under each usual umask."""
+    for word in ("convert-keytab", "convert-ccache"):
+        data, command = COMMANDS[word]
+        for umask in ("000", "022", "077"):
+            for name, file in (("a good file", data), ("a faulty file", data[:20])):
+                case = {**converting(word, f"{name}, umask {umask}, a new OUT", file, command), "umask": umask, "modes": {"out": "600"}}
+                yield {**case, "files": {"f": file}}
+                there = {"files": {"f": file, "out": data + data}, "modes": {"out": "640"}}
+                yield {**case, "name": f"{word}: {name}, umask {umask}, an OUT that is there", **there}
+
+
 def cases():
     yield from keytab_cases()
     yield from cache_cases()
     yield from stream_cases()
+    yield from mode_cases()

@@ -11,9 +11,8 @@ A case is a table [[case]] of a TOML file:
 
     name    what it shows
     args    the words after the program's name: a text, or { hex = "ff" } for bytes that are no text
-    files   files that lie where it runs: hex digits, or "@PATH" of a file of the repository
+    files   files that lie where it runs, of mode 640: hex digits, or "@PATH" of a file of the repository
     folders empty folders that lie where it runs
-    given_modes  the modes of some of these files, in octal digits
     umask   in octal digits (022 where left out)
     stdin   what it reads (text), or "@PATH"
     output  "full": standard output is /dev/full
@@ -51,7 +50,7 @@ import refused  # noqa: E402
 import script  # noqa: E402
 import tables  # noqa: E402
 
-WORDS = """name args files folders given_modes umask stdin output closed status stdout stdout_begins stdout_holds stderr stderr_begins
+WORDS = """name args files folders umask stdin output closed status stdout stdout_begins stdout_holds stderr stderr_begins
     after modes gone"""
 KEYS = set(WORDS.split())
 
@@ -111,10 +110,9 @@ def difference(case, ran, room):
 def laid_out(case, room):
     for name, text in case.get("files", {}).items():
         (room / name).write_bytes(content(text))
+        (room / name).chmod(0o640)
     for name in case.get("folders", []):
         (room / name).mkdir()
-    for name, mode in case.get("given_modes", {}).items():
-        (room / name).chmod(int(mode, 8))
 
 
 def run(program, case):
