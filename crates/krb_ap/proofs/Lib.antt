@@ -11,3 +11,6 @@ pub mod OneAnswer
 pub mod Runs
 pub mod Decided
 pub mod Answered
+pub mod BuiltAccepted
+pub mod Walk
+pub mod Building

@@ -16,17 +16,25 @@
 mod accepted;
 mod acceptor;
 mod call;
+mod credentials;
 mod inner_laws;
 mod judging;
+mod keys;
 pub mod laws;
 mod opening;
+mod pending;
 mod refusal;
+mod request;
+mod request_fault;
 mod times;
 
 pub use accepted::Accepted;
 pub use acceptor::Acceptor;
 pub use call::{Call, Outcome};
+pub use pending::Pending;
 pub use refusal::Refusal;
+pub use request::{RequestOptions, make_request};
+pub use request_fault::RequestFault;
 
 #[cfg(test)]
 mod tests;
