@@ -1,7 +1,6 @@
 -- What is written of a request, and that it is one text.
-use Rattle.std.proofs.Common.{◌≡◌, ℕ, ◌<◌, ◌≤◌, ℤ, pos, ◌+ℤ◌, List, refl, sym, ◌∙◌, ap, subst, length, arith, Option, None}
+use Rattle.std.proofs.Common.{◌≡◌, ℕ, ◌<◌, ◌≤◌, ℤ, List, sym, ◌∙◌, ap, subst, length, arith, Option, None}
 use Rattle.std.specs.Option.{option_map}
-use Rattle.std.specs.Prelude.{◌*ℤ◌}
 use Rattle.std.proofs.lemmas.Int.{ints}
 use Rattle.krb_name.specs.declared.principal.Principal.{Principal}
 use Rattle.krb_der.specs.Kind.{Kind, ValueOf}
@@ -22,10 +21,10 @@ use Rattle.krb_ap.specs.Inner.Facts.{Facts, WritingFacts}
 use Rattle.krb_ap.specs.declared.request.RequestOptions.{RequestOptions}
 
 -- a moment has one second and one number of microseconds
-seconds_of : (s t : ℤ) (m n : ℕ) → m < 1_000_000 → n < 1_000_000 → micros_of s m ≡ micros_of t n → s ≡ t
+pub seconds_of : (s t : ℤ) (m n : ℕ) → m < 1_000_000 → n < 1_000_000 → micros_of s m ≡ micros_of t n → s ≡ t
 seconds_of s t m n h g e = omega (arith, ints)
 
-micros_in : (s t : ℤ) (m n : ℕ) → m < 1_000_000 → n < 1_000_000 → micros_of s m ≡ micros_of t n → m ≡ n
+pub micros_in : (s t : ℤ) (m n : ℕ) → m < 1_000_000 → n < 1_000_000 → micros_of s m ≡ micros_of t n → m ≡ n
 micros_in s t m n h g e = omega (arith, ints)
 
 -- the value of an authenticator whose parts are copies

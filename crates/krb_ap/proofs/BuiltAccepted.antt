@@ -1,30 +1,25 @@
 -- A built request is accepted.
-use Rattle.std.proofs.Common.{◌≡◌, ℕ, ℤ, pos, List, Bool, true, false, refl, sym, ◌∙◌, ap, subst, inl, inr, ◌⊎◌, arith, Option}
-use Rattle.std.specs.Option.{option_map}
-use Rattle.krb_name.specs.Name.{SameName}
+use Rattle.std.proofs.Common.{◌≡◌, ℕ, ℤ, List, Bool, true, false, refl, sym, ap, subst, inl, inr, arith}
 use Rattle.krb_name.specs.declared.principal.Principal.{Principal}
 use Rattle.krb_der.specs.Kind.{ValueOf}
-use Rattle.krb_der.specs.Spells.{IsMessage}
 use Rattle.krb_der.specs.Flags.{HasBit}
 use Rattle.krb_enc.specs.Key.{KeyValue, IsKnown, IsUsable, profile_of}
 use Rattle.krb_enc.specs.Opens.{Opens}
 use Rattle.krb_msg.specs.Bits.{use_session_key, mutual_required}
 use Rattle.krb_msg.specs.Module.{ap_req, ticket as ticket_kind, enc_ticket_part, authenticator, is_ticket}
-use Rattle.krb_msg.specs.Fields.{ticket_service, enc_part_of, etype_of, kvno_of, cipher_of, part_client}
-use Rattle.krb_msg.specs.Moments.{micros_of}
+use Rattle.krb_msg.specs.Fields.{ticket_service, part_client}
 use Rattle.krb_keytab.specs.Entry.{KeytabEntry}
-use Rattle.krb_keytab.specs.Pick.{chosen, IsChoice}
 use Rattle.krb_ccache.specs.Value.{Cache}
 use Rattle.krb_ccache.specs.declared.credential.Credential.{Credential}
 use Rattle.krb_ap.specs.Bit.{has_bit}
 use Rattle.krb_ap.specs.Setup.{Setup, Arrival, arrival}
-use Rattle.krb_ap.specs.Opened.{OpensAs, Asks, Keyed, Ticketed, Authenticated, OpenedAs, OpensAuthenticator, authenticator_usage, session_key, stamp_at}
+use Rattle.krb_ap.specs.Opened.{OpensAs, OpenedAs, authenticator_usage, session_key, stamp_at}
 use Rattle.krb_ap.specs.Times.{Near}
 use Rattle.krb_ap.specs.History.{effective, IsShown}
 use Rattle.krb_ap.specs.Taken.{Taken, Accept, taken_from}
-use Rattle.krb_ap.specs.Written.{IsSealed, key_value}
+use Rattle.krb_ap.specs.Written.{IsSealed}
 use Rattle.krb_ap.specs.Credentials.{credential_key}
-use Rattle.krb_ap.specs.Request.{Awaited, IsRequest, IsAuthenticator, IsBuilt, request_for, authenticator_for, options_for}
+use Rattle.krb_ap.specs.Request.{Awaited, IsRequest, IsBuilt, request_for, authenticator_for, options_for}
 use Rattle.krb_ap.specs.Headline.{Agrees, HasTicket, MayBeTaken}
 use Rattle.krb_ap.specs.Inner.Facts.{Facts}
 use Rattle.krb_ap.specs.declared.request.RequestOptions.{RequestOptions}

@@ -14,3 +14,7 @@ pub mod Answered
 pub mod BuiltAccepted
 pub mod Walk
 pub mod Building
+pub mod Finishing
+pub mod Replying
+pub mod Codes
+pub mod OneRequest

@@ -45,4 +45,4 @@ pub record Agrees (taken : Taken) (awaited : Awaited) : Type 0 where
   pub key : taken.session_key ≡ awaited.key
   pub at : micros_of taken.ctime taken.cusec ≡ awaited.at
   pub subkey : taken.subkey ≡ option_map key_value awaited.subkey
-  pub seq : taken.seq_number ≡ awaited.seq
+  pub seq : taken.seq ≡ awaited.seq

@@ -11,4 +11,7 @@ pub mod Credentials
 pub mod Written
 pub mod Request
 pub mod Headline
+pub mod Reply
+pub mod Finish
+pub mod ErrorReply
 pub mod Inner

@@ -7,7 +7,10 @@ ghost use Rattle.krb_msg.specs.Module.{enc_ticket_part, ticket as ticket_kind};
 ghost use Rattle.krb_msg.specs.Fields.{part_client};
 ghost use Rattle.krb_ccache.specs.Value.{Cache};
 ghost use Rattle.krb_ap.specs.Setup.{Setup, Arrival, arrival};
-ghost use Rattle.krb_ap.specs.Request.{Awaited, IsRequest};
+ghost use Rattle.krb_ap.specs.Request.{Awaited, IsRequest, Prevents};
+ghost use Rattle.krb_ap.specs.Finish.{Agreement, FinishCause, IsAgreed};
+ghost use Rattle.krb_ap.specs.declared.finish_fault.FinishFault.{FinishFault};
+ghost use Rattle.krb_ap.specs.declared.request_fault.RequestFault.{RequestFault};
 ghost use Rattle.krb_ap.specs.Headline.{Agrees, HasTicket, MayBeTaken};
 ghost use Rattle.krb_ap.specs.declared.request.RequestOptions.{RequestOptions};
 ghost use Rattle.krb_ap.specs.Taken.{Accept, Taken};
@@ -44,6 +47,23 @@ pub fn built_is_accepted()
         → MayBeTaken setup history moment at ticket part
         → (taken : Taken) × Accept setup history (arrival bytes moment) taken × (taken.client ≡ part_client part)
         × (taken.wants_reply ≡ options.mutual) × Agrees taken awaited }
+{
+    facts();
+}
+
+/// Says that where a client builds a request, nothing prevents it.
+pub fn built_or_prevented()
+    ensures { (cache : Cache) (service : Principal) (at : ℤ) (confounder : List ℕ) (options : RequestOptions) (bytes : List ℕ)
+        (awaited : Awaited) (fault : RequestFault) → IsRequest cache service at confounder options bytes awaited
+        → Prevents cache service at confounder options fault → ⊥ }
+{}
+
+/// Says that of a reply both sides agree on one thing, or it has a first fault, and not both.
+pub fn agreed_or_refused()
+    ensures one { (awaited : Awaited) (bytes : List ℕ) (one other : Agreement)
+        → IsAgreed awaited bytes one → IsAgreed awaited bytes other → one ≡ other }
+    ensures apart { (awaited : Awaited) (bytes : List ℕ) (agreement : Agreement) (fault : FinishFault)
+        → IsAgreed awaited bytes agreement → FinishCause awaited bytes fault → ⊥ }
 {
     facts();
 }

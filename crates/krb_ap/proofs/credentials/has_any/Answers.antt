@@ -1,6 +1,5 @@
-use Rattle.std.proofs.Common.{sym, ◌∙◌, subst, List}
+use Rattle.std.proofs.Common.{sym, ◌∙◌, subst}
 use Rattle.std.specs.Prelude.{All}
-use Rattle.krb_ccache.specs.declared.credential.Credential.{Credential}
 use Rattle.krb_ap.specs.Credentials.{IsFor}
 use Rattle.krb_ap.proofs.Truth.{is_so, is_not}
 use Rattle.krb_ap.proofs.Walk.{parted, one_more, at_end}

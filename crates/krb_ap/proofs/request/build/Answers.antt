@@ -1,14 +1,12 @@
-use Rattle.std.proofs.Common.{◌≡◌, refl, sym, ◌∙◌, ap, subst, ℕ, ◌<◌, List}
+use Rattle.std.proofs.Common.{refl, ◌∙◌, subst, ◌<◌}
 use Rattle.krb_der.specs.Kind.{ValueOf}
 use Rattle.krb_der.specs.Size.{size_of}
 use Rattle.krb_der.specs.Spells.{limit}
-use Rattle.krb_enc.specs.Key.{KeyValue}
 use Rattle.krb_msg.specs.Borrowed.{ticket_of}
 use Rattle.krb_msg.specs.Module.{ap_req}
 use Rattle.krb_ap.specs.Opened.{authenticator_usage}
-use Rattle.krb_ap.specs.Written.{IsWritten, IsSealed}
+use Rattle.krb_ap.specs.Written.{IsWritten}
 use Rattle.krb_ap.specs.Credentials.{credential_key}
-use Rattle.krb_ap.specs.Request.{IsAuthenticator}
 use Rattle.krb_ap.proofs.Building.{copied_request, sealed_by, told_type, too_long_to_build}
 use Rattle.krb_ap.proofs.request.build.Goals as goal
 
@@ -23,7 +21,7 @@ returns-in-Ok-encode-clause-built c = record {
   text_is = record {
     plain = c.in-Ok.plain.items;
     told = c.in-Ok.ensures.told;
-    text_is = sealed_by _ (credential_key c.args.credential.now) authenticator_usage _ _ _ _ c.requires.key c.deref.ensures.value c.in_ok-cipher.ensures;
+    text_is = sealed_by _ (credential_key c.args.credential.now) authenticator_usage _ _ _ _ c.requires.key c.deref.ensures.value c.in_ok-cipher.ensures.sealed;
   };
   bytes_are = subst (λ (v : ValueOf ap_req). IsWritten ap_req v c.in-Ok-encode.bytes.items)
       (copied_request c.args.credential.now c.args.options.now (ticket_of c.args.ticket.now) c.in_ok-cipher.cipher.items _ _ _
@@ -39,7 +37,7 @@ returns-in-Err-TooLong-clause-fault c = λ named. (
       (record {
         plain = c.in-Ok.plain.items;
         told = c.in-Ok.ensures.told;
-        text_is = sealed_by _ (credential_key c.args.credential.now) authenticator_usage _ _ _ _ c.requires.key c.deref.ensures.value c.in_ok-cipher.ensures;
+        text_is = sealed_by _ (credential_key c.args.credential.now) authenticator_usage _ _ _ _ c.requires.key c.deref.ensures.value c.in_ok-cipher.ensures.sealed;
       })
       (subst (λ (v : ValueOf ap_req). limit < size_of ap_req v)
       (copied_request c.args.credential.now c.args.options.now (ticket_of c.args.ticket.now) c.in_ok-cipher.cipher.items _ _ _
