@@ -121,10 +121,23 @@ def caches():
     return same(found, [fixture.cache(), fixture.configured_cache()])
 
 
+def joined(path):
+    """A source whose texts that go on in the next line are in one."""
+    return re.sub(r"\\\n\s*", "", source(path))
+
+
+def exchange():
+    """The requests, replies and errors of the fixture stand in krb_ap's tests."""
+    text = joined("krb_ap/src/tests/client.rt") + joined("krb_ap/src/tests/replies.rt")
+    names = ["ticket", "configured cache", "request", "mutual request with a subkey and a number", "reply", "reply with a subkey and a number", "error"]
+    missing = [name for name in names if f'"{fixture.made()[name].hex()}"' not in text]
+    return f"not there: {missing}" if missing else None
+
+
 def example():
     """The files that README's example runs on."""
-    found = [(TOP / "crates/krb_example/data" / name).read_bytes() for name in ("service.keytab", "request")]
-    return same(found, [fixture.keytab(), fixture.request()])
+    found = [(TOP / "crates/krb_example/data" / name).read_bytes() for name in ("service.keytab", "client.ccache", "request")]
+    return same(found, [fixture.keytab(), fixture.cache(), fixture.request()])
 
 
 TABLES = {
@@ -133,7 +146,8 @@ TABLES = {
     "messages": lambda: same_text("krb_msg/src/tests/values.rt", printed("tests/msg_values.py")),
     "the fixture's messages": messages_of_fixture,
     "the fixture's caches": caches,
-    "the example's keytab and request": example,
+    "the fixture's requests and replies": exchange,
+    "the example's keytab, cache and request": example,
     "random blocks under keys of 16 bytes": lambda: random_blocks("krb_aes/src/tests/random_128.rt", "RANDOM_128", 3),
     "random blocks under keys of 32 bytes": lambda: random_blocks("krb_aes/src/tests/random_256.rt", "RANDOM_256", 4),
     "the tables of the S-box on lanes": tower_tables,

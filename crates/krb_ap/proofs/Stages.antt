@@ -23,7 +23,7 @@ module _ (facts : Facts) (setup : Setup) (history : List Arrival) (call : Arriva
   begun refuted = pass setup history call MessageType (λ e. cc) (none_before setup history call) refuted
 
   pub read : (request : ValueOf ap_req) → IsMessage ap_req request call.bytes → Clear setup history call 3
-  read request message = pass_malformed setup history call request message (begun (begins_so request call.bytes message))
+  read request message = pass_malformed setup history call request message (begun (begins_so ap_req request call.bytes message))
 
   pub ordinary : (request : ValueOf ap_req) → IsMessage ap_req request call.bytes → ¬ HasBit (options_of request) use_session_key
       → Clear setup history call 4

@@ -16,17 +16,33 @@
 mod accepted;
 mod acceptor;
 mod call;
+mod credentials;
+mod errors;
+mod finish;
+mod finish_fault;
 mod inner_laws;
 mod judging;
+mod keys;
 pub mod laws;
 mod opening;
+mod pending;
 mod refusal;
+mod reply;
+mod request;
+mod request_fault;
 mod times;
 
 pub use accepted::Accepted;
 pub use acceptor::Acceptor;
 pub use call::{Call, Outcome};
+pub use errors::{ReplyFault, error_reply};
+pub use finish::Agreed;
+pub use finish_fault::FinishFault;
+pub use pending::Pending;
 pub use refusal::Refusal;
+pub use reply::ReplyOptions;
+pub use request::{RequestOptions, make_request};
+pub use request_fault::RequestFault;
 
 #[cfg(test)]
 mod tests;

@@ -31,7 +31,7 @@ pub(crate) fn read_request<'a>(bytes: &'a [u8]) -> Result<ApReqRef<'a>, Refusal>
     ensures early { IfErr result (λ refusal. place refusal < 12) }
 {
     facts();
-    if begins_otherwise(bytes) {
+    if begins_otherwise(bytes, 0x6e) {
         return Err(Refusal::MessageType);
     }
     let request = match ApReqRef::parse(bytes) {
@@ -47,11 +47,12 @@ pub(crate) fn read_request<'a>(bytes: &'a [u8]) -> Result<ApReqRef<'a>, Refusal>
     Ok(request)
 }
 
-fn begins_otherwise(bytes: &[u8]) -> bool
-    ensures { IsTrue result ↔ BeginsOtherwise bytes.now }
+/// Whether bytes begin with another tag. It takes no memory.
+pub(crate) fn begins_otherwise(bytes: &[u8], tag: u8) -> bool
+    ensures { IsTrue result ↔ BeginsOtherwise tag bytes.now }
 {
     match bytes.first() {
-        Some(first) => *first != 0x6e,
+        Some(first) => *first != tag,
         None => false,
     }
 }

@@ -1,12 +1,13 @@
-//! A service in small: it opens the ticket of a request, and lets the client in once. README.md shows this file in parts.
+//! A service and a client in small. README.md shows this file in parts.
 #![tactic(auto)]
 
 use anyhow::{Context, Result, anyhow};
-use krb_ap::Acceptor;
+use krb_ap::{Acceptor, ReplyOptions, RequestOptions, make_request};
+use krb_ccache::CCache;
 use krb_enc::Key;
 use krb_keytab::{Keytab, Picked};
 use krb_msg::{ApReqRef, Moment};
-use krb_name::ReadSource;
+use krb_name::{Principal, ReadSource};
 use krb_replay::{Skew, TimedMemory};
 use std::alloc::Global;
 use std::fs;
@@ -41,6 +42,33 @@ fn greet(
     Ok(())
 }
 
+/// Asks the service for the client of a cache, who wants to know that it is the service who answers.
+fn ask(
+    alloc: Global,
+    cache: &CCache,
+    service: &mut Acceptor<TimedMemory>,
+    now: Moment,
+) -> Result<()> {
+    let name = Principal::from_text(alloc, "host/web@EX", 3)?;
+    let options = RequestOptions {
+        mutual: true,
+        subkey: None,
+        seq: None,
+    };
+    // A real client takes 16 random bytes, new for each request, and so does a service for each reply.
+    let (request, pending) = make_request(alloc, cache, &name, now, &[7; 16], options)?;
+
+    let accepted = service.accept(alloc, &request, now)?;
+    let options = ReplyOptions {
+        subkey: None,
+        seq: None,
+    };
+    let reply = accepted.reply(alloc, &[8; 16], options)?;
+
+    pending.finish(alloc, &reply)?;
+    Ok(())
+}
+
 fn main(rt: HostRuntime) -> Result<()> {
     let file = File::open(&rt, "service.keytab")?;
     let keytab = Keytab::read(rt.alloc(), &mut ReadSource::new(file))?;
@@ -52,5 +80,12 @@ fn main(rt: HostRuntime) -> Result<()> {
     let mut service = Acceptor::new(keytab, skew, TimedMemory::new(rt.alloc()));
     let now = Moment::new(1_700_000_100, 5).context("a year from 0 to 9999")?;
     greet(&rt, &mut service, &request, now)?;
-    greet(&rt, &mut service, &request, now)
+    greet(&rt, &mut service, &request, now)?;
+
+    let file = File::open(&rt, "client.ccache")?;
+    let cache = CCache::read(rt.alloc(), &mut ReadSource::new(file))?;
+    let later = Moment::new(1_700_000_101, 0).context("a year from 0 to 9999")?;
+    ask(rt.alloc(), &cache, &mut service, later)?;
+    println!(rt; "the client knows the service")?;
+    Ok(())
 }
