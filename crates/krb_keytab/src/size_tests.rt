@@ -40,7 +40,7 @@ fn entries_in(alloc: Global, file: &[u8]) -> Result<usize, Fail> {
 }
 
 fn written_again(alloc: Global, file: &[u8], piece: usize) -> Result<Vec<u8>, Fail> {
-    let keytab = Keytab::read(alloc, &mut PieceSource::new(file, piece, None))?;
+    let keytab = Keytab::read(alloc, &mut PieceSource::new(file, piece.max(1), None))?;
     Ok(keytab.to_bytes(alloc)?)
 }
 
