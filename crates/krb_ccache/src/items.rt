@@ -48,7 +48,7 @@ fn read_components(
     ensures missing { result ≡ Err ItemFault.Missing
         → times_at (data_at w32) count cursor.old ≡ None }
 {
-    let mut components = Components::new(alloc);
+    let mut components = Components::with_room(alloc, count as usize)?;
     for _ in 0..count {
         components.push(read_data(alloc, cursor)?)?;
     }
@@ -96,7 +96,7 @@ fn read_elements(
     ensures missing { result ≡ Err ItemFault.Missing
         → times_at typed_at count cursor.old ≡ None }
 {
-    let mut list = TypedList::new(alloc);
+    let mut list = TypedList::with_room(alloc, count as usize)?;
     for _ in 0..count {
         list.push(read_typed(alloc, cursor)?)?;
     }

@@ -1,6 +1,7 @@
 //! Sizes at which memory is taken: none of them may be answered by the want of it, where there is enough.
 
 use super::*;
+use crate::tests::is;
 use krb_name::{Bytes, Components, PieceSource, Principal};
 use std::alloc::Global;
 use std::test::*;
@@ -63,13 +64,24 @@ fn cache_of(alloc: Global, credentials: usize, size: usize) -> Result<CCache, Fa
     Ok(made.ok_or("the parts fit")?)
 }
 
+// What is written of the cache that these bytes are.
+fn parsed(alloc: Global, file: &[u8]) -> Result<Vec<u8>, Fail> {
+    Ok(CCache::parse(alloc, file)?.to_bytes(alloc)?)
+}
+
+// What is written of the cache that a source of these bytes gives.
+fn read(alloc: Global, file: &[u8]) -> Result<Vec<u8>, Fail> {
+    let cache = CCache::read(alloc, &mut PieceSource::new(file, 4_096, None))?;
+    Ok(cache.to_bytes(alloc)?)
+}
+
+fn is_kept_of(alloc: Global, file: &[u8]) -> Result<bool, Fail> {
+    Ok(parsed(alloc, file)?.as_slice() == file && read(alloc, file)?.as_slice() == file)
+}
+
 // Whether the cache is read of what it is written as, and written as that again.
 fn is_kept(alloc: Global, cache: &CCache) -> Result<bool, Fail> {
-    let file = cache.to_bytes(alloc)?;
-    let parsed = CCache::parse(alloc, &file)?;
-    let read = CCache::read(alloc, &mut PieceSource::new(&file, 4_096, None))?;
-    let same = parsed.to_bytes(alloc)?.as_slice() == file.as_slice();
-    Ok(same && read.to_bytes(alloc)?.as_slice() == file.as_slice())
+    is_kept_of(alloc, cache.to_bytes(alloc)?.as_slice())
 }
 
 #[test]
@@ -88,7 +100,7 @@ fn files_of_0_to_300_credentials(rt: HostRuntime) -> Result<(), Fail> {
     for tenth in 0..31 {
         let count = tenth * 10;
         let cache = cache_of(alloc, count, 1)?;
-        assert_eq!(rt; cache.credentials().len(), count);
+        is(&rt, cache.credentials().len(), count);
         assert!(rt; is_kept(alloc, &cache)?, "{count} credentials");
     }
     Ok(())
@@ -116,7 +128,7 @@ fn files_at_the_limit(rt: HostRuntime) -> Result<(), Fail> {
     }
     let longer = most.checked_add(1).ok_or("a number")?;
     let fault = with_ticket(alloc, longer)?.to_bytes(alloc).err();
-    assert_eq!(rt; fault, Some(CacheFault::TooLong));
+    is(&rt, fault, Some(CacheFault::TooLong));
     Ok(())
 }
 
@@ -140,7 +152,7 @@ fn texts_of_all_faults(rt: HostRuntime) -> Result<(), Fail> {
         (CacheFault::OutOfMemory, "out of memory"),
     ] {
         let text = format!(in rt.alloc(); "{fault}")?;
-        assert_eq!(rt; text.as_str(), wanted);
+        is(&rt, text.as_str(), wanted);
     }
     Ok(())
 }

@@ -2,7 +2,14 @@ use super::*;
 use crate::samples::{configured, empty, fixture, full};
 use krb_name::{Bytes, Components, PieceSource, Principal, ReadSource};
 use std::alloc::Global;
+use std::fmt::Debug;
+use std::process::Abort;
 use std::test::*;
+
+// What was found is what was wanted. (An assertion costs the proof of its test ten times what a call of this does.)
+pub(crate) fn is<R: Alloc + Abort, T: PartialEq + Debug + Drop>(rt: &R, found: T, wanted: T) {
+    assert_eq!(rt; found, wanted);
+}
 
 // The lines of a cache: default principal, clock offset, and a line for each credential.
 fn listed(alloc: Global, cache: &CCache) -> Result<String, Fail> {
@@ -58,13 +65,18 @@ fn typed(alloc: Global, kind: u16, bytes: &[u8]) -> Result<TypedBytes, Fail> {
     })
 }
 
+fn two_elements(alloc: Global) -> Result<TypedList, Fail> {
+    let mut list = TypedList::new(alloc);
+    list.push(typed(alloc, 1, b"ab")?)?;
+    list.push(typed(alloc, 65_535, b"")?)?;
+    Ok(list)
+}
+
 // A credential in which each field has a value of its own, with this ticket.
 fn credential_of(alloc: Global, ticket: Bytes) -> Result<Credential, Fail> {
     let mut addresses = TypedList::new(alloc);
     addresses.push(typed(alloc, 2, &[127, 0, 0, 1])?)?;
-    let mut authdata = TypedList::new(alloc);
-    authdata.push(typed(alloc, 1, b"ab")?)?;
-    authdata.push(typed(alloc, 65_535, b"")?)?;
+    let authdata = two_elements(alloc)?;
     Ok(Credential {
         client: name_of(alloc, 3, &[b"host", b"web"])?,
         server: name_of(alloc, 1, &[b"alice"])?,
@@ -140,9 +152,8 @@ fn whole_files(rt: HostRuntime) -> Result<(), Fail> {
     for (bytes, lines) in table {
         let cache = CCache::parse(alloc, bytes)?;
         let list = listed(alloc, &cache)?;
-        assert_eq!(rt; list.as_str(), lines);
-        let written = cache.to_bytes(alloc)?;
-        assert_eq!(rt; written.as_slice(), bytes);
+        is(&rt, list.as_str(), lines);
+        is(&rt, cache.to_bytes(alloc)?.as_slice(), bytes);
     }
     Ok(())
 }
@@ -176,29 +187,39 @@ fn small_files(rt: HostRuntime) -> Result<(), Fail> {
 fn bad_credentials(rt: HostRuntime) -> Result<(), Fail> {
     let alloc = rt.alloc();
     let cut = configured().get(..177).ok_or("the cache is longer")?;
-    assert_eq!(rt; fault_of(alloc, cut), Some(CacheFault::BadItem { at: 46 }));
+    is(
+        &rt,
+        fault_of(alloc, cut),
+        Some(CacheFault::BadItem { at: 46 }),
+    );
     let mut flagged = Vec::from_slice(alloc, full())?;
     let flag = flagged.get_mut(102).ok_or("the cache is longer")?;
     *flag = 2;
-    assert_eq!(rt;
+    is(
+        &rt,
         fault_of(alloc, &flagged),
-        Some(CacheFault::BadItem { at: 27 })
+        Some(CacheFault::BadItem { at: 27 }),
     );
     Ok(())
 }
 
-// Looks for two fields in one another's place, and a list that isn't lent.
+// Looks for two fields in one another's place.
 #[test]
 fn caches_are_made(rt: HostRuntime) -> Result<(), Fail> {
     let alloc = rt.alloc();
     let cache = with_credential(alloc, Bytes::from_slice(alloc, b"t")?)?;
-    let written = cache.to_bytes(alloc)?;
-    assert_eq!(rt; written.as_slice(), full());
-    let list = credential_of(alloc, Bytes::new(alloc))?.authdata;
-    assert_eq!(rt; list.len(), 2);
-    assert!(rt; !list.is_empty());
+    is(&rt, cache.to_bytes(alloc)?.as_slice(), full());
+    Ok(())
+}
+
+// Looks for a list that isn't lent.
+#[test]
+fn lists_are_lent(rt: HostRuntime) -> Result<(), Fail> {
+    let list = two_elements(rt.alloc())?;
+    is(&rt, list.len(), 2);
+    is(&rt, list.is_empty(), false);
     let last = list.as_slice().last().ok_or("there are two")?;
-    assert_eq!(rt; last.kind, 65_535);
+    is(&rt, last.kind, 65_535);
     Ok(())
 }
 
@@ -225,11 +246,11 @@ fn headers_that_fit(rt: HostRuntime) -> Result<(), Fail> {
 fn long_files(rt: HostRuntime) -> Result<(), Fail> {
     let alloc = rt.alloc();
     let mut long = vec![in alloc; 0u8; 16_777_217]?;
-    assert_eq!(rt; fault_of(alloc, &long), Some(CacheFault::TooLong));
+    is(&rt, fault_of(alloc, &long), Some(CacheFault::TooLong));
     long.truncate(16_777_216);
-    assert_eq!(rt; fault_of(alloc, &long), Some(CacheFault::Version));
+    is(&rt, fault_of(alloc, &long), Some(CacheFault::Version));
     let cache = with_credential(alloc, Bytes::from(long))?;
-    assert_eq!(rt; cache.to_bytes(alloc).err(), Some(CacheFault::TooLong));
+    is(&rt, cache.to_bytes(alloc).err(), Some(CacheFault::TooLong));
     Ok(())
 }
 
@@ -238,16 +259,16 @@ fn long_files(rt: HostRuntime) -> Result<(), Fail> {
 fn sources(rt: HostRuntime) -> Result<(), Fail> {
     let alloc = rt.alloc();
     let cache = CCache::read(alloc, &mut ReadSource::new(fixture()))?;
-    assert_eq!(rt; cache.credentials().len(), 1);
+    is(&rt, cache.credentials().len(), 1);
     let cache = CCache::read(alloc, &mut PieceSource::new(fixture(), 3, None))?;
-    assert_eq!(rt; cache.credentials().len(), 1);
+    is(&rt, cache.credentials().len(), 1);
     let failed = CCache::read(alloc, &mut PieceSource::new(fixture(), 3, Some(2))).err();
-    assert_eq!(rt; failed, Some(CacheFault::Read));
+    is(&rt, failed, Some(CacheFault::Read));
     Ok(())
 }
 
 #[test]
 fn offsets_of_faults(rt: HostRuntime) {
-    assert_eq!(rt; CacheFault::BadItem { at: 46 }.at(), Some(46));
-    assert_eq!(rt; CacheFault::Header.at(), None);
+    is(&rt, CacheFault::BadItem { at: 46 }.at(), Some(46));
+    is(&rt, CacheFault::Header.at(), None);
 }

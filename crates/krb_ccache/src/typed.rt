@@ -1,6 +1,6 @@
 //! Addresses and authorization data: bytes of a type.
 
-ghost use Rattle.std.specs.Prelude.{◌≡◌, ◌==◌, List, [], ◌∷◌, ◌++◌, length, OnErr, OnOk};
+ghost use Rattle.std.specs.Prelude.{◌≡◌, ◌==◌, List, [], ◌∷◌, ◌++◌, length, IfOk, OnErr, OnOk};
 ghost use Rattle.krb_ccache.specs.declared.typed.TypedBytes.{TypedBytes as TypedBytesValue};
 
 use krb_name::Bytes;
@@ -37,6 +37,15 @@ impl TypedList {
         TypedList {
             items: Vec::new(alloc),
         }
+    }
+
+    /// Makes a list of no elements that has room for `count` of them.
+    pub(crate) fn with_room(alloc: Global, count: usize) -> Result<Self, AllocError>
+        ensures { IfOk result (λ list. list ≡ []) }
+    {
+        Ok(TypedList {
+            items: Vec::with_capacity(alloc, count)?,
+        })
     }
 
     /// Lends the elements, in their order.

@@ -1,6 +1,7 @@
 use super::*;
-use crate::tests::{ALICE, name_of};
+use crate::tests::{ALICE, is, name_of};
 use std::alloc::Global;
+use std::process::Abort;
 use std::test::*;
 
 // The key of the entry in ALICE.
@@ -51,6 +52,16 @@ fn added(alloc: Global, old: &[u8], name: &[u8], kvno: u32) -> Result<Edited, Fa
     Ok(Edited { answer, file })
 }
 
+fn is_edited<R: Alloc + Abort>(
+    rt: &R,
+    found: &Edited,
+    answer: Result<(), KeytabFault>,
+    file: &[u8],
+) {
+    assert_eq!(rt; found.answer, answer);
+    assert!(rt; found.file.as_slice() == file, "another file");
+}
+
 // The file that is written of the entries of another.
 fn written_again(alloc: Global, old: &[u8]) -> Result<Vec<u8>, Fail> {
     Ok(Keytab::parse(alloc, old)?.to_bytes(alloc)?)
@@ -70,10 +81,11 @@ fn renamed(alloc: Global, front: &[u8], length: u8, name: &[u8]) -> Result<Vec<u
 fn an_entry_becomes_a_hole(rt: HostRuntime) -> Result<(), Fail> {
     let alloc = rt.alloc();
     let gone = removed(alloc, &ALICE, 0)?;
-    assert_eq!(rt; gone.answer, Ok(()));
-    assert_eq!(rt;
-        gone.file.as_slice(),
-        joined(alloc, &HOLE, 46, &[])?.as_slice()
+    is_edited(
+        &rt,
+        &gone,
+        Ok(()),
+        joined(alloc, &HOLE, 46, &[])?.as_slice(),
     );
     Ok(())
 }
@@ -83,8 +95,7 @@ fn an_entry_becomes_a_hole(rt: HostRuntime) -> Result<(), Fail> {
 fn there_is_no_second_entry(rt: HostRuntime) -> Result<(), Fail> {
     let alloc = rt.alloc();
     let kept = removed(alloc, &ALICE, 1)?;
-    assert_eq!(rt; kept.answer, Err(KeytabFault::NoSuchEntry));
-    assert_eq!(rt; kept.file.as_slice(), ALICE.as_slice());
+    is_edited(&rt, &kept, Err(KeytabFault::NoSuchEntry), ALICE.as_slice());
     Ok(())
 }
 
@@ -95,11 +106,7 @@ fn holes_are_not_counted(rt: HostRuntime) -> Result<(), Fail> {
     let two = joined(alloc, &HOLE, 46, &[0xff, 0xff, 0xff, 0xd2])?;
     let record = ALICE.get(2..).ok_or("behind the version")?;
     let gone = removed(alloc, joined(alloc, &HOLE, 46, record)?.as_slice(), 0)?;
-    assert_eq!(rt; gone.answer, Ok(()));
-    assert_eq!(rt;
-        gone.file.as_slice(),
-        joined(alloc, &two, 46, &[])?.as_slice()
-    );
+    is_edited(&rt, &gone, Ok(()), joined(alloc, &two, 46, &[])?.as_slice());
     Ok(())
 }
 
@@ -113,8 +120,7 @@ fn a_hole_takes_the_entry_again(rt: HostRuntime) -> Result<(), Fail> {
         b"alice",
         256,
     )?;
-    assert_eq!(rt; back.answer, Ok(()));
-    assert_eq!(rt; back.file.as_slice(), ALICE.as_slice());
+    is_edited(&rt, &back, Ok(()), ALICE.as_slice());
     Ok(())
 }
 
@@ -128,10 +134,11 @@ fn an_end_stays_behind_a_hole_that_fits(rt: HostRuntime) -> Result<(), Fail> {
         b"alice",
         256,
     )?;
-    assert_eq!(rt; back.answer, Ok(()));
-    assert_eq!(rt;
-        back.file.as_slice(),
-        joined(alloc, &ALICE, 0, &END)?.as_slice()
+    is_edited(
+        &rt,
+        &back,
+        Ok(()),
+        joined(alloc, &ALICE, 0, &END)?.as_slice(),
     );
     Ok(())
 }
@@ -143,11 +150,7 @@ fn a_hole_takes_a_shorter_entry(rt: HostRuntime) -> Result<(), Fail> {
     let filled = joined(alloc, &HOLE, 0, &[9; 46])?;
     let back = added(alloc, &filled, b"bob", 256)?;
     let bob = renamed(alloc, &[5, 2, 0, 0, 0, 0x2e], 3, b"bob")?;
-    assert_eq!(rt; back.answer, Ok(()));
-    assert_eq!(rt;
-        back.file.as_slice(),
-        joined(alloc, &bob, 2, &[])?.as_slice()
-    );
+    is_edited(&rt, &back, Ok(()), joined(alloc, &bob, 2, &[])?.as_slice());
     Ok(())
 }
 
@@ -163,9 +166,8 @@ fn a_longer_entry_is_appended(rt: HostRuntime) -> Result<(), Fail> {
         6,
         b"alice2",
     )?;
-    assert_eq!(rt; back.answer, Ok(()));
-    assert_eq!(rt; back.file.len(), 103);
-    assert_eq!(rt; back.file.as_slice(), longer.as_slice());
+    is_edited(&rt, &back, Ok(()), longer.as_slice());
+    is(&rt, back.file.len(), 103);
     Ok(())
 }
 
@@ -187,10 +189,11 @@ fn the_second_hole_takes_the_entry(rt: HostRuntime) -> Result<(), Fail> {
         5,
         b"alice",
     )?;
-    assert_eq!(rt; back.answer, Ok(()));
-    assert_eq!(rt;
-        back.file.as_slice(),
-        joined(alloc, &alice, 14, &[])?.as_slice()
+    is_edited(
+        &rt,
+        &back,
+        Ok(()),
+        joined(alloc, &alice, 14, &[])?.as_slice(),
     );
     Ok(())
 }
@@ -205,8 +208,7 @@ fn an_end_is_cut_off(rt: HostRuntime) -> Result<(), Fail> {
         b"alice",
         256,
     )?;
-    assert_eq!(rt; back.answer, Ok(()));
-    assert_eq!(rt; back.file.as_slice(), ALICE.as_slice());
+    is_edited(&rt, &back, Ok(()), ALICE.as_slice());
     Ok(())
 }
 
@@ -215,9 +217,9 @@ fn an_end_is_cut_off(rt: HostRuntime) -> Result<(), Fail> {
 fn a_large_version_number(rt: HostRuntime) -> Result<(), Fail> {
     let alloc = rt.alloc();
     let back = added(alloc, &[5, 2], b"alice", 0x0102_03fe)?;
-    assert_eq!(rt; back.answer, Ok(()));
-    assert_eq!(rt; back.file.get(27), Some(&0xfe));
-    assert_eq!(rt; back.file.get(48..), Some([1, 2, 3, 0xfe].as_slice()));
+    is(&rt, back.answer, Ok(()));
+    is(&rt, back.file.get(27), Some(&0xfe));
+    is(&rt, back.file.get(48..), Some([1, 2, 3, 0xfe].as_slice()));
     Ok(())
 }
 
@@ -227,10 +229,14 @@ fn a_fault_behind_the_entry(rt: HostRuntime) -> Result<(), Fail> {
     let alloc = rt.alloc();
     let cut = joined(alloc, &ALICE, 0, &[0, 0, 0, 9, 1])?;
     let kept = removed(alloc, &cut, 0)?;
-    assert_eq!(rt; kept.answer, Err(KeytabFault::Truncated { at: 52 }));
-    assert_eq!(rt; kept.file.as_slice(), cut.as_slice());
+    is_edited(
+        &rt,
+        &kept,
+        Err(KeytabFault::Truncated { at: 52 }),
+        cut.as_slice(),
+    );
     let missing = removed(alloc, &cut, 7)?;
-    assert_eq!(rt; missing.answer, Err(KeytabFault::Truncated { at: 52 }));
+    is(&rt, missing.answer, Err(KeytabFault::Truncated { at: 52 }));
     Ok(())
 }
 
@@ -240,8 +246,12 @@ fn a_fault_behind_the_hole(rt: HostRuntime) -> Result<(), Fail> {
     let alloc = rt.alloc();
     let bad = joined(alloc, &HOLE, 46, &[0, 0, 0, 1, 1])?;
     let kept = added(alloc, &bad, b"alice", 256)?;
-    assert_eq!(rt; kept.answer, Err(KeytabFault::BadEntry { at: 52 }));
-    assert_eq!(rt; kept.file.as_slice(), bad.as_slice());
+    is_edited(
+        &rt,
+        &kept,
+        Err(KeytabFault::BadEntry { at: 52 }),
+        bad.as_slice(),
+    );
     Ok(())
 }
 
@@ -250,10 +260,10 @@ fn a_fault_behind_the_hole(rt: HostRuntime) -> Result<(), Fail> {
 fn only_entries_are_written(rt: HostRuntime) -> Result<(), Fail> {
     let alloc = rt.alloc();
     let none = written_again(alloc, joined(alloc, &HOLE, 46, &[])?.as_slice())?;
-    assert_eq!(rt; none.as_slice(), [5, 2].as_slice());
+    is(&rt, none.as_slice(), [5, 2].as_slice());
     let padded = renamed(alloc, &[5, 2, 0, 0, 0, 0x30], 5, b"alice")?;
     let one = written_again(alloc, joined(alloc, &padded, 2, &END)?.as_slice())?;
-    assert_eq!(rt; one.as_slice(), ALICE.as_slice());
+    is(&rt, one.as_slice(), ALICE.as_slice());
     Ok(())
 }
 
@@ -265,8 +275,8 @@ fn a_short_version_number(rt: HostRuntime) -> Result<(), Fail> {
     file[5] = 0x2a;
     file[27] = 5;
     let five = written_again(alloc, &file[..48])?;
-    assert_eq!(rt; five.get(27), Some(&5));
-    assert_eq!(rt; five.get(48..), Some([0, 0, 0, 5].as_slice()));
+    is(&rt, five.get(27), Some(&5));
+    is(&rt, five.get(48..), Some([0, 0, 0, 5].as_slice()));
     Ok(())
 }
 
@@ -294,9 +304,9 @@ fn large_file(alloc: Global, key: u16) -> Result<Vec<u8>, Fail> {
 fn written_at_the_limit(rt: HostRuntime) -> Result<(), Fail> {
     let alloc = rt.alloc();
     let full = Keytab::parse(alloc, large_file(alloc, 65_258)?.as_slice())?;
-    assert_eq!(rt; full.to_bytes(alloc).err(), Some(KeytabFault::TooLong));
+    is(&rt, full.to_bytes(alloc).err(), Some(KeytabFault::TooLong));
     let most = written_again(alloc, large_file(alloc, 65_254)?.as_slice())?;
-    assert_eq!(rt; most.len(), 16_777_216);
+    is(&rt, most.len(), 16_777_216);
     Ok(())
 }
 
@@ -305,11 +315,11 @@ fn written_at_the_limit(rt: HostRuntime) -> Result<(), Fail> {
 fn added_at_the_limit(rt: HostRuntime) -> Result<(), Fail> {
     let alloc = rt.alloc();
     let full = added(alloc, large_file(alloc, 65_209)?.as_slice(), b"alice", 256)?;
-    assert_eq!(rt; full.answer, Err(KeytabFault::TooLong));
-    assert_eq!(rt; full.file.len(), 16_777_167);
+    is(&rt, full.answer, Err(KeytabFault::TooLong));
+    is(&rt, full.file.len(), 16_777_167);
     let most = added(alloc, large_file(alloc, 65_208)?.as_slice(), b"alice", 256)?;
-    assert_eq!(rt; most.answer, Ok(()));
-    assert_eq!(rt; most.file.len(), 16_777_216);
+    is(&rt, most.answer, Ok(()));
+    is(&rt, most.file.len(), 16_777_216);
     Ok(())
 }
 
@@ -319,6 +329,6 @@ fn removed_past_the_limit(rt: HostRuntime) -> Result<(), Fail> {
     let alloc = rt.alloc();
     let long = joined(alloc, &ALICE, 16_777_165, &[])?;
     let kept = removed(alloc, &long, 0)?;
-    assert_eq!(rt; kept.answer, Err(KeytabFault::TooLong));
+    is(&rt, kept.answer, Err(KeytabFault::TooLong));
     Ok(())
 }

@@ -1,6 +1,7 @@
 //! Sizes at which memory is taken: none of them may be answered by the want of it, where there is enough.
 
 use super::*;
+use crate::tests::is;
 use krb_name::{Bytes, Components, PieceSource, Principal, Source};
 use std::alloc::Global;
 use std::test::*;
@@ -20,8 +21,26 @@ fn entry_of(alloc: Global, count: usize) -> Result<Entry, Fail> {
     Ok(Entry::new(principal, 1_700_000_000, 3, 19, key).ok_or("the entry fits")?)
 }
 
-fn written_again(alloc: Global, file: &[u8]) -> Result<Vec<u8>, Fail> {
-    let keytab = Keytab::read(alloc, &mut PieceSource::new(file, 4_096, None))?;
+// A file of one entry, with so many components and bytes of key.
+fn file_of(alloc: Global, count: usize) -> Result<Vec<u8>, Fail> {
+    let mut file = Vec::from_slice(alloc, &[5, 2])?;
+    Keytab::add_in(&mut file, &entry_of(alloc, count)?)?;
+    Ok(file)
+}
+
+// How many components the first entry's name has.
+fn components_in(alloc: Global, file: &[u8]) -> Result<usize, Fail> {
+    let keytab = Keytab::parse(alloc, file)?;
+    let entry = keytab.entries().first().ok_or("there is one")?;
+    Ok(entry.principal().components.len())
+}
+
+fn entries_in(alloc: Global, file: &[u8]) -> Result<usize, Fail> {
+    Ok(Keytab::parse(alloc, file)?.entries().len())
+}
+
+fn written_again(alloc: Global, file: &[u8], piece: usize) -> Result<Vec<u8>, Fail> {
+    let keytab = Keytab::read(alloc, &mut PieceSource::new(file, piece.max(1), None))?;
     Ok(keytab.to_bytes(alloc)?)
 }
 
@@ -29,13 +48,9 @@ fn written_again(alloc: Global, file: &[u8]) -> Result<Vec<u8>, Fail> {
 fn names_of_0_to_300_components(rt: HostRuntime) -> Result<(), Fail> {
     let alloc = rt.alloc();
     for count in 0..301 {
-        let mut file = Vec::from_slice(alloc, &[5, 2])?;
-        Keytab::add_in(&mut file, &entry_of(alloc, count)?)?;
-        let keytab = Keytab::parse(alloc, &file)?;
-        let entry = keytab.entries().first().ok_or("there is one")?;
-        assert_eq!(rt; entry.principal().components.len(), count);
-        let again = written_again(alloc, &file)?;
-        assert!(rt; again.as_slice() == file.as_slice(), "{count} components");
+        let file = file_of(alloc, count)?;
+        is(&rt, components_in(alloc, &file)?, count);
+        is(&rt, written_again(alloc, &file, 4_096)?.as_slice(), &file);
     }
     Ok(())
 }
@@ -46,30 +61,35 @@ fn files_of_0_to_300_entries(rt: HostRuntime) -> Result<(), Fail> {
     let mut file = Vec::from_slice(alloc, &[5, 2])?;
     for count in 0..301 {
         if count % 10 == 0 {
-            let keytab = Keytab::parse(alloc, &file)?;
-            assert_eq!(rt; keytab.entries().len(), count);
-            let again = written_again(alloc, &file)?;
-            assert!(rt; again.as_slice() == file.as_slice(), "{count} entries");
+            is(&rt, entries_in(alloc, &file)?, count);
+            is(&rt, written_again(alloc, &file, 4_096)?.as_slice(), &file);
         }
         Keytab::add_in(&mut file, &entry_of(alloc, 2)?)?;
     }
     Ok(())
 }
 
-// Looks for a source that is read as one piece, and for a failed read that isn't told.
+// Looks for a source that is read as one piece.
 #[test]
 fn sources_of_pieces(rt: HostRuntime) -> Result<(), Fail> {
     let alloc = rt.alloc();
-    let mut file = Vec::from_slice(alloc, &[5, 2])?;
-    Keytab::add_in(&mut file, &entry_of(alloc, 16)?)?;
+    let file = file_of(alloc, 16)?;
     for piece in [1, 2, 7, 100] {
-        let keytab = Keytab::read(alloc, &mut PieceSource::new(&file, piece, None))?;
-        let again = keytab.to_bytes(alloc)?;
-        assert!(rt; again.as_slice() == file.as_slice(), "{piece} a read");
+        is(&rt, written_again(alloc, &file, piece)?.as_slice(), &file);
+    }
+    Ok(())
+}
+
+// Looks for a failed read that isn't told.
+#[test]
+fn sources_that_fail(rt: HostRuntime) -> Result<(), Fail> {
+    let alloc = rt.alloc();
+    let file = file_of(alloc, 16)?;
+    for piece in [1, 2, 7, 100] {
         let mut failing = PieceSource::new(&file, piece, Some(2));
         let read = Keytab::read(alloc, &mut failing).err();
-        assert_eq!(rt; read, Some(KeytabFault::Read), "{piece} a read");
-        assert_eq!(rt; failing.failures(), 1);
+        is(&rt, read, Some(KeytabFault::Read));
+        is(&rt, failing.failures(), 1);
     }
     Ok(())
 }
@@ -98,7 +118,7 @@ fn texts_of_faults(rt: HostRuntime) -> Result<(), Fail> {
         (KeytabFault::OutOfMemory, "out of memory"),
     ] {
         let text = format!(in rt.alloc(); "{fault}")?;
-        assert_eq!(rt; text.as_str(), wanted);
+        is(&rt, text.as_str(), wanted);
     }
     Ok(())
 }
@@ -109,6 +129,6 @@ fn no_key_is_shown(rt: HostRuntime) -> Result<(), Fail> {
     let alloc = rt.alloc();
     let entry = entry_of(alloc, 16)?;
     let text = format!(in alloc; "{entry:?}")?;
-    assert_eq!(rt; text.as_str(), "Entry(kvno 3, etype 19)");
+    is(&rt, text.as_str(), "Entry(kvno 3, etype 19)");
     Ok(())
 }

@@ -2,6 +2,8 @@ use super::*;
 use crate::real_files::{HOLES, KTUTIL};
 use krb_name::{Bytes, Components, Principal, ReadSource};
 use std::alloc::Global;
+use std::fmt::Debug;
+use std::process::Abort;
 use std::test::*;
 
 // A keytab of one entry, written by hand from the format: alice@EX, kvno 256 in 32 bits and 0 in 8.
@@ -11,6 +13,11 @@ pub(crate) const ALICE: [u8; 52] = [
     0x37, 0x05, 0xd9, 0x60, 0x80, 0xc1, 0x77, 0x28, 0xa0, 0xe8, 0x00, 0xea, 0xb6, 0xe0, 0xd2, 0x3c,
     0x00, 0x00, 0x01, 0x00,
 ];
+
+// What was found is what was wanted. (An assertion costs the proof of its test ten times what a call of this does.)
+pub(crate) fn is<R: Alloc + Abort, T: PartialEq + Debug + Drop>(rt: &R, found: T, wanted: T) {
+    assert_eq!(rt; found, wanted);
+}
 
 pub(crate) fn name_of(
     alloc: Global,
@@ -78,8 +85,8 @@ fn small_files(rt: HostRuntime) -> Result<(), Fail> {
     ];
     for (bytes, wanted) in table {
         match (answer(alloc, bytes)?, wanted) {
-            (Ok(list), Ok(lines)) => assert_eq!(rt; list.as_str(), lines),
-            (Err(fault), Err(other)) => assert_eq!(rt; fault, other),
+            (Ok(list), Ok(lines)) => is(&rt, list.as_str(), lines),
+            (Err(fault), Err(other)) => is(&rt, fault, other),
             (Ok(list), Err(other)) => panic!(rt; "{list} in place of {other:?}"),
             (Err(fault), Ok(lines)) => panic!(rt; "{fault:?} in place of {lines}"),
         }
@@ -94,22 +101,22 @@ fn version_numbers(rt: HostRuntime) -> Result<(), Fail> {
     let mut zero = ALICE;
     zero[50] = 0;
     let list = listed(alloc, &Keytab::parse(alloc, &zero)?)?;
-    assert_eq!(rt; list.as_str(), "0 19 1700000000 alice@EX\n");
+    is(&rt, list.as_str(), "0 19 1700000000 alice@EX\n");
     zero[27] = 5;
     let list = listed(alloc, &Keytab::parse(alloc, &zero)?)?;
-    assert_eq!(rt; list.as_str(), "5 19 1700000000 alice@EX\n");
+    is(&rt, list.as_str(), "5 19 1700000000 alice@EX\n");
     let mut three = ALICE;
     three[5] = 0x2d;
     let list = listed(alloc, &Keytab::parse(alloc, &three[..51])?)?;
-    assert_eq!(rt; list.as_str(), "0 19 1700000000 alice@EX\n");
+    is(&rt, list.as_str(), "0 19 1700000000 alice@EX\n");
     let mut cut = ALICE;
     cut[5] = 0x29;
     let fault = Keytab::parse(alloc, &cut[..47])
         .err()
         .ok_or("a cut key is no entry")?;
-    assert_eq!(rt; fault, KeytabFault::BadEntry { at: 2 });
-    assert_eq!(rt; fault.at(), Some(2));
-    assert_eq!(rt; KeytabFault::Version.at(), None);
+    is(&rt, fault, KeytabFault::BadEntry { at: 2 });
+    is(&rt, fault.at(), Some(2));
+    is(&rt, KeytabFault::Version.at(), None);
     Ok(())
 }
 
@@ -118,34 +125,42 @@ fn sources(rt: HostRuntime) -> Result<(), Fail> {
     let alloc = rt.alloc();
     let keytab = Keytab::read(alloc, &mut ReadSource::new(&ALICE[..]))?;
     let list = listed(alloc, &keytab)?;
-    assert_eq!(rt; list.as_str(), "256 19 1700000000 alice@EX\n");
+    is(&rt, list.as_str(), "256 19 1700000000 alice@EX\n");
     let short = Keytab::read(alloc, &mut ReadSource::new(&ALICE[..51])).err();
-    assert_eq!(rt; short, Some(KeytabFault::Truncated { at: 2 }));
+    is(&rt, short, Some(KeytabFault::Truncated { at: 2 }));
     Ok(())
+}
+
+// An entry of host/web@EX.
+fn host_web(alloc: Global) -> Result<Entry, Fail> {
+    let name = name_of(alloc, b"EX", &[b"host", b"web"])?;
+    let key = Vec::from_slice(alloc, &[7; 16])?;
+    Ok(Entry::new(name, 1_700_000_000, 3, 19, key).ok_or("the entry fits")?)
 }
 
 #[test]
 fn entries_are_made(rt: HostRuntime) -> Result<(), Fail> {
     let alloc = rt.alloc();
-    let key = Vec::from_slice(alloc, &[7; 16])?;
-    let made = Entry::new(
-        name_of(alloc, b"EX", &[b"host", b"web"])?,
-        1_700_000_000,
-        3,
-        19,
-        key,
+    let entry = host_web(alloc)?;
+    is(
+        &rt,
+        entry.principal().to_text(alloc)?.as_str(),
+        "host/web@EX",
     );
-    let entry = made.ok_or("the entry fits")?;
-    assert_eq!(rt; entry.principal().to_text(alloc)?.as_str(), "host/web@EX");
-    assert_eq!(rt; entry.timestamp(), 1_700_000_000);
-    assert_eq!(rt; entry.kvno(), 3);
-    assert_eq!(rt; entry.etype(), 19);
-    assert_eq!(rt; entry.key(), [7; 16].as_slice());
-    let long = vec![in alloc; 0u8; 65_536]?;
-    assert!(rt;
-        Entry::new(name_of(alloc, b"EX", &[b"web"])?, 0, 1, 19, long).is_none(),
-        "a key of 65,536 bytes has no room"
-    );
+    is(&rt, entry.timestamp(), 1_700_000_000);
+    is(&rt, entry.kvno(), 3);
+    is(&rt, entry.etype(), 19);
+    is(&rt, entry.key(), [7; 16].as_slice());
+    Ok(())
+}
+
+// Looks for a key that has no room and is taken.
+#[test]
+fn a_key_too_long(rt: HostRuntime) -> Result<(), Fail> {
+    let alloc = rt.alloc();
+    let name = name_of(alloc, b"EX", &[b"web"])?;
+    let key = vec![in alloc; 0u8; 65_536]?;
+    is(&rt, Entry::new(name, 0, 1, 19, key).is_none(), true);
     Ok(())
 }
 
@@ -154,21 +169,23 @@ fn entries_are_made(rt: HostRuntime) -> Result<(), Fail> {
 fn real_files(rt: HostRuntime) -> Result<(), Fail> {
     let alloc = rt.alloc();
     let list = listed(alloc, &Keytab::parse(alloc, &HOLES)?)?;
-    assert_eq!(rt;
+    is(
+        &rt,
         list.as_str(),
         "2 20 1795330567 host/web.peer.test@PEER.TEST\n\
         2 19 1795330567 host/web.peer.test@PEER.TEST\n\
         4 20 1795330567 host/web.peer.test@PEER.TEST\n\
-        4 19 1795330567 host/web.peer.test@PEER.TEST\n"
+        4 19 1795330567 host/web.peer.test@PEER.TEST\n",
     );
     let list = listed(alloc, &Keytab::parse(alloc, &KTUTIL)?)?;
-    assert_eq!(rt;
+    is(
+        &rt,
         list.as_str(),
         "2 20 1795330568 host/web.peer.test@PEER.TEST\n\
         3 20 1795330568 host/web.peer.test@PEER.TEST\n\
         3 19 1795330568 host/web.peer.test@PEER.TEST\n\
         4 20 1795330568 host/web.peer.test@PEER.TEST\n\
-        4 19 1795330568 host/web.peer.test@PEER.TEST\n"
+        4 19 1795330568 host/web.peer.test@PEER.TEST\n",
     );
     Ok(())
 }
@@ -185,30 +202,48 @@ fn record_of(alloc: Global, kvno: u8, key: u8) -> Result<Vec<u8>, Fail> {
     Ok(bytes)
 }
 
-// Looks for a choice of the wrong entry among three of one name.
-#[test]
-fn picks(rt: HostRuntime) -> Result<(), Fail> {
-    let alloc = rt.alloc();
+// A keytab of three keys of one name.
+fn three_keys(alloc: Global) -> Result<Keytab, Fail> {
     let mut bytes = Vec::from_slice(alloc, &[0x05, 0x02])?;
     for (kvno, key) in [(2, 0xa), (3, 0xb), (3, 0xc)] {
         bytes.extend_from_slice(&record_of(alloc, kvno, key)?)?;
     }
-    let keytab = Keytab::parse(alloc, &bytes)?;
-    let service = name_of(alloc, b"EX", &[b"host", b"web"])?;
-    let other = name_of(alloc, b"EX", &[b"host"])?;
-    assert_eq!(rt; keytab.entries().len(), 3);
-    assert_eq!(rt; key_of(keytab.pick(&service, 19, None)), Some(0xb));
-    assert_eq!(rt; key_of(keytab.pick(&service, 19, Some(2))), Some(0xa));
-    assert_eq!(rt; key_of(keytab.pick(&service, 19, Some(3))), Some(0xb));
-    assert!(rt; matches!(keytab.pick(&service, 19, Some(4)), Picked::NoVersion));
-    assert!(rt; matches!(keytab.pick(&service, 20, None), Picked::NoKey));
-    assert!(rt; matches!(keytab.pick(&other, 19, None), Picked::NoName));
+    Ok(Keytab::parse(alloc, &bytes)?)
+}
+
+// Looks for a choice of the wrong entry among three of one name.
+#[test]
+fn picks(rt: HostRuntime) -> Result<(), Fail> {
+    let keytab = three_keys(rt.alloc())?;
+    let service = name_of(rt.alloc(), b"EX", &[b"host", b"web"])?;
+    for (etype, kvno, wanted) in [
+        (19, None, Ok(0xb)),
+        (19, Some(2), Ok(0xa)),
+        (19, Some(3), Ok(0xb)),
+        (19, Some(4), Err("no version")),
+        (20, None, Err("no key")),
+    ] {
+        is(&rt, key_of(keytab.pick(&service, etype, kvno)), wanted);
+    }
     Ok(())
 }
 
-fn key_of(picked: Picked<'_>) -> Option<u8> {
+// Looks for a choice among the keys of another name.
+#[test]
+fn picks_of_another_name(rt: HostRuntime) -> Result<(), Fail> {
+    let keytab = three_keys(rt.alloc())?;
+    let other = name_of(rt.alloc(), b"EX", &[b"host"])?;
+    is(&rt, keytab.entries().len(), 3);
+    is(&rt, key_of(keytab.pick(&other, 19, None)), Err("no name"));
+    Ok(())
+}
+
+// The first byte of the key that was picked, or why there is none.
+fn key_of(picked: Picked<'_>) -> Result<u8, &'static str> {
     match picked {
-        Picked::Entry(entry) => entry.key().first().copied(),
-        _ => None,
+        Picked::Entry(entry) => entry.key().first().copied().ok_or("an empty key"),
+        Picked::NoName => Err("no name"),
+        Picked::NoKey => Err("no key"),
+        Picked::NoVersion => Err("no version"),
     }
 }

@@ -121,7 +121,7 @@ fn read_components(alloc: Global, count: u16, bytes: &[u8]) -> Result<Components
     ensures { IfOk result (λ components. components ≡ first_components count bytes.now) }
 {
     let mut cursor = FileCursor::new(bytes);
-    let mut components = Components::new(alloc);
+    let mut components = Components::with_room(alloc, usize::from(count))?;
     for _ in 0..count {
         // There are so many, so each can be read.
         let Ok(component) = cursor.read_data16() else {

@@ -32,6 +32,15 @@ impl Components {
         }
     }
 
+    /// Makes a list of no components that has room for `count` of them.
+    pub fn with_room(alloc: Global, count: usize) -> Result<Self, AllocError>
+        ensures { IfOk result (λ components. components ≡ []) }
+    {
+        Ok(Components {
+            items: Vec::with_capacity(alloc, count)?,
+        })
+    }
+
     /// Lends the components, in their order.
     pub fn as_slice(&self) -> &[Bytes]
         ensures { result.now ≡ self.now }

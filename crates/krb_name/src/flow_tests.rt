@@ -131,3 +131,49 @@ fn writing_fails(rt: HostRuntime) {
     is(&rt, write_all(&mut sink, &bytes), Err(SinkFailed));
     is(&rt, sink.failures(), 1);
 }
+
+// Looks for an error of a reader that is told as the end, where there is no room for a byte.
+#[test]
+fn reading_into_no_room_fails(rt: HostRuntime) {
+    let mut source = ReadSource::new(Flaky(1));
+    is(&rt, source.read(&mut []), Err(SourceFailed));
+    is(&rt, source.failures(), 1);
+    is(&rt, source.read(&mut [0; 2]), Ok(0));
+    is(&rt, source.failures(), 1);
+}
+
+// Fails at the first write, and then takes all.
+#[derive(Drop)]
+struct Slow(bool);
+
+impl Write for Slow {
+    fn write(&mut self, buffer: &[u8]) -> io::Result<usize> {
+        if self.0 {
+            return Ok(buffer.len());
+        }
+        self.0 = true;
+        Err(io::Error::from(ErrorKind::Other))
+    }
+
+    fn flush(&mut self) -> io::Result<()> {
+        Ok(())
+    }
+}
+
+// Looks for an error of a writer that is swallowed, or counted twice.
+#[test]
+fn writing_fails_once(rt: HostRuntime) {
+    let mut sink = WriteSink::new(Slow(false));
+    is(&rt, sink.write(&[1, 2]), Err(SinkFailed));
+    is(&rt, sink.failures(), 1);
+    is(&rt, sink.write(&[1, 2]), Ok(2));
+    is(&rt, sink.failures(), 1);
+}
+
+// Looks for an empty write that counts as failed.
+#[test]
+fn writing_nothing(rt: HostRuntime) {
+    let mut sink = WriteSink::new(Full);
+    is(&rt, sink.write(&[]), Ok(0));
+    is(&rt, sink.failures(), 0);
+}

@@ -6,7 +6,7 @@ use Rattle.krb_ccache.proofs.items.read_components.Goals as goal
 
 pub returns-in_err-read_data-clause-missing : goal.returns-in_err-read_data-clause-missing
 returns-in_err-read_data-clause-missing c = λ e.
-    let p = err_from_is_err_and c.from_residual.result c.from_residual.ensures.1 in
+    let p = err_from_is_err_and c.from_residual-in_err-read_data.result c.from_residual-in_err-read_data.ensures.1 in
     times_stops (data_at w32) c.loop.components c.args.count c.loop.counter c.loop.cursor _ c.loop-test.true (c.in_err-read_data.ensures.missing (cc (p.1, p.2, e))) c.loop.invariant
 
 pub loop-preserved : goal.loop-preserved

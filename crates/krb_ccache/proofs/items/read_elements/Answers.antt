@@ -5,7 +5,7 @@ use Rattle.krb_ccache.proofs.items.read_elements.Goals as goal
 
 pub returns-in_err-read_typed-clause-missing : goal.returns-in_err-read_typed-clause-missing
 returns-in_err-read_typed-clause-missing c = λ e.
-    let p = err_from_is_err_and c.from_residual.result c.from_residual.ensures.1 in
+    let p = err_from_is_err_and c.from_residual-in_err-read_typed.result c.from_residual-in_err-read_typed.ensures.1 in
     times_stops typed_at c.loop.list c.args.count c.loop.counter c.loop.cursor _ c.loop-test.true (c.in_err-read_typed.ensures.missing (cc (p.1, p.2, e))) c.loop.invariant
 
 pub loop-preserved : goal.loop-preserved

@@ -3,7 +3,7 @@ use Rattle.krb_keytab.proofs.view.read_components.Goals as goal
 use Rattle.krb_keytab.proofs.view.read_components.Goals.{else-loop-test, then-loop-test+in_default}
 
 pub loop-init : goal.loop-init
-loop-init c = rw (c.new-cursor.ensures, c.new-components.ensures) (starts _ _)
+loop-init c = rw (c.new-cursor.ensures, c.in_ok-components.ensures) (starts _ _)
 
 pub loop-preserved : goal.loop-preserved
 loop-preserved c =

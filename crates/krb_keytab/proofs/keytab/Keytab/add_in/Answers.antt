@@ -1,4 +1,4 @@
-use Rattle.std.proofs.Common.{◌≡◌, ◌+◌, ◌<◌, ℕ, Err, arith, ap, sym, subst, vec_capacity, inl, inr}
+use Rattle.std.proofs.Common.{◌+◌, ◌<◌, ℕ, Err, arith, ap, vec_capacity, inl, inr}
 use Rattle.std.proofs.lemmas.Result.{err_from_is_err_and}
 use Rattle.krb_keytab.proofs.EditLaws.{same_fault}
 use Rattle.krb_keytab.proofs.AddLaws.{growing, fills_hole, fill_gains, appends, append_gains, passing_no_fault, passing_no_room, passing_is_long, room_no_fault, none_no_fault}
