@@ -58,11 +58,11 @@ class Cases:
 
 def parts(cases, peers, mit, heimdal):
     """Each part of the cases, in order; a later one may use what an earlier one made."""
-    made = [*tickets.of_mit(mit), *tickets.of_heimdal(heimdal)]
-    for ticket in made:
+    of_mit, of_heimdal = tickets.of_mit(mit), tickets.of_heimdal(heimdal)
+    for ticket in [*of_mit, *of_heimdal, tickets.with_addresses(mit), *tickets.of_both(mit, heimdal)]:
         yield lambda: exchanges.their_requests(cases, peers, ticket)
         yield lambda: exchanges.our_requests(cases, peers, ticket)
-    for ticket in (made[0], made[1], made[-2], made[-1]):
+    for ticket in of_mit[:2] + of_heimdal[-2:]:
         for part in (exchanges.repeats, exchanges.skewed, exchanges.ended, exchanges.other_services):
             yield lambda: part(cases, peers, ticket)
     for part in (exchanges.turned_keys, exchanges.old_types, exchanges.postdated, exchanges.wrong_keys, exchanges.other_messages):

@@ -57,9 +57,9 @@ def heimdal_realm(folder, heimdal):
 class Ticket:
     """A ticket in a cache: how it came to be, for which service of a realm, and what is known of it."""
 
-    def __init__(self, label, realm, cache, service, etype, pac):
+    def __init__(self, label, realm, cache, service, etype, pac, client=None):
         self.label, self.realm, self.cache, self.service = label, realm, cache, f"{service}@{realm.name}"
-        self.etype, self.pac, self.client = etype, "pac" if pac else "bare", f"alice@{realm.name}"
+        self.etype, self.pac, self.client = etype, "pac" if pac else "bare", client or f"alice@{realm.name}"
         self.keytab = realm.folder / "web.keytab"
 
     def credential(self):
@@ -102,3 +102,40 @@ def of_heimdal(realm):
         for tools, cache in caches.items()
         for service, etype in zip(services, (20, 19))
     ]
+
+
+def share_key(mit, heimdal, name):
+    """Gives both realms the same key of a principal: Heimdal's, as it dumps it, becomes MIT's. (A password makes other keys in Heimdal,
+    which salts them at random.)"""
+    mit_keytab, heimdal_keytab, dump = (mit.folder / f"shared.{it}" for it in ("mit", "heimdal", "dump"))
+    mit.kadmin("addprinc", "-randkey", "-e", f"{AES256}:normal", name)
+    mit.kadmin("ktadd", "-norandkey", "-k", mit_keytab, name)
+    heimdal.kadmin("add", "--random-key", "--use-defaults", name)
+    heimdal.kadmin("del_enctype", name, AES128)
+    heimdal.kadmin("ext_keytab", "-k", heimdal_keytab, name)
+    new, old = (reference.keytab(it.read_bytes())[-1]["key"].hex().upper() for it in (mit_keytab, heimdal_keytab))
+    heimdal.kadmin("dump", dump)
+    lines = [line for line in dump.read_text().splitlines() if line.startswith(f"{name} ")]
+    dump.write_text("".join(f"{line.replace(old, new)}\n" for line in lines))
+    heimdal.kadmin("merge", dump)
+
+
+def of_both(mit, heimdal):
+    """Tickets of each realm's user for a service of the other, by keys that the realms share."""
+    for name in (f"krbtgt/{heimdal.name}@{mit.name}", f"krbtgt/{mit.name}@{heimdal.name}"):
+        share_key(mit, heimdal, name)
+    other = f"  {heimdal.name} = {{\n    kdc = 127.0.0.1:{heimdal.port}\n  }}\n"
+    (mit.folder / "both.conf").write_text((mit.folder / "one.conf").read_text() + other)
+    to_heimdal = mit.cache("to-heimdal", "both", [f"host/web.example@{heimdal.name}"])
+    to_mit = mit.cache("to-mit", "both", [f"host/web19.example@{mit.name}"], user=f"alice@{heimdal.name}")
+    return [
+        Ticket("another realm's client at Heimdal's KDC, 20", heimdal, to_heimdal, "host/web.example", 20, False, f"alice@{mit.name}"),
+        Ticket("another realm's client at MIT's KDC, 19", mit, to_mit, "host/web19.example", 19, False, f"alice@{heimdal.name}"),
+    ]
+
+
+def with_addresses(realm):
+    """A ticket for the addresses of this machine."""
+    realm.client("addressed", "one", "extra_addresses = 127.0.0.1")
+    cache = realm.cache("addressed", "addressed", ["host/plain.example"], ["-a", "-f", "-p"])
+    return Ticket("with addresses, forwardable and proxiable", realm, cache, "host/plain.example", 20, True)
