@@ -1,5 +1,5 @@
 #!/usr/bin/env python3
-"""Makes the small exchange that tests share: a ticket, a credential cache, and requests, by the standards' rules alone.
+"""Makes the small exchange that tests share: a ticket, a credential cache, requests, replies and an error, by the standards' rules alone.
 
 The DER writer here is a second one (RFC 4120, sections 5.2 to 5.5); sealing is that of sealing.py. Needs the Python package
 `cryptography`. It prints what was made, in hex, for tests to keep.
@@ -98,10 +98,58 @@ def configured_cache():
     return b"\x05\x04" + struct.pack(">H", len(header)) + header + client + credential(client, server, 0, b"", (0, 0, 0, 0), b"yes")
 
 
+def key(etype, value):
+    return sequence(field(0, integer(etype)), field(1, octets(value)))
+
+
+def present(number, content):
+    return [] if content is None else [field(number, content)]
+
+
+def authenticator(subkey=None, number=None):
+    return element(0x62, sequence(
+        field(0, integer(5)), field(1, string(b"EX")), field(2, name(1, b"alice")), field(4, integer(5)),
+        field(5, time("20231114221500Z")), *present(6, subkey), *present(7, None if number is None else integer(number)),
+    ))
+
+
+def request(options=0, subkey=None, number=None):
+    cipher = sealed(19, SESSION_KEY, 11, bytes(range(0x20, 0x30)), authenticator(subkey, number))
+    return element(0x6E, sequence(
+        field(0, integer(5)), field(1, integer(14)), field(2, element(3, b"\0" + struct.pack(">I", options))),
+        field(3, ticket()), field(4, encrypted(19, cipher)),
+    ))
+
+
+def reply_part(subkey=None, number=None):
+    return element(0x7B, sequence(
+        field(0, time("20231114221500Z")), field(1, integer(5)), *present(2, subkey),
+        *present(3, None if number is None else integer(number)),
+    ))
+
+
+def reply(subkey=None, number=None):
+    cipher = sealed(19, SESSION_KEY, 12, bytes(range(0x30, 0x40)), reply_part(subkey, number))
+    return element(0x6F, sequence(field(0, integer(5)), field(1, integer(15)), field(2, encrypted(19, cipher))))
+
+
+def error(code):
+    return element(0x7E, sequence(
+        field(0, integer(5)), field(1, integer(30)), field(4, time("20231114221500Z")), field(5, integer(7)),
+        field(6, integer(code)), field(9, string(b"EX")), field(10, name(3, b"host", b"web")),
+    ))
+
+
 def main():
-    assert len(ticket_part()) == 119 and len(ticket()) == 214
+    assert len(ticket_part()) == 119 and len(ticket()) == 214 and len(authenticator()) == 59
     assert len(cache()) == 352 and len(configured_cache()) == 178
-    for made, value in [("ticket part", ticket_part()), ("ticket", ticket()), ("cache", cache()), ("configured cache", configured_cache())]:
+    assert len(request()) == 348 and len(reply_part()) == 28 and len(reply()) == 87 and len(error(37)) == 73
+    long_key, short_key = key(20, bytes(range(32, 64))), key(19, bytes(range(64, 80)))
+    for made, value in [
+        ("ticket part", ticket_part()), ("ticket", ticket()), ("cache", cache()), ("configured cache", configured_cache()),
+        ("request", request()), ("mutual request with a subkey and a number", request(1 << 29, long_key, 4_294_967_295)),
+        ("reply", reply()), ("reply with a subkey and a number", reply(short_key, 128)), ("error", error(37)),
+    ]:
         print(f"{made} {value.hex()}")
 
 

@@ -1,13 +1,12 @@
--- How a request begins.
+-- How a message begins.
 use Rattle.std.proofs.Common.{◌≡◌, ℕ, List, ◌∷◌, sym, ◌∙◌}
-use Rattle.krb_der.specs.Kind.{ValueOf}
+use Rattle.krb_der.specs.Kind.{Kind, ValueOf, tag_of}
 use Rattle.krb_der.specs.Spells.{IsMessage}
-use Rattle.krb_msg.specs.Module.{ap_req}
 use Rattle.krb_ap.specs.Causes.{BeginsOtherwise}
 
 head_of : (a b : ℕ) (x y : List ℕ) → a ∷ x ≡ b ∷ y → a ≡ b
 head_of a b x y h = cc
 
--- with the tag of a request
-pub begins_so : (request : ValueOf ap_req) (bytes : List ℕ) → IsMessage ap_req request bytes → ¬ BeginsOtherwise bytes
-begins_so request bytes message b = b.other (head_of _ _ _ _ (sym b.bytes_are ∙ message.spelled.whole))
+-- with the tag of its kind
+pub begins_so : (k : Kind) (value : ValueOf k) (bytes : List ℕ) → IsMessage k value bytes → ¬ BeginsOtherwise (tag_of k) bytes
+begins_so k value bytes message b = b.other (head_of _ _ _ _ (sym b.bytes_are ∙ message.spelled.whole))

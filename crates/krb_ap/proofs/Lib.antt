@@ -11,3 +11,10 @@ pub mod OneAnswer
 pub mod Runs
 pub mod Decided
 pub mod Answered
+pub mod BuiltAccepted
+pub mod Walk
+pub mod Building
+pub mod Finishing
+pub mod Replying
+pub mod Codes
+pub mod OneRequest

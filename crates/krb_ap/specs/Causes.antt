@@ -20,12 +20,12 @@ use Rattle.krb_ap.specs.declared.refusal.Refusal.TheVariants.{MessageType, Malfo
 
 -- ---- what a cause says; each presupposes what the ones before it let through
 
--- there is a first byte, and it isn't that of a request
-pub record BeginsOtherwise (bytes : List ℕ) : Type 0 where
+-- there is a first byte, and it is another
+pub record BeginsOtherwise (tag : ℕ) (bytes : List ℕ) : Type 0 where
   pub first : ℕ
   pub rest : List ℕ
   pub bytes_are : bytes ≡ first ∷ rest
-  pub other : first ≢ 0x6e
+  pub other : first ≢ tag
 
 -- some request is spelled, and this holds of it
 pub record OfRequest (bytes : List ℕ) (P : ValueOf ap_req → Type 0) : Type 0 where
@@ -72,7 +72,7 @@ pub record OfOpened (setup : Setup) (bytes : List ℕ) (P : ValueOf ap_req → V
 -- ---- the table
 
 abbrev pub Holds : Setup → List Arrival → Arrival → Refusal → Type 0
-Holds setup history call MessageType = BeginsOtherwise call.bytes
+Holds setup history call MessageType = BeginsOtherwise 0x6e call.bytes
 Holds setup history call (Malformed fault) = ((request : ValueOf ap_req) → ¬ IsMessage ap_req request call.bytes) × IsFault ap_req call.bytes fault
 Holds setup history call UserToUser = OfRequest call.bytes (λ request. HasBit (options_of request) use_session_key)
 Holds setup history call TicketEtype = OfRequest call.bytes (λ request. ¬ IsKnown (etype_of (sealed_ticket request)))

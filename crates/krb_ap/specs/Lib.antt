@@ -7,4 +7,11 @@ pub mod Taken
 pub mod Causes
 pub mod Answer
 pub mod Service
+pub mod Credentials
+pub mod Written
+pub mod Request
+pub mod Headline
+pub mod Reply
+pub mod Finish
+pub mod ErrorReply
 pub mod Inner

@@ -24,9 +24,9 @@ pub record Taken : Type 0 where
   pub addresses : Option (List (ValueOf (typed (leaf octets))))
   pub ticket_authorization : Option (List (ValueOf (typed (leaf octets))))
   pub subkey : Option (ValueOf (typed (leaf octets)))
-  pub seq_number : Option ℕ
+  pub seq : Option ℕ
   pub checksum : Option (ValueOf (typed (leaf octets)))
-  pub authorization : Option (List (ValueOf (typed (leaf octets))))
+  pub authenticator_authorization : Option (List (ValueOf (typed (leaf octets))))
   pub ctime : ℤ
   pub cusec : ℕ
   pub wants_reply : Bool
@@ -44,9 +44,9 @@ taken_from request part auth = record {
   addresses = caddr_of part;
   ticket_authorization = authorization_of part;
   subkey = authenticator_subkey auth;
-  seq_number = authenticator_seq_number auth;
+  seq = authenticator_seq_number auth;
   checksum = authenticator_checksum auth;
-  authorization = authenticator_authorization auth;
+  authenticator_authorization = authenticator_authorization auth;
   ctime = authenticator_ctime auth;
   cusec = authenticator_cusec auth;
   wants_reply = is_mutual request;

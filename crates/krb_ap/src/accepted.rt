@@ -23,11 +23,11 @@ pub struct Accepted {
     /// The key that the client chose for this session, of any type.
     pub subkey: Option<RawKey>,
     /// The client's first sequence number.
-    pub seq_number: Option<u32>,
+    pub seq: Option<u32>,
     /// The authenticator's checksum. It is handed on, and wasn't verified.
     pub checksum: Option<Typed>,
     /// The authenticator's authorization data, of which each outer element is of type 1.
-    pub authorization: Option<Vec<Typed>>,
+    pub authenticator_authorization: Option<Vec<Typed>>,
     /// The client's time.
     pub ctime: Seconds,
     /// The microseconds of the client's time.

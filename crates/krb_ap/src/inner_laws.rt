@@ -1,7 +1,7 @@
 //! The laws of the layers below, for the proofs of this crate.
 
 ghost use Rattle.krb_ap.specs.Inner.Decisions.{Decisions};
-ghost use Rattle.krb_ap.specs.Inner.Facts.{Facts};
+ghost use Rattle.krb_ap.specs.Inner.Facts.{Facts, WritingFacts};
 
 /// Does nothing: its contract is what is known of messages, keys and choices.
 pub(crate) fn facts()
@@ -22,4 +22,11 @@ pub(crate) fn decisions()
     krb_enc::laws::usable_is_decided();
     krb_enc::laws::opening_is_decided();
     krb_keytab::laws::a_choice_exists();
+}
+
+/// Does nothing: its contract is what is known of what is written.
+pub(crate) fn writing()
+    ensures { WritingFacts }
+{
+    krb_der::laws::written();
 }

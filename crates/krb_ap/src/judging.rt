@@ -3,9 +3,9 @@
 ghost use Rattle.std.specs.Prelude.{◌≡◌, ◌≢◌, ℕ, List, IfErr, IfOk, IsErrOf};
 ghost use Rattle.std.specs.Option.{option_map};
 ghost use Rattle.krb_der.specs.Kind.{ValueOf};
-ghost use Rattle.krb_msg.specs.Borrowed.{ap_req_of, authenticator_of, enc_ticket_part_of, key_of, typed_of};
+ghost use Rattle.krb_msg.specs.Borrowed.{ap_req_of, authenticator_of, enc_ticket_part_of, typed_of};
 ghost use Rattle.krb_msg.specs.Module.{ap_req};
-ghost use Rattle.krb_msg.specs.Owned.{owned_key_of, owned_list_of, owned_typed_of};
+ghost use Rattle.krb_msg.specs.Owned.{owned_list_of, owned_typed_of};
 ghost use Rattle.krb_ap.specs.Opened.{Asks, OpenedAs, Ticketed, session_key as key_of_part, service_of};
 ghost use Rattle.krb_ap.specs.Taken.{taken_from};
 ghost use Rattle.krb_ap.specs.Answer.{taken_of};
@@ -15,6 +15,7 @@ ghost use Rattle.krb_ap.specs.declared.refusal.Refusal.TheVariants.{OutOfMemory}
 use crate::accepted::Accepted;
 use crate::acceptor::Acceptor;
 use crate::inner_laws::facts;
+use crate::keys::owned_key;
 use crate::opening::{
     is_of_type, is_same_client, open_under, read_authenticator, read_part, read_request, service,
     ticket_key, usable_key,
@@ -23,8 +24,8 @@ use crate::refusal::Refusal;
 use crate::times::{is_near, refusal_of_times};
 use krb_enc::Key;
 use krb_msg::{
-    ApReqRef, AuthenticatorRef, EncTicketRef, KeyRef, MUTUAL_REQUIRED, Moment, Principal, RawKey,
-    Typed, TypedListRef, TypedRef,
+    ApReqRef, AuthenticatorRef, EncTicketRef, MUTUAL_REQUIRED, Moment, Principal, Typed,
+    TypedListRef, TypedRef,
 };
 use krb_replay::{ReplayMemory, Tuple};
 use std::alloc::{AllocError, Global};
@@ -203,9 +204,9 @@ fn accepted(
         addresses: owned_list(alloc, &part.caddr)?,
         ticket_authorization: owned_list(alloc, &part.authorization)?,
         subkey: owned_key(alloc, &auth.subkey)?,
-        seq_number: auth.seq_number,
+        seq: auth.seq_number,
         checksum: owned_typed(alloc, &auth.checksum)?,
-        authorization: owned_list(alloc, &auth.authorization)?,
+        authenticator_authorization: owned_list(alloc, &auth.authorization)?,
         ctime: auth.ctime,
         cusec: auth.cusec,
         mutual: request.options.has(MUTUAL_REQUIRED),
@@ -217,15 +218,6 @@ fn owned_list(alloc: Global, list: &Option<TypedListRef>) -> Result<Option<Vec<T
 {
     match list {
         Some(list) => Ok(Some(list.to_owned(alloc)?)),
-        None => Ok(None),
-    }
-}
-
-fn owned_key(alloc: Global, key: &Option<KeyRef>) -> Result<Option<RawKey>, AllocError>
-    ensures { IfOk result (λ made. option_map owned_key_of made ≡ option_map key_of key.now) }
-{
-    match key {
-        Some(key) => Ok(Some(key.to_owned(alloc)?)),
         None => Ok(None),
     }
 }

@@ -1,7 +1,18 @@
 //! Laws over the definitions, for proofs to cite. Each function does nothing: its contract is the law.
 
-ghost use Rattle.std.specs.Prelude.{◌≡◌, ◌⊎◌, List};
-ghost use Rattle.krb_ap.specs.Setup.{Setup, Arrival};
+ghost use Rattle.std.specs.Prelude.{◌≡◌, ◌⊎◌, ℕ, ℤ, List};
+ghost use Rattle.krb_name.specs.declared.principal.Principal.{Principal};
+ghost use Rattle.krb_der.specs.Kind.{ValueOf};
+ghost use Rattle.krb_msg.specs.Module.{enc_ticket_part, ticket as ticket_kind};
+ghost use Rattle.krb_msg.specs.Fields.{part_client};
+ghost use Rattle.krb_ccache.specs.Value.{Cache};
+ghost use Rattle.krb_ap.specs.Setup.{Setup, Arrival, arrival};
+ghost use Rattle.krb_ap.specs.Request.{Awaited, IsRequest, Prevents};
+ghost use Rattle.krb_ap.specs.Finish.{Agreement, FinishCause, IsAgreed};
+ghost use Rattle.krb_ap.specs.declared.finish_fault.FinishFault.{FinishFault};
+ghost use Rattle.krb_ap.specs.declared.request_fault.RequestFault.{RequestFault};
+ghost use Rattle.krb_ap.specs.Headline.{Agrees, HasTicket, MayBeTaken};
+ghost use Rattle.krb_ap.specs.declared.request.RequestOptions.{RequestOptions};
 ghost use Rattle.krb_ap.specs.Taken.{Accept, Taken};
 ghost use Rattle.krb_ap.specs.Causes.{Cause, place};
 ghost use Rattle.krb_ap.specs.declared.refusal.Refusal.{Refusal};
@@ -22,4 +33,37 @@ pub fn one_answer()
 {
     facts();
     decisions();
+}
+
+/// Says that a service accepts a request that a client built, after each history and at each moment that lets it be taken, where the
+/// key that its keytab has for the ticket opens it to the credential's client and key. It then knows what the client awaits.
+///
+/// What `make_request` answers is such a request, and `accept` answers so, or `OutOfMemory`, by its clause `taken`.
+pub fn built_is_accepted()
+    ensures { (setup : Setup) (history : List Arrival) (moment : ℤ) (cache : Cache) (service : Principal) (at : ℤ) (confounder : List ℕ)
+        (options : RequestOptions) (bytes : List ℕ) (awaited : Awaited) (ticket : ValueOf ticket_kind) (part : ValueOf enc_ticket_part)
+        → (request : IsRequest cache service at confounder options bytes awaited)
+        → HasTicket setup request.credential ticket part
+        → MayBeTaken setup history moment at ticket part
+        → (taken : Taken) × Accept setup history (arrival bytes moment) taken × (taken.client ≡ part_client part)
+        × (taken.wants_reply ≡ options.mutual) × Agrees taken awaited }
+{
+    facts();
+}
+
+/// Says that where a client builds a request, nothing prevents it.
+pub fn built_or_prevented()
+    ensures { (cache : Cache) (service : Principal) (at : ℤ) (confounder : List ℕ) (options : RequestOptions) (bytes : List ℕ)
+        (awaited : Awaited) (fault : RequestFault) → IsRequest cache service at confounder options bytes awaited
+        → Prevents cache service at confounder options fault → ⊥ }
+{}
+
+/// Says that of a reply both sides agree on one thing, or it has a first fault, and not both.
+pub fn agreed_or_refused()
+    ensures one { (awaited : Awaited) (bytes : List ℕ) (one other : Agreement)
+        → IsAgreed awaited bytes one → IsAgreed awaited bytes other → one ≡ other }
+    ensures apart { (awaited : Awaited) (bytes : List ℕ) (agreement : Agreement) (fault : FinishFault)
+        → IsAgreed awaited bytes agreement → FinishCause awaited bytes fault → ⊥ }
+{
+    facts();
 }

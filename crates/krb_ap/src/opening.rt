@@ -11,7 +11,7 @@ ghost use Rattle.krb_msg.specs.Module.{ap_req, authenticator, enc_ticket_part};
 ghost use Rattle.krb_ap.specs.Causes.{BeginsOtherwise, place};
 ghost use Rattle.krb_ap.specs.Opened.{Asks, SameClient};
 ghost use Rattle.krb_ap.specs.Inner.Stages.{IsCauseOfBytes, IsChosenKey, IsNone, IsShut, Wants};
-ghost use Rattle.krb_ap.specs.declared.refusal.Refusal.TheVariants.{OutOfMemory, TicketIntegrity, AuthenticatorIntegrity, SessionKey};
+ghost use Rattle.krb_ap.specs.declared.refusal.Refusal.TheVariants.{OutOfMemory, TicketIntegrity, AuthenticatorIntegrity, SessionKey, Skew};
 
 use crate::inner_laws::facts;
 use crate::refusal::Refusal;
@@ -28,10 +28,10 @@ pub(crate) fn read_request<'a>(bytes: &'a [u8]) -> Result<ApReqRef<'a>, Refusal>
     ensures read { IfOk result (λ request. Asks bytes.entry.now (ap_req_of request)) }
     ensures refused { IfErr result (IsCauseOfBytes bytes.entry.now) }
     ensures named { IfErr result (λ refusal. refusal ≢ OutOfMemory) }
-    ensures early { IfErr result (λ refusal. place refusal < 12) }
+    ensures early { IfErr result (λ refusal. place refusal < place Skew) }
 {
     facts();
-    if begins_otherwise(bytes) {
+    if begins_otherwise(bytes, 0x6e) {
         return Err(Refusal::MessageType);
     }
     let request = match ApReqRef::parse(bytes) {
@@ -47,11 +47,12 @@ pub(crate) fn read_request<'a>(bytes: &'a [u8]) -> Result<ApReqRef<'a>, Refusal>
     Ok(request)
 }
 
-fn begins_otherwise(bytes: &[u8]) -> bool
-    ensures { IsTrue result ↔ BeginsOtherwise bytes.now }
+/// Whether bytes begin with another tag. It takes no memory.
+pub(crate) fn begins_otherwise(bytes: &[u8], tag: u8) -> bool
+    ensures { IsTrue result ↔ BeginsOtherwise tag bytes.now }
 {
     match bytes.first() {
-        Some(first) => *first != 0x6e,
+        Some(first) => *first != tag,
         None => false,
     }
 }

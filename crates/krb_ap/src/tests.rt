@@ -1,5 +1,8 @@
 //! The project's fixture (alice@EX asks for host/web@EX), and what becomes of it where one thing differs.
 
+mod client;
+mod replies;
+
 ghost use Rattle.std.specs.Prelude.{◌≡◌, None};
 ghost use Rattle.krb_replay.specs.Stamp.{Stamp};
 
@@ -168,17 +171,21 @@ fn sealed_authenticator(alloc: Global, made: Made) -> Result<Vec<u8>, Fail> {
     Ok(sealed)
 }
 
+fn ticket_of(alloc: Global, made: Made) -> Result<Ticket, Fail> {
+    Ok(Ticket {
+        service: name(alloc, made.service, 3)?,
+        enc_part: Encrypted {
+            etype: made.told_etype.unwrap_or(made.service_etype),
+            kvno: made.kvno,
+            cipher: sealed_part(alloc, made)?,
+        },
+    })
+}
+
 fn request(alloc: Global, made: Made) -> Result<Vec<u8>, Fail> {
     let request = ApReq {
         options: made.options,
-        ticket: Ticket {
-            service: name(alloc, made.service, 3)?,
-            enc_part: Encrypted {
-                etype: made.told_etype.unwrap_or(made.service_etype),
-                kvno: made.kvno,
-                cipher: sealed_part(alloc, made)?,
-            },
-        },
+        ticket: ticket_of(alloc, made)?,
         authenticator: Encrypted {
             etype: made.sealed_etype.unwrap_or(made.session_etype),
             kvno: None,

@@ -1,0 +1,141 @@
+-- What is written of a request, and that it is one text.
+use Rattle.std.proofs.Common.{◌≡◌, ℕ, ◌<◌, ◌≤◌, ℤ, List, sym, ◌∙◌, ap, subst, length, arith, Option, None}
+use Rattle.std.specs.Option.{option_map}
+use Rattle.std.proofs.lemmas.Int.{ints}
+use Rattle.krb_name.specs.declared.principal.Principal.{Principal}
+use Rattle.krb_der.specs.Kind.{Kind, ValueOf}
+use Rattle.krb_der.specs.Spells.{IsMessage, limit}
+use Rattle.krb_der.specs.Size.{size_of}
+use Rattle.krb_enc.specs.Key.{KeyValue, profile_of}
+use Rattle.krb_enc.specs.Sealed.{sealed}
+use Rattle.krb_msg.specs.Module.{ap_req, authenticator, encrypted_data, encryption_key, ticket as ticket_kind, is_ticket}
+use Rattle.krb_msg.specs.Fields.{authenticator_value, ap_req_value, encrypted_value}
+use Rattle.krb_msg.specs.Moments.{micros_of}
+use Rattle.krb_msg.specs.Owned.{principal_name_of}
+use Rattle.krb_ccache.specs.declared.credential.Credential.{Credential}
+use Rattle.krb_ap.specs.Written.{IsWritten, IsSealed, key_value}
+use Rattle.krb_ap.specs.Opened.{authenticator_usage}
+use Rattle.krb_ap.specs.Credentials.{credential_key}
+use Rattle.krb_ap.specs.Request.{Awaited, authenticator_for, awaited_for, options_for, request_for, IsPlain, IsAuthenticator, IsBuilt}
+use Rattle.krb_ap.specs.Inner.Facts.{Facts, WritingFacts}
+use Rattle.krb_ap.specs.declared.request.RequestOptions.{RequestOptions}
+
+-- a moment has one second and one number of microseconds
+pub seconds_of : (s t : ℤ) (m n : ℕ) → m < 1_000_000 → n < 1_000_000 → micros_of s m ≡ micros_of t n → s ≡ t
+seconds_of s t m n h g e = omega (arith, ints)
+
+pub micros_in : (s t : ℤ) (m n : ℕ) → m < 1_000_000 → n < 1_000_000 → micros_of s m ≡ micros_of t n → m ≡ n
+micros_in s t m n h g e = omega (arith, ints)
+
+-- the value of an authenticator whose parts are copies
+pub copied : (client : Principal) (credential : Credential) (ctime : ℤ) (cusec : ℕ) (subkey : Option (ValueOf encryption_key)) (options : RequestOptions)
+    → client ≡ credential.client → subkey ≡ option_map key_value options.subkey
+    → authenticator_value (record {
+      crealm = client.realm;
+      cname = principal_name_of client;
+      checksum = None;
+      cusec = cusec;
+      ctime = ctime;
+      subkey = subkey;
+      seq_number = options.seq;
+      authorization = None;
+    }) ≡ authenticator_for credential ctime cusec options
+copied client credential ctime cusec subkey options e f =
+    ap (λ (p : Principal). authenticator_value (record {
+      crealm = p.realm;
+      cname = principal_name_of p;
+      checksum = None;
+      cusec = cusec;
+      ctime = ctime;
+      subkey = subkey;
+      seq_number = options.seq;
+      authorization = None;
+    })) e
+    ∙ ap (λ (k : Option (ValueOf encryption_key)). authenticator_value (record {
+      crealm = credential.client.realm;
+      cname = principal_name_of credential.client;
+      checksum = None;
+      cusec = cusec;
+      ctime = ctime;
+      subkey = k;
+      seq_number = options.seq;
+      authorization = None;
+    })) f
+
+too_big : (n m : ℕ) → n ≡ m → n ≤ limit → limit < m → ⊥
+too_big n m e h g = omega arith
+
+-- a value that is too long isn't written
+pub unwritten : WritingFacts → (k : Kind) (v : ValueOf k) (bytes : List ℕ) → limit < size_of k v → ¬ IsWritten k v bytes
+unwritten w k v bytes long written = too_big (length bytes) (size_of k v) (w.size k v bytes written.written) written.message.within long
+
+same_told : (credential : Credential) (options : RequestOptions) (s t : ℤ) (m n : ℕ) → s ≡ t → m ≡ n
+    → authenticator_for credential s m options ≡ authenticator_for credential t n options
+same_told credential options s t m n e f =
+    ap (λ (x : ℤ). authenticator_for credential x m options) e ∙ ap (λ (x : ℕ). authenticator_for credential t x options) f
+
+module _ (w : WritingFacts) (credential : Credential) (at : ℤ) (options : RequestOptions) where
+  -- no bytes are an authenticator that is too long
+  pub untold : (ctime : ℤ) (cusec : ℕ) → at ≡ micros_of ctime cusec → cusec < 1_000_000
+      → limit < size_of authenticator (authenticator_for credential ctime cusec options) → (plain : List ℕ) → ¬ IsPlain credential at options plain
+  untold ctime cusec is micros long plain p =
+      let e : micros_of ctime cusec ≡ micros_of p.ctime p.cusec = sym is ∙ p.at_is in
+      unwritten w authenticator (authenticator_for credential p.ctime p.cusec options) plain
+      (subst (λ v. limit < size_of authenticator v) (same_told credential options ctime p.ctime cusec p.cusec
+      (seconds_of ctime p.ctime cusec p.cusec micros p.micros e) (micros_in ctime p.ctime cusec p.cusec micros p.micros e)) long)
+      p.plain_is
+
+  -- and an authenticator is one
+  one_told : (a b : List ℕ) → IsPlain credential at options a → IsPlain credential at options b → a ≡ b
+  one_told a b p q =
+      let e : micros_of p.ctime p.cusec ≡ micros_of q.ctime q.cusec = sym p.at_is ∙ q.at_is in
+      w.one authenticator (authenticator_for credential q.ctime q.cusec options) a b
+      (subst (λ v. IsWritten authenticator v a) (same_told credential options p.ctime q.ctime p.cusec q.cusec
+      (seconds_of p.ctime q.ctime p.cusec q.cusec p.micros q.micros e) (micros_in p.ctime q.ctime p.cusec q.cusec p.micros q.micros e)) p.plain_is).written
+      q.plain_is.written
+
+  one_text : (confounder a b : List ℕ) → IsAuthenticator credential at confounder options a → IsAuthenticator credential at confounder options b → a ≡ b
+  one_text confounder a b p q = p.text_is.text_is ∙ ap (λ (plain : List ℕ). sealed (profile_of (credential_key credential)) credential.key authenticator_usage confounder plain) (one_told p.plain q.plain p.told q.told) ∙ sym q.text_is.text_is
+
+  pub too_long_to_build : Facts → (confounder text : List ℕ) (ticket : ValueOf ticket_kind) → IsMessage ticket_kind ticket credential.ticket
+      → IsAuthenticator credential at confounder options text → limit < size_of ap_req (request_for credential options ticket text)
+      → (bytes : List ℕ) → ¬ IsBuilt credential at confounder options bytes
+  too_long_to_build facts confounder text ticket message a long bytes b =
+      let e : ticket ≡ b.ticket = facts.one_value ticket_kind is_ticket ticket b.ticket credential.ticket message b.ticket_is in
+      let f : text ≡ b.text = one_text confounder text b.text a b.text_is in
+      unwritten w ap_req (request_for credential options b.ticket b.text) bytes
+      (subst (λ (t : ValueOf ticket_kind). limit < size_of ap_req (request_for credential options t b.text)) e
+      (subst (λ (x : List ℕ). limit < size_of ap_req (request_for credential options ticket x)) f long))
+      b.bytes_are
+
+-- what is sealed, with the type of the credential's key
+pub told_type : (credential : Credential) (key : KeyValue) (text : List ℕ) → key ≡ credential_key credential
+    → encrypted_value (record { etype = key.etype; kvno = None; cipher = text })
+    ≡ encrypted_value (record { etype = credential.etype; kvno = None; cipher = text })
+told_type credential key text e = ap (λ (k : KeyValue). encrypted_value (record { etype = k.etype; kvno = None; cipher = text })) e
+
+-- the value of a request whose parts are copies
+pub copied_request : (credential : Credential) (options : RequestOptions) (ticket : ValueOf ticket_kind) (text : List ℕ) (bits : ℕ) (copy : ValueOf ticket_kind)
+    (told : ValueOf encrypted_data) → bits ≡ options_for options.mutual → copy ≡ ticket
+    → told ≡ encrypted_value (record { etype = credential.etype; kvno = None; cipher = text })
+    → ap_req_value (record { options = bits; ticket = copy; authenticator = told }) ≡ request_for credential options ticket text
+copied_request credential options ticket text bits copy told e f g =
+    ap (λ (b : ℕ). ap_req_value (record { options = b; ticket = copy; authenticator = told })) e
+    ∙ (ap (λ (t : ValueOf ticket_kind). ap_req_value (record { options = options_for options.mutual; ticket = t; authenticator = told })) f
+    ∙ ap (λ (a : ValueOf encrypted_data). ap_req_value (record { options = options_for options.mutual; ticket = ticket; authenticator = a })) g)
+
+abbrev pub awaited_of : Principal → KeyValue → ℤ → RequestOptions → Awaited
+awaited_of client key at options = record { client = client; key = key; at = at; subkey = options.subkey; seq = options.seq }
+
+-- what is kept of a request, as copies
+pub copied_awaited : (credential : Credential) (at : ℤ) (options : RequestOptions) (client : Principal) (key : KeyValue) → client ≡ credential.client
+    → key ≡ credential_key credential
+    → awaited_of client key at options ≡ awaited_for credential at options
+copied_awaited credential at options client key e f =
+    ap (λ (p : Principal). awaited_of p key at options) e ∙ ap (λ (k : KeyValue). awaited_of credential.client k at options) f
+
+-- what is sealed with the same key and plain text
+pub sealed_by : (one key : KeyValue) (usage : ℕ) (confounder lent plain text : List ℕ) → one ≡ key → lent ≡ plain
+    → IsSealed one usage confounder lent text → IsSealed key usage confounder plain text
+sealed_by one key usage confounder lent plain text e f s =
+    subst (λ (k : KeyValue). IsSealed k usage confounder plain text) e (subst (λ (p : List ℕ). IsSealed one usage confounder p text) f s)

@@ -1,0 +1,135 @@
+-- A built request is accepted.
+use Rattle.std.proofs.Common.{◌≡◌, ℕ, ℤ, List, Bool, true, false, refl, sym, ap, subst, inl, inr, arith}
+use Rattle.krb_name.specs.declared.principal.Principal.{Principal}
+use Rattle.krb_der.specs.Kind.{ValueOf}
+use Rattle.krb_der.specs.Flags.{HasBit}
+use Rattle.krb_enc.specs.Key.{KeyValue, IsKnown, IsUsable, profile_of}
+use Rattle.krb_enc.specs.Opens.{Opens}
+use Rattle.krb_msg.specs.Bits.{use_session_key, mutual_required}
+use Rattle.krb_msg.specs.Module.{ap_req, ticket as ticket_kind, enc_ticket_part, authenticator, is_ticket}
+use Rattle.krb_msg.specs.Fields.{ticket_service, part_client}
+use Rattle.krb_keytab.specs.Entry.{KeytabEntry}
+use Rattle.krb_ccache.specs.Value.{Cache}
+use Rattle.krb_ccache.specs.declared.credential.Credential.{Credential}
+use Rattle.krb_ap.specs.Bit.{has_bit}
+use Rattle.krb_ap.specs.Setup.{Setup, Arrival, arrival}
+use Rattle.krb_ap.specs.Opened.{OpensAs, OpenedAs, authenticator_usage, session_key, stamp_at}
+use Rattle.krb_ap.specs.Times.{Near}
+use Rattle.krb_ap.specs.History.{effective, IsShown}
+use Rattle.krb_ap.specs.Taken.{Taken, Accept, taken_from}
+use Rattle.krb_ap.specs.Written.{IsSealed}
+use Rattle.krb_ap.specs.Credentials.{credential_key}
+use Rattle.krb_ap.specs.Request.{Awaited, IsRequest, IsBuilt, request_for, authenticator_for, options_for}
+use Rattle.krb_ap.specs.Headline.{Agrees, HasTicket, MayBeTaken}
+use Rattle.krb_ap.specs.Inner.Facts.{Facts}
+use Rattle.krb_ap.specs.declared.request.RequestOptions.{RequestOptions}
+
+-- ---- the options of a request
+
+ordinary : (reply : Bool) → ¬ HasBit (options_for reply) use_session_key
+ordinary true h = absurd (omega (arith, h.1))
+ordinary false h = absurd (omega (arith, h.1))
+
+asked : (reply : Bool) → has_bit (options_for reply) mutual_required ≡ reply
+asked true = refl
+asked false = refl
+
+-- ---- what is sealed opens
+
+pub sealed_opens : (key : KeyValue) (usage : ℕ) (confounder plain text : List ℕ) → IsSealed key usage confounder plain text
+    → Opens (profile_of key) key.bytes usage text plain
+sealed_opens key usage confounder plain text s = record {
+  confounder = confounder;
+  is_block = record { size = s.size; bytes = s.confounder_bytes };
+  plain_bytes = s.plain_bytes;
+  sealed_is = sym s.text_is;
+}
+
+-- the type of a key that was chosen is known
+chosen_known : (entry : KeytabEntry) (etype : ℤ) → IsKnown entry.etype → entry.etype ≡ etype → IsKnown etype
+chosen_known entry etype known e = subst IsKnown e known
+
+usable_known : (key : KeyValue) → IsUsable key → IsKnown key.etype
+usable_known key (inl h) = inl h.0
+usable_known key (inr h) = inr h.0
+
+module _ (facts : Facts) (setup : Setup) (history : List Arrival) (moment : ℤ) (cache : Cache) (service : Principal) (at : ℤ) (confounder : List ℕ)
+    (options : RequestOptions) (bytes : List ℕ) (awaited : Awaited) (part : ValueOf enc_ticket_part)
+    (request : IsRequest cache service at confounder options bytes awaited) where
+  abbrev credential : Credential
+  credential = request.credential
+
+  abbrev built : IsBuilt credential at confounder options bytes
+  built = request.built
+
+  abbrev auth : ValueOf authenticator
+  auth = authenticator_for credential built.text_is.told.ctime built.text_is.told.cusec options
+
+  abbrev message : ValueOf ap_req
+  message = request_for credential options built.ticket built.text
+
+  opens_part : HasTicket setup credential built.ticket part → OpensAs (session_key part) authenticator_usage built.text authenticator auth
+  opens_part has = subst (λ (k : KeyValue). OpensAs k authenticator_usage built.text authenticator auth) (sym has.key) (record {
+    plain = built.text_is.plain;
+    opens = sealed_opens (credential_key credential) authenticator_usage confounder built.text_is.plain built.text built.text_is.text_is;
+    message = built.text_is.told.plain_is.message;
+  })
+
+  opened : HasTicket setup credential built.ticket part → OpenedAs setup bytes message part auth
+  opened has = record {
+    authenticated = record {
+      ticketed = record {
+        entry = has.entry;
+        keyed = record {
+          asks = record {
+            message = built.bytes_are.message;
+            ordinary = ordinary options.mutual;
+            known = chosen_known has.entry _ (usable_known (record { etype = has.entry.etype; bytes = has.entry.key }) has.chosen_is.candidate.key_of.usable) has.chosen_is.candidate.key_of.same_etype;
+          };
+          chosen_is = has.chosen_is;
+        };
+        opens = has.opens;
+      };
+      usable = subst IsUsable (sym has.key) request.used.fit.usable_for.usable;
+      opens = record { same_type = ap (λ (k : KeyValue). k.etype) (sym has.key); opens = opens_part has };
+    };
+    same_client = record { realm = has.client.realm; components = has.client.components };
+  }
+
+  abbrev taken : Taken
+  taken = taken_from message part auth
+
+  accept : HasTicket setup credential built.ticket part → MayBeTaken setup history moment at built.ticket part → Accept setup history (arrival bytes moment) taken
+  accept has may = record {
+    request = message;
+    part = part;
+    auth = auth;
+    opened = opened has;
+    near = subst (λ (t : ℤ). Near t (effective history moment) setup.skew) built.text_is.told.at_is may.near;
+    unshown = subst (λ (t : ℤ). ¬ IsShown setup history (stamp_at (ticket_service built.ticket) (part_client part) t)) built.text_is.told.at_is may.unshown;
+    alive = may.alive;
+    trusted = may.trusted;
+    ignorable = record { of_ticket = may.ignorable; of_authenticator = tt };
+    taken_is = refl;
+  }
+
+  agrees : HasTicket setup credential built.ticket part → Agrees taken awaited
+  agrees has = subst (λ (a : Awaited). Agrees taken a) (sym request.awaited_is) (record {
+    client = record { realm = has.client.realm; components = has.client.components };
+    key = has.key;
+    at = sym built.text_is.told.at_is;
+    subkey = refl;
+    seq = refl;
+  })
+
+  -- with the ticket that was built in
+  pub accepted : HasTicket setup credential built.ticket part → MayBeTaken setup history moment at built.ticket part
+      → (t : Taken) × Accept setup history (arrival bytes moment) t × (t.client ≡ part_client part) × (t.wants_reply ≡ options.mutual) × Agrees t awaited
+  accepted has may = (taken, accept has may, refl, asked options.mutual, agrees has)
+
+  pub accepted_by : (ticket : ValueOf ticket_kind) → HasTicket setup credential ticket part → MayBeTaken setup history moment at ticket part
+      → (t : Taken) × Accept setup history (arrival bytes moment) t × (t.client ≡ part_client part) × (t.wants_reply ≡ options.mutual) × Agrees t awaited
+  accepted_by ticket has may =
+      let same : ticket ≡ built.ticket = facts.one_value ticket_kind is_ticket ticket built.ticket credential.ticket has.ticket_is built.ticket_is in
+      accepted (subst (λ (t : ValueOf ticket_kind). HasTicket setup credential t part) same has)
+      (subst (λ (t : ValueOf ticket_kind). MayBeTaken setup history moment at t part) same may)

@@ -1,0 +1,8 @@
+use Rattle.krb_ap.proofs.Finishing.{one_agreement, agreed_or_refused}
+use Rattle.krb_ap.proofs.laws.agreed_or_refused.Goals as goal
+
+pub returns-clause-one : goal.returns-clause-one
+returns-clause-one c = λ awaited bytes one other. one_agreement c.facts.ensures awaited bytes one other
+
+pub returns-clause-apart : goal.returns-clause-apart
+returns-clause-apart c = λ awaited bytes agreement fault. agreed_or_refused c.facts.ensures awaited bytes agreement fault

@@ -1,0 +1,60 @@
+use Rattle.std.proofs.Common.{ap, sym, subst, ◌∙◌}
+use Rattle.std.specs.Option.{option_map}
+use Rattle.krb_der.specs.Kind.{ValueOf}
+use Rattle.krb_msg.specs.Borrowed.{ap_rep_of, enc_ap_rep_part_of}
+use Rattle.krb_msg.specs.Module.{enc_ap_rep_part}
+use Rattle.krb_msg.specs.Owned.{owned_key_of}
+use Rattle.krb_ap.specs.Request.{Awaited}
+use Rattle.krb_ap.specs.Finish.{FinishCause, OpensReply}
+use Rattle.krb_ap.specs.declared.finish_fault.FinishFault.{FinishFault}
+use Rattle.krb_ap.proofs.Truth.{is_so, is_not}
+use Rattle.krb_ap.proofs.Finishing.{reply_shut, of_another, opens_reply, opens_to_other, copied_agreement}
+use Rattle.krb_ap.proofs.pending.Pending.finish.Goals as goal
+
+pub returns-in-Err-clause-fault : goal.returns-in-Err-clause-fault
+returns-in-Err-clause-fault c = λ named. c.in-Err.ensures.refused _
+
+pub returns-in-Err-open_reply-clause-fault : goal.returns-in-Err-open_reply-clause-fault
+returns-in-Err-open_reply-clause-fault c = λ named.
+    subst (λ (f : FinishFault). FinishCause c.args.self.now c.args.reply.now f) (sym (c.in-Err-open_reply.ensures.shut named).0)
+    (reply_shut c.facts.ensures c.args.self.now c.args.reply.now (ap_rep_of c.in-Ok.message) c.in-Ok.ensures.read
+    (subst (λ (a : Awaited). (part : ValueOf enc_ap_rep_part) → ¬ OpensReply a.key (ap_rep_of c.in-Ok.message) part) c.self.view_is
+    (c.in-Err-open_reply.ensures.shut named).1))
+
+pub returns-in-Err-parse-clause-fault : goal.returns-in-Err-parse-clause-fault
+returns-in-Err-parse-clause-fault c = λ named.
+    reply_shut c.facts.ensures c.args.self.now c.args.reply.now (ap_rep_of c.in-Ok.message) c.in-Ok.ensures.read
+    (subst (λ (a : Awaited). (part : ValueOf enc_ap_rep_part) → ¬ OpensReply a.key (ap_rep_of c.in-Ok.message) part) c.self.view_is
+    (opens_to_other c.facts.ensures c.self.inside.key (ap_rep_of c.in-Ok.message) _ _ c.as_slice.ensures.value c.in-Ok-open_reply.ensures.opened c.in-Err-parse.ensures.only))
+
+pub returns-then-not-is_at-clause-fault : goal.returns-then-not-is_at-clause-fault
+returns-then-not-is_at-clause-fault c = λ named.
+    of_another c.facts.ensures c.args.self.now c.args.reply.now (enc_ap_rep_part_of c.in-Ok-parse.part)
+    (record {
+      reply = ap_rep_of c.in-Ok.message;
+      message = c.in-Ok.ensures.read;
+      opens = subst (λ (a : Awaited). OpensReply a.key (ap_rep_of c.in-Ok.message) (enc_ap_rep_part_of c.in-Ok-parse.part)) c.self.view_is
+          (opens_reply c.self.inside.key (ap_rep_of c.in-Ok.message) _ _ (enc_ap_rep_part_of c.in-Ok-parse.part)
+          c.in-Ok-open_reply.ensures.same_type c.as_slice.ensures.value c.in-Ok-open_reply.ensures.opened c.in-Ok-parse.ensures.found);
+    })
+    (λ same. is_not _ _ c.is_at.ensures c.if-not-is_at.true (same ∙ sym (ap (λ (a : Awaited). a.at) c.self.view_is)))
+
+pub returns-clause-agreed : goal.returns-clause-agreed
+returns-clause-agreed c = record {
+  part = enc_ap_rep_part_of c.in-Ok-parse.part;
+  opened = record {
+    reply = ap_rep_of c.in-Ok.message;
+    message = c.in-Ok.ensures.read;
+    opens = subst (λ (a : Awaited). OpensReply a.key (ap_rep_of c.in-Ok.message) (enc_ap_rep_part_of c.in-Ok-parse.part)) c.self.view_is
+        (opens_reply c.self.inside.key (ap_rep_of c.in-Ok.message) _ _ (enc_ap_rep_part_of c.in-Ok-parse.part)
+        c.in-Ok-open_reply.ensures.same_type c.as_slice.ensures.value c.in-Ok-open_reply.ensures.opened c.in-Ok-parse.ensures.found);
+  };
+  same = is_so _ _ c.is_at.ensures c.if-not-is_at.false ∙ ap (λ (a : Awaited). a.at) c.self.view_is;
+  agreement_is = copied_agreement c.args.self.now (enc_ap_rep_part_of c.in-Ok-parse.part) c.in_ok-clone.field-0 c.same_key.result c.own_key.result c.self.inside.seq
+      (option_map owned_key_of c.in_ok-owned_key.field-0)
+      (c.in_ok-clone.ensures.cases ∙ ap (λ (a : Awaited). a.client) c.self.view_is)
+      (c.same_key.ensures ∙ ap (λ (a : Awaited). a.key) c.self.view_is)
+      (c.own_key.ensures ∙ ap (λ (a : Awaited). a.subkey) c.self.view_is)
+      (ap (λ (a : Awaited). a.seq) c.self.view_is)
+      c.in_ok-owned_key.ensures;
+}

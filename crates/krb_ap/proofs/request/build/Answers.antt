@@ -1,0 +1,46 @@
+use Rattle.std.proofs.Common.{refl, ◌∙◌, subst, ◌<◌}
+use Rattle.krb_der.specs.Kind.{ValueOf}
+use Rattle.krb_der.specs.Size.{size_of}
+use Rattle.krb_der.specs.Spells.{limit}
+use Rattle.krb_msg.specs.Borrowed.{ticket_of}
+use Rattle.krb_msg.specs.Module.{ap_req}
+use Rattle.krb_ap.specs.Opened.{authenticator_usage}
+use Rattle.krb_ap.specs.Written.{IsWritten}
+use Rattle.krb_ap.specs.Credentials.{credential_key}
+use Rattle.krb_ap.proofs.Building.{copied_request, sealed_by, told_type, too_long_to_build}
+use Rattle.krb_ap.proofs.request.build.Goals as goal
+
+pub returns-in-Err-clause-fault : goal.returns-in-Err-clause-fault
+returns-in-Err-clause-fault c = λ named. ((c.in-Err.ensures.fault named).0, λ bytes b. (c.in-Err.ensures.fault named).1 b.text_is.plain b.text_is.told)
+
+pub returns-in-Ok-encode-clause-built : goal.returns-in-Ok-encode-clause-built
+returns-in-Ok-encode-clause-built c = record {
+  ticket = ticket_of c.args.ticket.now;
+  ticket_is = c.requires.ticket;
+  text = c.in_ok-cipher.cipher.items;
+  text_is = record {
+    plain = c.in-Ok.plain.items;
+    told = c.in-Ok.ensures.told;
+    text_is = sealed_by _ (credential_key c.args.credential.now) authenticator_usage _ _ _ _ c.requires.key c.deref.ensures.value c.in_ok-cipher.ensures.sealed;
+  };
+  bytes_are = subst (λ (v : ValueOf ap_req). IsWritten ap_req v c.in-Ok-encode.bytes.items)
+      (copied_request c.args.credential.now c.args.options.now (ticket_of c.args.ticket.now) c.in_ok-cipher.cipher.items _ _ _
+      c.flags.ensures c.in_ok-to_owned.ensures (c.encrypted.ensures ∙ told_type c.args.credential.now c.args.key.now c.in_ok-cipher.cipher.items c.requires.key))
+      (record { message = c.in-Ok-encode.ensures.ok; written = c.in-Ok-encode.ensures.written });
+}
+
+pub returns-in-Err-TooLong-clause-fault : goal.returns-in-Err-TooLong-clause-fault
+returns-in-Err-TooLong-clause-fault c = λ named. (
+  refl,
+  too_long_to_build c.writing.ensures c.args.credential.now c.args.at c.args.options.now c.facts.ensures c.args.confounder.now c.in_ok-cipher.cipher.items
+      (ticket_of c.args.ticket.now) c.requires.ticket
+      (record {
+        plain = c.in-Ok.plain.items;
+        told = c.in-Ok.ensures.told;
+        text_is = sealed_by _ (credential_key c.args.credential.now) authenticator_usage _ _ _ _ c.requires.key c.deref.ensures.value c.in_ok-cipher.ensures.sealed;
+      })
+      (subst (λ (v : ValueOf ap_req). limit < size_of ap_req v)
+      (copied_request c.args.credential.now c.args.options.now (ticket_of c.args.ticket.now) c.in_ok-cipher.cipher.items _ _ _
+      c.flags.ensures c.in_ok-to_owned.ensures (c.encrypted.ensures ∙ told_type c.args.credential.now c.args.key.now c.in_ok-cipher.cipher.items c.requires.key))
+      ((rw c.in-Err-TooLong.field-0-is at c.in-Err-TooLong.ensures.too_long) refl)),
+)

@@ -1,0 +1,48 @@
+-- When a service accepts the request that a client built, and what both then agree on (RFC 4120, sections 3.2.2 and 3.2.3).
+use Rattle.std.specs.Prelude.{◌≡◌, ◌⊎◌, ℤ, List}
+use Rattle.std.specs.Option.{option_map}
+use Rattle.krb_name.specs.Name.{SameName}
+use Rattle.krb_der.specs.Kind.{ValueOf}
+use Rattle.krb_der.specs.Spells.{IsMessage}
+use Rattle.krb_der.specs.Flags.{HasBit}
+use Rattle.krb_msg.specs.Bits.{transited_policy_checked}
+use Rattle.krb_msg.specs.Module.{ticket as ticket_kind, enc_ticket_part}
+use Rattle.krb_msg.specs.Fields.{ticket_service, realm_of, enc_part_of, etype_of, kvno_of, cipher_of, part_client, crealm_of, flags_of, authorization_of}
+use Rattle.krb_msg.specs.Moments.{micros_of}
+use Rattle.krb_keytab.specs.Entry.{KeytabEntry}
+use Rattle.krb_keytab.specs.Pick.{chosen, IsChoice}
+use Rattle.krb_ccache.specs.declared.credential.Credential.{Credential}
+use Rattle.krb_ap.specs.Setup.{Setup, Arrival}
+use Rattle.krb_ap.specs.Opened.{OpensAs, entry_key, session_key, stamp_at, ticket_usage}
+use Rattle.krb_ap.specs.Times.{Near, Alive, MayBeIgnored}
+use Rattle.krb_ap.specs.History.{effective, IsShown}
+use Rattle.krb_ap.specs.Taken.{Taken}
+use Rattle.krb_ap.specs.Written.{key_value}
+use Rattle.krb_ap.specs.Credentials.{credential_key}
+use Rattle.krb_ap.specs.Request.{Awaited}
+
+-- the key that the keytab has for the credential's ticket opens it to this part, which has the credential's client and key
+pub record HasTicket (setup : Setup) (credential : Credential) (ticket : ValueOf ticket_kind) (part : ValueOf enc_ticket_part) : Type 0 where
+  pub ticket_is : IsMessage ticket_kind ticket credential.ticket
+  pub entry : KeytabEntry
+  pub chosen_is : IsChoice setup.entries (ticket_service ticket) (etype_of (enc_part_of ticket)) (kvno_of (enc_part_of ticket)) (chosen entry)
+  pub opens : OpensAs (entry_key entry) ticket_usage (cipher_of (enc_part_of ticket)) enc_ticket_part part
+  pub client : SameName (part_client part) credential.client
+  pub key : session_key part ≡ credential_key credential
+
+-- after a history the request's moment and the ticket's times are good, nothing else is asked of the ticket, and no request of these
+-- names and this moment was shown
+pub record MayBeTaken (setup : Setup) (history : List Arrival) (moment at : ℤ) (ticket : ValueOf ticket_kind) (part : ValueOf enc_ticket_part) : Type 0 where
+  pub near : Near at (effective history moment) setup.skew
+  pub alive : Alive part (effective history moment) setup.skew
+  pub trusted : (crealm_of part ≡ realm_of ticket) ⊎ HasBit (flags_of part) transited_policy_checked
+  pub ignorable : MayBeIgnored (authorization_of part)
+  pub unshown : ¬ IsShown setup history (stamp_at (ticket_service ticket) (part_client part) at)
+
+-- what the service knows is what the client awaits: its own name (of the ticket's name type), key, moment, subkey and sequence number
+pub record Agrees (taken : Taken) (awaited : Awaited) : Type 0 where
+  pub client : SameName taken.client awaited.client
+  pub key : taken.session_key ≡ awaited.key
+  pub at : micros_of taken.ctime taken.cusec ≡ awaited.at
+  pub subkey : taken.subkey ≡ option_map key_value awaited.subkey
+  pub seq : taken.seq ≡ awaited.seq

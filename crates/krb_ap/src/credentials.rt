@@ -1,0 +1,88 @@
+//! The choice of a credential of a cache. It takes no memory.
+
+ghost use Rattle.std.specs.Prelude.{◌↔◌, All, IsTrue, IfOk, IfErr, IfSome, IfNone};
+ghost use Rattle.krb_ap.specs.Credentials.{IsFor, IsUsableFor, IsFit, IsUsed, IsWanting, HasCredential};
+
+use crate::request_fault::RequestFault;
+use krb_ccache::{CCache, Credential};
+use krb_enc::Key;
+use krb_msg::{Moment, Principal};
+
+/// The credential that is used for a service at a moment, or what is wanting.
+pub(crate) fn used<'a>(
+    cache: &'a CCache,
+    service: &Principal,
+    at: Moment,
+) -> Result<&'a Credential, RequestFault>
+    ensures used { IfOk result (λ credential. IsUsed cache.now service.now at credential.now) }
+    ensures wanting { IfErr result (IsWanting cache.now service.now at) }
+{
+    if let Some(credential) = first_fit(cache, service, at) {
+        return Ok(credential);
+    }
+    if has_usable(cache, service) {
+        return Err(RequestFault::Expired);
+    }
+    if has_any(cache, service) {
+        return Err(RequestFault::NoUsableKey);
+    }
+    Err(RequestFault::NoCredential)
+}
+
+fn first_fit<'a>(cache: &'a CCache, service: &Principal, at: Moment) -> Option<&'a Credential>
+    ensures some { IfSome result (λ credential. IsUsed cache.now service.now at credential.now) }
+    ensures none { IfNone result (All (λ one. ¬ IsFit cache.now service.now at one) cache.now.credentials) }
+{
+    for credential in cache.credentials() {
+        if is_fit(cache, service, at, credential) {
+            return Some(credential);
+        }
+    }
+    None
+}
+
+fn has_usable(cache: &CCache, service: &Principal) -> bool
+    ensures some { IsTrue result → HasCredential (IsUsableFor cache.now service.now) cache.now.credentials }
+    ensures none { (IsTrue result → ⊥) → All (λ one. ¬ IsUsableFor cache.now service.now one) cache.now.credentials }
+{
+    for credential in cache.credentials() {
+        if is_usable_for(cache, service, credential) {
+            return true;
+        }
+    }
+    false
+}
+
+fn has_any(cache: &CCache, service: &Principal) -> bool
+    ensures some { IsTrue result → HasCredential (IsFor cache.now service.now) cache.now.credentials }
+    ensures none { (IsTrue result → ⊥) → All (λ one. ¬ IsFor cache.now service.now one) cache.now.credentials }
+{
+    for credential in cache.credentials() {
+        if is_for(cache, service, credential) {
+            return true;
+        }
+    }
+    false
+}
+
+fn is_fit(cache: &CCache, service: &Principal, at: Moment, credential: &Credential) -> bool
+    ensures { IsTrue result ↔ IsFit cache.now service.now at credential.now }
+{
+    is_usable_for(cache, service, credential)
+        && at.micros() < 1_000_000 * i64::from(credential.endtime)
+}
+
+fn is_usable_for(cache: &CCache, service: &Principal, credential: &Credential) -> bool
+    ensures { IsTrue result ↔ IsUsableFor cache.now service.now credential.now }
+{
+    is_for(cache, service, credential)
+        && Key::new(i32::from(credential.etype), credential.key.as_slice()).is_ok()
+}
+
+fn is_for(cache: &CCache, service: &Principal, credential: &Credential) -> bool
+    ensures { IsTrue result ↔ IsFor cache.now service.now credential.now }
+{
+    !CCache::is_configuration(credential)
+        && credential.client.same_name(cache.default_principal())
+        && credential.server.same_name(service)
+}

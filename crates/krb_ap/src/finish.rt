@@ -1,0 +1,123 @@
+//! The client's side: a reply is read.
+
+ghost use Rattle.std.specs.Prelude.{◌≡◌, ◌≢◌, ◌↔◌, IfOk, IfErr, IsTrue, OnOk};
+ghost use Rattle.krb_der.specs.Kind.{ValueOf};
+ghost use Rattle.krb_der.specs.Spells.{IsMessage};
+ghost use Rattle.krb_enc.specs.Key.{profile_of};
+ghost use Rattle.krb_enc.specs.Opens.{Opens};
+ghost use Rattle.krb_msg.specs.Borrowed.{ap_rep_of, enc_ap_rep_part_of};
+ghost use Rattle.krb_msg.specs.Fields.{cipher_of, etype_of, reply_enc_part};
+ghost use Rattle.krb_msg.specs.Module.{ap_rep, enc_ap_rep_part};
+ghost use Rattle.krb_ap.specs.Finish.{FinishCause, IsAgreed, OpensReply, agreement_of, repeated_at};
+ghost use Rattle.krb_ap.specs.Reply.{reply_usage};
+ghost use Rattle.krb_ap.specs.Request.{Awaited};
+ghost use Rattle.krb_ap.specs.declared.finish_fault.FinishFault.TheVariants.{Integrity, OutOfMemory};
+
+use crate::finish_fault::FinishFault;
+use crate::inner_laws::facts;
+use crate::keys::{own_key, owned_key, same_key};
+use crate::opening::begins_otherwise;
+use crate::pending::Pending;
+use krb_enc::{Key, OpenFault};
+use krb_msg::{ApRepRef, EncApRepRef, Moment, Principal, RawKey};
+use std::alloc::Global;
+
+const REPLY_USAGE: u32 = 12;
+
+/// What a client and a service agree on, as the client holds it. There is no `Debug`, so that no log shows a key.
+#[derive(Drop)]
+pub struct Agreed {
+    /// The client.
+    pub client: Principal,
+    /// The key that client and service share, from the ticket.
+    pub session_key: Key,
+    /// The key that the client chose for this session.
+    pub subkey: Option<Key>,
+    /// The client's first sequence number.
+    pub seq: Option<u32>,
+    /// The key that the service chose for this session, of any type.
+    pub service_subkey: Option<RawKey>,
+    /// The service's first sequence number.
+    pub service_seq: Option<u32>,
+}
+
+impl Pending {
+    /// Reads the service's reply, and answers what both sides agree on (RFC 4120, section 3.2.5).
+    ///
+    /// The request still waits afterwards. Two requests of one moment under one key can't be told apart by a reply.
+    ///
+    /// # Errors
+    /// The first that holds, or `OutOfMemory`:
+    /// - `MessageType`: there is a first byte, and it isn't 0x6f.
+    /// - `Malformed`: the bytes are no `AP-REP`, with the fault.
+    /// - `Integrity`: the reply is sealed for another type than the session key's, or doesn't open under it to one `EncAPRepPart`.
+    /// - `Mismatch`: its time isn't the request's, to the microsecond.
+    pub fn finish(&self, alloc: Global, reply: &[u8]) -> Result<Agreed, FinishFault>
+        ensures agreed { IfOk result (λ agreed. IsAgreed self.now reply.now (agreement_of agreed)) }
+        ensures fault { IfErr result (λ fault. fault ≢ OutOfMemory → FinishCause self.now reply.now fault) }
+    {
+        facts();
+        let message = match read_reply(reply) {
+            Ok(message) => message,
+            Err(fault) => return Err(fault),
+        };
+        let plain = match open_reply(alloc, &self.key, &message) {
+            Ok(plain) => plain,
+            Err(fault) => return Err(fault),
+        };
+        let part = match EncApRepRef::parse(plain.as_slice()) {
+            Ok(part) => part,
+            Err(_) => return Err(FinishFault::Integrity),
+        };
+        if !is_at(&part, self.at) {
+            return Err(FinishFault::Mismatch);
+        }
+        Ok(Agreed {
+            client: self.client.clone()?,
+            session_key: same_key(&self.key),
+            subkey: own_key(&self.subkey),
+            seq: self.seq,
+            service_subkey: owned_key(alloc, &part.subkey)?,
+            service_seq: part.seq_number,
+        })
+    }
+}
+
+// It takes no memory.
+fn read_reply<'a>(bytes: &'a [u8]) -> Result<ApRepRef<'a>, FinishFault>
+    ensures read { IfOk result (λ reply. IsMessage ap_rep (ap_rep_of reply) bytes.entry.now) }
+    ensures refused { IfErr result (λ fault. (awaited : Awaited) → FinishCause awaited bytes.entry.now fault) }
+{
+    if begins_otherwise(bytes, 0x6f) {
+        return Err(FinishFault::MessageType);
+    }
+    match ApRepRef::parse(bytes) {
+        Ok(reply) => Ok(reply),
+        Err(fault) => Err(FinishFault::Malformed(fault)),
+    }
+}
+
+// What a reply opens to.
+fn open_reply(alloc: Global, key: &Key, reply: &ApRepRef) -> Result<Vec<u8>, FinishFault>
+    ensures same_type { OnOk result (etype_of (reply_enc_part (ap_rep_of reply.now)) ≡ key.now.etype) }
+    ensures opened { IfOk result (λ plain.
+        Opens (profile_of key.now) key.now.bytes reply_usage (cipher_of (reply_enc_part (ap_rep_of reply.now))) plain.items) }
+    ensures shut { IfErr result (λ fault. fault ≢ OutOfMemory → (fault ≡ Integrity)
+        × ((part : ValueOf enc_ap_rep_part) → ¬ OpensReply key.now (ap_rep_of reply.now) part)) }
+{
+    if reply.enc_part.etype != key.etype() {
+        return Err(FinishFault::Integrity);
+    }
+    match key.open(alloc, REPLY_USAGE, reply.enc_part.cipher) {
+        Ok(plain) => Ok(plain),
+        Err(OpenFault::OutOfMemory) => Err(FinishFault::OutOfMemory),
+        Err(OpenFault::Short) => Err(FinishFault::Integrity),
+        Err(OpenFault::Integrity) => Err(FinishFault::Integrity),
+    }
+}
+
+fn is_at(part: &EncApRepRef, at: Moment) -> bool
+    ensures { IsTrue result ↔ (repeated_at (enc_ap_rep_part_of part.now) ≡ at) }
+{
+    Moment::at(part.ctime, part.cusec).micros() == at.micros()
+}

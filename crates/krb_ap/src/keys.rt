@@ -1,0 +1,84 @@
+//! Copies of keys, and what is sealed under a key.
+
+ghost use Rattle.std.specs.Prelude.{◌≡◌, ◌≤◌, ◌+◌, None, IfOk, IfSome, OnOk, length};
+ghost use Rattle.krb_enc.specs.Key.{IsUsable};
+ghost use Rattle.krb_msg.specs.Borrowed.{key_of};
+ghost use Rattle.std.specs.Option.{option_map};
+ghost use Rattle.krb_msg.specs.Fields.{encrypted_value};
+ghost use Rattle.krb_msg.specs.Owned.{owned_encrypted_of, owned_key_of};
+ghost use Rattle.krb_ap.specs.Written.{IsSealed, key_value};
+
+use krb_enc::Key;
+use krb_msg::{Encrypted, KeyRef, RawKey};
+use std::alloc::{AllocError, Global};
+
+/// A copy of a key, where there is one, as messages carry it.
+pub(crate) fn raw_key(alloc: Global, key: &Option<Key>) -> Result<Option<RawKey>, AllocError>
+    ensures value { IfOk result (λ made. option_map owned_key_of made ≡ option_map key_value key.now) }
+    ensures usable { OnOk result (IfSome key.now IsUsable) }
+{
+    match key {
+        Some(key) => Ok(Some(RawKey {
+            etype: key.etype(),
+            bytes: key.bytes().to_vec(alloc)?,
+        })),
+        None => Ok(None),
+    }
+}
+
+/// A copy of a message's key, where there is one.
+pub(crate) fn owned_key(alloc: Global, key: &Option<KeyRef>) -> Result<Option<RawKey>, AllocError>
+    ensures { IfOk result (λ made. option_map owned_key_of made ≡ option_map key_of key.now) }
+{
+    match key {
+        Some(key) => Ok(Some(key.to_owned(alloc)?)),
+        None => Ok(None),
+    }
+}
+
+/// A copy of a key. It takes no memory.
+pub(crate) fn same_key(key: &Key) -> Key
+    ensures { result ≡ key.now }
+{
+    match Key::new(key.etype(), key.bytes()) {
+        Ok(key) => key,
+        Err(_) => unreachable!(),
+    }
+}
+
+/// A copy of a key, where there is one. It takes no memory.
+pub(crate) fn own_key(key: &Option<Key>) -> Option<Key>
+    ensures { result ≡ key.now }
+{
+    match key {
+        Some(key) => Some(same_key(key)),
+        None => None,
+    }
+}
+
+/// Seals a plain text.
+pub(crate) fn seal(
+    alloc: Global,
+    key: &Key,
+    usage: u32,
+    confounder: &[u8; 16],
+    plain: &[u8],
+) -> Result<Vec<u8>, AllocError>
+    ensures sealed { IfOk result (λ text. IsSealed key.now usage confounder.now plain.now text.items) }
+    ensures length { IfOk result (λ text. length text.items ≤ 40 + length plain.now) }
+{
+    krb_enc::laws::each_profile_is_known();
+    krb_enc::laws::sealed_lengths();
+    Ok(key.seal(alloc, usage, confounder, plain)?)
+}
+
+/// What was sealed under a key, with the key's type and without a version number.
+pub(crate) fn encrypted(key: &Key, cipher: Vec<u8>) -> Encrypted
+    ensures { owned_encrypted_of result ≡ encrypted_value (record { etype = key.now.etype; kvno = None; cipher = cipher.items }) }
+{
+    Encrypted {
+        etype: key.etype(),
+        kvno: None,
+        cipher,
+    }
+}

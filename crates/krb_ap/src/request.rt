@@ -1,0 +1,167 @@
+//! The client's side: a request is built.
+
+ghost use Rattle.std.specs.Prelude.{◌≡◌, ◌≢◌, ℕ, List, IfOk, IfErr};
+ghost use Rattle.krb_enc.specs.Key.{IsUsable};
+ghost use Rattle.krb_der.specs.Spells.{IsMessage};
+ghost use Rattle.krb_msg.specs.Borrowed.{ticket_of};
+ghost use Rattle.krb_msg.specs.Module.{ticket as ticket_kind};
+ghost use Rattle.krb_ap.specs.Credentials.{credential_key};
+ghost use Rattle.krb_ap.specs.Request.{IsBuilt, IsPlain, IsRequest, Prevents, options_for};
+ghost use Rattle.krb_ap.specs.declared.request_fault.RequestFault.TheVariants.{TooLong, OutOfMemory};
+
+use crate::credentials::used;
+use crate::inner_laws::{facts, writing};
+use crate::keys::{encrypted, raw_key, seal};
+use crate::pending::Pending;
+use crate::request_fault::RequestFault;
+use krb_ccache::{CCache, Credential};
+use krb_enc::Key;
+use krb_msg::{
+    ApReq, Authenticator, EncodeFault, Flags, MUTUAL_REQUIRED, Moment, Principal, TicketRef,
+};
+use std::alloc::Global;
+
+const AUTHENTICATOR_USAGE: u32 = 11;
+
+/// What a client chooses for a request. There is no `Debug`, so that no log shows a key.
+#[derive(Drop)]
+pub struct RequestOptions {
+    /// Whether the client asks for a reply (mutual-required of RFC 4120, section 5.5.1).
+    pub mutual: bool,
+    /// A key for this session.
+    pub subkey: Option<Key>,
+    /// The client's first sequence number.
+    pub seq: Option<u32>,
+}
+
+/// Builds a request for `service` with the first credential of `cache` that fits: a ticket of the cache's default principal for
+/// the service (no configuration entry) whose session key is usable, and that ends later than `at`.
+///
+/// `at` is the client's clock, and `confounder` is 16 random bytes, new for each call. The authenticator tells the credential's
+/// client, `at`, and the options' subkey and sequence number. The request has the ticket, and no option but mutual-required.
+///
+/// # Errors
+/// The one that holds, or `OutOfMemory`:
+/// - `NoCredential`: the cache has no ticket of its default principal for the service.
+/// - `NoUsableKey`: of these, none has a usable session key.
+/// - `Expired`: of those that have, none ends later than `at`.
+/// - `BadTicket`: the bytes that the credential has for a ticket are none.
+/// - `TooLong`: the request, or its authenticator, would have more than 1,048,576 bytes.
+///
+/// Source: RFC 4120, sections 3.2.2 and 5.5.1.
+pub fn make_request(
+    alloc: Global,
+    cache: &CCache,
+    service: &Principal,
+    at: Moment,
+    confounder: &[u8; 16],
+    options: RequestOptions,
+) -> Result<(Vec<u8>, Pending), RequestFault>
+    ensures request { IfOk result (λ made. IsRequest cache.now service.now at confounder.now options made.0.items made.1) }
+    ensures fault { IfErr result (λ fault. fault ≢ OutOfMemory
+        → Prevents cache.now service.now at confounder.now options fault) }
+{
+    let credential = used(cache, service, at)?;
+    let ticket = match TicketRef::parse(credential.ticket.as_slice()) {
+        Ok(ticket) => ticket,
+        Err(_) => return Err(RequestFault::BadTicket),
+    };
+    let key = session_key(credential);
+    let bytes = match build(alloc, credential, &key, &ticket, at, confounder, &options) {
+        Ok(bytes) => bytes,
+        Err(fault) => return Err(fault),
+    };
+    let pending = Pending {
+        client: credential.client.clone()?,
+        key,
+        at,
+        subkey: options.subkey,
+        seq: options.seq,
+    };
+    Ok((bytes, pending))
+}
+
+fn session_key(credential: &Credential) -> Key
+    requires { IsUsable (credential_key credential.now) }
+    ensures { result ≡ credential_key credential.now }
+{
+    match Key::new(i32::from(credential.etype), credential.key.as_slice()) {
+        Ok(key) => key,
+        Err(_) => unreachable!(),
+    }
+}
+
+// The request with this ticket.
+fn build(
+    alloc: Global,
+    credential: &Credential,
+    key: &Key,
+    ticket: &TicketRef,
+    at: Moment,
+    confounder: &[u8; 16],
+    options: &RequestOptions,
+) -> Result<Vec<u8>, RequestFault>
+    requires key { key.now ≡ credential_key credential.now }
+    requires ticket { IsMessage ticket_kind (ticket_of ticket.now) credential.now.ticket }
+    ensures built { IfOk result (λ bytes. IsBuilt credential.now at confounder.now options.now bytes.items) }
+    ensures fault { IfErr result (λ fault. fault ≢ OutOfMemory → (fault ≡ TooLong)
+        × ((bytes : List ℕ) → ¬ IsBuilt credential.now at confounder.now options.now bytes)) }
+{
+    facts();
+    writing();
+    let plain = match authenticator(alloc, credential, at, options) {
+        Ok(plain) => plain,
+        Err(fault) => return Err(fault),
+    };
+    let cipher = seal(alloc, key, AUTHENTICATOR_USAGE, confounder, &plain)?;
+    let request = ApReq {
+        options: flags(options.mutual),
+        ticket: ticket.to_owned(alloc)?,
+        authenticator: encrypted(key, cipher),
+    };
+    match request.encode(alloc) {
+        Ok(bytes) => Ok(bytes),
+        Err(EncodeFault::TooLong) => Err(RequestFault::TooLong),
+        Err(EncodeFault::OutOfMemory) => Err(RequestFault::OutOfMemory),
+    }
+}
+
+fn flags(wants_reply: bool) -> Flags
+    ensures { result.0 ≡ options_for wants_reply }
+{
+    if wants_reply {
+        Flags::only(MUTUAL_REQUIRED)
+    } else {
+        Flags::none()
+    }
+}
+
+// The authenticator's bytes.
+fn authenticator(
+    alloc: Global,
+    credential: &Credential,
+    at: Moment,
+    options: &RequestOptions,
+) -> Result<Vec<u8>, RequestFault>
+    ensures told { IfOk result (λ plain. IsPlain credential.now at options.now plain.items) }
+    ensures fault { IfErr result (λ fault. fault ≢ OutOfMemory → (fault ≡ TooLong)
+        × ((plain : List ℕ) → ¬ IsPlain credential.now at options.now plain)) }
+{
+    writing();
+    let (ctime, cusec) = at.parts();
+    prove!(cusec.get() < 1_000_000);
+    let authenticator = Authenticator {
+        client: credential.client.clone()?,
+        checksum: None,
+        cusec,
+        ctime,
+        subkey: raw_key(alloc, &options.subkey)?,
+        seq_number: options.seq,
+        authorization: None,
+    };
+    match authenticator.encode(alloc) {
+        Ok(plain) => Ok(plain),
+        Err(EncodeFault::TooLong) => Err(RequestFault::TooLong),
+        Err(EncodeFault::OutOfMemory) => Err(RequestFault::OutOfMemory),
+    }
+}
