@@ -83,7 +83,8 @@ static void read_error(const krb5_data *message)
         print_refused(fault);
         return;
     }
-    printf("error %d %ld %d ", error.error_code, (long)error.stime, error.susec);
+    /* It reads the code as a number of the library's. */
+    printf("error %ld %ld %d ", (long)error.error_code - (long)KRB5KDC_ERR_NONE, (long)error.stime, error.susec);
     for (unsigned i = 0; i < error.sname.name_string.len; i++)
         printf("%s%s", i ? "/" : "", error.sname.name_string.val[i]);
     printf("@%s\n", error.realm);

@@ -17,17 +17,17 @@ class Trouble(Exception):
     """Something that no case asks for: the run is over."""
 
 
-def done(command, **more):
+def done(command, seconds=120, **more):
     """A command that was run to its end: its status and what it wrote."""
     try:
-        return subprocess.run([str(word) for word in command], stdout=subprocess.PIPE, stderr=subprocess.PIPE, timeout=120, text=True, **more)
+        return subprocess.run([str(word) for word in command], stdout=subprocess.PIPE, stderr=subprocess.PIPE, timeout=seconds, text=True, **more)
     except (OSError, subprocess.TimeoutExpired) as error:
         raise Trouble(str(error)) from None
 
 
-def ran(command, **more):
+def ran(command, seconds=120, **more):
     """Standard output of a command that ended well; else what it said is raised."""
-    it = done(command, **more)
+    it = done(command, seconds, **more)
     if it.returncode:
         raise Trouble(f"{' '.join(map(str, command))} ended with {it.returncode}: {(it.stdout + it.stderr)[-600:]!r}")
     return it.stdout

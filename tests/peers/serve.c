@@ -7,10 +7,10 @@
  * service's clock and an AP-REQ, and answers each like `krbtool accept`, with more words behind:
  *
  *     accepted {client} {etype of the session key} {ctime} {cusec} {mutual or plain} {pac or bare} {etype of the subkey, or none}
- *         {sequence number, or 0} {checksum or unsigned} {AP-REP in hex}
+ *         {sequence number, or 0} {checksum or unsigned} {etype of the reply's subkey, or none} {its number, or 0} {AP-REP in hex}
  *     refused {number} {text}
  *
- * The words number and subkey are for the AP-REP. MIT's replay cache is the one that KRB5RCACHENAME names; Heimdal's is KRB5RCACHENAME too.
+ * The words number and subkey are for the AP-REP. KRB5RCACHENAME names the replay cache.
  */
 #include "peer.h"
 
@@ -66,15 +66,40 @@ static krb5_error_code look(krb5_auth_context state, krb5_ticket *ticket, struct
 }
 #endif
 
+static void print_type(int etype)
+{
+    if (etype)
+        printf("%d ", etype);
+    else
+        printf("none ");
+}
+
 static void print_seen(const struct seen *seen, krb5_flags options)
 {
     printf("accepted %s %d %ld %d %s %s ", seen->client, seen->etype, seen->ctime, seen->cusec,
            options & AP_OPTS_MUTUAL_REQUIRED ? "mutual" : "plain", seen->has_pac ? "pac" : "bare");
-    if (seen->subkey)
-        printf("%d ", seen->subkey);
-    else
-        printf("none ");
+    print_type(seen->subkey);
     printf("%lu %s ", seen->number, seen->has_checksum ? "checksum" : "unsigned");
+}
+
+/* Makes the reply and prints it, behind the subkey and the number in it. (MIT's repeats the client's subkey where it has none of its own.) */
+static void print_reply(krb5_auth_context state)
+{
+    krb5_data reply;
+    krb5_keyblock *subkey = NULL;
+    int32_t number = 0;
+    must(krb5_mk_rep(context, state, &reply), "a reply");
+#ifdef HEIMDAL
+    must(krb5_auth_con_getlocalsubkey(context, state, &subkey), "its subkey");
+    print_type(subkey ? subkey->keytype : 0);
+#else
+    must(krb5_auth_con_getsendsubkey(context, state, &subkey), "its subkey");
+    print_type(subkey ? subkey->enctype : 0);
+#endif
+    must(krb5_auth_con_getlocalseqnumber(context, state, &number), "its number");
+    printf("%lu ", (unsigned long)(uint32_t)number);
+    print_hex(&reply);
+    printf("\n");
 }
 
 static krb5_auth_context new_state(int count, char **words)
@@ -96,7 +121,6 @@ static void serve(krb5_keytab keytab, krb5_principal service, const krb5_data *r
     krb5_auth_context state = new_state(count, words);
     krb5_ticket *ticket = NULL;
     krb5_flags options = 0;
-    krb5_data reply;
     struct seen seen;
     krb5_error_code fault = krb5_rd_req(context, &state, request, service, keytab, &options, &ticket);
     if (!fault)
@@ -106,9 +130,7 @@ static void serve(krb5_keytab keytab, krb5_principal service, const krb5_data *r
         return;
     }
     print_seen(&seen, options);
-    must(krb5_mk_rep(context, state, &reply), "a reply");
-    print_hex(&reply);
-    printf("\n");
+    print_reply(state);
 }
 
 int main(int count, char **words)
