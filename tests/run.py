@@ -18,6 +18,9 @@ A case is a table [[case]] of a TOML file:
     status  its exit status (0 where left out)
     after   files that must lie there afterwards, as hex digits or "@PATH"
     output  "full": standard output is /dev/full; "closed": it is closed
+    closed  the standard streams that are closed before it starts, as their numbers
+    umask   the umask that it runs under, in octal (022 where left out)
+    modes   the modes of files afterwards, in octal; files that lie there before have 640
 
 The last line is 'N passed, M failed'.
 """
@@ -39,7 +42,7 @@ import generated  # noqa: E402
 import msg_rules  # noqa: E402
 import peers  # noqa: E402
 
-KEYS = set("name args files folders stdin stdout stdout_begins stderr stderr_begins status after output".split())
+KEYS = set("name args files folders stdin stdout stdout_begins stderr stderr_begins status after output closed umask modes".split())
 
 
 def content(text):
@@ -72,13 +75,24 @@ def difference(case, ran, room):
     if "stderr_begins" in case:
         if not ran.stderr.startswith(case["stderr_begins"].encode()):
             return f"standard error {ran.stderr[:400]!r} doesn't begin {case['stderr_begins']!r}"
-    elif ran.stderr != case.get("stderr", "").encode():
+    elif 2 not in case.get("closed", []) and ran.stderr != case.get("stderr", "").encode():
         return f"standard error {ran.stderr[:400]!r}, not {case.get('stderr', '')!r}"
     for name, text in case.get("after", {}).items():
         found = (room / name).read_bytes() if (room / name).is_file() else None
         if found != content(text):
             return f"the file {name} is {found!r}"
+    for name, wanted in case.get("modes", {}).items():
+        mode = (room / name).stat().st_mode & 0o7777
+        if mode != int(wanted, 8):
+            return f"the file {name} has the mode {mode:o}, not {wanted}"
     return None
+
+
+def started(program, case):
+    """The words that start the program as the case asks: with streams closed, under a umask."""
+    closed = [1] if case.get("output") == "closed" else case.get("closed", [])
+    shut = "".join(f" {number}>&-" for number in closed)
+    return ["sh", "-c", f'umask {case.get("umask", "022")}; exec "$@"{shut}', "sh", program, *case["args"]]
 
 
 def run(program, case):
@@ -86,16 +100,14 @@ def run(program, case):
         room = Path(folder)
         for name, text in case.get("files", {}).items():
             (room / name).write_bytes(content(text))
+            (room / name).chmod(0o640)
         for name in case.get("folders", []):
             (room / name).mkdir()
         stdin = case.get("stdin", "")
         given = content(stdin) if isinstance(stdin, bytes) or stdin.startswith("@") else stdin.encode()
         out = open("/dev/full", "wb") if case.get("output") == "full" else subprocess.PIPE
-        command = [program, *case["args"]]
-        if case.get("output") == "closed":
-            command = ["sh", "-c", 'exec "$@" >&-', "sh", *command]
         try:
-            ran = subprocess.run(command, cwd=room, input=given, stdout=out, stderr=subprocess.PIPE, timeout=60)
+            ran = subprocess.run(started(program, case), cwd=room, input=given, stdout=out, stderr=subprocess.PIPE, timeout=60)
         except subprocess.TimeoutExpired:
             return "it did not end within 60 seconds"
         ran.stdout = ran.stdout or b""

@@ -11,35 +11,56 @@ mod line;
 mod list;
 mod order;
 mod run;
+mod streams;
 mod words;
 
-use crate::fault::FAILED;
+use crate::fault::{EngineFault, FAILED, fault_line, file_line};
 use crate::run::run;
+use crate::streams::{NOWHERE, hold_streams};
 use crate::words::read_words;
 use clap::error::ErrorKind;
 use std::alloc::{AllocError, Global};
+use std::io;
 use std::process::ExitCode;
 
 // The command line is wrong.
 const WRONG_WORDS: u8 = 2;
 
 fn main(rt: HostRuntime) -> ExitCode {
-    let Ok(given) = given_words(&rt) else {
-        let _ = eprintln!(rt; "krbtool: the words of the command line can't be had as text");
-        return ExitCode::from(WRONG_WORDS);
-    };
-    let Ok(words) = lent_words(rt.alloc(), &given) else {
-        let _ = eprintln!(rt; "krbtool: words: OutOfMemory");
+    let Ok(_held) = hold_streams(&rt) else {
+        let _ = eprintln!(rt; "{}", file_line(NOWHERE));
         return ExitCode::from(FAILED);
     };
-    let status = match read_words(rt.alloc(), &words) {
-        Ok(order) => run(&rt, order),
-        Err(error) => show(&rt, &error),
-    };
-    ExitCode::from(status)
+    ExitCode::from(answer(&rt))
 }
 
-fn given_words(rt: &HostRuntime) -> std::io::Result<Vec<String>> {
+// Does what the words of the command line ask for, and answers the exit status.
+fn answer(rt: &HostRuntime) -> u8 {
+    let given = match given_words(rt) {
+        Ok(given) => given,
+        Err(error) => return refuse_words(rt, error.kind()),
+    };
+    let Ok(words) = lent_words(rt.alloc(), &given) else {
+        return refuse_words(rt, io::ErrorKind::OutOfMemory);
+    };
+    match read_words(rt.alloc(), &words) {
+        Ok(order) => run(rt, order),
+        Err(error) => show(rt, &error),
+    }
+}
+
+// Says that the words of the command line can't be had, and answers the status of that.
+fn refuse_words(rt: &HostRuntime, kind: io::ErrorKind) -> u8 {
+    let _ = match kind {
+        io::ErrorKind::OutOfMemory => {
+            eprintln!(rt; "{}", fault_line("words", &EngineFault::OutOfMemory))
+        }
+        _ => eprintln!(rt; "krbtool: the words of the command line can't be had as text"),
+    };
+    WRONG_WORDS
+}
+
+fn given_words(rt: &HostRuntime) -> io::Result<Vec<String>> {
     Ok(std::env::args(rt)?.collect(rt.alloc())?)
 }
 
@@ -49,9 +70,15 @@ fn lent_words(alloc: Global, given: &[String]) -> Result<Vec<&str>, AllocError> 
 
 // Prints clap's text: help that was asked for on standard output, a fault on standard error.
 fn show(rt: &HostRuntime, error: &clap::Error) -> u8 {
-    let _ = error.print(rt);
+    let printed = error.print(rt);
     match error.kind() {
-        ErrorKind::DisplayHelp | ErrorKind::DisplayVersion => 0,
+        ErrorKind::DisplayHelp | ErrorKind::DisplayVersion => match printed {
+            Ok(()) => 0,
+            Err(_) => {
+                let _ = eprintln!(rt; "{}", fault_line("output", &EngineFault::Write));
+                FAILED
+            }
+        },
         ErrorKind::OutOfMemory => FAILED,
         _ => WRONG_WORDS,
     }

@@ -9,10 +9,14 @@ use crate::list::{list_ccache, list_keytab};
 use crate::order::Order;
 use krb_name::{ReadSource, Sink, Source, WriteSink};
 use std::alloc::Global;
-use std::fs::File;
+use std::fs::{File, OpenOptions};
 use std::io;
-use std::io::{BufWriter, Write};
+use std::io::{BufWriter, ErrorKind, Write};
+use std::os::unix::fs::OpenOptionsExt;
 use std::rt::Files;
+
+// The mode of a file that its owner alone may read and write.
+const OWNER_ALONE: u32 = 0o600;
 
 // What is done with the one file that a command has.
 #[derive(Clone, Copy)]
@@ -128,7 +132,7 @@ fn run_convert<R: AllocGlobal + Files + Print + Eprint>(
     let Ok(opened) = File::open(rt, file) else {
         return complain(rt, file_line(file), FAILED);
     };
-    let Ok(made) = File::create(rt, out) else {
+    let Ok(made) = make(rt, out) else {
         return complain(rt, file_line(out), FAILED);
     };
     let mut source = ReadSource::new(opened);
@@ -137,6 +141,21 @@ fn run_convert<R: AllocGlobal + Files + Print + Eprint>(
         Ok(count) => tell_wrote(rt, count),
         Err(EngineFault::Write) => complain(rt, file_line(out), FAILED),
         Err(fault) => complain(rt, fault_line(file, &fault), status(&fault)),
+    }
+}
+
+// Makes OUT, for its owner alone since it holds keys; or empties the one that is there, whose mode stays.
+fn make<R: Files>(rt: &R, out: &str) -> io::Result<R::File> {
+    let made = OpenOptions::new()
+        .write(true)
+        .create_new(true)
+        .mode(OWNER_ALONE)
+        .open(rt, out);
+    match made {
+        Err(error) if error.kind() == ErrorKind::AlreadyExists => {
+            OpenOptions::new().write(true).truncate(true).open(rt, out)
+        }
+        made => made,
     }
 }
 

@@ -59,9 +59,9 @@ fn of_file_and_out_command<'a>(
     ensures app { IfOk result (λ c. app_of c ≡ of_file_and_out name.entry.now) }
     ensures local { IfOk result (λ c. (out-Command c).has_globals ≡ false) }
 {
-    let out = Arg::new(alloc, "OUT")
-        .required(true)
-        .help("The file to write; what it held is lost");
+    let out = Arg::new(alloc, "OUT").required(true).help(
+        "The file to write. It is emptied before FILE is read, so it must not be FILE; a new one is its owner's alone",
+    );
     of_file_command(alloc, name, about, help)?.arg(out)
 }
 
