@@ -78,7 +78,6 @@ def caches(cases, peers, paths):
         cases.equal(f"file: klist of {name}", ours_as_klist(listed), klist_cache(realm, path))
         cases.equal(f"file: check-ccache {name}", peers.said("check-ccache", path), reference.check_ccache(data))
         made = path.with_suffix(".converted")
-        made.touch(mode=0o600)
         cases.equal(f"file: convert-ccache {name}", peers.said("convert-ccache", path, made), f"wrote {len(data)}\n")
         cases.equal(f"file: klist of the converted {name}", klist_cache(realm, made), klist_cache(realm, path))
         cases.equal(f"file: Heimdal's klist of the converted {name}", heimdal_klist(realm, made), heimdal_klist(realm, path))
@@ -92,7 +91,6 @@ def used(cases, peers, realm, kind, name):
     """A converted keytab logs a user in, and a converted cache fetches a ticket."""
     made, cache = realm.folder / "alice.converted", realm.folder / "used.ccache"
     copy = realm.folder / "used.converted"
-    copy.touch(mode=0o600)
     realm.run(kind, "kinit", "-c", cache, "-k", "-t", made, "alice")
     peers.said("convert-ccache", cache, copy)
     realm.run(kind, "kvno", "-q", "-c", copy, name)
