@@ -1,0 +1,88 @@
+"""Replies and errors: theirs read by our client, and ours by theirs. Our side is krb_sides.rt.in over the library."""
+import shutil
+from pathlib import Path
+
+import edits
+from kdc import ran
+from sides import LIBRARIES, now
+
+HERE = Path(__file__).resolve().parent
+TOP = HERE.parent.parent
+HIGHEST = 4294967295
+CONFOUNDER = "5a" * 16
+USES = "krb_ap krb_ccache krb_enc krb_keytab krb_msg krb_name krb_replay hex".split()
+
+
+def built(folder):
+    """Builds our side over the libraries of the crates, as they are built, or are now where they aren't yet."""
+    known = edits.crates_of(str(TOP))
+    below = known["krb_ap"].below + ["krb_ap"]
+    for name in below:
+        if not (TOP / f"crates/{name}/out/rlib/{name}.rlib").is_file():
+            ran(["rt", "lib"], 3600, cwd=TOP / "crates" / name)
+    (folder / "src").mkdir(parents=True)
+    shutil.copy(HERE / "krb_sides.rt.in", folder / "src/main.rt")
+    words = edits.Crate(str(TOP), "krb_sides", USES, below).words("incremental")
+    words[words.index("check")], words[words.index("src/lib.rt")] = "build", "src/main.rt"
+    words[words.index("--jobs") + 1] = str(edits.processors())
+    toolchain = ["--toolchain", f"{edits.KIT}/toolchain"]
+    ran([*words, *toolchain, "--backend", "llvm", "-o", "krb_sides.o"], 1200, cwd=folder)
+    linked = [f"{edits.KIT}/c/{name}" for name in ("libos_c.a", "liblibc_c.a")]
+    ran([f"{edits.KIT}/bin/rattle-link", "--target", "x86_64-unknown-linux-gnu", *toolchain, "-o", "krb_sides", "krb_sides.o", *linked], cwd=folder)
+    return folder / "krb_sides"
+
+
+class Sides:
+    """Our client and our service at one second, for a ticket; with `chosen` they choose a subkey and a sequence number."""
+
+    def __init__(self, program, folder, ticket, second, how="none"):
+        self.program, self.folder, self.ticket, self.second, self.how = program, folder, ticket, second, how
+
+    def said(self, word, file, micros, *more):
+        return ran([self.program, word, file, self.ticket.service, self.second, micros, CONFOUNDER, self.how, *more]).splitlines()
+
+    def asked(self, micros):
+        return self.said("ask", self.ticket.cache, micros)[0]
+
+    def finished(self, micros, reply):
+        return self.said("finish", self.ticket.cache, micros, reply)[0]
+
+    def served(self, micros, requests):
+        """What our service says to requests: the words before its reply or error, and that."""
+        lines = self.folder / "requests"
+        lines.write_text("".join(f"{it}\n" for it in requests))
+        return [it.rsplit(" ", 1) for it in self.said("serve", self.ticket.keytab, micros, lines)]
+
+
+def theirs_to_ours(cases, peers, program, ticket):
+    """Replies of their services, with and without a subkey and a number of theirs, to requests of ours, with and without ours."""
+    for how, given in (("none", "none 0"), ("chosen", f"20 {HIGHEST}")):
+        for library in LIBRARIES:
+            for words in ([], ["number"], ["subkey"], ["subkey", "number"]):
+                sides = Sides(program, peers.folder, ticket, now(), how)
+                line = f"{sides.second} 0 {sides.asked(7)}"
+                *told, subkey, number, reply = peers.served(ticket.realm, library, ticket.keytab, [line], ticket.service, words)[0].split()
+                wanted = f"agreed {ticket.client} {ticket.etype} {subkey.replace('none', '0')} {number if 'number' in words else -1}"
+                name = f"reply: {library}'s to ours, {ticket.label}, {how}, {' '.join(words) or 'plain'}"
+                cases.equal(name, [" ".join(told[7:9]), sides.finished(7, reply)], [given, wanted])
+                cases.equal(f"{name}, to another request", sides.finished(8, reply), "refused Mismatch")
+
+
+def ours_to_theirs(cases, peers, program, ticket):
+    """Replies of ours, with and without a subkey and a number, to requests of theirs; and the error that we send for a repeat."""
+    for how, wanted in (("none", "agreed none 0"), ("chosen", f"agreed 20 {HIGHEST}")):
+        for library in LIBRARIES:
+            for words in (["mutual"], ["mutual", "subkey", "number"]):
+                sides = Sides(program, peers.folder, ticket, now(), how)
+                client, request = peers.client(ticket.realm, library, ticket.cache, ticket.service, 0, words)
+                (accepted, reply), (refused, error) = sides.served(9, [request, request])
+                told = client.communicate(f"{reply}\n{error}\n", timeout=60)[0].splitlines()
+                name = f"reply: ours to {library}'s, {ticket.label}, {how}, {' '.join(words)}"
+                cases.equal(name, [accepted, refused, *told], ["accepted", "refused 34", wanted, f"error 34 {sides.second} 9 {ticket.service}"])
+
+
+def exchanged(cases, peers, tickets):
+    program = built(peers.folder / "krb_sides")
+    for ticket in tickets:
+        theirs_to_ours(cases, peers, program, ticket)
+        ours_to_theirs(cases, peers, program, ticket)

@@ -1,0 +1,119 @@
+#!/usr/bin/env python3
+"""Runs the built program beside real Kerberos: MIT krb5 and Heimdal, their KDCs, their tools and their libraries, on this machine.
+
+    tests/realm.py PROGRAM [WORD]      the cases whose names hold WORD, or all
+      --no-replies                     without those of replies, for which a program over the library is built first
+
+It installs what it needs (tests/peers/kdc.py names the packages), starts KDCs on 127.0.0.1 with ports and a temporary folder of
+their own, and stops them. tests/peers/ask.c and serve.c are a client and a service of either library. Session keys come to be of
+type 19 or 20 by the advice of docs/ACCEPTANCE.md, which is read from there.
+
+The last line is 'N passed, M failed'.
+"""
+import os
+import signal
+import subprocess
+import sys
+import tempfile
+import time
+import traceback
+from pathlib import Path
+
+HERE = Path(__file__).resolve().parent
+sys.dont_write_bytecode = True
+sys.path[:0] = [str(HERE), str(HERE / "peers")]
+
+import exchanges  # noqa: E402
+import files  # noqa: E402
+import reference  # noqa: E402
+import replies  # noqa: E402
+import tickets  # noqa: E402
+from kdc import Trouble, install  # noqa: E402
+from sides import Peers  # noqa: E402
+
+BROKEN = (Trouble, OSError, subprocess.SubprocessError, LookupError, ValueError, StopIteration, reference.Fault)
+
+
+class Cases:
+    """Which cases passed, and which failed, of those whose names hold a word."""
+
+    def __init__(self, word):
+        self.word, self.passed, self.failed = word, 0, 0
+
+    def fail(self, name, what):
+        if self.word in name:
+            self.failed += 1
+            print(f"FAILED {name}: {what}", flush=True)
+
+    def broken(self, error):
+        """A part that didn't come to its end counts as one failed case."""
+        self.failed += 1
+        where = traceback.extract_tb(error.__traceback__)[1:2] or traceback.extract_tb(error.__traceback__)
+        print(f"FAILED in {where[0].name}: {type(error).__name__}: {error}", flush=True)
+
+    def equal(self, name, found, wanted):
+        if found != wanted:
+            self.fail(name, f"{found!r}, not {wanted!r}")
+        elif self.word in name:
+            self.passed += 1
+
+
+def parts(cases, peers, mit, heimdal, has_replies):
+    """Each part of the cases, in order; a later one may use what an earlier one made."""
+    of_mit, of_heimdal = tickets.of_mit(mit), tickets.of_heimdal(heimdal)
+    for ticket in [*of_mit, *of_heimdal, tickets.with_addresses(mit), *tickets.of_both(mit, heimdal)]:
+        yield lambda: exchanges.their_requests(cases, peers, ticket)
+        yield lambda: exchanges.our_requests(cases, peers, ticket)
+    of_each_type = of_mit[:2] + of_heimdal[-2:]
+    for ticket in of_each_type:
+        for part in (exchanges.repeats, exchanges.skewed, exchanges.ended, exchanges.other_services):
+            yield lambda: part(cases, peers, ticket)
+    for part in (exchanges.turned_keys, exchanges.old_types, exchanges.postdated, exchanges.wrong_keys, exchanges.other_messages):
+        yield lambda: part(cases, peers, mit)
+    yield lambda: files.keytabs(cases, peers, heimdal, [*files.of_mit(mit), *files.of_heimdal(heimdal)])
+    yield lambda: files.caches(cases, peers, [(realm, path) for realm in (mit, heimdal) for path in sorted(realm.folder.glob("*.ccache"))])
+    yield lambda: files.used(cases, peers, mit, "one", "host/plain.example")
+    yield lambda: files.used(cases, peers, heimdal, "default", "host/web.example")
+    if has_replies:
+        yield lambda: replies.exchanged(cases, peers, of_each_type)
+
+
+def run(cases, *rest):
+    for part in parts(cases, *rest):
+        try:
+            part()
+        except BROKEN as error:
+            cases.broken(error)
+
+
+def in_folder(cases, program, folder, has_replies):
+    """Installs, starts the realms, runs the cases, and stops whatever was started."""
+    began, realms = time.monotonic(), []
+    try:
+        heimdal = install(folder / "heimdal-programs")
+        print(f"tests: installed in {time.monotonic() - began:.0f} s", flush=True)
+        began = time.monotonic()
+        peers = Peers(program, folder / "peers")
+        realms.append(tickets.mit_realm(folder, heimdal))
+        realms.append(tickets.heimdal_realm(folder, heimdal))
+        run(cases, peers, *realms, has_replies)
+    except BROKEN as error:
+        cases.broken(error)
+    finally:
+        for realm in realms:
+            realm.stop()
+    print(f"tests: ran in {time.monotonic() - began:.0f} s")
+
+
+def main():
+    signal.signal(signal.SIGTERM, lambda *_: sys.exit("stopped"))
+    words = [word for word in sys.argv[1:] if word != "--no-replies"]
+    cases = Cases(words[1] if len(words) > 1 else "")
+    with tempfile.TemporaryDirectory(prefix="krbtool-realm-") as folder:
+        in_folder(cases, os.path.abspath(words[0]), Path(folder), "--no-replies" not in sys.argv)
+    print(f"{cases.passed} passed, {cases.failed} failed")
+    return 1 if cases.failed or not cases.passed else 0
+
+
+if __name__ == "__main__":
+    sys.exit(main())
