@@ -27,7 +27,7 @@ use Rattle.krb_ap.specs.declared.refusal.Refusal.TheVariants.{MessageType, Malfo
 
 -- how far bytes come, whatever was before: to a cause, or to what they are opened as
 pub data Outcome (setup : Setup) (bytes : List ℕ) : Type 0 where
-  refused : (r : Refusal) → place r < 12 → ((history : List Arrival) (moment : ℤ) → Cause setup history (arrival bytes moment) r) → Outcome setup bytes
+  refused : (r : Refusal) → place r < place Skew → ((history : List Arrival) (moment : ℤ) → Cause setup history (arrival bytes moment) r) → Outcome setup bytes
   taken : (request : ValueOf ap_req) (part : ValueOf enc_ticket_part) (auth : ValueOf authenticator) → OpenedAs setup bytes request part auth → Outcome setup bytes
 
 begins : (bytes : List ℕ) → Decided (BeginsOtherwise 0x6e bytes)

@@ -12,7 +12,7 @@ use Rattle.krb_ap.specs.Opened.{OpenedAs, sent_at, stamp_of, stamp_at}
 use Rattle.krb_ap.specs.Times.{Near, Alive, IsEarly, IsLate, IsPathTrusted, second_at, start_of}
 use Rattle.krb_ap.specs.History.{effective, IsShown, StandsFor}
 use Rattle.krb_ap.specs.Taken.{Taken, taken_from, Accept}
-use Rattle.krb_ap.specs.Causes.{Cause}
+use Rattle.krb_ap.specs.Causes.{Cause, place}
 use Rattle.krb_ap.specs.Inner.Facts.{Facts}
 use Rattle.krb_ap.specs.Inner.Stages.{IsOfTimes, TimesRefuse}
 use Rattle.krb_ap.proofs.OneOpening.{of_opened}
@@ -49,20 +49,20 @@ stamp_by tuple server client one other time e f g h = cc
 module _ (facts : Facts) (setup : Setup) (history : List Arrival) (bytes : List ℕ) (moment : ℤ)
     (request : ValueOf ap_req) (part : ValueOf enc_ticket_part) (auth : ValueOf authenticator) (o : OpenedAs setup bytes request part auth)
     (near : Near (sent_at auth) (effective history moment) setup.skew) (unshown : ¬ IsShown setup history (stamp_of request part auth)) where
-  new_is_clear : Clear setup history (arrival bytes moment) 14
+  new_is_clear : Clear setup history (arrival bytes moment) (place NotYetValid)
   new_is_clear = new_passes facts setup history bytes moment (λ s. ⊥) request part auth o near unshown
 
-  begun_is_clear : ¬ IsEarly part (effective history moment) setup.skew → Clear setup history (arrival bytes moment) 15
+  begun_is_clear : ¬ IsEarly part (effective history moment) setup.skew → Clear setup history (arrival bytes moment) (place Expired)
   begun_is_clear early = pass setup history (arrival bytes moment) NotYetValid (λ e. cc) new_is_clear
       (λ x. early (of_opened facts setup bytes request part auth (λ r p a. IsEarly p (effective history moment) setup.skew) o x))
 
   lasting_is_clear : ¬ IsEarly part (effective history moment) setup.skew → ¬ IsLate part (effective history moment) setup.skew
-      → Clear setup history (arrival bytes moment) 16
+      → Clear setup history (arrival bytes moment) (place Transited)
   lasting_is_clear early late = pass setup history (arrival bytes moment) Expired (λ e. cc) (begun_is_clear early)
       (λ x. late (of_opened facts setup bytes request part auth (λ r p a. IsLate p (effective history moment) setup.skew) o x))
 
   trusted_is_clear : ¬ IsEarly part (effective history moment) setup.skew → ¬ IsLate part (effective history moment) setup.skew → IsPathTrusted request part
-      → Clear setup history (arrival bytes moment) 17
+      → Clear setup history (arrival bytes moment) (place Authorization)
   trusted_is_clear early late trusted = pass setup history (arrival bytes moment) Transited (λ e. cc) (lasting_is_clear early late)
       (λ x. of_opened facts setup bytes request part auth (λ r p a. ¬ IsPathTrusted r p) o x trusted)
 

@@ -24,7 +24,7 @@ module _ (facts : Facts) (setup : Setup) (history : List Arrival) (call : Arriva
   not_early : (part : ValueOf enc_ticket_part) → Alive part (effective history call.moment) setup.skew → ¬ IsEarly part (effective history call.moment) setup.skew
   not_early part alive early = elim early [ inl h ↦ h alive.begun | inr bit ↦ alive.valid bit ]
 
-  pub accepted_is_clear : (taken : Taken) → Accept setup history call taken → Clear setup history call 18
+  pub accepted_is_clear : (taken : Taken) → Accept setup history call taken → Clear setup history call (place OutOfMemory)
   accepted_is_clear taken a =
       pass setup history call Authorization (λ e. cc)
       (pass setup history call Transited (λ e. cc)
@@ -39,7 +39,7 @@ module _ (facts : Facts) (setup : Setup) (history : List Arrival) (call : Arriva
       (λ x. of_opened facts setup call.bytes a.request a.part a.auth (λ r p b. ¬ IsPathTrusted r p) a.opened x a.trusted))
       (λ x. of_opened facts setup call.bytes a.request a.part a.auth (λ r p b. ¬ IsDataIgnorable p b) a.opened x a.ignorable)
 
-  below : (r : Refusal) → Holds setup history call r → place r < 18
+  below : (r : Refusal) → Holds setup history call r → place r < place OutOfMemory
   below MessageType h = lit< tt
   below (Malformed fault) h = lit< tt
   below UserToUser h = lit< tt

@@ -11,12 +11,12 @@ use Rattle.krb_keytab.specs.Entry.{KeytabEntry}
 use Rattle.krb_keytab.specs.Pick.{Choice, chosen, no_name, no_key, no_version}
 use Rattle.krb_ap.specs.Setup.{Setup, Arrival}
 use Rattle.krb_ap.specs.Opened.{Asks, Keyed, Ticketed, Authenticated, OpenedAs, OpensAuthenticator, SameClient, IsChoiceFor, sealed_ticket, session_key}
-use Rattle.krb_ap.specs.Causes.{Holds}
+use Rattle.krb_ap.specs.Causes.{Holds, place}
 use Rattle.krb_ap.specs.Inner.Facts.{Facts}
 use Rattle.krb_ap.proofs.Begins.{begins_so}
 use Rattle.krb_ap.proofs.OneOpening.{of_request, of_asked, of_ticket, of_authenticator, not_shut}
 use Rattle.krb_ap.proofs.Table.{Clear, none_before, pass, pass_malformed}
-use Rattle.krb_ap.specs.declared.refusal.Refusal.TheVariants.{MessageType, UserToUser, TicketEtype, NotUs, NoKey, BadKeyVersion, TicketIntegrity, SessionKey, AuthenticatorIntegrity, BadMatch}
+use Rattle.krb_ap.specs.declared.refusal.Refusal.TheVariants.{MessageType, UserToUser, TicketEtype, NotUs, NoKey, BadKeyVersion, TicketIntegrity, SessionKey, AuthenticatorIntegrity, BadMatch, Skew}
 
 module _ (facts : Facts) (setup : Setup) (history : List Arrival) (call : Arrival) where
   pub begun : ¬ Holds setup history call MessageType → Clear setup history call 2
@@ -68,6 +68,6 @@ module _ (facts : Facts) (setup : Setup) (history : List Arrival) (call : Arriva
       (λ o. of_ticket facts setup call.bytes request part (λ r p. (x : ValueOf authenticator) → ¬ OpensAuthenticator r p x) a.ticketed o auth a.opens)
 
   pub opened : (request : ValueOf ap_req) (part : ValueOf enc_ticket_part) (auth : ValueOf authenticator)
-      → OpenedAs setup call.bytes request part auth → Clear setup history call 12
+      → OpenedAs setup call.bytes request part auth → Clear setup history call (place Skew)
   opened request part auth o = pass setup history call BadMatch (λ e. cc) (authenticated request part auth o.authenticated)
       (λ b. of_authenticator facts setup call.bytes request part auth (λ p a. ¬ SameClient p a) o.authenticated b o.same_client)

@@ -15,7 +15,7 @@ Clear setup history call n = (other : Refusal) → place other < n → ¬ Holds 
 -- the row of a place, but for the one of malformed requests
 abbrev row_at : ℕ → Refusal
 row_at n =
-    if n == 1 then MessageType else (if n == 3 then UserToUser else (if n == 4 then TicketEtype else (if n == 5 then NotUs else (if n == 6 then NoKey else (if n == 7 then BadKeyVersion else (if n == 8 then TicketIntegrity else (if n == 9 then SessionKey else (if n == 10 then AuthenticatorIntegrity else (if n == 11 then BadMatch else (if n == 12 then Skew else (if n == 13 then Repeat else (if n == 14 then NotYetValid else (if n == 15 then Expired else (if n == 16 then Transited else (if n == 17 then Authorization else (OutOfMemory))))))))))))))))
+    if n == place MessageType then MessageType else (if n == place UserToUser then UserToUser else (if n == place TicketEtype then TicketEtype else (if n == place NotUs then NotUs else (if n == place NoKey then NoKey else (if n == place BadKeyVersion then BadKeyVersion else (if n == place TicketIntegrity then TicketIntegrity else (if n == place SessionKey then SessionKey else (if n == place AuthenticatorIntegrity then AuthenticatorIntegrity else (if n == place BadMatch then BadMatch else (if n == place Skew then Skew else (if n == place Repeat then Repeat else (if n == place NotYetValid then NotYetValid else (if n == place Expired then Expired else (if n == place Transited then Transited else (if n == place Authorization then Authorization else (OutOfMemory))))))))))))))))
 
 placed : (r : Refusal) → (place r ≡ 2 → ⊥) → row_at (place r) ≡ r
 placed MessageType h = refl
@@ -57,7 +57,7 @@ placed_from Transited = lit≤ tt
 placed_from Authorization = lit≤ tt
 placed_from OutOfMemory = lit≤ tt
 
-pub placed_below : (r : Refusal) → place r ≤ 18
+pub placed_below : (r : Refusal) → place r ≤ place OutOfMemory
 placed_below MessageType = lit≤ tt
 placed_below (Malformed fault) = lit≤ tt
 placed_below UserToUser = lit≤ tt

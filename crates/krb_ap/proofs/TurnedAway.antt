@@ -76,7 +76,7 @@ near_by a b n m s t e f h near =
 
 module _ (facts : Facts) (setup : Setup) (history : List Arrival) (bytes : List ℕ) (moment : ℤ) (Has : Stamp → Type 0) where
   -- what a cause before the opening turns away shows nothing
-  pub turned_away : (r : Refusal) → place r < 12 → Cause setup history (arrival bytes moment) r
+  pub turned_away : (r : Refusal) → place r < place Skew → Cause setup history (arrival bytes moment) r
       → IsTurnedAway setup history (arrival bytes moment) Has r
   turned_away r early cause = record {
     cause = cause;
@@ -178,7 +178,7 @@ module _ (facts : Facts) (setup : Setup) (history : List Arrival) (bytes : List 
     }
 
     -- a near request passes the row of skewed clocks
-    pub near_passes : Near (sent_at auth) (effective history moment) setup.skew → Clear setup history (arrival bytes moment) 13
+    pub near_passes : Near (sent_at auth) (effective history moment) setup.skew → Clear setup history (arrival bytes moment) (place Repeat)
     near_passes near = pass setup history (arrival bytes moment) Skew (λ e. cc) (opened facts setup history (arrival bytes moment) request part auth o)
         (λ x. of_opened facts setup bytes request part auth (λ r p a. ¬ Near (sent_at a) (effective history moment) setup.skew) o x near)
 
@@ -193,7 +193,7 @@ module _ (facts : Facts) (setup : Setup) (history : List Arrival) (bytes : List 
     }
 
     pub new_passes : Near (sent_at auth) (effective history moment) setup.skew → ¬ IsShown setup history (stamp_of request part auth)
-        → Clear setup history (arrival bytes moment) 14
+        → Clear setup history (arrival bytes moment) (place NotYetValid)
     new_passes near unshown = pass setup history (arrival bytes moment) Repeat (λ e. cc) (near_passes near)
         (λ x. unshown (of_opened facts setup bytes request part auth (λ r p a. IsShown setup history (stamp_of r p a)) o x))
 

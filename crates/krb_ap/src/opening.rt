@@ -11,7 +11,7 @@ ghost use Rattle.krb_msg.specs.Module.{ap_req, authenticator, enc_ticket_part};
 ghost use Rattle.krb_ap.specs.Causes.{BeginsOtherwise, place};
 ghost use Rattle.krb_ap.specs.Opened.{Asks, SameClient};
 ghost use Rattle.krb_ap.specs.Inner.Stages.{IsCauseOfBytes, IsChosenKey, IsNone, IsShut, Wants};
-ghost use Rattle.krb_ap.specs.declared.refusal.Refusal.TheVariants.{OutOfMemory, TicketIntegrity, AuthenticatorIntegrity, SessionKey};
+ghost use Rattle.krb_ap.specs.declared.refusal.Refusal.TheVariants.{OutOfMemory, TicketIntegrity, AuthenticatorIntegrity, SessionKey, Skew};
 
 use crate::inner_laws::facts;
 use crate::refusal::Refusal;
@@ -28,7 +28,7 @@ pub(crate) fn read_request<'a>(bytes: &'a [u8]) -> Result<ApReqRef<'a>, Refusal>
     ensures read { IfOk result (λ request. Asks bytes.entry.now (ap_req_of request)) }
     ensures refused { IfErr result (IsCauseOfBytes bytes.entry.now) }
     ensures named { IfErr result (λ refusal. refusal ≢ OutOfMemory) }
-    ensures early { IfErr result (λ refusal. place refusal < 12) }
+    ensures early { IfErr result (λ refusal. place refusal < place Skew) }
 {
     facts();
     if begins_otherwise(bytes, 0x6e) {

@@ -141,11 +141,16 @@ fn replies_that_are_refused(rt: HostRuntime) -> Result<(), Fail> {
     let (_, pending) = sent(alloc, FIXTURE, None, None)?;
     let reply = hex::decode(alloc, REPLY)?;
     let mut flipped = hex::decode(alloc, REPLY)?;
-    let last = flipped.len() - 1;
-    flipped[last] ^= 1;
+    if let Some(last) = flipped.last_mut() {
+        *last ^= 1;
+    }
     // The type is told at the byte 22: 20 and not 19.
     let mut other_type = hex::decode(alloc, REPLY)?;
-    other_type[22] = 20;
+    if let Some(etype) = other_type.get_mut(22) {
+        *etype = 20;
+    }
+    let mut short = hex::decode(alloc, REPLY)?;
+    short.truncate(86);
     let error = hex::decode(alloc, ERROR)?;
     let cut = Fault {
         kind: FaultKind::Truncated,
@@ -159,7 +164,7 @@ fn replies_that_are_refused(rt: HostRuntime) -> Result<(), Fail> {
         (&reply, None),
         (&error, Some(FinishFault::MessageType)),
         (b"", Some(FinishFault::Malformed(empty))),
-        (&reply[..86], Some(FinishFault::Malformed(cut))),
+        (&short, Some(FinishFault::Malformed(cut))),
         (&flipped, Some(FinishFault::Integrity)),
         (&other_type, Some(FinishFault::Integrity)),
     ];
