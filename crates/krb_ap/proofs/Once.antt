@@ -1,10 +1,10 @@
 -- What was shown isn't accepted again.
-use Rattle.std.proofs.Common.{◌≡◌, List, [], ◌∷◌, sym, ◌∙◌, ap, subst, inl, inr, ◌⊎◌, Ok, Err, Result}
+use Rattle.std.proofs.Common.{◌≡◌, List, [], ◌∷◌, sym, ◌∙◌, ap, subst, inl, inr, Ok, Err, Result}
 use Rattle.krb_der.specs.Kind.{ValueOf}
 use Rattle.krb_msg.specs.Module.{ap_req, enc_ticket_part, authenticator}
 use Rattle.krb_replay.specs.Stamp.{Stamp}
 use Rattle.krb_ap.specs.Setup.{Setup, Arrival}
-use Rattle.krb_ap.specs.Opened.{OpenedAs, stamp_of}
+use Rattle.krb_ap.specs.Opened.{stamp_of}
 use Rattle.krb_ap.specs.History.{IsShown}
 use Rattle.krb_ap.specs.Taken.{Accept, Taken}
 use Rattle.krb_ap.specs.Answer.{Answers, Run, after, after_refusal, taken_of}
@@ -14,7 +14,6 @@ use Rattle.krb_ap.proofs.Afterwards.{memory_or_not, after_named}
 use Rattle.krb_ap.proofs.OneOpening.{one_authenticated, SameOpening}
 use Rattle.krb_ap.specs.declared.accepted.Accepted.{Accepted}
 use Rattle.krb_ap.specs.declared.refusal.Refusal.{Refusal}
-use Rattle.krb_ap.specs.declared.refusal.Refusal.TheVariants.{OutOfMemory}
 
 same_stamp : (r s : ValueOf ap_req) (p q : ValueOf enc_ticket_part) (a b : ValueOf authenticator) → SameOpening r s p q a b
     → stamp_of s q b ≡ stamp_of r p a
@@ -77,6 +76,7 @@ module _ (facts : Facts) (setup : Setup) where
   once history [] [] end run = tt
   once history [] (answer ∷ answers) end run = tt
   once history (call ∷ calls) [] end run = tt
-  once history (call ∷ calls) (answer ∷ answers) end run =
-      (λ stamp here. not_again (after history call answer) calls answers end stamp run.1 (shown_then history call answer stamp run.0 here),
-      once (after history call answer) calls answers end run.1)
+  once history (call ∷ calls) (answer ∷ answers) end run = (
+    λ stamp here. not_again (after history call answer) calls answers end stamp run.1 (shown_then history call answer stamp run.0 here),
+    once (after history call answer) calls answers end run.1,
+  )

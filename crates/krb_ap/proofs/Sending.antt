@@ -3,20 +3,18 @@ use Rattle.std.proofs.Common.{◌≡◌, ℕ, ℤ, List, refl, sym, ◌∙◌, a
 use Rattle.krb_der.specs.Kind.{ValueOf}
 use Rattle.krb_der.specs.Spells.{IsMessage}
 use Rattle.krb_enc.specs.Key.{KeyValue}
-use Rattle.krb_msg.specs.Module.{ap_req, ap_rep, ticket as ticket_kind, enc_ticket_part, enc_ap_rep_part, authenticator, is_ap_req, is_ap_rep, is_ticket, is_authenticator, is_enc_ap_rep_part}
-use Rattle.krb_msg.specs.Fields.{ticket_service, part_client, cipher_of, authenticator_of_request, authenticator_ctime, authenticator_cusec, reply_enc_part}
+use Rattle.krb_msg.specs.Module.{ap_req, ap_rep, ticket as ticket_kind, enc_ticket_part, enc_ap_rep_part, authenticator, is_ap_rep, is_ticket, is_authenticator, is_enc_ap_rep_part}
+use Rattle.krb_msg.specs.Fields.{ticket_service, part_client, cipher_of, authenticator_of_request, authenticator_ctime, authenticator_cusec}
 use Rattle.krb_msg.specs.Moments.{micros_of}
 use Rattle.krb_ccache.specs.declared.credential.Credential.{Credential}
-use Rattle.krb_replay.specs.Stamp.{Stamp}
 use Rattle.krb_ap.specs.Setup.{Setup, Arrival}
-use Rattle.krb_ap.specs.Opened.{OpensAs, Asks, Ticketed, OpensAuthenticator, OpenedAs, authenticator_usage, session_key, service_of, stamp_at, stamp_of, sent_at}
+use Rattle.krb_ap.specs.Opened.{OpensAs, Asks, Ticketed, OpensAuthenticator, OpenedAs, authenticator_usage, stamp_at, stamp_of}
 use Rattle.krb_ap.specs.Taken.{Taken, Accept, taken_from}
-use Rattle.krb_ap.specs.Written.{IsSealed}
 use Rattle.krb_ap.specs.Credentials.{credential_key}
 use Rattle.krb_ap.specs.Request.{IsBuilt, request_for, authenticator_for, awaited_for}
 use Rattle.krb_ap.specs.Headline.{Agrees, HasTicket}
 use Rattle.krb_ap.specs.Reply.{IsReply, reply_for, reply_part_for, reply_usage}
-use Rattle.krb_ap.specs.Finish.{IsOpenedReply, OpensReply}
+use Rattle.krb_ap.specs.Finish.{OpensReply}
 use Rattle.krb_ap.specs.Inner.Facts.{Facts}
 use Rattle.krb_ap.specs.declared.request.RequestOptions.{RequestOptions}
 use Rattle.krb_ap.specs.declared.reply.ReplyOptions.{ReplyOptions}

@@ -1,11 +1,10 @@
 -- What holds in every world that comes about.
-use Rattle.std.proofs.Common.{◌≡◌, ◌≢◌, ℕ, ℤ, List, [], ◌∷◌, refl, sym, ◌∙◌, ap, subst, inl, inr, ◌⊎◌}
+use Rattle.std.proofs.Common.{◌≡◌, ◌≢◌, ℕ, ℤ, List, [], ◌∷◌, ◌++◌, refl, sym, ◌∙◌, ap, subst, inl, inr}
 use Rattle.std.specs.Prelude.{All}
 use Rattle.std.proofs.lemmas.List.Elements.{All-head, All-tail}
 use Rattle.krb_der.specs.Kind.{ValueOf}
 use Rattle.krb_der.specs.Spells.{IsMessage}
-use Rattle.krb_enc.specs.Key.{KeyValue}
-use Rattle.krb_msg.specs.Module.{ap_req, ap_rep, ticket as ticket_kind, enc_ticket_part, enc_ap_rep_part}
+use Rattle.krb_msg.specs.Module.{ap_req, ap_rep, ticket as ticket_kind, enc_ticket_part}
 use Rattle.krb_msg.specs.Fields.{ticket_service, part_client}
 use Rattle.krb_msg.specs.Moments.{micros_of}
 use Rattle.krb_ccache.specs.declared.credential.Credential.{Credential}
@@ -14,12 +13,11 @@ use Rattle.krb_ap.specs.Setup.{Setup, Arrival}
 use Rattle.krb_ap.specs.Opened.{stamp_at, stamp_of}
 use Rattle.krb_ap.specs.History.{IsShown}
 use Rattle.krb_ap.specs.Taken.{Taken, Accept}
-use Rattle.krb_ap.specs.Answer.{after_refusal}
 use Rattle.krb_ap.specs.Request.{Awaited, IsBuilt, request_for}
 use Rattle.krb_ap.specs.Headline.{Agrees, HasTicket}
 use Rattle.krb_ap.specs.Reply.{IsReply, reply_for, reply_part_for}
 use Rattle.krb_ap.specs.Finish.{Agreement, IsAgreed, agreement_for, repeated_at}
-use Rattle.krb_ap.specs.World.{Sent, Held, Replied, Ended, World, Event, sends, accepts, refuses, replies, ends, IsOf, IsPacket, Can, Comes, happens, nothing_yet, awaited_by, HoldSame, IsReplyTo, BothAgree}
+use Rattle.krb_ap.specs.World.{Sent, Held, Replied, Ended, World, Event, sends, accepts, refuses, replies, ends, IsOf, IsPacket, Can, Comes, happens, nothing_yet, awaited_by, HoldSame, IsReplyTo, IsHeldToo, IsHeldInEachWorld, BothAgree}
 use Rattle.krb_ap.specs.Inner.Facts.{Facts}
 use Rattle.krb_ap.specs.declared.refusal.Refusal.{Refusal}
 use Rattle.krb_ap.proofs.Once.{shown_behind}
@@ -111,12 +109,15 @@ module _ (facts : Facts) (separate : Apart) (setup : Setup) (credential : Creden
     new_held = record { call = call; taken = taken }
 
     held_for : IsPacket w call.bytes → (s : Sent) × IsHeldFor w new_held s
-    held_for (inl p) = (p.0, record {
-      sent = p.1.0;
-      same = sym p.1.1;
-      told = taken_agrees facts setup credential ticket part has p.0.at p.0.confounder p.0.options p.0.bytes (good.built p.0 p.1.0) w.history call taken
-          (sym p.1.1) accept;
-    })
+    held_for (inl p) = (
+      p.0,
+      record {
+        sent = p.1.0;
+        same = sym p.1.1;
+        told = taken_agrees facts setup credential ticket part has p.0.at p.0.confounder p.0.options p.0.bytes (good.built p.0 p.1.0) w.history call taken
+            (sym p.1.1) accept;
+      },
+    )
     held_for (inr p) = absurd (separate accept.request (reply_for p.0.held.taken.session_key (good.replied p.0 p.1.0).1.text) call.bytes accept.opened.authenticated.ticketed.keyed.asks.message
         (subst (λ (b : List ℕ). IsMessage ap_rep (reply_for p.0.held.taken.session_key (good.replied p.0 p.1.0).1.text) b) p.1.1
         (good.replied p.0 p.1.0).1.bytes_are.message))
@@ -325,5 +326,29 @@ module _ (facts : Facts) (separate : Apart) (setup : Setup) (credential : Creden
       held = held_agrees;
     }
 
+  come_more : (w : World) (events : List Event) (end : World) (event : Event) → Comes setup credential w events end → Can setup credential end event
+      → Comes setup credential w (events ++ event ∷ []) (happens end event)
+  come_more w [] end event c can = (subst (λ (x : World). Can setup credential x event) c can, ap (λ (x : World). happens x event) c)
+  come_more w (e ∷ events) end event c can = (c.0, come_more (happens w e) events end event c.1 can)
+
   pub agreement : (events : List Event) (end : World) → Comes setup credential nothing_yet events end → BothAgree credential end
   agreement events end c = both_agree end (comes nothing_yet events end nothing c)
+
+  -- as it was agreed, so it is held
+  pub held_too : (events : List Event) (w : World) (sent : Sent) (bytes : List ℕ) (agreed : Agreement) → Comes setup credential nothing_yet events w
+      → IsOf w.sent sent → IsPacket w bytes → IsAgreed (awaited_by credential sent) bytes agreed → IsHeldToo credential w sent agreed
+  held_too events w sent bytes agreed c of_sent packet is_agreed =
+      let e : Ended = record { sent = sent; agreement = agreed } in
+      let both : BothAgree credential (happens w (ends bytes e)) =
+      agreement (events ++ ends bytes e ∷ []) (happens w (ends bytes e)) (come_more nothing_yet events w (ends bytes e) c (of_sent, (packet, is_agreed))) in
+      let reply : (r : Replied) × IsReplyTo (happens w (ends bytes e)) sent r = both.some e (inl refl) in
+      record {
+        reply = reply.0;
+        reply_to = record { replied = reply.1.replied; held = reply.1.held; same = reply.1.same };
+        same = both.all e reply.0 (inl refl) reply.1;
+      }
+
+pub held_in_each : Facts → Apart → (a : Awaited) (bytes : List ℕ) (agreed : Agreement) → IsAgreed a bytes agreed → IsHeldInEachWorld a bytes agreed
+held_in_each facts separate a bytes agreed is_agreed setup credential ticket part events w sent has c of_sent e packet =
+    held_too facts separate setup credential ticket part has events w sent bytes agreed c of_sent packet
+    (subst (λ (x : Awaited). IsAgreed x bytes agreed) (sym e) is_agreed)

@@ -1,5 +1,5 @@
 -- No service accepts two requests of one stamp.
-use Rattle.std.specs.Prelude.{◌≡◌, ◌⊎◌, ℕ, List, [], ◌∷◌, Result, Ok, Err}
+use Rattle.std.specs.Prelude.{◌≡◌, ◌⊎◌, ℕ, List, ◌∷◌, Result, Ok, Err}
 use Rattle.krb_der.specs.Kind.{ValueOf}
 use Rattle.krb_msg.specs.Module.{ap_req, enc_ticket_part, authenticator}
 use Rattle.krb_replay.specs.Stamp.{Stamp}

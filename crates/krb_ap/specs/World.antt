@@ -3,6 +3,8 @@
 use Rattle.std.specs.Prelude.{◌≡◌, ◌≢◌, ◌⊎◌, ℕ, ℤ, List, [], ◌∷◌, All}
 use Rattle.std.specs.Option.{option_map}
 use Rattle.krb_name.specs.Name.{SameName}
+use Rattle.krb_der.specs.Kind.{ValueOf}
+use Rattle.krb_msg.specs.Module.{ticket as ticket_kind, enc_ticket_part}
 use Rattle.krb_ccache.specs.declared.credential.Credential.{Credential}
 use Rattle.krb_ap.specs.Setup.{Setup, Arrival}
 use Rattle.krb_ap.specs.Taken.{Taken, Accept}
@@ -10,7 +12,7 @@ use Rattle.krb_ap.specs.Causes.{Cause}
 use Rattle.krb_ap.specs.Answer.{after_refusal}
 use Rattle.krb_ap.specs.Written.{key_value}
 use Rattle.krb_ap.specs.Request.{Awaited, IsBuilt, awaited_for}
-use Rattle.krb_ap.specs.Headline.{Agrees}
+use Rattle.krb_ap.specs.Headline.{Agrees, HasTicket}
 use Rattle.krb_ap.specs.Reply.{IsReply}
 use Rattle.krb_ap.specs.Finish.{Agreement, IsAgreed}
 use Rattle.krb_ap.specs.declared.request.RequestOptions.{RequestOptions}
@@ -125,3 +127,15 @@ pub record BothAgree (credential : Credential) (w : World) : Type 0 where
   pub some : (e : Ended) → IsOf w.ended e → (r : Replied) × IsReplyTo w e.sent r
   pub all : (e : Ended) (r : Replied) → IsOf w.ended e → IsReplyTo w e.sent r → HoldSame credential e r
   pub held : (e : Ended) (h : Held) → IsOf w.ended e → IsOf w.held h → h.call.bytes ≡ e.sent.bytes → Agrees h.taken (awaited_by credential e.sent)
+
+-- the service replied to this request, and what it knows and told is what the client agreed to
+pub record IsHeldToo (credential : Credential) (w : World) (sent : Sent) (agreement : Agreement) : Type 0 where
+  pub reply : Replied
+  pub reply_to : IsReplyTo w sent reply
+  pub same : HoldSame credential (record { sent = sent; agreement = agreement }) reply
+
+-- in each world in which this request was sent, and these bytes are a packet, the service holds what was agreed too
+abbrev pub IsHeldInEachWorld : Awaited → List ℕ → Agreement → Type 0
+IsHeldInEachWorld awaited bytes agreement = (setup : Setup) (credential : Credential) (ticket : ValueOf ticket_kind) (part : ValueOf enc_ticket_part)
+    (events : List Event) (w : World) (sent : Sent) → HasTicket setup credential ticket part → Comes setup credential nothing_yet events w
+    → IsOf w.sent sent → awaited_by credential sent ≡ awaited → IsPacket w bytes → IsHeldToo credential w sent agreement

@@ -17,7 +17,7 @@ ghost use Rattle.krb_ap.specs.Taken.{Accept, Taken};
 ghost use Rattle.krb_ap.specs.Causes.{Cause, place};
 ghost use Rattle.krb_ap.specs.Answer.{Run};
 ghost use Rattle.krb_ap.specs.Once.{TakesOnce};
-ghost use Rattle.krb_ap.specs.World.{BothAgree, Comes, Event, World, nothing_yet};
+ghost use Rattle.krb_ap.specs.World.{BothAgree, Comes, Event, IsHeldInEachWorld, World, nothing_yet};
 ghost use Rattle.krb_ccache.specs.declared.credential.Credential.{Credential};
 ghost use Rattle.krb_ap.specs.declared.accepted.Accepted.{Accepted};
 ghost use Rattle.krb_ap.specs.declared.refusal.Refusal.{Refusal};
@@ -84,8 +84,10 @@ pub fn no_stamp_twice()
 /// Says that whatever the network loses, repeats or reorders, a client that agrees to a reply holds what the service holds for that
 /// request, of which there is something, and that all of it agrees.
 pub fn both_agree()
-    ensures { (setup : Setup) (credential : Credential) (ticket : ValueOf ticket_kind) (part : ValueOf enc_ticket_part) (events : List Event) (end : World)
+    ensures all { (setup : Setup) (credential : Credential) (ticket : ValueOf ticket_kind) (part : ValueOf enc_ticket_part) (events : List Event) (end : World)
         → HasTicket setup credential ticket part → Comes setup credential nothing_yet events end → BothAgree credential end }
+    ensures each { (awaited : Awaited) (bytes : List ℕ) (agreement : Agreement)
+        → IsAgreed awaited bytes agreement → IsHeldInEachWorld awaited bytes agreement }
 {
     facts();
     krb_msg::laws::one_type();
