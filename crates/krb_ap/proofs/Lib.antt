@@ -18,3 +18,6 @@ pub mod Finishing
 pub mod Replying
 pub mod Codes
 pub mod OneRequest
+pub mod Once
+pub mod Sending
+pub mod Worlds

@@ -7,6 +7,8 @@ pub mod Taken
 pub mod Causes
 pub mod Answer
 pub mod Service
+pub mod Once
+pub mod World
 pub mod Credentials
 pub mod Written
 pub mod Request

@@ -12,11 +12,13 @@ ghost use Rattle.krb_ap.specs.Taken.{Accept, Taken};
 ghost use Rattle.krb_ap.specs.Causes.{Cause, place};
 ghost use Rattle.krb_ap.specs.Inner.GoingOn.{GoesOn};
 ghost use Rattle.krb_ap.specs.Answer.{Answers, MemoryWantedByRequests, Served, after, arrival_of, taken_of};
+ghost use Rattle.krb_ap.specs.Once.{TakesOnce};
 ghost use Rattle.krb_ap.specs.declared.refusal.Refusal.TheVariants.{OutOfMemory};
 
 use crate::accepted::Accepted;
 use crate::call::{Call, Outcome};
 use crate::inner_laws::facts;
+use crate::laws::no_stamp_twice;
 use crate::refusal::Refusal;
 use krb_keytab::Keytab;
 use krb_msg::Moment;
@@ -134,9 +136,14 @@ impl<M: ReplayMemory> Acceptor<M> {
             → StandsFor self.old.setup (M.has self.old.memory) (M.newest self.old.memory) history
             → IfOk result (λ outcomes. Served M.KEEPS M.FORGETS self.old.setup history (map arrival_of calls.now) outcomes.items
             (M.has self.old.memory) (M.has self.new.memory) (M.newest self.new.memory)) }
+        // No two requests of one stamp (names of service and client, and the client's time) are accepted.
+        ensures once { (history : List Arrival)
+            → StandsFor self.old.setup (M.has self.old.memory) (M.newest self.old.memory) history
+            → IfOk result (λ outcomes. TakesOnce self.old.setup (map arrival_of calls.now) outcomes.items) }
         ensures memory { IfOk result (λ outcomes. MemoryWantedByRequests (map arrival_of calls.now) outcomes.items) }
         ensures none { OnErr result (self.new ≡ self.old) }
     {
+        no_stamp_twice();
         let mut outcomes = Vec::with_capacity(alloc, calls.len())?;
         for call in calls {
             let outcome = self.accept(alloc, call.bytes, call.now);

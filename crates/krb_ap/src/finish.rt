@@ -11,11 +11,13 @@ ghost use Rattle.krb_msg.specs.Module.{ap_rep, enc_ap_rep_part};
 ghost use Rattle.krb_ap.specs.Finish.{FinishCause, IsAgreed, OpensReply, agreement_of, repeated_at};
 ghost use Rattle.krb_ap.specs.Reply.{reply_usage};
 ghost use Rattle.krb_ap.specs.Request.{Awaited};
+ghost use Rattle.krb_ap.specs.World.{IsHeldInEachWorld};
 ghost use Rattle.krb_ap.specs.declared.finish_fault.FinishFault.TheVariants.{Integrity, OutOfMemory};
 
 use crate::finish_fault::FinishFault;
 use crate::inner_laws::facts;
 use crate::keys::{own_key, owned_key, same_key};
+use crate::laws::both_agree;
 use crate::opening::begins_otherwise;
 use crate::pending::Pending;
 use krb_enc::{Key, OpenFault};
@@ -54,9 +56,12 @@ impl Pending {
     /// - `Mismatch`: its time isn't the request's, to the microsecond.
     pub fn finish(&self, alloc: Global, reply: &[u8]) -> Result<Agreed, FinishFault>
         ensures agreed { IfOk result (λ agreed. IsAgreed self.now reply.now (agreement_of agreed)) }
+        // Whatever the network loses, repeats or reorders: the service holds for this request what is agreed.
+        ensures held { IfOk result (λ agreed. IsHeldInEachWorld self.now reply.now (agreement_of agreed)) }
         ensures fault { IfErr result (λ fault. fault ≢ OutOfMemory → FinishCause self.now reply.now fault) }
     {
         facts();
+        both_agree();
         let message = match read_reply(reply) {
             Ok(message) => message,
             Err(fault) => return Err(fault),

@@ -1,6 +1,6 @@
 //! Laws over the definitions, for proofs to cite. Each function does nothing: its contract is the law.
 
-ghost use Rattle.std.specs.Prelude.{◌≡◌, ◌⊎◌, ℕ, ℤ, List};
+ghost use Rattle.std.specs.Prelude.{◌≡◌, ◌⊎◌, ℕ, ℤ, List, Result};
 ghost use Rattle.krb_name.specs.declared.principal.Principal.{Principal};
 ghost use Rattle.krb_der.specs.Kind.{ValueOf};
 ghost use Rattle.krb_msg.specs.Module.{enc_ticket_part, ticket as ticket_kind};
@@ -15,6 +15,11 @@ ghost use Rattle.krb_ap.specs.Headline.{Agrees, HasTicket, MayBeTaken};
 ghost use Rattle.krb_ap.specs.declared.request.RequestOptions.{RequestOptions};
 ghost use Rattle.krb_ap.specs.Taken.{Accept, Taken};
 ghost use Rattle.krb_ap.specs.Causes.{Cause, place};
+ghost use Rattle.krb_ap.specs.Answer.{Run};
+ghost use Rattle.krb_ap.specs.Once.{TakesOnce};
+ghost use Rattle.krb_ap.specs.World.{BothAgree, Comes, Event, IsHeldInEachWorld, World, nothing_yet};
+ghost use Rattle.krb_ccache.specs.declared.credential.Credential.{Credential};
+ghost use Rattle.krb_ap.specs.declared.accepted.Accepted.{Accepted};
 ghost use Rattle.krb_ap.specs.declared.refusal.Refusal.{Refusal};
 
 use crate::inner_laws::{decisions, facts};
@@ -66,4 +71,24 @@ pub fn agreed_or_refused()
         → IsAgreed awaited bytes agreement → FinishCause awaited bytes fault → ⊥ }
 {
     facts();
+}
+
+/// Says that over every list of calls, after each history, no two requests of one stamp are accepted.
+pub fn no_stamp_twice()
+    ensures { (setup : Setup) (history : List Arrival) (calls : List Arrival) (answers : List (Result Accepted Refusal)) (end : List Arrival)
+        → Run setup history calls answers end → TakesOnce setup calls answers }
+{
+    facts();
+}
+
+/// Says that whatever the network loses, repeats or reorders, a client that agrees to a reply holds what the service holds for that
+/// request, of which there is something, and that all of it agrees.
+pub fn both_agree()
+    ensures all { (setup : Setup) (credential : Credential) (ticket : ValueOf ticket_kind) (part : ValueOf enc_ticket_part) (events : List Event) (end : World)
+        → HasTicket setup credential ticket part → Comes setup credential nothing_yet events end → BothAgree credential end }
+    ensures each { (awaited : Awaited) (bytes : List ℕ) (agreement : Agreement)
+        → IsAgreed awaited bytes agreement → IsHeldInEachWorld awaited bytes agreement }
+{
+    facts();
+    krb_msg::laws::one_type();
 }

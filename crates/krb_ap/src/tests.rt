@@ -1,7 +1,9 @@
 //! The project's fixture (alice@EX asks for host/web@EX), and what becomes of it where one thing differs.
 
+mod broken;
 mod client;
 mod replies;
+mod schedules;
 
 ghost use Rattle.std.specs.Prelude.{◌≡◌, None};
 ghost use Rattle.krb_replay.specs.Stamp.{Stamp};

@@ -58,3 +58,6 @@ returns-clause-agreed c = record {
       (ap (λ (a : Awaited). a.seq) c.self.view_is)
       c.in_ok-owned_key.ensures;
 }
+
+pub returns-clause-held : goal.returns-clause-held
+returns-clause-held c = c.both_agree.ensures.each c.args.self.now c.args.reply.now _ (returns-clause-agreed c)

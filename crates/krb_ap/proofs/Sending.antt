@@ -1,0 +1,147 @@
+-- What a service takes from a built request, and what a client opens a reply to.
+use Rattle.std.proofs.Common.{◌≡◌, ℕ, ℤ, List, refl, sym, ◌∙◌, ap, subst}
+use Rattle.krb_der.specs.Kind.{ValueOf}
+use Rattle.krb_der.specs.Spells.{IsMessage}
+use Rattle.krb_enc.specs.Key.{KeyValue}
+use Rattle.krb_msg.specs.Module.{ap_req, ap_rep, ticket as ticket_kind, enc_ticket_part, enc_ap_rep_part, authenticator, is_ap_rep, is_ticket, is_authenticator, is_enc_ap_rep_part}
+use Rattle.krb_msg.specs.Fields.{ticket_service, part_client, cipher_of, authenticator_of_request, authenticator_ctime, authenticator_cusec}
+use Rattle.krb_msg.specs.Moments.{micros_of}
+use Rattle.krb_ccache.specs.declared.credential.Credential.{Credential}
+use Rattle.krb_ap.specs.Setup.{Setup, Arrival}
+use Rattle.krb_ap.specs.Opened.{OpensAs, Asks, Ticketed, OpensAuthenticator, OpenedAs, authenticator_usage, stamp_at, stamp_of}
+use Rattle.krb_ap.specs.Taken.{Taken, Accept, taken_from}
+use Rattle.krb_ap.specs.Credentials.{credential_key}
+use Rattle.krb_ap.specs.Request.{IsBuilt, request_for, authenticator_for, awaited_for}
+use Rattle.krb_ap.specs.Headline.{Agrees, HasTicket}
+use Rattle.krb_ap.specs.Reply.{IsReply, reply_for, reply_part_for, reply_usage}
+use Rattle.krb_ap.specs.Finish.{OpensReply}
+use Rattle.krb_ap.specs.Inner.Facts.{Facts}
+use Rattle.krb_ap.specs.declared.request.RequestOptions.{RequestOptions}
+use Rattle.krb_ap.specs.declared.reply.ReplyOptions.{ReplyOptions}
+use Rattle.krb_ap.proofs.BuiltAccepted.{sealed_opens}
+use Rattle.krb_ap.proofs.OneOpening.{one_message, one_request, one_part, one_auth, SameOpening}
+
+module _ (credential : Credential) (at : ℤ) (confounder : List ℕ) (options : RequestOptions) (bytes : List ℕ)
+    (built : IsBuilt credential at confounder options bytes) where
+  abbrev pub told_auth : ValueOf authenticator
+  told_auth = authenticator_for credential built.text_is.told.ctime built.text_is.told.cusec options
+
+  abbrev pub told_request : ValueOf ap_req
+  told_request = request_for credential options built.ticket built.text
+
+  -- the authenticator opens under the credential's key
+  pub opens_told : OpensAs (credential_key credential) authenticator_usage built.text authenticator told_auth
+  opens_told = record {
+    plain = built.text_is.plain;
+    opens = sealed_opens (credential_key credential) authenticator_usage confounder built.text_is.plain built.text built.text_is.text_is;
+    message = built.text_is.told.plain_is.message;
+  }
+
+-- ---- the same bytes are a request of the same moment
+
+same_text : Facts → (credential : Credential) (at to : ℤ) (c d : List ℕ) (o p : RequestOptions) (bytes : List ℕ)
+    → (a : IsBuilt credential at c o bytes) → (b : IsBuilt credential to d p bytes) → b.text ≡ a.text
+same_text facts credential at to c d o p bytes a b =
+    ap (λ (r : ValueOf ap_req). cipher_of (authenticator_of_request r))
+    (one_request facts bytes (told_request credential at c o bytes a) (told_request credential to d p bytes b) a.bytes_are.message b.bytes_are.message)
+
+pub same_moment : Facts → (credential : Credential) (at to : ℤ) (c d : List ℕ) (o p : RequestOptions) (bytes : List ℕ)
+    → IsBuilt credential at c o bytes → IsBuilt credential to d p bytes → at ≡ to
+same_moment facts credential at to c d o p bytes a b =
+    let moved : OpensAs (credential_key credential) authenticator_usage a.text authenticator (told_auth credential to d p bytes b) =
+    subst (λ (t : List ℕ). OpensAs (credential_key credential) authenticator_usage t authenticator (told_auth credential to d p bytes b))
+    (same_text facts credential at to c d o p bytes a b) (opens_told credential to d p bytes b) in
+    let same : told_auth credential at c o bytes a ≡ told_auth credential to d p bytes b =
+    one_message facts (credential_key credential) authenticator_usage a.text authenticator is_authenticator
+    (told_auth credential at c o bytes a) (told_auth credential to d p bytes b) (opens_told credential at c o bytes a) moved in
+    a.text_is.told.at_is ∙ (ap (λ (x : ValueOf authenticator). micros_of (authenticator_ctime x) (authenticator_cusec x)) same ∙ sym b.text_is.told.at_is)
+
+-- ---- what is accepted of a built request
+
+module _ (facts : Facts) (setup : Setup) (credential : Credential) (ticket : ValueOf ticket_kind) (part : ValueOf enc_ticket_part)
+    (has : HasTicket setup credential ticket part) (at : ℤ) (confounder : List ℕ) (options : RequestOptions) (bytes : List ℕ)
+    (built : IsBuilt credential at confounder options bytes) where
+  abbrev auth : ValueOf authenticator
+  auth = told_auth credential at confounder options bytes built
+
+  abbrev message : ValueOf ap_req
+  message = told_request credential at confounder options bytes built
+
+  same_ticket : ticket ≡ built.ticket
+  same_ticket = facts.one_value ticket_kind is_ticket ticket built.ticket credential.ticket has.ticket_is built.ticket_is
+
+  has_built : HasTicket setup credential built.ticket part
+  has_built = subst (λ (t : ValueOf ticket_kind). HasTicket setup credential t part) same_ticket has
+
+  ticketed : Asks bytes message → Ticketed setup bytes message part
+  ticketed asks = record { entry = has_built.entry; keyed = record { asks = asks; chosen_is = has_built.chosen_is }; opens = has_built.opens }
+
+  opens_auth : OpensAuthenticator message part auth
+  opens_auth = record {
+    same_type = ap (λ (k : KeyValue). k.etype) (sym has.key);
+    opens = subst (λ (k : KeyValue). OpensAs k authenticator_usage built.text authenticator auth) (sym has.key)
+        (opens_told credential at confounder options bytes built);
+  }
+
+  -- it is opened as what was built
+  opened_as : (r : ValueOf ap_req) (p : ValueOf enc_ticket_part) (a : ValueOf authenticator) → OpenedAs setup bytes r p a → SameOpening message r part p auth a
+  opened_as r p a opened =
+      let request : r ≡ message = one_request facts bytes message r built.bytes_are.message opened.authenticated.ticketed.keyed.asks.message in
+      let moved : Ticketed setup bytes message p = subst (λ (x : ValueOf ap_req). Ticketed setup bytes x p) request opened.authenticated.ticketed in
+      let same : p ≡ part = one_part facts setup bytes message part p (ticketed moved.keyed.asks) moved in
+      let first : OpensAuthenticator message p a = subst (λ (x : ValueOf ap_req). OpensAuthenticator x p a) request opened.authenticated.opens in
+      let second : OpensAuthenticator message part a = subst (λ (x : ValueOf enc_ticket_part). OpensAuthenticator message x a) same first in
+      record { request = request; part = same; auth = one_auth facts message part auth a opens_auth second }
+
+  taken_told : (r : ValueOf ap_req) (p : ValueOf enc_ticket_part) (a : ValueOf authenticator) → SameOpening message r part p auth a
+      → taken_from r p a ≡ taken_from message part auth
+  taken_told r p a same =
+      ap (λ (x : ValueOf ap_req). taken_from x p a) same.request
+      ∙ (ap (λ (x : ValueOf enc_ticket_part). taken_from message x a) same.part ∙ ap (λ (x : ValueOf authenticator). taken_from message part x) same.auth)
+
+  stamp_told : (r : ValueOf ap_req) (p : ValueOf enc_ticket_part) (a : ValueOf authenticator) → SameOpening message r part p auth a
+      → stamp_of r p a ≡ stamp_of message part auth
+  stamp_told r p a same =
+      ap (λ (x : ValueOf ap_req). stamp_of x p a) same.request
+      ∙ (ap (λ (x : ValueOf enc_ticket_part). stamp_of message x a) same.part ∙ ap (λ (x : ValueOf authenticator). stamp_of message part x) same.auth)
+
+  -- the service knows what the client awaits
+  pub taken_agrees : (history : List Arrival) (call : Arrival) (taken : Taken) → call.bytes ≡ bytes → Accept setup history call taken
+      → Agrees taken (awaited_for credential at options)
+  taken_agrees history call taken e a =
+      let opened : OpenedAs setup bytes a.request a.part a.auth = subst (λ (b : List ℕ). OpenedAs setup b a.request a.part a.auth) e a.opened in
+      subst (λ (t : Taken). Agrees t (awaited_for credential at options))
+      (sym (a.taken_is ∙ taken_told a.request a.part a.auth (opened_as a.request a.part a.auth opened)))
+      (record {
+        client = record { realm = has.client.realm; components = has.client.components };
+        key = has.key;
+        at = sym built.text_is.told.at_is;
+        subkey = refl;
+        seq = refl;
+      })
+
+  -- and remembers it by the ticket's names and the client's moment
+  pub stamp_taken : (history : List Arrival) (call : Arrival) (taken : Taken) → call.bytes ≡ bytes → (a : Accept setup history call taken)
+      → stamp_at (ticket_service ticket) (part_client part) at ≡ stamp_of a.request a.part a.auth
+  stamp_taken history call taken e a =
+      let opened : OpenedAs setup bytes a.request a.part a.auth = subst (λ (b : List ℕ). OpenedAs setup b a.request a.part a.auth) e a.opened in
+      ap (λ (t : ValueOf ticket_kind). stamp_at (ticket_service t) (part_client part) at) same_ticket
+      ∙ (ap (λ (m : ℤ). stamp_at (ticket_service built.ticket) (part_client part) m) built.text_is.told.at_is
+      ∙ sym (stamp_told a.request a.part a.auth (opened_as a.request a.part a.auth opened)))
+
+-- ---- what is opened of a reply
+
+pub reply_opens : Facts → (key : KeyValue) (taken : Taken) (confounder : List ℕ) (options : ReplyOptions) (bytes : List ℕ) (reply : ValueOf ap_rep)
+    (part : ValueOf enc_ap_rep_part) → taken.session_key ≡ key → IsReply taken confounder options bytes → IsMessage ap_rep reply bytes
+    → OpensReply key reply part → part ≡ reply_part_for taken options
+reply_opens facts key taken confounder options bytes reply part e r message o =
+    let same : reply ≡ reply_for taken.session_key r.text =
+    facts.one_value ap_rep is_ap_rep reply (reply_for taken.session_key r.text) bytes message r.bytes_are.message in
+    let first : OpensReply key (reply_for taken.session_key r.text) part = subst (λ (x : ValueOf ap_rep). OpensReply key x part) same o in
+    let told : OpensAs taken.session_key reply_usage r.text enc_ap_rep_part (reply_part_for taken options) = record {
+      plain = r.plain;
+      opens = sealed_opens taken.session_key reply_usage confounder r.plain r.text r.text_is;
+      message = r.plain_is.message;
+    } in
+    one_message facts key reply_usage r.text enc_ap_rep_part is_enc_ap_rep_part part (reply_part_for taken options) first.opens
+    (subst (λ (k : KeyValue). OpensAs k reply_usage r.text enc_ap_rep_part (reply_part_for taken options)) e told)

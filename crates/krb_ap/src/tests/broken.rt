@@ -1,0 +1,137 @@
+//! The request of the fixture with one thing broken.
+
+use super::client::sent;
+use super::*;
+use crate::{FinishFault, ReplyOptions};
+use krb_msg::{ApRepRef, ApReqRef};
+
+const AT: (i64, u32) = FIXTURE.sent;
+
+// What a fresh service answers.
+fn answered(alloc: Global, bytes: &[u8]) -> Result<Outcome, Fail> {
+    let mut service = acceptor(alloc, TimedMemory::new(alloc))?;
+    Ok(service.accept(alloc, bytes, moment(AT)?))
+}
+
+fn kind_of(outcome: Outcome) -> &'static str {
+    match outcome {
+        Ok(accepted) if accepted.mutual => "accepted, mutual",
+        Ok(_) => "accepted, plain",
+        Err(Refusal::MessageType) => "message type",
+        Err(Refusal::Malformed(_)) => "malformed",
+        Err(Refusal::UserToUser) => "user to user",
+        Err(Refusal::TicketEtype) => "ticket etype",
+        Err(Refusal::NotUs) => "not us",
+        Err(Refusal::BadKeyVersion) => "key version",
+        Err(Refusal::TicketIntegrity) => "ticket integrity",
+        Err(Refusal::AuthenticatorIntegrity) => "authenticator integrity",
+        Err(_) => "another refusal",
+    }
+}
+
+// Each beginning of the request is cut off where it ends.
+#[test]
+fn each_beginning(rt: HostRuntime) -> Result<(), Fail> {
+    let alloc = rt.alloc();
+    let bytes = request(alloc, FIXTURE)?;
+    for length in 0..348 {
+        let outcome = answered(alloc, bytes.get(..length).ok_or("a beginning")?)?;
+        let cut = Fault {
+            kind: FaultKind::Truncated,
+            at: length,
+        };
+        is(
+            &rt,
+            length,
+            refusal_of(outcome),
+            Some(Refusal::Malformed(cut)),
+        );
+    }
+    Ok(())
+}
+
+// What the service answers where the lowest bit of this byte is turned.
+fn turned(place: usize) -> &'static str {
+    match place {
+        // Options that aren't looked at, and the type of the service's name.
+        23..=26 | 55 => "accepted, plain",
+        0 => "message type",
+        81 => "ticket etype",
+        45 | 46 | 62..=65 | 68..=70 => "not us",
+        86 => "key version",
+        93..=243 => "ticket integrity",
+        252 | 257..=347 => "authenticator integrity",
+        _ => "malformed",
+    }
+}
+
+fn changed(alloc: Global, place: usize, bits: u8) -> Result<Outcome, Fail> {
+    let mut bytes = request(alloc, FIXTURE)?;
+    let byte = bytes.get_mut(place).ok_or("a place in the request")?;
+    *byte ^= bits;
+    answered(alloc, &bytes)
+}
+
+#[test]
+fn each_byte(rt: HostRuntime) -> Result<(), Fail> {
+    for place in 0..348 {
+        let outcome = changed(rt.alloc(), place, 1)?;
+        is(&rt, place, kind_of(outcome), turned(place));
+    }
+    Ok(())
+}
+
+#[test]
+fn options_that_count(rt: HostRuntime) -> Result<(), Fail> {
+    let user_to_user = changed(rt.alloc(), 23, 0x40)?;
+    is(&rt, "0x40", kind_of(user_to_user), "user to user");
+    let wants_reply = changed(rt.alloc(), 23, 0x20)?;
+    is(&rt, "0x20", kind_of(wants_reply), "accepted, mutual");
+    Ok(())
+}
+
+// The sealed text, sealed for another usage.
+fn resealed(alloc: Global, key: &Key, from: u32, to: u32, cipher: &[u8]) -> Result<Vec<u8>, Fail> {
+    let plain = key.open(alloc, from, cipher)?;
+    Ok(key.seal(alloc, to, &[0x20; 16], &plain)?)
+}
+
+#[test]
+fn a_ticket_for_another_usage(rt: HostRuntime) -> Result<(), Fail> {
+    let alloc = rt.alloc();
+    let mut broken = ApReqRef::parse(&request(alloc, FIXTURE)?)?.to_owned(alloc)?;
+    let key = key(alloc, 19, &SERVICE_KEY)?;
+    broken.ticket.enc_part.cipher = resealed(alloc, &key, 2, 11, &broken.ticket.enc_part.cipher)?;
+    let outcome = answered(alloc, &broken.encode(alloc)?)?;
+    is(&rt, "usage 11", kind_of(outcome), "ticket integrity");
+    Ok(())
+}
+
+#[test]
+fn an_authenticator_for_another_usage(rt: HostRuntime) -> Result<(), Fail> {
+    let alloc = rt.alloc();
+    let mut broken = ApReqRef::parse(&request(alloc, FIXTURE)?)?.to_owned(alloc)?;
+    let key = key(alloc, 19, &SESSION_KEY)?;
+    broken.authenticator.cipher = resealed(alloc, &key, 11, 2, &broken.authenticator.cipher)?;
+    let outcome = answered(alloc, &broken.encode(alloc)?)?;
+    is(&rt, "usage 2", kind_of(outcome), "authenticator integrity");
+    Ok(())
+}
+
+#[test]
+fn a_reply_for_another_usage(rt: HostRuntime) -> Result<(), Fail> {
+    let alloc = rt.alloc();
+    let (bytes, pending) = sent(alloc, FIXTURE, None, None)?;
+    let accepted = answered(alloc, &bytes)?.map_err(|_| "refused")?;
+    let options = ReplyOptions {
+        subkey: None,
+        seq: None,
+    };
+    let reply = accepted.reply(alloc, &[0x30; 16], options)?;
+    let mut broken = ApRepRef::parse(&reply)?.to_owned(alloc)?;
+    let key = &accepted.session_key;
+    broken.enc_part.cipher = resealed(alloc, key, 12, 11, &broken.enc_part.cipher)?;
+    let fault = pending.finish(alloc, &broken.encode(alloc)?).err();
+    is(&rt, "usage 11", fault, Some(FinishFault::Integrity));
+    Ok(())
+}

@@ -1,0 +1,193 @@
+//! Requests that are lost, repeated and reordered, and their replies.
+
+use super::client::sent;
+use super::*;
+use crate::{Accepted, FinishFault, Pending, ReplyOptions};
+
+// A request, what is kept of it, and its moment in microseconds.
+#[derive(Drop)]
+struct Packet {
+    bytes: Vec<u8>,
+    pending: Pending,
+    at: i64,
+}
+
+fn packet(alloc: Global, at: (i64, u32)) -> Result<Packet, Fail> {
+    let (bytes, pending) = sent(
+        alloc,
+        Made {
+            sent: at,
+            ..FIXTURE
+        },
+        None,
+        None,
+    )?;
+    Ok(Packet {
+        bytes,
+        pending,
+        at: moment(at)?.micros(),
+    })
+}
+
+fn replied(alloc: Global, accepted: &Accepted) -> Result<Vec<u8>, Fail> {
+    let options = ReplyOptions {
+        subkey: None,
+        seq: None,
+    };
+    Ok(accepted.reply(alloc, &[0x30; 16], options)?)
+}
+
+// The first of the three to come is each time accepted, and its repeat refused; and each reply is for its own request alone.
+#[test]
+fn three_requests(rt: HostRuntime) -> Result<(), Fail> {
+    let alloc = rt.alloc();
+    let mut packets = Vec::new(alloc);
+    for micros in 5..8 {
+        packets.push(packet(alloc, (1_700_000_100, micros))?)?;
+    }
+    let mut service = acceptor(alloc, TimedMemory::new(alloc))?;
+    let mut replies = Vec::new(alloc);
+    for (row, which) in [2usize, 0, 1, 0, 2, 1].into_iter().enumerate() {
+        let sent = packets.get(which).ok_or("a request")?;
+        match service.accept(alloc, &sent.bytes, moment((1_700_000_101, 0))?) {
+            Ok(accepted) => replies.push((which, replied(alloc, &accepted)?))?,
+            Err(refusal) => is(&rt, row, (row > 2, refusal), (true, Refusal::Repeat)),
+        }
+    }
+    is(&rt, "replies", replies.len(), 3);
+    for (which, reply) in replies.iter() {
+        for (other, sent) in packets.iter().enumerate() {
+            let fault = sent.pending.finish(alloc, reply).err();
+            let wanted = (other != *which).then_some(FinishFault::Mismatch);
+            is(&rt, (*which, other), fault, wanted);
+        }
+    }
+    Ok(())
+}
+
+// Numbers that look random, from a seed (a linear congruence of Knuth's).
+#[derive(Drop)]
+struct Dice(u64);
+
+impl Dice {
+    fn roll(&mut self, sides: u64) -> u64 {
+        self.0 = self
+            .0
+            .wrapping_mul(6_364_136_223_846_793_005)
+            .wrapping_add(1_442_695_040_888_963_407);
+        (self.0 >> 33) % sides.max(1)
+    }
+}
+
+// A service in plain words: the latest moment, and the moments of all requests that were near to it.
+#[derive(Drop)]
+struct Plain {
+    latest: i64,
+    shown: Vec<i64>,
+}
+
+const SKEW: i64 = 300_000_000;
+
+impl Plain {
+    fn answer(&mut self, sent: i64, now: i64) -> Result<Option<Refusal>, Fail> {
+        if self.latest < now {
+            self.latest = now;
+        }
+        if sent.saturating_add(SKEW) < self.latest || self.latest.saturating_add(SKEW) < sent {
+            return Ok(Some(Refusal::Skew));
+        }
+        if self.shown.iter().any(|one| *one == sent) {
+            return Ok(Some(Refusal::Repeat));
+        }
+        self.shown.push(sent)?;
+        Ok(None)
+    }
+}
+
+// Both services and the plain one, and how many requests were accepted.
+#[derive(Drop)]
+struct Services {
+    kept: Acceptor<ListMemory>,
+    timed: Acceptor<TimedMemory>,
+    plain: Plain,
+    accepted: u32,
+}
+
+fn services(alloc: Global) -> Result<Services, Fail> {
+    Ok(Services {
+        kept: acceptor(alloc, ListMemory::new(alloc))?,
+        timed: acceptor(alloc, TimedMemory::new(alloc))?,
+        plain: Plain {
+            latest: i64::MIN,
+            shown: Vec::new(alloc),
+        },
+        accepted: 0,
+    })
+}
+
+// Delivers a packet to all three, and the reply to the client and to another.
+fn deliver(
+    rt: &(impl Alloc + Abort),
+    alloc: Global,
+    services: &mut Services,
+    packet: &Packet,
+    other: &Packet,
+    now: Moment,
+) -> Result<(), Fail> {
+    let wanted = services.plain.answer(packet.at, now.micros())?;
+    let kept = refusal_of(services.kept.accept(alloc, &packet.bytes, now));
+    is(rt, packet.at, kept, wanted);
+    match services.timed.accept(alloc, &packet.bytes, now) {
+        Ok(accepted) => {
+            is(rt, packet.at, None, wanted);
+            services.accepted = services.accepted.saturating_add(1);
+            let reply = replied(alloc, &accepted)?;
+            is(
+                rt,
+                packet.at,
+                packet.pending.finish(alloc, &reply).err(),
+                None,
+            );
+            let mismatch = (other.at != packet.at).then_some(FinishFault::Mismatch);
+            is(
+                rt,
+                packet.at,
+                other.pending.finish(alloc, &reply).err(),
+                mismatch,
+            );
+        }
+        Err(refusal) => is(rt, packet.at, Some(refusal), wanted),
+    }
+    Ok(())
+}
+
+// A moment of some twenty minutes.
+fn some_moment(dice: &mut Dice) -> (i64, u32) {
+    (
+        1_700_000_000 + dice.roll(1_300) as i64,
+        dice.roll(1_000_000) as u32,
+    )
+}
+
+#[test]
+fn schedules_of_any_order(rt: HostRuntime) -> Result<(), Fail> {
+    let alloc = rt.alloc();
+    let mut dice = Dice(20_261_123);
+    let mut packets = Vec::new(alloc);
+    for _ in 0..20 {
+        packets.push(packet(alloc, some_moment(&mut dice))?)?;
+    }
+    let mut accepted = 0u32;
+    for _ in 0..2_000 {
+        let mut services = services(alloc)?;
+        for _ in 0..dice.roll(21) {
+            let one = packets.get(dice.roll(20) as usize).ok_or("a packet")?;
+            let other = packets.get(dice.roll(20) as usize).ok_or("a packet")?;
+            let now = moment(some_moment(&mut dice))?;
+            deliver(&rt, alloc, &mut services, one, other, now)?;
+        }
+        accepted = accepted.saturating_add(services.accepted);
+    }
+    is(&rt, "many are accepted", accepted > 2_000, true);
+    Ok(())
+}
