@@ -38,6 +38,7 @@ sys.path.insert(0, str(HERE))
 sys.dont_write_bytecode = True
 
 import der_rules  # noqa: E402
+import dialogue  # noqa: E402
 import generated  # noqa: E402
 import msg_rules  # noqa: E402
 import peers  # noqa: E402
@@ -132,7 +133,7 @@ def results(program, word):
     with ThreadPoolExecutor(max_workers=os.cpu_count()) as pool:
         yield from zip((case["name"] for case in chosen), pool.map(lambda case: run(program, case), chosen))
     tables = [("the table of DER cases by the rules", der_table()), ("the table of messages by the rules", msg_table())]
-    for name, wrong in [*tables, *peers.checks(program)]:
+    for name, wrong in [*tables, *dialogue.checks(program), *peers.checks(program)]:
         if word in name:
             yield name, wrong
 
