@@ -43,6 +43,7 @@ TOP = HERE.parent
 sys.path.insert(0, str(HERE))
 sys.dont_write_bytecode = True
 
+import dialogue  # noqa: E402
 import generated  # noqa: E402
 import peers  # noqa: E402
 import readme  # noqa: E402
@@ -151,7 +152,7 @@ def results(program, word, jobs):
     """The name of each case and what is wrong with it, or None. Cases run side by side, each in a folder of its own."""
     chosen = (case for case in chain(stored_cases(), generated.cases()) if word in case["name"])
     yield from in_turn(jobs, lambda case: (case["name"], run(program, case)), chosen)
-    for part in (tables.checks, readme.checks, script.checks, refused.checks, peers.checks):
+    for part in (tables.checks, readme.checks, script.checks, refused.checks, dialogue.checks, peers.checks):
         yield from ((name, wrong) for name, wrong in part(program) if word in name)
 
 

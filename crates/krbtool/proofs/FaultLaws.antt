@@ -1,14 +1,16 @@
 -- The faults of a file that an engine passes on.
-use Rattle.std.proofs.Common.{◌≡◌, ◌⊎◌, Result, Ok, Err, ap, ◌∙◌, sym, inl, inr}
+use Rattle.krbtool.specs.declared.fault.EngineFault.{EngineFault}
+use Rattle.krbtool.specs.declared.fault.EngineFault.TheVariants.{Input, Write, OutOfMemory}
+use Rattle.std.proofs.Common.{ℕ, ◌≡◌, ◌⊎◌, Result, Ok, Err, ap, ◌∙◌, sym, inl, inr}
 
 -- the answer is this fault, or one of two others
 abbrev pub IsOneOf : {X F : Type 0} → Result X F → F → F → F → Type 0
 IsOneOf answer fault memory read = (answer ≡ Err fault) ⊎ ((answer ≡ Err memory) ⊎ (answer ≡ Err read))
 
-same_err : {X F : Type 0} (one other : F) → ◌≡◌ {A = Result X F} (Err one) (Err other) → one ≡ other
+pub same_err : {X F : Type 0} (one other : F) → ◌≡◌ {A = Result X F} (Err one) (Err other) → one ≡ other
 same_err one other e = cc
 
-no_ok : {X F : Type 0} (value : X) (fault : F) → ◌≡◌ {A = Result X F} (Ok value) (Err fault) → ⊥
+pub no_ok : {X F : Type 0} (value : X) (fault : F) → ◌≡◌ {A = Result X F} (Ok value) (Err fault) → ⊥
 no_ok value fault e = cc
 
 -- it is passed on as it was met
@@ -53,3 +55,7 @@ value_met memory source read met value is one = elim one [
   | inl e ↦ same_ok met value (sym is ∙ e)
   | inr b ↦ elim b [ inl e ↦ absurd (no_ok met memory (sym is ∙ e)) | inr e ↦ absurd (no_ok met source (sym is ∙ e)) ]
 ]
+
+-- a fault of the output or of memory isn't one of the input
+pub not_input : {X : Type 0} (fault : EngineFault) → (fault ≡ Write) ⊎ (fault ≡ OutOfMemory) → ◌≡◌ {A = Result X EngineFault} (Err fault) (Err Input) → ⊥
+not_input fault which e = elim which [ inl write ↦ cc | inr memory ↦ cc ]

@@ -8,7 +8,7 @@ use Rattle.krb_ccache.specs.declared.fault.CacheFault.{CacheFault}
 use Rattle.krb_ccache.specs.declared.fault.CacheFault.TheVariants as cache
 use Rattle.krb_ccache.specs.Fault as in_cache
 use Rattle.krbtool.specs.declared.fault.EngineFault.{EngineFault}
-use Rattle.krbtool.specs.declared.fault.EngineFault.TheVariants.{Keytab, Cache, Write, OutOfMemory}
+use Rattle.krbtool.specs.declared.fault.EngineFault.TheVariants.{Keytab, Cache, Input, Write, OutOfMemory}
 
 abbrev pub keytab_name : KeytabFault → List ℕ
 keytab_name keytab.Version = codes "Version"
@@ -30,12 +30,14 @@ cache_name cache.OutOfMemory = codes "OutOfMemory"
 abbrev pub name_of : EngineFault → List ℕ
 name_of (Keytab fault) = keytab_name fault
 name_of (Cache fault) = cache_name fault
+name_of Input = codes "Read"
 name_of Write = codes "Write"
 name_of OutOfMemory = codes "OutOfMemory"
 
 abbrev pub place_of : EngineFault → Option ℕ
 place_of (Keytab fault) = offset_of fault
 place_of (Cache fault) = in_cache.offset_of fault
+place_of Input = None
 place_of Write = None
 place_of OutOfMemory = None
 

@@ -3,3 +3,6 @@ pub mod Lines
 pub mod Status
 pub mod Engine
 pub mod FaultText
+pub mod CallLine
+pub mod Answering
+pub mod Inner

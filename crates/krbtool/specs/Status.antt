@@ -3,7 +3,7 @@ use Rattle.std.specs.Prelude.{ℕ}
 use Rattle.krb_keytab.specs.declared.fault.KeytabFault.TheVariants as keytab
 use Rattle.krb_ccache.specs.declared.fault.CacheFault.TheVariants as cache
 use Rattle.krbtool.specs.declared.fault.EngineFault.{EngineFault}
-use Rattle.krbtool.specs.declared.fault.EngineFault.TheVariants.{Keytab, Cache, Write, OutOfMemory}
+use Rattle.krbtool.specs.declared.fault.EngineFault.TheVariants.{Keytab, Cache, Input, Write, OutOfMemory}
 
 -- 1: the content is refused. 3: a file, the output or memory failed
 abbrev pub status_of : EngineFault → ℕ
@@ -13,5 +13,6 @@ status_of (Keytab _) = 1
 status_of (Cache cache.Read) = 3
 status_of (Cache cache.OutOfMemory) = 3
 status_of (Cache _) = 1
+status_of Input = 3
 status_of Write = 3
 status_of OutOfMemory = 3

@@ -52,6 +52,7 @@ pub fn check_keytab<S: Source, T: Sink>(
         → OfFile IsKeytab (S.remaining source.old) (λ entries.
         AppendsBeginning (T.taken sink.old) (T.taken sink.new) (ok_line (length entries))) }
     ensures kind { (other : CacheFault) → result ≡ Err (EngineFault.Cache other) → ⊥ }
+    ensures no_input { result ≡ Err EngineFault.Input → ⊥ }
     ensures reads { S.failure_count source.new ≡ S.failure_count source.old + failed_reads result }
     ensures writes { T.failure_count sink.new ≡ T.failure_count sink.old + failed_writes result }
 {
@@ -95,6 +96,7 @@ pub fn check_ccache<S: Source, T: Sink>(
         → OfFile IsCache (S.remaining source.old) (λ cache.
         AppendsBeginning (T.taken sink.old) (T.taken sink.new) (ok_line (length cache.credentials))) }
     ensures kind { (other : KeytabFault) → result ≡ Err (EngineFault.Keytab other) → ⊥ }
+    ensures no_input { result ≡ Err EngineFault.Input → ⊥ }
     ensures reads { S.failure_count source.new ≡ S.failure_count source.old + failed_reads result }
     ensures writes { T.failure_count sink.new ≡ T.failure_count sink.old + failed_writes result }
 {

@@ -60,6 +60,7 @@ pub fn convert_keytab<S: Source, T: Sink>(
         AppendsBeginning (T.taken sink.old) (T.taken sink.new) (written entries)) }
     ensures memory { result ≡ Err EngineFault.OutOfMemory → ⊥ }
     ensures kind { (other : CacheFault) → result ≡ Err (EngineFault.Cache other) → ⊥ }
+    ensures no_input { result ≡ Err EngineFault.Input → ⊥ }
     ensures reads { S.failure_count source.new ≡ S.failure_count source.old + failed_reads result }
     ensures writes { T.failure_count sink.new ≡ T.failure_count sink.old + failed_writes result }
 {
@@ -80,6 +81,7 @@ fn write_keytab<T: Sink>(alloc: Global, keytab: &Keytab, sink: &mut T) -> Result
         → AppendsBeginning (T.taken sink.old) (T.taken sink.new) (written keytab.now) }
     ensures memory { result ≡ Err EngineFault.OutOfMemory → ⊥ }
     ensures kind { (other : CacheFault) → result ≡ Err (EngineFault.Cache other) → ⊥ }
+    ensures no_input { result ≡ Err EngineFault.Input → ⊥ }
     ensures reads { failed_reads result ≡ 0 }
     ensures writes { T.failure_count sink.new ≡ T.failure_count sink.old + failed_writes result }
 {
@@ -129,6 +131,7 @@ pub fn convert_ccache<S: Source, T: Sink>(
         AppendsBeginning (T.taken sink.old) (T.taken sink.new) (cache_bytes cache)) }
     ensures memory { result ≡ Err EngineFault.OutOfMemory → ⊥ }
     ensures kind { (other : KeytabFault) → result ≡ Err (EngineFault.Keytab other) → ⊥ }
+    ensures no_input { result ≡ Err EngineFault.Input → ⊥ }
     ensures reads { S.failure_count source.new ≡ S.failure_count source.old + failed_reads result }
     ensures writes { T.failure_count sink.new ≡ T.failure_count sink.old + failed_writes result }
 {
@@ -152,6 +155,7 @@ fn write_ccache<T: Sink>(alloc: Global, cache: &CCache, sink: &mut T) -> Result<
         → AppendsBeginning (T.taken sink.old) (T.taken sink.new) (cache_bytes cache.now) }
     ensures memory { result ≡ Err EngineFault.OutOfMemory → ⊥ }
     ensures kind { (other : KeytabFault) → result ≡ Err (EngineFault.Keytab other) → ⊥ }
+    ensures no_input { result ≡ Err EngineFault.Input → ⊥ }
     ensures reads { failed_reads result ≡ 0 }
     ensures writes { T.failure_count sink.new ≡ T.failure_count sink.old + failed_writes result }
 {

@@ -3,11 +3,11 @@
 ghost use Rattle.std.specs.Prelude.{◌≡◌, List, ℕ, Some, None, codes};
 ghost use Rattle.krbtool.specs.FaultText.{keytab_name, cache_name, name_of, place_of, line_of};
 ghost use Rattle.krbtool.specs.Status.{status_of};
-ghost use Rattle.krbtool.specs.declared.fault.EngineFault.TheVariants.{Keytab, Cache, OutOfMemory, Write};
+ghost use Rattle.krbtool.specs.declared.fault.EngineFault.TheVariants.{Keytab, Cache, Input, OutOfMemory, Write};
 
 use krb_ccache::CacheFault;
 use krb_keytab::KeytabFault;
-use krb_name::SinkFailed;
+use krb_name::{SinkFailed, SourceFailed};
 use std::alloc::AllocError;
 use std::fmt;
 use std::marker::Model;
@@ -23,6 +23,9 @@ pub enum EngineFault {
     /// The credential cache couldn't be read, there was no room for it, or what was read is none.
     #[error("{0}")]
     Cache(CacheFault),
+    /// The lines of an input couldn't be read, or there were more of them than is taken.
+    #[error("the input could not be read")]
+    Input,
     /// The sink couldn't be written.
     #[error("the output could not be written")]
     Write,
@@ -44,6 +47,14 @@ impl From<CacheFault> for EngineFault {
 
     fn from(fault: CacheFault) -> EngineFault {
         EngineFault::Cache(fault)
+    }
+}
+
+impl From<SourceFailed> for EngineFault {
+    ghost from_gives = { λ _ fault. fault ≡ Input };
+
+    fn from(_: SourceFailed) -> EngineFault {
+        EngineFault::Input
     }
 }
 
@@ -71,6 +82,7 @@ impl EngineFault {
         match self {
             EngineFault::Keytab(fault) => keytab_name(fault),
             EngineFault::Cache(fault) => cache_name(fault),
+            EngineFault::Input => "Read",
             EngineFault::Write => "Write",
             EngineFault::OutOfMemory => "OutOfMemory",
         }
@@ -83,7 +95,7 @@ impl EngineFault {
         match self {
             EngineFault::Keytab(fault) => fault.at(),
             EngineFault::Cache(fault) => fault.at(),
-            EngineFault::Write | EngineFault::OutOfMemory => None,
+            EngineFault::Input | EngineFault::Write | EngineFault::OutOfMemory => None,
         }
     }
 }
@@ -124,9 +136,12 @@ pub fn status(fault: &EngineFault) -> u8
         EngineFault::Keytab(KeytabFault::Read | KeytabFault::OutOfMemory) => FAILED,
         EngineFault::Cache(CacheFault::Read | CacheFault::OutOfMemory) => FAILED,
         EngineFault::Keytab(_) | EngineFault::Cache(_) => REFUSED,
-        EngineFault::Write | EngineFault::OutOfMemory => FAILED,
+        EngineFault::Input | EngineFault::Write | EngineFault::OutOfMemory => FAILED,
     }
 }
+
+/// The command line is wrong.
+pub const WRONG_WORDS: u8 = 2;
 
 /// The content of a file is refused.
 pub const REFUSED: u8 = 1;
@@ -165,8 +180,8 @@ impl fmt::Display for FaultLine<'_> {
     }
 }
 
-/// Gives the line for a fault of what has this name: a file as it was given, `output`, or a
-/// command. It takes no memory.
+/// Gives the line for a fault of what has this name: a file as it was given, `output`, `input`, or
+/// a command. `Input` is printed as `Read`. It takes no memory.
 pub fn fault_line<'a>(name: &'a str, fault: &EngineFault) -> FaultLine<'a>
     ensures { result ≡ line_of name.entry.now (name_of fault.now) (place_of fault.now) }
 {

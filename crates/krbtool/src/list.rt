@@ -54,6 +54,7 @@ pub fn list_keytab<S: Source, T: Sink>(
         → OfFile IsKeytab (S.remaining source.old) (λ entries.
         AppendsBeginning (T.taken sink.old) (T.taken sink.new) (keytab_lines entries)) }
     ensures kind { (other : CacheFault) → result ≡ Err (EngineFault.Cache other) → ⊥ }
+    ensures no_input { result ≡ Err EngineFault.Input → ⊥ }
     ensures reads { S.failure_count source.new ≡ S.failure_count source.old + failed_reads result }
     ensures writes { T.failure_count sink.new ≡ T.failure_count sink.old + failed_writes result }
 {
@@ -113,6 +114,7 @@ pub fn list_ccache<S: Source, T: Sink>(
         (offset : Option (ℤ × ℤ)) × (IsOffset cache.header offset
         × AppendsBeginning (T.taken sink.old) (T.taken sink.new) (cache_lines cache offset))) }
     ensures kind { (other : KeytabFault) → result ≡ Err (EngineFault.Keytab other) → ⊥ }
+    ensures no_input { result ≡ Err EngineFault.Input → ⊥ }
     ensures reads { S.failure_count source.new ≡ S.failure_count source.old + failed_reads result }
     ensures writes { T.failure_count sink.new ≡ T.failure_count sink.old + failed_writes result }
 {

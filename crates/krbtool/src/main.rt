@@ -4,17 +4,21 @@
 //! command answers is said by the contract of its engine over a source and a sink, as `list_keytab`.
 #![tactic(auto)]
 
+mod accept;
+mod answering;
+mod call_line;
 mod check;
 mod convert;
 mod fault;
 mod line;
 mod list;
 mod order;
+mod part_line;
 mod run;
 mod streams;
 mod words;
 
-use crate::fault::{EngineFault, FAILED, fault_line, file_line};
+use crate::fault::{EngineFault, FAILED, WRONG_WORDS, fault_line, file_line};
 use crate::run::run;
 use crate::streams::{NOWHERE, hold_streams};
 use crate::words::read_words;
@@ -22,9 +26,6 @@ use clap::error::ErrorKind;
 use std::alloc::{AllocError, Global};
 use std::io;
 use std::process::ExitCode;
-
-// The command line is wrong.
-const WRONG_WORDS: u8 = 2;
 
 fn main(rt: HostRuntime) -> ExitCode {
     let Ok(_held) = hold_streams(&rt) else {

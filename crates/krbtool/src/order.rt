@@ -35,4 +35,11 @@ pub enum Order<'a> {
         /// The path of what is written.
         out: &'a str,
     },
+    /// `accept KEYTAB [--skew SECONDS]`: the lines of standard input answered by a service.
+    Accept {
+        /// The keytab's path.
+        keytab: &'a str,
+        /// By how many seconds clocks may differ, in decimal: 0 to 86400.
+        skew: &'a str,
+    },
 }

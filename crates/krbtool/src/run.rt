@@ -2,16 +2,20 @@
 
 ghost use Rattle.std.specs.Prelude.{◌<◌, ◌-◌, ◌^◌};
 
+use crate::accept::accept_lines;
 use crate::check::{check_ccache, check_keytab};
 use crate::convert::{convert_ccache, convert_keytab};
-use crate::fault::{EngineFault, FAILED, FaultLine, fault_line, file_line, status};
+use crate::fault::{EngineFault, FAILED, FaultLine, WRONG_WORDS, fault_line, file_line, status};
 use crate::list::{list_ccache, list_keytab};
 use crate::order::Order;
+use krb_ap::Acceptor;
+use krb_keytab::Keytab;
 use krb_name::{ReadSource, Sink, Source, WriteSink};
+use krb_replay::{Skew, TimedMemory};
 use std::alloc::Global;
 use std::fs::{File, OpenOptions};
 use std::io;
-use std::io::{BufWriter, ErrorKind, Write};
+use std::io::{BufWriter, ErrorKind, Input, Write};
 use std::os::unix::fs::OpenOptionsExt;
 use std::rt::Files;
 
@@ -81,7 +85,7 @@ impl Convert {
 
 /// Runs an order, and answers the exit status: 0 where all is well, 1 where content is refused, 3
 /// where a file, the output or memory failed.
-pub(crate) fn run<R: AllocGlobal + Files + Print + Eprint>(rt: &R, order: Order<'_>) -> u8 {
+pub(crate) fn run<R: AllocGlobal + Files + Input + Print + Eprint>(rt: &R, order: Order<'_>) -> u8 {
     match order {
         Order::ListKeytab { file } => run_on_file(rt, OnFile::ListKeytab, file),
         Order::ListCcache { file } => run_on_file(rt, OnFile::ListCcache, file),
@@ -89,6 +93,7 @@ pub(crate) fn run<R: AllocGlobal + Files + Print + Eprint>(rt: &R, order: Order<
         Order::CheckCcache { file } => run_on_file(rt, OnFile::CheckCcache, file),
         Order::ConvertKeytab { file, out } => run_convert(rt, Convert::Keytab, file, out),
         Order::ConvertCcache { file, out } => run_convert(rt, Convert::Ccache, file, out),
+        Order::Accept { keytab, skew } => run_accept(rt, keytab, skew),
     }
 }
 
@@ -101,6 +106,7 @@ fn run_on_file<R: AllocGlobal + Files + Print + Eprint>(rt: &R, command: OnFile,
         Err(fault) => {
             let name = match fault {
                 EngineFault::Keytab(_) | EngineFault::Cache(_) => file,
+                EngineFault::Input => "input",
                 EngineFault::Write => "output",
                 EngineFault::OutOfMemory => command.name(),
             };
@@ -157,6 +163,53 @@ fn make<R: Files>(rt: &R, out: &str) -> io::Result<R::File> {
         }
         made => made,
     }
+}
+
+// Answers the lines of standard input by the keytab of this name.
+fn run_accept<R: AllocGlobal + Files + Input + Print + Eprint>(
+    rt: &R,
+    name: &str,
+    skew: &str,
+) -> u8 {
+    let Some(skew) = skew_of(skew) else {
+        return WRONG_WORDS;
+    };
+    let Ok(opened) = File::open(rt, name) else {
+        return complain(rt, file_line(name), FAILED);
+    };
+    let answered = match Keytab::read(rt.alloc(), &mut ReadSource::new(opened)) {
+        Ok(keytab) => answered(rt, keytab, skew),
+        Err(fault) => Err(EngineFault::Keytab(fault)),
+    };
+    match answered {
+        Ok(status) => status,
+        Err(fault) => {
+            let name = match fault {
+                EngineFault::Keytab(_) | EngineFault::Cache(_) => name,
+                EngineFault::Input => "input",
+                EngineFault::Write => "output",
+                EngineFault::OutOfMemory => "accept",
+            };
+            complain(rt, fault_line(name, &fault), status(&fault))
+        }
+    }
+}
+
+// The words of the command line were read as a number in this range.
+fn skew_of(seconds: &str) -> Option<Skew> {
+    Skew::new(seconds.parse::<u32>().ok()?)
+}
+
+// Each answer is written at once, so that another program can wait for it.
+fn answered<R: AllocGlobal + Input + Print>(
+    rt: &R,
+    keytab: Keytab,
+    skew: Skew,
+) -> Result<u8, EngineFault> {
+    let mut acceptor = Acceptor::new(keytab, skew, TimedMemory::new(rt.alloc()));
+    let mut source = ReadSource::new(rt.reader());
+    let mut sink = WriteSink::new(io::writer(rt));
+    accept_lines(rt.alloc(), &mut acceptor, &mut source, &mut sink)
 }
 
 fn tell_wrote<R: Print + Eprint>(rt: &R, count: usize) -> u8 {

@@ -2,11 +2,12 @@
 
 ghost use Rattle.std.specs.Prelude.{◌≡◌, false, Some, IfOk, IfSome, codes, map};
 ghost use Rattle.std.specs.Option.{option_map};
-ghost use Rattle.clap.specs.Words.{app_of, rows_of, found_of, subcommand_of};
+ghost use Rattle.clap.specs.Words.{app_of, rows_of, rule_of, found_of, subcommand_of, subcommand_rows_of};
 ghost use Rattle.clap.specs.declared.builder.command.Command.TheViews.{out-Command};
-ghost use Rattle.krbtool.specs.CommandLine.{krbtool, bare, with_two, with_lists, with_checks, of_file, of_file_and_out, HasFile, HasFiles, IsOrder};
+ghost use Rattle.krbtool.specs.CommandLine.{krbtool, accept, bare, number_option, with_two, with_lists, with_checks, with_conversions, HasOperand, of_file, of_file_and_out, HasFile, HasFiles, IsOrder};
 
 use crate::order::Order;
+use clap::builder::ValueParser;
 use clap::error::ErrorKind;
 use clap::{Arg, ArgMatches, Command, Error};
 use std::alloc::{AllocError, Global};
@@ -113,6 +114,46 @@ fn convert_ccache_command<'a>(alloc: Global) -> Result<Command<'a>, AllocError>
     )
 }
 
+// An option with a whole number up to some greatest one.
+fn number_arg<'a>(
+    alloc: Global,
+    name: &'a str,
+    greatest: u64,
+    default: &'a str,
+    help: &'a str,
+) -> Arg<'a>
+    ensures rule { rule_of result ≡ number_option name.entry.now greatest default.entry.now }
+    ensures local { result.global ≡ false }
+{
+    Arg::new(alloc, name)
+        .long(name)
+        .value_parser(ValueParser::unsigned(0, greatest))
+        .default_value(default)
+        .help(help)
+}
+
+fn accept_command<'a>(alloc: Global) -> Result<Command<'a>, AllocError>
+    ensures app { IfOk result (λ c. app_of c ≡ accept) }
+    ensures local { IfOk result (λ c. (out-Command c).has_globals ≡ false) }
+{
+    let keytab = Arg::new(alloc, "KEYTAB")
+        .required(true)
+        .help("The service's keytab");
+    let skew = number_arg(
+        alloc,
+        "skew",
+        86_400,
+        "300",
+        "By how many seconds clocks may differ: 0 to 86400",
+    );
+    Command::new(alloc, "accept")
+        .about(
+            "Answers requests: for each line SECONDS MICROS HEX of standard input, whether a service accepts it",
+        )
+        .arg(keytab)?
+        .arg(skew)
+}
+
 // The command with two more subcommands.
 fn with_two<'a>(
     command: Command<'a>,
@@ -150,12 +191,20 @@ fn command_with_checks<'a>(alloc: Global) -> Result<Command<'a>, AllocError>
     with_two(command_with_lists(alloc)?, keytab, ccache)
 }
 
-fn krbtool_command<'a>(alloc: Global) -> Result<Command<'a>, AllocError>
-    ensures { IfOk result (λ c. app_of c ≡ krbtool) }
+fn command_with_conversions<'a>(alloc: Global) -> Result<Command<'a>, AllocError>
+    ensures { IfOk result (λ c. app_of c ≡ with_conversions) }
 {
     let keytab = convert_keytab_command(alloc)?;
     let ccache = convert_ccache_command(alloc)?;
     with_two(command_with_checks(alloc)?, keytab, ccache)
+}
+
+#[tactic(auto, unfolding(crate::specs::CommandLine::krbtool))]
+fn krbtool_command<'a>(alloc: Global) -> Result<Command<'a>, AllocError>
+    ensures { IfOk result (λ c. app_of c ≡ krbtool) }
+{
+    let accept = accept_command(alloc)?;
+    command_with_conversions(alloc)?.subcommand(accept)
 }
 
 // The value of FILE.
@@ -174,6 +223,17 @@ fn files_of<'a>(matches: &ArgMatches<'a>) -> Option<(&'a str, &'a str)>
     let file = matches.get_str("FILE")?;
     let out = matches.get_str("OUT")?;
     Some((file, out))
+}
+
+// The values of KEYTAB and of skew.
+#[tactic(auto, using(crate::proofs::Getters::getters))]
+fn acceptance_of<'a>(matches: &ArgMatches<'a>) -> Option<(&'a str, &'a str)>
+    ensures { IfSome result (λ values. HasOperand (rows_of (found_of matches.now)) (codes "KEYTAB") values.0.now
+        × HasOperand (rows_of (found_of matches.now)) (codes "skew") values.1.now) }
+{
+    let keytab = matches.get_str("KEYTAB")?;
+    let skew = matches.get_str("skew")?;
+    Some((keytab, skew))
 }
 
 // What a command of this name asks for, with these values.
@@ -201,8 +261,20 @@ fn order_of<'a>(name: &str, matches: &ArgMatches<'a>) -> Option<Order<'a>>
             let (file, out) = files_of(matches)?;
             Some(Order::ConvertCcache { file, out })
         }
+        "accept" => {
+            let (keytab, skew) = acceptance_of(matches)?;
+            Some(Order::Accept { keytab, skew })
+        }
         _ => None,
     }
+}
+
+// What clap matches of the words.
+#[tactic(auto, using(crate::proofs::CommandLaws::krbtool_is_simple))]
+fn matches_of<'a>(alloc: Global, words: &'a [&'a str]) -> Result<ArgMatches<'a>, Error>
+    ensures { IfOk result (λ m. subcommand_rows_of m ≡ subcommand_of krbtool (map (λ w. w.now) words.entry.now)) }
+{
+    krbtool_command(alloc)?.try_get_matches_from(words)
 }
 
 /// Answers what the words of a command line ask for; the first is the program's name.
@@ -212,7 +284,7 @@ fn order_of<'a>(name: &str, matches: &ArgMatches<'a>) -> Option<Order<'a>>
 pub fn read_words<'a>(alloc: Global, words: &'a [&'a str]) -> Result<Order<'a>, Error>
     ensures order { IfOk result (λ order. IsOrder order (subcommand_of krbtool (map (λ w. w.now) words.entry.now))) }
 {
-    let matches = krbtool_command(alloc)?.try_get_matches_from(words)?;
+    let matches = matches_of(alloc, words)?;
     let order = match matches.subcommand() {
         Some((name, matches)) => order_of(name, matches),
         None => None,

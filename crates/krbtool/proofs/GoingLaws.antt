@@ -1,0 +1,293 @@
+-- How far `accept` is, one byte and one line on.
+use Rattle.std.proofs.Common.{◌≡◌, ◌≢◌, ◌⊎◌, inl, inr, ℕ, ℤ, max, Bool, List, [], ◌∷◌, ◌++◌, Option, Some, Result, length, take, drop, ap, sym, refl, ◌∙◌, subst, append_assoc, append-nil, All, arith, ◌+◌, ◌<◌, ◌≤◌, suc, zero, get_or}
+use Rattle.std.specs.List.{flat_map}
+use Rattle.std.specs.Io.KnownBytes.{Appends, Consumes, Keeps, IsAtEnd}
+use Rattle.std.proofs.KnownBytes.{Appends-nil, Appends-trans, Appends-kept, Consumes-nil, Consumes-trans, Consumes-kept}
+use Rattle.std.proofs.lemmas.Grind.{flat_map-append}
+use Rattle.std.proofs.lemmas.List.Concat.{flat_map-cons}
+use Rattle.std.proofs.lemmas.List.{take_all, take_more, take-append-drop, length-append, length-take}
+use Rattle.krb_name.specs.Flow.{AppendsBeginning}
+use Rattle.krb_replay.specs.Stamp.{Stamp}
+use Rattle.krb_ap.specs.Setup.{Setup, Arrival, arrival}
+use Rattle.krb_ap.specs.Answer.{Answers, after}
+use Rattle.krb_ap.specs.declared.accepted.Accepted.{Accepted}
+use Rattle.krb_ap.specs.declared.refusal.Refusal.{Refusal}
+use Rattle.krbtool.specs.CallLine.{SpellsCall}
+use Rattle.krb_ap.specs.History.{StandsFor}
+use Rattle.krbtool.specs.Answering.{Becomes, BecomeInTurn, HasLines, LineOutcome, answer_line, answer_lines, ended, last_line, outcome_status, status_of_lines}
+use Rattle.krbtool.specs.Inner.Held.{Holds}
+use Rattle.krbtool.specs.Inner.Going.{Answered, BecomesOf, Begun, Going, Reached, ReachedEnd, ReachedInput, ReachedStop, Stopped, Untouched}
+use Rattle.krbtool.specs.declared.part_line.PartLine.{PartLine}
+use Rattle.krbtool.proofs.LineLaws.{begun_back}
+
+-- ---- lists
+
+pub flat_map-push : {X : Type 0} (f : X → List ℕ) (xs : List X) (x : X) → flat_map f (xs ++ x ∷ []) ≡ flat_map f xs ++ f x
+flat_map-push f xs x = flat_map-append f xs (x ∷ []) ∙ ap (λ (l : List ℕ). flat_map f xs ++ l) (flat_map-cons f x [] ∙ append-nil (f x))
+
+All-push : {X : Type 0} (P : X → Type 0) (xs : List X) (x : X) → All P xs → P x → All P (xs ++ x ∷ [])
+All-push P [] x all one zero d below = one
+All-push P [] x all one (suc k) d below = absurd (omega (arith, below))
+All-push P (y ∷ ys) x all one zero d below = all 0 d (omega arith)
+All-push P (y ∷ ys) x all one (suc k) d below = All-push P ys x (λ j e l. all (suc j) e (omega (arith, l))) one k d (omega (arith, below))
+
+-- ---- lines
+
+pub no_lines : HasLines [] [] []
+no_lines = record { bytes_are = refl; plain = λ k d below. absurd (omega (arith, below)); plain_rest = λ k d below. absurd (omega (arith, below)) }
+
+line_more : (bytes : List ℕ) (lines : List (List ℕ)) (rest : List ℕ) (byte : ℕ) → byte ≢ 10 → HasLines bytes lines rest → HasLines (bytes ++ byte ∷ []) lines (rest ++ byte ∷ [])
+line_more bytes lines rest byte other parts = record {
+  bytes_are = ap (λ (l : List ℕ). l ++ byte ∷ []) parts.bytes_are ∙ append_assoc (flat_map ended lines) rest (byte ∷ []);
+  plain = parts.plain;
+  plain_rest = All-push (λ b. b ≢ 10) rest byte parts.plain_rest other;
+}
+
+line_ended : (bytes : List ℕ) (lines : List (List ℕ)) (rest : List ℕ) → HasLines bytes lines rest → HasLines (bytes ++ 10 ∷ []) (lines ++ rest ∷ []) []
+line_ended bytes lines rest parts = record {
+  bytes_are = ap (λ (l : List ℕ). l ++ 10 ∷ []) parts.bytes_are ∙ append_assoc (flat_map ended lines) rest (10 ∷ [])
+      ∙ sym (flat_map-push ended lines rest) ∙ sym (append-nil (flat_map ended (lines ++ rest ∷ [])));
+  plain = All-push (All (λ b. b ≢ 10)) lines rest parts.plain parts.plain_rest;
+  plain_rest = λ k d below. absurd (omega (arith, below));
+}
+
+-- ---- outcomes
+
+pub become_push : (setup : Setup) (history mid end : List Arrival) (lines : List (List ℕ)) (outcomes : List LineOutcome) (line : List ℕ) (outcome : LineOutcome)
+    → BecomeInTurn setup history lines outcomes mid → Becomes setup mid line outcome end
+    → BecomeInTurn setup history (lines ++ line ∷ []) (outcomes ++ outcome ∷ []) end
+become_push setup history mid end [] [] line outcome turn one = (end, (subst (λ (h : List Arrival). Becomes setup h line outcome end) turn one, refl))
+become_push setup history mid end (l ∷ ls) (o ∷ os) line outcome turn one = (turn.0, (turn.1.0, become_push setup turn.0 mid end ls os line outcome turn.1.1 one))
+become_push setup history mid end [] (o ∷ os) line outcome turn one = absurd turn
+become_push setup history mid end (l ∷ ls) [] line outcome turn one = absurd turn
+
+pub status_push : (outcomes : List LineOutcome) (outcome : LineOutcome) → status_of_lines (outcomes ++ outcome ∷ []) ≡ max (status_of_lines outcomes) (outcome_status outcome)
+status_push [] outcome = omega arith
+status_push (o ∷ os) outcome = ap (max (outcome_status o)) (status_push os outcome) ∙ omega arith
+
+-- ---- going on
+
+pub going_start : (part : PartLine) (here setup : Setup) (history : List Arrival) (known : Option (List ℕ)) (Has : Stamp → Type 0) (latest : Option ℤ)
+    → Holds part [] → here ≡ setup → StandsFor setup Has latest history → Going part here setup history [] 0 known known Has latest
+going_start part here setup history known Has latest holds is stands = record {
+  rest = [];
+  holds = holds;
+  lines = [];
+  outcomes = [];
+  end = history;
+  parts = no_lines;
+  become = refl;
+  printed = Appends-nil known;
+  status_is = refl;
+  stands = stands;
+  setup_is = is;
+}
+
+pub going_byte : (part next : PartLine) (here setup : Setup) (history : List Arrival) (came : List ℕ) (status byte : ℕ) (old new : Option (List ℕ))
+    (Has : Stamp → Type 0) (latest : Option ℤ) → byte ≢ 10 → ((line : List ℕ) → Holds part line → Holds next (line ++ byte ∷ []))
+    → Going part here setup history came status old new Has latest → Going next here setup history (came ++ byte ∷ []) (max status 0) old new Has latest
+going_byte part next here setup history came status byte old new Has latest other held going = record {
+  rest = going.rest ++ byte ∷ [];
+  holds = held going.rest going.holds;
+  lines = going.lines;
+  outcomes = going.outcomes;
+  end = going.end;
+  parts = line_more came going.lines going.rest byte other going.parts;
+  become = going.become;
+  printed = going.printed;
+  status_is = omega (arith, going.status_is);
+  stands = going.stands;
+  setup_is = going.setup_is;
+}
+
+pub going_line : (part next : PartLine) (here there setup : Setup) (history : List Arrival) (came : List ℕ) (status more : ℕ) (old mid new : Option (List ℕ))
+    (Has Later : Stamp → Type 0) (latest later : Option ℤ) → Holds next [] → (going : Going part here setup history came status old mid Has latest)
+    → Answered there setup going.end going.rest more mid new Later later
+    → Going next there setup history (came ++ 10 ∷ []) (max status more) old new Later later
+going_line part next here there setup history came status more old mid new Has Later latest later held going one = record {
+  rest = [];
+  holds = held;
+  lines = going.lines ++ going.rest ∷ [];
+  outcomes = going.outcomes ++ one.outcome ∷ [];
+  end = one.of_line.end;
+  parts = line_ended came going.lines going.rest going.parts;
+  become = become_push setup history going.end one.of_line.end going.lines going.outcomes going.rest one.outcome going.become one.of_line.becomes;
+  printed = subst (Appends old new) (sym (flat_map-push answer_line going.outcomes one.outcome))
+      (Appends-trans old mid new (answer_lines going.outcomes) (answer_line one.outcome) going.printed one.printed);
+  status_is = omega (arith, going.status_is, one.status_is, status_push going.outcomes one.outcome);
+  stands = one.of_line.stands;
+  setup_is = one.of_line.setup_is;
+}
+
+-- ---- stopping
+
+pub all_begun : (old new : Option (List ℕ)) (bytes : List ℕ) → Appends old new bytes → AppendsBeginning old new bytes
+all_begun old new bytes appends = (length bytes, subst (Appends old new) (sym (take_all (length bytes) bytes (omega arith))) appends)
+
+pub stopped_before : (part : PartLine) (here there setup : Setup) (history : List Arrival) (came more : List ℕ) (status : ℕ) (old mid new : Option (List ℕ))
+    (Has Later : Stamp → Type 0) (latest later : Option ℤ) → (going : Going part here setup history came status old mid Has latest)
+    → Untouched there setup going.end mid new Later later → Stopped there setup history (came ++ more) old new Later later
+stopped_before part here there setup history came more status old mid new Has Later latest later going untouched = record {
+  first = came;
+  left = more;
+  lines = going.lines;
+  rest = going.rest;
+  outcomes = going.outcomes;
+  end = going.end;
+  came_is = refl;
+  parts = going.parts;
+  become = going.become;
+  printed = all_begun old new (answer_lines going.outcomes) (Appends-kept old mid new (answer_lines going.outcomes) going.printed untouched.kept);
+  stands = untouched.stands;
+  setup_is = untouched.setup_is;
+}
+
+pub stopped_within : (part : PartLine) (here there setup : Setup) (history : List Arrival) (came : List ℕ) (status : ℕ) (old mid new : Option (List ℕ))
+    (Has Later : Stamp → Type 0) (latest later : Option ℤ) → (going : Going part here setup history came status old mid Has latest)
+    → Begun there setup going.end going.rest mid new Later later → Stopped there setup history (came ++ 10 ∷ []) old new Later later
+stopped_within part here there setup history came status old mid new Has Later latest later going one = record {
+  first = came ++ 10 ∷ [];
+  left = [];
+  lines = going.lines ++ going.rest ∷ [];
+  rest = [];
+  outcomes = going.outcomes ++ one.outcome ∷ [];
+  end = one.of_line.end;
+  came_is = sym (append-nil (came ++ 10 ∷ []));
+  parts = line_ended came going.lines going.rest going.parts;
+  become = become_push setup history going.end one.of_line.end going.lines going.outcomes going.rest one.outcome going.become one.of_line.becomes;
+  printed = rw (sym (flat_map-push answer_line going.outcomes one.outcome)) at
+      (begun_back (answer_lines going.outcomes) (answer_line one.outcome) old mid new going.printed one.printed);
+  stands = one.of_line.stands;
+  setup_is = one.of_line.setup_is;
+}
+
+pub stopped_more : (here setup : Setup) (history : List Arrival) (came more : List ℕ) (old new : Option (List ℕ)) (Has : Stamp → Type 0) (latest : Option ℤ)
+    → Stopped here setup history came old new Has latest → Stopped here setup history (came ++ more) old new Has latest
+stopped_more here setup history came more old new Has latest stopped = record {
+  first = stopped.first;
+  left = stopped.left ++ more;
+  lines = stopped.lines;
+  rest = stopped.rest;
+  outcomes = stopped.outcomes;
+  end = stopped.end;
+  came_is = ap (λ (l : List ℕ). l ++ more) stopped.came_is ∙ append_assoc stopped.first stopped.left more;
+  parts = stopped.parts;
+  become = stopped.become;
+  printed = stopped.printed;
+  stands = stopped.stands;
+  setup_is = stopped.setup_is;
+}
+
+-- ---- a call
+
+pub called : (here there setup : Setup) (history : List Arrival) (line bytes : List ℕ) (moment : ℤ) (answer : Result Accepted Refusal)
+    (Later : Stamp → Type 0) (later : Option ℤ) → here ≡ setup → there ≡ here → SpellsCall line (arrival bytes moment)
+    → Answers here history (arrival bytes moment) answer → StandsFor there Later later (after history (arrival bytes moment) answer)
+    → BecomesOf there setup history line (Some answer) Later later
+called here there setup history line bytes moment answer Later later is same spells answers stands = record {
+  end = after history (arrival bytes moment) answer;
+  becomes = record {
+    call = arrival bytes moment;
+    spells = spells;
+    answers = subst (λ (s : Setup). Answers s history (arrival bytes moment) answer) is answers;
+    end_is = refl;
+  };
+  stands = subst (λ (s : Setup). StandsFor s Later later (after history (arrival bytes moment) answer)) (same ∙ is) stands;
+  setup_is = same ∙ is;
+}
+
+-- ---- a piece
+
+take_on : (came piece : List ℕ) (i byte : ℕ) → i < length piece → byte ≡ get_or piece i byte
+    → (came ++ take i piece) ++ byte ∷ [] ≡ came ++ take (i + 1) piece
+take_on came piece i byte below is =
+    append_assoc came (take i piece) (byte ∷ [])
+    ∙ ap (λ (l : List ℕ). came ++ l) (ap (λ (b : ℕ). take i piece ++ b ∷ []) is ∙ sym (take_more piece i byte below))
+
+pub piece_step : (part : PartLine) (here setup : Setup) (history : List Arrival) (came piece : List ℕ) (i byte status so_far more : ℕ) (old new : Option (List ℕ))
+    (Has : Stamp → Type 0) (latest : Option ℤ) → i < length piece → byte ≡ get_or piece i byte
+    → Going part here setup history ((came ++ take i piece) ++ byte ∷ []) (max (max status so_far) more) old new Has latest
+    → Going part here setup history (came ++ take (i + 1) piece) (max status (max so_far more)) old new Has latest
+piece_step part here setup history came piece i byte status so_far more old new Has latest below is going =
+    let same : max (max status so_far) more ≡ max status (max so_far more) = omega arith in
+    subst (λ (s : ℕ). Going part here setup history (came ++ take (i + 1) piece) s old new Has latest) same
+    (subst (λ (l : List ℕ). Going part here setup history l (max (max status so_far) more) old new Has latest) (take_on came piece i byte below is) going)
+
+pub piece_stop : (here setup : Setup) (history : List Arrival) (came piece : List ℕ) (i byte : ℕ) (old new : Option (List ℕ))
+    (Has : Stamp → Type 0) (latest : Option ℤ) → i < length piece → byte ≡ get_or piece i byte
+    → Stopped here setup history ((came ++ take i piece) ++ byte ∷ []) old new Has latest → Stopped here setup history (came ++ piece) old new Has latest
+piece_stop here setup history came piece i byte old new Has latest below is stopped =
+    let whole : (came ++ take (i + 1) piece) ++ drop (i + 1) piece ≡ came ++ piece =
+    append_assoc came (take (i + 1) piece) (drop (i + 1) piece) ∙ ap (λ (l : List ℕ). came ++ l) (take-append-drop (i + 1) piece) in
+    subst (λ (l : List ℕ). Stopped here setup history l old new Has latest) whole
+    (stopped_more here setup history (came ++ take (i + 1) piece) (drop (i + 1) piece) old new Has latest
+    (subst (λ (l : List ℕ). Stopped here setup history l old new Has latest) (take_on came piece i byte below is) stopped))
+
+-- ---- a source
+
+pub reached_start : (part : PartLine) (here setup : Setup) (history : List Arrival) (from known : Option (List ℕ)) (Has : Stamp → Type 0) (latest : Option ℤ)
+    → Holds part [] → here ≡ setup → StandsFor setup Has latest history → Reached from from 0 part here setup history 0 known known Has latest
+reached_start part here setup history from known Has latest holds is stands = record {
+  came = [];
+  consumed = Consumes-nil from;
+  counted = refl;
+  going = going_start part here setup history known Has latest holds is stands;
+}
+
+pub reached_more : (part next : PartLine) (here there setup : Setup) (history : List Arrival) (from mid to : Option (List ℕ)) (count more status worse : ℕ)
+    (piece : List ℕ) (old now new : Option (List ℕ)) (Has Later : Stamp → Type 0) (latest later : Option ℤ)
+    → (reached : Reached from mid count part here setup history status old now Has latest)
+    → Consumes mid to piece → length piece ≡ more
+    → Going next there setup history (reached.came ++ piece) (max status worse) old new Later later
+    → Reached from to (count + more) next there setup history (max status worse) old new Later later
+reached_more part next here there setup history from mid to count more status worse piece old now new Has Later latest later reached consumed counted going = record {
+  came = reached.came ++ piece;
+  consumed = Consumes-trans from mid to reached.came piece reached.consumed consumed;
+  counted = omega (arith, length-append reached.came piece, reached.counted, counted);
+  going = going;
+}
+
+pub reached_kept : (part : PartLine) (here setup : Setup) (history : List Arrival) (from mid to : Option (List ℕ)) (count status : ℕ)
+    (old new : Option (List ℕ)) (Has : Stamp → Type 0) (latest : Option ℤ) → Reached from mid count part here setup history status old new Has latest → Keeps mid to
+    → Reached from to count part here setup history status old new Has latest
+reached_kept part here setup history from mid to count status old new Has latest reached kept = record {
+  came = reached.came;
+  consumed = Consumes-kept from mid to reached.came reached.consumed kept;
+  counted = reached.counted;
+  going = reached.going;
+}
+
+pub reached_stop : (part : PartLine) (here there setup : Setup) (history : List Arrival) (from mid to : Option (List ℕ)) (count status : ℕ)
+    (piece : List ℕ) (old now new : Option (List ℕ)) (Has Later : Stamp → Type 0) (latest later : Option ℤ)
+    → (reached : Reached from mid count part here setup history status old now Has latest) → Consumes mid to piece
+    → Stopped there setup history (reached.came ++ piece) old new Later later
+    → ReachedStop from to there setup history old new Later later
+reached_stop part here there setup history from mid to count status piece old now new Has Later latest later reached consumed stopped = record {
+  came = reached.came ++ piece;
+  consumed = Consumes-trans from mid to reached.came piece reached.consumed consumed;
+  stopped = stopped;
+}
+
+pub reached_none : (part : PartLine) (here setup : Setup) (history : List Arrival) (from mid to : Option (List ℕ)) (count status : ℕ) (piece : List ℕ)
+    (old new : Option (List ℕ)) (Has : Stamp → Type 0) (latest : Option ℤ) → Reached from mid count part here setup history status old new Has latest
+    → Consumes mid to piece → piece ≡ [] → Reached from to count part here setup history status old new Has latest
+reached_none part here setup history from mid to count status piece old new Has latest reached consumed none = record {
+  came = reached.came;
+  consumed = subst (Consumes from to) (ap (λ (l : List ℕ). reached.came ++ l) none ∙ append-nil reached.came)
+      (Consumes-trans from mid to reached.came piece reached.consumed consumed);
+  counted = reached.counted;
+  going = reached.going;
+}
+
+pub length-take-below : (count : ℕ) (bytes : List ℕ) → count ≤ length bytes → length (take count bytes) ≡ count
+length-take-below count bytes below = omega (arith, length-take count bytes, below)
+
+pub get_or-default : (bytes : List ℕ) (i d : ℕ) → i < length bytes → get_or bytes i d ≡ get_or bytes i (get_or bytes i d)
+get_or-default [] i d below = absurd (omega (arith, below))
+get_or-default (byte ∷ bytes) zero d below = refl
+get_or-default (byte ∷ bytes) (suc i) d below = get_or-same bytes i d (get_or bytes i d) (omega (arith, below))
+  where
+    get_or-same : (bytes : List ℕ) (i d e : ℕ) → i < length bytes → get_or bytes i d ≡ get_or bytes i e
+    get_or-same [] i d e below = absurd (omega (arith, below))
+    get_or-same (byte ∷ bytes) zero d e below = refl
+    get_or-same (byte ∷ bytes) (suc i) d e below = get_or-same bytes i d e (omega (arith, below))

@@ -1,0 +1,34 @@
+use Rattle.std.proofs.Common.{rules, subst, sym, refl}
+use Rattle.krbtool.specs.CallLine.{SpellsMessage}
+use Rattle.krbtool.proofs.CallLaws.{one_message}
+use Rattle.krbtool.proofs.call_line.call_of.Goals as goal
+
+pub returns-in_default-clause-bad : goal.returns-in_default-clause-bad
+returns-in_default-clause-bad c = λ _ call spells. c.moment_of.ensures.none (search rules) call.moment spells.message_text (record {
+  seconds_text = spells.seconds_text;
+  micros_text = spells.micros_text;
+  seconds = spells.seconds;
+  micros = spells.micros;
+  line_is = spells.line_is;
+  spells_seconds = spells.spells_seconds;
+  spells_micros = spells.spells_micros;
+  years = spells.years;
+  within_second = spells.within_second;
+  moment_is = spells.moment_is;
+})
+
+pub returns-in-None-clause-bad : goal.returns-in-None-clause-bad
+returns-in-None-clause-bad c = λ _ call spells.
+    let same = one_message c.args.line.now c.in-Some.told.now call.moment c.in-Some.told.message.now spells.message_text c.in-Some.ensures.found (record {
+      seconds_text = spells.seconds_text;
+      micros_text = spells.micros_text;
+      seconds = spells.seconds;
+      micros = spells.micros;
+      line_is = spells.line_is;
+      spells_seconds = spells.spells_seconds;
+      spells_micros = spells.spells_micros;
+      years = spells.years;
+      within_second = spells.within_second;
+      moment_is = spells.moment_is;
+    }) in
+    c.message_of.ensures.none (search rules) call.bytes (subst (λ t. SpellsMessage t call.bytes) (sym same) spells.message)

@@ -1,0 +1,172 @@
+-- What `accept` prints for the lines of its input, and its exit status.
+use Rattle.std.specs.Prelude.{◌≡◌, ◌≢◌, ◌⊎◌, ◌+◌, ◌<◌, max, ℕ, ℤ, Bool, List, [], ◌∷◌, ◌++◌, Option, Some, None, Result, Ok, Err, All, codes, length, if◌then◌else◌}
+use Rattle.std.specs.List.{flat_map}
+use Rattle.std.specs.Fmt.{decimal, signed_decimal}
+use Rattle.std.specs.Io.KnownBytes.{Appends}
+use Rattle.krb_name.specs.Flow.{AppendsBeginning}
+use Rattle.krb_name.specs.Text.{text_of}
+use Rattle.krb_replay.specs.Stamp.{Stamp}
+use Rattle.krb_ap.specs.Setup.{Setup, Arrival}
+use Rattle.krb_ap.specs.History.{StandsFor}
+use Rattle.krb_ap.specs.Answer.{Answers, after}
+use Rattle.krb_ap.specs.Causes.{code_of}
+use Rattle.krb_ap.specs.declared.accepted.Accepted.{Accepted}
+use Rattle.krb_ap.specs.declared.refusal.Refusal.{Refusal}
+use Rattle.krb_ap.specs.declared.refusal.Refusal.TheVariants.{MessageType, Malformed, UserToUser, TicketEtype, NotUs, NoKey, BadKeyVersion, TicketIntegrity, SessionKey, AuthenticatorIntegrity, BadMatch, Skew, Repeat, NotYetValid, Expired, Transited, Authorization, OutOfMemory}
+use Rattle.krbtool.specs.CallLine.{SpellsCall, IsBadLine}
+
+-- ---- one line
+
+-- what becomes of a line: nothing, where it is bad, or what its call is answered
+abbrev pub LineOutcome : Type 0
+LineOutcome = Option (Result Accepted Refusal)
+
+abbrev pub refusal_name : Refusal → List ℕ
+refusal_name MessageType = codes "MessageType"
+refusal_name (Malformed fault) = codes "Malformed"
+refusal_name UserToUser = codes "UserToUser"
+refusal_name TicketEtype = codes "TicketEtype"
+refusal_name NotUs = codes "NotUs"
+refusal_name NoKey = codes "NoKey"
+refusal_name BadKeyVersion = codes "BadKeyVersion"
+refusal_name TicketIntegrity = codes "TicketIntegrity"
+refusal_name SessionKey = codes "SessionKey"
+refusal_name AuthenticatorIntegrity = codes "AuthenticatorIntegrity"
+refusal_name BadMatch = codes "BadMatch"
+refusal_name Skew = codes "Skew"
+refusal_name Repeat = codes "Repeat"
+refusal_name NotYetValid = codes "NotYetValid"
+refusal_name Expired = codes "Expired"
+refusal_name Transited = codes "Transited"
+refusal_name Authorization = codes "Authorization"
+refusal_name OutOfMemory = codes "OutOfMemory"
+
+-- the error code, where the refusal has one
+abbrev pub code_text : Option ℤ → List ℕ
+code_text None = codes "none"
+code_text (Some code) = signed_decimal code
+
+abbrev pub mutual_text : Bool → List ℕ
+mutual_text wants_reply = if wants_reply then codes "mutual" else codes "plain"
+
+-- client, enctype of the session key, the client's time, and whether it asks for a reply
+abbrev pub accepted_line : Accepted → List ℕ
+accepted_line x =
+    codes "accepted " ++ (text_of x.client ++ (32 ∷ (signed_decimal x.session_key.etype ++ (32 ∷ (signed_decimal x.ctime
+    ++ (32 ∷ (decimal x.cusec ++ (32 ∷ (mutual_text x.mutual ++ 10 ∷ [])))))))))
+
+abbrev pub refused_line : Refusal → List ℕ
+refused_line refusal = codes "refused " ++ (code_text (code_of refusal) ++ (32 ∷ (refusal_name refusal ++ 10 ∷ [])))
+
+-- what is printed
+abbrev pub answer_line : LineOutcome → List ℕ
+answer_line None = codes "bad line\n"
+answer_line (Some (Ok accepted)) = accepted_line accepted
+answer_line (Some (Err refusal)) = refused_line refusal
+
+-- after a history, this becomes of a line, and this is the history then
+pub record BecomesCall (setup : Setup) (history : List Arrival) (line : List ℕ) (answer : Result Accepted Refusal) (end : List Arrival) : Type 0 where
+  pub call : Arrival
+  pub spells : SpellsCall line call
+  pub answers : Answers setup history call answer
+  pub end_is : end ≡ after history call answer
+
+abbrev pub Becomes : Setup → List Arrival → List ℕ → LineOutcome → List Arrival → Type 0
+Becomes setup history line None end = IsBadLine line × (end ≡ history)
+Becomes setup history line (Some answer) end = BecomesCall setup history line answer end
+
+-- ---- lines one after another
+
+-- after a history, this becomes of the lines, one after another, and this is the history then
+abbrev pub BecomeInTurn : Setup → List Arrival → List (List ℕ) → List LineOutcome → List Arrival → Type 0
+BecomeInTurn setup history [] [] end = end ≡ history
+BecomeInTurn setup history (line ∷ lines) (outcome ∷ outcomes) end =
+    (next : List Arrival) × (Becomes setup history line outcome next × BecomeInTurn setup next lines outcomes end)
+BecomeInTurn setup history _ _ end = ⊥
+
+-- what is printed for them
+abbrev pub answer_lines : List LineOutcome → List ℕ
+answer_lines = flat_map answer_line
+
+-- the exit status: 3 where memory was wanting, else 1 where a line was bad or refused, else 0
+abbrev pub outcome_status : LineOutcome → ℕ
+outcome_status None = 1
+outcome_status (Some (Ok accepted)) = 0
+outcome_status (Some (Err OutOfMemory)) = 3
+outcome_status (Some (Err refusal)) = 1
+
+abbrev pub status_of_lines : List LineOutcome → ℕ
+status_of_lines [] = 0
+status_of_lines (outcome ∷ outcomes) = max (outcome_status outcome) (status_of_lines outcomes)
+
+-- ---- the lines of an input
+
+abbrev pub ended : List ℕ → List ℕ
+ended line = line ++ 10 ∷ []
+
+-- the bytes are these lines, each with its end, the byte 10, and then a rest without one
+pub record HasLines (bytes : List ℕ) (lines : List (List ℕ)) (rest : List ℕ) : Type 0 where
+  pub bytes_are : bytes ≡ flat_map ended lines ++ rest
+  pub plain : All (All (λ byte. byte ≢ 10)) lines
+  pub plain_rest : All (λ byte. byte ≢ 10) rest
+
+-- a rest counts as a line unless it is empty
+abbrev pub last_line : List ℕ → List (List ℕ)
+last_line [] = []
+last_line (byte ∷ rest) = (byte ∷ rest) ∷ []
+
+-- how many bytes of input are taken
+abbrev pub input_limit : ℕ
+input_limit = 1_099_511_627_776
+
+-- all of the input's lines were answered
+pub record AnswersAll (setup : Setup) (history : List Arrival) (input : List ℕ) (status : ℕ) (Old New : Option (List ℕ))
+    (Has : Stamp → Type 0) (latest : Option ℤ) : Type 0 where
+  pub lines : List (List ℕ)
+  pub rest : List ℕ
+  pub outcomes : List LineOutcome
+  pub end : List Arrival
+  pub parts : HasLines input lines rest
+  pub become : BecomeInTurn setup history (lines ++ last_line rest) outcomes end
+  pub printed : Appends Old New (answer_lines outcomes)
+  pub status_is : status ≡ status_of_lines outcomes
+  pub limit : length input < input_limit
+  pub stands : StandsFor setup Has latest end
+
+-- a read failed, or so many bytes came as are taken; the whole lines of what came were answered
+pub record AnswersWhole (setup : Setup) (history : List Arrival) (input : List ℕ) (unread : Option (List ℕ)) (old_failures new_failures : ℕ)
+    (Old New : Option (List ℕ)) (Has : Stamp → Type 0) (latest : Option ℤ) : Type 0 where
+  pub came : List ℕ
+  pub left : List ℕ
+  pub lines : List (List ℕ)
+  pub rest : List ℕ
+  pub outcomes : List LineOutcome
+  pub end : List Arrival
+  pub input_is : input ≡ came ++ left
+  pub unread_is : unread ≡ Some left
+  pub why : (new_failures ≡ old_failures + 1) ⊎ (length came ≡ input_limit)
+  pub parts : HasLines came lines rest
+  pub become : BecomeInTurn setup history lines outcomes end
+  pub printed : Appends Old New (answer_lines outcomes)
+  pub stands : StandsFor setup Has latest end
+
+-- the lines that were taken: the whole lines of a beginning of the input, or all of its lines
+pub record TakesLines (input : List ℕ) (taken : List (List ℕ)) : Type 0 where
+  pub came : List ℕ
+  pub left : List ℕ
+  pub lines : List (List ℕ)
+  pub rest : List ℕ
+  pub input_is : input ≡ came ++ left
+  pub parts : HasLines came lines rest
+  pub taken_are : (taken ≡ lines) ⊎ ((left ≡ []) × (taken ≡ lines ++ last_line rest))
+
+-- lines were taken, and a beginning of their answers was printed
+pub record AnswersBeginning (setup : Setup) (history : List Arrival) (input : List ℕ) (Old New : Option (List ℕ))
+    (Has : Stamp → Type 0) (latest : Option ℤ) : Type 0 where
+  pub taken : List (List ℕ)
+  pub outcomes : List LineOutcome
+  pub end : List Arrival
+  pub takes : TakesLines input taken
+  pub become : BecomeInTurn setup history taken outcomes end
+  pub printed : AppendsBeginning Old New (answer_lines outcomes)
+  pub stands : StandsFor setup Has latest end

@@ -1,0 +1,107 @@
+//! What `accept` prints for a line.
+
+ghost use Rattle.std.specs.Prelude.{◌≡◌, ◌⊎◌, ◌+◌, ◌-◌, ◌^◌, ◌<◌, IfOk, IfErr, OnOk, OnErr, string_bytes};
+ghost use Rattle.std.specs.Io.KnownBytes.{Appends};
+ghost use Rattle.krb_name.specs.Flow.{AppendsBeginning};
+ghost use Rattle.krbtool.specs.Answering.{accepted_line, answer_line, outcome_status, refusal_name, refused_line};
+ghost use Rattle.krbtool.specs.Engine.{failed_writes};
+
+use crate::fault::{EngineFault, FAILED, REFUSED};
+use krb_ap::{Accepted, Outcome, Refusal};
+use krb_name::{Sink, write_all};
+use std::alloc::{AllocError, Global};
+
+/// Prints what became of a line; `None` is a bad line.
+pub(crate) fn print_answer<K: Sink>(
+    alloc: Global,
+    outcome: &Option<Outcome>,
+    sink: &mut K,
+) -> Result<(), EngineFault>
+    requires { K.failure_count sink.old < 2 ^ 64 - 1 }
+    ensures ok { OnOk result (Appends (K.taken sink.old) (K.taken sink.new) (answer_line outcome.now)) }
+    ensures err { OnErr result (AppendsBeginning (K.taken sink.old) (K.taken sink.new) (answer_line outcome.now)) }
+    ensures which { IfErr result (λ e. (e ≡ EngineFault.Write) ⊎ (e ≡ EngineFault.OutOfMemory)) }
+    ensures writes { K.failure_count sink.new ≡ K.failure_count sink.old + failed_writes result }
+{
+    let line = answer_text(alloc, outcome)?;
+    write_all(sink, line.as_bytes())?;
+    Ok(())
+}
+
+fn answer_text(alloc: Global, outcome: &Option<Outcome>) -> Result<String, AllocError>
+    ensures { IfOk result (λ text. string_bytes text ≡ answer_line outcome.now) }
+{
+    match outcome {
+        None => String::from_str(alloc, "bad line\n"),
+        Some(answer) => match answer {
+            Ok(accepted) => accepted_text(alloc, accepted),
+            Err(refusal) => refused_text(alloc, refusal),
+        },
+    }
+}
+
+fn accepted_text(alloc: Global, accepted: &Accepted) -> Result<String, AllocError>
+    ensures { IfOk result (λ text. string_bytes text ≡ accepted_line accepted.now) }
+{
+    let client = accepted.client.to_text(alloc)?;
+    let etype = accepted.session_key.etype();
+    let ctime = accepted.ctime.get();
+    let cusec = accepted.cusec.get();
+    if accepted.mutual {
+        format!(in alloc; "accepted {client} {etype} {ctime} {cusec} mutual\n")
+    } else {
+        format!(in alloc; "accepted {client} {etype} {ctime} {cusec} plain\n")
+    }
+}
+
+fn refused_text(alloc: Global, refusal: &Refusal) -> Result<String, AllocError>
+    ensures { IfOk result (λ text. string_bytes text ≡ refused_line refusal.now) }
+{
+    let name = refusal_name(refusal);
+    match refusal.code() {
+        Some(code) => format!(in alloc; "refused {code} {name}\n"),
+        None => format!(in alloc; "refused none {name}\n"),
+    }
+}
+
+fn refusal_name(refusal: &Refusal) -> &'static str
+    ensures { result.now ≡ refusal_name refusal.now }
+{
+    match refusal {
+        Refusal::MessageType => "MessageType",
+        Refusal::Malformed(_) => "Malformed",
+        Refusal::UserToUser => "UserToUser",
+        Refusal::TicketEtype => "TicketEtype",
+        Refusal::NotUs => "NotUs",
+        Refusal::NoKey => "NoKey",
+        Refusal::BadKeyVersion => "BadKeyVersion",
+        Refusal::TicketIntegrity => "TicketIntegrity",
+        Refusal::SessionKey => "SessionKey",
+        Refusal::AuthenticatorIntegrity => "AuthenticatorIntegrity",
+        Refusal::BadMatch => "BadMatch",
+        Refusal::Skew => "Skew",
+        Refusal::Repeat => "Repeat",
+        Refusal::NotYetValid => "NotYetValid",
+        Refusal::Expired => "Expired",
+        Refusal::Transited => "Transited",
+        Refusal::Authorization => "Authorization",
+        Refusal::OutOfMemory => "OutOfMemory",
+    }
+}
+
+/// Answers what an outcome makes of the exit status: 0 where a request was accepted, 1 where a line was bad or refused, 3
+/// where memory was wanting.
+pub(crate) fn status_of_outcome(outcome: &Option<Outcome>) -> u8
+    ensures { result ≡ outcome_status outcome.now }
+{
+    match outcome {
+        None => REFUSED,
+        Some(answer) => match answer {
+            Ok(_) => 0,
+            Err(refusal) => match refusal {
+                Refusal::OutOfMemory => FAILED,
+                _ => REFUSED,
+            },
+        },
+    }
+}

@@ -1,0 +1,153 @@
+//! The lines that `accept` reads.
+
+ghost use Rattle.std.specs.Prelude.{◌≡◌, ◌++◌, ◌∷◌, ◌≢◌, ◌≤◌, ℕ, ℤ, List, None, Some, All, IfOk, IfSome, MatchOption, Ok, SomeIff, length};
+ghost use Rattle.std.specs.Str.Parse.{IsNumeral, digits_value};
+ghost use Rattle.krb_der.specs.Time.{IsSeconds};
+ghost use Rattle.krb_msg.specs.Moments.{micros_of};
+ghost use Rattle.krb_ap.specs.Setup.{Arrival, arrival};
+ghost use Rattle.krbtool.specs.CallLine.{SpellsCall, SpellsMessage, SpellsNumber, SpellsSeconds, line_limit, IsBadLine};
+ghost use Rattle.krbtool.specs.Inner.Moments.{TellsMoment};
+
+use hex::FromHexError;
+use krb_msg::Moment;
+use std::alloc::{AllocError, Global};
+
+/// How many bytes a line of `accept` may have, its end not counted.
+pub const LINE_LIMIT: usize = 4_194_304;
+
+// The latest second of a moment. The earliest is nearer to 0.
+const LATEST_SECOND: u64 = 253_402_300_799;
+
+const MOST_MICROS: u64 = 999_999;
+
+const SPACE: u8 = b' ';
+
+/// A call that a line spells: a message, and the moment that is handed in with it.
+#[derive(Debug, Drop)]
+pub struct SpelledCall {
+    /// The message.
+    pub bytes: Vec<u8>,
+    /// The moment.
+    pub now: Moment,
+}
+
+/// Reads a line of `accept`, without its end: `SECONDS MICROS HEX`, with single spaces between.
+///
+/// SECONDS is an optional minus and 1 to 19 digits, MICROS is 1 to 6 digits, and both make a moment. HEX is one byte or more
+/// in hexadecimal digits of either case, or a minus for no bytes. The answer is `None` for a line of another form, and for
+/// one of more than 4,194,304 bytes.
+///
+/// # Errors
+/// `AllocError`: there was no room for the message.
+pub fn call_of(alloc: Global, line: &[u8]) -> Result<Option<SpelledCall>, AllocError>
+    ensures found { IfOk result (λ spelled. IfSome spelled (λ call. SpellsCall line.now (arrival call.bytes.items call.now))) }
+    ensures bad { result ≡ Ok None → IsBadLine line.now }
+{
+    if line.len() > LINE_LIMIT {
+        return Ok(None);
+    }
+    let Some(told) = moment_of(line) else {
+        return Ok(None);
+    };
+    match message_of(alloc, told.message)? {
+        Some(bytes) => Ok(Some(SpelledCall {
+            bytes,
+            now: told.now,
+        })),
+        None => Ok(None),
+    }
+}
+
+// The moment that a line tells, and what follows it.
+#[derive(Clone, Copy)]
+struct ToldMoment<'a> {
+    now: Moment,
+    message: &'a [u8],
+}
+
+fn moment_of(line: &[u8]) -> Option<ToldMoment<'_>>
+    ensures found { IfSome result (λ told. TellsMoment line.now told.now told.message.now) }
+    ensures none { result ≡ None → (moment : ℤ) (message : List ℕ) → TellsMoment line.now moment message → ⊥ }
+{
+    let (seconds, others) = cut_at_space(line)?;
+    let (micros, message) = cut_at_space(others)?;
+    let now = Moment::new(seconds_of(seconds)?, micros_of(micros)?)?;
+    Some(ToldMoment { now, message })
+}
+
+// What stands before the first space, and what stands behind it.
+fn cut_at_space(text: &[u8]) -> Option<(&[u8], &[u8])>
+    ensures { MatchOption result (All (λ byte. byte ≢ 32) text.now)
+        (λ parts. (text.now ≡ parts.0.now ++ 32 ∷ parts.1.now) × All (λ byte. byte ≢ 32) parts.0.now) }
+{
+    let mut at = 0;
+    while at < text.len() {
+        if text[at] == SPACE {
+            return Some((&text[..at], &text[at + 1..]));
+        }
+        at += 1;
+    }
+    None
+}
+
+fn seconds_of(text: &[u8]) -> Option<i64>
+    ensures found { IfSome result (λ seconds. SpellsSeconds text.now seconds) }
+    ensures none { result ≡ None → (seconds : ℤ) → SpellsSeconds text.now seconds → IsSeconds seconds → ⊥ }
+{
+    match text.split_first() {
+        Some((b'-', digits)) => {
+            let number = number_of(digits, 19, LATEST_SECOND)?;
+            Some(-(number as i64))
+        }
+        _ => {
+            let number = number_of(text, 19, LATEST_SECOND)?;
+            Some(number as i64)
+        }
+    }
+}
+
+fn micros_of(text: &[u8]) -> Option<u32>
+    ensures { SomeIff result (SpellsNumber 6 text.now (digits_value 10 text.now) × (digits_value 10 text.now ≤ 999_999)) (digits_value 10 text.now) }
+{
+    Some(number_of(text, 6, MOST_MICROS)? as u32)
+}
+
+// The number that so many digits at most write, where it is no greater than `greatest`.
+fn number_of(digits: &[u8], most: usize, greatest: u64) -> Option<u64>
+    requires { greatest ≤ 1_000_000_000_000 }
+    ensures { SomeIff result (SpellsNumber most digits.now (digits_value 10 digits.now) × (digits_value 10 digits.now ≤ greatest))
+        (digits_value 10 digits.now) }
+{
+    if digits.is_empty() || digits.len() > most {
+        return None;
+    }
+    let mut number = 0;
+    for digit in digits {
+        if !digit.is_ascii_digit() {
+            return None;
+        }
+        number = 10 * number + u64::from(*digit - b'0');
+        if number > greatest {
+            return None;
+        }
+    }
+    Some(number)
+}
+
+// The bytes of a message.
+fn message_of(alloc: Global, text: &[u8]) -> Result<Option<Vec<u8>>, AllocError>
+    ensures found { IfOk result (λ message. IfSome message (λ bytes. SpellsMessage text.now bytes.items)) }
+    ensures none { result ≡ Ok None → (bytes : List ℕ) → SpellsMessage text.now bytes → ⊥ }
+{
+    if text == b"-".as_slice() {
+        return Ok(Some(Vec::new(alloc)));
+    }
+    match hex::decode(alloc, text) {
+        Ok(bytes) if bytes.is_empty() => Ok(None),
+        Ok(bytes) => Ok(Some(bytes)),
+        Err(fault) => match fault {
+            FromHexError::OutOfMemory => Err(AllocError),
+            _ => Ok(None),
+        },
+    }
+}

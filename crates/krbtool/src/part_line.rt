@@ -1,0 +1,71 @@
+//! The line that is being read.
+
+ghost use Rattle.std.specs.Prelude.{◌≡◌, ◌↔◌, ◌++◌, ◌∷◌, ℕ, IsTrue, List, Ok, None, IfOk, IfSome, OnOk, []};
+ghost use Rattle.krb_ap.specs.Setup.{arrival};
+ghost use Rattle.krbtool.specs.CallLine.{SpellsCall, IsBadLine};
+ghost use Rattle.krbtool.specs.Inner.Held.{Holds};
+
+use crate::call_line::{LINE_LIMIT, SpelledCall, call_of};
+use std::alloc::{AllocError, Global};
+
+/// The bytes that came since the last line end. Of a line that is too long nothing is kept.
+#[derive(Drop)]
+pub(crate) struct PartLine {
+    bytes: Vec<u8>,
+    too_long: bool,
+}
+
+impl PartLine {
+    /// The beginning of a line.
+    pub(crate) fn new(alloc: Global) -> PartLine
+        ensures { Holds result [] }
+    {
+        PartLine {
+            bytes: Vec::new(alloc),
+            too_long: false,
+        }
+    }
+
+    /// Adds a byte.
+    pub(crate) fn push(&mut self, byte: u8) -> Result<(), AllocError>
+        ensures { OnOk result ((line : List ℕ) → Holds self.old line → Holds self.new (line ++ byte ∷ [])) }
+    {
+        if self.too_long {
+            return Ok(());
+        }
+        if self.bytes.len() >= LINE_LIMIT {
+            self.bytes.clear();
+            self.too_long = true;
+            return Ok(());
+        }
+        self.bytes.push(byte)?;
+        Ok(())
+    }
+
+    /// Goes on to the beginning of the next line.
+    pub(crate) fn clear(&mut self)
+        ensures { Holds self.new [] }
+    {
+        self.bytes.clear();
+        self.too_long = false;
+    }
+
+    /// Answers whether no byte came.
+    pub(crate) fn is_empty(&self) -> bool
+        ensures { (line : List ℕ) → Holds self.now line → IsTrue result ↔ (line ≡ []) }
+    {
+        !self.too_long && self.bytes.is_empty()
+    }
+
+    /// Reads the line, as `call_of` does.
+    pub(crate) fn call(&self, alloc: Global) -> Result<Option<SpelledCall>, AllocError>
+        ensures found { (line : List ℕ) → Holds self.now line
+            → IfOk result (λ spelled. IfSome spelled (λ call. SpellsCall line (arrival call.bytes.items call.now))) }
+        ensures bad { result ≡ Ok None → (line : List ℕ) → Holds self.now line → IsBadLine line }
+    {
+        if self.too_long {
+            return Ok(None);
+        }
+        call_of(alloc, &self.bytes)
+    }
+}

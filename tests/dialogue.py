@@ -1,0 +1,61 @@
+"""Programs that talk with krbtool accept: each waits for the answer to its line before it writes the next. And lines that are long."""
+import select
+import subprocess
+import tempfile
+import tomllib
+from pathlib import Path
+
+HERE = Path(__file__).resolve().parent
+SECONDS = 30
+
+
+def fixture():
+    """The keytab, a request and its answer, as tests/cases/accept.toml has them."""
+    with open(HERE / "cases/accept.toml", "rb") as file:
+        case = next(it for it in tomllib.load(file)["case"] if it["name"] == "a request alone")
+    return bytes.fromhex(case["files"]["k"]), case["stdin"], case["stdout"]
+
+
+def asked(child, line, wanted):
+    """What is wrong with the answer to a line, or None."""
+    child.stdin.write(line.encode())
+    child.stdin.flush()
+    if not select.select([child.stdout], [], [], SECONDS)[0]:
+        return f"no answer to {line[:40]!r} within {SECONDS} seconds"
+    answer = child.stdout.readline().decode()
+    return None if answer == wanted else f"the answer to {line[:40]!r} is {answer!r}, not {wanted!r}"
+
+
+def line_by_line(program, keytab, request, accepted):
+    steps = [
+        ("1700000100 5 -\n", "refused 60 Malformed\n"), (request, accepted), (request, "refused 34 Repeat\n"),
+        ("x\n", "bad line\n"), ("1700000100 5 30\n", "refused 40 MessageType\n"),
+    ]
+    with subprocess.Popen([program, "accept", keytab], stdin=subprocess.PIPE, stdout=subprocess.PIPE, bufsize=0) as child:
+        for line, wanted in steps:
+            wrong = asked(child, line, wanted)
+            if wrong:
+                child.kill()
+                return wrong
+        child.stdin.close()
+        status = child.wait(SECONDS)
+    return None if status == 1 else f"status {status}, not 1"
+
+
+def long_lines(program, keytab):
+    """A line of 4,194,304 bytes is read; one of a byte more is bad, and so is one of 64 MiB; the line behind each is answered."""
+    fits, over = "1700000100 05 " + "30" * 2_097_145, "1700000100 005 " + "30" * 2_097_145
+    assert len(fits) == 4_194_304 and len(over) == 4_194_305
+    lines = "\n".join([fits, "1700000100 5 -", over, "1700000100 5 30", "3" * 2**26, "1700000100 5 -"])
+    wanted = "refused 40 MessageType\nrefused 60 Malformed\nbad line\nrefused 40 MessageType\nbad line\nrefused 60 Malformed\n"
+    ran = subprocess.run([program, "accept", keytab], input=lines.encode(), capture_output=True, timeout=2 * SECONDS)
+    return None if (ran.stdout.decode(), ran.returncode) == (wanted, 1) else f"it wrote {ran.stdout!r}, status {ran.returncode}"
+
+
+def checks(program):
+    keytab, request, accepted = fixture()
+    with tempfile.TemporaryDirectory(prefix="krbtool-dialogue-") as folder:
+        path = Path(folder) / "k"
+        path.write_bytes(keytab)
+        yield "a dialogue with accept", line_by_line(program, str(path), request, accepted)
+        yield "long lines of accept", long_lines(program, str(path))
