@@ -5,7 +5,7 @@ use super::*;
 use crate::{FinishFault, ReplyOptions};
 use krb_msg::{ApRepRef, ApReqRef};
 
-const AT: (i64, u32) = FIXTURE.sent;
+const AT: (i64, u32) = (1_700_000_100, 5);
 
 // What a fresh service answers.
 fn answered(alloc: Global, bytes: &[u8]) -> Result<Outcome, Fail> {

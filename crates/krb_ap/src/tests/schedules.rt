@@ -12,7 +12,7 @@ struct Packet {
     at: i64,
 }
 
-fn packet(alloc: Global, at: (i64, u32)) -> Result<Packet, Fail> {
+fn sent_at(alloc: Global, at: (i64, u32)) -> Result<Packet, Fail> {
     let (bytes, pending) = sent(
         alloc,
         Made {
@@ -43,7 +43,7 @@ fn three_requests(rt: HostRuntime) -> Result<(), Fail> {
     let alloc = rt.alloc();
     let mut packets = Vec::new(alloc);
     for micros in 5..8 {
-        packets.push(packet(alloc, (1_700_000_100, micros))?)?;
+        packets.push(sent_at(alloc, (1_700_000_100, micros))?)?;
     }
     let mut service = acceptor(alloc, TimedMemory::new(alloc))?;
     let mut replies = Vec::new(alloc);
@@ -70,12 +70,12 @@ fn three_requests(rt: HostRuntime) -> Result<(), Fail> {
 struct Dice(u64);
 
 impl Dice {
-    fn roll(&mut self, sides: u64) -> u64 {
+    fn roll(&mut self, sides: u32) -> u32 {
         self.0 = self
             .0
             .wrapping_mul(6_364_136_223_846_793_005)
             .wrapping_add(1_442_695_040_888_963_407);
-        (self.0 >> 33) % sides.max(1)
+        u32::try_from(self.0 >> 33).unwrap_or(0) % sides.max(1)
     }
 }
 
@@ -113,7 +113,7 @@ struct Services {
     accepted: u32,
 }
 
-fn services(alloc: Global) -> Result<Services, Fail> {
+fn new_services(alloc: Global) -> Result<Services, Fail> {
     Ok(Services {
         kept: acceptor(alloc, ListMemory::new(alloc))?,
         timed: acceptor(alloc, TimedMemory::new(alloc))?,
@@ -164,8 +164,8 @@ fn deliver(
 // A moment of some twenty minutes.
 fn some_moment(dice: &mut Dice) -> (i64, u32) {
     (
-        1_700_000_000 + dice.roll(1_300) as i64,
-        dice.roll(1_000_000) as u32,
+        1_700_000_000 + i64::from(dice.roll(1_300)),
+        dice.roll(1_000_000),
     )
 }
 
@@ -175,11 +175,11 @@ fn schedules_of_any_order(rt: HostRuntime) -> Result<(), Fail> {
     let mut dice = Dice(20_261_123);
     let mut packets = Vec::new(alloc);
     for _ in 0..20 {
-        packets.push(packet(alloc, some_moment(&mut dice))?)?;
+        packets.push(sent_at(alloc, some_moment(&mut dice))?)?;
     }
     let mut accepted = 0u32;
     for _ in 0..2_000 {
-        let mut services = services(alloc)?;
+        let mut services = new_services(alloc)?;
         for _ in 0..dice.roll(21) {
             let one = packets.get(dice.roll(20) as usize).ok_or("a packet")?;
             let other = packets.get(dice.roll(20) as usize).ok_or("a packet")?;
