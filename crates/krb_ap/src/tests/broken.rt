@@ -118,11 +118,9 @@ fn an_authenticator_for_another_usage(rt: HostRuntime) -> Result<(), Fail> {
     Ok(())
 }
 
-#[test]
-fn a_reply_for_another_usage(rt: HostRuntime) -> Result<(), Fail> {
-    let alloc = rt.alloc();
-    let (bytes, pending) = sent(alloc, FIXTURE, None, None)?;
-    let accepted = answered(alloc, &bytes)?.map_err(|_| "refused")?;
+// A reply to these bytes that is sealed for another usage.
+fn reply_for_another_usage(alloc: Global, bytes: &[u8]) -> Result<Vec<u8>, Fail> {
+    let accepted = answered(alloc, bytes)?.map_err(|_| "refused")?;
     let options = ReplyOptions {
         subkey: None,
         seq: None,
@@ -131,7 +129,15 @@ fn a_reply_for_another_usage(rt: HostRuntime) -> Result<(), Fail> {
     let mut broken = ApRepRef::parse(&reply)?.to_owned(alloc)?;
     let key = &accepted.session_key;
     broken.enc_part.cipher = resealed(alloc, key, 12, 11, &broken.enc_part.cipher)?;
-    let fault = pending.finish(alloc, &broken.encode(alloc)?).err();
+    Ok(broken.encode(alloc)?)
+}
+
+#[test]
+fn a_reply_for_another_usage(rt: HostRuntime) -> Result<(), Fail> {
+    let alloc = rt.alloc();
+    let (bytes, pending) = sent(alloc, FIXTURE, None, None)?;
+    let reply = reply_for_another_usage(alloc, &bytes)?;
+    let fault = pending.finish(alloc, &reply).err();
     is(&rt, "usage 11", fault, Some(FinishFault::Integrity));
     Ok(())
 }

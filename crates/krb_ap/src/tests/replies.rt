@@ -2,7 +2,7 @@
 
 use super::client::{own_key, sent};
 use super::*;
-use crate::{Accepted, FinishFault, Pending, ReplyFault, ReplyOptions, error_reply};
+use crate::{Accepted, Agreed, FinishFault, Pending, ReplyFault, ReplyOptions, error_reply};
 use krb_msg::Bytes;
 
 // The replies and the error of the fixture, made by tests/vectors/fixture.py.
@@ -45,143 +45,237 @@ fn finish_fault(alloc: Global, pending: &Pending, reply: &[u8]) -> Option<Finish
     }
 }
 
-#[test]
-fn the_replies_of_the_fixture(rt: HostRuntime) -> Result<(), Fail> {
-    let alloc = rt.alloc();
+// The reply to the fixture's request.
+fn reply_with(alloc: Global, options: ReplyOptions) -> Result<Vec<u8>, Fail> {
     let accepted = accepted(alloc, &request(alloc, FIXTURE)?, FIXTURE.sent)?;
-    let found = accepted.reply(alloc, &CONFOUNDER, nothing())?;
-    let wanted = hex::decode(alloc, REPLY)?;
-    is(&rt, "plain", found.as_slice(), wanted.as_slice());
+    Ok(accepted.reply(alloc, &CONFOUNDER, options)?)
+}
+
+fn is_reply(
+    rt: &(impl Alloc + Abort),
+    alloc: Global,
+    found: &[u8],
+    wanted: &str,
+) -> Result<(), Fail> {
+    let wanted = hex::decode(alloc, wanted)?;
+    is(rt, "reply", found, wanted.as_slice());
+    Ok(())
+}
+
+#[test]
+fn a_plain_reply(rt: HostRuntime) -> Result<(), Fail> {
+    let found = reply_with(rt.alloc(), nothing())?;
     is(&rt, "length", found.len(), 87);
+    is_reply(&rt, rt.alloc(), &found, REPLY)
+}
+
+fn keyed_options(alloc: Global) -> Result<ReplyOptions, Fail> {
     let subkey: Vec<u8> = Vec::from_iter(alloc, 64..80)?;
-    let options = ReplyOptions {
+    Ok(ReplyOptions {
         subkey: Some(Key::new(19, &subkey)?),
         seq: Some(128),
-    };
-    let found = accepted.reply(alloc, &CONFOUNDER, options)?;
-    let wanted = hex::decode(alloc, KEYED)?;
-    is(&rt, "keyed", found.as_slice(), wanted.as_slice());
+    })
+}
+
+#[test]
+fn a_reply_with_a_subkey_and_a_number(rt: HostRuntime) -> Result<(), Fail> {
+    let found = reply_with(rt.alloc(), keyed_options(rt.alloc())?)?;
+    is_reply(&rt, rt.alloc(), &found, KEYED)
+}
+
+// What the client of the fixture makes of a reply.
+fn agreed_by(alloc: Global, reply: &str) -> Result<Agreed, Fail> {
     let (_, pending) = sent(alloc, FIXTURE, None, None)?;
-    let agreed = pending.finish(alloc, &wanted)?;
-    let key = agreed.service_subkey.ok_or("no subkey")?;
-    is(&rt, "etype", key.etype, 19);
-    is(&rt, "subkey", key.bytes.as_slice(), subkey.as_slice());
-    is(&rt, "seq", agreed.service_seq, Some(128));
+    Ok(pending.finish(alloc, &hex::decode(alloc, reply)?)?)
+}
+
+#[test]
+fn what_a_plain_reply_agrees_on(rt: HostRuntime) -> Result<(), Fail> {
+    let agreed = agreed_by(rt.alloc(), REPLY)?;
+    is_agreed(&rt, rt.alloc(), &agreed, &PLAIN)?;
+    is(&rt, "key", agreed.session_key.bytes(), &SESSION_KEY);
     Ok(())
+}
+
+#[test]
+fn what_a_reply_with_a_subkey_agrees_on(rt: HostRuntime) -> Result<(), Fail> {
+    let agreed = agreed_by(rt.alloc(), KEYED)?;
+    let wanted = Parts {
+        service_subkey: Some((19, 16)),
+        service_seq: Some(128),
+        ..PLAIN
+    };
+    is_agreed(&rt, rt.alloc(), &agreed, &wanted)?;
+    let key = agreed.service_subkey.ok_or("no subkey")?;
+    is(&rt, "first byte", key.bytes.first(), Some(&64));
+    Ok(())
+}
+
+// Types and lengths of the keys, and the numbers, of both sides.
+#[derive(Clone, Copy)]
+struct Parts {
+    etype: i32,
+    subkey: Option<(i32, usize)>,
+    seq: Option<u32>,
+    service_subkey: Option<(i32, usize)>,
+    service_seq: Option<u32>,
+}
+
+const PLAIN: Parts = Parts {
+    etype: 19,
+    subkey: None,
+    seq: None,
+    service_subkey: None,
+    service_seq: None,
+};
+
+fn own_size(key: &Option<Key>) -> Option<(i32, usize)> {
+    match key {
+        Some(key) => Some((key.etype(), key.bytes().len())),
+        None => None,
+    }
+}
+
+fn raw_size(key: &Option<RawKey>) -> Option<(i32, usize)> {
+    match key {
+        Some(key) => Some((key.etype, key.bytes.len())),
+        None => None,
+    }
+}
+
+fn is_agreed(
+    rt: &(impl Alloc + Abort),
+    alloc: Global,
+    agreed: &Agreed,
+    wanted: &Parts,
+) -> Result<(), Fail> {
+    let client = agreed.client.to_text(alloc)?;
+    is(rt, "client", client.as_str(), "alice@EX");
+    is(rt, "etype", agreed.session_key.etype(), wanted.etype);
+    is(rt, "subkey", own_size(&agreed.subkey), wanted.subkey);
+    is(rt, "number", agreed.seq, wanted.seq);
+    is(
+        rt,
+        "service's subkey",
+        raw_size(&agreed.service_subkey),
+        wanted.service_subkey,
+    );
+    is(
+        rt,
+        "service's number",
+        agreed.service_seq,
+        wanted.service_seq,
+    );
+    Ok(())
+}
+
+// The reply to a request that carries these, and with these.
+fn reply_to(alloc: Global, bytes: &[u8], parts: &Parts) -> Result<Vec<u8>, Fail> {
+    let options = ReplyOptions {
+        subkey: own_key(alloc, parts.service_subkey)?,
+        seq: parts.service_seq,
+    };
+    Ok(accepted(alloc, bytes, FIXTURE.sent)?.reply(alloc, &CONFOUNDER, options)?)
+}
+
+fn both_agree(rt: &(impl Alloc + Abort), alloc: Global, parts: &Parts) -> Result<(), Fail> {
+    let made = Made {
+        session_etype: parts.etype,
+        session_len: size_of(parts.etype),
+        ..FIXTURE
+    };
+    let (bytes, pending) = sent(alloc, made, parts.subkey, parts.seq)?;
+    let agreed = pending.finish(alloc, &reply_to(alloc, &bytes, parts)?)?;
+    is_agreed(rt, alloc, &agreed, parts)
 }
 
 // Both sides agree, whatever the types of the keys.
 #[test]
 fn what_both_sides_know(rt: HostRuntime) -> Result<(), Fail> {
-    let alloc = rt.alloc();
-    let long_key = Made {
-        session_etype: 20,
-        session_len: 32,
-        ..FIXTURE
+    let with_all = Parts {
+        etype: 19,
+        subkey: Some((20, 32)),
+        seq: Some(7),
+        service_subkey: Some((19, 16)),
+        service_seq: Some(u32::MAX),
     };
-    let rows: [(
-        Made,
-        Option<(i32, usize)>,
-        Option<u32>,
-        Option<(i32, usize)>,
-        Option<u32>,
-    ); 4] = [
-        (FIXTURE, None, None, None, None),
-        (
-            FIXTURE,
-            Some((20, 32)),
-            Some(7),
-            Some((19, 16)),
-            Some(u32::MAX),
-        ),
-        (long_key, Some((19, 16)), None, Some((20, 32)), Some(0)),
-        (long_key, None, Some(2_147_483_648), None, None),
-    ];
-    for (row, (made, subkey, seq, service_subkey, service_seq)) in rows.into_iter().enumerate() {
-        let (bytes, pending) = sent(alloc, made, subkey, seq)?;
-        let accepted = accepted(alloc, &bytes, made.sent)?;
-        let options = ReplyOptions {
-            subkey: own_key(alloc, service_subkey)?,
-            seq: service_seq,
+    let long_key = Parts {
+        etype: 20,
+        subkey: Some((19, 16)),
+        seq: None,
+        service_subkey: Some((20, 32)),
+        service_seq: Some(0),
+    };
+    let numbered = Parts {
+        etype: 20,
+        seq: Some(2_147_483_648),
+        ..PLAIN
+    };
+    for parts in [PLAIN, with_all, long_key, numbered] {
+        both_agree(&rt, rt.alloc(), &parts)?;
+    }
+    Ok(())
+}
+
+// What the client of the fixture answers to a reply.
+fn refused_as(alloc: Global, reply: &[u8]) -> Result<Option<FinishFault>, Fail> {
+    let (_, pending) = sent(alloc, FIXTURE, None, None)?;
+    Ok(finish_fault(alloc, &pending, reply))
+}
+
+#[test]
+fn replies_that_are_malformed(rt: HostRuntime) -> Result<(), Fail> {
+    let alloc = rt.alloc();
+    let error = hex::decode(alloc, ERROR)?;
+    is(
+        &rt,
+        "error",
+        refused_as(alloc, &error)?,
+        Some(FinishFault::MessageType),
+    );
+    let reply = hex::decode(alloc, REPLY)?;
+    for length in [0, 1, 86] {
+        let cut = Fault {
+            kind: FaultKind::Truncated,
+            at: length,
         };
-        let reply = accepted.reply(alloc, &CONFOUNDER, options)?;
-        let agreed = pending.finish(alloc, &reply)?;
-        let client = agreed.client.to_text(alloc)?;
-        is(&rt, row, client.as_str(), "alice@EX");
-        is(&rt, row, agreed.session_key.etype(), made.session_etype);
+        let found = refused_as(alloc, reply.get(..length).ok_or("a beginning")?)?;
+        is(&rt, length, found, Some(FinishFault::Malformed(cut)));
+    }
+    Ok(())
+}
+
+// A reply with another last byte, or of another type (told at the byte 22: 20 and not 19), isn't opened.
+#[test]
+fn replies_that_are_shut(rt: HostRuntime) -> Result<(), Fail> {
+    let alloc = rt.alloc();
+    for (place, value) in [(86, 0xd1), (22, 20)] {
+        let mut reply = hex::decode(alloc, REPLY)?;
+        *reply.get_mut(place).ok_or("a place")? = value;
         is(
             &rt,
-            row,
-            agreed.session_key.bytes(),
-            accepted.session_key.bytes(),
+            place,
+            refused_as(alloc, &reply)?,
+            Some(FinishFault::Integrity),
         );
-        is(
-            &rt,
-            row,
-            agreed.subkey.map(|key| (key.etype(), key.bytes().len())),
-            subkey,
-        );
-        is(&rt, row, agreed.seq, seq);
-        is(
-            &rt,
-            row,
-            agreed
-                .service_subkey
-                .map(|key| (key.etype, key.bytes.len())),
-            service_subkey,
-        );
-        is(&rt, row, agreed.service_seq, service_seq);
     }
     Ok(())
 }
 
 #[test]
-fn replies_that_are_refused(rt: HostRuntime) -> Result<(), Fail> {
+fn replies_of_another_time(rt: HostRuntime) -> Result<(), Fail> {
     let alloc = rt.alloc();
-    let (_, pending) = sent(alloc, FIXTURE, None, None)?;
-    let reply = hex::decode(alloc, REPLY)?;
-    let mut flipped = hex::decode(alloc, REPLY)?;
-    if let Some(last) = flipped.last_mut() {
-        *last ^= 1;
-    }
-    // The type is told at the byte 22: 20 and not 19.
-    let mut other_type = hex::decode(alloc, REPLY)?;
-    if let Some(etype) = other_type.get_mut(22) {
-        *etype = 20;
-    }
-    let mut short = hex::decode(alloc, REPLY)?;
-    short.truncate(86);
-    let error = hex::decode(alloc, ERROR)?;
-    let cut = Fault {
-        kind: FaultKind::Truncated,
-        at: 86,
-    };
-    let empty = Fault {
-        kind: FaultKind::Truncated,
-        at: 0,
-    };
-    let rows: [(&[u8], Option<FinishFault>); 6] = [
-        (&reply, None),
-        (&error, Some(FinishFault::MessageType)),
-        (b"", Some(FinishFault::Malformed(empty))),
-        (&short, Some(FinishFault::Malformed(cut))),
-        (&flipped, Some(FinishFault::Integrity)),
-        (&other_type, Some(FinishFault::Integrity)),
-    ];
-    for (row, (bytes, wanted)) in rows.into_iter().enumerate() {
-        is(&rt, row, finish_fault(alloc, &pending, bytes), wanted);
-    }
-    for sent_at in [(1_700_000_100, 6), (1_700_000_101, 5)] {
+    for at in [(1_700_000_100, 6), (1_700_000_101, 5)] {
         let later = Made {
-            sent: sent_at,
+            sent: at,
             ..FIXTURE
         };
-        let later = accepted(alloc, &request(alloc, later)?, sent_at)?;
+        let later = accepted(alloc, &request(alloc, later)?, at)?;
         let reply = later.reply(alloc, &CONFOUNDER, nothing())?;
         is(
             &rt,
-            sent_at,
-            finish_fault(alloc, &pending, &reply),
+            at,
+            refused_as(alloc, &reply)?,
             Some(FinishFault::Mismatch),
         );
     }

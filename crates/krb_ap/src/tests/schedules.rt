@@ -37,30 +37,56 @@ fn replied(alloc: Global, accepted: &Accepted) -> Result<Vec<u8>, Fail> {
     Ok(accepted.reply(alloc, &[0x30; 16], options)?)
 }
 
-// The first of the three to come is each time accepted, and its repeat refused; and each reply is for its own request alone.
-#[test]
-fn three_requests(rt: HostRuntime) -> Result<(), Fail> {
-    let alloc = rt.alloc();
+fn three_packets(alloc: Global) -> Result<Vec<Packet>, Fail> {
     let mut packets = Vec::new(alloc);
     for micros in 5..8 {
         packets.push(sent_at(alloc, (1_700_000_100, micros))?)?;
     }
+    Ok(packets)
+}
+
+// Which of the packets were accepted, with the replies; a repeat is refused.
+fn replies_to(
+    rt: &(impl Alloc + Abort),
+    alloc: Global,
+    packets: &[Packet],
+    order: &[usize],
+) -> Result<Vec<(usize, Vec<u8>)>, Fail> {
     let mut service = acceptor(alloc, TimedMemory::new(alloc))?;
     let mut replies = Vec::new(alloc);
-    for (row, which) in [2usize, 0, 1, 0, 2, 1].into_iter().enumerate() {
-        let sent = packets.get(which).ok_or("a request")?;
+    for which in order {
+        let sent = packets.get(*which).ok_or("a request")?;
         match service.accept(alloc, &sent.bytes, moment((1_700_000_101, 0))?) {
-            Ok(accepted) => replies.push((which, replied(alloc, &accepted)?))?,
-            Err(refusal) => is(&rt, row, (row > 2, refusal), (true, Refusal::Repeat)),
+            Ok(accepted) => replies.push((*which, replied(alloc, &accepted)?))?,
+            Err(refusal) => is(rt, (replies.len(), refusal), refusal, Refusal::Repeat),
         }
     }
+    Ok(replies)
+}
+
+// What each of the clients answers to the reply to one of them.
+fn is_for_one(
+    rt: &(impl Alloc + Abort),
+    alloc: Global,
+    packets: &[Packet],
+    which: usize,
+    reply: &[u8],
+) {
+    for (other, sent) in packets.iter().enumerate() {
+        let fault = sent.pending.finish(alloc, reply).err();
+        let wanted = (other != which).then_some(FinishFault::Mismatch);
+        is(rt, (which, other), fault, wanted);
+    }
+}
+
+// Each of the three is accepted when it first comes, and its repeat refused; and each reply is for its own request alone.
+#[test]
+fn three_requests(rt: HostRuntime) -> Result<(), Fail> {
+    let packets = three_packets(rt.alloc())?;
+    let replies = replies_to(&rt, rt.alloc(), &packets, &[2, 0, 1, 0, 2, 1])?;
     is(&rt, "replies", replies.len(), 3);
     for (which, reply) in replies.iter() {
-        for (other, sent) in packets.iter().enumerate() {
-            let fault = sent.pending.finish(alloc, reply).err();
-            let wanted = (other != *which).then_some(FinishFault::Mismatch);
-            is(&rt, (*which, other), fault, wanted);
-        }
+        is_for_one(&rt, rt.alloc(), &packets, *which, reply);
     }
     Ok(())
 }
@@ -169,24 +195,39 @@ fn some_moment(dice: &mut Dice) -> (i64, u32) {
     )
 }
 
-#[test]
-fn schedules_of_any_order(rt: HostRuntime) -> Result<(), Fail> {
-    let alloc = rt.alloc();
-    let mut dice = Dice(20_261_123);
+// How many requests one schedule accepts.
+fn one_schedule(
+    rt: &(impl Alloc + Abort),
+    alloc: Global,
+    dice: &mut Dice,
+    packets: &[Packet],
+) -> Result<u32, Fail> {
+    let mut services = new_services(alloc)?;
+    for _ in 0..dice.roll(21) {
+        let one = packets.get(dice.roll(20) as usize).ok_or("a packet")?;
+        let other = packets.get(dice.roll(20) as usize).ok_or("a packet")?;
+        let now = moment(some_moment(dice))?;
+        deliver(rt, alloc, &mut services, one, other, now)?;
+    }
+    Ok(services.accepted)
+}
+
+fn some_packets(alloc: Global, dice: &mut Dice) -> Result<Vec<Packet>, Fail> {
     let mut packets = Vec::new(alloc);
     for _ in 0..20 {
-        packets.push(sent_at(alloc, some_moment(&mut dice))?)?;
+        packets.push(sent_at(alloc, some_moment(dice))?)?;
     }
+    Ok(packets)
+}
+
+#[test]
+fn schedules_of_any_order(rt: HostRuntime) -> Result<(), Fail> {
+    let mut dice = Dice(20_261_123);
+    let packets = some_packets(rt.alloc(), &mut dice)?;
     let mut accepted = 0u32;
     for _ in 0..2_000 {
-        let mut services = new_services(alloc)?;
-        for _ in 0..dice.roll(21) {
-            let one = packets.get(dice.roll(20) as usize).ok_or("a packet")?;
-            let other = packets.get(dice.roll(20) as usize).ok_or("a packet")?;
-            let now = moment(some_moment(&mut dice))?;
-            deliver(&rt, alloc, &mut services, one, other, now)?;
-        }
-        accepted = accepted.saturating_add(services.accepted);
+        let more = one_schedule(&rt, rt.alloc(), &mut dice, &packets)?;
+        accepted = accepted.saturating_add(more);
     }
     is(&rt, "many are accepted", accepted > 2_000, true);
     Ok(())
