@@ -63,7 +63,7 @@ pub fn built_or_prevented()
         → Prevents cache service at confounder options fault → ⊥ }
 {}
 
-/// Says that of a reply both sides agree on one thing, or it has a first fault, and not both.
+/// Says that by a reply a client agrees on one thing at most, and that where it does there is no cause to refuse the reply.
 pub fn agreed_or_refused()
     ensures one { (awaited : Awaited) (bytes : List ℕ) (one other : Agreement)
         → IsAgreed awaited bytes one → IsAgreed awaited bytes other → one ≡ other }
@@ -82,7 +82,9 @@ pub fn no_stamp_twice()
 }
 
 /// Says that whatever the network loses, repeats or reorders, a client that agrees to a reply holds what the service holds for that
-/// request, of which there is something, and that all of it agrees.
+/// request, of which there is something, and that all of it agrees. What may happen is said in `specs/World`: only what the two sent
+/// is delivered, no two requests are of one microsecond, and there is at most one reply for each acceptance; and the key that the
+/// keytab has opens the credential's ticket to its client and key. Clause `each` says it of one request and one reply.
 pub fn both_agree()
     ensures all { (setup : Setup) (credential : Credential) (ticket : ValueOf ticket_kind) (part : ValueOf enc_ticket_part) (events : List Event) (end : World)
         → HasTicket setup credential ticket part → Comes setup credential nothing_yet events end → BothAgree credential end }
