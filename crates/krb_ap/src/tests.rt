@@ -5,6 +5,7 @@ mod client;
 mod handed_on;
 mod replies;
 mod schedules;
+mod texts;
 
 ghost use Rattle.std.specs.Prelude.{◌≡◌, None};
 ghost use Rattle.krb_replay.specs.Stamp.{Stamp};

@@ -141,3 +141,133 @@ fn a_reply_for_another_usage(rt: HostRuntime) -> Result<(), Fail> {
     is(&rt, "usage 11", fault, Some(FinishFault::Integrity));
     Ok(())
 }
+
+// How a sealed text is bent: what it opens to is cut to so many bytes and may get a zero behind, and of that, sealed anew, so many
+// bytes are sent.
+#[derive(Clone, Copy, Debug)]
+struct Bend {
+    kept: usize,
+    zero_behind: bool,
+    sent: usize,
+}
+
+const STRAIGHT: Bend = Bend {
+    kept: usize::MAX,
+    zero_behind: false,
+    sent: usize::MAX,
+};
+
+// What is too short for a sealed text, and what opens to nothing, or to more than there has to be.
+const BENDS: [Bend; 4] = [
+    Bend {
+        sent: 0,
+        ..STRAIGHT
+    },
+    Bend {
+        sent: 31,
+        ..STRAIGHT
+    },
+    Bend {
+        kept: 0,
+        ..STRAIGHT
+    },
+    Bend {
+        zero_behind: true,
+        ..STRAIGHT
+    },
+];
+
+fn bent(alloc: Global, key: &Key, usage: u32, cipher: &[u8], bend: Bend) -> Result<Vec<u8>, Fail> {
+    let mut plain = key.open(alloc, usage, cipher)?;
+    plain.truncate(bend.kept);
+    if bend.zero_behind {
+        plain.push(0)?;
+    }
+    let mut sealed = key.seal(alloc, usage, &[0x20; 16], &plain)?;
+    sealed.truncate(bend.sent);
+    Ok(sealed)
+}
+
+fn with_bent_ticket(alloc: Global, bend: Bend) -> Result<Vec<u8>, Fail> {
+    let mut broken = ApReqRef::parse(&request(alloc, FIXTURE)?)?.to_owned(alloc)?;
+    let key = key(alloc, 19, &SERVICE_KEY)?;
+    broken.ticket.enc_part.cipher = bent(alloc, &key, 2, &broken.ticket.enc_part.cipher, bend)?;
+    Ok(broken.encode(alloc)?)
+}
+
+fn with_bent_authenticator(alloc: Global, bend: Bend) -> Result<Vec<u8>, Fail> {
+    let mut broken = ApReqRef::parse(&request(alloc, FIXTURE)?)?.to_owned(alloc)?;
+    let key = key(alloc, 19, &SESSION_KEY)?;
+    broken.authenticator.cipher = bent(alloc, &key, 11, &broken.authenticator.cipher, bend)?;
+    Ok(broken.encode(alloc)?)
+}
+
+fn with_bent_reply(alloc: Global, bytes: &[u8], bend: Bend) -> Result<Vec<u8>, Fail> {
+    let accepted = answered(alloc, bytes)?.map_err(|_| "refused")?;
+    let options = ReplyOptions {
+        subkey: None,
+        seq: None,
+    };
+    let reply = accepted.reply(alloc, &[0x30; 16], options)?;
+    let mut broken = ApRepRef::parse(&reply)?.to_owned(alloc)?;
+    let key = &accepted.session_key;
+    broken.enc_part.cipher = bent(alloc, key, 12, &broken.enc_part.cipher, bend)?;
+    Ok(broken.encode(alloc)?)
+}
+
+// Both memories answer so to one request.
+fn both_memories(
+    rt: &(impl Alloc + Abort),
+    alloc: Global,
+    bend: Bend,
+    bytes: &[u8],
+    wanted: Option<Refusal>,
+) -> Result<(), Fail> {
+    is_answered(
+        rt,
+        alloc,
+        bend,
+        &KEYS,
+        &[call(bytes, moment(AT)?)],
+        &[wanted],
+    )
+}
+
+#[test]
+fn tickets_that_are_bent(rt: HostRuntime) -> Result<(), Fail> {
+    let alloc = rt.alloc();
+    let straight = with_bent_ticket(alloc, STRAIGHT)?;
+    both_memories(&rt, alloc, STRAIGHT, &straight, None)?;
+    for bend in BENDS {
+        let bytes = with_bent_ticket(alloc, bend)?;
+        both_memories(&rt, alloc, bend, &bytes, Some(Refusal::TicketIntegrity))?;
+    }
+    Ok(())
+}
+
+#[test]
+fn authenticators_that_are_bent(rt: HostRuntime) -> Result<(), Fail> {
+    let alloc = rt.alloc();
+    let straight = with_bent_authenticator(alloc, STRAIGHT)?;
+    both_memories(&rt, alloc, STRAIGHT, &straight, None)?;
+    for bend in BENDS {
+        let bytes = with_bent_authenticator(alloc, bend)?;
+        let wanted = Some(Refusal::AuthenticatorIntegrity);
+        both_memories(&rt, alloc, bend, &bytes, wanted)?;
+    }
+    Ok(())
+}
+
+#[test]
+fn replies_that_are_bent(rt: HostRuntime) -> Result<(), Fail> {
+    let alloc = rt.alloc();
+    let (bytes, pending) = sent(alloc, FIXTURE, None, None)?;
+    let straight = with_bent_reply(alloc, &bytes, STRAIGHT)?;
+    is(&rt, STRAIGHT, pending.finish(alloc, &straight).err(), None);
+    for bend in BENDS {
+        let reply = with_bent_reply(alloc, &bytes, bend)?;
+        let fault = pending.finish(alloc, &reply).err();
+        is(&rt, bend, fault, Some(FinishFault::Integrity));
+    }
+    Ok(())
+}
