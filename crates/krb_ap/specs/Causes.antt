@@ -113,7 +113,8 @@ place Authorization = 17
 place OutOfMemory = 18
 
 -- the error codes, by RFC 4120's names. Where the RFC names none for a cause, the choice is ours: for malformed requests and for
--- what we don't look at 60, for types that we don't know 14, for user-to-user requests and keys that are wanting 45.
+-- what we don't look at 60, for types that we don't know 14, for user-to-user requests 45. A wrong version number or a wrong message
+-- type behind a good tag is malformed here, with 60, though RFC 4120 has 39 and 40 for them; 45 for a missing key is its own (3.2.3).
 abbrev pub code_of : Refusal → Option ℤ
 code_of MessageType = Some (pos 40)  -- KRB_AP_ERR_MSG_TYPE
 code_of (Malformed fault) = Some (pos 60)  -- KRB_ERR_GENERIC
