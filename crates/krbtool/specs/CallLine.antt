@@ -35,6 +35,10 @@ SpellsSeconds text seconds = SpellsBefore text seconds ⊎ SpellsSince text seco
 abbrev pub SpellsMessage : List ℕ → List ℕ → Type 0
 SpellsMessage text bytes = ((text ≡ 45 ∷ []) × (bytes ≡ [])) ⊎ ((0 < length bytes) × (decode_of text ≡ Ok bytes))
 
+-- 32 hexadecimal digits of either case, for 16 bytes
+abbrev pub SpellsConfounder : List ℕ → List ℕ → Type 0
+SpellsConfounder text bytes = (length text ≡ 32) × (decode_of text ≡ Ok bytes)
+
 -- the line spells this call
 pub record SpellsCall (line : List ℕ) (call : Arrival) : Type 0 where
   pub seconds_text : List ℕ

@@ -3,6 +3,7 @@ pub mod Lines
 pub mod Status
 pub mod Engine
 pub mod FaultText
+pub mod Requesting
 pub mod CallLine
 pub mod Answering
 pub mod Inner

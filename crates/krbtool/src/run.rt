@@ -5,9 +5,11 @@ ghost use Rattle.std.specs.Prelude.{◌<◌, ◌-◌, ◌^◌};
 use crate::accept::accept_lines;
 use crate::check::{check_ccache, check_keytab};
 use crate::convert::{convert_ccache, convert_keytab};
-use crate::fault::{EngineFault, FAILED, FaultLine, WRONG_WORDS, fault_line, file_line, status};
+use crate::fault::{EngineFault, FAILED, WRONG_WORDS, status};
+use crate::fault_line::{FaultLine, fault_line, file_line};
 use crate::list::{list_ccache, list_keytab};
 use crate::order::Order;
+use crate::run_request::run_request;
 use krb_ap::Acceptor;
 use krb_keytab::Keytab;
 use krb_name::{ReadSource, Sink, Source, WriteSink};
@@ -93,6 +95,7 @@ pub(crate) fn run<R: AllocGlobal + Files + Input + Print + Eprint>(rt: &R, order
         Order::CheckCcache { file } => run_on_file(rt, OnFile::CheckCcache, file),
         Order::ConvertKeytab { file, out } => run_convert(rt, Convert::Keytab, file, out),
         Order::ConvertCcache { file, out } => run_convert(rt, Convert::Ccache, file, out),
+        Order::Request(words) => run_request(rt, words),
         Order::Accept { keytab, skew } => run_accept(rt, keytab, skew),
     }
 }
@@ -103,15 +106,7 @@ fn run_on_file<R: AllocGlobal + Files + Print + Eprint>(rt: &R, command: OnFile,
     };
     match printed(rt, command, opened) {
         Ok(()) => 0,
-        Err(fault) => {
-            let name = match fault {
-                EngineFault::Keytab(_) | EngineFault::Cache(_) => file,
-                EngineFault::Input => "input",
-                EngineFault::Write => "output",
-                EngineFault::OutOfMemory => command.name(),
-            };
-            complain(rt, fault_line(name, &fault), status(&fault))
-        }
+        Err(fault) => complain_of(rt, &fault, file, command.name()),
     }
 }
 
@@ -178,15 +173,7 @@ fn run_accept<R: AllocGlobal + Files + Input + Print + Eprint>(
     };
     match answered {
         Ok(status) => status,
-        Err(fault) => {
-            let name = match fault {
-                EngineFault::Keytab(_) | EngineFault::Cache(_) => name,
-                EngineFault::Input => "input",
-                EngineFault::Write => "output",
-                EngineFault::OutOfMemory => "accept",
-            };
-            complain(rt, fault_line(name, &fault), status(&fault))
-        }
+        Err(fault) => complain_of(rt, &fault, name, "accept"),
     }
 }
 
@@ -217,8 +204,20 @@ fn tell_wrote<R: Print + Eprint>(rt: &R, count: usize) -> u8 {
     }
 }
 
+// Prints a fault of a command on this file, and answers the status.
+pub(crate) fn complain_of<R: Eprint>(rt: &R, fault: &EngineFault, file: &str, command: &str) -> u8 {
+    let name = match fault {
+        EngineFault::Keytab(_) | EngineFault::Cache(_) => file,
+        EngineFault::Request(_) => "request",
+        EngineFault::Input => "input",
+        EngineFault::Write => "output",
+        EngineFault::OutOfMemory => command,
+    };
+    complain(rt, fault_line(name, fault), status(fault))
+}
+
 // Prints the line, and answers the status.
-fn complain<R: Eprint>(rt: &R, line: FaultLine<'_>, status: u8) -> u8 {
+pub(crate) fn complain<R: Eprint>(rt: &R, line: FaultLine<'_>, status: u8) -> u8 {
     let _ = eprintln!(rt; "{line}");
     status
 }

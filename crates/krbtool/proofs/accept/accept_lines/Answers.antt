@@ -1,6 +1,6 @@
-use Rattle.std.proofs.Common.{rules, arith, ◌≡◌, max, ap, sym, refl, inl, inr, ◌∙◌, Err, [], true, false}
+use Rattle.std.proofs.Common.{rules, arith, ◌≡◌, max, ap, sym, refl, inl, inr, ◌∙◌, Err}
 use Rattle.std.proofs.lemmas.Result.{err_from_is_err_and}
-use Rattle.krbtool.specs.declared.fault.EngineFault.TheVariants.{Input, Write, OutOfMemory}
+use Rattle.krbtool.specs.declared.fault.EngineFault.TheVariants.{Input}
 use Rattle.krbtool.proofs.FaultLaws.{no_ok, not_input}
 use Rattle.krbtool.proofs.CallLaws.{unlike}
 use Rattle.krbtool.proofs.EndLaws.{all_answered, last_answered, last_begun, last_untouched, none_begun, stop_begun, whole_answered}

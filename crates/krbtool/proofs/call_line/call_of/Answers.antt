@@ -1,4 +1,4 @@
-use Rattle.std.proofs.Common.{rules, subst, sym, refl}
+use Rattle.std.proofs.Common.{rules, subst, sym}
 use Rattle.krbtool.specs.CallLine.{SpellsMessage}
 use Rattle.krbtool.proofs.CallLaws.{one_message}
 use Rattle.krbtool.proofs.call_line.call_of.Goals as goal
