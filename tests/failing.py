@@ -82,7 +82,7 @@ def checks(program):
                 for call in ("read", "write"):
                     for how, lasting in (("error", False), ("error", True), ("interrupted", False), ("short", False), ("short", True)):
                         lines = f" over {len(command.stdin.splitlines())} lines" if command.stdin else ""
-                        name = f"failing: {' '.join(command.words)}{lines}, each {call}: {how}{', and all after it' if lasting else ''}"
+                        name = f"failing: {' '.join(command.words[:3])}{lines}, each {call}: {how}{', and all after it' if lasting else ''}"
                         yield name, swept(program, command, call, how, lasting, preloaded)
         except (OSError, subprocess.SubprocessError) as error:
             yield "failing", str(error)

@@ -1,6 +1,7 @@
 """The program's commands, run beside a preloaded library of C (refuse.c, fail.c; a C compiler makes them)."""
 import os
 import subprocess
+import sys
 import tempfile
 from dataclasses import dataclass
 from pathlib import Path
@@ -8,6 +9,8 @@ from pathlib import Path
 import generated
 
 HERE = Path(__file__).resolve().parent
+sys.path.append(str(HERE / "vectors"))
+import fixture  # noqa: E402
 OLD = b"what OUT held"
 # More calls than any command makes.
 ALL = 1_000_000
@@ -47,6 +50,12 @@ def file_commands():
             yield Command([word, "f", "out"], file, b"", f"wrote {len(made)}\n".encode(), made)
         else:
             yield Command([word, "f"], file, b"", command(file).encode(), OLD)
+    yield requested()
+
+
+def requested():
+    words = "request f host/web@EX --time 1700000100 --usec 5 --mutual --confounder 202122232425262728292a2b2c2d2e2f".split()
+    return Command(words, fixture.cache(), b"", f"{fixture.request(0x20000000).hex()}\n".encode(), OLD)
 
 
 def called(lines):

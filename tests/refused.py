@@ -52,7 +52,7 @@ def is_named(program, command, found):
     """Whether the run's lines say that the command, or its file, was refused memory, and nothing wrong was written."""
     if found.status != 3 or found.out not in (command.out, b"") and command.out != OLD:
         return False
-    if found.said == "krbtool: f: OutOfMemory\n":
+    if found.said in ("krbtool: f: OutOfMemory\n", "krbtool: service: OutOfMemory\n"):
         return not found.wrote
     if command.stdin:
         return is_answered(program, command, found)
@@ -97,7 +97,7 @@ def checks(program):
                 if command.wrote is None:
                     command = preload.with_answer(program, command)
                 for lasting in (False, True):
-                    name = f"refused memory: {' '.join(command.words)}, each call{' and all after it' if lasting else ''}"
+                    name = f"refused memory: {' '.join(command.words[:3])}, each call{' and all after it' if lasting else ''}"
                     yield name, swept(program, command, last, preloaded, lasting)
         except (OSError, subprocess.SubprocessError) as error:
             yield "refused memory", str(error)
