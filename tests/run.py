@@ -5,8 +5,8 @@
 
 Then it compares the tables of the crates' tests with the scripts that make them (tests/tables.py), holds README.md to what is there
 (tests/readme.py), runs the script krbtool (tests/script.py), refuses the program's calls for memory one after another
-(tests/refused.py), lets its reads and writes fail (tests/failing.py), and ends with what MIT's tools say of files that the program
-wrote (tests/peers.py; Debian's package krb5-user).
+(tests/refused.py), lets its reads and writes fail (tests/failing.py), compares it with a second client and service on generated input
+(tests/exchange.py), and ends with what MIT's tools say of files that the program wrote (tests/peers.py; Debian's package krb5-user).
 
 A case is a table [[case]] of a TOML file:
 
@@ -46,6 +46,7 @@ sys.path.insert(0, str(HERE))
 sys.dont_write_bytecode = True
 
 import dialogue  # noqa: E402
+import exchange  # noqa: E402
 import failing  # noqa: E402
 import generated  # noqa: E402
 import peers  # noqa: E402
@@ -157,7 +158,7 @@ def results(program, word, jobs):
     """The name of each case and what is wrong with it, or None. Cases run side by side, each in a folder of its own."""
     chosen = (case for case in chain(stored_cases(), generated.cases()) if word in case["name"])
     yield from in_turn(jobs, lambda case: (case["name"], run(program, case)), chosen)
-    for part in (tables.checks, readme.checks, script.checks, refused.checks, failing.checks, dialogue.checks, peers.checks):
+    for part in (tables.checks, readme.checks, script.checks, refused.checks, failing.checks, dialogue.checks, exchange.checks, peers.checks):
         yield from ((name, wrong) for name, wrong in part(program) if word in name)
 
 
