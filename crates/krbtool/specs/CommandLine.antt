@@ -4,6 +4,9 @@ use Rattle.std.specs.Prelude.{◌≡◌, ℕ, Bool, List, [], ◌∷◌, Option,
 use Rattle.clap.specs.Words.{App, Row, Rule, Text, first_of, one_of, new_app, new_rule, with_rule, with_subcommand}
 use Rattle.clap.specs.declared.builder.value_parser.ValueParser.TheVariants.{Unsigned}
 use Rattle.clap.specs.declared.builder.action.ArgAction.TheVariants.{SetTrue}
+use Rattle.std.specs.Borrow.{Bor}
+use Rattle.std.specs.Option.{option_map}
+use Rattle.krbtool.specs.declared.order.AcceptWords.{AcceptWords}
 use Rattle.krbtool.specs.declared.order.RequestWords.{RequestWords}
 use Rattle.krbtool.specs.declared.order.Order.{Order}
 use Rattle.krbtool.specs.declared.order.Order.TheVariants.{ListKeytab, ListCcache, CheckKeytab, CheckCcache, ConvertKeytab, ConvertCcache, Request, Accept}
@@ -23,6 +26,10 @@ needed_option id = record (new_rule id) { long = Some id; required = true }
 -- one with a whole number from 0 to some greatest one
 abbrev pub needed_number : Text → ℕ → Rule
 needed_number id greatest = record (needed_option id) { parser = Some (Unsigned 0 greatest) }
+
+-- an option that may be left out
+abbrev pub free_option : Text → Rule
+free_option id = record (new_rule id) { long = Some id }
 
 -- an option without a value
 abbrev pub flag : Text → Rule
@@ -46,9 +53,12 @@ request_moment = with_rule (with_rule request_operands (needed_number (codes "ti
 abbrev pub request : App
 request = with_rule (with_rule request_moment (needed_option (codes "confounder"))) (flag (codes "mutual"))
 
--- accept KEYTAB [--skew SECONDS]
+-- accept KEYTAB [--skew SECONDS] [--service NAME]
+abbrev pub accept_operands : App
+accept_operands = with_rule (new_app (codes "accept")) (operand (codes "KEYTAB"))
+
 abbrev pub accept : App
-accept = with_rule (with_rule (new_app (codes "accept")) (operand (codes "KEYTAB"))) (number_option (codes "skew") 86_400 (codes "300"))
+accept = with_rule (with_rule accept_operands (number_option (codes "skew") 86_400 (codes "300"))) (free_option (codes "service"))
 
 -- an app with two more subcommands
 abbrev pub with_two : App → App → App → App
@@ -96,6 +106,16 @@ pub record AsksRequest (rows : List Row) (words : RequestWords) : Type 0 where
   pub confounder : HasOperand rows (codes "confounder") words.confounder.now
   pub reply : HasFlag rows (codes "mutual") words.mutual
 
+-- an option has this value, or is left out
+abbrev pub HasOption : List Row → Text → Option (Bor Text) → Type 0
+HasOption rows id value = first_of id rows ≡ option_map (λ s. s.now) value
+
+-- the operand and options of accept
+pub record AsksAcceptance (rows : List Row) (words : AcceptWords) : Type 0 where
+  pub keytab : HasOperand rows (codes "KEYTAB") words.keytab.now
+  pub skew : HasOperand rows (codes "skew") words.skew.now
+  pub service : HasOption rows (codes "service") words.service
+
 -- the order is the subcommand's, with the values that its entries have
 abbrev pub IsOrder : Order → Option (Text × List Row) → Type 0
 IsOrder order None = ⊥
@@ -106,5 +126,4 @@ IsOrder (CheckCcache file) (Some (name, rows)) = (name ≡ codes "check-ccache")
 IsOrder (ConvertKeytab file out) (Some (name, rows)) = (name ≡ codes "convert-keytab") × HasFiles rows file.now out.now
 IsOrder (ConvertCcache file out) (Some (name, rows)) = (name ≡ codes "convert-ccache") × HasFiles rows file.now out.now
 IsOrder (Request words) (Some (name, rows)) = (name ≡ codes "request") × AsksRequest rows words
-IsOrder (Accept keytab skew) (Some (name, rows)) =
-    (name ≡ codes "accept") × (HasOperand rows (codes "KEYTAB") keytab.now × HasOperand rows (codes "skew") skew.now)
+IsOrder (Accept words) (Some (name, rows)) = (name ≡ codes "accept") × AsksAcceptance rows words

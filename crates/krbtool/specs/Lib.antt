@@ -5,5 +5,6 @@ pub mod Engine
 pub mod FaultText
 pub mod Requesting
 pub mod CallLine
+pub mod Tails
 pub mod Answering
 pub mod Inner

@@ -3,7 +3,7 @@
 ghost use Rattle.std.specs.Prelude.{◌≡◌, false, IfOk, codes};
 ghost use Rattle.clap.specs.Words.{app_of, rule_of};
 ghost use Rattle.clap.specs.declared.builder.command.Command.TheViews.{out-Command};
-ghost use Rattle.krbtool.specs.CommandLine.{krbtool, accept, bare, flag, needed_number, needed_option, number_option, operand, request, request_operands, request_moment, with_two, with_lists, with_checks, with_conversions, of_file, of_file_and_out};
+ghost use Rattle.krbtool.specs.CommandLine.{krbtool, accept, accept_operands, bare, flag, free_option, needed_number, needed_option, number_option, operand, request, request_operands, request_moment, with_two, with_lists, with_checks, with_conversions, of_file, of_file_and_out};
 
 use clap::builder::ValueParser;
 use clap::{Arg, ArgAction, Command};
@@ -193,13 +193,33 @@ fn request_command<'a>(alloc: Global) -> Result<Command<'a>, AllocError>
     request_with_moment(alloc)?.arg(confounder)?.arg(mutual)
 }
 
-fn accept_command<'a>(alloc: Global) -> Result<Command<'a>, AllocError>
-    ensures app { IfOk result (λ c. app_of c ≡ accept) }
+// The command `accept` with its operand.
+fn accept_with_operand<'a>(alloc: Global) -> Result<Command<'a>, AllocError>
+    ensures app { IfOk result (λ c. app_of c ≡ accept_operands) }
     ensures local { IfOk result (λ c. (out-Command c).has_globals ≡ false) }
 {
     let keytab = Arg::new(alloc, "KEYTAB")
         .required(true)
         .help("The service's keytab");
+    Command::new(alloc, "accept")
+        .about(
+            "Answers requests: for each line SECONDS MICROS HEX [CONFOUNDER] of standard input, whether a service accepts it",
+        )
+        .arg(keytab)
+}
+
+// An option that may be left out.
+fn free_arg<'a>(alloc: Global, name: &'a str, help: &'a str) -> Arg<'a>
+    ensures rule { rule_of result ≡ free_option name.entry.now }
+    ensures local { result.global ≡ false }
+{
+    Arg::new(alloc, name).long(name).help(help)
+}
+
+fn accept_command<'a>(alloc: Global) -> Result<Command<'a>, AllocError>
+    ensures app { IfOk result (λ c. app_of c ≡ accept) }
+    ensures local { IfOk result (λ c. (out-Command c).has_globals ≡ false) }
+{
     let skew = number_arg(
         alloc,
         "skew",
@@ -207,12 +227,12 @@ fn accept_command<'a>(alloc: Global) -> Result<Command<'a>, AllocError>
         "300",
         "By how many seconds clocks may differ: 0 to 86400",
     );
-    Command::new(alloc, "accept")
-        .about(
-            "Answers requests: for each line SECONDS MICROS HEX of standard input, whether a service accepts it",
-        )
-        .arg(keytab)?
-        .arg(skew)
+    let service = free_arg(
+        alloc,
+        "service",
+        "The service's name: what is refused with a code is followed by an error that tells it",
+    );
+    accept_with_operand(alloc)?.arg(skew)?.arg(service)
 }
 
 // The command with two more subcommands.

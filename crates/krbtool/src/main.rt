@@ -18,8 +18,10 @@ mod order;
 mod part_line;
 mod request;
 mod run;
+mod run_accept;
 mod run_request;
 mod streams;
+mod tail;
 mod words;
 
 use crate::fault::{EngineFault, FAILED, WRONG_WORDS};

@@ -37,13 +37,19 @@ pub enum Order<'a> {
     },
     /// `request FILE SERVICE --time S --usec U --confounder H [--mutual]`: a request in hexadecimal.
     Request(RequestWords<'a>),
-    /// `accept KEYTAB [--skew SECONDS]`: the lines of standard input answered by a service.
-    Accept {
-        /// The keytab's path.
-        keytab: &'a str,
-        /// By how many seconds clocks may differ, in decimal: 0 to 86400.
-        skew: &'a str,
-    },
+    /// `accept KEYTAB [--skew SECONDS] [--service NAME]`: the lines of standard input answered by a service.
+    Accept(AcceptWords<'a>),
+}
+
+/// The words of `accept`.
+#[derive(Clone, Copy, Debug, PartialEq, Eq)]
+pub struct AcceptWords<'a> {
+    /// The keytab's path.
+    pub keytab: &'a str,
+    /// By how many seconds clocks may differ, in decimal: 0 to 86400.
+    pub skew: &'a str,
+    /// The service's name, where errors are to be told.
+    pub service: Option<&'a str>,
 }
 
 /// The words of `request`.

@@ -15,8 +15,8 @@ ghost use Rattle.krbtool.specs.CallLine.{SpellsConfounder};
 ghost use Rattle.krbtool.specs.Engine.{IsOfRequest, OfFile, cache_fault, request_fault, FailsWithCache, failed_reads, failed_writes};
 ghost use Rattle.krbtool.specs.Requesting.{IsRequested, plain_options, request_line};
 
+use crate::call_line::confounder_of;
 use crate::fault::EngineFault;
-use hex::FromHex;
 use krb_ap::{RequestFault, RequestOptions, make_request};
 use krb_ccache::CCache;
 use krb_msg::Moment;
@@ -44,7 +44,7 @@ pub fn read_confounder(text: &str) -> Option<[u8; 16]>
     ensures found { IfSome result (λ confounder. SpellsConfounder text.now confounder) }
     ensures none { result ≡ None → (confounder : List ℕ) → SpellsConfounder text.now confounder → ⊥ }
 {
-    <[u8; 16] as FromHex>::from_hex(text).ok()
+    confounder_of(text.as_bytes())
 }
 
 /// Builds a request for `service` with a credential cache, as `make_request` does, and writes it as a line of lower-case hexadecimal

@@ -2,18 +2,15 @@
 
 ghost use Rattle.std.specs.Prelude.{◌<◌, ◌-◌, ◌^◌};
 
-use crate::accept::accept_lines;
 use crate::check::{check_ccache, check_keytab};
 use crate::convert::{convert_ccache, convert_keytab};
-use crate::fault::{EngineFault, FAILED, WRONG_WORDS, status};
+use crate::fault::{EngineFault, FAILED, status};
 use crate::fault_line::{FaultLine, fault_line, file_line};
 use crate::list::{list_ccache, list_keytab};
 use crate::order::Order;
+use crate::run_accept::run_accept;
 use crate::run_request::run_request;
-use krb_ap::Acceptor;
-use krb_keytab::Keytab;
 use krb_name::{ReadSource, Sink, Source, WriteSink};
-use krb_replay::{Skew, TimedMemory};
 use std::alloc::Global;
 use std::fs::{File, OpenOptions};
 use std::io;
@@ -96,7 +93,7 @@ pub(crate) fn run<R: AllocGlobal + Files + Input + Print + Eprint>(rt: &R, order
         Order::ConvertKeytab { file, out } => run_convert(rt, Convert::Keytab, file, out),
         Order::ConvertCcache { file, out } => run_convert(rt, Convert::Ccache, file, out),
         Order::Request(words) => run_request(rt, words),
-        Order::Accept { keytab, skew } => run_accept(rt, keytab, skew),
+        Order::Accept(words) => run_accept(rt, words),
     }
 }
 
@@ -153,45 +150,6 @@ fn make<R: Files>(rt: &R, out: &str) -> io::Result<R::File> {
         .truncate(true)
         .mode(OWNER_ALONE)
         .open(rt, out)
-}
-
-// Answers the lines of standard input by the keytab of this name.
-fn run_accept<R: AllocGlobal + Files + Input + Print + Eprint>(
-    rt: &R,
-    name: &str,
-    skew: &str,
-) -> u8 {
-    let Some(skew) = skew_of(skew) else {
-        return WRONG_WORDS;
-    };
-    let Ok(opened) = File::open(rt, name) else {
-        return complain(rt, file_line(name), FAILED);
-    };
-    let answered = match Keytab::read(rt.alloc(), &mut ReadSource::new(opened)) {
-        Ok(keytab) => answered(rt, keytab, skew),
-        Err(fault) => Err(EngineFault::Keytab(fault)),
-    };
-    match answered {
-        Ok(status) => status,
-        Err(fault) => complain_of(rt, &fault, name, "accept"),
-    }
-}
-
-// The words of the command line were read as a number in this range.
-fn skew_of(seconds: &str) -> Option<Skew> {
-    Skew::new(seconds.parse::<u32>().ok()?)
-}
-
-// Each answer is written at once, so that another program can wait for it.
-fn answered<R: AllocGlobal + Input + Print>(
-    rt: &R,
-    keytab: Keytab,
-    skew: Skew,
-) -> Result<u8, EngineFault> {
-    let mut acceptor = Acceptor::new(keytab, skew, TimedMemory::new(rt.alloc()));
-    let mut source = ReadSource::new(rt.reader());
-    let mut sink = WriteSink::new(io::writer(rt));
-    accept_lines(rt.alloc(), &mut acceptor, &mut source, &mut sink)
 }
 
 fn tell_wrote<R: Print + Eprint>(rt: &R, count: usize) -> u8 {

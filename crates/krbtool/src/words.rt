@@ -2,10 +2,10 @@
 
 ghost use Rattle.std.specs.Prelude.{◌≡◌, Some, IfOk, IfSome, codes, map};
 ghost use Rattle.clap.specs.Words.{rows_of, found_of, subcommand_of, subcommand_rows_of};
-ghost use Rattle.krbtool.specs.CommandLine.{krbtool, AsksRequest, HasFlag, HasOperand, HasFile, HasFiles, IsOrder};
+ghost use Rattle.krbtool.specs.CommandLine.{krbtool, AsksAcceptance, AsksRequest, HasFlag, HasFile, HasFiles, IsOrder};
 
 use crate::commands::krbtool_command;
-use crate::order::{Order, RequestWords};
+use crate::order::{AcceptWords, Order, RequestWords};
 use clap::error::ErrorKind;
 use clap::{ArgMatches, Error};
 use std::alloc::Global;
@@ -28,15 +28,19 @@ fn files_of<'a>(matches: &ArgMatches<'a>) -> Option<(&'a str, &'a str)>
     Some((file, out))
 }
 
-// The values of KEYTAB and of skew.
+// The values of KEYTAB, and of skew and service.
 #[tactic(auto, using(crate::proofs::Getters::getters))]
-fn acceptance_of<'a>(matches: &ArgMatches<'a>) -> Option<(&'a str, &'a str)>
-    ensures { IfSome result (λ values. HasOperand (rows_of (found_of matches.now)) (codes "KEYTAB") values.0.now
-        × HasOperand (rows_of (found_of matches.now)) (codes "skew") values.1.now) }
+fn acceptance_of<'a>(matches: &ArgMatches<'a>) -> Option<AcceptWords<'a>>
+    ensures { IfSome result (λ words. AsksAcceptance (rows_of (found_of matches.now)) words) }
 {
     let keytab = matches.get_str("KEYTAB")?;
     let skew = matches.get_str("skew")?;
-    Some((keytab, skew))
+    let service = matches.get_str("service");
+    Some(AcceptWords {
+        keytab,
+        skew,
+        service,
+    })
 }
 
 // Whether the flag mutual was given.
@@ -98,8 +102,8 @@ fn order_of<'a>(name: &str, matches: &ArgMatches<'a>) -> Option<Order<'a>>
             Some(Order::Request(words))
         }
         "accept" => {
-            let (keytab, skew) = acceptance_of(matches)?;
-            Some(Order::Accept { keytab, skew })
+            let words = acceptance_of(matches)?;
+            Some(Order::Accept(words))
         }
         _ => None,
     }
