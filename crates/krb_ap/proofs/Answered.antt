@@ -30,12 +30,12 @@ pub data Outcome (setup : Setup) (bytes : List ℕ) : Type 0 where
   refused : (r : Refusal) → place r < place Skew → ((history : List Arrival) (moment : ℤ) → Cause setup history (arrival bytes moment) r) → Outcome setup bytes
   taken : (request : ValueOf ap_req) (part : ValueOf enc_ticket_part) (auth : ValueOf authenticator) → OpenedAs setup bytes request part auth → Outcome setup bytes
 
-begins : (bytes : List ℕ) → Decided (BeginsOtherwise 0x6e bytes)
-begins [] = inr (λ b. let e : [] ≡ b.first ∷ b.rest = b.bytes_are in absurd (none e))
+pub begins : (tag : ℕ) (bytes : List ℕ) → Decided (BeginsOtherwise tag bytes)
+begins tag [] = inr (λ b. let e : [] ≡ b.first ∷ b.rest = b.bytes_are in absurd (none e))
   where
     none : {x : ℕ} {xs : List ℕ} → [] ≡ x ∷ xs → ⊥
     none e = cc
-begins (x ∷ xs) = elim (numbers x 0x6e) [
+begins tag (x ∷ xs) = elim (numbers x tag) [
   | inl same ↦ inr (λ b. b.other (head b.first x b.rest xs (sym b.bytes_are) ∙ same))
   | inr other ↦ inl (record { first = x; rest = xs; bytes_are = refl; other = other })
 ]
@@ -47,7 +47,7 @@ known : (etype : ℤ) → Decided (IsKnown etype)
 known etype = one_of (etype ≡ pos 19) (etype ≡ pos 20) (integers etype (pos 19)) (integers etype (pos 20))
 
 -- a sealed text opens to a message of the kind, or to none
-opens_as : Facts → Decisions → (key : KeyValue) (usage : ℕ) (cipher : List ℕ) (k : Kind) → IsMessageKind k
+pub opens_as : Facts → Decisions → (key : KeyValue) (usage : ℕ) (cipher : List ℕ) (k : Kind) → IsMessageKind k
     → ((v : ValueOf k) × OpensAs key usage cipher k v) ⊎ ((v : ValueOf k) → ¬ OpensAs key usage cipher k v)
 opens_as facts d key usage cipher k m = elim (d.opening key usage cipher) [
   | inl opening ↦ elim (d.message k m opening.0) [
@@ -116,7 +116,7 @@ module _ (facts : Facts) (d : Decisions) (setup : Setup) (bytes : List ℕ) wher
   ]
 
   pub outcome : Outcome setup bytes
-  outcome = elim (begins bytes) [
+  outcome = elim (begins 0x6e bytes) [
     | inl other ↦ refused MessageType (lit< tt) (λ history moment. record { holds = other; first = none_before setup history (arrival bytes moment) })
     | inr so ↦ elim (d.message ap_req is_ap_req bytes) [
       | inl message ↦ by_request message.0 message.1

@@ -8,6 +8,7 @@ pub mod Late
 pub mod Standing
 pub mod Afterwards
 pub mod OneAnswer
+pub mod Offsets
 pub mod Runs
 pub mod Decided
 pub mod Answered
@@ -15,9 +16,11 @@ pub mod BuiltAccepted
 pub mod Walk
 pub mod Building
 pub mod Finishing
+pub mod OneReply
 pub mod Replying
 pub mod Codes
 pub mod OneRequest
 pub mod Once
 pub mod Sending
 pub mod Worlds
+pub mod WorldsOnce

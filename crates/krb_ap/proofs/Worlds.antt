@@ -23,7 +23,7 @@ use Rattle.krb_ap.specs.declared.refusal.Refusal.{Refusal}
 use Rattle.krb_ap.proofs.Once.{shown_behind}
 use Rattle.krb_ap.proofs.Sending.{same_moment, taken_agrees, stamp_taken, reply_opens}
 
-of_all : {X : Type 0} (P : X → Type 0) (xs : List X) (x : X) → All P xs → IsOf xs x → P x
+pub of_all : {X : Type 0} (P : X → Type 0) (xs : List X) (x : X) → All P xs → IsOf xs x → P x
 of_all P [] x all o = absurd o
 of_all P (y ∷ ys) x all (inl e) = subst P e (All-head P y ys all)
 of_all P (y ∷ ys) x all (inr o) = of_all P ys x (All-tail P y ys all) o

@@ -1,5 +1,5 @@
 -- What a service answers, and the history after it.
-use Rattle.std.specs.Prelude.{◌≡◌, ◌≢◌, ℤ, Bool, IsTrue, IsErrOf, List, [], ◌∷◌, Option, Result, Ok, Err}
+use Rattle.std.specs.Prelude.{◌≡◌, ◌≢◌, ◌≤◌, ℤ, Bool, IsTrue, IsErrOf, IfErr, IfSome, length, List, [], ◌∷◌, Option, Result, Ok, Err}
 use Rattle.std.specs.Option.{option_map}
 use Rattle.krb_msg.specs.Owned.{owned_key_of, owned_typed_of, owned_list_of}
 use Rattle.krb_replay.specs.Stamp.{Stamp}
@@ -11,7 +11,7 @@ use Rattle.krb_ap.specs.Opened.{Asks}
 use Rattle.krb_ap.specs.History.{IsShown, IsShownLately, StandsFor}
 use Rattle.krb_ap.specs.declared.call.Call.{Call}
 use Rattle.krb_ap.specs.Taken.{Taken, Accept}
-use Rattle.krb_ap.specs.Causes.{Cause}
+use Rattle.krb_ap.specs.Causes.{Cause, offset_of}
 use Rattle.krb_ap.specs.declared.accepted.Accepted.{Accepted}
 use Rattle.krb_ap.specs.declared.refusal.Refusal.{Refusal}
 use Rattle.krb_ap.specs.declared.refusal.Refusal.TheVariants.{OutOfMemory}
@@ -66,6 +66,13 @@ MemoryWantedByRequests [] [] = Unit {0}
 MemoryWantedByRequests (call ∷ calls) (answer ∷ answers) =
     (IsErrOf answer OutOfMemory → (request : ValueOf ap_req) × Asks call.bytes request) × MemoryWantedByRequests calls answers
 MemoryWantedByRequests _ _ = ⊥
+
+-- the place that each refusal tells is one of its call's bytes, or their end
+abbrev pub TellsPlacesWithin : List Arrival → List (Result Accepted Refusal) → Type 0
+TellsPlacesWithin [] [] = Unit {0}
+TellsPlacesWithin (call ∷ calls) (answer ∷ answers) =
+    IfErr answer (λ refusal. IfSome (offset_of refusal) (λ at. at ≤ length call.bytes)) × TellsPlacesWithin calls answers
+TellsPlacesWithin _ _ = ⊥
 
 -- There is such a history afterwards, and the memory stands for it. One that keeps all and had exactly what was shown has so
 -- again, and one that forgets and had exactly what of that was recent.

@@ -134,6 +134,11 @@ code_of Transited = Some (pos 60)  -- KRB_ERR_GENERIC
 code_of Authorization = Some (pos 60)  -- KRB_ERR_GENERIC
 code_of OutOfMemory = None
 
+-- the place in the bytes that a refusal tells
+abbrev pub offset_of : Refusal → Option ℕ
+offset_of (Malformed fault) = Some fault.at
+offset_of _ = None
+
 -- the first cause that holds
 pub record Cause (setup : Setup) (history : List Arrival) (call : Arrival) (refusal : Refusal) : Type 0 where
   pub holds : Holds setup history call refusal

@@ -1,5 +1,5 @@
 -- What a client makes of bytes that come as the reply (RFC 4120, section 3.2.5): what it and the service agree on, or why it refuses them.
-use Rattle.std.specs.Prelude.{◌≡◌, ◌≢◌, ◌<◌, ℕ, ℤ, List, Option}
+use Rattle.std.specs.Prelude.{◌≡◌, ◌≢◌, ◌<◌, ℕ, ℤ, List, Option, Some, None}
 use Rattle.std.specs.Option.{option_map}
 use Rattle.krb_name.specs.declared.principal.Principal.{Principal}
 use Rattle.krb_der.specs.Kind.{ValueOf, leaf, octets}
@@ -99,6 +99,11 @@ finish_place (Malformed fault) = 2
 finish_place Integrity = 3
 finish_place Mismatch = 4
 finish_place OutOfMemory = 5
+
+-- the place in the bytes that a fault tells
+abbrev pub finish_offset_of : FinishFault → Option ℕ
+finish_offset_of (Malformed fault) = Some fault.at
+finish_offset_of _ = None
 
 -- the first that holds
 pub record FinishCause (awaited : Awaited) (bytes : List ℕ) (fault : FinishFault) : Type 0 where

@@ -6,7 +6,9 @@ use Rattle.krb_name.specs.Name.{SameName}
 use Rattle.krb_der.specs.Kind.{ValueOf}
 use Rattle.krb_msg.specs.Module.{ticket as ticket_kind, enc_ticket_part}
 use Rattle.krb_ccache.specs.declared.credential.Credential.{Credential}
+use Rattle.krb_replay.specs.Stamp.{Stamp}
 use Rattle.krb_ap.specs.Setup.{Setup, Arrival}
+use Rattle.krb_ap.specs.Once.{HasStamp}
 use Rattle.krb_ap.specs.Taken.{Taken, Accept}
 use Rattle.krb_ap.specs.Causes.{Cause}
 use Rattle.krb_ap.specs.Answer.{after_refusal}
@@ -127,6 +129,22 @@ pub record BothAgree (credential : Credential) (w : World) : Type 0 where
   pub some : (e : Ended) → IsOf w.ended e → (r : Replied) × IsReplyTo w e.sent r
   pub all : (e : Ended) (r : Replied) → IsOf w.ended e → IsReplyTo w e.sent r → HoldSame credential e r
   pub held : (e : Ended) (h : Held) → IsOf w.ended e → IsOf w.held h → h.call.bytes ≡ e.sent.bytes → Agrees h.taken (awaited_by credential e.sent)
+
+-- a request of this stamp is among what the service holds
+abbrev pub IsHeldAmong : Setup → List Held → Stamp → Type 0
+IsHeldAmong setup [] stamp = ⊥
+IsHeldAmong setup (h ∷ held) stamp = HasStamp setup h.call.bytes stamp ⊎ IsHeldAmong setup held stamp
+
+-- no stamp was accepted twice
+abbrev pub HoldsOnce : Setup → List Held → Type 0
+HoldsOnce setup [] = Unit {0}
+HoldsOnce setup (h ∷ held) = ((stamp : Stamp) → HasStamp setup h.call.bytes stamp → ¬ IsHeldAmong setup held stamp) × HoldsOnce setup held
+
+-- and what the service holds of a request is one, and so is its reply to it
+pub record IsHeldOnce (setup : Setup) (w : World) : Type 0 where
+  pub stamps : HoldsOnce setup w.held
+  pub held : (g h : Held) → IsOf w.held g → IsOf w.held h → g.call.bytes ≡ h.call.bytes → g ≡ h
+  pub replied : (q r : Replied) → IsOf w.replied q → IsOf w.replied r → q.held.call.bytes ≡ r.held.call.bytes → q ≡ r
 
 -- the service replied to this request, and what it knows and told is what the client agreed to
 pub record IsHeldToo (credential : Credential) (w : World) (sent : Sent) (agreement : Agreement) : Type 0 where

@@ -1,6 +1,6 @@
 //! The service's side.
 
-ghost use Rattle.std.specs.Prelude.{◌≡◌, ◌↔◌, ◌⊎◌, List, None, Some, [], IsErrAnd, IfOk, IsErrOf, IsTrue, map, MatchResult, OnOk, OnErr};
+ghost use Rattle.std.specs.Prelude.{◌≡◌, ◌≤◌, ◌↔◌, ◌⊎◌, List, None, Some, [], length, IsErrAnd, IfOk, IfErr, IfSome, IsErrOf, IsTrue, map, MatchResult, OnOk, OnErr};
 ghost use Rattle.krb_der.specs.Kind.{ValueOf};
 ghost use Rattle.krb_msg.specs.Module.{ap_req};
 ghost use Rattle.krb_replay.specs.Memory.{later_of, AddsStamp, IsRecent, SameStamps};
@@ -9,10 +9,10 @@ ghost use Rattle.krb_ap.specs.Setup.{Arrival, arrival};
 ghost use Rattle.krb_ap.specs.Opened.{Asks};
 ghost use Rattle.krb_ap.specs.History.{IsShown, IsShownLately, StandsFor};
 ghost use Rattle.krb_ap.specs.Taken.{Accept, Taken};
-ghost use Rattle.krb_ap.specs.Causes.{Cause, place};
+ghost use Rattle.krb_ap.specs.Causes.{Cause, offset_of, place};
 ghost use Rattle.krb_ap.specs.Inner.GoingOn.{GoesOn};
-ghost use Rattle.krb_ap.specs.Answer.{Answers, MemoryWantedByRequests, Served, after, arrival_of, taken_of};
-ghost use Rattle.krb_ap.specs.Once.{TakesOnce};
+ghost use Rattle.krb_ap.specs.Answer.{Answers, MemoryWantedByRequests, Served, TellsPlacesWithin, after, arrival_of, taken_of};
+ghost use Rattle.krb_ap.specs.Once.{TakesAmong, TakesOnce};
 ghost use Rattle.krb_ap.specs.declared.refusal.Refusal.TheVariants.{OutOfMemory};
 
 use crate::accepted::Accepted;
@@ -113,6 +113,9 @@ impl<M: ReplayMemory> Acceptor<M> {
             → (IsErrOf result OutOfMemory → ⊥)
             → SameStamps (IsShownLately self.old.setup (after history (arrival bytes.now now) result)) (M.has self.new.memory) }
 
+        // The place that a refusal tells is one of the bytes, or their end.
+        ensures offset { IfErr result (λ refusal. IfSome (offset_of refusal) (λ at. at ≤ length bytes.now)) }
+
         // Want of memory is answered for requests of the ordinary kind alone, and changes nothing.
         ensures memory { IsErrOf result OutOfMemory → (request : ValueOf ap_req) × Asks bytes.now request }
         ensures unchanged { IsErrOf result OutOfMemory → SameStamps (M.has self.old.memory) (M.has self.new.memory)
@@ -140,6 +143,12 @@ impl<M: ReplayMemory> Acceptor<M> {
         ensures once { (history : List Arrival)
             → StandsFor self.old.setup (M.has self.old.memory) (M.newest self.old.memory) history
             → IfOk result (λ outcomes. TakesOnce self.old.setup (map arrival_of calls.now) outcomes.items) }
+        // Nor is one of a stamp that was shown before.
+        ensures before { (history : List Arrival) (stamp : Stamp)
+            → StandsFor self.old.setup (M.has self.old.memory) (M.newest self.old.memory) history
+            → IsShown self.old.setup history stamp
+            → IfOk result (λ outcomes. ¬ TakesAmong self.old.setup (map arrival_of calls.now) outcomes.items stamp) }
+        ensures offset { IfOk result (λ outcomes. TellsPlacesWithin (map arrival_of calls.now) outcomes.items) }
         ensures memory { IfOk result (λ outcomes. MemoryWantedByRequests (map arrival_of calls.now) outcomes.items) }
         ensures none { OnErr result (self.new ≡ self.old) }
     {
@@ -161,6 +170,7 @@ impl<M: ReplayMemory> Acceptor<M> {
             → StandsFor self.old.setup (M.has self.old.memory) (M.newest self.old.memory) history
             → GoesOn M.KEEPS M.FORGETS self.old.setup self.new.setup history (after history (arrival bytes.now now) result)
             (M.has self.old.memory) (M.has self.new.memory) (M.newest self.new.memory) (IsErrOf result OutOfMemory) }
+        ensures offset { IfErr result (λ refusal. IfSome (offset_of refusal) (λ at. at ≤ length bytes.now)) }
         ensures memory { IsErrOf result OutOfMemory → (request : ValueOf ap_req) × Asks bytes.now request }
         ensures unchanged { IsErrOf result OutOfMemory → SameStamps (M.has self.old.memory) (M.has self.new.memory)
             × (M.newest self.new.memory ≡ M.newest self.old.memory) }

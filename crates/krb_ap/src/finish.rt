@@ -1,6 +1,6 @@
 //! The client's side: a reply is read.
 
-ghost use Rattle.std.specs.Prelude.{◌≡◌, ◌≢◌, ◌↔◌, IfOk, IfErr, IsTrue, OnOk};
+ghost use Rattle.std.specs.Prelude.{◌≡◌, ◌≢◌, ◌≤◌, ◌↔◌, IfOk, IfErr, IfSome, IsTrue, OnOk, length};
 ghost use Rattle.krb_der.specs.Kind.{ValueOf};
 ghost use Rattle.krb_der.specs.Spells.{IsMessage};
 ghost use Rattle.krb_enc.specs.Key.{profile_of};
@@ -8,7 +8,7 @@ ghost use Rattle.krb_enc.specs.Opens.{Opens};
 ghost use Rattle.krb_msg.specs.Borrowed.{ap_rep_of, enc_ap_rep_part_of};
 ghost use Rattle.krb_msg.specs.Fields.{cipher_of, etype_of, reply_enc_part};
 ghost use Rattle.krb_msg.specs.Module.{ap_rep, enc_ap_rep_part};
-ghost use Rattle.krb_ap.specs.Finish.{FinishCause, IsAgreed, OpensReply, agreement_of, repeated_at};
+ghost use Rattle.krb_ap.specs.Finish.{FinishCause, IsAgreed, OpensReply, agreement_of, finish_offset_of, repeated_at};
 ghost use Rattle.krb_ap.specs.Reply.{reply_usage};
 ghost use Rattle.krb_ap.specs.Request.{Awaited};
 ghost use Rattle.krb_ap.specs.World.{IsHeldInEachWorld};
@@ -59,8 +59,10 @@ impl Pending {
         // Whatever the network loses, repeats or reorders: the service holds for this request what is agreed.
         ensures held { IfOk result (λ agreed. IsHeldInEachWorld self.now reply.now (agreement_of agreed)) }
         ensures fault { IfErr result (λ fault. fault ≢ OutOfMemory → FinishCause self.now reply.now fault) }
+        ensures offset { IfErr result (λ fault. IfSome (finish_offset_of fault) (λ at. at ≤ length reply.now)) }
     {
         facts();
+        krb_der::laws::within();
         both_agree();
         let message = match read_reply(reply) {
             Ok(message) => message,

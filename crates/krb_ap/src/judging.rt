@@ -9,7 +9,7 @@ ghost use Rattle.krb_msg.specs.Owned.{owned_list_of, owned_typed_of};
 ghost use Rattle.krb_ap.specs.Opened.{Asks, OpenedAs, Ticketed, session_key as key_of_part, service_of};
 ghost use Rattle.krb_ap.specs.Taken.{taken_from};
 ghost use Rattle.krb_ap.specs.Answer.{taken_of};
-ghost use Rattle.krb_ap.specs.Inner.Judging.{Judges};
+ghost use Rattle.krb_ap.specs.Inner.Judging.{IsPlacedWithin, IsPlaceless, Judges};
 ghost use Rattle.krb_ap.specs.declared.refusal.Refusal.TheVariants.{OutOfMemory};
 
 use crate::accepted::Accepted;
@@ -47,10 +47,12 @@ impl<M: ReplayMemory> Acceptor<M> {
     pub(crate) fn judge(&self, alloc: Global, bytes: &[u8], now: Moment) -> Result<Judged, Refusal>
         ensures judged { Judges self.now.setup (M.has self.now.memory) (M.newest self.now.memory) bytes.now now result }
         ensures named { IfOk result (λ j. IfErr j.answer (λ r. r ≢ OutOfMemory)) }
+        ensures placed { IsPlacedWithin bytes.now result }
         ensures asks { IfOk result (λ _. (request : ValueOf ap_req) × Asks bytes.now request) }
         ensures memory { IsErrOf result OutOfMemory → (request : ValueOf ap_req) × Asks bytes.now request }
     {
         facts();
+        krb_der::laws::within();
         let request = match read_request(bytes) {
             Ok(request) => request,
             Err(refusal) => return Err(refusal),
@@ -69,6 +71,7 @@ impl<M: ReplayMemory> Acceptor<M> {
         now: Moment,
     ) -> Result<Judged, Refusal>
         ensures named { IfOk result (λ j. IfErr j.answer (λ r. r ≢ OutOfMemory)) }
+        ensures placeless { IsPlaceless result }
         ensures judged { (bytes : List ℕ) → Asks bytes (ap_req_of request.now) → server ≡ service_of (ap_req_of request.now)
             → Judges self.now.setup (M.has self.now.memory) (M.newest self.now.memory) bytes now result }
     {
@@ -104,6 +107,7 @@ impl<M: ReplayMemory> Acceptor<M> {
         now: Moment,
     ) -> Result<Judged, Refusal>
         ensures named { IfOk result (λ j. IfErr j.answer (λ r. r ≢ OutOfMemory)) }
+        ensures placeless { IsPlaceless result }
         ensures judged { (bytes : List ℕ) → Ticketed self.now.setup bytes (ap_req_of request.now) (enc_ticket_part_of part.now)
             → server ≡ service_of (ap_req_of request.now)
             → Judges self.now.setup (M.has self.now.memory) (M.newest self.now.memory) bytes now result }
@@ -148,6 +152,7 @@ impl<M: ReplayMemory> Acceptor<M> {
         now: Moment,
     ) -> Result<Judged, Refusal>
         ensures named { IfOk result (λ j. IfErr j.answer (λ r. r ≢ OutOfMemory)) }
+        ensures placeless { IsPlaceless result }
         ensures judged { (bytes : List ℕ)
             → OpenedAs self.now.setup bytes (ap_req_of request.now) (enc_ticket_part_of part.now) (authenticator_of auth.now)
             → server ≡ service_of (ap_req_of request.now) → session_key ≡ key_of_part (enc_ticket_part_of part.now)

@@ -6,9 +6,11 @@ ghost use Rattle.krb_der.specs.Kind.{ValueOf};
 ghost use Rattle.krb_msg.specs.Module.{enc_ticket_part, ticket as ticket_kind};
 ghost use Rattle.krb_msg.specs.Fields.{part_client};
 ghost use Rattle.krb_ccache.specs.Value.{Cache};
+ghost use Rattle.krb_replay.specs.Stamp.{Stamp};
 ghost use Rattle.krb_ap.specs.Setup.{Setup, Arrival, arrival};
+ghost use Rattle.krb_ap.specs.History.{IsShown};
 ghost use Rattle.krb_ap.specs.Request.{Awaited, IsRequest, Prevents};
-ghost use Rattle.krb_ap.specs.Finish.{Agreement, FinishCause, IsAgreed};
+ghost use Rattle.krb_ap.specs.Finish.{Agreement, FinishCause, IsAgreed, finish_place};
 ghost use Rattle.krb_ap.specs.declared.finish_fault.FinishFault.{FinishFault};
 ghost use Rattle.krb_ap.specs.declared.request_fault.RequestFault.{RequestFault};
 ghost use Rattle.krb_ap.specs.Headline.{Agrees, HasTicket, MayBeTaken};
@@ -16,8 +18,8 @@ ghost use Rattle.krb_ap.specs.declared.request.RequestOptions.{RequestOptions};
 ghost use Rattle.krb_ap.specs.Taken.{Accept, Taken};
 ghost use Rattle.krb_ap.specs.Causes.{Cause, place};
 ghost use Rattle.krb_ap.specs.Answer.{Run};
-ghost use Rattle.krb_ap.specs.Once.{TakesOnce};
-ghost use Rattle.krb_ap.specs.World.{BothAgree, Comes, Event, IsHeldInEachWorld, World, nothing_yet};
+ghost use Rattle.krb_ap.specs.Once.{TakesAmong, TakesOnce};
+ghost use Rattle.krb_ap.specs.World.{BothAgree, Comes, Event, IsHeldInEachWorld, IsHeldOnce, World, nothing_yet};
 ghost use Rattle.krb_ccache.specs.declared.credential.Credential.{Credential};
 ghost use Rattle.krb_ap.specs.declared.accepted.Accepted.{Accepted};
 ghost use Rattle.krb_ap.specs.declared.refusal.Refusal.{Refusal};
@@ -56,27 +58,39 @@ pub fn built_is_accepted()
     facts();
 }
 
-/// Says that where a client builds a request, nothing prevents it.
+/// Says that where a client builds a request, nothing prevents it, and that what prevents one is one fault.
 pub fn built_or_prevented()
-    ensures { (cache : Cache) (service : Principal) (at : ℤ) (confounder : List ℕ) (options : RequestOptions) (bytes : List ℕ)
+    ensures apart { (cache : Cache) (service : Principal) (at : ℤ) (confounder : List ℕ) (options : RequestOptions) (bytes : List ℕ)
         (awaited : Awaited) (fault : RequestFault) → IsRequest cache service at confounder options bytes awaited
         → Prevents cache service at confounder options fault → ⊥ }
+    ensures fault { (cache : Cache) (service : Principal) (at : ℤ) (confounder : List ℕ) (options : RequestOptions)
+        (one other : RequestFault) → Prevents cache service at confounder options one
+        → Prevents cache service at confounder options other → one ≡ other }
 {}
 
-/// Says that by a reply a client agrees on one thing at most, and that where it does there is no cause to refuse the reply.
+/// Says that to a reply a client has exactly one answer: it agrees, or there is a first cause to refuse the reply, and it isn't both;
+/// what it agrees on is one, and so is the first cause (whatever fault a malformed reply tells).
 pub fn agreed_or_refused()
+    ensures some { (awaited : Awaited) (bytes : List ℕ)
+        → ((agreement : Agreement) × IsAgreed awaited bytes agreement) ⊎ ((fault : FinishFault) × FinishCause awaited bytes fault) }
     ensures one { (awaited : Awaited) (bytes : List ℕ) (one other : Agreement)
         → IsAgreed awaited bytes one → IsAgreed awaited bytes other → one ≡ other }
     ensures apart { (awaited : Awaited) (bytes : List ℕ) (agreement : Agreement) (fault : FinishFault)
         → IsAgreed awaited bytes agreement → FinishCause awaited bytes fault → ⊥ }
+    ensures cause { (awaited : Awaited) (bytes : List ℕ) (one other : FinishFault)
+        → FinishCause awaited bytes one → FinishCause awaited bytes other → finish_place one ≡ finish_place other }
 {
     facts();
+    decisions();
 }
 
-/// Says that over every list of calls, after each history, no two requests of one stamp are accepted.
+/// Says that over every list of calls, after each history, no two requests of one stamp are accepted, and none of a stamp that was
+/// shown before.
 pub fn no_stamp_twice()
-    ensures { (setup : Setup) (history : List Arrival) (calls : List Arrival) (answers : List (Result Accepted Refusal)) (end : List Arrival)
+    ensures once { (setup : Setup) (history : List Arrival) (calls : List Arrival) (answers : List (Result Accepted Refusal)) (end : List Arrival)
         → Run setup history calls answers end → TakesOnce setup calls answers }
+    ensures before { (setup : Setup) (history : List Arrival) (calls : List Arrival) (answers : List (Result Accepted Refusal)) (end : List Arrival)
+        (stamp : Stamp) → Run setup history calls answers end → IsShown setup history stamp → ¬ TakesAmong setup calls answers stamp }
 {
     facts();
 }
@@ -84,8 +98,11 @@ pub fn no_stamp_twice()
 /// Says that whatever the network loses, repeats or reorders, a client that agrees to a reply holds what the service holds for that
 /// request, of which there is something, and that all of it agrees. What may happen is said in `specs/World`: only what the two sent
 /// is delivered, no two requests are of one microsecond, and there is at most one reply for each acceptance; and the key that the
-/// keytab has opens the credential's ticket to its client and key. Clause `each` says it of one request and one reply.
+/// keytab has opens the credential's ticket to its client and key. Clause `each` says it of one request and one reply. Clause `once`
+/// doesn't presuppose the ticket: no stamp is accepted twice, and what the service holds of a request is one, as is its reply.
 pub fn both_agree()
+    ensures once { (setup : Setup) (credential : Credential) (events : List Event) (end : World)
+        → Comes setup credential nothing_yet events end → IsHeldOnce setup end }
     ensures all { (setup : Setup) (credential : Credential) (ticket : ValueOf ticket_kind) (part : ValueOf enc_ticket_part) (events : List Event) (end : World)
         → HasTicket setup credential ticket part → Comes setup credential nothing_yet events end → BothAgree credential end }
     ensures each { (awaited : Awaited) (bytes : List ℕ) (agreement : Agreement)

@@ -197,8 +197,8 @@ fn request(alloc: Global, made: Made) -> Result<Vec<u8>, Fail> {
     Ok(request.encode(alloc)?)
 }
 
-// A keytab with these keys of the service, by version number and type.
-fn keytab(alloc: Global, keys: &[(u32, [u8; 16], i16)]) -> Result<Keytab, Fail> {
+// A keytab with these keys.
+fn keytab(alloc: Global, keys: &[OneKey]) -> Result<Keytab, Fail> {
     let mut file = [5, 2].to_vec(alloc)?;
     for (kvno, key, etype) in keys {
         let service = name(alloc, "host/web@EX", 3)?;
@@ -215,16 +215,28 @@ fn keytab(alloc: Global, keys: &[(u32, [u8; 16], i16)]) -> Result<Keytab, Fail> 
     Ok(Keytab::parse(alloc, &file)?)
 }
 
-fn acceptor<M: ReplayMemory + Drop>(alloc: Global, memory: M) -> Result<Acceptor<M>, Fail>
+// A key of the service, with its version number and type.
+type OneKey = (u32, [u8; 16], i16);
+
+const KEYS: [OneKey; 2] = [(3, SERVICE_KEY, 19), (3, SERVICE_KEY, 20)];
+
+fn acceptor_of<M: ReplayMemory + Drop>(
+    alloc: Global,
+    keys: &[OneKey],
+    memory: M,
+) -> Result<Acceptor<M>, Fail>
     requires latest { M.newest memory ≡ None }
     requires empty { (stamp : Stamp) → M.has memory stamp → ⊥ }
 {
     let skew = Skew::new(300).ok_or("a skew")?;
-    Ok(Acceptor::new(
-        keytab(alloc, &[(3, SERVICE_KEY, 19), (3, SERVICE_KEY, 20)])?,
-        skew,
-        memory,
-    ))
+    Ok(Acceptor::new(keytab(alloc, keys)?, skew, memory))
+}
+
+fn acceptor<M: ReplayMemory + Drop>(alloc: Global, memory: M) -> Result<Acceptor<M>, Fail>
+    requires latest { M.newest memory ≡ None }
+    requires empty { (stamp : Stamp) → M.has memory stamp → ⊥ }
+{
+    acceptor_of(alloc, &KEYS, memory)
 }
 
 // What was answered: nothing where the request was accepted.
@@ -235,24 +247,82 @@ fn refusal_of(outcome: Outcome) -> Option<Refusal> {
     }
 }
 
-// What fresh services of both memories answer.
-fn answers(
+fn call(bytes: &[u8], now: Moment) -> Call {
+    Call { bytes, now }
+}
+
+// What a service answers to calls one after another, and to all of them at once.
+fn by_accept<M: ReplayMemory + Drop>(
+    alloc: Global,
+    mut service: Acceptor<M>,
+    calls: &[Call],
+) -> Result<Vec<Option<Refusal>>, Fail> {
+    let mut answers = Vec::new(alloc);
+    for call in calls {
+        answers.push(refusal_of(service.accept(alloc, call.bytes, call.now)))?;
+    }
+    Ok(answers)
+}
+
+fn by_serve<M: ReplayMemory + Drop>(
+    alloc: Global,
+    mut service: Acceptor<M>,
+    calls: &[Call],
+) -> Result<Vec<Option<Refusal>>, Fail> {
+    let mut answers = Vec::new(alloc);
+    for outcome in service.serve(alloc, calls)? {
+        answers.push(refusal_of(outcome))?;
+    }
+    Ok(answers)
+}
+
+// Two services that are alike answer so, the one by `accept` and the other by `serve`.
+fn both_answer<M: ReplayMemory + Drop, W: Debug + Drop + Copy>(
     rt: &(impl Alloc + Abort),
     alloc: Global,
+    row: W,
+    one: Acceptor<M>,
+    other: Acceptor<M>,
+    calls: &[Call],
+    wanted: &[Option<Refusal>],
+) -> Result<(), Fail> {
+    let found = by_accept(alloc, one, calls)?;
+    is(rt, (row, "accept"), found.as_slice(), wanted);
+    let found = by_serve(alloc, other, calls)?;
+    is(rt, (row, "serve"), found.as_slice(), wanted);
+    Ok(())
+}
+
+// Fresh services with these keys and both memories answer so.
+fn is_answered<W: Debug + Drop + Copy>(
+    rt: &(impl Alloc + Abort),
+    alloc: Global,
+    row: W,
+    keys: &[OneKey],
+    calls: &[Call],
+    wanted: &[Option<Refusal>],
+) -> Result<(), Fail> {
+    let one = acceptor_of(alloc, keys, ListMemory::new(alloc))?;
+    let other = acceptor_of(alloc, keys, ListMemory::new(alloc))?;
+    both_answer(rt, alloc, (row, "list"), one, other, calls, wanted)?;
+    let one = acceptor_of(alloc, keys, TimedMemory::new(alloc))?;
+    let other = acceptor_of(alloc, keys, TimedMemory::new(alloc))?;
+    both_answer(rt, alloc, (row, "timed"), one, other, calls, wanted)
+}
+
+// So they answer to one request.
+fn is_one_answered(
+    rt: &(impl Alloc + Abort),
+    alloc: Global,
+    row: usize,
+    keys: &[OneKey],
     made: Made,
     at: (i64, u32),
-) -> Result<Option<Refusal>, Fail> {
+    wanted: Option<Refusal>,
+) -> Result<(), Fail> {
     let bytes = request(alloc, made)?;
-    let mut plain = acceptor(alloc, ListMemory::new(alloc))?;
-    let mut timed = acceptor(alloc, TimedMemory::new(alloc))?;
-    let found = refusal_of(plain.accept(alloc, &bytes, moment(at)?));
-    is(
-        rt,
-        at,
-        refusal_of(timed.accept(alloc, &bytes, moment(at)?)),
-        found,
-    );
-    Ok(found)
+    let calls = [call(&bytes, moment(at)?)];
+    is_answered(rt, alloc, row, keys, &calls, &[wanted])
 }
 
 #[test]
@@ -296,8 +366,8 @@ fn a_request_at_the_edges_of_time(rt: HostRuntime) -> Result<(), Fail> {
         (late, late.sent, None),
         (later, later.sent, Some(Refusal::Expired)),
     ];
-    for (made, at, wanted) in rows {
-        is(&rt, at, answers(&rt, rt.alloc(), made, at)?, wanted);
+    for (row, (made, at, wanted)) in rows.into_iter().enumerate() {
+        is_one_answered(&rt, rt.alloc(), row, &KEYS, made, at, wanted)?;
     }
     Ok(())
 }
@@ -373,12 +443,15 @@ fn names_and_options_that_differ(rt: HostRuntime) -> Result<(), Fail> {
         ),
     ];
     for (row, (made, wanted)) in rows.into_iter().enumerate() {
-        is(
+        is_one_answered(
             &rt,
+            rt.alloc(),
             row,
-            answers(&rt, rt.alloc(), made, (1_700_000_101, 0))?,
+            &KEYS,
+            made,
+            (1_700_000_101, 0),
             wanted,
-        );
+        )?;
     }
     Ok(())
 }
@@ -469,12 +542,15 @@ fn keys_that_differ(rt: HostRuntime) -> Result<(), Fail> {
         ),
     ];
     for (row, (made, wanted)) in rows.into_iter().enumerate() {
-        is(
+        is_one_answered(
             &rt,
+            rt.alloc(),
             row,
-            answers(&rt, rt.alloc(), made, (1_700_000_101, 0))?,
+            &KEYS,
+            made,
+            (1_700_000_101, 0),
             wanted,
-        );
+        )?;
     }
     Ok(())
 }
@@ -527,12 +603,15 @@ fn tickets_that_differ(rt: HostRuntime) -> Result<(), Fail> {
         ),
     ];
     for (row, (made, wanted)) in rows.into_iter().enumerate() {
-        is(
+        is_one_answered(
             &rt,
+            rt.alloc(),
             row,
-            answers(&rt, rt.alloc(), made, (1_700_000_101, 0))?,
+            &KEYS,
+            made,
+            (1_700_000_101, 0),
             wanted,
-        );
+        )?;
     }
     Ok(())
 }
@@ -540,62 +619,40 @@ fn tickets_that_differ(rt: HostRuntime) -> Result<(), Fail> {
 // The keytab has the service's name, and no key of the ticket's type.
 #[test]
 fn no_key_of_the_type(rt: HostRuntime) -> Result<(), Fail> {
-    let alloc = rt.alloc();
-    let skew = Skew::new(300).ok_or("a skew")?;
-    let mut service = Acceptor::new(
-        keytab(alloc, &[(3, SERVICE_KEY, 19)])?,
-        skew,
-        TimedMemory::new(alloc),
-    );
-    let bytes = request(
-        alloc,
-        Made {
-            service_etype: 20,
-            ..FIXTURE
-        },
-    )?;
-    let found = service.accept(alloc, &bytes, moment((1_700_000_101, 0))?);
-    is(&rt, "type 20", refusal_of(found), Some(Refusal::NoKey));
-    Ok(())
+    let made = Made {
+        service_etype: 20,
+        ..FIXTURE
+    };
+    let keys = [(3, SERVICE_KEY, 19)];
+    is_one_answered(
+        &rt,
+        rt.alloc(),
+        20,
+        &keys,
+        made,
+        (1_700_000_101, 0),
+        Some(Refusal::NoKey),
+    )
+}
+
+// A request that is malformed in this way, at this place.
+fn malformed(kind: FaultKind, at: usize) -> Option<Refusal> {
+    Some(Refusal::Malformed(Fault { kind, at }))
 }
 
 #[test]
 fn bytes_that_are_no_request(rt: HostRuntime) -> Result<(), Fail> {
-    let alloc = rt.alloc();
-    let mut service = acceptor(alloc, TimedMemory::new(alloc))?;
-    let mut long = Vec::new(alloc);
+    let mut long = Vec::new(rt.alloc());
     long.resize(1_048_577, 0x6e)?;
-    let rows: [(&[u8], Refusal); 4] = [
-        (
-            b"",
-            Refusal::Malformed(Fault {
-                kind: FaultKind::Truncated,
-                at: 0,
-            }),
-        ),
-        (b"\x30", Refusal::MessageType),
-        (
-            b"\x6e",
-            Refusal::Malformed(Fault {
-                kind: FaultKind::Truncated,
-                at: 1,
-            }),
-        ),
-        (
-            &long,
-            Refusal::Malformed(Fault {
-                kind: FaultKind::TooLong,
-                at: 0,
-            }),
-        ),
+    let rows: [(&[u8], Option<Refusal>); 4] = [
+        (b"", malformed(FaultKind::Truncated, 0)),
+        (b"\x30", Some(Refusal::MessageType)),
+        (b"\x6e", malformed(FaultKind::Truncated, 1)),
+        (&long, malformed(FaultKind::TooLong, 0)),
     ];
+    let now = moment((1_700_000_100, 5))?;
     for (row, (bytes, wanted)) in rows.into_iter().enumerate() {
-        is(
-            &rt,
-            row,
-            refusal_of(service.accept(alloc, bytes, moment((1_700_000_100, 5))?)),
-            Some(wanted),
-        );
+        is_answered(&rt, rt.alloc(), row, &KEYS, &[call(bytes, now)], &[wanted])?;
     }
     Ok(())
 }
@@ -603,7 +660,6 @@ fn bytes_that_are_no_request(rt: HostRuntime) -> Result<(), Fail> {
 // A key of the highest version number is tried alone, and one of a version number that the ticket tells.
 #[test]
 fn one_key_is_tried(rt: HostRuntime) -> Result<(), Fail> {
-    let alloc = rt.alloc();
     let keys = [(2, [1; 16], 19), (3, SERVICE_KEY, 19), (3, [3; 16], 19)];
     let rows = [
         (None, SERVICE_KEY, None),
@@ -612,106 +668,87 @@ fn one_key_is_tried(rt: HostRuntime) -> Result<(), Fail> {
         (Some(4), SERVICE_KEY, Some(Refusal::BadKeyVersion)),
     ];
     for (row, (kvno, service_key, wanted)) in rows.into_iter().enumerate() {
-        let skew = Skew::new(300).ok_or("a skew")?;
-        let mut service = Acceptor::new(keytab(alloc, &keys)?, skew, TimedMemory::new(alloc));
-        let bytes = request(
-            alloc,
-            Made {
-                kvno,
-                service_key,
-                ..FIXTURE
-            },
-        )?;
-        is(
+        let made = Made {
+            kvno,
+            service_key,
+            ..FIXTURE
+        };
+        is_one_answered(
             &rt,
+            rt.alloc(),
             row,
-            refusal_of(service.accept(alloc, &bytes, moment((1_700_000_101, 0))?)),
+            &keys,
+            made,
+            (1_700_000_101, 0),
             wanted,
-        );
+        )?;
     }
     Ok(())
+}
+
+// How many requests a memory holds after these calls, and its latest moment.
+fn memory_after<M: ReplayMemory + Drop>(
+    alloc: Global,
+    mut service: Acceptor<M>,
+    calls: &[Call],
+) -> Result<(usize, Option<Moment>), Fail> {
+    service.serve(alloc, calls)?;
+    Ok((service.memory().len(), service.memory().latest()))
 }
 
 // A repeat, what was refused late, and time that goes back.
-fn runs<M: ReplayMemory + Drop>(
-    rt: &(impl Alloc + Abort),
-    alloc: Global,
-    mut service: Acceptor<M>,
-) -> Result<Acceptor<M>, Fail> {
-    let fixture = request(alloc, FIXTURE)?;
-    let invalid = request(
-        alloc,
-        Made {
-            sent: (1_700_000_100, 6),
-            flags: Flags::only(INVALID),
-            ..FIXTURE
-        },
-    )?;
-    let at = (1_700_000_400, 5);
-    let rows: [(&[u8], (i64, u32), Option<Refusal>); 6] = [
-        (&fixture, at, None),
-        (&fixture, at, Some(Refusal::Repeat)),
-        (&invalid, at, Some(Refusal::NotYetValid)),
-        (&invalid, at, Some(Refusal::Repeat)),
-        (b"\x30", (1_700_001_100, 5), Some(Refusal::MessageType)),
-        (&fixture, at, Some(Refusal::Skew)),
-    ];
-    for (row, (bytes, at, wanted)) in rows.into_iter().enumerate() {
-        is(
-            rt,
-            row,
-            refusal_of(service.accept(alloc, bytes, moment(at)?)),
-            wanted,
-        );
-    }
-    Ok(service)
-}
-
 #[test]
 fn what_was_seen(rt: HostRuntime) -> Result<(), Fail> {
     let alloc = rt.alloc();
-    let plain = runs(&rt, alloc, acceptor(alloc, ListMemory::new(alloc))?)?;
-    is(&rt, "kept", plain.memory().len(), 2);
-    let timed = runs(&rt, alloc, acceptor(alloc, TimedMemory::new(alloc))?)?;
-    is(&rt, "forgotten", timed.memory().len(), 0);
-    is(
-        &rt,
-        "latest",
-        timed.memory().latest(),
-        Moment::new(1_700_001_100, 5),
-    );
+    let fixture = request(alloc, FIXTURE)?;
+    let invalid = Made {
+        sent: (1_700_000_100, 6),
+        flags: Flags::only(INVALID),
+        ..FIXTURE
+    };
+    let invalid = request(alloc, invalid)?;
+    let at = moment((1_700_000_400, 5))?;
+    let later = moment((1_700_001_100, 5))?;
+    let calls = [
+        call(&fixture, at),
+        call(&fixture, at),
+        call(&invalid, at),
+        call(&invalid, at),
+        call(b"\x30", later),
+        call(&fixture, at),
+    ];
+    let wanted = [
+        None,
+        Some(Refusal::Repeat),
+        Some(Refusal::NotYetValid),
+        Some(Refusal::Repeat),
+        Some(Refusal::MessageType),
+        Some(Refusal::Skew),
+    ];
+    is_answered(&rt, alloc, "seen", &KEYS, &calls, &wanted)?;
+    let kept = memory_after(alloc, acceptor(alloc, ListMemory::new(alloc))?, &calls)?;
+    is(&rt, "kept", kept, (2, Some(later)));
+    let timed = memory_after(alloc, acceptor(alloc, TimedMemory::new(alloc))?, &calls)?;
+    is(&rt, "forgotten", timed, (0, Some(later)));
     Ok(())
 }
 
+// An empty message moves the latest moment too, so that the same request is too old then.
 #[test]
 fn a_list_of_calls(rt: HostRuntime) -> Result<(), Fail> {
-    let alloc = rt.alloc();
-    let fixture = request(alloc, FIXTURE)?;
+    let fixture = request(rt.alloc(), FIXTURE)?;
     let at = moment((1_700_000_100, 5))?;
-    let calls = [
-        Call {
-            bytes: &fixture,
-            now: at,
-        },
-        Call {
-            bytes: b"",
-            now: moment((1_700_001_100, 5))?,
-        },
-        Call {
-            bytes: &fixture,
-            now: at,
-        },
-    ];
-    let mut service = acceptor(alloc, TimedMemory::new(alloc))?;
-    let mut codes = Vec::new(alloc);
-    for outcome in service.serve(alloc, &calls)? {
-        codes.push(refusal_of(outcome).map(|refusal| refusal.code()))?;
-    }
+    let later = moment((1_700_001_100, 5))?;
+    let empty = malformed(FaultKind::Truncated, 0);
+    let calls = [call(&fixture, at), call(b"", later), call(&fixture, at)];
+    let wanted = [None, empty, Some(Refusal::Skew)];
+    is_answered(&rt, rt.alloc(), "calls", &KEYS, &calls, &wanted)?;
     is(
         &rt,
-        "codes",
-        codes.as_slice(),
-        &[None, Some(Some(60)), Some(Some(37))],
+        "empty",
+        empty.and_then(|refusal| refusal.code()),
+        Some(60),
     );
+    is(&rt, "too old", Refusal::Skew.code(), Some(37));
     Ok(())
 }

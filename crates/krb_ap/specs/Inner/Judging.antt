@@ -1,9 +1,9 @@
 -- What is decided of a request before it is remembered or answered, as words of private contracts.
-use Rattle.std.specs.Prelude.{◌≡◌, ◌≢◌, ℕ, ℤ, List, Option, Result, Ok, Err, IfErr}
+use Rattle.std.specs.Prelude.{◌≡◌, ◌≢◌, ◌≤◌, ℕ, ℤ, List, Option, None, Result, Ok, Err, IfErr, IfSome, length}
 use Rattle.krb_replay.specs.Stamp.{Stamp}
 use Rattle.krb_ap.specs.Setup.{Setup, Arrival, arrival}
 use Rattle.krb_ap.specs.History.{effective, Shows, StandsFor}
-use Rattle.krb_ap.specs.Causes.{Cause}
+use Rattle.krb_ap.specs.Causes.{Cause, offset_of}
 use Rattle.krb_ap.specs.Answer.{Answers}
 use Rattle.krb_ap.specs.declared.accepted.Accepted.{Accepted}
 use Rattle.krb_ap.specs.declared.judging.Judged.{Judged}
@@ -24,6 +24,16 @@ pub record IsTurnedAway (setup : Setup) (history : List Arrival) (call : Arrival
 abbrev pub Judgement : Setup → List Arrival → Arrival → (Stamp → Type 0) → Result Judged Refusal → Type 0
 Judgement setup history call Has (Ok judged) = IsJudged setup history call judged.tuple judged.answer
 Judgement setup history call Has (Err refusal) = refusal ≢ OutOfMemory → IsTurnedAway setup history call Has refusal
+
+-- the refusal tells no place in the bytes, whichever it is
+abbrev pub IsPlaceless : Result Judged Refusal → Type 0
+IsPlaceless (Ok judged) = IfErr judged.answer (λ refusal. offset_of refusal ≡ None)
+IsPlaceless (Err refusal) = offset_of refusal ≡ None
+
+-- or one within them
+abbrev pub IsPlacedWithin : List ℕ → Result Judged Refusal → Type 0
+IsPlacedWithin bytes (Ok judged) = IfErr judged.answer (λ refusal. IfSome (offset_of refusal) (λ at. at ≤ length bytes))
+IsPlacedWithin bytes (Err refusal) = IfSome (offset_of refusal) (λ at. at ≤ length bytes)
 
 -- so for each history that the memory stands for
 abbrev pub Judges : Setup → (Stamp → Type 0) → Option ℤ → List ℕ → ℤ → Result Judged Refusal → Type 0

@@ -315,6 +315,15 @@ pub(super) fn sent(
     subkey: Option<(i32, usize)>,
     seq: Option<u32>,
 ) -> Result<(Vec<u8>, Pending), Fail> {
+    sent_with(alloc, ticket, own_key(alloc, subkey)?, seq)
+}
+
+pub(super) fn sent_with(
+    alloc: Global,
+    ticket: Made,
+    subkey: Option<Key>,
+    seq: Option<u32>,
+) -> Result<(Vec<u8>, Pending), Fail> {
     let held = Held {
         etype: if ticket.session_etype == 20 { 20 } else { 19 },
         key_len: ticket.session_len,
@@ -327,7 +336,7 @@ pub(super) fn sent(
     let cache = CCache::from_parts(Vec::new(alloc), client, credentials).ok_or("a cache")?;
     let options = RequestOptions {
         mutual: true,
-        subkey: own_key(alloc, subkey)?,
+        subkey,
         seq,
     };
     let service = name(alloc, "host/web@EX", 1)?;

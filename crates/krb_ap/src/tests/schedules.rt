@@ -1,38 +1,67 @@
 //! Requests that are lost, repeated and reordered, and their replies.
 
-use super::client::sent;
+use super::client::sent_with;
 use super::*;
-use crate::{Accepted, FinishFault, Pending, ReplyOptions};
+use crate::{Accepted, Agreed, FinishFault, Pending, ReplyOptions};
 
-// A request, what is kept of it, and its moment in microseconds.
+// What one side chooses: the type of a subkey, each byte of it, and a sequence number.
+#[derive(Clone, Copy, Debug, PartialEq, Eq)]
+struct Choice {
+    subkey: Option<(i32, u8)>,
+    seq: Option<u32>,
+}
+
+const NOTHING: Choice = Choice {
+    subkey: None,
+    seq: None,
+};
+
+fn chosen_key(alloc: Global, choice: Choice) -> Result<Option<Key>, Fail> {
+    match choice.subkey {
+        Some((etype, byte)) => Ok(Some(key(alloc, etype, &[byte; 16])?)),
+        None => Ok(None),
+    }
+}
+
+// The type of a key and the byte that it repeats; none of a key that isn't so.
+fn told(etype: i32, bytes: &[u8]) -> Option<(i32, u8)> {
+    let first = *bytes.first()?;
+    let is_whole = bytes.len() == size_of(etype) && bytes.iter().all(|byte| *byte == first);
+    is_whole.then_some((etype, first))
+}
+
+fn told_by(key: &Option<RawKey>) -> Option<(i32, u8)> {
+    let key = key.as_ref()?;
+    told(key.etype, &key.bytes)
+}
+
+// A request, what is kept of it, its moment in microseconds, and what its client chose.
 #[derive(Drop)]
 struct Packet {
     bytes: Vec<u8>,
     pending: Pending,
     at: i64,
+    choice: Choice,
 }
 
-fn sent_at(alloc: Global, at: (i64, u32)) -> Result<Packet, Fail> {
-    let (bytes, pending) = sent(
-        alloc,
-        Made {
-            sent: at,
-            ..FIXTURE
-        },
-        None,
-        None,
-    )?;
+fn sent_at(alloc: Global, at: (i64, u32), choice: Choice) -> Result<Packet, Fail> {
+    let made = Made {
+        sent: at,
+        ..FIXTURE
+    };
+    let (bytes, pending) = sent_with(alloc, made, chosen_key(alloc, choice)?, choice.seq)?;
     Ok(Packet {
         bytes,
         pending,
         at: moment(at)?.micros(),
+        choice,
     })
 }
 
-fn replied(alloc: Global, accepted: &Accepted) -> Result<Vec<u8>, Fail> {
+fn replied(alloc: Global, accepted: &Accepted, choice: Choice) -> Result<Vec<u8>, Fail> {
     let options = ReplyOptions {
-        subkey: None,
-        seq: None,
+        subkey: chosen_key(alloc, choice)?,
+        seq: choice.seq,
     };
     Ok(accepted.reply(alloc, &[0x30; 16], options)?)
 }
@@ -40,7 +69,7 @@ fn replied(alloc: Global, accepted: &Accepted) -> Result<Vec<u8>, Fail> {
 fn three_packets(alloc: Global) -> Result<Vec<Packet>, Fail> {
     let mut packets = Vec::new(alloc);
     for micros in 5..8 {
-        packets.push(sent_at(alloc, (1_700_000_100, micros))?)?;
+        packets.push(sent_at(alloc, (1_700_000_100, micros), NOTHING)?)?;
     }
     Ok(packets)
 }
@@ -57,7 +86,7 @@ fn replies_to(
     for which in order {
         let sent = packets.get(*which).ok_or("a request")?;
         match service.accept(alloc, &sent.bytes, moment((1_700_000_101, 0))?) {
-            Ok(accepted) => replies.push((*which, replied(alloc, &accepted)?))?,
+            Ok(accepted) => replies.push((*which, replied(alloc, &accepted, NOTHING)?))?,
             Err(refusal) => is(rt, (replies.len(), refusal), refusal, Refusal::Repeat),
         }
     }
@@ -151,6 +180,75 @@ fn new_services(alloc: Global) -> Result<Services, Fail> {
     })
 }
 
+// What a service knows of what the client chose.
+fn is_known(rt: &(impl Alloc + Abort), packet: &Packet, accepted: &Accepted) {
+    let known = Choice {
+        subkey: told_by(&accepted.subkey),
+        seq: accepted.seq,
+    };
+    is(rt, packet.at, known, packet.choice);
+}
+
+// What a client knows then of what both chose.
+fn is_agreed(rt: &(impl Alloc + Abort), packet: &Packet, agreed: &Agreed, choice: Choice) {
+    let own = Choice {
+        subkey: match &agreed.subkey {
+            Some(key) => told(key.etype(), key.bytes()),
+            None => None,
+        },
+        seq: agreed.seq,
+    };
+    is(rt, packet.at, own, packet.choice);
+    let others = Choice {
+        subkey: told_by(&agreed.service_subkey),
+        seq: agreed.service_seq,
+    };
+    is(rt, packet.at, others, choice);
+}
+
+// The reply to a packet goes to its client, and to another.
+fn deliver_reply(
+    rt: &(impl Alloc + Abort),
+    alloc: Global,
+    accepted: &Accepted,
+    packet: &Packet,
+    other: &Packet,
+    choice: Choice,
+) -> Result<(), Fail> {
+    is_known(rt, packet, accepted);
+    let reply = replied(alloc, accepted, choice)?;
+    is_agreed(rt, packet, &packet.pending.finish(alloc, &reply)?, choice);
+    let mismatch = (other.at != packet.at).then_some(FinishFault::Mismatch);
+    is(
+        rt,
+        packet.at,
+        other.pending.finish(alloc, &reply).err(),
+        mismatch,
+    );
+    Ok(())
+}
+
+// What a service with one of the memories answers to a packet: what the plain one does.
+fn deliver_to<M: ReplayMemory + Drop>(
+    rt: &(impl Alloc + Abort),
+    alloc: Global,
+    service: &mut Acceptor<M>,
+    packet: &Packet,
+    now: Moment,
+    wanted: Option<Refusal>,
+) -> Option<Accepted> {
+    match service.accept(alloc, &packet.bytes, now) {
+        Ok(accepted) => {
+            is(rt, packet.at, None, wanted);
+            Some(accepted)
+        }
+        Err(refusal) => {
+            is(rt, packet.at, Some(refusal), wanted);
+            None
+        }
+    }
+}
+
 // Delivers a packet to all three, and the reply to the client and to another.
 fn deliver(
     rt: &(impl Alloc + Abort),
@@ -159,32 +257,30 @@ fn deliver(
     packet: &Packet,
     other: &Packet,
     now: Moment,
+    choice: Choice,
 ) -> Result<(), Fail> {
     let wanted = services.plain.answer(packet.at, now.micros())?;
-    let kept = refusal_of(services.kept.accept(alloc, &packet.bytes, now));
-    is(rt, packet.at, kept, wanted);
-    match services.timed.accept(alloc, &packet.bytes, now) {
-        Ok(accepted) => {
-            is(rt, packet.at, None, wanted);
-            services.accepted = services.accepted.saturating_add(1);
-            let reply = replied(alloc, &accepted)?;
-            is(
-                rt,
-                packet.at,
-                packet.pending.finish(alloc, &reply).err(),
-                None,
-            );
-            let mismatch = (other.at != packet.at).then_some(FinishFault::Mismatch);
-            is(
-                rt,
-                packet.at,
-                other.pending.finish(alloc, &reply).err(),
-                mismatch,
-            );
-        }
-        Err(refusal) => is(rt, packet.at, Some(refusal), wanted),
+    if let Some(kept) = deliver_to(rt, alloc, &mut services.kept, packet, now, wanted) {
+        is_known(rt, packet, &kept);
+    }
+    if let Some(timed) = deliver_to(rt, alloc, &mut services.timed, packet, now, wanted) {
+        services.accepted = services.accepted.saturating_add(1);
+        deliver_reply(rt, alloc, &timed, packet, other, choice)?;
     }
     Ok(())
+}
+
+fn some_choice(dice: &mut Dice) -> Choice {
+    let byte = u8::try_from(dice.roll(256)).unwrap_or(0);
+    let seq = dice.roll(u32::MAX).wrapping_mul(2);
+    Choice {
+        subkey: match dice.roll(3) {
+            0 => None,
+            1 => Some((19, byte)),
+            _ => Some((20, byte)),
+        },
+        seq: (dice.roll(2) == 0).then_some(seq),
+    }
 }
 
 // A moment of some twenty minutes.
@@ -207,7 +303,8 @@ fn one_schedule(
         let one = packets.get(dice.roll(20) as usize).ok_or("a packet")?;
         let other = packets.get(dice.roll(20) as usize).ok_or("a packet")?;
         let now = moment(some_moment(dice))?;
-        deliver(rt, alloc, &mut services, one, other, now)?;
+        let choice = some_choice(dice);
+        deliver(rt, alloc, &mut services, one, other, now, choice)?;
     }
     Ok(services.accepted)
 }
@@ -215,7 +312,8 @@ fn one_schedule(
 fn some_packets(alloc: Global, dice: &mut Dice) -> Result<Vec<Packet>, Fail> {
     let mut packets = Vec::new(alloc);
     for _ in 0..20 {
-        packets.push(sent_at(alloc, some_moment(dice))?)?;
+        let at = some_moment(dice);
+        packets.push(sent_at(alloc, at, some_choice(dice))?)?;
     }
     Ok(packets)
 }

@@ -1,5 +1,9 @@
 use Rattle.krb_ap.proofs.Worlds.{agreement, held_in_each}
+use Rattle.krb_ap.proofs.WorldsOnce.{in_each_world}
 use Rattle.krb_ap.proofs.laws.both_agree.Goals as goal
+
+pub returns-clause-once : goal.returns-clause-once
+returns-clause-once c = λ setup credential events end comes. in_each_world c.facts.ensures setup credential events end comes
 
 pub returns-clause-all : goal.returns-clause-all
 returns-clause-all c = λ setup credential ticket part events end has comes.

@@ -1,6 +1,6 @@
 use Rattle.std.proofs.Common.{◌∙◌, arith}
 use Rattle.krb_ap.specs.Answer.{arrival_of}
-use Rattle.krb_ap.proofs.Runs.{mapped, memory_more, served_push}
+use Rattle.krb_ap.proofs.Runs.{mapped, memory_more, places_more, served_push}
 use Rattle.krb_ap.proofs.acceptor.Acceptor.serve.Goals as goal
 
 pub loop-call-preserved : goal.loop-call-preserved
@@ -19,6 +19,9 @@ loop-call-preserved g c = record {
       c.push_reserved.ensures.items c.accept-outcome.ensures.answer c.accept-outcome.ensures.goes_on
       c.accept-outcome.ensures.keeps c.accept-outcome.ensures.forgets (λ memory. (c.accept-outcome.ensures.unchanged memory).0)
       (c.loop-call.invariant.served history stands);
+  offset = places_more _ c.loop-call.outcomes.items c.push_reserved.new.self.items _ (arrival_of c.call-item.result) c.accept-outcome.result
+      (mapped c.args.calls.now c.loop-call.call-index c.call-item.result c.loop-call-test.true c.call-item.is)
+      c.push_reserved.ensures.items c.loop-call.invariant.offset c.accept-outcome.ensures.offset;
   memory = memory_more _ c.loop-call.outcomes.items c.push_reserved.new.self.items _ (arrival_of c.call-item.result) c.accept-outcome.result
       (mapped c.args.calls.now c.loop-call.call-index c.call-item.result c.loop-call-test.true c.call-item.is)
       c.push_reserved.ensures.items c.loop-call.invariant.memory c.accept-outcome.ensures.memory;

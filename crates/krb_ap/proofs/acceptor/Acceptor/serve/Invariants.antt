@@ -2,7 +2,7 @@ use Rattle.std.proofs.Common.{◌≡◌, ◌≤◌, List, length, map, take, vec
 use Rattle.std.specs.Prelude.{vec_capacity}
 use Rattle.krb_ap.specs.Setup.{Arrival}
 use Rattle.krb_ap.specs.History.{StandsFor}
-use Rattle.krb_ap.specs.Answer.{MemoryWantedByRequests, Served, arrival_of}
+use Rattle.krb_ap.specs.Answer.{MemoryWantedByRequests, Served, TellsPlacesWithin, arrival_of}
 use Rattle.krb_ap.proofs.acceptor.Acceptor.serve.Given as goal
 
 abbrev pub invariant-loop-call : goal.invariant-loop-call
@@ -13,5 +13,6 @@ invariant-loop-call g l = record {
   served : (history : List Arrival) → StandsFor l.initial.self.setup (g.M.ReplayMemory.has l.initial.self.memory) (g.M.ReplayMemory.newest l.initial.self.memory) history
       → Served g.M.ReplayMemory.KEEPS g.M.ReplayMemory.FORGETS l.initial.self.setup history (map arrival_of (take l.call-index l.calls)) l.outcomes.items
       (g.M.ReplayMemory.has l.initial.self.memory) (g.M.ReplayMemory.has l.self.memory) (g.M.ReplayMemory.newest l.self.memory);
+  offset : TellsPlacesWithin (map arrival_of (take l.call-index l.calls)) l.outcomes.items;
   memory : MemoryWantedByRequests (map arrival_of (take l.call-index l.calls)) l.outcomes.items;
 }

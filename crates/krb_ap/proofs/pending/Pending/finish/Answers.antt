@@ -9,10 +9,17 @@ use Rattle.krb_ap.specs.Finish.{FinishCause, OpensReply}
 use Rattle.krb_ap.specs.declared.finish_fault.FinishFault.{FinishFault}
 use Rattle.krb_ap.proofs.Truth.{is_so, is_not}
 use Rattle.krb_ap.proofs.Finishing.{reply_shut, of_another, opens_reply, opens_to_other, copied_agreement}
+use Rattle.krb_ap.proofs.Offsets.{finish_within, shut_within}
 use Rattle.krb_ap.proofs.pending.Pending.finish.Goals as goal
 
 pub returns-in-Err-clause-fault : goal.returns-in-Err-clause-fault
 returns-in-Err-clause-fault c = λ named. c.in-Err.ensures.refused _
+
+pub returns-in-Err-clause-offset : goal.returns-in-Err-clause-offset
+returns-in-Err-clause-offset c = finish_within c.within.ensures c.args.self.now c.args.reply.now c.in-Err.fault (c.in-Err.ensures.refused c.args.self.now)
+
+pub returns-in-Err-open_reply-clause-offset : goal.returns-in-Err-open_reply-clause-offset
+returns-in-Err-open_reply-clause-offset c = shut_within c.args.reply.now c.in-Err-open_reply.fault (λ named. (c.in-Err-open_reply.ensures.shut named).0)
 
 pub returns-in-Err-open_reply-clause-fault : goal.returns-in-Err-open_reply-clause-fault
 returns-in-Err-open_reply-clause-fault c = λ named.
