@@ -16,3 +16,5 @@ pub mod EditLaws
 pub mod OneSplit
 pub mod AddLaws
 pub mod FaultPlaces
+pub mod MeetLaws
+pub mod StandLaws

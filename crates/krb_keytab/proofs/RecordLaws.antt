@@ -33,7 +33,7 @@ short_bytes : (count : ℕ) (place : Place) → bytes_at count place ≡ None �
 unfolding bytes_at
 short_bytes count place e = let f = none_bytes (leb count (length place.rest)) (take count place.rest, record { at = place.at + count; rest = drop count place.rest }) e in leb-false _ _ f
 
-short_size : (place : Place) → signed_at w32 place ≡ None → length place.rest < 4
+pub short_size : (place : Place) → signed_at w32 place ≡ None → length place.rest < 4
 unfolding signed_at number_at
 short_size place e =
     let f : number_at w32 place ≡ None = none_then (number_at w32 place) (λ read. (cast_signed w32 read.0, read.1)) e in

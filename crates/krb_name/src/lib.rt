@@ -34,6 +34,7 @@ mod source;
 mod text;
 mod text_cursor;
 mod text_fault;
+mod window;
 mod writing;
 
 pub use bytes::Bytes;
@@ -46,6 +47,7 @@ pub use sink::{Sink, SinkFailed, WriteSink};
 pub use slice_source::SliceSource;
 pub use source::{ReadSource, Source, SourceFailed};
 pub use text_fault::TextFault;
+pub use window::Window;
 pub use writing::write_all;
 
 #[cfg(test)]
