@@ -29,13 +29,17 @@ mod header;
 mod item_fault;
 mod items;
 pub mod laws;
+mod reader;
 mod room;
+mod stepping;
 mod typed;
+mod walking;
 mod writing;
 
 pub use cache::CCache;
 pub use credential::{Credential, HeaderField};
 pub use fault::CacheFault;
+pub use reader::CredentialReader;
 pub use typed::{TypedBytes, TypedList};
 
 #[cfg(test)]
