@@ -1,6 +1,8 @@
 """Times requests made and accepted beside MIT krb5, over the same tickets, and prints tables of ratios. run.py calls it."""
 import calendar
+import resource
 import struct
+import subprocess
 import sys
 import time
 from pathlib import Path
@@ -95,3 +97,27 @@ def table(folder, ours, mit, best_in_turn):
         ])
         print(f"| {shown(etype, entries, extra, held)} | {make / 1000:.1f} µs | {there / 1000:.1f} µs | {there / make:.2f} "
               f"| {accept / 1000:.1f} µs | {reads / 1000:.1f} µs | {reads / accept:.2f} |")
+
+
+def processor_seconds(command, **more):
+    """What a command that ends well takes of a processor, the system's part too."""
+    before = resource.getrusage(resource.RUSAGE_CHILDREN)
+    subprocess.run(command, check=True, stdout=subprocess.DEVNULL, **more)
+    after = resource.getrusage(resource.RUSAGE_CHILDREN)
+    return after.ru_utime + after.ru_stime - before.ru_utime - before.ru_stime
+
+
+def lines_row(folder, ours, krbtool, mit, count=10_000, runs=5):
+    """The command accept over lines, as a whole process, beside krb5_rd_req in a loop of C over as many requests."""
+    for etype in (19, 20):
+        keys, tickets, now = laid_out(folder, etype, 1, 0)
+        lines = folder / "lines"
+        lines.write_bytes(subprocess.run([ours, "lines", keys, tickets, now, "0", str(count)], check=True, capture_output=True).stdout)
+        here, there = [], []
+        for _ in range(runs):
+            with open(lines, "rb") as given:
+                here.append(processor_seconds([krbtool, "accept", keys], stdin=given))
+            made = subprocess.run([mit, "accept", keys, tickets, str(count)], check=True, capture_output=True, text=True)
+            there.append(float(made.stdout) * count / 1e9)
+        print(f"\n{count:,} lines of krbtool accept, type {etype}: {min(here) * 1000:.0f} ms; krb5_rd_req in a loop: {min(there) * 1000:.0f} ms; "
+              f"ratio {min(there) / min(here):.2f}")

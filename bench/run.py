@@ -26,9 +26,10 @@ CRATES = """krb_aes krb_cts krb_kdf krb_enc krb_der krb_name krb_msg krb_keytab 
 # Our programs, and the crates that each stands on.
 PROGRAMS = {
     "krb_bench": "krb_aes krb_enc krb_msg krb_replay hex",
-    "krb_exchange": "krb_ap krb_ccache krb_keytab krb_msg krb_replay",
+    "krb_exchange": "krb_ap krb_ccache krb_keytab krb_msg krb_replay hex",
 }
 MIT_PROGRAMS = ["mit_crypto", "mit_messages", "mit_exchange"]
+KRBTOOL = str(TOP / "crates" / "krbtool" / "out" / "krbtool")
 NO_AES_NI = {"OPENSSL_ia32cap": "~0x200000200000000"}
 SIZES = [(60, "60 bytes"), (1024, "1 KiB"), (65_536, "64 KiB"), (1_048_576, "1 MiB")]
 RUNS = 5
@@ -159,9 +160,10 @@ def main():
         message_table(ours, programs["mit_messages"])
         memory_table(ours)
         exchange.table(Path(name), programs["krb_exchange"], programs["mit_exchange"], best_in_turn)
-    said([str(TOP / "krbtool"), "--help"])
+        said([str(TOP / "krbtool"), "--help"])
+        exchange.lines_row(Path(name), programs["krb_exchange"], KRBTOOL, programs["mit_exchange"])
     print()
-    files.tables(str(TOP / "crates" / "krbtool" / "out" / "krbtool"))
+    files.tables(KRBTOOL)
 
 
 if __name__ == "__main__":
