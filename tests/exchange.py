@@ -145,17 +145,17 @@ def line_of(draw, data, now, confounder):
     return f"{seconds} {micros} {text}" + (f" {confounder.hex()}" if confounder else "")
 
 
-def conversation(draw, has_tails):
+def conversation(draw):
     """A keytab, the command's words, and lines, each with the answer of a second service."""
     seals, file, skew = model.Seals(), keytab(draw), draw.choice([300, 300, 300, 0, 1, 86_400])
     service = model.Service(seals, file, skew)
-    named = NAMED if has_tails and draw.random() < 0.7 else None
+    named = NAMED if draw.random() < 0.7 else None
     lines, answers, sent = [], [], []
     for _ in range(LINES):
         now = 1_000_000 * (BASE + draw.choice([0, 0, 1, 2, 300, -300])) + draw.choice([0, 5, 999_999])
         data = draw.choice(sent) if sent and draw.random() < 0.2 else request(draw, seals, service.entries, now)
         sent.append(data)
-        confounder = some_bytes(draw, 16) if has_tails and draw.random() < 0.5 else None
+        confounder = some_bytes(draw, 16) if draw.random() < 0.5 else None
         lines.append(line_of(draw, data, now, confounder))
         answers.append(model.answered(service, data, now, confounder, named))
     words = ["accept", "f", "--skew", str(skew), *(["--service", "host/web@EX"] if named else [])]
@@ -211,9 +211,9 @@ def unlike(lines, answers, wrote):
     return None if len(answers) == wrote.count("\n") else f"{wrote.count(chr(10))} answers, not {len(answers)}"
 
 
-def conversations(program, draw, has_tails):
+def conversations(program, draw):
     for number in range(SERVICES):
-        file, words, lines, answers = conversation(draw, has_tails)
+        file, words, lines, answers = conversation(draw)
         wrote, said, status = run(program, file, words, "".join(f"{line}\n" for line in lines))
         wrong = unlike(lines, answers, wrote)
         wanted = int(any(it.startswith("refused") for it in answers))
@@ -236,10 +236,10 @@ def lacking(causes, seen):
     return f"too rare: {rare}" if rare else None
 
 
-def checks(program, has_tails=False):
+def checks(program):
     draw, causes, outcomes = random.Random(SEED), [], []
     try:
-        for name, wrong, answers in conversations(program, draw, has_tails):
+        for name, wrong, answers in conversations(program, draw):
             causes += [it.split()[2] if it.startswith("refused") else "accepted" for it in answers]
             yield name, wrong
         yield "exchange: each cause", lacking([*model.CODES, "accepted"], causes)

@@ -21,6 +21,7 @@ MANY = 100
 def commands(program):
     yield from preload.file_commands()
     yield preload.calls(program)
+    yield preload.calls_with_tails(program)
     lines = preload.calls(program).stdin.splitlines(keepends=True)
     yield preload.with_answer(program, preload.called(lines * MANY))
 

@@ -15,6 +15,7 @@ OLD = b"what OUT held"
 # More calls than any command makes.
 ALL = 1_000_000
 SECONDS = 60
+TAILS = ("--service", "host/web@EX")
 
 
 @dataclass
@@ -58,9 +59,9 @@ def requested():
     return Command(words, fixture.cache(), b"", f"{fixture.request(0x20000000).hex()}\n".encode(), OLD)
 
 
-def called(lines):
+def called(lines, *more):
     """The command accept over these lines. What it answers is not known yet."""
-    return Command(["accept", "f"], (generated.EXAMPLES / "service.keytab").read_bytes(), b"".join(lines), None, OLD)
+    return Command(["accept", "f", *more], (generated.EXAMPLES / "service.keytab").read_bytes(), b"".join(lines), None, OLD)
 
 
 def library(folder, name):
@@ -90,7 +91,17 @@ def with_answer(program, command):
     return Command(command.words, command.file, command.stdin, found.wrote, found.out, found.status)
 
 
-def calls(program):
-    """The command accept over lines of each kind: a request, the same again, no request, another form, and one that was refused, repeated."""
+def call_lines():
+    """Lines of each kind: a request, the same again, no request, another form, and a repeat."""
     lines = (generated.EXAMPLES / "calls.txt").read_bytes().splitlines(keepends=True)
-    return with_answer(program, called(lines + lines[:1]))
+    return lines + lines[:1]
+
+
+def calls(program):
+    return with_answer(program, called(call_lines()))
+
+
+def calls_with_tails(program):
+    """The same as the service of this name, with a confounder behind each line: a reply or an error follows each answer."""
+    lines = [line.rstrip(b"\n") + b" " + b"5a" * 16 + b"\n" for line in call_lines()]
+    return with_answer(program, called(lines, *TAILS))

@@ -3,7 +3,7 @@
 Of each command every call is refused in turn, alone and with all that come after it, until a run meets no refusal. Such a run ends by
 itself, says that there was no memory, and writes nothing that is wrong. (Only std's `collect` passes over a refusal: where room for
 all words at once is refused, it asks again as it goes.) Where accept answers a line for want of memory, its later answers are those
-of a service that never got that line.
+of a service that never got that line; and where it has no room for a reply or an error, the answer ends without it.
 
 Each check is a pair: its name, and what is wrong, or None.
 """
@@ -28,23 +28,32 @@ def commands(program):
     yield Command(["list-keytab", "--help"], b"", b"", None, OLD)
     yield from preload.file_commands()
     yield preload.calls(program)
+    yield preload.calls_with_tails(program)
 
 
 def without_the_refused(program, command, answers):
     """The answers to the lines that were answered, by a service that gets only those lines that weren't refused memory."""
     lines = command.stdin.splitlines(keepends=True)[:len(answers)]
     taken = [line for line, answer in zip(lines, answers) if answer != REFUSED]
-    given = iter(preload.run(program, preload.called(taken))[0].wrote.splitlines(keepends=True))
+    given = iter(preload.run(program, preload.called(taken, *command.words[2:]))[0].wrote.splitlines(keepends=True))
     return [REFUSED if answer == REFUSED else next(given) for answer in answers]
 
 
+def without_tail(answer):
+    """The answer as it is where there was no room for what follows it."""
+    for word in (b" reply ", b" error "):
+        answer = answer.split(word)[0].removesuffix(b"\n") + b"\n"
+    return answer
+
+
 def is_answered(program, command, found):
-    """Whether accept answered as it should, where it was refused memory."""
+    """Whether accept answered as it should, where it was refused memory: it says so, or a line lacks what follows it elsewhere."""
     answers = found.wrote.splitlines(keepends=True)
-    if answers != without_the_refused(program, command, answers):
+    wanted = without_the_refused(program, command, answers)
+    if any(answer not in (it, without_tail(it)) for answer, it in zip(answers, wanted)):
         return False
     if len(answers) == command.stdin.count(b"\n"):
-        return REFUSED in answers and found.said == ""
+        return (REFUSED in answers or answers != wanted) and found.said == ""
     return found.said == "krbtool: accept: OutOfMemory\n"
 
 

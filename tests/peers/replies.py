@@ -55,7 +55,21 @@ def ours_to_theirs(cases, peers, program, ticket):
                 cases.equal(name, [accepted, refused, *told], ["accepted", "refused 34", wanted, f"error 34 {sides.second} 9 {ticket.service}"])
 
 
+def commands_to_theirs(cases, peers, ticket):
+    """What the command accept puts behind its answers, given to their clients: a reply, and the error for the same request again."""
+    for library in LIBRARIES:
+        second = now()
+        client, request = peers.client(ticket.realm, library, ticket.cache, ticket.service, 0, ["mutual"])
+        line = f"{second} 9 {request} {CONFOUNDER}"
+        accepted, refused = peers.accept(ticket.keytab, [line, line], "--service", ticket.service)
+        reply, error = accepted.partition(" reply ")[2], refused.partition(" error ")[2]
+        told = client.communicate(f"{reply}\n{error}\n", timeout=60)[0].splitlines()
+        wanted = ["agreed none 0", f"error 34 {second} 9 {ticket.service}"]
+        cases.equal(f"reply: the command's to {library}'s, {ticket.label}", told, wanted)
+
+
 def exchanged(cases, peers, program, tickets):
     for ticket in tickets:
+        commands_to_theirs(cases, peers, ticket)
         theirs_to_ours(cases, peers, program, ticket)
         ours_to_theirs(cases, peers, program, ticket)
