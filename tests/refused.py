@@ -5,6 +5,8 @@ Of each command every call is refused in turn, alone and with all that come afte
 itself, says that there was no memory, and writes nothing that is wrong. (Only std's `collect` passes over a refusal: where room for
 all words at once is refused, it asks again as it goes.)
 
+A service goes on where there was no room for a call, a reply or an error: then one answer tells so or lacks it, and the others stay.
+
 Each check is a pair: its name, and what is wrong, or None.
 """
 import os
@@ -13,6 +15,7 @@ import tempfile
 from pathlib import Path
 
 import generated
+from generated import fixture
 
 HERE = Path(__file__).resolve().parent
 OLD = b"what OUT held"
@@ -39,6 +42,10 @@ def commands():
             yield [word, "f", "out"], file, f"wrote {len(made)}\n".encode(), made
         else:
             yield [word, "f"], file, command(file).encode(), OLD
+    options = ["--time=1700000100", "--usec=5", f"--confounder={bytes(range(0x20, 0x30)).hex()}"]
+    for flags, bits in ([], 0), (["--mutual"], 1 << 29):
+        made = fixture.request(bits).hex().encode() + b"\n"
+        yield ["request", "f", "host/web@EX", *options, *flags], generated.FIXTURE_CACHE, made, OLD
 
 
 def library(folder):
@@ -47,7 +54,7 @@ def library(folder):
     return made
 
 
-def run(program, words, file, refused, last, preloaded):
+def run(program, words, file, refused, last, preloaded, given=b""):
     """Status, standard output, standard error and OUT, and whether a call was refused."""
     with tempfile.TemporaryDirectory(prefix="krbtool-refused-") as name:
         room = Path(name)
@@ -55,7 +62,7 @@ def run(program, words, file, refused, last, preloaded):
         (room / "out").write_bytes(OLD)
         told = room / "told"
         more = {"LD_PRELOAD": preloaded, "REFUSE_FIRST": str(refused), "REFUSE_LAST": str(last), "REFUSE_TOLD": str(told)}
-        done = subprocess.run([program, *words], cwd=room, env={**os.environ, **more}, capture_output=True, timeout=60)
+        done = subprocess.run([program, *words], cwd=room, env={**os.environ, **more}, input=given, capture_output=True, timeout=60)
         return (done.returncode, done.stdout, done.stderr.decode(errors="replace"), (room / "out").read_bytes()), told.exists()
 
 
@@ -65,7 +72,8 @@ def stage_of(words, found, good):
     if out == OLD and not wrote and (said, status) in (WORDS, CLAP):
         return (WORDS, CLAP).index((said, status))
     begins = good[0].startswith(wrote) and wrote != good[0]
-    named = said == f"krbtool: {words[0]}: OutOfMemory\n" and begins or said == "krbtool: f: OutOfMemory\n" and not wrote
+    of_words = said in ("krbtool: f: OutOfMemory\n", "krbtool: service: OutOfMemory\n") and not wrote
+    named = of_words or said == f"krbtool: {words[0]}: OutOfMemory\n" and begins
     return 2 if status == 3 and named and (out == good[1] == OLD or out == b"") else None
 
 
@@ -87,6 +95,56 @@ def swept(program, words, file, good, last, preloaded, lasting):
     return "it calls for memory again and again"
 
 
+def one_call():
+    """A service's words, its lines, and what may be said of each where a call is refused: the answer with its tail, and without; and
+    that there was no memory for the call itself."""
+    words = ["accept", "f", "--service", "host/web@EX"]
+    mutual, reply, error = (it.hex() for it in (fixture.request(1 << 29), fixture.reply(), fixture.error(60)))
+    lines = f"1700000100 5 {mutual} {bytes(range(0x30, 0x40)).hex()}\n1700000100 7 -\n".encode()
+    accepted, refused = "accepted alice@EX 19 1700000100 5 mutual", "refused 60 Malformed"
+    return words, lines, [[f"{accepted} reply {reply}", accepted, "refused none OutOfMemory"], [f"{refused} error {error}", refused]]
+
+
+# How a run of the service ends where a call is refused: before its first answer, between answers, or with an answer that lacks something.
+ENDS = {
+    ("krbtool: service: OutOfMemory\n", 3): "service",
+    ("krbtool: f: OutOfMemory\n", 3): "keytab",
+    ("krbtool: accept: OutOfMemory\n", 3): "accept",
+}
+
+
+def end_of(found, answers):
+    """What was refused in a run of the service, or None where the run is none such."""
+    status, wrote, said, _ = found
+    good = [it[0] for it in answers]
+    lines = wrote.decode().split("\n")[:-1]
+    if (said, status) in (WORDS, CLAP, *ENDS):
+        of_words = (said, status) not in ENDS
+        whole = lines == good[: len(lines)] and (not lines or ENDS.get((said, status)) == "accept")
+        return None if not whole else "words" if of_words else ENDS[said, status]
+    other = [at for at, line in enumerate(lines) if line != good[at : at + 1][0]] if len(lines) == len(good) else []
+    lacks = len(other) == 1 and status == 3 and not said and lines[other[0]] in answers[other[0]]
+    return lines[other[0]] if lacks else None
+
+
+def of_a_service(program, preloaded):
+    """What is wrong with a run of the service in which one call is refused, or None where each is right, and each way to end is met."""
+    words, given, answers = one_call()
+    met_ends, passed_over = set(), 0
+    for refused in range(1, ALL):
+        found, met = run(program, words, generated.FIXTURE_KEYTAB, refused, refused, preloaded, given)
+        well = found[:3] == (1, "".join(f"{it[0]}\n" for it in answers).encode(), "")
+        if not met:
+            lacking = {"words", *ENDS.values(), *answers[0][1:], *answers[1][1:]} - met_ends
+            return f"it ends with {found}" if not well else f"no run ends with {lacking}" if lacking else None
+        end = end_of(found, answers)
+        passed_over += well
+        if end is None and not (well and passed_over <= PASSED_OVER):
+            return f"where call {refused} is refused it gives {found}"
+        met_ends.add(end)
+    return "it calls for memory again and again"
+
+
 def checks(program):
     with tempfile.TemporaryDirectory(prefix="krbtool-refuse-") as folder:
         try:
@@ -98,5 +156,6 @@ def checks(program):
                 for lasting in (False, True):
                     name = f"refused memory: {' '.join(words)}, each call{' and all after it' if lasting else ''}"
                     yield name, swept(program, words, file, (wrote, made), last, preloaded, lasting)
+            yield "refused memory: a service's answers, replies and errors", of_a_service(program, preloaded)
         except (OSError, subprocess.SubprocessError) as error:
             yield "refused memory", str(error)
