@@ -1,5 +1,5 @@
 -- How `accept` ends.
-use Rattle.std.proofs.Common.{◌≡◌, ◌⊎◌, inl, inr, ℕ, ℤ, max, List, [], ◌∷◌, ◌++◌, Option, Some, None, length, ap, sym, refl, ◌∙◌, subst, append_assoc, append-nil, arith, ◌+◌, ◌<◌}
+use Rattle.std.proofs.Common.{◌≡◌, inl, inr, ℕ, ℤ, max, List, [], ◌∷◌, ◌++◌, Option, Some, None, length, ap, sym, refl, ◌∙◌, subst, append_assoc, append-nil, arith, ◌<◌}
 use Rattle.std.specs.Io.KnownBytes.{Appends, Consumes, IsAtEnd}
 use Rattle.std.proofs.KnownBytes.{Appends-nil, Appends-trans, Appends-kept}
 use Rattle.krb_name.specs.declared.principal.Principal.{Principal}
@@ -7,7 +7,7 @@ use Rattle.krb_replay.specs.Stamp.{Stamp}
 use Rattle.krb_ap.specs.Setup.{Setup, Arrival}
 use Rattle.krb_ap.specs.History.{StandsFor}
 use Rattle.krbtool.specs.Answering.{AnswersAll, AnswersBeginning, AnswersWhole, BecomeInTurn, HasLines, LineOutcome, answer_line, answer_lines, input_limit, last_line}
-use Rattle.krbtool.specs.Inner.Going.{Answered, Begun, Going, Reached, ReachedEnd, ReachedInput, ReachedStop, Untouched}
+use Rattle.krbtool.specs.Inner.Going.{Answered, Begun, ReachedEnd, ReachedInput, ReachedStop, Untouched}
 use Rattle.krbtool.specs.declared.part_line.PartLine.{PartLine}
 use Rattle.krbtool.proofs.GoingLaws.{all_begun, one_begun, become_push, flat_map-push, no_lines, status_push}
 

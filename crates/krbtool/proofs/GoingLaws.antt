@@ -1,11 +1,11 @@
 -- How far `accept` is, one byte and one line on.
-use Rattle.std.proofs.Common.{◌≡◌, ◌≢◌, ◌⊎◌, inl, inr, ℕ, ℤ, max, Bool, List, [], ◌∷◌, ◌++◌, Option, Some, Result, length, take, drop, ap, sym, refl, ◌∙◌, subst, append_assoc, append-nil, All, arith, ◌+◌, ◌<◌, ◌≤◌, suc, zero, get_or}
+use Rattle.std.proofs.Common.{◌≡◌, ◌≢◌, ℕ, ℤ, max, List, [], ◌∷◌, ◌++◌, Option, Some, length, take, drop, ap, sym, refl, ◌∙◌, subst, append_assoc, append-nil, All, arith, ◌+◌, ◌<◌, ◌≤◌, suc, zero, get_or}
 use Rattle.std.specs.List.{flat_map}
-use Rattle.std.specs.Io.KnownBytes.{Appends, Consumes, Keeps, IsAtEnd}
+use Rattle.std.specs.Io.KnownBytes.{Appends, Consumes, Keeps}
 use Rattle.std.proofs.KnownBytes.{Appends-nil, Appends-trans, Appends-kept, Consumes-nil, Consumes-trans, Consumes-kept}
 use Rattle.std.proofs.lemmas.Grind.{flat_map-append}
 use Rattle.std.proofs.lemmas.List.Concat.{flat_map-cons}
-use Rattle.std.proofs.lemmas.List.{take_all, take_more, take-append-drop, length-append, length-take}
+use Rattle.std.proofs.lemmas.List.{take_more, take-append-drop, length-append, length-take}
 use Rattle.krb_name.specs.Flow.{AppendsBeginning}
 use Rattle.krb_name.specs.declared.principal.Principal.{Principal}
 use Rattle.krb_replay.specs.Stamp.{Stamp}
@@ -15,9 +15,9 @@ use Rattle.krbtool.specs.Tails.{IsTail}
 use Rattle.krbtool.specs.declared.tail.LineAnswer.{LineAnswer}
 use Rattle.krbtool.specs.CallLine.{SpellsCall}
 use Rattle.krb_ap.specs.History.{StandsFor}
-use Rattle.krbtool.specs.Answering.{Becomes, BecomeInTurn, Came, HasLines, LineOutcome, PrintsBeginning, answer_line, answer_lines, ended, last_line, outcome_status, status_of_lines}
+use Rattle.krbtool.specs.Answering.{Becomes, BecomeInTurn, Came, HasLines, LineOutcome, PrintsBeginning, answer_line, answer_lines, ended, outcome_status, status_of_lines}
 use Rattle.krbtool.specs.Inner.Held.{Holds}
-use Rattle.krbtool.specs.Inner.Going.{Answered, BecomesOf, Begun, Going, Reached, ReachedEnd, ReachedInput, ReachedStop, Stopped, Untouched}
+use Rattle.krbtool.specs.Inner.Going.{Answered, BecomesOf, Begun, Going, Reached, ReachedStop, Stopped, Untouched}
 use Rattle.krbtool.specs.declared.part_line.PartLine.{PartLine}
 
 -- ---- lists
