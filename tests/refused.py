@@ -77,15 +77,33 @@ def stage_of(program, command, found):
     return 2 if is_named(program, command, found) else None
 
 
+def end_of(command, found):
+    """How a run of accept ends: by which fault's line, or with which of its answers other than where there is memory."""
+    good, answers = command.wrote.splitlines(), found.wrote.splitlines()
+    return found.said or "".join(answer.decode() for answer, it in zip(answers, good) if answer != it)
+
+
+def unmet(command, ends):
+    """Which ways to end a service with tails were met by no run in which one call is refused."""
+    if command.words[2:] != list(preload.TAILS):
+        return set()
+    faults = {WORDS[0], CLAP[0], *(f"krbtool: {name}: OutOfMemory\n" for name in ("service", "f", "accept"))}
+    good = command.wrote.splitlines(keepends=True)
+    return (faults | {without_tail(it).decode().strip() for it in good[:2]}) - ends
+
+
 def swept(program, command, last, preloaded, lasting):
     """What is wrong with a run in which a call is refused, or None where each such run is right, up to the last stage."""
     stage = passed_over = 0
+    ends = set()
     for refused in range(1, ALL):
         more = {"REFUSE_FIRST": str(refused), "REFUSE_LAST": str(ALL if lasting else refused)}
         found, met = preload.run(program, command, preloaded, "REFUSE_TOLD", **more)
         well = found.is_well(command)
         if not met:
-            return None if well and stage == last else f"where {refused} calls are granted it gives {found}"
+            lacking = set() if lasting else unmet(command, ends)
+            return None if well and stage == last and not lacking else f"no run ends with {lacking}, and where {refused} calls are granted: {found}"
+        ends.add(end_of(command, found))
         if well and not lasting and stage == 0 and passed_over < PASSED_OVER:
             passed_over += 1
             continue

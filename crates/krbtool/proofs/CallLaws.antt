@@ -1,16 +1,14 @@
 -- Lines of calls: their digits, and where they are cut.
-use Rattle.std.proofs.Common.{◌≡◌, ◌≢◌, ◌⊎◌, inl, inr, ℤ, pos, neg_ℤ, subst, Bool, true, false, ℕ, ◌+◌, ◌*◌, ◌-◌, ◌<◌, ◌≤◌, List, [], ◌∷◌, ◌++◌, length, drop, get_or, ap, sym, refl, ◌∙◌, arith, All, suc, zero, Option, Some, None}
+use Rattle.std.proofs.Common.{◌≡◌, ◌≢◌, inl, inr, ℤ, pos, neg_ℤ, subst, Bool, true, false, ℕ, ◌+◌, ◌*◌, ◌-◌, ◌<◌, ◌≤◌, List, [], ◌∷◌, ◌++◌, length, drop, get_or, ap, sym, refl, ◌∙◌, arith, All, suc, zero, Option, Some, None}
 use Rattle.std.specs.Char.{digit_value}
 use Rattle.std.specs.Int.{IsInRange}
-use Rattle.std.specs.Str.Parse.{AllDigits, IsNumeral, digits_value, digits_value_after}
+use Rattle.std.specs.Str.Parse.{AllDigits, digits_value, digits_value_after}
 use Rattle.std.proofs.lemmas.List.{drop_more}
 use Rattle.std.proofs.lemmas.Str.{digit_value_digit}
-use Rattle.krb_der.specs.Time.{IsSeconds}
-use Rattle.krb_msg.specs.Moments.{micros_of}
-use Rattle.hex.specs.Hex.{decode_of, is_hex_digit}
+use Rattle.hex.specs.Hex.{is_hex_digit}
 use Rattle.hex.proofs.HexLemmas.{decode_of-ok}
 use Rattle.std.specs.List.{AllPass}
-use Rattle.krbtool.specs.CallLine.{SpellsBoth, SpellsConfounder, SpellsMessage, SpellsNumber, SpellsRest, SpellsSeconds}
+use Rattle.krbtool.specs.CallLine.{SpellsConfounder, SpellsMessage, SpellsNumber, SpellsRest, SpellsSeconds}
 use Rattle.krbtool.specs.Inner.Moments.{TellsMoment}
 
 -- a number only grows with the digits behind it

@@ -1,17 +1,15 @@
 -- How `accept` ends.
-use Rattle.std.proofs.Common.{◌≡◌, ◌⊎◌, inl, inr, ℕ, ℤ, max, List, [], ◌∷◌, ◌++◌, Option, Some, None, length, ap, sym, refl, ◌∙◌, subst, append_assoc, append-nil, arith, ◌+◌, ◌<◌}
+use Rattle.std.proofs.Common.{◌≡◌, inl, inr, ℕ, ℤ, max, List, [], ◌∷◌, ◌++◌, Option, Some, None, length, ap, sym, refl, ◌∙◌, subst, append_assoc, append-nil, arith, ◌<◌}
 use Rattle.std.specs.Io.KnownBytes.{Appends, Consumes, IsAtEnd}
 use Rattle.std.proofs.KnownBytes.{Appends-nil, Appends-trans, Appends-kept}
-use Rattle.krb_name.specs.Flow.{AppendsBeginning}
 use Rattle.krb_name.specs.declared.principal.Principal.{Principal}
 use Rattle.krb_replay.specs.Stamp.{Stamp}
 use Rattle.krb_ap.specs.Setup.{Setup, Arrival}
 use Rattle.krb_ap.specs.History.{StandsFor}
 use Rattle.krbtool.specs.Answering.{AnswersAll, AnswersBeginning, AnswersWhole, BecomeInTurn, HasLines, LineOutcome, answer_line, answer_lines, input_limit, last_line}
-use Rattle.krbtool.specs.Inner.Going.{Answered, Begun, Going, Reached, ReachedEnd, ReachedInput, ReachedStop, Untouched}
+use Rattle.krbtool.specs.Inner.Going.{Answered, Begun, ReachedEnd, ReachedInput, ReachedStop, Untouched}
 use Rattle.krbtool.specs.declared.part_line.PartLine.{PartLine}
-use Rattle.krbtool.proofs.LineLaws.{begun_back}
-use Rattle.krbtool.proofs.GoingLaws.{all_begun, become_push, flat_map-push, no_lines, status_push}
+use Rattle.krbtool.proofs.GoingLaws.{all_begun, one_begun, become_push, flat_map-push, no_lines, status_push}
 
 -- ---- what a source gave
 
@@ -113,7 +111,7 @@ module _ (service : Option Principal) (from to : Option (List ℕ)) (part : Part
         taken_are = inl refl;
       };
       become = ended.reached.going.become;
-      printed = all_begun Old Last (answer_lines ended.reached.going.outcomes)
+      printed = all_begun Old Last ended.reached.going.outcomes
           (Appends-kept Old New Last (answer_lines ended.reached.going.outcomes) ended.reached.going.printed untouched.kept);
       stands = untouched.stands;
     }
@@ -136,8 +134,7 @@ module _ (service : Option Principal) (from to : Option (List ℕ)) (part : Part
       };
       become = turn one.outcome one.of_line.end some (become_push service setup history ended.reached.going.end one.of_line.end ended.reached.going.lines
           ended.reached.going.outcomes ended.reached.going.rest one.outcome ended.reached.going.become one.of_line.becomes);
-      printed = rw (sym (flat_map-push answer_line ended.reached.going.outcomes one.outcome)) at
-          (begun_back (answer_lines ended.reached.going.outcomes) (answer_line one.outcome) Old New Last ended.reached.going.printed one.printed);
+      printed = one_begun Old New Last ended.reached.going.outcomes one.outcome ended.reached.going.printed one.printed;
       stands = one.of_line.stands;
     }
 
@@ -196,6 +193,6 @@ none_begun service setup history known Has latest input stands = record {
   end = history;
   takes = record { came = []; left = input; lines = []; rest = []; input_is = refl; parts = no_lines; taken_are = inl refl };
   become = refl;
-  printed = (0, Appends-nil known);
+  printed = all_begun known known [] (Appends-nil known);
   stands = stands;
 }

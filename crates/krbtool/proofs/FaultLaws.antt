@@ -2,7 +2,7 @@
 use Rattle.krbtool.specs.declared.fault.EngineFault.{EngineFault}
 use Rattle.krb_ap.specs.declared.request_fault.RequestFault.{RequestFault}
 use Rattle.krbtool.specs.declared.fault.EngineFault.TheVariants.{Request, Input, Write, OutOfMemory}
-use Rattle.std.proofs.Common.{ℕ, ◌≡◌, ◌⊎◌, Result, Ok, Err, ap, ◌∙◌, sym, inl, inr}
+use Rattle.std.proofs.Common.{◌≡◌, ◌⊎◌, Result, Ok, Err, ap, ◌∙◌, sym, inl, inr}
 
 -- the answer is this fault, or one of two others
 abbrev pub IsOneOf : {X F : Type 0} → Result X F → F → F → F → Type 0

@@ -1,11 +1,11 @@
 -- How far `accept` is, one byte and one line on.
-use Rattle.std.proofs.Common.{◌≡◌, ◌≢◌, ◌⊎◌, inl, inr, ℕ, ℤ, max, Bool, List, [], ◌∷◌, ◌++◌, Option, Some, Result, length, take, drop, ap, sym, refl, ◌∙◌, subst, append_assoc, append-nil, All, arith, ◌+◌, ◌<◌, ◌≤◌, suc, zero, get_or}
+use Rattle.std.proofs.Common.{◌≡◌, ◌≢◌, ℕ, ℤ, max, List, [], ◌∷◌, ◌++◌, Option, Some, length, take, drop, ap, sym, refl, ◌∙◌, subst, append_assoc, append-nil, All, arith, ◌+◌, ◌<◌, ◌≤◌, suc, zero, get_or}
 use Rattle.std.specs.List.{flat_map}
-use Rattle.std.specs.Io.KnownBytes.{Appends, Consumes, Keeps, IsAtEnd}
+use Rattle.std.specs.Io.KnownBytes.{Appends, Consumes, Keeps}
 use Rattle.std.proofs.KnownBytes.{Appends-nil, Appends-trans, Appends-kept, Consumes-nil, Consumes-trans, Consumes-kept}
 use Rattle.std.proofs.lemmas.Grind.{flat_map-append}
 use Rattle.std.proofs.lemmas.List.Concat.{flat_map-cons}
-use Rattle.std.proofs.lemmas.List.{take_all, take_more, take-append-drop, length-append, length-take}
+use Rattle.std.proofs.lemmas.List.{take_more, take-append-drop, length-append, length-take}
 use Rattle.krb_name.specs.Flow.{AppendsBeginning}
 use Rattle.krb_name.specs.declared.principal.Principal.{Principal}
 use Rattle.krb_replay.specs.Stamp.{Stamp}
@@ -15,11 +15,10 @@ use Rattle.krbtool.specs.Tails.{IsTail}
 use Rattle.krbtool.specs.declared.tail.LineAnswer.{LineAnswer}
 use Rattle.krbtool.specs.CallLine.{SpellsCall}
 use Rattle.krb_ap.specs.History.{StandsFor}
-use Rattle.krbtool.specs.Answering.{Becomes, BecomeInTurn, HasLines, LineOutcome, answer_line, answer_lines, ended, last_line, outcome_status, status_of_lines}
+use Rattle.krbtool.specs.Answering.{Becomes, BecomeInTurn, Came, HasLines, LineOutcome, PrintsBeginning, answer_line, answer_lines, ended, outcome_status, status_of_lines}
 use Rattle.krbtool.specs.Inner.Held.{Holds}
-use Rattle.krbtool.specs.Inner.Going.{Answered, BecomesOf, Begun, Going, Reached, ReachedEnd, ReachedInput, ReachedStop, Stopped, Untouched}
+use Rattle.krbtool.specs.Inner.Going.{Answered, BecomesOf, Begun, Going, Reached, ReachedStop, Stopped, Untouched}
 use Rattle.krbtool.specs.declared.part_line.PartLine.{PartLine}
-use Rattle.krbtool.proofs.LineLaws.{begun_back}
 
 -- ---- lists
 
@@ -122,8 +121,31 @@ going_line service part next here there setup history came status more old mid n
 
 -- ---- stopping
 
-pub all_begun : (old new : Option (List ℕ)) (bytes : List ℕ) → Appends old new bytes → AppendsBeginning old new bytes
-all_begun old new bytes appends = (length bytes, subst (Appends old new) (sym (take_all (length bytes) bytes (omega arith))) appends)
+-- all answers, and nothing of another
+pub all_begun : (old new : Option (List ℕ)) (outcomes : List LineOutcome) → Appends old new (answer_lines outcomes) → PrintsBeginning old new outcomes
+all_begun old new outcomes printed = record {
+  whole = outcomes;
+  last = [];
+  outcomes_are = sym (append-nil outcomes);
+  one = omega arith;
+  count = 0;
+  printed = subst (Appends old new) (sym (append-nil (answer_lines outcomes))) printed;
+}
+
+-- all answers, and a beginning of one more
+pub one_begun : (old mid new : Option (List ℕ)) (outcomes : List LineOutcome) (outcome : LineOutcome) → Appends old mid (answer_lines outcomes)
+    → AppendsBeginning mid new (answer_line outcome) → PrintsBeginning old new (outcomes ++ outcome ∷ [])
+one_begun old mid new outcomes outcome printed begun =
+    let same : answer_lines (outcome ∷ []) ≡ answer_line outcome = flat_map-cons answer_line outcome [] ∙ append-nil (answer_line outcome) in
+    record {
+      whole = outcomes;
+      last = outcome ∷ [];
+      outcomes_are = refl;
+      one = omega arith;
+      count = begun.0;
+      printed = subst (λ (l : List ℕ). Appends old new (answer_lines outcomes ++ take begun.0 l)) (sym same)
+          (Appends-trans old mid new (answer_lines outcomes) (take begun.0 (answer_line outcome)) printed begun.1);
+    }
 
 pub stopped_before : (service : Option Principal) (part : PartLine) (here there setup : Setup) (history : List Arrival) (came more : List ℕ) (status : ℕ) (old mid new : Option (List ℕ))
     (Has Later : Stamp → Type 0) (latest later : Option ℤ) → (going : Going service part here setup history came status old mid Has latest)
@@ -138,7 +160,7 @@ stopped_before service part here there setup history came more status old mid ne
   came_is = refl;
   parts = going.parts;
   become = going.become;
-  printed = all_begun old new (answer_lines going.outcomes) (Appends-kept old mid new (answer_lines going.outcomes) going.printed untouched.kept);
+  printed = all_begun old new going.outcomes (Appends-kept old mid new (answer_lines going.outcomes) going.printed untouched.kept);
   stands = untouched.stands;
   setup_is = untouched.setup_is;
 }
@@ -156,8 +178,7 @@ stopped_within service part here there setup history came status old mid new Has
   came_is = sym (append-nil (came ++ 10 ∷ []));
   parts = line_ended came going.lines going.rest going.parts;
   become = become_push service setup history going.end one.of_line.end going.lines going.outcomes going.rest one.outcome going.become one.of_line.becomes;
-  printed = rw (sym (flat_map-push answer_line going.outcomes one.outcome)) at
-      (begun_back (answer_lines going.outcomes) (answer_line one.outcome) old mid new going.printed one.printed);
+  printed = one_begun old mid new going.outcomes one.outcome going.printed one.printed;
   stands = one.of_line.stands;
   setup_is = one.of_line.setup_is;
 }
@@ -282,6 +303,14 @@ reached_none service part here setup history from mid to count status piece old 
       (Consumes-trans from mid to reached.came piece reached.consumed consumed);
   counted = reached.counted;
   going = reached.going;
+}
+
+pub came_more : (from mid to : Option (List ℕ)) (count more : ℕ) (piece : List ℕ) → Came from mid count → Consumes mid to piece → length piece ≡ more
+    → Came from to (count + more)
+came_more from mid to count more piece came consumed counted = record {
+  bytes = came.bytes ++ piece;
+  consumed = Consumes-trans from mid to came.bytes piece came.consumed consumed;
+  counted = omega (arith, length-append came.bytes piece, came.counted, counted);
 }
 
 pub length-take-below : (count : ℕ) (bytes : List ℕ) → count ≤ length bytes → length (take count bytes) ≡ count

@@ -1,9 +1,8 @@
 -- What `accept` prints for the lines of its input, and its exit status.
-use Rattle.std.specs.Prelude.{◌≡◌, ◌≢◌, ◌⊎◌, ◌+◌, ◌<◌, max, ℕ, ℤ, Bool, List, [], ◌∷◌, ◌++◌, Option, Some, None, Result, Ok, Err, All, codes, length, if◌then◌else◌}
+use Rattle.std.specs.Prelude.{◌≡◌, ◌≢◌, ◌⊎◌, ◌+◌, ◌<◌, ◌≤◌, max, take, ℕ, ℤ, Bool, List, [], ◌∷◌, ◌++◌, Option, Some, None, Result, Ok, Err, All, codes, length, if◌then◌else◌}
 use Rattle.std.specs.List.{flat_map}
 use Rattle.std.specs.Fmt.{decimal, signed_decimal}
-use Rattle.std.specs.Io.KnownBytes.{Appends}
-use Rattle.krb_name.specs.Flow.{AppendsBeginning}
+use Rattle.std.specs.Io.KnownBytes.{Appends, Consumes}
 use Rattle.krb_name.specs.Text.{text_of}
 use Rattle.krb_replay.specs.Stamp.{Stamp}
 use Rattle.krb_ap.specs.Setup.{Setup, Arrival}
@@ -98,6 +97,15 @@ BecomeInTurn service setup history _ _ end = ⊥
 abbrev pub answer_lines : List LineOutcome → List ℕ
 answer_lines = flat_map answer_line
 
+-- of these all but the last were printed whole, and of the last a beginning
+pub record PrintsBeginning (Old New : Option (List ℕ)) (outcomes : List LineOutcome) : Type 0 where
+  pub whole : List LineOutcome
+  pub last : List LineOutcome
+  pub outcomes_are : outcomes ≡ whole ++ last
+  pub one : length last ≤ 1
+  pub count : ℕ
+  pub printed : Appends Old New (answer_lines whole ++ take count (answer_lines last))
+
 -- the exit status: 3 where memory was wanting, else 1 where a line was bad or refused, else 0
 abbrev pub call_status : Result Accepted Refusal → ℕ
 call_status (Ok accepted) = 0
@@ -146,6 +154,12 @@ pub record AnswersAll (service : Option Principal) (setup : Setup) (history : Li
   pub limit : length input < input_limit
   pub stands : StandsFor setup Has latest end
 
+-- so many bytes came of a source
+pub record Came (From To : Option (List ℕ)) (count : ℕ) : Type 0 where
+  pub bytes : List ℕ
+  pub consumed : Consumes From To bytes
+  pub counted : length bytes ≡ count
+
 -- a read failed, or so many bytes came as are taken; the whole lines of what came were answered
 pub record AnswersWhole (service : Option Principal) (setup : Setup) (history : List Arrival) (input : List ℕ) (unread : Option (List ℕ)) (old_failures new_failures : ℕ)
     (Old New : Option (List ℕ)) (Has : Stamp → Type 0) (latest : Option ℤ) : Type 0 where
@@ -173,7 +187,7 @@ pub record TakesLines (input : List ℕ) (taken : List (List ℕ)) : Type 0 wher
   pub parts : HasLines came lines rest
   pub taken_are : (taken ≡ lines) ⊎ ((left ≡ []) × (taken ≡ lines ++ last_line rest))
 
--- lines were taken, and a beginning of their answers was printed
+-- lines were taken, and their answers were printed up to some byte of the last
 pub record AnswersBeginning (service : Option Principal) (setup : Setup) (history : List Arrival) (input : List ℕ) (Old New : Option (List ℕ))
     (Has : Stamp → Type 0) (latest : Option ℤ) : Type 0 where
   pub taken : List (List ℕ)
@@ -181,5 +195,5 @@ pub record AnswersBeginning (service : Option Principal) (setup : Setup) (histor
   pub end : List Arrival
   pub takes : TakesLines input taken
   pub become : BecomeInTurn service setup history taken outcomes end
-  pub printed : AppendsBeginning Old New (answer_lines outcomes)
+  pub printed : PrintsBeginning Old New outcomes
   pub stands : StandsFor setup Has latest end

@@ -7,7 +7,7 @@ use Rattle.krb_ccache.specs.declared.fault.CacheFault.TheVariants as cache
 use Rattle.krb_ap.specs.declared.request_fault.RequestFault.{RequestFault}
 use Rattle.krb_ap.specs.declared.request_fault.RequestFault.TheVariants as request
 use Rattle.krbtool.specs.declared.fault.EngineFault.{EngineFault}
-use Rattle.krbtool.specs.declared.fault.EngineFault.TheVariants.{Keytab, Cache, Request, Input, Write, OutOfMemory}
+use Rattle.krbtool.specs.declared.fault.EngineFault.TheVariants.{Keytab, Cache, Request, Write, OutOfMemory}
 
 -- the bytes that were to come, where the source tells them, are a file with some value, of which this holds
 abbrev pub OfFile : {V : Type 0} → (List ℕ → V → Type 0) → Option (List ℕ) → (V → Type 0) → Type 0

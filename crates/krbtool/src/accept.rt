@@ -4,7 +4,7 @@ ghost use Rattle.std.specs.Prelude.{◌≡◌, ◌⊎◌, ◌+◌, ◌-◌, ◌^
 ghost use Rattle.std.specs.Io.KnownBytes.{Consumes, IsAtEnd, Keeps};
 ghost use Rattle.krb_ap.specs.Setup.{Setup, Arrival};
 ghost use Rattle.krb_ap.specs.History.{StandsFor};
-ghost use Rattle.krbtool.specs.Answering.{AnswersAll, AnswersBeginning, AnswersWhole};
+ghost use Rattle.krbtool.specs.Answering.{AnswersAll, AnswersBeginning, AnswersWhole, Came, input_limit};
 ghost use Rattle.krbtool.specs.Tails.{named};
 ghost use Rattle.krbtool.specs.Engine.{failed_writes};
 ghost use Rattle.krbtool.specs.Inner.Held.{Holds};
@@ -38,6 +38,7 @@ fn outcome_of<M: ReplayMemory>(
         → acceptor.old.setup ≡ setup → StandsFor setup (M.has acceptor.old.memory) (M.newest acceptor.old.memory) history → Holds part.now line
         → IfOk result (λ outcome. BecomesOf (named service.entry) acceptor.new.setup setup history line outcome (M.has acceptor.new.memory) (M.newest acceptor.new.memory)) }
     ensures err { OnErr result (acceptor.new ≡ acceptor.old) }
+    ensures setup { acceptor.new.setup ≡ acceptor.old.setup }
 {
     match part.call(alloc)? {
         Some(call) => {
@@ -66,6 +67,7 @@ fn answer_line<M: ReplayMemory, K: Sink>(
         → acceptor.old.setup ≡ setup → StandsFor setup (M.has acceptor.old.memory) (M.newest acceptor.old.memory) history → Holds part.now line
         → OnErr result (Untouched acceptor.new.setup setup history (K.taken sink.old) (K.taken sink.new) (M.has acceptor.new.memory) (M.newest acceptor.new.memory)
         ⊎ Begun (named service.entry) acceptor.new.setup setup history line (K.taken sink.old) (K.taken sink.new) (M.has acceptor.new.memory) (M.newest acceptor.new.memory)) }
+    ensures setup { acceptor.new.setup ≡ acceptor.old.setup }
     ensures which { IfErr result (λ e. (e ≡ EngineFault.Write) ⊎ (e ≡ EngineFault.OutOfMemory)) }
     ensures writes { K.failure_count sink.new ≡ K.failure_count sink.old + failed_writes result }
 {
@@ -91,6 +93,7 @@ fn answer_byte<M: ReplayMemory, K: Sink>(
     ensures err { (setup : Setup) (history : List Arrival) (came : List ℕ) (status : ℕ) (start : Option (List ℕ))
         → Going (named service.entry) part.old acceptor.old.setup setup history came status start (K.taken sink.old) (M.has acceptor.old.memory) (M.newest acceptor.old.memory)
         → OnErr result (Stopped (named service.entry) acceptor.new.setup setup history (came ++ byte ∷ []) start (K.taken sink.new) (M.has acceptor.new.memory) (M.newest acceptor.new.memory)) }
+    ensures setup { acceptor.new.setup ≡ acceptor.old.setup }
     ensures which { IfErr result (λ e. (e ≡ EngineFault.Write) ⊎ (e ≡ EngineFault.OutOfMemory)) }
     ensures writes { K.failure_count sink.new ≡ K.failure_count sink.old + failed_writes result }
 {
@@ -120,6 +123,7 @@ fn answer_piece<M: ReplayMemory, K: Sink>(
     ensures err { (setup : Setup) (history : List Arrival) (came : List ℕ) (status : ℕ) (start : Option (List ℕ))
         → Going (named service.entry) part.old acceptor.old.setup setup history came status start (K.taken sink.old) (M.has acceptor.old.memory) (M.newest acceptor.old.memory)
         → OnErr result (Stopped (named service.entry) acceptor.new.setup setup history (came ++ piece.now) start (K.taken sink.new) (M.has acceptor.new.memory) (M.newest acceptor.new.memory)) }
+    ensures setup { acceptor.new.setup ≡ acceptor.old.setup }
     ensures which { IfErr result (λ e. (e ≡ EngineFault.Write) ⊎ (e ≡ EngineFault.OutOfMemory)) }
     ensures writes { K.failure_count sink.new ≡ K.failure_count sink.old + failed_writes result }
 {
@@ -175,7 +179,11 @@ fn answer_source<M: ReplayMemory, S: Source, K: Sink>(
         → (result ≡ Err EngineFault.Write) ⊎ (result ≡ Err EngineFault.OutOfMemory)
         → ReachedStop (named service.entry) (S.remaining source.old) (S.remaining source.new) acceptor.new.setup setup history
         (K.taken sink.old) (K.taken sink.new) (M.has acceptor.new.memory) (M.newest acceptor.new.memory) }
+    ensures setup { acceptor.new.setup ≡ acceptor.old.setup }
     ensures which { IfErr result (λ e. (e ≡ EngineFault.Input) ⊎ ((e ≡ EngineFault.Write) ⊎ (e ≡ EngineFault.OutOfMemory))) }
+    ensures failed { result ≡ Err EngineFault.Input
+        → (S.failure_count source.new ≡ S.failure_count source.old + 1)
+        ⊎ ((S.failure_count source.new ≡ S.failure_count source.old) × Came (S.remaining source.old) (S.remaining source.new) input_limit) }
     ensures reads { (result ≡ Err EngineFault.Input) ⊎ (S.failure_count source.new ≡ S.failure_count source.old) }
     ensures writes { K.failure_count sink.new ≡ K.failure_count sink.old + failed_writes result }
 {
@@ -215,8 +223,8 @@ fn answer_source<M: ReplayMemory, S: Source, K: Sink>(
 ///
 /// # Errors
 /// - `Input`: a read failed, or 1,099,511,627,776 bytes came. The whole lines of what came were answered.
-/// - `Write`: the sink failed. It took a beginning of the answers to the lines that were taken.
-/// - `OutOfMemory`: there was no room, other than in a call or for what follows its answer. The sink took such a beginning too.
+/// - `Write`: the sink failed. It took the answers to all lines that were taken but the last, and a beginning of that.
+/// - `OutOfMemory`: there was no room, other than in a call or for what follows its answer. The sink took as much too.
 ///
 /// Condition: fewer than 18,446,744,073,709,551,615 reads and writes have failed so far.
 pub fn accept_lines<M: ReplayMemory, S: Source, K: Sink>(
@@ -245,8 +253,12 @@ pub fn accept_lines<M: ReplayMemory, S: Source, K: Sink>(
         → AnswersBeginning (named service.entry) acceptor.old.setup history input (K.taken sink.old) (K.taken sink.new)
         (M.has acceptor.new.memory) (M.newest acceptor.new.memory) }
 
-    // There is no fault of content.
+    // The keytab and the skew stay. There is no fault of content, and `Input` is a failed read or the limit, whatever the source tells.
+    ensures setup { acceptor.new.setup ≡ acceptor.old.setup }
     ensures which { IfErr result (λ e. (e ≡ EngineFault.Input) ⊎ ((e ≡ EngineFault.Write) ⊎ (e ≡ EngineFault.OutOfMemory))) }
+    ensures failed { result ≡ Err EngineFault.Input
+        → (S.failure_count source.new ≡ S.failure_count source.old + 1)
+        ⊎ ((S.failure_count source.new ≡ S.failure_count source.old) × Came (S.remaining source.old) (S.remaining source.new) input_limit) }
     ensures reads { (result ≡ Err EngineFault.Input) ⊎ (S.failure_count source.new ≡ S.failure_count source.old) }
     ensures writes { K.failure_count sink.new ≡ K.failure_count sink.old + failed_writes result }
 {

@@ -93,6 +93,8 @@ fn show(rt: &HostRuntime, error: &clap::Error) -> u8 {
 }
 
 #[cfg(test)]
+mod accept_tests;
+#[cfg(test)]
 mod cache_tests;
 #[cfg(test)]
 mod request_tests;

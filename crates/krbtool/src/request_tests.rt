@@ -13,7 +13,7 @@ use std::test::Fail;
 
 // The request of alice@EX to host/web@EX at 1,700,000,100 seconds and 5 microseconds, with the confounder 20 to 2f in hexadecimal, as
 // tests/vectors/fixture.py makes it. One that asks for a reply has the digit 2 in place of the 0 at 46.
-const LINE: &str =
+pub(crate) const LINE: &str =
     "6e82015830820154a003020105a10302010ea20703050000000000a381d66181d33081d0a003020105a1041b024558a21630\
      14a003020103a10d300b1b04686f73741b03776562a381aa3081a7a003020113a103020103a2819a0481972cac51baf4f4c3\
      70efcbdd00f93b9d31830054d5323e8734b4b5a50307713a1fd99ffd06764979def1146b8e3adf2c98c2df1302be0dcc1497\

@@ -6,7 +6,7 @@ use Rattle.krb_name.specs.declared.principal.Principal.{Principal}
 use Rattle.krb_replay.specs.Stamp.{Stamp}
 use Rattle.krb_ap.specs.Setup.{Setup, Arrival}
 use Rattle.krb_ap.specs.History.{StandsFor}
-use Rattle.krbtool.specs.Answering.{Becomes, BecomeInTurn, HasLines, LineOutcome, answer_line, answer_lines, input_limit, outcome_status, status_of_lines}
+use Rattle.krbtool.specs.Answering.{Becomes, BecomeInTurn, HasLines, LineOutcome, PrintsBeginning, answer_line, answer_lines, input_limit, outcome_status, status_of_lines}
 use Rattle.krbtool.specs.Inner.Held.{Holds}
 use Rattle.krbtool.specs.declared.part_line.PartLine.{PartLine}
 
@@ -54,7 +54,7 @@ pub record Going (service : Option Principal) (part : PartLine) (here setup : Se
   pub stands : StandsFor setup Has latest end
   pub setup_is : here ≡ setup
 
--- of the first of the bytes that came the whole lines were taken, and a beginning of their answers was printed
+-- of the first of the bytes that came the whole lines were taken, and their answers were printed up to some byte of the last
 pub record Stopped (service : Option Principal) (here setup : Setup) (history : List Arrival) (came : List ℕ) (Old New : Option (List ℕ)) (Has : Stamp → Type 0) (latest : Option ℤ) : Type 0 where
   pub first : List ℕ
   pub left : List ℕ
@@ -65,7 +65,7 @@ pub record Stopped (service : Option Principal) (here setup : Setup) (history : 
   pub came_is : came ≡ first ++ left
   pub parts : HasLines first lines rest
   pub become : BecomeInTurn service setup history lines outcomes end
-  pub printed : AppendsBeginning Old New (answer_lines outcomes)
+  pub printed : PrintsBeginning Old New outcomes
   pub stands : StandsFor setup Has latest end
   pub setup_is : here ≡ setup
 

@@ -34,6 +34,11 @@ returns-in_err-status-clause-begun g c = λ input history tells stands err.
     (c.answer_source.ensures.stop c.args.acceptor.now.setup history refl stands c.new-part.ensures
     (elim err [ inl e ↦ inl (was ∙ e) | inr e ↦ inr (was ∙ e) ]))
 
+pub returns-in_err-status-clause-failed : goal.returns-in_err-status-clause-failed
+returns-in_err-status-clause-failed g c = λ err.
+    let p = err_from_is_err_and c.from_residual-in_err-status.result c.from_residual-in_err-status.ensures.1 in
+    c.answer_source.ensures.failed (c.in_err-status.was ∙ sym (p.1 ∙ ap (λ e. Err e) p.2) ∙ err)
+
 pub returns-in_err-status-clause-reads : goal.returns-in_err-status-clause-reads
 returns-in_err-status-clause-reads g c =
     let p = err_from_is_err_and c.from_residual-in_err-status.result c.from_residual-in_err-status.ensures.1 in
@@ -50,6 +55,11 @@ returns-then-is_empty-clause-answered g c = λ input history tells stands.
 
 pub returns-in_err-last-clause-unread : goal.returns-in_err-last-clause-unread
 returns-in_err-last-clause-unread g c = λ input history tells stands err.
+    let p = err_from_is_err_and c.from_residual-in_err-last.result c.from_residual-in_err-last.ensures.1 in
+    absurd (not_input c.in_err-last.field-0.0 c.in_err-last.ensures.which (sym (p.1 ∙ ap (λ e. Err e) p.2) ∙ err))
+
+pub returns-in_err-last-clause-failed : goal.returns-in_err-last-clause-failed
+returns-in_err-last-clause-failed g c = λ err.
     let p = err_from_is_err_and c.from_residual-in_err-last.result c.from_residual-in_err-last.ensures.1 in
     absurd (not_input c.in_err-last.field-0.0 c.in_err-last.ensures.which (sym (p.1 ∙ ap (λ e. Err e) p.2) ∙ err))
 

@@ -12,5 +12,6 @@ invariant-loop-byte g l = record {
       (g.M.ReplayMemory.has l.initial.acceptor.memory) (g.M.ReplayMemory.newest l.initial.acceptor.memory)
       → Going (named l.service) l.part l.acceptor.setup setup history (came ++ take l.byte-index l.piece) (max status l.status) start (g.K.Sink.taken l.sink)
       (g.M.ReplayMemory.has l.acceptor.memory) (g.M.ReplayMemory.newest l.acceptor.memory);
+  setup : l.acceptor.setup ≡ l.initial.acceptor.setup;
   counted : g.K.Sink.failure_count l.sink ≡ g.K.Sink.failure_count l.initial.sink;
 }

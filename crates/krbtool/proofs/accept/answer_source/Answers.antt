@@ -1,6 +1,7 @@
 use Rattle.krbtool.specs.Tails.{named}
-use Rattle.std.proofs.Common.{rules, arith, ◌≡◌, ◌+◌, max, ℕ, take, ap, refl, inl, ◌∙◌, Ok}
-use Rattle.krbtool.proofs.GoingLaws.{reached_kept, reached_more, reached_none, reached_start, reached_stop, length-take-below}
+use Rattle.std.proofs.Common.{rules, arith, ◌≡◌, ◌+◌, max, ℕ, take, [], ap, refl, inl, ◌∙◌, Ok}
+use Rattle.krbtool.proofs.GoingLaws.{came_more, reached_kept, reached_more, reached_none, reached_start, reached_stop, length-take-below}
+use Rattle.std.proofs.KnownBytes.{Consumes-nil}
 use Rattle.krbtool.proofs.accept.answer_source.Goals as goal
 
 pub loop-came-init : goal.loop-came-init
@@ -10,6 +11,8 @@ loop-came-init g c = record {
   reached = λ setup history is stands holds. reached_start (named c.args.service) c.args.part.now c.args.acceptor.now.setup setup history
       (g.S.Source.remaining c.args.source.now) (g.K.Sink.taken c.args.sink.now)
       (g.M.ReplayMemory.has c.args.acceptor.now.memory) (g.M.ReplayMemory.newest c.args.acceptor.now.memory) holds is stands;
+  came = record { bytes = []; consumed = Consumes-nil (g.S.Source.remaining c.args.source.now); counted = refl };
+  setup = refl;
   reads = refl;
   writes = refl;
 }
@@ -66,6 +69,10 @@ loop-came-preserved g c = record {
       (g.M.ReplayMemory.newest c.loop-came.acceptor.memory) (g.M.ReplayMemory.newest c.answer_piece.new.acceptor.memory)
       reached c.in_ok-count.ensures.bytes (length-take-below c.in_ok-count.count c.read_some.new.piece c.in_ok-count.ensures.bound.1)
       (c.in_ok-more.ensures.ok setup history reached.came c.loop-came.status (g.K.Sink.taken c.args.sink.now) reached.going));
+  came = came_more (g.S.Source.remaining c.args.source.now) (g.S.Source.remaining c.loop-came.source) (g.S.Source.remaining c.read_some.new.source)
+      c.loop-came.came c.in_ok-count.count (take c.in_ok-count.count c.read_some.new.piece) c.loop-came.invariant.came
+      c.in_ok-count.ensures.bytes (length-take-below c.in_ok-count.count c.read_some.new.piece c.in_ok-count.ensures.bound.1);
+  setup = search (arith, rules);
   reads = search (arith, rules);
   writes = search (arith, rules);
 }
