@@ -14,6 +14,12 @@ pub counts_once : (latest : Option ℤ) (moment : ℤ) → later_of latest (late
 counts_once None moment = refl
 counts_once (Some latest) moment = grind (arith, ints)
 
+-- the latest moment after an advance to the one that counts
+pub moved_on : (latest mid next : Option ℤ) (moment now : ℤ) → now ≡ later_of latest moment → mid ≡ latest → next ≡ Some (later_of mid now)
+    → next ≡ Some (later_of latest moment)
+moved_on latest mid next moment now is_now is_mid is_next =
+    is_next ∙ ap Some (ap (λ (l : Option ℤ). later_of l now) is_mid ∙ (ap (later_of latest) is_now ∙ counts_once latest moment))
+
 still : (latest now time : ℤ) (skew : ℕ) → latest ≤ℤ now → (now -ℤ pos skew) ≤ℤ time → (latest -ℤ pos skew) ≤ℤ time
 still latest now time skew h g = omega (arith, ints)
 

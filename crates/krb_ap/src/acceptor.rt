@@ -113,6 +113,10 @@ impl<M: ReplayMemory> Acceptor<M> {
             → (IsErrOf result OutOfMemory → ⊥)
             → SameStamps (IsShownLately self.old.setup (after history (arrival bytes.now now) result)) (M.has self.new.memory) }
 
+        // Each answer but want of memory, refusals too, moves the latest moment to the one that counts; time doesn't go back.
+        ensures moves { (IsErrOf result OutOfMemory → ⊥)
+            → M.newest self.new.memory ≡ Some (later_of (M.newest self.old.memory) now) }
+
         // The place that a refusal tells is one of the bytes, or their end.
         ensures offset { IfErr result (λ refusal. IfSome (offset_of refusal) (λ at. at ≤ length bytes.now)) }
 
@@ -170,6 +174,8 @@ impl<M: ReplayMemory> Acceptor<M> {
             → StandsFor self.old.setup (M.has self.old.memory) (M.newest self.old.memory) history
             → GoesOn M.KEEPS M.FORGETS self.old.setup self.new.setup history (after history (arrival bytes.now now) result)
             (M.has self.old.memory) (M.has self.new.memory) (M.newest self.new.memory) (IsErrOf result OutOfMemory) }
+        ensures moves { (IsErrOf result OutOfMemory → ⊥)
+            → M.newest self.new.memory ≡ Some (later_of (M.newest self.old.memory) now) }
         ensures offset { IfErr result (λ refusal. IfSome (offset_of refusal) (λ at. at ≤ length bytes.now)) }
         ensures memory { IsErrOf result OutOfMemory → (request : ValueOf ap_req) × Asks bytes.now request }
         ensures unchanged { IsErrOf result OutOfMemory → SameStamps (M.has self.old.memory) (M.has self.new.memory)

@@ -2,6 +2,7 @@
 
 mod broken;
 mod client;
+mod handed_on;
 mod replies;
 mod schedules;
 

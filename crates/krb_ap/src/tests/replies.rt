@@ -327,3 +327,33 @@ fn errors_that_are_told(rt: HostRuntime) -> Result<(), Fail> {
     );
     Ok(())
 }
+
+// The error of the fixture with each code, which stands at the byte 42.
+#[test]
+fn an_error_for_each_refusal(rt: HostRuntime) -> Result<(), Fail> {
+    let service = name(rt.alloc(), "host/web@EX", 3)?;
+    let rows = [
+        (Refusal::MessageType, 40),
+        (Refusal::UserToUser, 45),
+        (Refusal::TicketEtype, 14),
+        (Refusal::NotUs, 35),
+        (Refusal::NoKey, 45),
+        (Refusal::BadKeyVersion, 44),
+        (Refusal::TicketIntegrity, 31),
+        (Refusal::SessionKey, 14),
+        (Refusal::AuthenticatorIntegrity, 31),
+        (Refusal::BadMatch, 36),
+        (Refusal::Repeat, 34),
+        (Refusal::NotYetValid, 33),
+        (Refusal::Expired, 32),
+        (Refusal::Transited, 60),
+        (Refusal::Authorization, 60),
+    ];
+    for (refusal, code) in rows {
+        let mut wanted = hex::decode(rt.alloc(), ERROR)?;
+        *wanted.get_mut(42).ok_or("a code")? = code;
+        let found = error_of(rt.alloc(), refusal, &service)?.map_err(|_| "no error")?;
+        is(&rt, refusal, found.as_slice(), wanted.as_slice());
+    }
+    Ok(())
+}

@@ -12,7 +12,7 @@ use Rattle.krb_ap.specs.Inner.Judging.{IsJudged, IsTurnedAway}
 use Rattle.krb_ap.specs.declared.refusal.Refusal.{Refusal}
 use Rattle.krb_ap.proofs.Truth.{is_so, is_not}
 use Rattle.krb_ap.proofs.Afterwards.{after_named, after_answer, not_memory, refusal_of}
-use Rattle.krb_ap.proofs.Standing.{after_advance, after_exactly, after_forgetting, one_stamp, stands_still}
+use Rattle.krb_ap.proofs.Standing.{after_advance, after_exactly, after_forgetting, moved_on, one_stamp, stands_still}
 use Rattle.krb_ap.proofs.acceptor.Acceptor.decide.Goals as goal
 
 pub returns-then-is_memory-clause-goes_on : goal.returns-then-is_memory-clause-goes_on
@@ -54,6 +54,17 @@ returns-in-Err-clause-goes_on g c = λ history stands.
 
 pub returns-in-Err-clause-unchanged : goal.returns-in-Err-clause-unchanged
 returns-in-Err-clause-unchanged g c = λ memory. absurd (is_not _ _ c.is_memory.ensures c.if-is_memory.false (refusal_of _ _ memory))
+
+pub returns-then-is_memory-clause-moves : goal.returns-then-is_memory-clause-moves
+returns-then-is_memory-clause-moves g c = λ named. absurd (named (ap Err (is_so _ _ c.is_memory.ensures c.if-is_memory.true)))
+
+pub returns-in-Err-clause-moves : goal.returns-in-Err-clause-moves
+returns-in-Err-clause-moves g c = λ named.
+    moved_on _ _ _ c.args.now c.effective-now.result c.effective-now.ensures refl c.advance.ensures.newest
+
+pub returns-in-Ok-remember-clause-moves : goal.returns-in-Ok-remember-clause-moves
+returns-in-Ok-remember-clause-moves g c = λ named.
+    moved_on _ _ _ c.args.now c.effective-now.result c.effective-now.ensures c.in-Ok-remember.ensures.newest c.advance-in-Ok-remember.ensures.newest
 
 pub returns-in-Ok-remember-clause-goes_on : goal.returns-in-Ok-remember-clause-goes_on
 returns-in-Ok-remember-clause-goes_on g c = λ history stands.
