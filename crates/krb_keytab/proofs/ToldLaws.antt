@@ -36,7 +36,7 @@ pub fault_told : (whole bytes : List ℕ) (left : Option (List ℕ)) (entries : 
 fault_told whole bytes left entries Version p q c s = subst (λ (t : List ℕ). IsFaultOf t Version) (all_came whole bytes left c s.all) (s.limit, s.stops.1)
 fault_told whole bytes left entries (Truncated place) p q c s = stands_there whole bytes entries place s.stops.at s.stops.behind IsCutOff (all_came whole bytes left c s.all) s.limit s.stops.reached s.stops.lacks.0 s.stops.lacks.1
 fault_told whole bytes left entries (BadEntry place) p q c s = stands_there whole bytes entries place s.stops.at s.stops.behind HoldsNoEntry (all_came whole bytes left c s.all) s.limit s.stops.reached s.stops.lacks.0 s.stops.lacks.1
-fault_told whole bytes left entries TooLong p q c s = long_told whole bytes left c s.long
+fault_told whole bytes left entries TooLong p q c s = long_told whole bytes left c (omega (arith, s.long))
 fault_told whole bytes left entries NoSuchEntry p q c s = absurd s.stops.lacks
 fault_told whole bytes left entries Read p q c s = absurd (p refl)
 fault_told whole bytes left entries OutOfMemory p q c s = absurd (q refl)
@@ -86,7 +86,7 @@ first_told whole bytes left End all entries c s k = begins_stop whole bytes left
 first_told whole bytes left (Failed Version) all entries c s k = none_begins all entries s.stops.0
 first_told whole bytes left (Failed (Truncated at)) all entries c s k = begins_stop whole bytes left all entries (Some (Truncated at)) c k s.stops
 first_told whole bytes left (Failed (BadEntry at)) all entries c s k = begins_stop whole bytes left all entries (Some (BadEntry at)) c k s.stops
-first_told whole bytes left (Failed TooLong) all entries c s k = let l = k.limit in let m = long_told whole bytes left c s.long in absurd (omega arith)
+first_told whole bytes left (Failed TooLong) all entries c s k = let l = k.limit in let m = long_told whole bytes left c (omega (arith, s.long)) in absurd (omega arith)
 first_told whole bytes left (Failed NoSuchEntry) all entries c s k = absurd s.stops.lacks
 first_told whole bytes left (Failed Read) all entries c s k = begins_first whole bytes left all entries c k s
 first_told whole bytes left (Failed OutOfMemory) all entries c s k = begins_first whole bytes left all entries c k s

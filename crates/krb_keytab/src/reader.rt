@@ -1,11 +1,11 @@
 //! Entries, one at a time.
 
-ghost use Rattle.std.specs.Prelude.{◌≡◌, ◌+◌, ◌-◌, ◌^◌, ◌<◌, ◌≤◌, ℕ, List, [], ◌++◌, IfSome, if◌then◌else◌, is_some};
+ghost use Rattle.std.specs.Prelude.{◌≡◌, ◌+◌, ◌-◌, ◌^◌, ◌<◌, ◌≤◌, ℕ, List, [], ◌++◌, None, IfSome, if◌then◌else◌, is_some};
 ghost use Rattle.std.specs.Io.KnownBytes.{Consumes};
 ghost use Rattle.krb_keytab.specs.Entry.{KeytabEntry};
 ghost use Rattle.krb_keytab.specs.Fault.{failed_reads};
 ghost use Rattle.krb_keytab.specs.Format.{file_limit};
-ghost use Rattle.krb_keytab.specs.Items.{HasRead, stage_after, entries_after, last_answer};
+ghost use Rattle.krb_keytab.specs.Items.{HasRead, stage_after, entries_after, last_answer, GivesMore};
 ghost use Rattle.krb_keytab.specs.Inner.Meeting.{MeetsFirst};
 
 use crate::entry::Entry;
@@ -59,6 +59,7 @@ impl<S: Source> EntryReader<S> {
     pub fn new(alloc: Global, source: S) -> Self
         ensures source { result.source ≡ source }
         ensures start { HasRead (S.remaining source) result [] [] }
+        ensures open { last_answer result.stage ≡ None }
     {
         EntryReader {
             window: Window::new(alloc, source),
@@ -111,6 +112,8 @@ impl<S: Source> EntryReader<S> {
             → (piece : List ℕ) × Consumes (S.remaining self.old.source) (S.remaining self.new.source) piece
             × HasRead (S.remaining self.new.source) self.new (bytes ++ piece) (entries_after entries result) }
         ensures stage { self.new.stage ≡ stage_after result }
+
+        ensures more { GivesMore result self.old.given self.new.given }
 
         // What was answered last is answered again, and nothing is read.
         ensures again { IfSome (last_answer self.old.stage) (λ answer.

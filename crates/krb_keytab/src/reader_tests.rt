@@ -150,22 +150,47 @@ fn version_numbers(rt: HostRuntime) -> Result<(), Fail> {
     Ok(())
 }
 
-// Looks for a version or a record that is answered before the length of the whole.
+// A file that begins with 5 and this byte, and has so many bytes.
+fn file_of(alloc: Global, second: u8, length: usize) -> Result<Vec<u8>, Fail> {
+    let mut file = Vec::from_slice(alloc, &[5, second])?;
+    file.resize(length, 0)?;
+    Ok(file)
+}
+
+// The first answer and the second, which have to be faults.
+fn faults(alloc: Global, bytes: &[u8]) -> [Option<KeytabFault>; 2] {
+    let mut reader = EntryReader::new(alloc, SliceSource::new(bytes));
+    let first = reader.next(alloc).err();
+    [first, reader.next(alloc).err()]
+}
+
+// Looks for a version that is answered before the length of the whole.
 #[test]
 fn too_many_bytes(rt: HostRuntime) -> Result<(), Fail> {
-    let alloc = rt.alloc();
-    let mut file = vec![in alloc; 0u8; 16_777_217]?;
-    for (version, wanted) in [(1, KeytabFault::TooLong), (2, KeytabFault::TooLong)] {
-        file[0] = 5;
-        file[1] = version;
-        let mut reader = EntryReader::new(alloc, SliceSource::new(&file));
-        is(&rt, reader.next(alloc).err(), Some(wanted));
-        is(&rt, reader.next(alloc).err(), Some(wanted));
-        is(&rt, reader.held() <= 4, true);
-    }
-    file[1] = 1;
-    let mut reader = EntryReader::new(alloc, SliceSource::new(&file[..16_777_216]));
-    is(&rt, reader.next(alloc).err(), Some(KeytabFault::Version));
+    let file = file_of(rt.alloc(), 1, 16_777_217)?;
+    is(
+        &rt,
+        faults(rt.alloc(), &file),
+        [Some(KeytabFault::TooLong); 2],
+    );
+    is(
+        &rt,
+        faults(rt.alloc(), &file[..16_777_216]),
+        [Some(KeytabFault::Version); 2],
+    );
+    Ok(())
+}
+
+// Looks for an end that is answered before the length of the whole.
+#[test]
+fn too_many_bytes_behind_the_end(rt: HostRuntime) -> Result<(), Fail> {
+    let file = file_of(rt.alloc(), 2, 16_777_217)?;
+    is(
+        &rt,
+        faults(rt.alloc(), &file),
+        [Some(KeytabFault::TooLong); 2],
+    );
+    is(&rt, faults(rt.alloc(), &file[..16_777_216]), [None; 2]);
     Ok(())
 }
 
