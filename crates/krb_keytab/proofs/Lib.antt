@@ -18,3 +18,4 @@ pub mod AddLaws
 pub mod FaultPlaces
 pub mod MeetLaws
 pub mod StandLaws
+pub mod ToldLaws

@@ -115,6 +115,22 @@ same_list (one ∷ ones) (other ∷ others) b c p q e f g =
     let bytes : record_bytes one ≡ record_bytes other = append_cancel_right (record_bytes one) (record_bytes other) y (ap (λ (t : List ℕ). record_bytes one ++ t) (sym rest) ∙ both) in
     ap (λ (r : KeytabRecord). r ∷ ones) (same_record one other p.0 q.0 s.0 bytes) ∙ ap (λ (t : List KeytabRecord). other ∷ t) (same_list ones others b c p.1 q.1 rest f g)
 
+-- records that lie before others are the first of all, where no more follow
+pub first_records : (ones others : List KeytabRecord) (b c : List ℕ) → AllByRecursion FitsRecord ones → AllByRecursion FitsRecord others → flat_map record_bytes ones ++ b ≡ flat_map record_bytes others ++ c → IsEnd c → (more : List KeytabRecord) × (others ≡ ones ++ more)
+first_records [] others b c p q e g = (others, refl)
+first_records (one ∷ ones) [] b c p q e g = absurd (not_ended one ones c b p.0 (sym e) g)
+first_records (one ∷ ones) (other ∷ others) b c p q e g =
+    let x : List ℕ = flat_map record_bytes ones ++ b in
+    let y : List ℕ = flat_map record_bytes others ++ c in
+    let both : record_bytes one ++ x ≡ record_bytes other ++ y = sym (first_is one ones b) ∙ e ∙ first_is other others c in
+    let stands : standing one (record { at = 0 + length (record_bytes one); rest = x }) ≡ standing other (record { at = 0 + length (record_bytes other); rest = y }) =
+    sym (again_record 0 one x p.0) ∙ ap (λ (t : List ℕ). record_at (record { at = 0; rest = t })) both ∙ again_record 0 other y q.0 in
+    let s = same_standing one other _ _ stands in
+    let rest : x ≡ y = ap (λ (k : Place). k.rest) s.1 in
+    let bytes : record_bytes one ≡ record_bytes other = append_cancel_right (record_bytes one) (record_bytes other) y (ap (λ (t : List ℕ). record_bytes one ++ t) (sym rest) ∙ both) in
+    let m = first_records ones others b c p.1 q.1 rest g in
+    (m.0, ap (λ (r : KeytabRecord). r ∷ others) (sym (same_record one other p.0 q.0 s.0 bytes)) ∙ ap (λ (t : List KeytabRecord). one ∷ t) m.1)
+
 pub same_records : {bytes : List ℕ} {ones others : List KeytabRecord} {b c : List ℕ} → IsMadeOf bytes ones b → IsMadeOf bytes others c → ones ≡ others
 same_records {bytes} {ones} {others} {b} {c} m n =
     same_list ones others b c (recursion_from_All FitsRecord ones m.fit) (recursion_from_All FitsRecord others n.fit) (append_cancel_left version _ _ (sym m.bytes_are ∙ n.bytes_are)) m.is_end n.is_end

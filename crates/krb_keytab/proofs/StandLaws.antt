@@ -9,7 +9,7 @@ use Rattle.std.proofs.lemmas.List.Elements.{All-push}
 use Rattle.krb_name.specs.Window.{AtHand}
 use Rattle.krb_keytab.specs.Entry.{KeytabEntry}
 use Rattle.krb_keytab.specs.Format.{version, file_limit, record_bytes, FitsRecord, entries_of, IsReached}
-use Rattle.krb_keytab.specs.Items.{LacksVersion, LacksRecord, Stops, StopsSo, IsTooLong, Concludes, AreFirst, StandsTo, IsPartOfRecord, HasMet, HasRead, EntriesRead, stage_after, entries_after}
+use Rattle.krb_keytab.specs.Items.{LacksVersion, LacksRecord, Stops, StopsSo, IsTooLong, Concludes, AreFirst, StandsTo, IsPartOfRecord, HasMet, HasRead, EntriesRead, stage_after, entries_after, GivesMore}
 use Rattle.krb_keytab.specs.Inner.Meeting.{Moves, Peaks, RanOut, OpensAt, MeetsVersion, IsWhole, IsLastAt, IsLongAt, Meets, MeetsOne, PassesHoles, MeetsNext, MeetsFirst, IsWithin}
 use Rattle.krb_keytab.specs.declared.fault.KeytabFault.{KeytabFault}
 use Rattle.krb_keytab.specs.declared.fault.KeytabFault.TheVariants.{Version, Truncated, BadEntry, TooLong, NoSuchEntry, Read, OutOfMemory}
@@ -17,7 +17,7 @@ use Rattle.krb_keytab.specs.declared.found.Found.{Found}
 use Rattle.krb_keytab.specs.declared.found.Found.TheVariants.{End, Hole, Entry}
 use Rattle.krb_keytab.specs.declared.stage.Stage.{Stage}
 use Rattle.krb_keytab.specs.declared.stage.Stage.TheVariants.{Start, Records}
-use Rattle.krb_keytab.proofs.FileLaws.{reach_start}
+use Rattle.krb_keytab.proofs.FileLaws.{reach_start, record_first}
 use Rattle.krb_keytab.proofs.ScanLaws.{flat_push}
 use Rattle.krb_keytab.proofs.MeetLaws.{cut_behind}
 
@@ -173,14 +173,15 @@ passes_hole from mid to old between new h m = record {
 }
 
 next_by : {S : Type 0} (from mid to : Option (List ℕ)) (old between new : AtHand S) (found : Result Found KeytabFault) (answer : Result (Option KeytabEntry) KeytabFault) → PassesHoles from mid old between → (m : MeetsOne mid to between new found)
-    → IsWithin (stage_after answer) new.given
+    → IsWithin (stage_after answer) new.given → GivesMore answer old.given new.given
     → ((some : List ℕ) (entries : List KeytabEntry) → IsReached some (length some) entries [] → length some ≤ file_limit → Meets to (length some) m.piece found → StandsTo to (stage_after answer) (some ++ m.piece) (entries_after entries answer))
     → MeetsNext from to old new answer
-next_by from mid to old between new found answer h m within ends = record {
+next_by from mid to old between new found answer h m within more ends = record {
   piece = h.piece ++ m.piece;
   moves = moves_on from mid to old between new h.piece m.piece h.moves m.moves;
   low = λ l. m.peaks.low (h.low l);
   within = within;
+  more = more;
   stands = λ bytes entries given limit reached.
       let some : List ℕ = bytes ++ h.piece in
       let here = come from mid old between bytes h.piece h.moves given in
@@ -192,17 +193,22 @@ next_by from mid to old between new found answer h m within ends = record {
 }
 
 pub next_end : {S : Type 0} (from mid to : Option (List ℕ)) (old between new : AtHand S) → PassesHoles from mid old between → MeetsOne mid to between new (Ok End) → MeetsNext from to old new (Ok None)
-next_end from mid to old between new h m = next_by from mid to old between new (Ok End) (Ok None) h m tt (λ some entries reached limit meets. end_stands some entries reached to m.piece meets)
+next_end from mid to old between new h m = next_by from mid to old between new (Ok End) (Ok None) h m tt tt (λ some entries reached limit meets. end_stands some entries reached to m.piece meets)
 
 pub next_entry : {S : Type 0} (from mid to : Option (List ℕ)) (old between new : AtHand S) (e : KeytabEntry) → PassesHoles from mid old between → MeetsOne mid to between new (Ok (Entry e)) → MeetsNext from to old new (Ok (Some e))
 next_entry from mid to old between new e h m =
-    next_by from mid to old between new (Ok (Entry e)) (Ok (Some e)) h m (omega (arith, m.meets.limit, m.moves.given)) (λ some entries reached limit meets. entry_stands some entries reached to m.piece e meets)
+    next_by from mid to old between new (Ok (Entry e)) (Ok (Some e)) h m (omega (arith, m.meets.limit, m.moves.given)) (omega (arith, m.moves.given, h.moves.given, ap length m.meets.piece_is, record_first m.meets.one), omega (arith, m.meets.limit, m.moves.given)) (λ some entries reached limit meets. entry_stands some entries reached to m.piece e meets)
 
 pub next_fault : {S : Type 0} (from mid to : Option (List ℕ)) (old between new : AtHand S) (fault : KeytabFault) → PassesHoles from mid old between → MeetsOne mid to between new (Err fault) → MeetsNext from to old new (Err fault)
 next_fault from mid to old between new fault h m =
-    next_by from mid to old between new (Err fault) (Err fault) h m tt (λ some entries reached limit meets. failed_stands some entries reached to m.piece fault limit meets)
+    next_by from mid to old between new (Err fault) (Err fault) h m tt tt (λ some entries reached limit meets. failed_stands some entries reached to m.piece fault limit meets)
 
 -- ---- the first answer
+
+more_after : (old between new : ℕ) (answer : Result (Option KeytabEntry) KeytabFault) → old ≤ between → GivesMore answer between new → GivesMore answer old new
+more_after old between new (Ok (Some e)) within more = (omega (arith, within, more.0), more.1)
+more_after old between new (Ok None) within more = tt
+more_after old between new (Err fault) within more = tt
 
 pub first_next : {S : Type 0} (from mid to : Option (List ℕ)) (old between new : AtHand S) (opened : Unit) (answer : Result (Option KeytabEntry) KeytabFault) → OpensAt from mid old between (Ok opened) → old.given ≡ 0
     → MeetsNext mid to between new answer → MeetsFirst from to old new answer
@@ -215,6 +221,7 @@ first_next from mid to old between new opened answer o start n =
       moves = moves_on from mid to old between new o.piece n.piece o.moves n.moves;
       low = λ l. n.low (o.peaks.low l);
       within = n.within;
+      more = more_after old.given between.given new.given answer (omega (arith, start)) n.more;
       stands = n.stands o.piece [] here (omega (arith, few)) reached;
       met = λ m. n.met o.piece [] here reached (met_version o.piece old.peak between.peak o.peaks m);
     }
@@ -234,6 +241,7 @@ first_fault from to old new fault o = record {
   moves = o.moves;
   low = o.peaks.low;
   within = tt;
+  more = tt;
   stands = version_stands to o.piece fault o.meets;
   met = λ m. met_version o.piece old.peak new.peak o.peaks m;
 }

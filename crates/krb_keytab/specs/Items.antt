@@ -1,5 +1,5 @@
 -- Entries that are read one at a time: what a source has given so far, the entries that were given of it, and where their reader stands.
-use Rattle.std.specs.Prelude.{◌≡◌, ◌≢◌, ◌⊎◌, ℕ, ◌<◌, ◌≤◌, ℤ, unsigned_abs, List, [], ◌∷◌, ◌++◌, length, take, Option, Some, None, Result, Ok, Err}
+use Rattle.std.specs.Prelude.{◌≡◌, ◌≢◌, ◌⊎◌, ⊤, ℕ, ◌+◌, ◌<◌, ◌≤◌, ℤ, unsigned_abs, List, [], ◌∷◌, ◌++◌, length, take, Option, Some, None, Result, Ok, Err}
 use Rattle.std.specs.Int.{w32}
 use Rattle.std.specs.Io.KnownBytes.{IsAtEnd}
 use Rattle.krb_name.specs.Cursor.{signed_bytes}
@@ -41,9 +41,9 @@ abbrev pub StopsSo : List ℕ → List KeytabEntry → Option KeytabFault → Ty
 StopsSo bytes entries (Some Version) = (entries ≡ []) × LacksVersion bytes
 StopsSo bytes entries last = Stops bytes entries last
 
--- the entries of too many bytes are those of the bytes within the limit
+-- one byte past the limit has come; the entries are those of the bytes within it
 pub record IsTooLong (bytes : List ℕ) (entries : List KeytabEntry) : Type 0 where
-  pub long : file_limit < length bytes
+  pub long : length bytes ≡ file_limit + 1
   pub last : Option KeytabFault
   pub stops : StopsSo (take file_limit bytes) entries last
 
@@ -101,6 +101,12 @@ abbrev pub entries_after : List KeytabEntry → Result (Option KeytabEntry) Keyt
 entries_after entries (Ok (Some entry)) = entries ++ entry ∷ []
 entries_after entries (Ok None) = entries
 entries_after entries (Err fault) = entries
+
+-- the source gave a byte at least before an entry, and no more than a file has
+abbrev pub GivesMore : Result (Option KeytabEntry) KeytabFault → ℕ → ℕ → Type 0
+GivesMore (Ok (Some entry)) old new = (old < new) × (new ≤ file_limit)
+GivesMore (Ok None) old new = ⊤
+GivesMore (Err fault) old new = ⊤
 
 -- what is answered from here on, where that is known
 abbrev pub last_answer : Stage → Option (Result (Option KeytabEntry) KeytabFault)

@@ -206,6 +206,7 @@ fn conclude<S: Source, T: Drop>(
     last: Result<T, KeytabFault>,
 ) -> Result<T, KeytabFault>
     requires reads { S.failure_count window.old.source < 2 ^ 64 - 1 }
+    requires limit { window.old.given ≤ file_limit }
     requires last { failed_reads last ≡ 0 }
     ensures runs_out { RunsOutTo (S.remaining window.old.source) (S.remaining window.new.source)
         window.old window.new last result }

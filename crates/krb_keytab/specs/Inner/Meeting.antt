@@ -6,7 +6,7 @@ use Rattle.krb_name.specs.Cursor.{signed_bytes}
 use Rattle.krb_name.specs.Window.{AtHand}
 use Rattle.krb_keytab.specs.Entry.{KeytabEntry}
 use Rattle.krb_keytab.specs.Format.{version, file_limit, KeytabRecord, record_bytes, FitsRecord, entries_of, IsReached}
-use Rattle.krb_keytab.specs.Items.{LacksRecord, LacksVersion, IsPartOfRecord, HasMet, StandsTo, stage_after, entries_after}
+use Rattle.krb_keytab.specs.Items.{LacksRecord, LacksVersion, IsPartOfRecord, HasMet, StandsTo, stage_after, entries_after, GivesMore}
 use Rattle.krb_keytab.specs.declared.fault.KeytabFault.{KeytabFault}
 use Rattle.krb_keytab.specs.declared.fault.KeytabFault.TheVariants.{Version, Truncated, TooLong, Read, OutOfMemory}
 use Rattle.krb_keytab.specs.declared.found.Found.{Found}
@@ -37,7 +37,7 @@ pub record Peaks (IsPart : List ℕ → Type 0) (piece : List ℕ) (old new : �
 
 -- the source was read to its end, or past the limit, behind what the last answer rests on; or a read failed
 abbrev pub RanOut : {T : Type 0} → Result T KeytabFault → Result T KeytabFault → Option (List ℕ) → ℕ → Type 0
-RanOut last answer left given = ((answer ≡ last) × (given ≤ file_limit) × IsAtEnd left) ⊎ (((answer ≡ Err TooLong) × (file_limit < given)) ⊎ (answer ≡ Err Read))
+RanOut last answer left given = ((answer ≡ last) × (given ≤ file_limit) × IsAtEnd left) ⊎ (((answer ≡ Err TooLong) × (given ≡ file_limit + 1)) ⊎ (answer ≡ Err Read))
 
 pub record RunsOutTo {S T : Type 0} (from to : Option (List ℕ)) (old new : AtHand S) (last answer : Result T KeytabFault) : Type 0 where
   pub piece : List ℕ
@@ -50,7 +50,7 @@ pub record RunsOutTo {S T : Type 0} (from to : Option (List ℕ)) (old new : AtH
 abbrev pub MeetsVersion : Option (List ℕ) → List ℕ → Result Unit KeytabFault → Type 0
 MeetsVersion left piece (Ok _) = piece ≡ version
 MeetsVersion left piece (Err Version) = (length piece ≤ file_limit) × IsAtEnd left × LacksVersion piece
-MeetsVersion left piece (Err TooLong) = (file_limit < length piece) × LacksVersion (take file_limit piece)
+MeetsVersion left piece (Err TooLong) = (length piece ≡ file_limit + 1) × LacksVersion (take file_limit piece)
 MeetsVersion left piece (Err Read) = ⊤
 MeetsVersion left piece (Err OutOfMemory) = ⊤
 MeetsVersion left piece (Err _) = ⊥
@@ -78,7 +78,7 @@ pub record IsLastAt (left : Option (List ℕ)) (at : ℕ) (piece : List ℕ) (la
 
 -- none stands there, and too many bytes have come
 pub record IsLongAt (at : ℕ) (piece : List ℕ) : Type 0 where
-  pub long : file_limit < at + length piece
+  pub long : at + length piece ≡ file_limit + 1
   pub last : Option KeytabFault
   pub lacks : LacksRecord at last (take (file_limit - at) piece)
 
@@ -148,6 +148,7 @@ pub record MeetsNext {S : Type 0} (from to : Option (List ℕ)) (old new : AtHan
   pub moves : Moves from to old new piece
   pub low : old.peak ≤ file_limit → new.peak ≤ file_limit
   pub within : IsWithin (stage_after answer) new.given
+  pub more : GivesMore answer old.given new.given
   pub stands : (bytes : List ℕ) (entries : List KeytabEntry) → old.given ≡ length bytes → length bytes ≤ file_limit → IsReached bytes (length bytes) entries [] → StandsTo to (stage_after answer) (bytes ++ piece) (entries_after entries answer)
   pub met : (bytes : List ℕ) (entries : List KeytabEntry) → old.given ≡ length bytes → IsReached bytes (length bytes) entries [] → HasMet bytes old.peak → HasMet (bytes ++ piece) new.peak
 
@@ -158,5 +159,6 @@ pub record MeetsFirst {S : Type 0} (from to : Option (List ℕ)) (old new : AtHa
   pub moves : Moves from to old new piece
   pub low : old.peak ≤ file_limit → new.peak ≤ file_limit
   pub within : IsWithin (stage_after answer) new.given
+  pub more : GivesMore answer old.given new.given
   pub stands : StandsTo to (stage_after answer) piece (entries_after [] answer)
   pub met : HasMet [] old.peak → HasMet piece new.peak
