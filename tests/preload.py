@@ -91,17 +91,13 @@ def with_answer(program, command):
     return Command(command.words, command.file, command.stdin, found.wrote, found.out, found.status)
 
 
-def call_lines():
+def calls(program):
     """Lines of each kind: a request, the same again, no request, another form, and a repeat."""
     lines = (generated.EXAMPLES / "calls.txt").read_bytes().splitlines(keepends=True)
-    return lines + lines[:1]
-
-
-def calls(program):
-    return with_answer(program, called(call_lines()))
+    return with_answer(program, called(lines + lines[:1]))
 
 
 def calls_with_tails(program):
-    """The same as the service of this name, with a confounder behind each line: a reply or an error follows each answer."""
-    lines = [line.rstrip(b"\n") + b" " + b"5a" * 16 + b"\n" for line in call_lines()]
-    return with_answer(program, called(lines, *TAILS))
+    """A service of this name, which gets a request for a reply, no request, another form, and the first again."""
+    mutual = f"1700000100 5 {fixture.request(0x20000000).hex()} {'5a' * 16}\n".encode()
+    return with_answer(program, called([mutual, b"1700000100 7 -\n", b"hello\n", mutual], *TAILS))
