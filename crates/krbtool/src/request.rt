@@ -7,6 +7,7 @@ ghost use Rattle.krb_name.specs.Reading.{IsReadAs, SameAnswer};
 ghost use Rattle.krb_name.specs.declared.principal.Principal.{Principal};
 ghost use Rattle.krb_name.specs.declared.text_fault.TextFault.{TextFault};
 ghost use Rattle.krb_ccache.specs.Format.{IsCache, IsFaultOf};
+ghost use Rattle.krb_ccache.specs.Value.{Cache};
 ghost use Rattle.krb_ccache.specs.declared.fault.CacheFault.{CacheFault};
 ghost use Rattle.krb_ap.specs.Request.{Prevents};
 ghost use Rattle.krb_ap.specs.declared.request_fault.RequestFault.{RequestFault};
@@ -17,6 +18,7 @@ ghost use Rattle.krbtool.specs.Requesting.{IsRequested, plain_options, request_l
 
 use crate::call_line::confounder_of;
 use crate::fault::EngineFault;
+use krb_ap::laws::built_or_prevented;
 use krb_ap::{RequestFault, RequestOptions, make_request};
 use krb_ccache::CCache;
 use krb_msg::Moment;
@@ -76,7 +78,8 @@ pub fn request_line<S: Source, T: Sink>(
         (bytes : List ℕ) × (IsRequested cache service.now at confounder.now wants_reply bytes
         × Appends (T.taken sink.old) (T.taken sink.new) (request_line bytes)))) }
 
-    // A fault of the content is the file's own, and is answered wherever the file has it; or it prevents the request.
+    // A fault of the content is the file's own, and is answered wherever the file has it; or it prevents the request, and nothing
+    // is requested wherever something does.
     ensures fault { IfErr result (λ e. IfSome (cache_fault e) (λ fault.
         IfSome (S.remaining source.old) (λ bytes. IsFaultOf bytes fault))) }
     ensures faulty { (bytes : List ℕ) (fault : CacheFault)
@@ -84,6 +87,9 @@ pub fn request_line<S: Source, T: Sink>(
     ensures prevented { IfErr result (λ e. IfSome (request_fault e) (λ fault.
         OfFile IsCache (S.remaining source.old) (λ cache.
         Prevents cache service.now at confounder.now (plain_options wants_reply) fault))) }
+    ensures none { (bytes : List ℕ) (cache : Cache) (fault : RequestFault)
+        → S.remaining source.old ≡ Some bytes → IsCache bytes cache
+        → Prevents cache service.now at confounder.now (plain_options wants_reply) fault → OnOk result ⊥ }
 
     // Where there is no request, the sink is as it was; at any other fault it took a beginning of the line.
     ensures unread { (fault : CacheFault) → result ≡ Err (EngineFault.Cache fault)
@@ -116,6 +122,8 @@ fn write_request<T: Sink>(
         × Appends (T.taken sink.old) (T.taken sink.new) (request_line bytes))) }
     ensures prevented { IfErr result (λ e. IfSome (request_fault e) (λ fault.
         Prevents cache.now service.now at confounder.now (plain_options wants_reply) fault)) }
+    ensures none { (fault : RequestFault)
+        → Prevents cache.now service.now at confounder.now (plain_options wants_reply) fault → OnOk result ⊥ }
     ensures unmade { (fault : RequestFault) → result ≡ Err (EngineFault.Request fault)
         → Keeps (T.taken sink.old) (T.taken sink.new) }
     ensures begun { (result ≡ Err EngineFault.Write) ⊎ (result ≡ Err EngineFault.OutOfMemory)
@@ -126,6 +134,7 @@ fn write_request<T: Sink>(
     ensures which { IfErr result IsOfRequest }
     ensures writes { T.failure_count sink.new ≡ T.failure_count sink.old + failed_writes result }
 {
+    built_or_prevented();
     let bytes = requested(alloc, cache, service, at, confounder, wants_reply)?;
     let line = line_of(alloc, &bytes)?;
     write_all(sink, line.as_bytes())?;

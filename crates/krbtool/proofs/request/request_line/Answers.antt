@@ -1,4 +1,4 @@
-use Rattle.std.proofs.Common.{ℕ, List, ◌∙◌, ap, Err}
+use Rattle.std.proofs.Common.{ℕ, List, ◌∙◌, ap, Err, Ok}
 use Rattle.std.specs.Io.KnownBytes.{Appends}
 use Rattle.std.proofs.lemmas.Result.{err_from_is_err_and}
 use Rattle.krb_name.specs.Flow.{AppendsBeginning}
@@ -7,7 +7,7 @@ use Rattle.krb_ccache.specs.Value.{Cache}
 use Rattle.krb_ccache.specs.declared.fault.CacheFault.TheVariants.{OutOfMemory, Read}
 use Rattle.krbtool.specs.declared.fault.EngineFault.TheVariants.{Cache as OfCache}
 use Rattle.krbtool.specs.Requesting.{IsRequested, request_line}
-use Rattle.krbtool.proofs.FaultLaws.{passed_on, none_met}
+use Rattle.krbtool.proofs.FaultLaws.{passed_on, none_met, value_met}
 use Rattle.krbtool.proofs.FileLaws.{of_file, ok_of_file}
 use Rattle.krbtool.proofs.request.request_line.Goals as goal
 
@@ -34,3 +34,8 @@ returns-clause-begun g c = λ which.
     (λ (cache : Cache). (bytes : List ℕ) × (IsRequested cache c.args.service.now c.args.at c.args.confounder.now c.args.wants_reply bytes
     × AppendsBeginning (g.T.Sink.taken c.args.sink.now) (g.T.Sink.taken c.write_request.new.sink) (request_line bytes)))
     c.in_ok-cache.ensures.found (c.write_request.ensures.begun which)
+
+pub returns-clause-none : goal.returns-clause-none
+returns-clause-none g c = λ bytes cache fault tells is prevents.
+    let same = value_met OutOfMemory Read c.read.result c.in_ok-cache.cache cache c.in_ok-cache.was (c.read.ensures.only bytes (Ok cache) tells is) in
+    c.write_request.ensures.none fault (rw same prevents)

@@ -3,7 +3,7 @@ use Rattle.std.proofs.lemmas.Result.{err_from_is_err_and}
 use Rattle.krbtool.specs.declared.fault.EngineFault.TheVariants.{Write, OutOfMemory}
 use Rattle.krbtool.proofs.FaultLaws.{no_ok, not_written}
 use Rattle.krbtool.proofs.LineLaws.{nothing_begun}
-use Rattle.krbtool.specs.Requesting.{request_line}
+use Rattle.krbtool.specs.Requesting.{plain_options, request_line}
 use Rattle.krbtool.proofs.request.write_request.Goals as goal
 
 pub returns-in_err-bytes-clause-begun : goal.returns-in_err-bytes-clause-begun
@@ -35,3 +35,8 @@ returns-clause-requested g c = (
 
 pub returns-clause-begun : goal.returns-clause-begun
 returns-clause-begun g c = λ which. elim which [ inl e ↦ absurd (no_ok tt Write e) | inr e ↦ absurd (no_ok tt OutOfMemory e) ]
+
+pub returns-clause-none : goal.returns-clause-none
+returns-clause-none g c = λ fault prevents.
+    c.built_or_prevented.ensures c.args.cache.now c.args.service.now c.args.at c.args.confounder.now (plain_options c.args.wants_reply)
+    c.in_ok-bytes.bytes.items c.in_ok-bytes.ensures.request.awaited fault c.in_ok-bytes.ensures.request.request prevents
