@@ -164,33 +164,20 @@ fn faults(alloc: Global, bytes: &[u8]) -> [Option<KeytabFault>; 2] {
     [first, reader.next(alloc).err()]
 }
 
-// Looks for a version that is answered before the length of the whole.
+// Looks for a version or an end that is answered before the length of the whole.
 #[test]
 fn too_many_bytes(rt: HostRuntime) -> Result<(), Fail> {
-    let file = file_of(rt.alloc(), 1, 16_777_217)?;
-    is(
-        &rt,
-        faults(rt.alloc(), &file),
-        [Some(KeytabFault::TooLong); 2],
-    );
-    is(
-        &rt,
-        faults(rt.alloc(), &file[..16_777_216]),
-        [Some(KeytabFault::Version); 2],
-    );
-    Ok(())
-}
-
-// Looks for an end that is answered before the length of the whole.
-#[test]
-fn too_many_bytes_behind_the_end(rt: HostRuntime) -> Result<(), Fail> {
-    let file = file_of(rt.alloc(), 2, 16_777_217)?;
-    is(
-        &rt,
-        faults(rt.alloc(), &file),
-        [Some(KeytabFault::TooLong); 2],
-    );
-    is(&rt, faults(rt.alloc(), &file[..16_777_216]), [None; 2]);
+    let alloc = rt.alloc();
+    let table = [
+        (1, 16_777_216, Some(KeytabFault::Version)),
+        (1, 16_777_217, Some(KeytabFault::TooLong)),
+        (2, 16_777_216, None),
+        (2, 16_777_217, Some(KeytabFault::TooLong)),
+    ];
+    for (second, length, wanted) in table {
+        let file = file_of(alloc, second, length)?;
+        is(&rt, faults(alloc, &file), [wanted; 2]);
+    }
     Ok(())
 }
 
