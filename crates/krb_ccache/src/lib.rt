@@ -43,6 +43,8 @@ pub use reader::CredentialReader;
 pub use typed::{TypedBytes, TypedList};
 
 #[cfg(test)]
+mod reader_tests;
+#[cfg(test)]
 mod samples;
 #[cfg(test)]
 mod size_tests;
