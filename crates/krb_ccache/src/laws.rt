@@ -8,6 +8,7 @@ ghost use Rattle.krb_ccache.specs.Configuration.{HoldsOffset};
 ghost use Rattle.krb_ccache.specs.Format.{file_limit, written, IsCache, IsAnswerOf, IsFaultOf};
 ghost use Rattle.krb_ccache.specs.Fault.{offset_of};
 ghost use Rattle.krb_ccache.specs.Offset.{clock_offset};
+ghost use Rattle.krb_ccache.specs.Reader.{GoesTo};
 ghost use Rattle.krb_ccache.specs.Source.{IsGiven};
 ghost use Rattle.krb_ccache.specs.Value.{Cache, Fits};
 
@@ -63,4 +64,11 @@ pub fn each_fault_lies_within()
 pub fn a_source_tells_its_file()
     ensures { (whole bytes : List ℕ) (left : Option (List ℕ)) (answer : Result Cache CacheFault)
         → IsGiven (Some whole) left bytes → IsAnswerOf bytes answer → IsAnswerOf whole answer }
+{}
+
+/// Says that the credentials that a reader gives of a file, up to the first place where none stands that
+/// ends within the limit, are one list.
+pub fn a_reader_stops_in_one_place()
+    ensures { (bytes : List ℕ) (one other : Cache)
+        → GoesTo bytes one → GoesTo bytes other → one ≡ other }
 {}
