@@ -1,10 +1,10 @@
 -- What a reader has taken of a file, step by step.
-use Rattle.std.proofs.Common.{◌≡◌, ℕ, ◌+◌, ◌≤◌, List, [], ◌∷◌, ◌++◌, length, Option, Some, None, Result, Ok, Err, refl, sym, ap, subst, ◌∙◌, append_assoc, append-nil, arith, inl, inr}
+use Rattle.std.proofs.Common.{◌≡◌, ℕ, ◌+◌, ◌-◌, ◌≤◌, take, drop, ap₂, List, [], ◌∷◌, ◌++◌, length, Option, Some, None, Result, Ok, Err, refl, sym, ap, subst, ◌∙◌, append_assoc, append-nil, arith, inl, inr}
 use Rattle.std.specs.Prelude.{◌≢◌, IfOk, IfErr, IfSome}
 use Rattle.std.specs.List.{flat_map}
 use Rattle.std.specs.Io.KnownBytes.{Consumes, IsAtEnd}
 use Rattle.std.proofs.KnownBytes.{Consumes-trans, Consumes-nil}
-use Rattle.std.proofs.lemmas.List.{length-append, nil_from_length}
+use Rattle.std.proofs.lemmas.List.{length-append, nil_from_length, length-take, take_at, take-append-le, take-append-drop}
 use Rattle.std.proofs.lemmas.List.Concat.{flat_map-append}
 use Rattle.std.proofs.lemmas.List.Elements.{All-push, All-nil}
 use Rattle.krb_name.specs.Window.{AtHand}
@@ -15,12 +15,70 @@ use Rattle.krb_ccache.specs.Spelling.{header_bytes, name_bytes, credential_bytes
 use Rattle.krb_ccache.specs.Value.{Cache, cache_of, FitsHeader, FitsName, FitsCredential, Fits}
 use Rattle.krb_ccache.specs.Format.{version, file_limit, start_bytes, written, Layout, version_4, version_of, IsReached, IsCache, IsFaultOf}
 use Rattle.krb_ccache.specs.Source.{IsGiven}
-use Rattle.krb_ccache.specs.Reader.{Reading, ended_by, HasTaken, HasRead, PassesNone, with_credential}
+use Rattle.krb_ccache.specs.Reader.{Reading, ended_by, HasTaken, HasRead, GoesTo, with_credential}
 use Rattle.krb_ccache.specs.declared.fault.CacheFault.{CacheFault}
 use Rattle.krb_ccache.specs.declared.fault.CacheFault.TheVariants.{Version, Header, BadItem, TooLong, Read, OutOfMemory}
 use Rattle.krb_ccache.specs.Inner.Version4.{IsFaultOf4}
-use Rattle.krb_ccache.specs.Inner.Stepping.{Any, Comes, Gives, Misses, IsStep}
+use Rattle.krb_ccache.specs.Inner.Stepping.{Any, Comes, Gives, Tells, Misses, IsStep}
+use Rattle.std.proofs.lemmas.Bool.{cases_lt}
+use Rattle.std.proofs.Math.Seq.{take-append-add}
+use Rattle.krb_ccache.specs.Inner.Standing.{IsMissing}
+use Rattle.krb_ccache.proofs.AnswerLaws.{same_cache}
 use Rattle.krb_ccache.proofs.LayoutLaws.{reached, reached4, cache_is, fault_is}
+
+-- ---- no credential within the limit
+
+abbrev NoneWithin : ℕ → List ℕ → Type 0
+NoneWithin at bytes = (credential : Credential) (others : List ℕ) → FitsCredential credential → at + length (credential_bytes credential) ≤ file_limit → bytes ≡ credential_bytes credential ++ others → ⊥
+
+front_of : (bytes more front others : List ℕ) → length front ≤ length bytes → bytes ++ more ≡ front ++ others → bytes ≡ front ++ drop (length front) bytes
+front_of bytes more front others le e =
+    let same : take (length front) bytes ≡ front = sym (take-append-le (length front) bytes more le) ∙ ap (take (length front)) e ∙ take_at front others (length front) refl in
+    sym (take-append-drop (length front) bytes) ∙ ap (λ (t : List ℕ). t ++ drop (length front) bytes) same
+
+none_comes : (whole : List ℕ) (a b : Option (List ℕ)) (front bytes : List ℕ) (at given : ℕ) → Consumes (Some whole) a front → Consumes a b bytes → (given ≤ file_limit → IsAtEnd b) → given ≡ at + length bytes → NoneWithin at bytes
+    → (behind : List ℕ) × (whole ≡ front ++ behind) × NoneWithin at behind
+none_comes whole None b front bytes at given p q end total missing = absurd p
+none_comes whole (Some rest) None front bytes at given p q end total missing = absurd q
+none_comes whole (Some rest) (Some more) front bytes at given p q end total missing = (rest, p, none)
+  where
+    none : NoneWithin at rest
+    none credential others fits le e =
+        elim (cases_lt file_limit given) [
+          | inl long ↦ missing credential (drop (length (credential_bytes credential)) bytes) fits le (front_of bytes more (credential_bytes credential) others (omega (arith, le, long, total)) (sym q ∙ e))
+          | inr within ↦ missing credential others fits le (sym (q ∙ ap (λ (t : List ℕ). bytes ++ t) (end within) ∙ append-nil bytes) ∙ e)
+        ]
+
+-- ---- there is one place to stop
+
+-- the bytes within the limit
+record Cut (bytes : List ℕ) (cache : Cache) : Type 0 where
+  fits : Fits cache
+  tail : List ℕ
+  bytes_are : take file_limit bytes ≡ written cache ++ tail
+  missing : IsMissing credential_bytes FitsCredential tail
+
+cut_in : (layout : Layout) (bytes : List ℕ) (at : ℕ) (cache : Cache) (behind : List ℕ) → IsReached layout bytes at cache behind → at ≤ file_limit → NoneWithin at behind → Cut bytes cache
+cut_in version_4 bytes at cache behind r within none =
+    let old = reached4 bytes at cache behind r in
+    let n : ℕ = file_limit - at in
+    let total : file_limit ≡ length (written cache) + n = omega (arith, old.at_is, within) in
+    record {
+      fits = old.fits;
+      tail = take n behind;
+      bytes_are = ap₂ (λ (count : ℕ) (t : List ℕ). take count t) total old.bytes_are ∙ take-append-add (written cache) behind n;
+      missing = λ credential others fits e.
+          none credential (others ++ drop n behind) fits (omega (arith, ap length e, length-append (credential_bytes credential) others, length-take n behind, within))
+          (sym (take-append-drop n behind) ∙ ap (λ (t : List ℕ). t ++ drop n behind) e ∙ append_assoc (credential_bytes credential) others (drop n behind));
+    }
+
+pub one_stop : (bytes : List ℕ) (one other : Cache) → GoesTo bytes one → GoesTo bytes other → one ≡ other
+one_stop bytes one other p q =
+    let a = cut_in p.layout bytes p.at one p.behind p.reached p.within p.missing in
+    let b = cut_in q.layout bytes q.at other q.behind q.reached q.within q.missing in
+    (same_cache one other a.tail b.tail a.fits b.fits (inr a.missing) (inr b.missing) (sym a.bytes_are ∙ b.bytes_are)).cache
+
+-- ---- a reader
 
 module _ {S : Type 0} (left : S → Option (List ℕ)) where
   -- bytes behind those that came before
@@ -179,6 +237,16 @@ module _ {S : Type 0} (left : S → Option (List ℕ)) where
         missing = λ credential others p e. missing credential others p e;
       })))
 
+  -- ---- where a reader stops
+
+  ended_at : (new : AtHand S) (fault told : CacheFault) → told ≢ Read → Tells left new fault told → new.given ≤ file_limit → IsAtEnd (left new.source)
+  ended_at new fault told read tells within =
+      elim tells [
+        | inl failed ↦ absurd (read failed)
+        | inr (inl long) ↦ absurd (omega (arith, long.1, within))
+        | inr (inr same) ↦ same.1.0
+      ]
+
   -- ---- the answer of a step
 
   pub next_item : (from : Option (List ℕ)) (old new : AtHand S) (reader : Reading S) (cache : Cache) (result : Result (Option Credential) CacheFault) → IsStep left old new result → HasTaken from (left old.source) old.given cache
@@ -202,8 +270,20 @@ module _ {S : Type 0} (left : S → Option (List ℕ)) where
   next_fault from old new cache (Ok None) step h = tt
   next_fault from old new cache (Err fault) step h = λ memory read. item_fault from old new cache fault h step.0 step.1 memory read
 
-  pub next_none : (old new : AtHand S) (result : Result (Option Credential) CacheFault) → IsStep left old new result
-      → IfErr result (λ fault. fault ≢ OutOfMemory → fault ≢ Read → PassesNone (left old.source) (left new.source) old.given)
-  next_none old new (Ok (Some credential)) step = tt
-  next_none old new (Ok None) step = tt
-  next_none old new (Err fault) step = λ memory read. let l = step.0.lacks read memory in record { bytes = l.bytes; taken = l.gives.consumed; missing = λ credential others p le e. l.missing credential others p le e }
+  pub next_stops : (from : Option (List ℕ)) (old new : AtHand S) (cache : Cache) (result : Result (Option Credential) CacheFault) → IsStep left old new result → HasTaken from (left old.source) old.given cache → old.given ≤ file_limit
+      → IfErr result (λ fault. fault ≢ OutOfMemory → fault ≢ Read → IfSome from (λ bytes. GoesTo bytes cache))
+  next_stops from old new cache (Ok (Some credential)) step h within = tt
+  next_stops from old new cache (Ok None) step h within = tt
+  next_stops None old new cache (Err fault) step h within = λ memory read. tt
+  next_stops (Some whole) old new cache (Err fault) step h within = λ memory read.
+      let t = taken_of (Some whole) old cache h in
+      let l = step.0.lacks read memory in
+      let known = none_comes whole (left old.source) (left new.source) (written cache) l.bytes old.given new.given t.taken l.gives.consumed (ended_at new (BadItem old.given) fault read (step.0.tells memory)) l.gives.given l.missing in
+      record {
+        layout = version_4;
+        at = old.given;
+        behind = known.0;
+        reached = reached whole old.given cache known.0 (record { fits = t.fits; bytes_are = known.1; at_is = t.at });
+        within = within;
+        missing = known.2;
+      }

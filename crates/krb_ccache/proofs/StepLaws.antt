@@ -24,9 +24,6 @@ module _ {X S : Type 0} (s : X → List ℕ) (P : X → Type 0) (left : S → Op
   started : (old start new : AtHand S) → Walks s P left start new → start ≡ cleared old → Walks s P left (cleared old) new
   started old start new w e = subst (λ (t : AtHand S). Walks s P left t new) e w
 
-  pub started_halts : (old start new : AtHand S) (stop : Stop) → Halts s P left start new stop → start ≡ cleared old → Halts s P left (cleared old) new stop
-  started_halts old start new stop h e = subst (λ (t : AtHand S). Halts s P left t new stop) e h
-
   -- what was taken is the thing that was read
   pub came : (old start new : AtHand S) (bytes : List ℕ) (x : X) → Walks s P left start new → start ≡ cleared old → bytes ≡ new.bytes → Stands s P bytes x → Comes s P left old new x
   came old start new bytes x walks e at_hand stands =

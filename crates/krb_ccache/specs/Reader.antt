@@ -54,9 +54,13 @@ pub record Gave {S : Type 0} (from to : Option (List ℕ)) (old new : Reading S)
   pub grows : old.held ≤ new.held
   pub held : new.held ≤ max old.held (length bytes)
 
--- the source gave some bytes, and no credential that ends within the limit is at their front
-pub record PassesNone (from to : Option (List ℕ)) (at : ℕ) : Type 0 where
-  pub bytes : List ℕ
-  pub taken : Consumes from to bytes
+-- the bytes are a start, a default principal and whole credentials, of this cache; and behind them stands none that ends within
+-- the limit
+pub record GoesTo (bytes : List ℕ) (cache : Cache) : Type 0 where
+  pub layout : Layout
+  pub at : ℕ
+  pub behind : List ℕ
+  pub reached : IsReached layout bytes at cache behind
+  pub within : at ≤ file_limit
   pub missing : (credential : Credential) (others : List ℕ) → FitsCredential credential → at + length (credential_bytes credential) ≤ file_limit
-      → bytes ≢ credential_bytes credential ++ others
+      → behind ≢ credential_bytes credential ++ others

@@ -5,7 +5,7 @@ ghost use Rattle.krb_ccache.specs.Configuration.{HoldsOffset, IsConfiguration};
 ghost use Rattle.krb_ccache.specs.Fault.{failed_reads};
 ghost use Rattle.krb_ccache.specs.Format.{file_limit, IsCache, IsFaultOf};
 ghost use Rattle.krb_ccache.specs.Offset.{clock_offset};
-ghost use Rattle.krb_ccache.specs.Reader.{ended_by as ended_by_answer, last_answer, with_credential, HasRead, Gave, PassesNone};
+ghost use Rattle.krb_ccache.specs.Reader.{ended_by as ended_by_answer, last_answer, with_credential, HasRead, Gave, GoesTo};
 ghost use Rattle.krb_ccache.specs.Source.{IsGiven};
 ghost use Rattle.krb_ccache.specs.Spelling.{header_bytes, name_bytes, credential_bytes};
 ghost use Rattle.krb_ccache.specs.Value.{Cache, cache_of};
@@ -126,9 +126,10 @@ impl<S: Source> CredentialReader<S> {
             × IsFaultOf bytes fault) }
 
         // No whole credential within the limit is passed over.
-        ensures none { self.old.ended ≡ None → IfErr result (λ fault.
-            fault ≢ CacheFault.OutOfMemory → fault ≢ CacheFault.Read
-            → PassesNone (S.remaining self.old.source) (S.remaining self.new.source) self.old.given) }
+        ensures stops { (from : Option (List ℕ)) (cache : Cache)
+            → HasRead S.remaining from self.old cache
+            → IfErr result (λ fault. fault ≢ CacheFault.OutOfMemory → fault ≢ CacheFault.Read
+            → IfSome from (λ bytes. GoesTo bytes cache)) }
 
         ensures given { Gave (S.remaining self.old.source) (S.remaining self.new.source) self.old self.new }
         ensures header { self.new.header ≡ self.old.header }

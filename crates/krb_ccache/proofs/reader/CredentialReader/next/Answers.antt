@@ -1,8 +1,6 @@
 use Rattle.std.proofs.Common.{refl, sym, subst}
-use Rattle.std.specs.Prelude.{IfErr, ◌≢◌}
-use Rattle.krb_ccache.specs.declared.fault.CacheFault.TheVariants.{Read, OutOfMemory}
-use Rattle.krb_ccache.specs.Reader.{Reading, HasRead, PassesNone}
-use Rattle.krb_ccache.proofs.ReaderLaws.{next_item, next_end, next_fault, next_none}
+use Rattle.krb_ccache.specs.Reader.{Reading, HasRead}
+use Rattle.krb_ccache.proofs.ReaderLaws.{next_item, next_end, next_fault, next_stops}
 use Rattle.krb_ccache.proofs.reader.CredentialReader.next.Goals as goal
 
 pub returns-clause-item : goal.returns-clause-item
@@ -17,7 +15,7 @@ pub returns-clause-fault : goal.returns-clause-fault
 returns-clause-fault g c = λ from cache h.
     next_fault g.S.Source.remaining from c.self.inside.window c.step-answer.new.window cache c.step-answer.result c.step-answer.ensures.step (subst (λ (reader : Reading g.row.S.Denot). HasRead g.S.Source.remaining from reader cache) (sym c.self.view_is) h).taken
 
-pub returns-clause-none : goal.returns-clause-none
-returns-clause-none g c = λ going.
-    subst (λ (reader : Reading g.row.S.Denot). IfErr c.step-answer.result (λ fault. fault ≢ OutOfMemory → fault ≢ Read → PassesNone (g.S.Source.remaining reader.source) (g.S.Source.remaining c.step-answer.new.window.source) reader.given)) c.self.view_is
-    (next_none g.S.Source.remaining c.self.inside.window c.step-answer.new.window c.step-answer.result c.step-answer.ensures.step)
+pub returns-clause-stops : goal.returns-clause-stops
+returns-clause-stops g c = λ from cache h.
+    let started = subst (λ (reader : Reading g.row.S.Denot). HasRead g.S.Source.remaining from reader cache) (sym c.self.view_is) h in
+    next_stops g.S.Source.remaining from c.self.inside.window c.step-answer.new.window cache c.step-answer.result c.step-answer.ensures.step started.taken (c.self.invariant.2 started.going)
