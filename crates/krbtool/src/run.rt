@@ -14,7 +14,7 @@ use krb_name::{ReadSource, Sink, Source, WriteSink};
 use std::alloc::Global;
 use std::fs::{File, OpenOptions};
 use std::io;
-use std::io::{BufWriter, ErrorKind, Input, Write};
+use std::io::{BufWriter, Input, Write};
 use std::os::unix::fs::OpenOptionsExt;
 use std::rt::Files;
 
@@ -144,17 +144,12 @@ fn run_convert<R: AllocGlobal + Files + Print + Eprint>(
 
 // Makes OUT, for its owner alone since it holds keys; or empties the one that is there, whose mode stays.
 fn make<R: Files>(rt: &R, out: &str) -> io::Result<R::File> {
-    let made = OpenOptions::new()
+    OpenOptions::new()
         .write(true)
-        .create_new(true)
+        .create(true)
+        .truncate(true)
         .mode(OWNER_ALONE)
-        .open(rt, out);
-    match made {
-        Err(error) if error.kind() == ErrorKind::AlreadyExists => {
-            OpenOptions::new().write(true).truncate(true).open(rt, out)
-        }
-        made => made,
-    }
+        .open(rt, out)
 }
 
 fn tell_wrote<R: Print + Eprint>(rt: &R, count: usize) -> u8 {

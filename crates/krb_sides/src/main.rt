@@ -1,4 +1,4 @@
-//! The library's calls for replies, which the program has no command for. It is built for tests/realm.py.
+//! Both sides of replies over the library, for the tests beside MIT krb5 and Heimdal (tests/realm.py).
 //!
 //! ```text
 //! krb_sides ask CACHE SERVICE SECONDS MICROS CONFOUNDER none|chosen             a mutual request at that moment, in hex
