@@ -19,3 +19,4 @@ pub mod FaultPlaces
 pub mod MeetLaws
 pub mod StandLaws
 pub mod ToldLaws
+pub mod OneEnd

@@ -31,7 +31,7 @@ head_is x y xs ys e = cc
 tail_is : (x y : ℕ) (xs ys : List ℕ) → bytes_of (x ∷ xs) ≡ bytes_of (y ∷ ys) → xs ≡ ys
 tail_is x y xs ys e = cc
 
-behind_four : (a b c d p q r s : ℕ) (xs ys : List ℕ) → bytes_of (a ∷ b ∷ c ∷ d ∷ xs) ≡ bytes_of (p ∷ q ∷ r ∷ s ∷ ys) → xs ≡ ys
+pub behind_four : (a b c d p q r s : ℕ) (xs ys : List ℕ) → bytes_of (a ∷ b ∷ c ∷ d ∷ xs) ≡ bytes_of (p ∷ q ∷ r ∷ s ∷ ys) → xs ≡ ys
 behind_four a b c d p q r s xs ys e = cc
 
 only_is : (e f : KeytabEntry) → list_of (e ∷ []) ≡ list_of (f ∷ []) → e ≡ f
@@ -66,7 +66,7 @@ same_entry e f s t rest other p q same bytes =
     let r = same_rest e s t rest other p q b in
     ap (λ (n : ℕ). entry e n rest) r.0 ∙ ap (λ (x : List ℕ). entry e t x) r.1 ∙ ap (λ (g : KeytabEntry). entry g t other) same
 
-same_record : (one other : KeytabRecord) → FitsRecord one → FitsRecord other → entries_of one ≡ entries_of other → record_bytes one ≡ record_bytes other → one ≡ other
+pub same_record : (one other : KeytabRecord) → FitsRecord one → FitsRecord other → entries_of one ≡ entries_of other → record_bytes one ≡ record_bytes other → one ≡ other
 same_record (hole x) (hole y) p q e b = ap (λ (t : List ℕ). hole t) (behind_four _ _ _ _ _ _ _ _ x y b)
 same_record (hole x) (entry f t r) p q e b = let n : list_of [] ≡ list_of (f ∷ []) = e in absurd cc
 same_record (entry d s r) (hole y) p q e b = let n : list_of (d ∷ []) ≡ list_of [] = e in absurd cc
@@ -91,7 +91,7 @@ not_end (entry d s r) p q e = entry_is_no_end d (kind_is (Entry d, p) (End, q) e
     entry_is_no_end : (d : KeytabEntry) → (let x : Record = Entry d in x) ≡ End → ⊥
     entry_is_no_end d e = cc
 
-first_is : (one : KeytabRecord) (ones : List KeytabRecord) (b : List ℕ) → flat_map record_bytes (one ∷ ones) ++ b ≡ record_bytes one ++ (flat_map record_bytes ones ++ b)
+pub first_is : (one : KeytabRecord) (ones : List KeytabRecord) (b : List ℕ) → flat_map record_bytes (one ∷ ones) ++ b ≡ record_bytes one ++ (flat_map record_bytes ones ++ b)
 first_is one ones b = ap (λ (t : List ℕ). t ++ b) (flat_map-cons record_bytes one ones) ∙ append_assoc (record_bytes one) (flat_map record_bytes ones) b
 
 not_ended : (one : KeytabRecord) (ones : List KeytabRecord) (b c : List ℕ) → FitsRecord one → b ≡ flat_map record_bytes (one ∷ ones) ++ c → IsEnd b → ⊥

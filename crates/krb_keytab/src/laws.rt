@@ -20,7 +20,7 @@ ghost use Rattle.krb_keytab.specs.declared.stage.Stage.TheVariants.{End, Failed}
 pub fn each_file_has_one_answer()
     ensures some { (bytes : List ℕ) → IsBytes bytes
         → (answer : Result (List KeytabEntry) KeytabFault) × IsAnswerOf bytes answer }
-    ensures one { (bytes : List ℕ) (answer other : Result (List KeytabEntry) KeytabFault) → IsBytes bytes
+    ensures one { (bytes : List ℕ) (answer other : Result (List KeytabEntry) KeytabFault)
         → IsAnswerOf bytes answer → IsAnswerOf bytes other → answer ≡ other }
 {}
 
