@@ -38,5 +38,5 @@ returns-clause-begun g c = λ which. elim which [ inl e ↦ absurd (no_ok tt Wri
 
 pub returns-clause-none : goal.returns-clause-none
 returns-clause-none g c = λ fault prevents.
-    c.built_or_prevented.ensures c.args.cache.now c.args.service.now c.args.at c.args.confounder.now (plain_options c.args.wants_reply)
+    c.built_or_prevented.ensures.apart c.args.cache.now c.args.service.now c.args.at c.args.confounder.now (plain_options c.args.wants_reply)
     c.in_ok-bytes.bytes.items c.in_ok-bytes.ensures.request.awaited fault c.in_ok-bytes.ensures.request.request prevents
