@@ -4,8 +4,8 @@
 //! whether another one has the same name, writes itself as text and is read from text.
 //!
 //! A [`Source`] gives bytes and a [`Sink`] takes them; both count their failures. Any reader is a
-//! source and any writer a sink. A [`FileCursor`] reads big-endian fields off bytes, takes no memory
-//! and knows its place.
+//! source and any writer a sink. A [`Window`] has a few bytes of a source at hand. A [`FileCursor`] reads
+//! big-endian fields off bytes, takes no memory and knows its place.
 //!
 //! ```rust
 //! let mut components = Components::new(alloc);
@@ -54,3 +54,5 @@ pub use writing::write_all;
 mod flow_tests;
 #[cfg(test)]
 mod tests;
+#[cfg(test)]
+mod window_tests;

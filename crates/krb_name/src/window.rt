@@ -149,11 +149,11 @@ impl<S: Source> Window<S> {
     {
         let mut left = count;
         while left > 0 {
-            let came = self.skip_some(left)?;
-            if came == 0 {
+            let passed = self.skip_some(left)?;
+            if passed == 0 {
                 return Ok(false);
             }
-            left -= came;
+            left -= passed;
         }
         Ok(true)
     }
