@@ -1,6 +1,7 @@
 //! Running an order: files are opened, output is buffered, and a fault is printed.
 
-ghost use Rattle.std.specs.Prelude.{◌<◌, ◌-◌, ◌^◌};
+ghost use Rattle.std.specs.Prelude.{◌≡◌, ◌<◌, ◌-◌, ◌^◌, IfOk};
+ghost use Rattle.krb_name.specs.Flow.{source_failures};
 
 use crate::check::{check_ccache, check_keytab};
 use crate::convert::{convert_ccache, convert_keytab};
@@ -14,9 +15,12 @@ use krb_name::{ReadSource, Sink, Source, WriteSink};
 use std::alloc::Global;
 use std::fs::{File, OpenOptions};
 use std::io;
-use std::io::{BufWriter, Input, Write};
+use std::io::{BufReader, BufWriter, Input, Read, Write};
 use std::os::unix::fs::OpenOptionsExt;
 use std::rt::Files;
+
+// How many bytes of a file are read at a time.
+const PIECE: usize = 65_536;
 
 // The mode of a file that its owner alone may read and write.
 const OWNER_ALONE: u32 = 0o600;
@@ -113,7 +117,7 @@ fn printed<R: AllocGlobal + Files + Print>(
     command: OnFile,
     file: R::File,
 ) -> Result<(), EngineFault> {
-    let mut source = ReadSource::new(file);
+    let mut source = source_of(rt.alloc(), file)?;
     let writer = BufWriter::new(rt.alloc(), io::writer(rt)).map_err(|_| EngineFault::OutOfMemory)?;
     let mut sink = WriteSink::new(writer);
     command.run(rt.alloc(), &mut source, &mut sink)?;
@@ -133,12 +137,37 @@ fn run_convert<R: AllocGlobal + Files + Print + Eprint>(
     let Ok(made) = make(rt, out) else {
         return complain(rt, file_line(out), FAILED);
     };
-    let mut source = ReadSource::new(opened);
-    let mut sink = WriteSink::new(made);
-    match kind.run(rt.alloc(), &mut source, &mut sink) {
+    match converted(rt, kind, opened, made) {
         Ok(count) => tell_wrote(rt, count),
         Err(EngineFault::Write) => complain(rt, file_line(out), FAILED),
         Err(fault) => complain(rt, fault_line(file, &fault), status(&fault)),
+    }
+}
+
+fn converted<R: AllocGlobal + Files>(
+    rt: &R,
+    kind: Convert,
+    file: R::File,
+    out: R::File,
+) -> Result<usize, EngineFault> {
+    let mut source = source_of(rt.alloc(), file)?;
+    let mut sink = WriteSink::new(out);
+    kind.run(rt.alloc(), &mut source, &mut sink)
+}
+
+/// Makes a source of a file. What is asked of it a few bytes at a time is read in pieces of 65,536 bytes.
+///
+/// # Errors
+/// `OutOfMemory`: there was no room for a piece.
+pub(crate) fn source_of<F: Read + Drop>(
+    alloc: Global,
+    file: F,
+) -> Result<ReadSource<BufReader<F>>, EngineFault>
+    ensures { IfOk result (λ source. source_failures source ≡ 0) }
+{
+    match BufReader::with_capacity(alloc, PIECE, file) {
+        Ok(reader) => Ok(ReadSource::new(reader)),
+        Err(_) => Err(EngineFault::OutOfMemory),
     }
 }
 

@@ -5,7 +5,7 @@ use crate::fault::{EngineFault, FAILED, WRONG_WORDS, service_status};
 use crate::fault_line::{file_line, service_line};
 use crate::order::AcceptWords;
 use crate::request::read_service;
-use crate::run::{complain, complain_of};
+use crate::run::{complain, complain_of, source_of};
 use krb_ap::Acceptor;
 use krb_keytab::Keytab;
 use krb_name::{Principal, ReadSource, TextFault, WriteSink};
@@ -13,7 +13,7 @@ use krb_replay::{Skew, TimedMemory};
 use std::alloc::Global;
 use std::fs::File;
 use std::io;
-use std::io::Input;
+use std::io::{Input, Read};
 use std::rt::Files;
 
 /// Answers the lines of standard input by the keytab, and answers the exit status.
@@ -31,14 +31,19 @@ pub(crate) fn run_accept<R: AllocGlobal + Files + Input + Print + Eprint>(
     let Ok(opened) = File::open(rt, words.keytab) else {
         return complain(rt, file_line(words.keytab), FAILED);
     };
-    let answered = match Keytab::read(rt.alloc(), &mut ReadSource::new(opened)) {
+    let answered = match read_keytab(rt.alloc(), opened) {
         Ok(keytab) => answered(rt, keytab, skew, service.as_ref()),
-        Err(fault) => Err(EngineFault::Keytab(fault)),
+        Err(fault) => Err(fault),
     };
     match answered {
         Ok(status) => status,
         Err(fault) => complain_of(rt, &fault, words.keytab, "accept"),
     }
+}
+
+fn read_keytab<F: Read + Drop>(alloc: Global, file: F) -> Result<Keytab, EngineFault> {
+    let mut source = source_of(alloc, file)?;
+    Ok(Keytab::read(alloc, &mut source)?)
 }
 
 // The words of the command line were read as a number in this range.

@@ -4,9 +4,9 @@ use crate::fault::{EngineFault, FAILED, WRONG_WORDS, service_status};
 use crate::fault_line::{confounder_line, file_line, service_line};
 use crate::order::RequestWords;
 use crate::request::{read_confounder, read_service, request_line};
-use crate::run::{complain, complain_of};
+use crate::run::{complain, complain_of, source_of};
 use krb_msg::Moment;
-use krb_name::{Principal, ReadSource, WriteSink};
+use krb_name::{Principal, WriteSink};
 use std::fs::File;
 use std::io;
 use std::rt::Files;
@@ -61,7 +61,7 @@ fn printed<R: AllocGlobal + Files + Print>(
     file: R::File,
     asked: &Asked,
 ) -> Result<(), EngineFault> {
-    let mut source = ReadSource::new(file);
+    let mut source = source_of(rt.alloc(), file)?;
     let mut sink = WriteSink::new(io::writer(rt));
     request_line(
         rt.alloc(),
