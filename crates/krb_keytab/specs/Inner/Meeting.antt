@@ -1,5 +1,5 @@
 -- What a reader meets where whole records end, of the bytes that its source gives from there on.
-use Rattle.std.specs.Prelude.{◌≡◌, ◌⊎◌, ℕ, ◌+◌, ◌-◌, ◌<◌, ◌≤◌, ℤ, max, List, [], ◌∷◌, ◌++◌, length, take, Option, Some, None, Result, Ok, Err, ⊤, FitsSigned, unsigned_abs}
+use Rattle.std.specs.Prelude.{◌≡◌, ◌⊎◌, ℕ, ◌+◌, ◌-◌, ◌<◌, ◌≤◌, ℤ, pos, negsuc, max, List, [], ◌∷◌, ◌++◌, length, take, Option, Some, None, Result, Ok, Err, ⊤, FitsSigned, unsigned_abs}
 use Rattle.std.specs.Int.{w32}
 use Rattle.std.specs.Io.KnownBytes.{Consumes, IsAtEnd}
 use Rattle.krb_name.specs.Cursor.{signed_bytes}
@@ -127,10 +127,15 @@ pub record MeetsSizeAt {S : Type 0} (from to : Option (List ℕ)) (old new : AtH
 
 -- ---- what is behind it
 
+-- how many of its bytes are at hand: none of a hole
+abbrev pub kept_of : ℤ → ℕ
+kept_of (pos n) = n
+kept_of (negsuc n) = 0
+
 pub record MeetsBody {S : Type 0} (from to : Option (List ℕ)) (old new : AtHand S) (at : ℕ) (size : ℤ) (answer : Result Found KeytabFault) : Type 0 where
   pub piece : List ℕ
   pub moves : Moves from to old new piece
-  pub peaks : Peaks (λ part. length part ≤ unsigned_abs size) piece old.peak new.peak
+  pub peaks : Peaks (λ part. length part ≤ kept_of size) piece old.peak new.peak
   pub meets : Meets to at (signed_bytes w32 size ++ piece) answer
 
 -- ---- records up to an entry
