@@ -1,5 +1,5 @@
 -- The answer for what a source gave is the answer for all the bytes that were to come of it.
-use Rattle.std.proofs.Common.{◌≡◌, ◌⊎◌, ℕ, ◌<◌, List, ◌++◌, length, Option, Some, None, Result, Ok, Err, ap, subst, ◌∙◌, append-nil, arith, inl, inr}
+use Rattle.std.proofs.Common.{◌≡◌, ◌⊎◌, ℕ, ◌<◌, List, ◌++◌, length, Option, Some, None, Result, Ok, Err, sym, ap, subst, ◌∙◌, append-nil, arith, inl, inr}
 use Rattle.std.specs.Prelude.{◌≢◌, IfErr}
 use Rattle.std.proofs.lemmas.Bool.{cases_lt}
 use Rattle.std.proofs.lemmas.List.{length-append}
@@ -49,3 +49,11 @@ pub fault_given : {X : Type 0} (from to : Option (List ℕ)) (bytes : List ℕ) 
     → IfErr result (λ fault. fault ≢ OutOfMemory → fault ≢ Read → (given : List ℕ) × IsGiven from to given × IsFaultOf given fault)
 fault_given from to bytes (Ok x) g f = f
 fault_given from to bytes (Err fault) g f = λ not_memory not_read. (bytes, g, f not_memory)
+
+-- an answer for what a source gave is one for all the bytes that were to come of it
+pub answer_of_whole : (whole bytes : List ℕ) (to : Option (List ℕ)) (answer : Result (Cache) CacheFault) → IsGiven (Some whole) to bytes → IsAnswerOf bytes answer → IsAnswerOf whole answer
+answer_of_whole whole bytes to answer g a =
+    elim (all_given whole bytes to g) [
+      | inl same ↦ subst (λ (t : List ℕ). IsAnswerOf t answer) (sym same) a
+      | inr long ↦ long_answer bytes whole answer long.0 long.1 a
+    ]
