@@ -1,12 +1,14 @@
 //! Reading the parts of a cache off a source, one at a time.
 
-ghost use Rattle.std.specs.Prelude.{ℕ, List, [], length, max, ◌≡◌, ◌≢◌, ◌+◌, ◌-◌, ◌≤◌, ◌<◌, ◌^◌, IfOk, IfErr, OnOk, Err};
+ghost use Rattle.std.specs.Prelude.{All, Option, ℕ, List, [], length, max, ◌≡◌, ◌≢◌, ◌+◌, ◌-◌, ◌≤◌, ◌<◌, ◌^◌, IfOk, IfErr, OnOk, Err};
 ghost use Rattle.krb_ccache.specs.Fault.{failed_reads};
-ghost use Rattle.krb_ccache.specs.Format.{file_limit, version_of, version_4, IsFaultOf};
+ghost use Rattle.krb_ccache.specs.Format.{file_limit, version_of, version_4, IsCache, IsFaultOf};
 ghost use Rattle.krb_ccache.specs.Reader.{HasTaken};
 ghost use Rattle.krb_ccache.specs.Source.{IsGiven};
 ghost use Rattle.krb_ccache.specs.Spelling.{header_bytes, name_bytes, credential_bytes};
 ghost use Rattle.krb_ccache.specs.Value.{cache_of, FitsHeader, FitsName, FitsCredential};
+ghost use Rattle.krb_name.specs.declared.principal.Principal.{Principal as PrincipalValue};
+ghost use Rattle.krb_ccache.specs.declared.credential.HeaderField.{HeaderField as HeaderFieldValue};
 ghost use Rattle.krb_ccache.specs.declared.fault.CacheFault.TheVariants.{Version, Header, BadItem};
 ghost use Rattle.krb_ccache.specs.Inner.Standing.{IsMissing};
 ghost use Rattle.krb_ccache.specs.Inner.Walking.{Halts, stop_reads, stopped_reads};
@@ -74,6 +76,7 @@ fn come_version<S: Source>(window: &mut Window<S>) -> Result<(), Stop>
     ensures halts { IfErr result (Halts version_of Any S.remaining (cleared window.old) window.new) }
     ensures failed { S.failure_count window.new.source
         ≡ S.failure_count window.old.source + stopped_reads result }
+    ensures lent { S.lender window.new.source ≡ S.lender window.old.source }
 {
     window.clear();
     take(window, 2)?;
@@ -92,6 +95,7 @@ fn come_header<S: Source>(alloc: Global, window: &mut Window<S>) -> Result<Vec<H
     ensures halts { IfErr result (Halts header_bytes FitsHeader S.remaining (cleared window.old) window.new) }
     ensures failed { S.failure_count window.new.source
         ≡ S.failure_count window.old.source + stopped_reads result }
+    ensures lent { S.lender window.new.source ≡ S.lender window.old.source }
 {
     window.clear();
     take_header(window)?;
@@ -108,6 +112,7 @@ fn come_name<S: Source>(alloc: Global, window: &mut Window<S>) -> Result<Princip
     ensures halts { IfErr result (Halts name_bytes FitsName S.remaining (cleared window.old) window.new) }
     ensures failed { S.failure_count window.new.source
         ≡ S.failure_count window.old.source + stopped_reads result }
+    ensures lent { S.lender window.new.source ≡ S.lender window.old.source }
 {
     window.clear();
     take_name(window)?;
@@ -126,6 +131,7 @@ fn come_credential<S: Source>(alloc: Global, window: &mut Window<S>) -> Result<C
         (Halts credential_bytes FitsCredential S.remaining (cleared window.old) window.new) }
     ensures failed { S.failure_count window.new.source
         ≡ S.failure_count window.old.source + stopped_reads result }
+    ensures lent { S.lender window.new.source ≡ S.lender window.old.source }
 {
     window.clear();
     take_credential(window)?;
@@ -143,6 +149,7 @@ fn told<S: Source>(window: &mut Window<S>, stop: Stop, fault: CacheFault) -> Cac
     ensures told { IsTold S.remaining window.old window.new stop fault result }
     ensures failed { S.failure_count window.new.source + stop_reads stop
         ≡ S.failure_count window.old.source + failed_reads {T = Unit {0}} (Err result) }
+    ensures lent { S.lender window.new.source ≡ S.lender window.old.source }
 {
     match stop {
         Stop::End => fault,
@@ -167,6 +174,7 @@ fn step_version<S: Source>(window: &mut Window<S>) -> Result<(), CacheFault>
         (Misses version_of Any S.remaining window.old window.new Version) }
     ensures failed { S.failure_count window.new.source
         ≡ S.failure_count window.old.source + failed_reads result }
+    ensures lent { S.lender window.new.source ≡ S.lender window.old.source }
 {
     match come_version(window) {
         Ok(()) => Ok(()),
@@ -186,6 +194,7 @@ fn step_header<S: Source>(
         (Misses header_bytes FitsHeader S.remaining window.old window.new Header) }
     ensures failed { S.failure_count window.new.source
         ≡ S.failure_count window.old.source + failed_reads result }
+    ensures lent { S.lender window.new.source ≡ S.lender window.old.source }
 {
     match come_header(alloc, window) {
         Ok(header) => Ok(header),
@@ -201,6 +210,7 @@ fn step_name<S: Source>(alloc: Global, window: &mut Window<S>) -> Result<Princip
         (Misses name_bytes FitsName S.remaining window.old window.new (BadItem window.old.given)) }
     ensures failed { S.failure_count window.new.source
         ≡ S.failure_count window.old.source + failed_reads result }
+    ensures lent { S.lender window.new.source ≡ S.lender window.old.source }
 {
     let at = window.given();
     match come_name(alloc, window) {
@@ -221,7 +231,7 @@ pub(crate) fn begin<S: Source>(
     ensures peak { IfOk result (λ begun. window.new.peak ≡ max window.old.peak
         (max (length (header_bytes begun.0.items)) (length (name_bytes begun.1)))) }
     ensures within { OnOk result (window.new.given ≤ file_limit) }
-    ensures fits { IfOk result (λ begun. FitsHeader begun.0.items) }
+    ensures fits { IfOk result (λ begun. FitsHeader begun.0.items × FitsName begun.1) }
     ensures limit { OnOk result (window.old.peak ≤ file_limit → window.new.peak ≤ file_limit) }
     ensures fault { IfErr result (λ fault.
         fault ≢ CacheFault.OutOfMemory → fault ≢ CacheFault.Read
@@ -229,6 +239,7 @@ pub(crate) fn begin<S: Source>(
         × IsFaultOf bytes fault) }
     ensures failed { S.failure_count window.new.source
         ≡ S.failure_count window.old.source + failed_reads result }
+    ensures lent { S.lender window.new.source ≡ S.lender window.old.source }
 {
     step_version(window)?;
     let header = step_header(alloc, window)?;
@@ -246,6 +257,7 @@ pub(crate) fn step<S: Source>(
     ensures step { IsStep S.remaining window.old window.new result }
     ensures failed { S.failure_count window.new.source
         ≡ S.failure_count window.old.source + failed_reads result }
+    ensures lent { S.lender window.new.source ≡ S.lender window.old.source }
 {
     let at = window.given();
     match come_credential(alloc, window) {
@@ -261,4 +273,34 @@ pub(crate) fn step<S: Source>(
             Err(fault)
         }
     }
+}
+
+/// Takes the credentials to the end of the source.
+pub(crate) fn steps<S: Source>(
+    alloc: Global,
+    window: &mut Window<S>,
+) -> Result<Vec<Credential>, CacheFault>
+    requires reads { S.failure_count window.old.source < 2 ^ 64 - 1 }
+    requires within { window.old.given ≤ file_limit }
+    ensures end { IfOk result (λ credentials.
+        (from : Option (List ℕ)) (header : List HeaderFieldValue) (name : PrincipalValue)
+        → HasTaken from (S.remaining window.old.source) window.old.given (cache_of header name [])
+        → (bytes : List ℕ) × IsGiven from (S.remaining window.new.source) bytes
+        × IsCache bytes (cache_of header name credentials.items)) }
+    ensures fits { IfOk result (λ credentials. All FitsCredential credentials.items) }
+    ensures fault { IfErr result (λ fault.
+        fault ≢ CacheFault.OutOfMemory → fault ≢ CacheFault.Read
+        → (from : Option (List ℕ)) (header : List HeaderFieldValue) (name : PrincipalValue)
+        → HasTaken from (S.remaining window.old.source) window.old.given (cache_of header name [])
+        → (bytes : List ℕ) × IsGiven from (S.remaining window.new.source) bytes
+        × IsFaultOf bytes fault) }
+    ensures failed { S.failure_count window.new.source
+        ≡ S.failure_count window.old.source + failed_reads result }
+    ensures lent { S.lender window.new.source ≡ S.lender window.old.source }
+{
+    let mut credentials = Vec::new(alloc);
+    while let Some(credential) = step(alloc, window)? {
+        credentials.push(credential)?;
+    }
+    Ok(credentials)
 }

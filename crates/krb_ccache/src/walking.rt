@@ -52,6 +52,7 @@ pub(crate) fn take<S: Source>(window: &mut Window<S>, count: usize) -> Result<()
     ensures count { OnOk result (length window.new.bytes ≡ length window.old.bytes + count) }
     ensures failed { S.failure_count window.new.source
         ≡ S.failure_count window.old.source + stopped_reads result }
+    ensures lent { S.lender window.new.source ≡ S.lender window.old.source }
 {
     let _held = window.held();
     if count > FILE_LIMIT - window.given() {
@@ -73,6 +74,7 @@ fn take_u16<S: Source>(window: &mut Window<S>) -> Result<u16, Stop>
         number ≡ last_number w16 window.old.bytes window.new.bytes) }
     ensures failed { S.failure_count window.new.source
         ≡ S.failure_count window.old.source + stopped_reads result }
+    ensures lent { S.lender window.new.source ≡ S.lender window.old.source }
 {
     let at = window.bytes().len();
     take(window, 2)?;
@@ -88,6 +90,7 @@ fn take_u32<S: Source>(window: &mut Window<S>) -> Result<u32, Stop>
         number ≡ last_number w32 window.old.bytes window.new.bytes) }
     ensures failed { S.failure_count window.new.source
         ≡ S.failure_count window.old.source + stopped_reads result }
+    ensures lent { S.lender window.new.source ≡ S.lender window.old.source }
 {
     let at = window.bytes().len();
     take(window, 4)?;
@@ -119,6 +122,7 @@ fn take_data<S: Source>(window: &mut Window<S>) -> Result<(), Stop>
         S.remaining window.old window.new result }
     ensures failed { S.failure_count window.new.source
         ≡ S.failure_count window.old.source + stopped_reads result }
+    ensures lent { S.lender window.new.source ≡ S.lender window.old.source }
 {
     let count = take_u32(window)?;
     take(window, count as usize)
@@ -131,6 +135,7 @@ pub(crate) fn take_header<S: Source>(window: &mut Window<S>) -> Result<(), Stop>
         S.remaining window.old window.new result }
     ensures failed { S.failure_count window.new.source
         ≡ S.failure_count window.old.source + stopped_reads result }
+    ensures lent { S.lender window.new.source ≡ S.lender window.old.source }
 {
     let count = take_u16(window)?;
     take(window, usize::from(count))
@@ -143,6 +148,7 @@ pub(crate) fn take_name<S: Source>(window: &mut Window<S>) -> Result<(), Stop>
         S.remaining window.old window.new result }
     ensures failed { S.failure_count window.new.source
         ≡ S.failure_count window.old.source + stopped_reads result }
+    ensures lent { S.lender window.new.source ≡ S.lender window.old.source }
 {
     take(window, 4)?;
     let count = take_u32(window)?;
@@ -157,6 +163,7 @@ fn take_components<S: Source>(window: &mut Window<S>, count: u32) -> Result<(), 
         S.remaining window.old window.new result }
     ensures failed { S.failure_count window.new.source
         ≡ S.failure_count window.old.source + stopped_reads result }
+    ensures lent { S.lender window.new.source ≡ S.lender window.old.source }
 {
     let _held = window.held();
     for _ in 0..count {
@@ -172,6 +179,7 @@ fn take_typed<S: Source>(window: &mut Window<S>) -> Result<(), Stop>
         S.remaining window.old window.new result }
     ensures failed { S.failure_count window.new.source
         ≡ S.failure_count window.old.source + stopped_reads result }
+    ensures lent { S.lender window.new.source ≡ S.lender window.old.source }
 {
     take(window, 2)?;
     take_data(window)
@@ -184,6 +192,7 @@ fn take_list<S: Source>(window: &mut Window<S>) -> Result<(), Stop>
         S.remaining window.old window.new result }
     ensures failed { S.failure_count window.new.source
         ≡ S.failure_count window.old.source + stopped_reads result }
+    ensures lent { S.lender window.new.source ≡ S.lender window.old.source }
 {
     let count = take_u32(window)?;
     take_elements(window, count)
@@ -196,6 +205,7 @@ fn take_elements<S: Source>(window: &mut Window<S>, count: u32) -> Result<(), St
         S.remaining window.old window.new result }
     ensures failed { S.failure_count window.new.source
         ≡ S.failure_count window.old.source + stopped_reads result }
+    ensures lent { S.lender window.new.source ≡ S.lender window.old.source }
 {
     let _held = window.held();
     for _ in 0..count {
@@ -211,6 +221,7 @@ pub(crate) fn take_credential<S: Source>(window: &mut Window<S>) -> Result<(), S
         S.remaining window.old window.new result }
     ensures failed { S.failure_count window.new.source
         ≡ S.failure_count window.old.source + stopped_reads result }
+    ensures lent { S.lender window.new.source ≡ S.lender window.old.source }
 {
     take_name(window)?;
     take_name(window)?;
@@ -224,6 +235,7 @@ fn take_from_key<S: Source>(window: &mut Window<S>) -> Result<(), Stop>
         S.remaining window.old window.new result }
     ensures failed { S.failure_count window.new.source
         ≡ S.failure_count window.old.source + stopped_reads result }
+    ensures lent { S.lender window.new.source ≡ S.lender window.old.source }
 {
     take(window, 2)?;
     take_data(window)?;
@@ -237,6 +249,7 @@ fn take_from_times<S: Source>(window: &mut Window<S>) -> Result<(), Stop>
         S.remaining window.old window.new result }
     ensures failed { S.failure_count window.new.source
         ≡ S.failure_count window.old.source + stopped_reads result }
+    ensures lent { S.lender window.new.source ≡ S.lender window.old.source }
 {
     take(window, TIMES)?;
     take_list(window)?;
@@ -251,6 +264,7 @@ fn take_from_ticket<S: Source>(window: &mut Window<S>) -> Result<(), Stop>
         S.remaining window.old window.new result }
     ensures failed { S.failure_count window.new.source
         ≡ S.failure_count window.old.source + stopped_reads result }
+    ensures lent { S.lender window.new.source ≡ S.lender window.old.source }
 {
     take_data(window)?;
     take_data(window)

@@ -119,6 +119,7 @@ impl<S: Source> Window<S> {
             self.old self.new count result }
         ensures failed { S.failure_count self.new.source
             ≡ S.failure_count self.old.source + failed_reads result }
+        ensures lent { S.lender self.new.source ≡ S.lender self.old.source }
     {
         let _peak = self.peak;
         let mut left = count;
@@ -146,6 +147,7 @@ impl<S: Source> Window<S> {
             self.old self.new count result }
         ensures failed { S.failure_count self.new.source
             ≡ S.failure_count self.old.source + (if is_ok result then 0 else 1) }
+        ensures lent { S.lender self.new.source ≡ S.lender self.old.source }
     {
         let mut left = count;
         while left > 0 {
@@ -173,6 +175,7 @@ impl<S: Source> Window<S> {
             self.old self.new limit result }
         ensures failed { S.failure_count self.new.source
             ≡ S.failure_count self.old.source + (if is_ok result then 0 else 1) }
+        ensures lent { S.lender self.new.source ≡ S.lender self.old.source }
     {
         while self.given() <= limit {
             let most = limit - self.given() + 1;
@@ -192,6 +195,7 @@ impl<S: Source> Window<S> {
             self.old self.new most result }
         ensures failed { S.failure_count self.new.source
             ≡ S.failure_count self.old.source + failed_reads result }
+        ensures lent { S.lender self.new.source ≡ S.lender self.old.source }
     {
         let came = read_behind(&mut self.source, &mut self.bytes, most.min(PIECE))?;
         self.peak = self.peak.max(self.bytes.len());
@@ -208,6 +212,7 @@ impl<S: Source> Window<S> {
             self.old self.new most result }
         ensures failed { S.failure_count self.new.source
             ≡ S.failure_count self.old.source + (if is_ok result then 0 else 1) }
+        ensures lent { S.lender self.new.source ≡ S.lender self.old.source }
     {
         let mut passed = [0u8; PASSED];
         let came = self.source.read(&mut passed[..most.min(PASSED)])?;
@@ -229,6 +234,7 @@ fn read_behind<S: Source>(
         bytes.old.items bytes.new.items most result }
     ensures failed { S.failure_count source.new
         ≡ S.failure_count source.old + failed_reads result }
+    ensures lent { S.lender source.new ≡ S.lender source.old }
 {
     let old = bytes.len();
     bytes.resize(old + most, 0)?;

@@ -9,4 +9,5 @@ abbrev pub invariant-loop : goal.invariant-loop
 invariant-loop g l = record {
   front : Front (data_bytes w32) Short32 g.S.Source.remaining l.fn.window l.window l.count l.counter;
   failures : g.S.Source.failure_count l.window.source ≡ g.S.Source.failure_count l.fn.window.source;
+  lent : g.S.Source.lender l.window.source ≡ g.S.Source.lender l.fn.window.source;
 }

@@ -14,4 +14,5 @@ loop-left-preserved g c =
         counted = omega (arith, first.counted, second.one.0, second.one.1, length-append first.piece second.piece);
       };
       failures = rw add-zero at c.in_ok-came.ensures.failed ∙ c.loop-left.invariant.failures;
+      lent = c.in_ok-came.ensures.lent ∙ c.loop-left.invariant.lent;
     }

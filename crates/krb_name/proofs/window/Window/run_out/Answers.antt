@@ -13,4 +13,5 @@ loop-self-preserved g c =
         one_past = λ within. omega (arith, second.skips.given, second.one.0, second.one.1, c.loop-self-test.true, c.given.ensures, c.given-in-loop-self.ensures);
       };
       failures = rw add-zero at c.in_ok-skip_some.ensures.failed ∙ c.loop-self.invariant.failures;
+      lent = c.in_ok-skip_some.ensures.lent ∙ c.loop-self.invariant.lent;
     }
