@@ -20,3 +20,4 @@ pub mod MeetLaws
 pub mod StandLaws
 pub mod ToldLaws
 pub mod OneEnd
+pub mod CollectLaws
