@@ -21,3 +21,4 @@ pub mod StandLaws
 pub mod ToldLaws
 pub mod OneEnd
 pub mod CollectLaws
+pub mod OneReader
