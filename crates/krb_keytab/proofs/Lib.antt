@@ -20,3 +20,5 @@ pub mod MeetLaws
 pub mod StandLaws
 pub mod ToldLaws
 pub mod OneEnd
+pub mod CollectLaws
+pub mod OneReader

@@ -17,7 +17,7 @@ use Rattle.krb_keytab.specs.Entry.{KeytabEntry}
 use Rattle.krb_keytab.specs.Format.{file_limit, hole, entry, entry_bytes}
 use Rattle.krb_keytab.specs.Items.{LacksRecord, IsPartOfRecord}
 use Rattle.krb_keytab.specs.Inner.Entry.{entry_at}
-use Rattle.krb_keytab.specs.Inner.Meeting.{Peaks, RanOut, IsWhole, IsLastAt, IsLongAt, IsFewAt, MeetsSize, MeetsSizeAt, MeetsBody, MeetsOne, Meets}
+use Rattle.krb_keytab.specs.Inner.Meeting.{Peaks, RanOut, IsWhole, IsLastAt, IsLongAt, IsFewAt, kept_of, MeetsSize, MeetsSizeAt, MeetsBody, MeetsOne, Meets}
 use Rattle.krb_keytab.specs.declared.fault.KeytabFault.{KeytabFault}
 use Rattle.krb_keytab.specs.declared.fault.KeytabFault.TheVariants.{Version, Truncated, BadEntry, TooLong, NoSuchEntry, Read, OutOfMemory}
 use Rattle.krb_keytab.specs.declared.found.Found.{Found}
@@ -126,12 +126,21 @@ peaks_at IsPart piece part after old new bytes parts p e fits peak = record {
   low = λ l. omega (arith, peak, ap length e, fits, l);
 }
 
-pub peaks_on : (size : ℤ) (later : List ℕ) (old mid new : ℕ) → Peaks (λ part. length part ≤ 4) (signed_bytes w32 size) old mid → Peaks (λ part. length part ≤ unsigned_abs size) later mid new → Peaks IsPartOfRecord (signed_bytes w32 size ++ later) old new
+-- the size and no more of a hole, or the size and more of a record
+is_part : (size : ℤ) (part : List ℕ) → length part ≤ kept_of size → IsPartOfRecord (signed_bytes w32 size ++ part)
+is_part (pos n) part few = inr (n, part, refl, few)
+is_part (negsuc n) part few = inl (omega (arith, few, length-append (signed_bytes w32 (negsuc n)) part))
+
+pub kept_is : (size : ℤ) → int_lt size (pos 0) ≡ false → kept_of size ≡ unsigned_abs size
+kept_is (pos n) positive = refl
+kept_is (negsuc n) positive = absurd cc
+
+pub peaks_on : (size : ℤ) (later : List ℕ) (old mid new : ℕ) → Peaks (λ part. length part ≤ 4) (signed_bytes w32 size) old mid → Peaks (λ part. length part ≤ kept_of size) later mid new → Peaks IsPartOfRecord (signed_bytes w32 size ++ later) old new
 peaks_on size later old mid new p q = record {
   part = signed_bytes w32 size ++ q.part;
   after = q.after;
   piece_is = ap (λ (t : List ℕ). signed_bytes w32 size ++ t) q.piece_is ∙ sym (append_assoc (signed_bytes w32 size) q.part q.after);
-  is_part = inr (size, q.part, refl, q.is_part);
+  is_part = is_part size q.part q.is_part;
   peak = omega (arith, p.peak, q.peak, p.is_part, length-append (signed_bytes w32 size) q.part);
   low = λ l. q.low (p.low l);
 }

@@ -19,7 +19,7 @@ use Rattle.krb_keytab.proofs.FileLaws.{same_standing}
 use Rattle.krb_keytab.proofs.OneSplit.{behind_four, first_is, same_record}
 
 -- what is said of a file whose records end so
-abbrev Ends : ℕ → List ℕ → List KeytabEntry → Result (List KeytabEntry) KeytabFault → Type 0
+abbrev pub Ends : ℕ → List ℕ → List KeytabEntry → Result (List KeytabEntry) KeytabFault → Type 0
 Ends at behind entries (Ok all) = (all ≡ entries) × IsEnd behind
 Ends at behind entries (Err (Truncated place)) = (place ≡ at) × IsCutOff behind
 Ends at behind entries (Err (BadEntry place)) = (place ≡ at) × HoldsNoEntry behind
@@ -166,6 +166,14 @@ same_said bytes v w p q =
     let entries : q.entries ≡ p.entries = t.entries_are ∙ ap (flat_map entries_of) (sym same) ∙ sym r.entries_are in
     let behind : q.behind ≡ p.behind = sym (append_cancel_left (flat_map record_bytes r.records) p.behind q.behind (all ∙ ap (λ (k : List KeytabRecord). flat_map record_bytes k ++ q.behind) (sym same))) in
     both_end p.at p.behind p.entries v w p.ends (subst (λ (n : ℕ). Ends n p.behind p.entries w) at (subst (λ (k : List ℕ). Ends q.at k p.entries w) behind (subst (λ (k : List KeytabEntry). Ends q.at q.behind k w) entries q.ends)))
+
+-- the entries before it, whatever is said there
+pub same_entries : (bytes : List ℕ) (at place : ℕ) (entries more : List KeytabEntry) (behind after : List ℕ) (v w : Result (List KeytabEntry) KeytabFault) → IsReached bytes at entries behind → IsReached bytes place more after → Ends at behind entries v → Ends place after more w → entries ≡ more
+same_entries bytes at place entries more behind after v w r t p q =
+    let all : flat_map record_bytes r.records ++ behind ≡ flat_map record_bytes t.records ++ after = append_cancel_left version _ _ (sym r.bytes_are ∙ t.bytes_are) in
+    let same = one_end r.records t.records behind after (recursion_from_All FitsRecord r.records r.fit) (recursion_from_All FitsRecord t.records t.fit) all
+    (λ one x fits e. not_there at one x behind entries v fits e p) (λ one x fits e. not_there place one x after more w fits e q) in
+    r.entries_are ∙ ap (flat_map entries_of) same ∙ sym t.entries_are
 
 -- ---- one answer
 

@@ -16,7 +16,7 @@ use Rattle.krb_keytab.specs.declared.stage.Stage.TheVariants.{Start, Records, En
 use Rattle.krb_keytab.proofs.OneSplit.{first_records}
 
 -- the bytes that came are all, where none is left
-all_came : (whole bytes : List ℕ) (left : Option (List ℕ)) → Consumes (Some whole) left bytes → IsAtEnd left → bytes ≡ whole
+pub all_came : (whole bytes : List ℕ) (left : Option (List ℕ)) → Consumes (Some whole) left bytes → IsAtEnd left → bytes ≡ whole
 all_came whole bytes None c end = absurd c
 all_came whole bytes (Some rest) c end = sym (c ∙ ap (λ (t : List ℕ). bytes ++ t) end ∙ append-nil bytes)
 

@@ -1,5 +1,5 @@
 -- Entries that are read one at a time: what a source has given so far, the entries that were given of it, and where their reader stands.
-use Rattle.std.specs.Prelude.{◌≡◌, ◌≢◌, ◌⊎◌, ⊤, ℕ, ◌+◌, ◌<◌, ◌≤◌, ℤ, unsigned_abs, List, [], ◌∷◌, ◌++◌, length, take, Option, Some, None, Result, Ok, Err}
+use Rattle.std.specs.Prelude.{◌≡◌, ◌≢◌, ◌⊎◌, ⊤, ℕ, ◌+◌, ◌<◌, ◌≤◌, pos, List, [], ◌∷◌, ◌++◌, length, take, Option, Some, None, Result, Ok, Err}
 use Rattle.std.specs.Int.{w32}
 use Rattle.std.specs.Io.KnownBytes.{IsAtEnd}
 use Rattle.krb_name.specs.Cursor.{signed_bytes}
@@ -71,9 +71,9 @@ StandsTo left (Failed fault) bytes entries = Concludes left bytes entries (Some 
 
 -- ---- what it has at hand
 
--- no more than a record: its size, and as many bytes as that says
+-- no more than the record of an entry: its size, and as many bytes as that says; of a hole the size alone
 abbrev pub IsPartOfRecord : List ℕ → Type 0
-IsPartOfRecord part = (length part ≤ 4) ⊎ ((size : ℤ) × (body : List ℕ) × (part ≡ signed_bytes w32 size ++ body) × (length body ≤ unsigned_abs size))
+IsPartOfRecord part = (length part ≤ 4) ⊎ ((size : ℕ) × (body : List ℕ) × (part ≡ signed_bytes w32 (pos size) ++ body) × (length body ≤ size))
 
 -- there are so many bytes of the version, or of one record behind whole records
 pub record HasMet (bytes : List ℕ) (count : ℕ) : Type 0 where

@@ -79,3 +79,14 @@ pub fn a_reader_gives_the_first_entries()
         → StandsTo left stage bytes entries → IsKeytab whole all
         → (others : List KeytabEntry) × (all ≡ entries ++ others) }
 {}
+
+/// Says that two readers of one file gave the same entries before a fault of the content.
+pub fn each_reader_gives_the_same_entries()
+    ensures { (whole bytes others : List ℕ) (left right : Option (List ℕ))
+        (entries more : List KeytabEntry) (fault other : KeytabFault)
+        → fault ≢ KeytabFault.Read → fault ≢ KeytabFault.OutOfMemory
+        → other ≢ KeytabFault.Read → other ≢ KeytabFault.OutOfMemory
+        → Consumes (Some whole) left bytes → StandsTo left (Failed fault) bytes entries
+        → Consumes (Some whole) right others → StandsTo right (Failed other) others more
+        → entries ≡ more }
+{}

@@ -1,6 +1,6 @@
 //! Reading a keytab record by record, with one record at hand.
 
-ghost use Rattle.std.specs.Prelude.{◌≡◌, ◌+◌, ◌-◌, ◌^◌, ◌<◌, ◌≤◌, pos, int_lt, true, false, FitsSigned, unsigned_abs, length, IfOk, OnErr};
+ghost use Rattle.std.specs.Prelude.{◌≡◌, ◌+◌, ◌-◌, ◌^◌, ◌<◌, ◌≤◌, pos, int_lt, true, false, FitsSigned, unsigned_abs, length, IfOk, IfErr, OnErr};
 ghost use Rattle.std.specs.Int.{w32};
 ghost use Rattle.krb_name.specs.Cursor.{signed_bytes};
 ghost use Rattle.krb_name.specs.Field.{IsBytes};
@@ -8,7 +8,7 @@ ghost use Rattle.krb_keytab.specs.Inner.Entry.{entry_at};
 ghost use Rattle.krb_keytab.specs.Items.{LacksVersion};
 ghost use Rattle.krb_keytab.specs.Fault.{failed_reads};
 ghost use Rattle.krb_keytab.specs.Format.{file_limit, version};
-ghost use Rattle.krb_keytab.specs.Inner.Meeting.{MeetsOne, MeetsSizeAt, MeetsNext, OpensAt, RunsOutTo, MeetsBody, IsFewAt};
+ghost use Rattle.krb_keytab.specs.Inner.Meeting.{MeetsOne, MeetsSizeAt, MeetsNext, OpensAt, RunsOutTo, MeetsBody, IsFewAt, IsFound, IsFaulty};
 
 use crate::entry::Entry;
 use crate::fault::KeytabFault;
@@ -31,6 +31,7 @@ pub(crate) fn read_version<S: Source>(window: &mut Window<S>) -> Result<(), Keyt
         window.old window.new result }
     ensures failed { S.failure_count window.new.source
         ≡ S.failure_count window.old.source + failed_reads result }
+    ensures lent { S.lender window.new.source ≡ S.lender window.old.source }
 {
     window.clear();
     let whole = window.fill(VERSION_LENGTH)?;
@@ -41,6 +42,29 @@ pub(crate) fn read_version<S: Source>(window: &mut Window<S>) -> Result<(), Keyt
     } else {
         Err(KeytabFault::Version)
     }
+}
+
+/// Reads a keytab to its end, and answers its entries.
+pub(crate) fn read_entries<S: Source>(
+    alloc: Global,
+    window: &mut Window<S>,
+) -> Result<Vec<Entry>, KeytabFault>
+    requires reads { S.failure_count window.old.source < 2 ^ 64 - 1 }
+    requires start { window.old.given ≡ 0 }
+    ensures found { IfOk result (λ entries. IsFound
+        (S.remaining window.old.source) (S.remaining window.new.source) entries.items) }
+    ensures fault { IfErr result
+        (IsFaulty (S.remaining window.old.source) (S.remaining window.new.source)) }
+    ensures failed { S.failure_count window.new.source
+        ≡ S.failure_count window.old.source + failed_reads result }
+    ensures lent { S.lender window.new.source ≡ S.lender window.old.source }
+{
+    read_version(window)?;
+    let mut entries = Vec::new(alloc);
+    while let Some(entry) = read_entry(alloc, window)? {
+        entries.push(entry)?;
+    }
+    Ok(entries)
 }
 
 /// Reads records up to the next entry, and answers it; or none, where the records have ended.
@@ -54,6 +78,7 @@ pub(crate) fn read_entry<S: Source>(
         window.old window.new result }
     ensures failed { S.failure_count window.new.source
         ≡ S.failure_count window.old.source + failed_reads result }
+    ensures lent { S.lender window.new.source ≡ S.lender window.old.source }
 {
     loop {
         match read_record(alloc, window)? {
@@ -71,6 +96,7 @@ fn read_record<S: Source>(alloc: Global, window: &mut Window<S>) -> Result<Found
         window.old window.new result }
     ensures failed { S.failure_count window.new.source
         ≡ S.failure_count window.old.source + failed_reads result }
+    ensures lent { S.lender window.new.source ≡ S.lender window.old.source }
 {
     let at = window.given();
     match read_size(window)? {
@@ -88,6 +114,7 @@ fn read_size<S: Source>(window: &mut Window<S>) -> Result<Option<i32>, KeytabFau
         window.old window.new result }
     ensures failed { S.failure_count window.new.source
         ≡ S.failure_count window.old.source + failed_reads result }
+    ensures lent { S.lender window.new.source ≡ S.lender window.old.source }
 {
     let at = window.given();
     window.clear();
@@ -146,6 +173,7 @@ fn pass_hole<S: Source>(window: &mut Window<S>, at: usize, size: i32) -> Result<
         window.old window.new at size result }
     ensures failed { S.failure_count window.new.source
         ≡ S.failure_count window.old.source + failed_reads result }
+    ensures lent { S.lender window.new.source ≡ S.lender window.old.source }
 {
     let count = size.unsigned_abs() as usize;
     if count > FILE_LIMIT - window.given() {
@@ -174,6 +202,7 @@ fn read_body<S: Source>(
         window.old window.new at size result }
     ensures failed { S.failure_count window.new.source
         ≡ S.failure_count window.old.source + failed_reads result }
+    ensures lent { S.lender window.new.source ≡ S.lender window.old.source }
 {
     let count = size.unsigned_abs() as usize;
     if count > FILE_LIMIT - window.given() {
@@ -212,6 +241,7 @@ fn conclude<S: Source, T: Drop>(
         window.old window.new last result }
     ensures failed { S.failure_count window.new.source
         ≡ S.failure_count window.old.source + failed_reads result }
+    ensures lent { S.lender window.new.source ≡ S.lender window.old.source }
 {
     match window.run_out(FILE_LIMIT) {
         Ok(true) => last,

@@ -1,11 +1,12 @@
 -- What a reader meets where whole records end, of the bytes that its source gives from there on.
-use Rattle.std.specs.Prelude.{◌≡◌, ◌⊎◌, ℕ, ◌+◌, ◌-◌, ◌<◌, ◌≤◌, ℤ, max, List, [], ◌∷◌, ◌++◌, length, take, Option, Some, None, Result, Ok, Err, ⊤, FitsSigned, unsigned_abs}
+use Rattle.std.specs.Prelude.{◌≡◌, ◌≢◌, ◌⊎◌, ℕ, ◌+◌, ◌-◌, ◌<◌, ◌≤◌, ℤ, pos, negsuc, max, List, [], ◌∷◌, ◌++◌, length, take, Option, Some, None, Result, Ok, Err, ⊤, FitsSigned, unsigned_abs}
 use Rattle.std.specs.Int.{w32}
 use Rattle.std.specs.Io.KnownBytes.{Consumes, IsAtEnd}
 use Rattle.krb_name.specs.Cursor.{signed_bytes}
 use Rattle.krb_name.specs.Window.{AtHand}
 use Rattle.krb_keytab.specs.Entry.{KeytabEntry}
-use Rattle.krb_keytab.specs.Format.{version, file_limit, KeytabRecord, record_bytes, FitsRecord, entries_of, IsReached}
+use Rattle.krb_keytab.specs.Format.{version, file_limit, KeytabRecord, record_bytes, FitsRecord, entries_of, IsReached, IsKeytab, IsFaultOf}
+use Rattle.krb_keytab.specs.Source.{IsGiven}
 use Rattle.krb_keytab.specs.Items.{LacksRecord, LacksVersion, IsPartOfRecord, HasMet, StandsTo, stage_after, entries_after, GivesMore}
 use Rattle.krb_keytab.specs.declared.fault.KeytabFault.{KeytabFault}
 use Rattle.krb_keytab.specs.declared.fault.KeytabFault.TheVariants.{Version, Truncated, TooLong, Read, OutOfMemory}
@@ -127,10 +128,15 @@ pub record MeetsSizeAt {S : Type 0} (from to : Option (List ℕ)) (old new : AtH
 
 -- ---- what is behind it
 
+-- how many of its bytes are at hand: none of a hole
+abbrev pub kept_of : ℤ → ℕ
+kept_of (pos n) = n
+kept_of (negsuc n) = 0
+
 pub record MeetsBody {S : Type 0} (from to : Option (List ℕ)) (old new : AtHand S) (at : ℕ) (size : ℤ) (answer : Result Found KeytabFault) : Type 0 where
   pub piece : List ℕ
   pub moves : Moves from to old new piece
-  pub peaks : Peaks (λ part. length part ≤ unsigned_abs size) piece old.peak new.peak
+  pub peaks : Peaks (λ part. length part ≤ kept_of size) piece old.peak new.peak
   pub meets : Meets to at (signed_bytes w32 size ++ piece) answer
 
 -- ---- records up to an entry
@@ -162,3 +168,20 @@ pub record MeetsFirst {S : Type 0} (from to : Option (List ℕ)) (old new : AtHa
   pub more : GivesMore answer old.given new.given
   pub stands : StandsTo to (stage_after answer) piece (entries_after [] answer)
   pub met : HasMet [] old.peak → HasMet piece new.peak
+
+-- ---- the version and all records
+
+-- the source gave the version and whole records with these entries
+pub record HasTaken (from to : Option (List ℕ)) (given : ℕ) (entries : List KeytabEntry) : Type 0 where
+  pub bytes : List ℕ
+  pub taken : Consumes from to bytes
+  pub given_is : given ≡ length bytes
+  pub reached : IsReached bytes (length bytes) entries []
+
+-- what the source gave is a keytab of these entries
+abbrev pub IsFound : Option (List ℕ) → Option (List ℕ) → List KeytabEntry → Type 0
+IsFound from to entries = (bytes : List ℕ) × IsGiven from to bytes × IsKeytab bytes entries
+
+-- or it has this fault of the content
+abbrev pub IsFaulty : Option (List ℕ) → Option (List ℕ) → KeytabFault → Type 0
+IsFaulty from to fault = fault ≢ OutOfMemory → fault ≢ Read → (bytes : List ℕ) × IsGiven from to bytes × IsFaultOf bytes fault

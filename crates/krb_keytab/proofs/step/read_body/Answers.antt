@@ -7,7 +7,7 @@ use Rattle.krb_name.specs.Field.{IsBytes}
 use Rattle.krb_keytab.specs.Inner.Entry.{entry_at}
 use Rattle.krb_keytab.specs.Inner.Meeting.{Meets}
 use Rattle.krb_keytab.specs.declared.fault.KeytabFault.TheVariants.{Truncated, BadEntry}
-use Rattle.krb_keytab.proofs.MeetLaws.{ran, cut_off, entry_whole, no_entry, count_is, peaks_kept, peaks_at}
+use Rattle.krb_keytab.proofs.MeetLaws.{ran, cut_off, entry_whole, no_entry, count_is, peaks_kept, peaks_at, kept_is}
 use Rattle.krb_keytab.proofs.step.read_body.Goals as goal
 
 pub returns-then-count-given-clause-meets : goal.returns-then-count-given-clause-meets
@@ -37,7 +37,7 @@ returns-in-Some-clause-meets g c =
     record {
       piece = fills.piece;
       moves = record { consumed = fills.keeps.consumed; given = fills.keeps.given };
-      peaks = peaks_at _ fills.piece fills.piece [] _ _ c.fill.new.self.bytes (sym (append-nil fills.piece)) (omega (arith, came, count)) fills.keeps.bytes (omega (arith, came, room)) fills.keeps.peak;
+      peaks = peaks_at _ fills.piece fills.piece [] _ _ c.fill.new.self.bytes (sym (append-nil fills.piece)) (omega (arith, came, count, kept_is c.args.size c.requires.entry)) fills.keeps.bytes (omega (arith, came, room)) fills.keeps.peak;
       meets = entry_whole c.args.at c.args.size fills.piece c.in-Some.entry c.requires.fits c.requires.entry (subst IsBytes body_is c.entry_of.ensures.bytes) (came ∙ count) (ap entry_at (sym body_is) ∙ c.in_ok-entry.ensures.read ∙ c.in-Some.is)
           (omega (arith, came, length-append word fills.piece, room, c.given.ensures, c.requires.at, c.requires.limit));
     }
@@ -62,7 +62,7 @@ returns-in-None-clause-meets g c =
         consumed = Consumes-trans _ _ _ fills.piece ran_out.piece fills.keeps.consumed ran_out.moves.consumed;
         given = omega (arith, fills.keeps.given, ran_out.moves.given, length-append fills.piece ran_out.piece);
       };
-      peaks = peaks_at _ (fills.piece ++ ran_out.piece) fills.piece ran_out.piece _ _ c.fill.new.self.bytes refl (omega (arith, came, count)) fills.keeps.bytes (omega (arith, came, room)) (ran_out.peak ∙ fills.keeps.peak);
+      peaks = peaks_at _ (fills.piece ++ ran_out.piece) fills.piece ran_out.piece _ _ c.fill.new.self.bytes refl (omega (arith, came, count, kept_is c.args.size c.requires.entry)) fills.keeps.bytes (omega (arith, came, room)) (ran_out.peak ∙ fills.keeps.peak);
       meets = subst (λ (t : List ℕ). Meets left at t c.conclude-in-None.result) (append_assoc word fills.piece ran_out.piece)
           (ran (Meets left at (first ++ ran_out.piece)) (Err (BadEntry at)) c.conclude-in-None.result _ at _ first ran_out.piece (Some (BadEntry at)) ran_out.ran
           (omega (arith, size, came, room, c.given.ensures, c.requires.at, c.requires.limit)) (omega (arith, ran_out.moves.given, fills.keeps.given, c.requires.at, size, length-append first ran_out.piece))

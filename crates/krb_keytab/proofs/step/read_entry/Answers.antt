@@ -4,7 +4,7 @@ use Rattle.krb_keytab.proofs.StandLaws.{passes_none, passes_hole, next_end, next
 use Rattle.krb_keytab.proofs.step.read_entry.Goals as goal
 
 pub loop-entry-init : goal.loop-entry-init
-loop-entry-init g c = record { passes = passes_none _ c.args.window.now c.requires.limit; limit = c.requires.limit; failures = refl }
+loop-entry-init g c = record { passes = passes_none _ c.args.window.now c.requires.limit; limit = c.requires.limit; failures = refl; lent = refl }
 
 pub returns-in_err-read_record-clause-meets : goal.returns-in_err-read_record-clause-meets
 returns-in_err-read_record-clause-meets g c =
@@ -21,6 +21,7 @@ loop-entry-preserved g c =
       passes = passes;
       limit = passes.limit;
       failures = rw add-zero at c.in_ok-read_record.ensures.failed ∙ c.loop-entry.invariant.failures;
+      lent = c.in_ok-read_record.ensures.lent ∙ c.loop-entry.invariant.lent;
     }
 
 pub returns-in-Entry-clause-meets : goal.returns-in-Entry-clause-meets

@@ -8,6 +8,7 @@ invariant-loop-entry g l = record {
   passes : PassesHoles (g.S.Source.remaining l.fn.window.source) (g.S.Source.remaining l.window.source) l.fn.window l.window;
   limit : l.window.given ≤ file_limit;
   failures : g.S.Source.failure_count l.window.source ≡ g.S.Source.failure_count l.fn.window.source;
+  lent : g.S.Source.lender l.window.source ≡ g.S.Source.lender l.fn.window.source;
 }
 
 abbrev pub decreases-loop-entry : goal.decreases-loop-entry
