@@ -75,15 +75,11 @@ def timed(command, env=None):
     return best
 
 
-def peak(command):
-    """The largest resident size of one run, in bytes."""
-    pid = os.fork()
-    if pid == 0:
-        out = os.open(os.devnull, os.O_WRONLY)
-        os.dup2(out, 1)
-        os.execvp(command[0], command)
-    _, _, usage = os.wait4(pid, 0)
-    return usage.ru_maxrss * 1024
+def built_peak(folder):
+    """The launcher that tells the memory of what it runs."""
+    made = f"{folder}/peak"
+    subprocess.run(["cc", "-O1", "-o", made, str(Path(__file__).resolve().parent / "peak.c")], check=True)
+    return made
 
 
 def compared(name, ours, theirs):
@@ -101,15 +97,38 @@ def growing(word, path, made, most):
         print(f"| {size:,} bytes: {word[1]} | {took * 1000:.1f} ms | | {took / size * 1e9:.1f} ns a byte |")
 
 
-def at_the_limit(word, path, files):
+def many_components(head, empty, tail, limit):
+    """Records of names with 129 empty components."""
+    record = head + empty * 129 + tail
+    return record * ((limit - 64) // len(record))
+
+
+def empty_keytab(limit):
+    body = struct.pack(">H", 129) + data16(b"") + data16(b"") * 129 + struct.pack(">iIBh", 1, 0, 1, 19) + data16(b"")
+    return b"\x05\x02" + many_components(struct.pack(">i", len(body)) + body[:4], data16(b""), body[4 + 2 * 129:], limit)
+
+
+def empty_cache(limit):
+    name = struct.pack(">iI", 1, 129) + data32(b"")
+    rest = bytes(2 + 4 + 16 + 1 + 4 + 8 + 8)
+    return b"\x05\x04\x00\x00" + bytes(12) + many_components(bytes(12) + name, data32(b""), rest, limit)
+
+
+def at_the_limit(launcher, word, path, files):
+    """How much memory a command takes on files, as a multiple of their size; on a file of nothing it is what the program itself takes."""
     for name, data in files.items():
         path.write_bytes(data)
-        used = peak([word[0], word[1], str(path)])
-        print(f"| {word[1]}, memory at {len(data):,} bytes, {name} | {used:,} bytes | | {used / len(data):.1f} times the file |")
+        done = subprocess.run([launcher, word[0], word[1], str(path)], capture_output=True, text=True)
+        if done.returncode:
+            sys.exit(f"{word} on {name} ended with {done.returncode}")
+        used = int(done.stdout)
+        times = f"{used / len(data):.1f} times the file" if name != "nothing" else ""
+        print(f"| {word[1]}, memory at {len(data):,} bytes, {name} | {used:,} bytes | | {times} |")
 
 
 def tables(program):
     with tempfile.TemporaryDirectory() as folder:
+        launcher = built_peak(folder)
         keys, tickets = Path(folder) / "keytab", Path(folder) / "ccache"
         print("| what | krbtool | other | ratio |\n|---|---|---|---|")
         keys.write_bytes(keytab(10_000))
@@ -119,10 +138,14 @@ def tables(program):
                  ["klist", f"FILE:{tickets}"])
         most = (LIMIT - 2) // len(keytab_record(999_999))
         growing((program, "list-keytab"), keys, keytab, most)
-        at_the_limit((program, "list-keytab"), keys, {"large": keytab(most), "smallest records": small_keytab(LIMIT)})
+        for word in ("list-keytab", "check-keytab"):
+            at_the_limit(launcher, (program, word), keys, {
+                "nothing": keytab(0), "large": keytab(most), "smallest records": small_keytab(LIMIT), "empty components": empty_keytab(LIMIT)})
         most = (LIMIT - 100) // len(credential(99_999))
         growing((program, "list-ccache"), tickets, cache, most)
-        at_the_limit((program, "list-ccache"), tickets, {"large": cache(most), "smallest credentials": small_cache(LIMIT)})
+        for word in ("list-ccache", "check-ccache"):
+            at_the_limit(launcher, (program, word), tickets, {
+                "nothing": cache(0), "large": cache(most), "smallest credentials": small_cache(LIMIT), "empty components": empty_cache(LIMIT)})
 
 
 if __name__ == "__main__":

@@ -1,6 +1,6 @@
 #!/usr/bin/env python3
-"""Times this repository's cipher, sealing, messages, memory of what was seen and listings in one run, most of them beside OpenSSL
-and MIT krb5, and prints tables of ratios.
+"""Times this repository's cipher, sealing, messages, memory of what was seen, requests and listings in one run, most of them beside
+OpenSSL and MIT krb5, and prints tables of ratios.
 
     bench/run.py
 
@@ -14,6 +14,7 @@ import sys
 import tempfile
 from pathlib import Path
 
+import exchange
 import files
 
 HERE = Path(__file__).resolve().parent
@@ -21,7 +22,14 @@ TOP = HERE.parent
 sys.path.append(str(TOP / "tests"))
 import msg_values as der
 
-CRATES = ["krb_aes", "krb_cts", "krb_kdf", "krb_enc", "krb_der", "krb_name", "krb_msg", "krb_replay"]
+CRATES = """krb_aes krb_cts krb_kdf krb_enc krb_der krb_name krb_msg krb_keytab krb_ccache krb_replay krb_ap""".split()
+# Our programs, and the crates that each stands on.
+PROGRAMS = {
+    "krb_bench": "krb_aes krb_enc krb_msg krb_replay hex",
+    "krb_exchange": "krb_ap krb_ccache krb_keytab krb_msg krb_replay hex",
+}
+MIT_PROGRAMS = ["mit_crypto", "mit_messages", "mit_exchange"]
+KRBTOOL = str(TOP / "crates" / "krbtool" / "out" / "krbtool")
 NO_AES_NI = {"OPENSSL_ia32cap": "~0x200000200000000"}
 SIZES = [(60, "60 bytes"), (1024, "1 KiB"), (65_536, "64 KiB"), (1_048_576, "1 MiB")]
 RUNS = 5
@@ -34,24 +42,32 @@ def said(command, **more):
     return done.stdout
 
 
+def build_ours(folder, name):
+    """Builds a program of ours, whose source has another ending here, since the gate wants each .rt file in a crate."""
+    crate = folder / "crates" / name
+    (crate / "src").mkdir(parents=True)
+    shutil.copy(HERE / f"{name}.rt.in", crate / "src" / "main.rt")
+    # without words it ends with 2
+    built = subprocess.run(["rt", "run"], cwd=crate, capture_output=True, text=True)
+    if not (crate / "out" / name).exists():
+        sys.exit(f"{name} wasn't built: {(built.stdout + built.stderr)[-2000:]}")
+    return str(crate / "out" / name)
+
+
 def built(folder):
-    """Our program and the three in C. Ours is built in a repository of its own, with copies of these crates; here its source has
-    another ending, since the gate wants each .rt file in a crate."""
+    """The paths of our programs, which are built in a repository of its own with copies of these crates, and of those in C."""
     (folder / "crates").mkdir()
     for name in CRATES:
         shutil.copytree(TOP / "crates" / name, folder / "crates" / name)
-    (folder / "crates" / "krb_bench" / "src").mkdir(parents=True)
-    shutil.copy(HERE / "krb_bench.rt.in", folder / "crates" / "krb_bench" / "src" / "main.rt")
     lines = (TOP / "crates.txt").read_text().splitlines()
     kept = [line for line in lines if line.split(":")[0] in CRATES]
-    (folder / "crates.txt").write_text("\n".join([*kept, "krb_bench: krb_aes krb_enc krb_msg krb_replay hex"]) + "\n")
+    (folder / "crates.txt").write_text("\n".join([*kept, *(f"{name}: {below}" for name, below in PROGRAMS.items())]) + "\n")
     (folder / "HANDLES").write_text((TOP / "HANDLES").read_text())
-    said(["rt", "run", "--", "seal", "19", "60", "1"], cwd=folder / "crates" / "krb_bench")
     flags = said(["pkg-config", "--cflags", "--libs", "krb5"]).split()
-    for name in ("mit_crypto", "mit_messages"):
+    for name in MIT_PROGRAMS:
         said(["cc", "-O2", "-o", str(folder / name), str(HERE / f"{name}.c"), *flags])
     said(["cc", "-O2", "-o", str(folder / "aes_blocks"), str(HERE / "aes_blocks.c"), "-lcrypto"])
-    return [str(folder / name) for name in ("crates/krb_bench/out/krb_bench", "mit_crypto", "mit_messages", "aes_blocks")]
+    return {**{name: build_ours(folder, name) for name in PROGRAMS}, **{name: str(folder / name) for name in [*MIT_PROGRAMS, "aes_blocks"]}}
 
 
 def once(command, env=None):
@@ -137,15 +153,20 @@ def memory_table(ours):
 
 def main():
     with tempfile.TemporaryDirectory() as name:
-        ours, mit, mit_messages, blocks = built(Path(name))
-        block_table(ours, blocks)
-        sealing_table(ours, mit)
-        message_table(ours, mit_messages)
+        programs = built(Path(name))
+        ours = programs["krb_bench"]
+        block_table(ours, programs["aes_blocks"])
+        sealing_table(ours, programs["mit_crypto"])
+        message_table(ours, programs["mit_messages"])
         memory_table(ours)
-    said([str(TOP / "krbtool"), "--help"])
+        exchange.table(Path(name), programs["krb_exchange"], programs["mit_exchange"], best_in_turn)
+        said([str(TOP / "krbtool"), "--help"])
+        exchange.lines_row(Path(name), programs["krb_exchange"], KRBTOOL, programs["mit_exchange"])
     print()
-    files.tables(str(TOP / "crates" / "krbtool" / "out" / "krbtool"))
+    files.tables(KRBTOOL)
 
 
 if __name__ == "__main__":
+    # no replay cache of MIT's
+    os.environ["KRB5RCACHENAME"] = "none:"
     main()

@@ -17,6 +17,9 @@ import fixture  # noqa: E402
 TOP = Path(__file__).resolve().parent.parent
 EXAMPLES = TOP / "examples"
 
+# How long a message may be.
+MESSAGE_LIMIT = 1_048_576
+
 FIXTURE_KEYTAB = fixture.keytab()
 HOLED_KEYTAB = bytes.fromhex(
     "0502" "fffffffc01020304"
@@ -168,8 +171,22 @@ def mode_cases():
                 yield {**case, "name": f"{word}: {name}, umask {umask}, an OUT that is there", **there}
 
 
+def request_cases():
+    """The longest request that there may be, and one that is a byte longer."""
+    words = ["request", "f", "host/web@EX", "--time=1700000100", "--usec=5", f"--confounder={bytes(range(0x20, 0x30)).hex()}"]
+    some = MESSAGE_LIMIT - 1000
+    size = some + MESSAGE_LIMIT - len(fixture.request(of=fixture.ticket(bytes(some))))
+    for more, name in (0, "of as many bytes as there may be"), (1, "of a byte more"):
+        ticket = fixture.ticket(bytes(size + more))
+        made = fixture.request(of=ticket)
+        assert len(made) == MESSAGE_LIMIT + more
+        wanted = {"stderr": "krbtool: request: TooLong\n", "status": 1} if more else {"stdout": made.hex() + "\n"}
+        yield {"name": f"request: {name}", "args": words, "files": {"f": fixture.cache(ticket)}, **wanted}
+
+
 def cases():
     yield from keytab_cases()
     yield from cache_cases()
+    yield from request_cases()
     yield from stream_cases()
     yield from mode_cases()

@@ -29,9 +29,12 @@ def code():
 
 
 def told(block):
-    """The commands of a block, each with what it says."""
-    for part in block.split("$ ")[1:]:
+    """The commands of a block, each with what it says. A line that ends in a backslash or a pipe goes on in the next."""
+    for part in re.split(r"^\$ ", block, flags=re.M)[1:]:
         command, _, said = part.partition("\n")
+        while command.endswith(("\\", "|")):
+            more, _, said = said.partition("\n")
+            command += "\n" + more
         yield command, said
 
 

@@ -2,7 +2,8 @@
 """Runs the built program beside real Kerberos: MIT krb5 and Heimdal, their KDCs, their tools and their libraries, on this machine.
 
     tests/realm.py PROGRAM [WORD]      the cases whose names hold WORD, or all
-      --no-replies                     without those of replies, for which a program over the library is built first
+      --sides SIDES                    the program of the crate krb_sides, where it isn't crates/krb_sides/out/krb_sides
+      --without-packages               installs nothing; where a package is missing that is one failed case
 
 It installs what it needs (tests/peers/kdc.py names the packages), starts KDCs on 127.0.0.1 with ports and a temporary folder of
 their own, and stops them. tests/peers/ask.c and serve.c are a client and a service of either library. Session keys come to be of
@@ -10,6 +11,7 @@ type 19 or 20 by the advice of docs/ACCEPTANCE.md, which is read from there.
 
 The last line is 'N passed, M failed'.
 """
+import argparse
 import os
 import signal
 import subprocess
@@ -20,6 +22,7 @@ import traceback
 from pathlib import Path
 
 HERE = Path(__file__).resolve().parent
+SIDES = HERE.parent / "crates/krb_sides/out/krb_sides"
 sys.dont_write_bytecode = True
 sys.path[:0] = [str(HERE), str(HERE / "peers")]
 
@@ -58,7 +61,7 @@ class Cases:
             self.passed += 1
 
 
-def parts(cases, peers, mit, heimdal, has_replies):
+def parts(cases, peers, mit, heimdal, sides):
     """Each part of the cases, in order; a later one may use what an earlier one made."""
     of_mit, of_heimdal = tickets.of_mit(mit), tickets.of_heimdal(heimdal)
     for ticket in [*of_mit, *of_heimdal, tickets.with_addresses(mit), *tickets.of_both(mit, heimdal)]:
@@ -74,8 +77,7 @@ def parts(cases, peers, mit, heimdal, has_replies):
     yield lambda: files.caches(cases, peers, [(realm, path) for realm in (mit, heimdal) for path in sorted(realm.folder.glob("*.ccache"))])
     yield lambda: files.used(cases, peers, mit, "one", "host/plain.example")
     yield lambda: files.used(cases, peers, heimdal, "default", "host/web.example")
-    if has_replies:
-        yield lambda: replies.exchanged(cases, peers, of_each_type)
+    yield lambda: replies.exchanged(cases, peers, sides, of_each_type)
 
 
 def run(cases, *rest):
@@ -86,17 +88,17 @@ def run(cases, *rest):
             cases.broken(error)
 
 
-def in_folder(cases, program, folder, has_replies):
+def in_folder(cases, given, folder):
     """Installs, starts the realms, runs the cases, and stops whatever was started."""
     began, realms = time.monotonic(), []
     try:
-        heimdal = install(folder / "heimdal-programs")
+        heimdal = install(folder / "heimdal-programs", not given.without_packages)
         print(f"tests: installed in {time.monotonic() - began:.0f} s", flush=True)
         began = time.monotonic()
-        peers = Peers(program, folder / "peers")
+        peers = Peers(given.program, folder / "peers")
         realms.append(tickets.mit_realm(folder, heimdal))
         realms.append(tickets.heimdal_realm(folder, heimdal))
-        run(cases, peers, *realms, has_replies)
+        run(cases, peers, *realms, given.sides)
     except BROKEN as error:
         cases.broken(error)
     finally:
@@ -105,12 +107,21 @@ def in_folder(cases, program, folder, has_replies):
     print(f"tests: ran in {time.monotonic() - began:.0f} s")
 
 
+def read_words():
+    words = argparse.ArgumentParser(description=__doc__, formatter_class=argparse.RawDescriptionHelpFormatter)
+    words.add_argument("program", type=os.path.abspath)
+    words.add_argument("word", nargs="?", default="")
+    words.add_argument("--sides", type=os.path.abspath, default=SIDES)
+    words.add_argument("--without-packages", action="store_true")
+    return words.parse_args()
+
+
 def main():
     signal.signal(signal.SIGTERM, lambda *_: sys.exit("stopped"))
-    words = [word for word in sys.argv[1:] if word != "--no-replies"]
-    cases = Cases(words[1] if len(words) > 1 else "")
+    given = read_words()
+    cases = Cases(given.word)
     with tempfile.TemporaryDirectory(prefix="krbtool-realm-") as folder:
-        in_folder(cases, os.path.abspath(words[0]), Path(folder), "--no-replies" not in sys.argv)
+        in_folder(cases, given, Path(folder))
     print(f"{cases.passed} passed, {cases.failed} failed")
     return 1 if cases.failed or not cases.passed else 0
 

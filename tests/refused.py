@@ -1,86 +1,113 @@
-"""Runs the program where its calls for memory are refused, one after another, by a preloaded library (tests/refuse.c, which a C compiler
-makes).
+"""Runs the program where its calls for memory are refused, one after another, by a preloaded library (tests/refuse.c).
 
 Of each command every call is refused in turn, alone and with all that come after it, until a run meets no refusal. Such a run ends by
 itself, says that there was no memory, and writes nothing that is wrong. (Only std's `collect` passes over a refusal: where room for
-all words at once is refused, it asks again as it goes.)
+all words at once is refused, it asks again as it goes.) Where accept answers a line for want of memory, its later answers are those
+of a service that never got that line; and where it has no room for a reply or an error, the answer ends without it.
 
 Each check is a pair: its name, and what is wrong, or None.
 """
-import os
 import subprocess
 import tempfile
-from pathlib import Path
 
-import generated
+import preload
+from preload import ALL, OLD, Command
 
-HERE = Path(__file__).resolve().parent
-OLD = b"what OUT held"
-# More calls than any command makes.
-ALL = 1_000_000
 # How many times the words are collected.
 PASSED_OVER = 2
 
 # What is refused, by the line that says so, in the order of a run; and the status.
 WORDS = ("krbtool: words: OutOfMemory\n", 2)
 CLAP = ("error: out of memory\n", 3)
+# The answer of accept to a line whose call was refused memory.
+REFUSED = b"refused none OutOfMemory\n"
 
 
-def commands():
-    """Each command's words, the bytes of its file, and what it writes where there is memory: on standard output (None where that is
-    clap's text), and into OUT."""
-    yield ["--help"], b"", None, OLD
-    yield ["list-keytab", "--help"], b"", None, OLD
-    keytab, cache = (generated.EXAMPLES / "mit-holes.keytab").read_bytes(), (generated.EXAMPLES / "heimdal.ccache").read_bytes()
-    for word, (_, command) in generated.COMMANDS.items():
-        file = keytab if word.endswith("keytab") else cache
-        if word.startswith("convert"):
-            made = command(file)
-            yield [word, "f", "out"], file, f"wrote {len(made)}\n".encode(), made
-        else:
-            yield [word, "f"], file, command(file).encode(), OLD
+def commands(program):
+    yield Command(["--help"], b"", b"", None, OLD)
+    yield Command(["list-keytab", "--help"], b"", b"", None, OLD)
+    yield from preload.file_commands()
+    yield preload.calls(program)
+    yield preload.calls_with_tails(program)
 
 
-def library(folder):
-    made = f"{folder}/refuse.so"
-    subprocess.run(["cc", "-shared", "-fPIC", "-O1", "-o", made, str(HERE / "refuse.c")], check=True, capture_output=True)
-    return made
+def without_the_refused(program, command, answers):
+    """The answers to the lines that were answered, by a service that gets only those lines that weren't refused memory."""
+    lines = command.stdin.splitlines(keepends=True)[:len(answers)]
+    taken = [line for line, answer in zip(lines, answers) if answer != REFUSED]
+    given = iter(preload.run(program, preload.called(taken, *command.words[2:]))[0].wrote.splitlines(keepends=True))
+    return [REFUSED if answer == REFUSED else next(given) for answer in answers]
 
 
-def run(program, words, file, refused, last, preloaded):
-    """Status, standard output, standard error and OUT, and whether a call was refused."""
-    with tempfile.TemporaryDirectory(prefix="krbtool-refused-") as name:
-        room = Path(name)
-        (room / "f").write_bytes(file)
-        (room / "out").write_bytes(OLD)
-        told = room / "told"
-        more = {"LD_PRELOAD": preloaded, "REFUSE_FIRST": str(refused), "REFUSE_LAST": str(last), "REFUSE_TOLD": str(told)}
-        done = subprocess.run([program, *words], cwd=room, env={**os.environ, **more}, capture_output=True, timeout=60)
-        return (done.returncode, done.stdout, done.stderr.decode(errors="replace"), (room / "out").read_bytes()), told.exists()
+def without_tail(answer):
+    """The answer as it is where there was no room for what follows it."""
+    for word in (b" reply ", b" error "):
+        answer = answer.split(word)[0].removesuffix(b"\n") + b"\n"
+    return answer
 
 
-def stage_of(words, found, good):
+def is_answered(program, command, found):
+    """Whether accept answered as it should, where it was refused memory: it says so, or a line lacks what follows it elsewhere."""
+    answers = found.wrote.splitlines(keepends=True)
+    wanted = without_the_refused(program, command, answers)
+    if any(answer not in (it, without_tail(it)) for answer, it in zip(answers, wanted)):
+        return False
+    if len(answers) == command.stdin.count(b"\n"):
+        return (REFUSED in answers or answers != wanted) and found.said == ""
+    return found.said == "krbtool: accept: OutOfMemory\n"
+
+
+def is_named(program, command, found):
+    """Whether the run's lines say that the command, or its file, was refused memory, and nothing wrong was written."""
+    if found.status != 3 or found.out not in (command.out, b"") and command.out != OLD:
+        return False
+    if found.said in ("krbtool: f: OutOfMemory\n", "krbtool: service: OutOfMemory\n"):
+        return not found.wrote
+    if command.stdin:
+        return is_answered(program, command, found)
+    begins = command.wrote.startswith(found.wrote) and command.wrote != found.wrote
+    return begins and found.said == f"krbtool: {command.words[0]}: OutOfMemory\n"
+
+
+def stage_of(program, command, found):
     """Where in a run memory was refused: at the words (0), in clap (1), in the command (2); or None where the run is none such."""
-    status, wrote, said, out = found
-    if out == OLD and not wrote and (said, status) in (WORDS, CLAP):
-        return (WORDS, CLAP).index((said, status))
-    begins = good[0].startswith(wrote) and wrote != good[0]
-    named = said == f"krbtool: {words[0]}: OutOfMemory\n" and begins or said == "krbtool: f: OutOfMemory\n" and not wrote
-    return 2 if status == 3 and named and (out == good[1] == OLD or out == b"") else None
+    said = (found.said, found.status)
+    if found.out == OLD and not found.wrote and said in (WORDS, CLAP):
+        return (WORDS, CLAP).index(said)
+    return 2 if is_named(program, command, found) else None
 
 
-def swept(program, words, file, good, last, preloaded, lasting):
+def end_of(command, found):
+    """How a run of accept ends: by which fault's line, or with which of its answers other than where there is memory."""
+    good, answers = command.wrote.splitlines(), found.wrote.splitlines()
+    return found.said or "".join(answer.decode() for answer, it in zip(answers, good) if answer != it)
+
+
+def unmet(command, ends):
+    """Which ways to end a service with tails were met by no run in which one call is refused."""
+    if command.words[2:] != list(preload.TAILS):
+        return set()
+    faults = {WORDS[0], CLAP[0], *(f"krbtool: {name}: OutOfMemory\n" for name in ("service", "f", "accept"))}
+    good = command.wrote.splitlines(keepends=True)
+    return (faults | {without_tail(it).decode().strip() for it in good[:2]}) - ends
+
+
+def swept(program, command, last, preloaded, lasting):
     """What is wrong with a run in which a call is refused, or None where each such run is right, up to the last stage."""
     stage = passed_over = 0
+    ends = set()
     for refused in range(1, ALL):
-        found, met = run(program, words, file, refused, ALL if lasting else refused, preloaded)
-        well = found == (0, good[0], "", good[1])
+        more = {"REFUSE_FIRST": str(refused), "REFUSE_LAST": str(ALL if lasting else refused)}
+        found, met = preload.run(program, command, preloaded, "REFUSE_TOLD", **more)
+        well = found.is_well(command)
         if not met:
-            return None if well and stage == last else f"where {refused} calls are granted it gives {found}"
+            lacking = set() if lasting else unmet(command, ends)
+            return None if well and stage == last and not lacking else f"no run ends with {lacking}, and where {refused} calls are granted: {found}"
+        ends.add(end_of(command, found))
         if well and not lasting and stage == 0 and passed_over < PASSED_OVER:
             passed_over += 1
             continue
-        at = stage_of(words, found, good)
+        at = stage_of(program, command, found)
         if at is None or at < stage:
             return f"where call {refused} is refused it gives {found}"
         stage = at
@@ -90,13 +117,14 @@ def swept(program, words, file, good, last, preloaded, lasting):
 def checks(program):
     with tempfile.TemporaryDirectory(prefix="krbtool-refuse-") as folder:
         try:
-            preloaded = library(folder)
-            for words, file, wrote, made in commands():
+            preloaded = preload.library(folder, "refuse")
+            for command in commands(program):
                 # after clap's text nothing comes
-                last = 2 if wrote else 1
-                wrote = wrote or run(program, words, file, ALL, ALL, preloaded)[0][1]
+                last = 1 if command.wrote is None else 2
+                if command.wrote is None:
+                    command = preload.with_answer(program, command)
                 for lasting in (False, True):
-                    name = f"refused memory: {' '.join(words)}, each call{' and all after it' if lasting else ''}"
-                    yield name, swept(program, words, file, (wrote, made), last, preloaded, lasting)
+                    name = f"refused memory: {' '.join(command.words[:3])}, each call{' and all after it' if lasting else ''}"
+                    yield name, swept(program, command, last, preloaded, lasting)
         except (OSError, subprocess.SubprocessError) as error:
             yield "refused memory", str(error)

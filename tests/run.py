@@ -5,7 +5,8 @@
 
 Then it compares the tables of the crates' tests with the scripts that make them (tests/tables.py), holds README.md to what is there
 (tests/readme.py), runs the script krbtool (tests/script.py), refuses the program's calls for memory one after another
-(tests/refused.py), and ends with what MIT's tools say of files that the program wrote (tests/peers.py; Debian's package krb5-user).
+(tests/refused.py), lets its reads and writes fail (tests/failing.py), compares it with a second client and service on generated input
+(tests/exchange.py), and ends with what MIT's tools say of files that the program wrote (tests/peers.py; Debian's package krb5-user).
 
 A case is a table [[case]] of a TOML file:
 
@@ -13,6 +14,7 @@ A case is a table [[case]] of a TOML file:
     args    the words after the program's name: a text, or { hex = "ff" } for bytes that are no text
     files   files that lie where it runs, of mode 640: hex digits, or "@PATH" of a file of the repository
     folders empty folders that lie where it runs
+    links   links that lie there: the name of each, and what it points to
     umask   in octal digits (022 where left out)
     stdin   what it reads (text), or "@PATH"
     output  "full": standard output is /dev/full
@@ -44,6 +46,8 @@ sys.path.insert(0, str(HERE))
 sys.dont_write_bytecode = True
 
 import dialogue  # noqa: E402
+import exchange  # noqa: E402
+import failing  # noqa: E402
 import generated  # noqa: E402
 import peers  # noqa: E402
 import readme  # noqa: E402
@@ -51,7 +55,7 @@ import refused  # noqa: E402
 import script  # noqa: E402
 import tables  # noqa: E402
 
-WORDS = """name args files folders umask stdin output closed status stdout stdout_begins stdout_holds stderr stderr_begins
+WORDS = """name args files folders links umask stdin output closed status stdout stdout_begins stdout_holds stderr stderr_begins
     after modes gone"""
 KEYS = set(WORDS.split())
 
@@ -114,6 +118,8 @@ def laid_out(case, room):
         (room / name).chmod(0o640)
     for name in case.get("folders", []):
         (room / name).mkdir()
+    for name, target in case.get("links", {}).items():
+        (room / name).symlink_to(target)
 
 
 def run(program, case):
@@ -152,7 +158,7 @@ def results(program, word, jobs):
     """The name of each case and what is wrong with it, or None. Cases run side by side, each in a folder of its own."""
     chosen = (case for case in chain(stored_cases(), generated.cases()) if word in case["name"])
     yield from in_turn(jobs, lambda case: (case["name"], run(program, case)), chosen)
-    for part in (tables.checks, readme.checks, script.checks, refused.checks, dialogue.checks, peers.checks):
+    for part in (tables.checks, readme.checks, script.checks, refused.checks, failing.checks, dialogue.checks, exchange.checks, peers.checks):
         yield from ((name, wrong) for name, wrong in part(program) if word in name)
 
 

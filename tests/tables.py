@@ -140,6 +140,13 @@ def example():
     return same(found, [fixture.keytab(), fixture.cache(), fixture.request()])
 
 
+def sides():
+    """What the program of replies is tried on by the gate, and its answer: a mutual request."""
+    folder = TOP / "crates/krb_sides"
+    found = [(folder / "data/client.ccache").read_bytes(), (folder / "stdout").read_text()]
+    return same(found, [fixture.cache(), f"{fixture.request(0x20000000).hex()}\n"])
+
+
 TABLES = {
     "DER by the rules": lambda: same_text("krb_der/src/tests/cases.rt", der_rules.table()),
     "messages by the rules": lambda: same_text("krb_msg/src/tests/flipped.rt", msg_rules.table()),
@@ -148,6 +155,7 @@ TABLES = {
     "the fixture's caches": caches,
     "the fixture's requests and replies": exchange,
     "the example's keytab, cache and request": example,
+    "the cache and the request of the program of replies": sides,
     "random blocks under keys of 16 bytes": lambda: random_blocks("krb_aes/src/tests/random_128.rt", "RANDOM_128", 3),
     "random blocks under keys of 32 bytes": lambda: random_blocks("krb_aes/src/tests/random_256.rt", "RANDOM_256", 4),
     "the tables of the S-box on lanes": tower_tables,

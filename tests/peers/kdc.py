@@ -38,9 +38,11 @@ def is_installed(package):
     return subprocess.run(query, stdout=subprocess.PIPE, stderr=subprocess.DEVNULL, text=True).stdout.startswith("ii")
 
 
-def install(folder):
-    """Installs what is missing, and unpacks into the folder what can't be installed beside it."""
+def install(folder, may_install):
+    """Installs what is missing, where it may, and unpacks into the folder what can't be installed beside it."""
     missing = [package for package in PACKAGES if not is_installed(package)]
+    if missing and not may_install:
+        raise Trouble(f"without the packages {' '.join(missing)}")
     quiet = {**os.environ, "DEBIAN_FRONTEND": "noninteractive"}
     print("tests: fetching heimdal-clients and heimdal-kdc" + (", installing " + ", ".join(missing) if missing else ""), flush=True)
     ran(["apt-get", "update", "-q"], env=quiet)

@@ -1,35 +1,9 @@
-"""Replies and errors: theirs read by our client, and ours by theirs. Our side is krb_sides.rt.in over the library."""
-import shutil
-from pathlib import Path
-
-import edits
+"""Replies and errors: theirs read by our client, and ours by theirs. Our side is the program of the crate krb_sides."""
 from kdc import ran
 from sides import LIBRARIES, now
 
-HERE = Path(__file__).resolve().parent
-TOP = HERE.parent.parent
 HIGHEST = 4294967295
 CONFOUNDER = "5a" * 16
-USES = "krb_ap krb_ccache krb_enc krb_keytab krb_msg krb_name krb_replay hex".split()
-
-
-def built(folder):
-    """Builds our side over the libraries of the crates, as they are built, or are now where they aren't yet."""
-    known = edits.crates_of(str(TOP))
-    below = known["krb_ap"].below + ["krb_ap"]
-    for name in below:
-        if not (TOP / f"crates/{name}/out/rlib/{name}.rlib").is_file():
-            ran(["rt", "lib"], 3600, cwd=TOP / "crates" / name)
-    (folder / "src").mkdir(parents=True)
-    shutil.copy(HERE / "krb_sides.rt.in", folder / "src/main.rt")
-    words = edits.Crate(str(TOP), "krb_sides", USES, below).words("incremental")
-    words[words.index("check")], words[words.index("src/lib.rt")] = "build", "src/main.rt"
-    words[words.index("--jobs") + 1] = str(edits.processors())
-    toolchain = ["--toolchain", f"{edits.KIT}/toolchain"]
-    ran([*words, *toolchain, "--backend", "llvm", "-o", "krb_sides.o"], 1200, cwd=folder)
-    linked = [f"{edits.KIT}/c/{name}" for name in ("libos_c.a", "liblibc_c.a")]
-    ran([f"{edits.KIT}/bin/rattle-link", "--target", "x86_64-unknown-linux-gnu", *toolchain, "-o", "krb_sides", "krb_sides.o", *linked], cwd=folder)
-    return folder / "krb_sides"
 
 
 class Sides:
@@ -81,8 +55,21 @@ def ours_to_theirs(cases, peers, program, ticket):
                 cases.equal(name, [accepted, refused, *told], ["accepted", "refused 34", wanted, f"error 34 {sides.second} 9 {ticket.service}"])
 
 
-def exchanged(cases, peers, tickets):
-    program = built(peers.folder / "krb_sides")
+def commands_to_theirs(cases, peers, ticket):
+    """What the command accept puts behind its answers, given to their clients: a reply, and the error for the same request again."""
+    for library in LIBRARIES:
+        second = now()
+        client, request = peers.client(ticket.realm, library, ticket.cache, ticket.service, 0, ["mutual"])
+        line = f"{second} 9 {request} {CONFOUNDER}"
+        accepted, refused = peers.accept(ticket.keytab, [line, line], "--service", ticket.service)
+        reply, error = accepted.partition(" reply ")[2], refused.partition(" error ")[2]
+        told = client.communicate(f"{reply}\n{error}\n", timeout=60)[0].splitlines()
+        wanted = ["agreed none 0", f"error 34 {second} 9 {ticket.service}"]
+        cases.equal(f"reply: the command's to {library}'s, {ticket.label}", told, wanted)
+
+
+def exchanged(cases, peers, program, tickets):
     for ticket in tickets:
+        commands_to_theirs(cases, peers, ticket)
         theirs_to_ours(cases, peers, program, ticket)
         ours_to_theirs(cases, peers, program, ticket)

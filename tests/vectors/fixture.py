@@ -65,8 +65,9 @@ def ticket_part():
     ))
 
 
-def ticket():
-    cipher = sealed(19, SERVICE_KEY, 2, bytes(range(0x10, 0x20)), ticket_part())
+def ticket(cipher=None):
+    """The client's ticket, or one with another sealed part."""
+    cipher = cipher or sealed(19, SERVICE_KEY, 2, bytes(range(0x10, 0x20)), ticket_part())
     return element(0x61, sequence(
         field(0, integer(5)), field(1, string(b"EX")), field(2, name(3, b"host", b"web")), field(3, encrypted(19, cipher, 3)),
     ))
@@ -91,10 +92,11 @@ def keytab():
     return b"\x05\x02" + struct.pack(">i", len(entry)) + entry
 
 
-def cache():
+def cache(of=None):
+    """The client's cache, with its ticket or another."""
     client, server = principal(1, b"EX", b"alice"), principal(3, b"EX", b"host", b"web")
     times = (1_700_000_000, 0, 1_700_036_000, 0)
-    return b"\x05\x04\x00\x00" + client + credential(client, server, 19, SESSION_KEY, times, ticket())
+    return b"\x05\x04\x00\x00" + client + credential(client, server, 19, SESSION_KEY, times, of or ticket())
 
 
 def configured_cache():
@@ -120,11 +122,11 @@ def authenticator(subkey=None, number=None):
     ))
 
 
-def request(options=0, subkey=None, number=None):
+def request(options=0, subkey=None, number=None, of=None):
     cipher = sealed(19, SESSION_KEY, 11, bytes(range(0x20, 0x30)), authenticator(subkey, number))
     return element(0x6E, sequence(
         field(0, integer(5)), field(1, integer(14)), field(2, element(3, b"\0" + struct.pack(">I", options))),
-        field(3, ticket()), field(4, encrypted(19, cipher)),
+        field(3, of or ticket()), field(4, encrypted(19, cipher)),
     ))
 
 

@@ -62,7 +62,7 @@ pub record Reached4 (bytes : List ℕ) (at : ℕ) (cache : Cache) (behind : List
 grouped : (s n c b : List ℕ) → (s ++ (n ++ c)) ++ b ≡ s ++ (n ++ (c ++ b))
 grouped s n c b = append_assoc s (n ++ c) b ∙ ap (λ (t : List ℕ). s ++ t) (append_assoc n c b)
 
-reached : (bytes : List ℕ) (at : ℕ) (cache : Cache) (behind : List ℕ) → Reached4 bytes at cache behind → IsReached version_4 bytes at cache behind
+pub reached : (bytes : List ℕ) (at : ℕ) (cache : Cache) (behind : List ℕ) → Reached4 bytes at cache behind → IsReached version_4 bytes at cache behind
 reached bytes at cache behind r =
     let s : List ℕ = start_bytes cache.header in
     let n : List ℕ = name_bytes cache.default_principal in
@@ -80,7 +80,7 @@ reached bytes at cache behind r =
       at_is = omega (arith, r.at_is, length-append s (n ++ c), length-append n c, ap length same);
     }
 
-reached4 : (bytes : List ℕ) (at : ℕ) (cache : Cache) (behind : List ℕ) → IsReached version_4 bytes at cache behind → Reached4 bytes at cache behind
+pub reached4 : (bytes : List ℕ) (at : ℕ) (cache : Cache) (behind : List ℕ) → IsReached version_4 bytes at cache behind → Reached4 bytes at cache behind
 reached4 bytes at cache behind r =
     let s : List ℕ = start_bytes cache.header in
     let n : List ℕ = name_bytes cache.default_principal in

@@ -11,3 +11,8 @@ pub mod FitsLaws
 pub mod WritingLaws
 pub mod RoomLaws
 pub mod LayoutLaws
+pub mod WalkLaws
+pub mod WalkTimes
+pub mod WalkParts
+pub mod StepLaws
+pub mod ReaderLaws

@@ -1,11 +1,13 @@
 -- The answer for what a source gave is the answer for all the bytes that were to come of it.
-use Rattle.std.proofs.Common.{◌≡◌, ◌⊎◌, ℕ, ◌<◌, List, ◌++◌, length, Option, Some, None, Result, Ok, Err, ap, subst, ◌∙◌, append-nil, arith, inl, inr}
-use Rattle.std.specs.Prelude.{◌≢◌, IfErr}
+use Rattle.std.proofs.Common.{◌≡◌, ◌⊎◌, ℕ, ◌<◌, List, ◌++◌, length, Option, Some, None, Result, Ok, Err, refl, sym, ap, subst, ◌∙◌, append-nil, arith, inl, inr}
+use Rattle.std.specs.Prelude.{◌≢◌, IfSome, IfOk, IfErr}
 use Rattle.std.proofs.lemmas.Bool.{cases_lt}
 use Rattle.std.proofs.lemmas.List.{length-append}
 use Rattle.krb_ccache.specs.Value.{Cache}
-use Rattle.krb_ccache.specs.Format.{file_limit, IsAnswerOf, IsFaultOf}
+use Rattle.krb_ccache.specs.Format.{file_limit, IsCache, IsAnswerOf, IsFaultOf}
+use Rattle.std.specs.Io.KnownBytes.{IsAtEnd}
 use Rattle.krb_ccache.specs.Source.{IsGiven}
+use Rattle.krb_ccache.proofs.LayoutLaws.{the_answer}
 use Rattle.krb_ccache.specs.declared.fault.CacheFault.{CacheFault}
 use Rattle.krb_ccache.specs.declared.fault.CacheFault.TheVariants.{Version, Header, BadItem, TooLong, Read, OutOfMemory}
 
@@ -36,16 +38,45 @@ answer_of_given whole bytes to answer g a =
       | inr long ↦ long_answer whole bytes answer long.1 long.0 a
     ]
 
-pub only_in : (from to : Option (List ℕ)) (bytes whole : List ℕ) (result answer : Result (Cache) CacheFault) → IsGiven from to bytes → (IsAnswerOf bytes answer → (result ≡ answer) ⊎ (result ≡ Err OutOfMemory))
-    → from ≡ Some whole → IsAnswerOf whole answer → (result ≡ answer) ⊎ ((result ≡ Err OutOfMemory) ⊎ (result ≡ Err Read))
-only_in from to bytes whole result answer g only e a =
-    elim (only (answer_of_given whole bytes to answer (subst (λ (known : Option (List ℕ)). IsGiven known to bytes) e g) a)) [
-      | inl same ↦ inl same
-      | inr memory ↦ inr (inl memory)
+-- ---- what a source gave, told of all the bytes that were to come
+
+-- an answer for what was given is one for all
+pub answer_of_whole : (whole bytes : List ℕ) (to : Option (List ℕ)) (answer : Result Cache CacheFault) → IsGiven (Some whole) to bytes → IsAnswerOf bytes answer → IsAnswerOf whole answer
+answer_of_whole whole bytes to answer g a =
+    elim (all_given whole bytes to g) [
+      | inl same ↦ subst (λ (t : List ℕ). IsAnswerOf t answer) (sym same) a
+      | inr long ↦ long_answer bytes whole answer long.0 long.1 a
     ]
 
--- a fault of the bytes that a source gave
-pub fault_given : {X : Type 0} (from to : Option (List ℕ)) (bytes : List ℕ) (result : Result X CacheFault) → IsGiven from to bytes → IfErr result (λ fault. fault ≢ OutOfMemory → IsFaultOf bytes fault)
-    → IfErr result (λ fault. fault ≢ OutOfMemory → fault ≢ Read → (given : List ℕ) × IsGiven from to given × IsFaultOf given fault)
-fault_given from to bytes (Ok x) g f = f
-fault_given from to bytes (Err fault) g f = λ not_memory not_read. (bytes, g, f not_memory)
+pub answer_known : (from to : Option (List ℕ)) (bytes : List ℕ) (answer : Result Cache CacheFault) → IsGiven from to bytes → IsAnswerOf bytes answer → IfSome from (λ whole. IsAnswerOf whole answer)
+answer_known None to bytes answer g a = tt
+answer_known (Some whole) to bytes answer g a = answer_of_whole whole bytes to answer g a
+
+abbrev pub Found : Option (List ℕ) → Option (List ℕ) → Cache → Type 0
+Found from to cache = (bytes : List ℕ) × IsGiven from to bytes × IsCache bytes cache
+
+abbrev pub Faulty : Option (List ℕ) → Option (List ℕ) → CacheFault → Type 0
+Faulty from to fault = fault ≢ OutOfMemory → fault ≢ Read → (bytes : List ℕ) × IsGiven from to bytes × IsFaultOf bytes fault
+
+pub found_whole : (from to : Option (List ℕ)) (cache : Cache) → Found from to cache → IfSome from (λ whole. IsCache whole cache)
+found_whole from to cache f = answer_known from to f.0 (Ok cache) f.1 f.2
+
+pub found_end : (from to : Option (List ℕ)) (cache : Cache) → Found from to cache → IsAtEnd to
+found_end from to cache f = f.1.end f.2.limit
+
+pub fault_whole : (from to : Option (List ℕ)) (fault : CacheFault) → Faulty from to fault → fault ≢ OutOfMemory → fault ≢ Read → IfSome from (λ whole. IsFaultOf whole fault)
+fault_whole from to fault f memory read = let g = f memory read in answer_known from to g.0 (Err fault) g.1 g.2
+
+-- the one answer for all the bytes
+only_given : (to : Option (List ℕ)) (bytes whole : List ℕ) (result answer : Result Cache CacheFault) → IsGiven (Some whole) to bytes → IsAnswerOf bytes result → IsAnswerOf whole answer → result ≡ answer
+only_given to bytes whole result answer g r a = the_answer bytes result answer r (answer_of_given whole bytes to answer g a)
+
+pub only_whole : (from to : Option (List ℕ)) (result : Result Cache CacheFault) → IfOk result (Found from to) → IfErr result (Faulty from to) → (whole : List ℕ) (answer : Result Cache CacheFault) → from ≡ Some whole → IsAnswerOf whole answer
+    → (result ≡ answer) ⊎ ((result ≡ Err OutOfMemory) ⊎ (result ≡ Err Read))
+only_whole from to (Ok cache) f e whole answer known a = inl (only_given to f.0 whole (Ok cache) answer (subst (λ (o : Option (List ℕ)). IsGiven o to f.0) known f.1) f.2 a)
+only_whole from to (Err OutOfMemory) f e whole answer known a = inr (inl refl)
+only_whole from to (Err Read) f e whole answer known a = inr (inr refl)
+only_whole from to (Err Version) f e whole answer known a = let g = e (λ x. absurd cc) (λ x. absurd cc) in inl (only_given to g.0 whole (Err Version) answer (subst (λ (o : Option (List ℕ)). IsGiven o to g.0) known g.1) g.2 a)
+only_whole from to (Err Header) f e whole answer known a = let g = e (λ x. absurd cc) (λ x. absurd cc) in inl (only_given to g.0 whole (Err Header) answer (subst (λ (o : Option (List ℕ)). IsGiven o to g.0) known g.1) g.2 a)
+only_whole from to (Err TooLong) f e whole answer known a = let g = e (λ x. absurd cc) (λ x. absurd cc) in inl (only_given to g.0 whole (Err TooLong) answer (subst (λ (o : Option (List ℕ)). IsGiven o to g.0) known g.1) g.2 a)
+only_whole from to (Err (BadItem at)) f e whole answer known a = let g = e (λ x. absurd cc) (λ x. absurd cc) in inl (only_given to g.0 whole (Err (BadItem at)) answer (subst (λ (o : Option (List ℕ)). IsGiven o to g.0) known g.1) g.2 a)

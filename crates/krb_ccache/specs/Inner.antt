@@ -3,3 +3,5 @@ pub mod Reading
 pub mod Room
 pub mod Standing
 pub mod Version4
+pub mod Walking
+pub mod Stepping

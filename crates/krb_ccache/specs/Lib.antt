@@ -5,4 +5,5 @@ pub mod Configuration
 pub mod Offset
 pub mod Fault
 pub mod Source
+pub mod Reader
 pub mod Inner

@@ -26,8 +26,9 @@ use crate::header::{FILE_LIMIT, VERSION, open, read_header};
 use crate::item_fault::ItemFault;
 use crate::items::{read_credential, read_name};
 use crate::room::{behind_credentials, behind_header, behind_name};
+use crate::stepping::{begin, steps};
 use crate::writing::{write_credentials, write_header, write_name, write_u16};
-use krb_name::{FileCursor, Principal, Source, read_to_limit};
+use krb_name::{FileCursor, Principal, Source, Window};
 use std::alloc::{AllocError, Global};
 use std::marker::Model;
 
@@ -147,8 +148,33 @@ impl CCache {
         ensures failed { S.failure_count source.new
             ≡ S.failure_count source.old + failed_reads result }
     {
-        let bytes = read_to_limit(alloc, source, FILE_LIMIT)?;
-        CCache::parse(alloc, &bytes)
+        let mut window = Window::new(alloc, source);
+        let answer = CCache::read_window(alloc, &mut window);
+        let _source = window.into_source();
+        answer
+    }
+
+    fn read_window<S: Source>(alloc: Global, window: &mut Window<S>) -> Result<CCache, CacheFault>
+        requires reads { S.failure_count window.old.source < 2 ^ 64 - 1 }
+        requires start { window.old.given ≡ 0 }
+        ensures found { IfOk result (λ cache. (bytes : List ℕ)
+            × IsGiven (S.remaining window.old.source) (S.remaining window.new.source) bytes
+            × IsCache bytes cache) }
+        ensures fault { IfErr result (λ fault.
+            fault ≢ CacheFault.OutOfMemory → fault ≢ CacheFault.Read → (bytes : List ℕ)
+            × IsGiven (S.remaining window.old.source) (S.remaining window.new.source) bytes
+            × IsFaultOf bytes fault) }
+        ensures failed { S.failure_count window.new.source
+            ≡ S.failure_count window.old.source + failed_reads result }
+        ensures lent { S.lender window.new.source ≡ S.lender window.old.source }
+    {
+        let (header, default_principal) = begin(alloc, window)?;
+        let credentials = steps(alloc, window)?;
+        Ok(CCache {
+            header,
+            default_principal,
+            credentials,
+        })
     }
 
     fn of_parts(alloc: Global, bytes: &[u8]) -> Result<CCache, CacheFault>

@@ -1,6 +1,6 @@
 //! Laws over the definitions, for proofs to cite. Each function does nothing: its contract is the law.
 
-ghost use Rattle.std.specs.Prelude.{◌≡◌, ◌≢◌, ◌≤◌, ℕ, ℤ, All, IfSome, List, None, Some, Result, length};
+ghost use Rattle.std.specs.Prelude.{◌≡◌, ◌≢◌, ◌≤◌, ℕ, ℤ, All, IfSome, List, None, Option, Some, Result, length};
 ghost use Rattle.krb_name.specs.Field.{IsBytes};
 ghost use Rattle.krb_ccache.specs.declared.credential.HeaderField.{HeaderField};
 ghost use Rattle.krb_ccache.specs.declared.fault.CacheFault.{CacheFault};
@@ -8,6 +8,8 @@ ghost use Rattle.krb_ccache.specs.Configuration.{HoldsOffset};
 ghost use Rattle.krb_ccache.specs.Format.{file_limit, written, IsCache, IsAnswerOf, IsFaultOf};
 ghost use Rattle.krb_ccache.specs.Fault.{offset_of};
 ghost use Rattle.krb_ccache.specs.Offset.{clock_offset};
+ghost use Rattle.krb_ccache.specs.Reader.{GoesTo};
+ghost use Rattle.krb_ccache.specs.Source.{IsGiven};
 ghost use Rattle.krb_ccache.specs.Value.{Cache, Fits};
 
 /// Says that bytes are a cache or have a fault; and that they are a cache of one value only, or
@@ -54,4 +56,19 @@ pub fn the_offset_is_computed()
 pub fn each_fault_lies_within()
     ensures { (bytes : List ℕ) (fault : CacheFault) → IsFaultOf bytes fault
         → IfSome (offset_of fault) (λ at. at ≤ length bytes) }
+{}
+
+/// Says that what is answered for the bytes that a source gave, up to its end or to one byte past the
+/// limit, is what is answered for all that were to come of it: so a reader's last answer is that of
+/// `CCache::parse`, and at the end its credentials are.
+pub fn a_source_tells_its_file()
+    ensures { (whole bytes : List ℕ) (left : Option (List ℕ)) (answer : Result Cache CacheFault)
+        → IsGiven (Some whole) left bytes → IsAnswerOf bytes answer → IsAnswerOf whole answer }
+{}
+
+/// Says that the credentials that a reader gives of a file, up to the first place where none stands that
+/// ends within the limit, are one list.
+pub fn a_reader_stops_in_one_place()
+    ensures { (bytes : List ℕ) (one other : Cache)
+        → GoesTo bytes one → GoesTo bytes other → one ≡ other }
 {}

@@ -2,7 +2,8 @@
 //!
 //! A [`CCache`] is the value of a file in MIT krb5's format, version 0x0504: the fields of its
 //! header, its default principal and its credentials. It is parsed of bytes, read of a `Source` or
-//! made of its parts, and written back as bytes. A [`Credential`] is a ticket with its session key,
+//! made of its parts, and written back as bytes. A [`CredentialReader`] gives the credentials one at a
+//! time, with the bytes of one at hand. A [`Credential`] is a ticket with its session key,
 //! or a configuration entry.
 //!
 //! ```rust
@@ -29,15 +30,21 @@ mod header;
 mod item_fault;
 mod items;
 pub mod laws;
+mod reader;
 mod room;
+mod stepping;
 mod typed;
+mod walking;
 mod writing;
 
 pub use cache::CCache;
 pub use credential::{Credential, HeaderField};
 pub use fault::CacheFault;
+pub use reader::CredentialReader;
 pub use typed::{TypedBytes, TypedList};
 
+#[cfg(test)]
+mod reader_tests;
 #[cfg(test)]
 mod samples;
 #[cfg(test)]

@@ -26,7 +26,7 @@ fn listed(alloc: Global, cache: &CCache) -> Result<String, Fail> {
     Ok(list)
 }
 
-fn line_of(alloc: Global, credential: &Credential) -> Result<String, Fail> {
+pub(crate) fn line_of(alloc: Global, credential: &Credential) -> Result<String, Fail> {
     let server = credential.server.to_text(alloc)?;
     if CCache::is_configuration(credential) {
         return Ok(format!(in alloc; "config {server}\n")?);

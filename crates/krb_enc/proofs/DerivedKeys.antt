@@ -6,7 +6,7 @@ use Rattle.std.specs.Int.{byte_at, bytes_high_first, to_be_bytes, w32, w64}
 use Rattle.sha2.specs.Sha256.{sha256, digest_bytes as bytes_of_32}
 use Rattle.sha2.specs.Sha512.{sha384, digest_bytes as bytes_of_64}
 use Rattle.krb_aes.specs.KeyExpansion.{IsKey}
-use Rattle.krb_kdf.specs.Hmac.{Hash, sha256_hash, sha384_hash, hmac}
+use Rattle.krb_kdf.specs.Hmac.{Hash, sha256_hash, sha384_hash, hmac, hmac_of}
 use Rattle.krb_kdf.specs.Kdf.{kdf, kdf_text, label}
 use Rattle.krb_kdf.specs.declared.purpose.Purpose.TheVariants.{Ke}
 use Rattle.krb_kdf.proofs.Lengths.{length-hmac_sha256, length-hmac_sha384, length-kdf}
@@ -44,7 +44,7 @@ unfolding sha384
 bytes-sha384 text = All-take (λ byte. byte < 256) 48 _ (bytes-words64 _ 8)
 
 bytes-hmac : (h : Hash) → ((text : List ℕ) → AreBytes (h.digest text)) → (key text : List ℕ) → AreBytes (hmac h key text)
-unfolding hmac
+unfolding hmac hmac_of
 bytes-hmac h bytes key text = bytes _
 
 bytes-kdf : (h : Hash) → ((text : List ℕ) → AreBytes (h.digest text)) → (key label : List ℕ) (k : ℕ) → AreBytes (kdf h key label k)

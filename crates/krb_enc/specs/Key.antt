@@ -8,6 +8,11 @@ pub record KeyValue : Type 0 where
   pub etype : ℤ
   pub bytes : List ℕ
 
+-- a base key, and the number of one usage
+pub record UsageKeyValue : Type 0 where
+  pub key : KeyValue
+  pub usage : ℕ
+
 -- the number is of one of the two types
 abbrev pub IsKnown : ℤ → Type 0
 IsKnown etype = (etype ≡ pos 19) ⊎ (etype ≡ pos 20)

@@ -2,14 +2,14 @@
 
 ghost use Rattle.std.specs.Prelude.{◌≡◌, ◌≢◌, ◌↔◌, ◌⊎◌, ◌≤◌, ◌<◌, ◌+◌, ℕ, ℤ, List, length, All, IfOk, IsErrOf, MatchResult, vec_len};
 ghost use Rattle.krb_aes.specs.Cipher.{IsBlock};
-ghost use Rattle.krb_enc.specs.Sealed.{Profile, IsProfile, encryption_key, tag_of, checksum_of, sealed};
+ghost use Rattle.krb_enc.specs.Sealed.{Profile, IsProfile, tag_of, checksum_of, sealed};
+ghost use Rattle.krb_enc.specs.Key.{KeyValue, UsageKeyValue, numbered};
 ghost use Rattle.krb_enc.specs.Opens.{HasTag, Opens, OpensOnlyTo, OpensToNothing};
 ghost use Rattle.krb_enc.specs.Backwards.{OpensBackOnlyTo};
 
 use crate::fault::OpenFault;
 use crate::tag::Tag;
-use crate::texts::{CONFOUNDER_LEN, decrypted, encrypted};
-use krb_aes::KeySchedule;
+use crate::usage_key::UsageKey;
 use std::alloc::{AllocError, Global};
 
 /// Shows that a call comes from this crate: its name can't be written in another.
@@ -37,13 +37,12 @@ pub trait Enctype {
 
     ghost TAG_LEN: { ℕ };
 
-    /// Gives Ke, of 16 or 32 bytes, ready for use: for this crate alone, so that no caller is handed a
-    /// derived key.
+    /// Makes the keys of a usage ready: for this crate alone. Others have them of `Key::for_usage`.
     ///
     /// Source: RFC 8009, section 5.
-    fn encryption_key(inside: Inside, key: &[u8], usage: u32) -> KeySchedule
+    fn usage_key(inside: Inside, key: &[u8], usage: u32) -> UsageKey
         requires { length key.now ≡ KEY_LEN }
-        ensures { result ≡ encryption_key profile key.now usage };
+        ensures { result ≡ record { key = record { etype = ETYPE; bytes = key.now }; usage = usage } };
 
     /// Gives the tag of a ciphertext: 16 or 24 bytes.
     ///
@@ -79,11 +78,7 @@ pub trait Enctype {
         ensures opens { IfOk result (λ text.
             OpensOnlyTo profile key.now usage text.items plain.now) }
     {
-        let schedule = Self::encryption_key(Inside, key, usage);
-        let mut text = encrypted(alloc, &schedule, confounder, plain, Self::TAG_LEN)?;
-        let tag = Self::tag(key, usage, &text);
-        text.extend_from_slice(tag.as_slice())?;
-        Ok(text)
+        Self::usage_key(Inside, key, usage).seal(alloc, confounder, plain)
     }
 
     /// Opens `text`, which was sealed, and answers the plain text. The tag is checked before anything is
@@ -112,14 +107,7 @@ pub trait Enctype {
         ensures memory { IsErrOf result OpenFault.OutOfMemory
             → (16 + TAG_LEN ≤ length text.now) × HasTag profile key.now usage text.now }
     {
-        if text.len() < CONFOUNDER_LEN + Self::TAG_LEN {
-            return Err(OpenFault::Short);
-        }
-        let (body, end) = text.split_at(text.len() - Self::TAG_LEN);
-        if !Self::tag(key, usage, body).is(end) {
-            return Err(OpenFault::Integrity);
-        }
-        Ok(decrypted(alloc, &Self::encryption_key(Inside, key, usage), body)?)
+        Self::usage_key(Inside, key, usage).open(alloc, text)
     }
 
     /// Says that what was sealed opens to its plain text and to no other, by sealing and by decryption. It
@@ -137,6 +125,8 @@ pub trait Enctype {
     ghost is_profile: { IsProfile profile };
 
     ghost etype_is: { profile.etype ≡ ETYPE };
+
+    ghost numbered_is: { numbered ETYPE ≡ profile };
 
     ghost key_len_is: { profile.key_len ≡ KEY_LEN };
 

@@ -6,18 +6,22 @@ use crate::enctype::Enctype;
 use crate::fault::{KeyFault, OpenFault};
 use crate::profiles::{Sha256Aes128, Sha384Aes256};
 use crate::tag::Tag;
+use crate::usage_key::UsageKey;
+use krb_kdf::{HmacSha256, HmacSha384, MacPurpose, Purpose, hmac_sha256, hmac_sha384};
 use std::alloc::{AllocError, Global};
 use std::fmt;
 use std::marker::Model;
 
+// The bytes of a base key, and a key of HMAC with its type's hash function, made ready.
 #[derive(Drop)]
-enum KeyBytes {
-    Short([u8; 16]),
-    Long([u8; 32]),
+pub(crate) enum KeyBytes {
+    Short([u8; 16], HmacSha256),
+    Long([u8; 32], HmacSha384),
 }
 
 /// A base key of one of the two encryption types, held in place: 16 bytes of type 19
-/// (aes128-cts-hmac-sha256-128) or 32 bytes of type 20 (aes256-cts-hmac-sha384-192).
+/// (aes128-cts-hmac-sha256-128) or 32 bytes of type 20 (aes256-cts-hmac-sha384-192). It is ready to
+/// derive the keys of its usages.
 ///
 /// Its `Debug` shows the type's number and no byte, so that no log shows a key.
 #[derive(Drop)]
@@ -26,15 +30,14 @@ pub struct Key {
 }
 
 impl Model for Key {
-    ghost use Rattle.krb_enc.specs.Key.{KeyValue, IsUsable};
+    ghost use Rattle.krb_enc.specs.Key.{KeyValue};
+    ghost use Rattle.krb_enc.specs.Inner.KeyBytes.{value_of, IsReady};
 
     ghost Value = { KeyValue };
 
-    ghost use Rattle.krb_enc.specs.Inner.KeyBytes.{value_of};
-
     ghost view = { λ k. value_of k.bytes };
 
-    ghost invariant = { λ k. IsUsable (value_of k.bytes) };
+    ghost invariant = { λ k. IsReady k.bytes };
 }
 
 impl Key {
@@ -58,8 +61,14 @@ impl Key {
             ↔ (IsKnown etype × (IsUsable (record { etype = etype; bytes = bytes.now }) → ⊥)) }
     {
         let bytes = match etype {
-            19 => KeyBytes::Short(bytes.try_into().map_err(|_| KeyFault::WrongLength)?),
-            20 => KeyBytes::Long(bytes.try_into().map_err(|_| KeyFault::WrongLength)?),
+            19 => KeyBytes::Short(
+                bytes.try_into().map_err(|_| KeyFault::WrongLength)?,
+                HmacSha256::new(bytes),
+            ),
+            20 => KeyBytes::Long(
+                bytes.try_into().map_err(|_| KeyFault::WrongLength)?,
+                HmacSha384::new(bytes),
+            ),
             _ => return Err(KeyFault::UnknownEtype),
         };
         Ok(Key { bytes })
@@ -71,8 +80,8 @@ impl Key {
         ensures usable { IsUsable self.now }
     {
         match &self.bytes {
-            KeyBytes::Short(_) => Sha256Aes128::ETYPE,
-            KeyBytes::Long(_) => Sha384Aes256::ETYPE,
+            KeyBytes::Short(..) => Sha256Aes128::ETYPE,
+            KeyBytes::Long(..) => Sha384Aes256::ETYPE,
         }
     }
 
@@ -82,8 +91,20 @@ impl Key {
         ensures usable { IsUsable self.now }
     {
         match &self.bytes {
-            KeyBytes::Short(bytes) => bytes,
-            KeyBytes::Long(bytes) => bytes,
+            KeyBytes::Short(bytes, _) => bytes,
+            KeyBytes::Long(bytes, _) => bytes,
+        }
+    }
+
+    /// Makes the keys of `usage` ready, for many texts that are sealed or opened for it.
+    ///
+    /// Source: RFC 8009, section 5.
+    pub fn for_usage(&self, usage: u32) -> UsageKey
+        ensures { result ≡ record { key = self.now; usage = usage } }
+    {
+        match &self.bytes {
+            KeyBytes::Short(bytes, base) => UsageKey::new_19(bytes, base, usage),
+            KeyBytes::Long(bytes, base) => UsageKey::new_20(bytes, base, usage),
         }
     }
 
@@ -110,10 +131,7 @@ impl Key {
         ensures opens { IfOk result (λ text.
             OpensOnlyTo (profile_of self.now) self.now.bytes usage text.items plain.now) }
     {
-        match &self.bytes {
-            KeyBytes::Short(key) => Sha256Aes128::seal(alloc, key, usage, confounder, plain),
-            KeyBytes::Long(key) => Sha384Aes256::seal(alloc, key, usage, confounder, plain),
-        }
+        self.for_usage(usage).seal(alloc, confounder, plain)
     }
 
     /// Opens `text`, which was sealed under this key for `usage`, and answers the plain text.
@@ -146,21 +164,25 @@ impl Key {
             → (16 + (profile_of self.now).tag_len ≤ length text.now)
             × HasTag (profile_of self.now) self.now.bytes usage text.now }
     {
-        match &self.bytes {
-            KeyBytes::Short(key) => Sha256Aes128::open(alloc, key, usage, text),
-            KeyBytes::Long(key) => Sha384Aes256::open(alloc, key, usage, text),
-        }
+        self.for_usage(usage).open(alloc, text)
     }
 
     /// Gives the checksum of `text` under this key for `usage`: 16 bytes (type 19) or 24 (type 20).
     ///
     /// Source: RFC 8009, section 6.
+    #[tactic(auto, unfolding(crate::specs::Sealed::checksum_of, krb_kdf::specs::Kdf::kdf, krb_kdf::specs::Kdf::kdf_of, krb_kdf::specs::Hmac::hmac))]
     pub fn checksum(&self, usage: u32, text: &[u8]) -> Tag
         ensures { result ≡ checksum_of (profile_of self.now) self.now.bytes usage text.now }
     {
         match &self.bytes {
-            KeyBytes::Short(key) => Sha256Aes128::checksum(key, usage, text),
-            KeyBytes::Long(key) => Sha384Aes256::checksum(key, usage, text),
+            KeyBytes::Short(_, base) => {
+                let checksum_key = base.derive_19(usage, Purpose::Kc);
+                Tag::new(&hmac_sha256(&checksum_key, &[text])[..16])
+            }
+            KeyBytes::Long(_, base) => {
+                let checksum_key = base.derive_20(usage, MacPurpose::Kc);
+                Tag::new(&hmac_sha384(&checksum_key, &[text])[..24])
+            }
         }
     }
 

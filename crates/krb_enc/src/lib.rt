@@ -6,6 +6,11 @@
 //! let sealed = key.seal(alloc, 2, &confounder, b"plain")?;
 //! let plain = key.open(alloc, 2, &sealed)?;
 //! let tag = key.checksum(6, b"text");
+//!
+//! // Many texts of one usage: its keys are derived once.
+//! let tickets = key.for_usage(2);
+//! let sealed = tickets.seal(alloc, &confounder, b"plain")?;
+//! let plain = tickets.open(alloc, &sealed)?;
 //! ```
 //!
 //! The number before the confounder or the text is the key usage (RFC 4120, section 7.5.1). Confounders are handed in: 16
@@ -21,12 +26,14 @@ pub mod laws;
 mod profiles;
 mod tag;
 mod texts;
+mod usage_key;
 
 pub use enctype::Enctype;
 pub use fault::{KeyFault, OpenFault};
 pub use key::Key;
 pub use profiles::{Sha256Aes128, Sha384Aes256};
 pub use tag::Tag;
+pub use usage_key::UsageKey;
 
 #[cfg(test)]
 mod tests;

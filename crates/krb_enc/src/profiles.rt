@@ -6,11 +6,11 @@ ghost use Rattle.krb_enc.specs.Sealed.{aes128_sha256, aes256_sha384};
 
 use crate::enctype::{Enctype, Inside};
 use crate::tag::Tag;
-use krb_aes::KeySchedule;
-use krb_kdf::{MacPurpose, Purpose, derive_19, derive_20, derive_20_ke, hmac_sha256, hmac_sha384};
-
-// The cipher state before the first text (RFC 8009, section 5).
-const INITIAL_VECTOR: [u8; 16] = [0; 16];
+use crate::texts::INITIAL_VECTOR;
+use crate::usage_key::UsageKey;
+use krb_kdf::{
+    HmacSha256, HmacSha384, MacPurpose, Purpose, derive_19, derive_20, hmac_sha256, hmac_sha384,
+};
 
 /// aes128-cts-hmac-sha256-128: AES with keys of 128 bits, and tags of 128 bits by HMAC with SHA-256.
 #[derive(Clone, Copy, Debug)]
@@ -31,8 +31,8 @@ impl Enctype for Sha256Aes128 {
 
     ghost TAG_LEN = { 16 };
 
-    fn encryption_key(_: Inside, key: &[u8], usage: u32) -> KeySchedule {
-        KeySchedule::new_128(&derive_19(&array_of(key), usage, Purpose::Ke))
+    fn usage_key(_: Inside, key: &[u8], usage: u32) -> UsageKey {
+        UsageKey::new_19(&array_of(key), &HmacSha256::new(key), usage)
     }
 
     #[tactic(auto, unfolding(crate::specs::Sealed::tag_of))]
@@ -50,6 +50,8 @@ impl Enctype for Sha256Aes128 {
     ghost is_profile = { inl refl };
 
     ghost etype_is = { refl };
+
+    ghost numbered_is = { refl };
 
     ghost key_len_is = { refl };
 
@@ -75,8 +77,8 @@ impl Enctype for Sha384Aes256 {
 
     ghost TAG_LEN = { 24 };
 
-    fn encryption_key(_: Inside, key: &[u8], usage: u32) -> KeySchedule {
-        KeySchedule::new_256(&derive_20_ke(&array_of(key), usage))
+    fn usage_key(_: Inside, key: &[u8], usage: u32) -> UsageKey {
+        UsageKey::new_20(&array_of(key), &HmacSha384::new(key), usage)
     }
 
     #[tactic(auto, unfolding(crate::specs::Sealed::tag_of))]
@@ -94,6 +96,8 @@ impl Enctype for Sha384Aes256 {
     ghost is_profile = { inr refl };
 
     ghost etype_is = { refl };
+
+    ghost numbered_is = { refl };
 
     ghost key_len_is = { refl };
 

@@ -62,6 +62,38 @@ fn sealed_texts_of_rfc_8009(rt: HostRuntime) -> Result<(), Fail> {
     Ok(())
 }
 
+// RFC 8009, appendix A. Looks for keys of a usage that keep something of the texts before.
+#[test]
+fn many_texts_of_one_usage(rt: HostRuntime) -> Result<(), Fail> {
+    let short = key_of(&rt, 19, BASE_19)?.for_usage(2);
+    let long = key_of(&rt, 20, BASE_20)?.for_usage(2);
+    for (etype, size, confounder, wanted) in SEALED {
+        let key = if etype == 19 { &short } else { &long };
+        let plain = text_of(rt.alloc(), 1, size)?;
+        let sealed = key.seal(rt.alloc(), &confounder_of(&rt, confounder)?, &plain)?;
+        let found = hex::encode(rt.alloc(), sealed.as_slice())?;
+        is(&rt, (etype, size), found.as_str(), wanted);
+        let opened = key.open(rt.alloc(), &sealed)?;
+        is(&rt, (etype, size), opened.as_slice(), plain.as_slice());
+    }
+    Ok(())
+}
+
+// Looks for refusals that memory is blamed for.
+#[test]
+fn what_keys_of_a_usage_refuse(rt: HostRuntime) -> Result<(), Fail> {
+    for (etype, base) in [(19, BASE_19), (20, BASE_20)] {
+        let key = key_of(&rt, etype, base)?;
+        let sealed = key.seal(rt.alloc(), 2, &[9; 16], b"plain")?;
+        let other = key.for_usage(3);
+        let integrity = Err(OpenFault::Integrity);
+        is(&rt, etype, other.open(rt.alloc(), &sealed), integrity);
+        let short = Err(OpenFault::Short);
+        is(&rt, etype, other.open(rt.alloc(), b"plain"), short);
+    }
+    Ok(())
+}
+
 // RFC 8009, appendix A: checksums of 21 bytes under key usage 2.
 #[test]
 fn checksums_of_rfc_8009(rt: HostRuntime) -> Result<(), Fail> {

@@ -9,6 +9,9 @@ use std::alloc::{AllocError, Global};
 
 pub(crate) const CONFOUNDER_LEN: usize = 16;
 
+// The cipher state before the first text (RFC 8009, section 5).
+pub(crate) const INITIAL_VECTOR: [u8; 16] = [0; 16];
+
 // Encrypts a confounder and a plain text, and keeps room for a tag of so many bytes.
 pub(crate) fn encrypted(
     alloc: Global,

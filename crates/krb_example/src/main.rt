@@ -69,21 +69,38 @@ fn ask(
     Ok(())
 }
 
-fn main(rt: HostRuntime) -> Result<()> {
-    let file = File::open(&rt, "service.keytab")?;
-    let keytab = Keytab::read(rt.alloc(), &mut ReadSource::new(file))?;
-    let request = fs::read(&rt, "request")?;
-    let plain = opened_ticket(rt.alloc(), &keytab, &request)?;
-    println!(rt; "the ticket holds {} bytes", plain.len())?;
+fn read_keytab(rt: &HostRuntime) -> Result<Keytab> {
+    let file = File::open(rt, "service.keytab")?;
+    Ok(Keytab::read(rt.alloc(), &mut ReadSource::new(file))?)
+}
 
+/// Starts a service, which two requests come to: the same bytes twice.
+fn serve_twice(rt: &HostRuntime, keytab: Keytab, request: &[u8]) -> Result<Acceptor<TimedMemory>> {
     let skew = Skew::new(300).context("at most a day")?;
     let mut service = Acceptor::new(keytab, skew, TimedMemory::new(rt.alloc()));
     let now = Moment::new(1_700_000_100, 5).context("a year from 0 to 9999")?;
-    greet(&rt, &mut service, &request, now)?;
-    greet(&rt, &mut service, &request, now)?;
+    greet(rt, &mut service, request, now)?;
+    greet(rt, &mut service, request, now)?;
+    Ok(service)
+}
 
-    let file = File::open(&rt, "client.ccache")?;
-    let cache = CCache::read(rt.alloc(), &mut ReadSource::new(file))?;
+fn read_cache(rt: &HostRuntime) -> Result<CCache> {
+    let file = File::open(rt, "client.ccache")?;
+    Ok(CCache::read(rt.alloc(), &mut ReadSource::new(file))?)
+}
+
+/// Says how much the ticket of a request holds, and lets the request come to a service.
+fn serve(rt: &HostRuntime, request: &[u8]) -> Result<Acceptor<TimedMemory>> {
+    let keytab = read_keytab(rt)?;
+    let plain = opened_ticket(rt.alloc(), &keytab, request)?;
+    println!(rt; "the ticket holds {} bytes", plain.len())?;
+    serve_twice(rt, keytab, request)
+}
+
+fn main(rt: HostRuntime) -> Result<()> {
+    let request = fs::read(&rt, "request")?;
+    let mut service = serve(&rt, &request)?;
+    let cache = read_cache(&rt)?;
     let later = Moment::new(1_700_000_101, 0).context("a year from 0 to 9999")?;
     ask(rt.alloc(), &cache, &mut service, later)?;
     println!(rt; "the client knows the service")?;

@@ -3,15 +3,15 @@ use Rattle.std.proofs.Common.{◌≡◌, ℕ, ◌/◌, ◌≤◌, List, length, 
 use Rattle.std.proofs.lemmas.List.{length-take-le}
 use Rattle.sha2.proofs.Facts256.{length-sha256}
 use Rattle.sha2.proofs.Facts512.{length-sha384}
-use Rattle.krb_kdf.specs.Hmac.{Hash, sha256_hash, sha384_hash, hmac}
+use Rattle.krb_kdf.specs.Hmac.{Hash, sha256_hash, sha384_hash, hmac, hmac_of}
 use Rattle.krb_kdf.specs.Kdf.{kdf, kdf_text}
 
 pub length-hmac_sha256 : (key text : List ℕ) → length (hmac sha256_hash key text) ≡ 32
-unfolding hmac
+unfolding hmac hmac_of
 length-hmac_sha256 key text = length-sha256 _
 
 pub length-hmac_sha384 : (key text : List ℕ) → length (hmac sha384_hash key text) ≡ 48
-unfolding hmac
+unfolding hmac hmac_of
 length-hmac_sha384 key text = length-sha384 _
 
 -- a derived key of at most n bytes, where an HMAC has n bytes

@@ -30,10 +30,13 @@ block_key h key = short_key h key ++ replicate (h.block_len - length (short_key 
 abbrev pub masked : ℕ → List ℕ → List ℕ
 masked pad block = map (λ byte. bit_xor byte pad) block
 
--- H(K XOR opad, H(K XOR ipad, text)), where ipad repeats 0x36 and opad repeats 0x5C
+-- H(K XOR opad, H(K XOR ipad, text)), where ipad repeats 0x36 and opad repeats 0x5C, for a K of one block
+unfoldable pub hmac_of : Hash → List ℕ → List ℕ → List ℕ
+hmac_of h block text = h.digest (masked 0x5c block ++ h.digest (masked 0x36 block ++ text))
+
+-- the same under a key of any length
 unfoldable pub hmac : Hash → List ℕ → List ℕ → List ℕ
-hmac h key text =
-    h.digest (masked 0x5c (block_key h key) ++ h.digest (masked 0x36 (block_key h key) ++ text))
+hmac h key text = hmac_of h (block_key h key) text
 
 -- a text that is lent in parts
 abbrev pub joined : List (Bor (List ℕ)) → List ℕ

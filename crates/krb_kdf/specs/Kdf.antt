@@ -2,7 +2,7 @@
 -- usages are numbers below 2 ^ 32, and k counts bits.
 use Rattle.std.specs.Prelude.{ℕ, ◌/◌, List, [], ◌∷◌, ◌++◌, take}
 use Rattle.std.specs.Int.{w32, to_be_bytes}
-use Rattle.krb_kdf.specs.Hmac.{Hash, hmac}
+use Rattle.krb_kdf.specs.Hmac.{Hash, hmac, hmac_of}
 use Rattle.krb_kdf.specs.declared.purpose.Purpose.{Purpose}
 use Rattle.krb_kdf.specs.declared.purpose.Purpose.TheVariants.{Kc, Ke, Ki}
 use Rattle.krb_kdf.specs.declared.purpose.MacPurpose.{MacPurpose}
@@ -15,6 +15,10 @@ kdf_text label k = to_be_bytes w32 1 ++ label ++ 0 ∷ [] ++ to_be_bytes w32 k
 -- KDF-HMAC-SHA2(key, label, k): the first k bits of the HMAC (section 3)
 unfoldable pub kdf : Hash → List ℕ → List ℕ → ℕ → List ℕ
 kdf h key label k = take (k / 8) (hmac h key (kdf_text label k))
+
+-- the same, where the key is given as one block of HMAC
+unfoldable pub kdf_of : Hash → List ℕ → List ℕ → ℕ → List ℕ
+kdf_of h block label k = take (k / 8) (hmac_of h block (kdf_text label k))
 
 -- the constant of a purpose (section 5)
 abbrev pub purpose_byte : Purpose → ℕ

@@ -1,39 +1,76 @@
 ghost use Rattle.std.specs.Prelude.{◌≡◌, ◌≤◌, take};
 ghost use Rattle.krb_kdf.specs.Hmac.{sha256_hash, sha384_hash};
-ghost use Rattle.krb_kdf.specs.Kdf.{kdf, kdf_text, label, purpose_of};
+ghost use Rattle.krb_kdf.specs.Kdf.{kdf, kdf_of, kdf_text, label, purpose_of};
 ghost use Rattle.krb_kdf.specs.declared.purpose.Purpose.TheVariants.{Ke};
 
-use crate::hmac::{hmac_sha256, hmac_sha384};
+use crate::hmac::{HmacSha256, HmacSha384};
 use crate::purpose::{MacPurpose, Purpose};
+
+impl HmacSha256 {
+    /// Derives the key of `purpose` for the key usage `usage`, where this is a base key of encryption type 19:
+    /// 16 bytes.
+    ///
+    /// Source: RFC 8009, sections 3 and 5.
+    pub fn derive_19(&self, usage: u32, purpose: Purpose) -> [u8; 16]
+        ensures { result ≡ kdf_of sha256_hash self.now (label usage purpose) 128 }
+    {
+        first_bytes(&self.code(&[&kdf_text(usage, purpose, 128)]))
+    }
+}
+
+impl HmacSha384 {
+    /// Derives the encryption key Ke for the key usage `usage`, where this is a base key of encryption type 20:
+    /// 32 bytes.
+    ///
+    /// Source: RFC 8009, sections 3 and 5.
+    pub fn derive_20_ke(&self, usage: u32) -> [u8; 32]
+        ensures { result ≡ kdf_of sha384_hash self.now (label usage Ke) 256 }
+    {
+        first_bytes(&self.code(&[&kdf_text(usage, Purpose::Ke, 256)]))
+    }
+
+    /// Derives the key of `purpose` for the key usage `usage`, where this is a base key of encryption type 20:
+    /// 24 bytes.
+    ///
+    /// Source: RFC 8009, sections 3 and 5.
+    pub fn derive_20(&self, usage: u32, purpose: MacPurpose) -> [u8; 24]
+        ensures { result ≡ kdf_of sha384_hash self.now (label usage (purpose_of purpose)) 192 }
+    {
+        first_bytes(&self.code(&[&kdf_text(usage, purpose.into(), 192)]))
+    }
+}
 
 /// Derives the key of `purpose` for the key usage `usage` from a base key of encryption type 19:
 /// 16 bytes.
 ///
 /// Source: RFC 8009, sections 3 and 5.
+#[tactic(auto, unfolding(crate::specs::Kdf::kdf, crate::specs::Kdf::kdf_of, crate::specs::Hmac::hmac))]
 pub fn derive_19(base_key: &[u8; 16], usage: u32, purpose: Purpose) -> [u8; 16]
     ensures { result ≡ kdf sha256_hash base_key.now (label usage purpose) 128 }
 {
-    first_bytes(&hmac_sha256(base_key, &[&kdf_text(usage, purpose, 128)]))
+    HmacSha256::new(base_key).derive_19(usage, purpose)
 }
 
 /// Derives the encryption key Ke for the key usage `usage` from a base key of encryption type 20:
 /// 32 bytes.
 ///
 /// Source: RFC 8009, sections 3 and 5.
+#[tactic(auto, unfolding(crate::specs::Kdf::kdf, crate::specs::Kdf::kdf_of, crate::specs::Hmac::hmac))]
 pub fn derive_20_ke(base_key: &[u8; 32], usage: u32) -> [u8; 32]
     ensures { result ≡ kdf sha384_hash base_key.now (label usage Ke) 256 }
 {
-    first_bytes(&hmac_sha384(base_key, &[&kdf_text(usage, Purpose::Ke, 256)]))
+    HmacSha384::new(base_key).derive_20_ke(usage)
 }
 
 /// Derives the key of `purpose` for the key usage `usage` from a base key of encryption type 20:
 /// 24 bytes.
 ///
 /// Source: RFC 8009, sections 3 and 5.
+#[tactic(auto, unfolding(crate::specs::Kdf::kdf, crate::specs::Kdf::kdf_of, crate::specs::Hmac::hmac))]
 pub fn derive_20(base_key: &[u8; 32], usage: u32, purpose: MacPurpose) -> [u8; 24]
     ensures { result ≡ kdf sha384_hash base_key.now (label usage (purpose_of purpose)) 192 }
 {
-    first_bytes(&hmac_sha384(base_key, &[&kdf_text(usage, purpose.into(), 192)]))
+    HmacSha384::new(base_key).derive_20(usage, purpose)
 }
 
 // The text that a key of `bits` bits is derived by.

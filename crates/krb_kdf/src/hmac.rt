@@ -1,12 +1,110 @@
-ghost use Rattle.std.specs.Prelude.{◌≡◌, ◌^◌, ◌<◌, ◌≤◌};
-ghost use Rattle.krb_kdf.specs.Hmac.{sha256_hash, sha384_hash, block_key, masked, hmac, joined};
+ghost use Rattle.std.specs.Prelude.{◌≡◌, ◌^◌, ◌<◌, ◌≤◌, ◌++◌, List, ℕ};
+ghost use Rattle.krb_kdf.specs.Hmac.{sha256_hash, sha384_hash, block_key, masked, hmac, hmac_of, joined};
+ghost use Rattle.sha2.specs.Hashers.{Holds256, Holds384};
 
 use crate::block_hash::BlockHash;
 use sha2::{Sha256, Sha384};
+use std::marker::Model;
 
 const INNER_PAD: u8 = 0x36;
 
 const OUTER_PAD: u8 = 0x5c;
+
+/// A key of HMAC with SHA-256, made ready: the block of the key, and the hashers that have worked through it
+/// under either pad. It is held in place.
+///
+/// In a clause it is the list of the block's 64 bytes.
+#[derive(Drop)]
+pub struct HmacSha256 {
+    block: [u8; 64],
+    inner: Sha256,
+    outer: Sha256,
+}
+
+impl Model for HmacSha256 {
+    ghost Value = { List ℕ };
+
+    ghost view = { λ k. k.block };
+
+    ghost invariant = { λ k. Holds256 k.inner (masked 0x36 k.block)
+        × Holds256 k.outer (masked 0x5c k.block) };
+}
+
+impl HmacSha256 {
+    /// Makes a key ready. A key of any length will do: one longer than 64 bytes stands for its digest.
+    ///
+    /// Source: RFC 2104, sections 2 and 4.
+    pub fn new(key: &[u8]) -> HmacSha256
+        ensures { result ≡ block_key sha256_hash key.now }
+    {
+        let block = block_key::<Sha256, 32, 64>(key);
+        HmacSha256 {
+            block,
+            inner: padded(&block, INNER_PAD),
+            outer: padded(&block, OUTER_PAD),
+        }
+    }
+
+    /// The HMAC of a text under this key: 32 bytes.
+    ///
+    /// The text is the parts joined, in order; there may be none, and each may be empty.
+    ///
+    /// Source: RFC 2104, section 2.
+    #[tactic(auto, unfolding(crate::specs::Hmac::hmac_of))]
+    pub fn code(&self, parts: &[&[u8]]) -> [u8; 32]
+        ensures { result ≡ hmac_of sha256_hash self.now (joined parts.now) }
+    {
+        code::<Sha256, 32>(&self.inner, &self.outer, parts)
+    }
+}
+
+/// A key of HMAC with SHA-384, made ready: the block of the key, and the hashers that have worked through it
+/// under either pad. It is held in place.
+///
+/// In a clause it is the list of the block's 128 bytes.
+#[derive(Drop)]
+pub struct HmacSha384 {
+    block: [u8; 128],
+    inner: Sha384,
+    outer: Sha384,
+}
+
+impl Model for HmacSha384 {
+    ghost Value = { List ℕ };
+
+    ghost view = { λ k. k.block };
+
+    ghost invariant = { λ k. Holds384 k.inner (masked 0x36 k.block)
+        × Holds384 k.outer (masked 0x5c k.block) };
+}
+
+impl HmacSha384 {
+    /// Makes a key ready. A key of any length will do: one longer than 128 bytes stands for its digest.
+    ///
+    /// Source: RFC 2104, sections 2 and 4.
+    pub fn new(key: &[u8]) -> HmacSha384
+        ensures { result ≡ block_key sha384_hash key.now }
+    {
+        let block = block_key::<Sha384, 48, 128>(key);
+        HmacSha384 {
+            block,
+            inner: padded(&block, INNER_PAD),
+            outer: padded(&block, OUTER_PAD),
+        }
+    }
+
+    /// The HMAC of a text under this key: 48 bytes.
+    ///
+    /// The text is the parts joined, in order; there may be none, and each may be empty.
+    ///
+    /// Source: RFC 2104, section 2.
+    #[tactic(auto, unfolding(crate::specs::Hmac::hmac_of))]
+    pub fn code(&self, parts: &[&[u8]]) -> [u8; 48]
+        ensures { result ≡ hmac_of sha384_hash self.now (joined parts.now) }
+    {
+        code::<Sha384, 48>(&self.inner, &self.outer, parts)
+    }
+}
 
 /// The HMAC with SHA-256 of a text under `key`: 32 bytes.
 ///
@@ -14,10 +112,11 @@ const OUTER_PAD: u8 = 0x5c;
 /// any length will do: one longer than 64 bytes stands for its digest.
 ///
 /// Source: RFC 2104, section 2.
+#[tactic(auto, unfolding(crate::specs::Hmac::hmac))]
 pub fn hmac_sha256(key: &[u8], parts: &[&[u8]]) -> [u8; 32]
     ensures { result ≡ hmac sha256_hash key.now (joined parts.now) }
 {
-    hmac::<Sha256, 32, 64>(key, parts)
+    HmacSha256::new(key).code(parts)
 }
 
 /// The HMAC with SHA-384 of a text under `key`: 48 bytes.
@@ -26,29 +125,44 @@ pub fn hmac_sha256(key: &[u8], parts: &[&[u8]]) -> [u8; 32]
 /// any length will do: one longer than 128 bytes stands for its digest.
 ///
 /// Source: RFC 2104, section 2.
+#[tactic(auto, unfolding(crate::specs::Hmac::hmac))]
 pub fn hmac_sha384(key: &[u8], parts: &[&[u8]]) -> [u8; 48]
     ensures { result ≡ hmac sha384_hash key.now (joined parts.now) }
 {
-    hmac::<Sha384, 48, 128>(key, parts)
+    HmacSha384::new(key).code(parts)
 }
 
-// The HMAC with a hash function of digests of `N` bytes and blocks of `B` bytes.
-fn hmac<D: BlockHash<N>, const N: usize, const B: usize>(key: &[u8], parts: &[&[u8]]) -> [u8; N]
-    requires block { D.hash.block_len ≡ B }
-    requires digest_fits { N ≤ B }
+// A hasher that has taken a block under a pad.
+fn padded<D: BlockHash<N>, const N: usize, const B: usize>(block: &[u8; B], pad: u8) -> D
     requires memory { B < 2 ^ 63 }
-    ensures { result ≡ hmac D.hash key.now (joined parts.now) }
+    ensures { D.holds result (masked pad block.now) }
 {
-    let block = block_key::<D, N, B>(key);
-    let mut inner = D::new();
-    inner.update(masked(&block, INNER_PAD));
+    let mut hasher = D::new();
+    hasher.update(masked(block, pad));
+    hasher
+}
+
+// The digest of what `outer` holds and the digest of what `inner` holds and the parts.
+fn code<D: BlockHash<N>, const N: usize>(inner: &D, outer: &D, parts: &[&[u8]]) -> [u8; N]
+    ensures { (front back : List ℕ) → D.holds inner.now front → D.holds outer.now back
+        → result ≡ D.hash.digest (back ++ D.hash.digest (front ++ joined parts.now)) }
+{
+    let mut hasher = copied(inner);
     for part in parts {
-        inner.update(part);
+        hasher.update(part);
     }
-    let mut outer = D::new();
-    outer.update(masked(&block, OUTER_PAD));
-    outer.update(inner.finalize());
-    outer.finalize()
+    let mut whole = copied(outer);
+    whole.update(hasher.finalize());
+    whole.finalize()
+}
+
+fn copied<D: BlockHash<N>, const N: usize>(hasher: &D) -> D
+    ensures { result ≡ hasher.now }
+{
+    match hasher.clone() {
+        Ok(copy) => copy,
+        Err(_) => unreachable!(),
+    }
 }
 
 // The key as one block.

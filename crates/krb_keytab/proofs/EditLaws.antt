@@ -14,7 +14,7 @@ use Rattle.krb_keytab.specs.declared.fault.KeytabFault.{KeytabFault}
 use Rattle.krb_keytab.specs.declared.fault.KeytabFault.TheVariants.{NoSuchEntry}
 use Rattle.krb_keytab.specs.declared.finding.Extent.{Extent}
 use Rattle.krb_keytab.proofs.RecordLaws.{entry_size}
-use Rattle.krb_keytab.proofs.FileLaws.{one_answer}
+use Rattle.krb_keytab.proofs.OneEnd.{same_answers}
 use Rattle.krb_keytab.proofs.PutLaws.{Puts-length}
 use Rattle.krb_keytab.proofs.MadeLaws.{made_keytab}
 
@@ -125,10 +125,10 @@ fault_is : (f g : KeytabFault) → answer_of (Err f) ≡ answer_of (Err g) → f
 fault_is f g e = cc
 
 pub no_fault : (bytes : List ℕ) (entries : List KeytabEntry) (fault : KeytabFault) → IsBytes bytes → IsKeytab bytes entries → IsFaultOf bytes fault → ⊥
-no_fault bytes entries fault fits k f = not_both entries fault (one_answer bytes (Ok entries) (Err fault) fits k f)
+no_fault bytes entries fault fits k f = not_both entries fault (same_answers bytes (Ok entries) (Err fault) k f)
 
 pub same_fault : (bytes : List ℕ) (f g : KeytabFault) → IsBytes bytes → IsFaultOf bytes f → IsFaultOf bytes g → f ≡ g
-same_fault bytes f g fits p q = fault_is f g (one_answer bytes (Err f) (Err g) fits p q)
+same_fault bytes f g fits p q = fault_is f g (same_answers bytes (Err f) (Err g) p q)
 
 -- an entry of this index is there, or it isn't
 pub not_lacking : (bytes : List ℕ) (index : ℕ) (place : Extent) → IsBytes bytes → HoldsIndex bytes index place → LacksEntry bytes index → ⊥
@@ -136,7 +136,7 @@ not_lacking bytes index place fits h l =
     let one : KeytabRecord = entry h.removed h.short_kvno h.rest in
     let listed : List KeytabEntry = flat_map entries_of h.before ++ (h.removed ∷ flat_map entries_of h.after) in
     let k : IsKeytab bytes listed = subst (IsKeytab bytes) (flat_split entries_of h.before one h.after) (made_keytab h.is) in
-    let same = list_is l.entries listed (one_answer bytes (Ok l.entries) (Ok listed) fits l.list k) in
+    let same = list_is l.entries listed (same_answers bytes (Ok l.entries) (Ok listed) l.list k) in
     omega (arith, ap length same, length-append (flat_map entries_of h.before) (h.removed ∷ flat_map entries_of h.after), h.index_is, l.few)
 
 -- ---- what removing answers

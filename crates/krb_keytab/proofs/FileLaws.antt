@@ -1,23 +1,22 @@
--- Of the bytes of a file one answer holds: that they are a keytab, with its entries, or one fault.
-use Rattle.std.proofs.Common.{◌≡◌, ◌≢◌, ◌⊎◌, ℕ, pos, neg_ℤ, ◌+◌, ◌<◌, ◌≤◌, List, [], ◌∷◌, ◌++◌, length, Result, Ok, Err, refl, sym, ap, subst, ◌∙◌, append_assoc, append-nil, arith, inl, inr}
+-- What whole records reach, and what is found behind them.
+use Rattle.std.proofs.Common.{◌≡◌, ℕ, pos, neg_ℤ, ◌+◌, ◌<◌, ◌≤◌, List, [], ◌∷◌, ◌++◌, length, Result, Ok, Err, refl, sym, ap, subst, ◌∙◌, append_assoc, append-nil, arith}
 use Rattle.std.specs.Int.{w32}
-use Rattle.std.specs.Prelude.{IfOk, IfErr}
-use Rattle.std.specs.List.{flat_map, AllByRecursion}
-use Rattle.std.proofs.lemmas.List.{length-append, append_cancel_left, drop_at}
-use Rattle.std.proofs.lemmas.List.Concat.{flat_map-cons, flat_map-append}
-use Rattle.std.proofs.lemmas.List.Elements.{All-push, All-from_recursion, recursion_from_All}
+use Rattle.std.specs.List.{flat_map}
+use Rattle.std.proofs.lemmas.List.{length-append, drop_at}
+use Rattle.std.proofs.lemmas.List.Concat.{flat_map-append}
+use Rattle.std.proofs.lemmas.List.Elements.{All-push, All-from_recursion}
 use Rattle.krb_name.specs.Cursor.{Place, signed_bytes}
 use Rattle.krb_name.specs.Field.{IsBytes}
 use Rattle.krb_name.proofs.CursorLaws.{IsBytes-drop}
 use Rattle.krb_keytab.specs.Entry.{KeytabEntry}
-use Rattle.krb_keytab.specs.Format.{version, file_limit, KeytabRecord, hole, entry, entry_bytes, record_bytes, FitsRecord, entries_of, IsReached, IsKeytab, IsCutOff, HoldsNoEntry, StandsAt, IsFaultOf, IsAnswerOf}
+use Rattle.krb_keytab.specs.Format.{version, file_limit, KeytabRecord, hole, entry, entry_bytes, record_bytes, FitsRecord, entries_of, IsReached, IsKeytab, IsCutOff, HoldsNoEntry, StandsAt, IsFaultOf}
 use Rattle.krb_keytab.specs.declared.fault.KeytabFault.{KeytabFault}
 use Rattle.krb_keytab.specs.declared.fault.KeytabFault.TheVariants.{Version, Truncated, BadEntry, TooLong, NoSuchEntry, Read, OutOfMemory}
 use Rattle.krb_keytab.specs.declared.record.Record.{Record}
 use Rattle.krb_keytab.specs.declared.record.Record.TheVariants.{End, Hole, Entry}
 use Rattle.krb_keytab.specs.Inner.Reading.{record_at}
 use Rattle.krb_keytab.specs.Inner.Standing.{IsBetween, Stands}
-use Rattle.krb_keytab.proofs.RecordLaws.{standing, again_record, again_end, again_cut, again_bad, take_record}
+use Rattle.krb_keytab.proofs.RecordLaws.{standing, take_record}
 
 -- ---- one record more is reached
 
@@ -40,18 +39,7 @@ reach_more bytes at entries behind more after reached between =
 pub reach_start : (bytes rest : List ℕ) → bytes ≡ version ++ rest → IsReached bytes 2 [] rest
 reach_start bytes rest e = record { records = []; fit = All-from_recursion FitsRecord [] tt; bytes_are = e; at_is = refl; entries_are = refl }
 
--- ---- one answer at most
-
--- what is said of a file whose records end so, with these entries before
-abbrev pub Concludes : Result (Record × Place) KeytabFault → List KeytabEntry → Result (List KeytabEntry) KeytabFault → Type 0
-Concludes (Ok (End, after)) entries answer = answer ≡ Ok entries
-Concludes (Ok (Hole, after)) entries answer = ⊥
-Concludes (Ok (Entry e, after)) entries answer = ⊥
-Concludes (Err fault) entries answer = answer ≡ Err fault
-
-not_standing : (one : KeytabRecord) (after : Place) (entries : List KeytabEntry) (answer : Result (List KeytabEntry) KeytabFault) → Concludes (standing one after) entries answer → ⊥
-not_standing (hole ignored) after entries answer h = h
-not_standing (entry e short_kvno rest) after entries answer h = h
+-- ---- one record
 
 abbrev read_one : Record × Place → Result (Record × Place) KeytabFault
 read_one x = Ok x
@@ -75,137 +63,10 @@ same_standing (entry d s r) (entry f t u) p q e =
     same_entries : (d f : KeytabEntry) → (let x : Record = Entry d in x) ≡ Entry f → d ∷ [] ≡ f ∷ []
     same_entries d f e = cc
 
-both_conclude : (last : Result (Record × Place) KeytabFault) (entries : List KeytabEntry) (v w : Result (List KeytabEntry) KeytabFault) → Concludes last entries v → Concludes last entries w → v ≡ w
-both_conclude (Ok (End, after)) entries v w p q = p ∙ sym q
-both_conclude (Ok (Hole, after)) entries v w p q = absurd p
-both_conclude (Ok (Entry e, after)) entries v w p q = absurd p
-both_conclude (Err fault) entries v w p q = p ∙ sym q
-
--- past the first record
-past_one : (at after : ℕ) (front more : List KeytabEntry) (one : KeytabRecord) (ones : List KeytabRecord) (b : List ℕ) (v : Result (List KeytabEntry) KeytabFault)
-    → at + length (record_bytes one) ≡ after → front ++ entries_of one ≡ more
-    → Concludes (record_at (record { at = at + length (flat_map record_bytes (one ∷ ones)); rest = b })) (front ++ flat_map entries_of (one ∷ ones)) v
-    → Concludes (record_at (record { at = after + length (flat_map record_bytes ones); rest = b })) (more ++ flat_map entries_of ones) v
-past_one at after front more one ones b v e f p =
-    let size : length (flat_map record_bytes (one ∷ ones)) ≡ length (record_bytes one) + length (flat_map record_bytes ones) = ap length (flat_map-cons record_bytes one ones) ∙ length-append (record_bytes one) (flat_map record_bytes ones) in
-    let place : at + length (flat_map record_bytes (one ∷ ones)) ≡ after + length (flat_map record_bytes ones) = omega (arith, size, e) in
-    let list : front ++ flat_map entries_of (one ∷ ones) ≡ more ++ flat_map entries_of ones = ap (λ (t : List KeytabEntry). front ++ t) (flat_map-cons entries_of one ones) ∙ sym (append_assoc front (entries_of one) (flat_map entries_of ones)) ∙ ap (λ (t : List KeytabEntry). t ++ flat_map entries_of ones) f in
-    subst (λ (n : ℕ). Concludes (record_at (record { at = n; rest = b })) (more ++ flat_map entries_of ones) v) place (subst (λ (t : List KeytabEntry). Concludes (record_at (record { at = at + length (flat_map record_bytes (one ∷ ones)); rest = b })) t v) list p)
-
--- a record stands where another reading says that the records have ended
-not_ended : (at : ℕ) (one : KeytabRecord) (ones : List KeytabRecord) (b c : List ℕ) (entries : List KeytabEntry) (v : Result (List KeytabEntry) KeytabFault) → FitsRecord one
-    → b ≡ flat_map record_bytes (one ∷ ones) ++ c → Concludes (record_at (record { at = at; rest = b })) entries v → ⊥
-not_ended at one ones b c entries v fit e p =
-    let parts : b ≡ record_bytes one ++ (flat_map record_bytes ones ++ c) = e ∙ ap (λ (t : List ℕ). t ++ c) (flat_map-cons record_bytes one ones) ∙ append_assoc (record_bytes one) (flat_map record_bytes ones) c in
-    let stands : record_at (record { at = at; rest = b }) ≡ standing one (record { at = at + length (record_bytes one); rest = flat_map record_bytes ones ++ c }) = ap (λ (t : List ℕ). record_at (record { at = at; rest = t })) parts ∙ again_record at one (flat_map record_bytes ones ++ c) fit in
-    not_standing one (record { at = at + length (record_bytes one); rest = flat_map record_bytes ones ++ c }) entries v (subst (λ (last : Result (Record × Place) KeytabFault). Concludes last entries v) stands p)
-
--- two ways to read the same bytes to their end say the same
-same_answer : (ones others : List KeytabRecord) (at : ℕ) (front : List KeytabEntry) (b c : List ℕ) (v w : Result (List KeytabEntry) KeytabFault) → AllByRecursion FitsRecord ones → AllByRecursion FitsRecord others
-    → flat_map record_bytes ones ++ b ≡ flat_map record_bytes others ++ c
-    → Concludes (record_at (record { at = at + length (flat_map record_bytes ones); rest = b })) (front ++ flat_map entries_of ones) v
-    → Concludes (record_at (record { at = at + length (flat_map record_bytes others); rest = c })) (front ++ flat_map entries_of others) w → v ≡ w
-same_answer [] [] at front b c v w fit also e p q =
-    both_conclude (record_at (record { at = at + 0; rest = b })) (front ++ []) v w p (subst (λ (t : List ℕ). Concludes (record_at (record { at = at + 0; rest = t })) (front ++ []) w) (sym e) q)
-same_answer [] (other ∷ others) at front b c v w fit also e p q = absurd (not_ended (at + 0) other others b c (front ++ []) v also.0 e p)
-same_answer (one ∷ ones) [] at front b c v w fit also e p q = absurd (not_ended (at + 0) one ones c b (front ++ []) w fit.0 (sym e) q)
-same_answer (one ∷ ones) (other ∷ others) at front b c v w fit also e p q =
-    let x : List ℕ = flat_map record_bytes ones ++ b in
-    let y : List ℕ = flat_map record_bytes others ++ c in
-    let first : flat_map record_bytes (one ∷ ones) ++ b ≡ record_bytes one ++ x = ap (λ (t : List ℕ). t ++ b) (flat_map-cons record_bytes one ones) ∙ append_assoc (record_bytes one) (flat_map record_bytes ones) b in
-    let second : flat_map record_bytes (other ∷ others) ++ c ≡ record_bytes other ++ y = ap (λ (t : List ℕ). t ++ c) (flat_map-cons record_bytes other others) ∙ append_assoc (record_bytes other) (flat_map record_bytes others) c in
-    let same : standing one (record { at = at + length (record_bytes one); rest = x }) ≡ standing other (record { at = at + length (record_bytes other); rest = y }) =
-    sym (again_record at one x fit.0) ∙ ap (λ (t : List ℕ). record_at (record { at = at; rest = t })) (sym first ∙ e ∙ second) ∙ again_record at other y also.0 in
-    let s = same_standing one other (record { at = at + length (record_bytes one); rest = x }) (record { at = at + length (record_bytes other); rest = y }) same in
-    same_answer ones others (at + length (record_bytes one)) (front ++ entries_of one) b c v w fit.1 also.1 (ap (λ (k : Place). k.rest) s.1)
-    (past_one at (at + length (record_bytes one)) front (front ++ entries_of one) one ones b v refl refl p)
-    (past_one at (at + length (record_bytes one)) front (front ++ entries_of one) other others c w (sym (ap (λ (k : Place). k.at) s.1)) (ap (λ (t : List KeytabEntry). front ++ t) (sym s.0)) q)
-
--- ---- what an answer rests on
-
--- the records, and what stands behind them
-pub record Reads (bytes : List ℕ) (answer : Result (List KeytabEntry) KeytabFault) : Type 0 where
-  pub records : List KeytabRecord
-  pub fit : AllByRecursion FitsRecord records
-  pub behind : List ℕ
-  pub bytes_are : bytes ≡ version ++ (flat_map record_bytes records ++ behind)
-  pub concludes : Concludes (record_at (record { at = 2 + length (flat_map record_bytes records); rest = behind })) (flat_map entries_of records) answer
-
-reached_reads : (bytes : List ℕ) (at : ℕ) (entries : List KeytabEntry) (behind : List ℕ) (answer : Result (List KeytabEntry) KeytabFault) → IsReached bytes at entries behind
-    → Concludes (record_at (record { at = at; rest = behind })) entries answer → Reads bytes answer
-reached_reads bytes at entries behind answer r c = record {
-  records = r.records;
-  fit = recursion_from_All FitsRecord r.records r.fit;
-  behind = behind;
-  bytes_are = r.bytes_are;
-  concludes = subst (λ (t : List KeytabEntry). Concludes (record_at (record { at = 2 + length (flat_map record_bytes r.records); rest = behind })) t answer) r.entries_are (subst (λ (n : ℕ). Concludes (record_at (record { at = n; rest = behind })) entries answer) r.at_is c);
-}
-
-concluded : (last read : Result (Record × Place) KeytabFault) (entries : List KeytabEntry) (answer : Result (List KeytabEntry) KeytabFault) → last ≡ read → Concludes read entries answer → Concludes last entries answer
-concluded last read entries answer e c = subst (λ (k : Result (Record × Place) KeytabFault). Concludes k entries answer) (sym e) c
-
-keytab_reads : (bytes : List ℕ) (entries : List KeytabEntry) → IsKeytab bytes entries → Reads bytes (Ok entries)
-keytab_reads bytes entries k =
-    let end = again_end k.at k.behind k.end in
-    reached_reads bytes k.at entries k.behind (Ok entries) k.reached (concluded (record_at (record { at = k.at; rest = k.behind })) (Ok (End, end.0)) entries (Ok entries) end.1 refl)
-
-cut_reads : (bytes : List ℕ) (at : ℕ) → StandsAt bytes at IsCutOff → Reads bytes (Err (Truncated at))
-cut_reads bytes at s = reached_reads bytes at s.entries s.behind (Err (Truncated at)) s.reached (concluded (record_at (record { at = at; rest = s.behind })) (Err (Truncated at)) s.entries (Err (Truncated at)) (again_cut at s.behind s.faulty) refl)
+-- ---- what lies behind
 
 behind_fits : (front behind : List ℕ) → IsBytes (front ++ behind) → IsBytes behind
 behind_fits front behind fits = subst IsBytes (drop_at front behind (length front) refl) (IsBytes-drop (length front) (front ++ behind) fits)
-
-reached_fits : (bytes : List ℕ) (at : ℕ) (entries : List KeytabEntry) (behind : List ℕ) → IsBytes bytes → IsReached bytes at entries behind → IsBytes behind
-reached_fits bytes at entries behind fits r = behind_fits (flat_map record_bytes r.records) behind (behind_fits version (flat_map record_bytes r.records ++ behind) (subst IsBytes r.bytes_are fits))
-
-bad_reads : (bytes : List ℕ) (at : ℕ) → IsBytes bytes → StandsAt bytes at HoldsNoEntry → Reads bytes (Err (BadEntry at))
-bad_reads bytes at fits s =
-    reached_reads bytes at s.entries s.behind (Err (BadEntry at)) s.reached (concluded (record_at (record { at = at; rest = s.behind })) (Err (BadEntry at)) s.entries (Err (BadEntry at)) (again_bad at s.behind (reached_fits bytes at s.entries s.behind fits s.reached) s.faulty) refl)
-
-same_reads : (bytes : List ℕ) (v w : Result (List KeytabEntry) KeytabFault) → Reads bytes v → Reads bytes w → v ≡ w
-same_reads bytes v w p q =
-    same_answer p.records q.records 2 [] p.behind q.behind v w p.fit q.fit (append_cancel_left version _ _ (sym p.bytes_are ∙ q.bytes_are)) p.concludes q.concludes
-
--- an answer is read of the records, or there is no version, or the bytes are too many
-record IsRead (bytes : List ℕ) (v : Result (List KeytabEntry) KeytabFault) : Type 0 where
-  limit : length bytes ≤ file_limit
-  reads : Reads bytes v
-
-record IsOther (bytes : List ℕ) (v : Result (List KeytabEntry) KeytabFault) : Type 0 where
-  limit : length bytes ≤ file_limit
-  other : (others : List ℕ) → bytes ≡ version ++ others → ⊥
-  is : v ≡ Err Version
-
-record IsLong (bytes : List ℕ) (v : Result (List KeytabEntry) KeytabFault) : Type 0 where
-  long : file_limit < length bytes
-  is : v ≡ Err TooLong
-
-abbrev Way : List ℕ → Result (List KeytabEntry) KeytabFault → Type 0
-Way bytes v = IsRead bytes v ⊎ (IsOther bytes v ⊎ IsLong bytes v)
-
-way : (bytes : List ℕ) (v : Result (List KeytabEntry) KeytabFault) → IsBytes bytes → IsAnswerOf bytes v → Way bytes v
-way bytes (Ok entries) fits a = inl (record { limit = a.limit; reads = keytab_reads bytes entries a })
-way bytes (Err TooLong) fits a = inr (inr (record { long = a; is = refl }))
-way bytes (Err Version) fits a = inr (inl (record { limit = a.0; other = a.1; is = refl }))
-way bytes (Err (Truncated at)) fits a = inl (record { limit = a.limit; reads = cut_reads bytes at a })
-way bytes (Err (BadEntry at)) fits a = inl (record { limit = a.limit; reads = bad_reads bytes at fits a })
-way bytes (Err NoSuchEntry) fits a = absurd a
-way bytes (Err Read) fits a = absurd a
-way bytes (Err OutOfMemory) fits a = absurd a
-
-same_way : (bytes : List ℕ) (v w : Result (List KeytabEntry) KeytabFault) → Way bytes v → Way bytes w → v ≡ w
-same_way bytes v w (inl p) (inl q) = same_reads bytes v w p.reads q.reads
-same_way bytes v w (inl p) (inr (inl q)) = absurd (q.other _ p.reads.bytes_are)
-same_way bytes v w (inl p) (inr (inr q)) = let a = p.limit in let b = q.long in absurd (omega arith)
-same_way bytes v w (inr (inl p)) (inl q) = absurd (p.other _ q.reads.bytes_are)
-same_way bytes v w (inr (inl p)) (inr (inl q)) = p.is ∙ sym q.is
-same_way bytes v w (inr (inl p)) (inr (inr q)) = let a = p.limit in let b = q.long in absurd (omega arith)
-same_way bytes v w (inr (inr p)) (inl q) = let a = p.long in let b = q.limit in absurd (omega arith)
-same_way bytes v w (inr (inr p)) (inr (inl q)) = let a = p.long in let b = q.limit in absurd (omega arith)
-same_way bytes v w (inr (inr p)) (inr (inr q)) = p.is ∙ sym q.is
-
-pub one_answer : (bytes : List ℕ) (v w : Result (List KeytabEntry) KeytabFault) → IsBytes bytes → IsAnswerOf bytes v → IsAnswerOf bytes w → v ≡ w
-one_answer bytes v w fits a b = same_way bytes v w (way bytes v fits a) (way bytes w fits b)
 
 -- ---- what a loop over the records needs
 
@@ -256,23 +117,3 @@ fault_found bytes place entries TooLong limit reached fits e = absurd (read_stan
 fault_found bytes place entries NoSuchEntry limit reached fits e = absurd (read_stands place (Err NoSuchEntry) fits e)
 fault_found bytes place entries Read limit reached fits e = absurd (read_stands place (Err Read) fits e)
 fault_found bytes place entries OutOfMemory limit reached fits e = absurd (read_stands place (Err OutOfMemory) fits e)
-
--- ---- the answer that holds is the one that is given, memory aside
-
-no_memory : (fault : KeytabFault) → (fault ≡ OutOfMemory) ⊎ (fault ≢ OutOfMemory)
-no_memory OutOfMemory = inl refl
-no_memory Version = inr (λ e. cc)
-no_memory (Truncated at) = inr (λ e. cc)
-no_memory (BadEntry at) = inr (λ e. cc)
-no_memory TooLong = inr (λ e. cc)
-no_memory NoSuchEntry = inr (λ e. cc)
-no_memory Read = inr (λ e. cc)
-
-pub only_answer : (bytes : List ℕ) (result answer : Result (List KeytabEntry) KeytabFault) → IsBytes bytes → IfOk result (IsKeytab bytes) → IfErr result (λ fault. fault ≢ OutOfMemory → IsFaultOf bytes fault)
-    → IsAnswerOf bytes answer → (result ≡ answer) ⊎ (result ≡ Err OutOfMemory)
-only_answer bytes (Ok entries) answer fits found fault a = inl (one_answer bytes (Ok entries) answer fits found a)
-only_answer bytes (Err f) answer fits found fault a =
-    elim (no_memory f) [
-      | inl same ↦ inr (ap (λ (g : KeytabFault). Err g) same)
-      | inr other ↦ inl (one_answer bytes (Err f) answer fits (fault other) a)
-    ]

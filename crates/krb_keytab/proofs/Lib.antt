@@ -16,3 +16,9 @@ pub mod EditLaws
 pub mod OneSplit
 pub mod AddLaws
 pub mod FaultPlaces
+pub mod MeetLaws
+pub mod StandLaws
+pub mod ToldLaws
+pub mod OneEnd
+pub mod CollectLaws
+pub mod OneReader

@@ -31,7 +31,7 @@ head_is x y xs ys e = cc
 tail_is : (x y : ℕ) (xs ys : List ℕ) → bytes_of (x ∷ xs) ≡ bytes_of (y ∷ ys) → xs ≡ ys
 tail_is x y xs ys e = cc
 
-behind_four : (a b c d p q r s : ℕ) (xs ys : List ℕ) → bytes_of (a ∷ b ∷ c ∷ d ∷ xs) ≡ bytes_of (p ∷ q ∷ r ∷ s ∷ ys) → xs ≡ ys
+pub behind_four : (a b c d p q r s : ℕ) (xs ys : List ℕ) → bytes_of (a ∷ b ∷ c ∷ d ∷ xs) ≡ bytes_of (p ∷ q ∷ r ∷ s ∷ ys) → xs ≡ ys
 behind_four a b c d p q r s xs ys e = cc
 
 only_is : (e f : KeytabEntry) → list_of (e ∷ []) ≡ list_of (f ∷ []) → e ≡ f
@@ -66,7 +66,7 @@ same_entry e f s t rest other p q same bytes =
     let r = same_rest e s t rest other p q b in
     ap (λ (n : ℕ). entry e n rest) r.0 ∙ ap (λ (x : List ℕ). entry e t x) r.1 ∙ ap (λ (g : KeytabEntry). entry g t other) same
 
-same_record : (one other : KeytabRecord) → FitsRecord one → FitsRecord other → entries_of one ≡ entries_of other → record_bytes one ≡ record_bytes other → one ≡ other
+pub same_record : (one other : KeytabRecord) → FitsRecord one → FitsRecord other → entries_of one ≡ entries_of other → record_bytes one ≡ record_bytes other → one ≡ other
 same_record (hole x) (hole y) p q e b = ap (λ (t : List ℕ). hole t) (behind_four _ _ _ _ _ _ _ _ x y b)
 same_record (hole x) (entry f t r) p q e b = let n : list_of [] ≡ list_of (f ∷ []) = e in absurd cc
 same_record (entry d s r) (hole y) p q e b = let n : list_of (d ∷ []) ≡ list_of [] = e in absurd cc
@@ -91,7 +91,7 @@ not_end (entry d s r) p q e = entry_is_no_end d (kind_is (Entry d, p) (End, q) e
     entry_is_no_end : (d : KeytabEntry) → (let x : Record = Entry d in x) ≡ End → ⊥
     entry_is_no_end d e = cc
 
-first_is : (one : KeytabRecord) (ones : List KeytabRecord) (b : List ℕ) → flat_map record_bytes (one ∷ ones) ++ b ≡ record_bytes one ++ (flat_map record_bytes ones ++ b)
+pub first_is : (one : KeytabRecord) (ones : List KeytabRecord) (b : List ℕ) → flat_map record_bytes (one ∷ ones) ++ b ≡ record_bytes one ++ (flat_map record_bytes ones ++ b)
 first_is one ones b = ap (λ (t : List ℕ). t ++ b) (flat_map-cons record_bytes one ones) ∙ append_assoc (record_bytes one) (flat_map record_bytes ones) b
 
 not_ended : (one : KeytabRecord) (ones : List KeytabRecord) (b c : List ℕ) → FitsRecord one → b ≡ flat_map record_bytes (one ∷ ones) ++ c → IsEnd b → ⊥
@@ -114,6 +114,22 @@ same_list (one ∷ ones) (other ∷ others) b c p q e f g =
     let rest : x ≡ y = ap (λ (k : Place). k.rest) s.1 in
     let bytes : record_bytes one ≡ record_bytes other = append_cancel_right (record_bytes one) (record_bytes other) y (ap (λ (t : List ℕ). record_bytes one ++ t) (sym rest) ∙ both) in
     ap (λ (r : KeytabRecord). r ∷ ones) (same_record one other p.0 q.0 s.0 bytes) ∙ ap (λ (t : List KeytabRecord). other ∷ t) (same_list ones others b c p.1 q.1 rest f g)
+
+-- records that lie before others are the first of all, where no more follow
+pub first_records : (ones others : List KeytabRecord) (b c : List ℕ) → AllByRecursion FitsRecord ones → AllByRecursion FitsRecord others → flat_map record_bytes ones ++ b ≡ flat_map record_bytes others ++ c → IsEnd c → (more : List KeytabRecord) × (others ≡ ones ++ more)
+first_records [] others b c p q e g = (others, refl)
+first_records (one ∷ ones) [] b c p q e g = absurd (not_ended one ones c b p.0 (sym e) g)
+first_records (one ∷ ones) (other ∷ others) b c p q e g =
+    let x : List ℕ = flat_map record_bytes ones ++ b in
+    let y : List ℕ = flat_map record_bytes others ++ c in
+    let both : record_bytes one ++ x ≡ record_bytes other ++ y = sym (first_is one ones b) ∙ e ∙ first_is other others c in
+    let stands : standing one (record { at = 0 + length (record_bytes one); rest = x }) ≡ standing other (record { at = 0 + length (record_bytes other); rest = y }) =
+    sym (again_record 0 one x p.0) ∙ ap (λ (t : List ℕ). record_at (record { at = 0; rest = t })) both ∙ again_record 0 other y q.0 in
+    let s = same_standing one other _ _ stands in
+    let rest : x ≡ y = ap (λ (k : Place). k.rest) s.1 in
+    let bytes : record_bytes one ≡ record_bytes other = append_cancel_right (record_bytes one) (record_bytes other) y (ap (λ (t : List ℕ). record_bytes one ++ t) (sym rest) ∙ both) in
+    let m = first_records ones others b c p.1 q.1 rest g in
+    (m.0, ap (λ (r : KeytabRecord). r ∷ others) (sym (same_record one other p.0 q.0 s.0 bytes)) ∙ ap (λ (t : List KeytabRecord). one ∷ t) m.1)
 
 pub same_records : {bytes : List ℕ} {ones others : List KeytabRecord} {b c : List ℕ} → IsMadeOf bytes ones b → IsMadeOf bytes others c → ones ≡ others
 same_records {bytes} {ones} {others} {b} {c} m n =

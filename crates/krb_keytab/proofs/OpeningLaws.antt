@@ -1,6 +1,7 @@
 -- The version of a keytab as a number.
-use Rattle.std.proofs.Common.{◌≡◌, ℕ, List, ◌++◌, Option, Some, None, ap, sym, ◌∙◌, arith}
+use Rattle.std.proofs.Common.{◌≡◌, ℕ, ◌≤◌, List, ◌++◌, length, Option, Some, None, ap, sym, ◌∙◌, arith}
 use Rattle.std.specs.Int.{w16}
+use Rattle.std.proofs.lemmas.List.{nil_from_length}
 use Rattle.krb_name.specs.Cursor.{Place, number_at}
 use Rattle.krb_name.specs.Field.{IsBytes}
 use Rattle.krb_name.proofs.CursorLaws.{some_is, IsField-u16}
@@ -30,3 +31,9 @@ too_few bytes others start e none f = none_and_some (number_at w16 start) _ none
 
 pub other_number : (bytes others : List ℕ) (start place : Place) (number : ℕ) → start ≡ record { at = 0; rest = bytes } → number_at w16 start ≡ Some (number, place) → (number ≡ 0x0502 → ⊥) → bytes ≡ version ++ others → ⊥
 other_number bytes others start place number e read other f = other (ap (λ (x : ℕ × Place). x.0) (some_is (number, place) (0x0502, record { at = 2; rest = others }) (sym read ∙ start_read bytes others start e f)))
+
+-- two bytes that are the version
+pub two_bytes : (bytes : List ℕ) (start place : Place) (number : ℕ) → IsBytes bytes → length bytes ≤ 2 → start ≡ record { at = 0; rest = bytes } → number_at w16 start ≡ Some (number, place) → number ≡ 0x0502 → bytes ≡ version
+two_bytes bytes start place number fits few e read is =
+    let o = opened bytes start place number fits e read is in
+    o.rest ∙ ap (λ (t : List ℕ). version ++ t) (nil_from_length place.rest (omega (arith, ap length o.rest, few)))

@@ -4,14 +4,14 @@ use Rattle.std.specs.Int.{w8, w16, w32, from_be_bytes, cast_signed}
 use Rattle.std.specs.Prelude.{FitsSigned}
 use Rattle.std.specs.List.{flat_map}
 use Rattle.std.proofs.lemmas.Bool.{eqb-true, eqb-false, leb-false, ne_eqb, lt-leb}
-use Rattle.std.proofs.lemmas.List.{nil_from_length, length-append, take_at, drop_at}
+use Rattle.std.proofs.lemmas.List.{nil_from_length, length-append}
 use Rattle.krb_name.specs.Cursor.{Place, ◌>>=◌, bytes_at, number_at, signed_at, number_bytes, signed_bytes, data_bytes}
 use Rattle.krb_name.specs.Field.{IsBytes, Takes}
-use Rattle.krb_name.proofs.CursorLaws.{IsBytes-take, IsBytes-drop, Takes-then, IsField-bytes, IsField-i32}
+use Rattle.krb_name.proofs.CursorLaws.{Takes-then, IsField-bytes, IsField-i32}
 use Rattle.krb_keytab.specs.Entry.{KeytabEntry}
-use Rattle.krb_keytab.specs.Format.{entry_bytes, IsEntry, KeytabRecord, hole, entry, record_bytes, FitsRecord, IsEnd, IsCutOff, HoldsNoEntry}
+use Rattle.krb_keytab.specs.Format.{entry_bytes, IsEntry, KeytabRecord, hole, entry, record_bytes, FitsRecord, IsEnd, IsCutOff}
 use Rattle.krb_keytab.specs.declared.fault.KeytabFault.{KeytabFault}
-use Rattle.krb_keytab.specs.declared.fault.KeytabFault.TheVariants.{Truncated, BadEntry}
+use Rattle.krb_keytab.specs.declared.fault.KeytabFault.TheVariants.{Truncated}
 use Rattle.krb_keytab.specs.declared.record.Record.{Record}
 use Rattle.krb_keytab.specs.declared.record.Record.TheVariants.{End, Hole, Entry}
 use Rattle.krb_keytab.specs.Inner.Entry.{entry_at}
@@ -33,7 +33,7 @@ short_bytes : (count : ℕ) (place : Place) → bytes_at count place ≡ None �
 unfolding bytes_at
 short_bytes count place e = let f = none_bytes (leb count (length place.rest)) (take count place.rest, record { at = place.at + count; rest = drop count place.rest }) e in leb-false _ _ f
 
-short_size : (place : Place) → signed_at w32 place ≡ None → length place.rest < 4
+pub short_size : (place : Place) → signed_at w32 place ≡ None → length place.rest < 4
 unfolding signed_at number_at
 short_size place e =
     let f : number_at w32 place ≡ None = none_then (number_at w32 place) (λ read. (cast_signed w32 read.0, read.1)) e in
@@ -137,7 +137,7 @@ hole_again at (x ∷ xs) rest some fits =
     ∙ ap (hole_in at) ((IsField-bytes (length (x ∷ xs))).again (at + 4) (x ∷ xs) rest refl)
     ∙ ap (λ (n : ℕ). Ok (Hole, record { at = n; rest = rest })) place
 
-body_again : (at : ℕ) (body rest : List ℕ) → 0 < length body → length body < 2 ^ 31
+pub body_again : (at : ℕ) (body rest : List ℕ) → 0 < length body → length body < 2 ^ 31
     → record_at (record { at = at; rest = signed_bytes w32 (pos (length body)) ++ (body ++ rest) }) ≡ entry_in at (record { at = (at + 4) + length body; rest = rest }) (entry_at body)
 body_again at [] rest some fits = absurd (omega arith)
 body_again at (x ∷ xs) rest some fits =
@@ -196,20 +196,3 @@ again_cut at behind cut =
       | inl few ↦ not_empty (record { at = at; rest = behind }) few.0 ∙ ap (size_in at) (long_size (record { at = at; rest = behind }) few.1)
       | inr ends ↦ ap (λ (text : List ℕ). record_at (record { at = at; rest = text })) ends.behind_is ∙ sized_again at ends.size ends.body ends.size_fits ∙ sized_short at ends.size (record { at = at + 4; rest = ends.body }) ends.short
     ]
-
-middle_fits : (front body others : List ℕ) → IsBytes (front ++ (body ++ others)) → IsBytes body
-middle_fits front body others fits =
-    let there : IsBytes (body ++ others) = subst IsBytes (drop_at front (body ++ others) (length front) refl) (IsBytes-drop (length front) (front ++ (body ++ others)) fits) in
-    subst IsBytes (take_at body others (length body) refl) (IsBytes-take (length body) (body ++ others) there)
-
-no_entry_read : (body : List ℕ) (read : Option KeytabEntry) → entry_at body ≡ read → IsBytes body → ((e : KeytabEntry) (short_kvno : ℕ) (rest : List ℕ) → IsEntry e short_kvno rest → body ≡ entry_bytes e short_kvno rest → ⊥)
-    → (at : ℕ) (behind : Place) → entry_in at behind (entry_at body) ≡ Err (BadEntry at)
-no_entry_read body None e fits none at behind = ap (entry_in at behind) e
-no_entry_read body (Some made) e fits none at behind = let held = take_entry body made fits e in absurd (none made held.short_kvno held.rest held.is_entry held.body_is)
-
-pub again_bad : (at : ℕ) (behind : List ℕ) → IsBytes behind → HoldsNoEntry behind → record_at (record { at = at; rest = behind }) ≡ Err (BadEntry at)
-again_bad at behind fits bad =
-    let body_fits : IsBytes bad.body = middle_fits (signed_bytes w32 (pos (length bad.body))) bad.body bad.others (subst IsBytes bad.behind_is fits) in
-    ap (λ (text : List ℕ). record_at (record { at = at; rest = text })) bad.behind_is
-    ∙ body_again at bad.body bad.others bad.size bad.size_fits
-    ∙ no_entry_read bad.body (entry_at bad.body) refl body_fits bad.no_entry at (record { at = (at + 4) + length bad.body; rest = bad.others })

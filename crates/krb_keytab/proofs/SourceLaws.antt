@@ -1,13 +1,19 @@
 -- The answer for what a source gave is the answer for all the bytes that were to come of it.
-use Rattle.std.proofs.Common.{◌≡◌, ◌⊎◌, ℕ, ◌<◌, List, ◌++◌, length, Option, Some, None, Result, Ok, Err, ap, subst, ◌∙◌, append-nil, arith, inl, inr}
-use Rattle.std.specs.Prelude.{◌≢◌, IfErr}
+use Rattle.std.proofs.Common.{◌≡◌, ◌⊎◌, ℕ, ◌<◌, List, ◌++◌, length, Option, Some, None, Result, Ok, Err, refl, sym, ap, subst, ◌∙◌, append-nil, arith, inl, inr}
+use Rattle.std.specs.Prelude.{◌≢◌, IfSome}
 use Rattle.std.proofs.lemmas.Bool.{cases_lt}
 use Rattle.std.proofs.lemmas.List.{length-append}
 use Rattle.krb_keytab.specs.Entry.{KeytabEntry}
-use Rattle.krb_keytab.specs.Format.{file_limit, IsAnswerOf, IsFaultOf}
+use Rattle.krb_keytab.specs.Format.{file_limit, IsKeytab, IsAnswerOf, IsFaultOf}
+use Rattle.std.specs.Io.KnownBytes.{IsAtEnd}
 use Rattle.krb_keytab.specs.Source.{IsGiven}
+use Rattle.krb_keytab.specs.Inner.Meeting.{IsFound, IsFaulty}
+use Rattle.krb_keytab.proofs.OneEnd.{same_answers}
 use Rattle.krb_keytab.specs.declared.fault.KeytabFault.{KeytabFault}
 use Rattle.krb_keytab.specs.declared.fault.KeytabFault.TheVariants.{Version, Truncated, BadEntry, TooLong, NoSuchEntry, Read, OutOfMemory}
+
+abbrev pub result_of : Result (List KeytabEntry) KeytabFault → Result (List KeytabEntry) KeytabFault
+result_of result = result
 
 -- an answer for too many bytes
 long_answer : (bytes more : List ℕ) (answer : Result (List KeytabEntry) KeytabFault) → file_limit < length bytes → file_limit < length more → IsAnswerOf bytes answer → IsAnswerOf more answer
@@ -36,16 +42,54 @@ answer_of_given whole bytes to answer g a =
       | inr long ↦ long_answer whole bytes answer long.1 long.0 a
     ]
 
-pub only_in : (from to : Option (List ℕ)) (bytes whole : List ℕ) (result answer : Result (List KeytabEntry) KeytabFault) → IsGiven from to bytes → (IsAnswerOf bytes answer → (result ≡ answer) ⊎ (result ≡ Err OutOfMemory))
-    → from ≡ Some whole → IsAnswerOf whole answer → (result ≡ answer) ⊎ ((result ≡ Err OutOfMemory) ⊎ (result ≡ Err Read))
-only_in from to bytes whole result answer g only e a =
-    elim (only (answer_of_given whole bytes to answer (subst (λ (known : Option (List ℕ)). IsGiven known to bytes) e g) a)) [
-      | inl same ↦ inl same
-      | inr memory ↦ inr (inl memory)
+-- ---- what a source gave, told of all the bytes that were to come
+
+-- an answer for what was given is one for all
+answer_of_whole : (whole bytes : List ℕ) (to : Option (List ℕ)) (answer : Result (List KeytabEntry) KeytabFault) → IsGiven (Some whole) to bytes → IsAnswerOf bytes answer → IsAnswerOf whole answer
+answer_of_whole whole bytes to answer g a =
+    elim (all_given whole bytes to g) [
+      | inl same ↦ subst (λ (t : List ℕ). IsAnswerOf t answer) (sym same) a
+      | inr long ↦ long_answer bytes whole answer long.0 long.1 a
     ]
 
--- a fault of the bytes that a source gave
-pub fault_given : {X : Type 0} (from to : Option (List ℕ)) (bytes : List ℕ) (result : Result X KeytabFault) → IsGiven from to bytes → IfErr result (λ fault. fault ≢ OutOfMemory → IsFaultOf bytes fault)
-    → IfErr result (λ fault. fault ≢ OutOfMemory → fault ≢ Read → (given : List ℕ) × IsGiven from to given × IsFaultOf given fault)
-fault_given from to bytes (Ok x) g f = f
-fault_given from to bytes (Err fault) g f = λ not_memory not_read. (bytes, g, f not_memory)
+answer_known : (from to : Option (List ℕ)) (bytes : List ℕ) (answer : Result (List KeytabEntry) KeytabFault) → IsGiven from to bytes → IsAnswerOf bytes answer → IfSome from (λ whole. IsAnswerOf whole answer)
+answer_known None to bytes answer g a = tt
+answer_known (Some whole) to bytes answer g a = answer_of_whole whole bytes to answer g a
+
+pub found_whole : (from to : Option (List ℕ)) (entries : List KeytabEntry) → IsFound from to entries → IfSome from (λ whole. IsKeytab whole entries)
+found_whole from to entries f = answer_known from to f.0 (Ok entries) f.1 f.2
+
+pub found_end : (from to : Option (List ℕ)) (entries : List KeytabEntry) → IsFound from to entries → IsAtEnd to
+found_end from to entries f = f.1.end f.2.limit
+
+pub fault_whole : (from to : Option (List ℕ)) (fault : KeytabFault) → IsFaulty from to fault → fault ≢ OutOfMemory → fault ≢ Read → IfSome from (λ whole. IsFaultOf whole fault)
+fault_whole from to fault f memory read = let g = f memory read in answer_known from to g.0 (Err fault) g.1 g.2
+
+-- the one answer for all the bytes
+only_given : (from to : Option (List ℕ)) (bytes whole : List ℕ) (result answer : Result (List KeytabEntry) KeytabFault) → IsGiven from to bytes → IsAnswerOf bytes result → from ≡ Some whole → IsAnswerOf whole answer → result ≡ answer
+only_given from to bytes whole result answer g r known a =
+    same_answers bytes result answer r (answer_of_given whole bytes to answer (subst (λ (o : Option (List ℕ)). IsGiven o to bytes) known g) a)
+
+pub only_found : (from to : Option (List ℕ)) (entries : List KeytabEntry) → IsFound from to entries → (whole : List ℕ) (answer : Result (List KeytabEntry) KeytabFault) → from ≡ Some whole → IsAnswerOf whole answer
+    → (result_of (Ok entries) ≡ answer) ⊎ ((result_of (Ok entries) ≡ Err OutOfMemory) ⊎ (result_of (Ok entries) ≡ Err Read))
+only_found from to entries f whole answer known a = inl (only_given from to f.0 whole (Ok entries) answer f.1 f.2 known a)
+
+fault_kind : (fault : KeytabFault) → ((fault ≢ OutOfMemory) × (fault ≢ Read)) ⊎ ((fault ≡ OutOfMemory) ⊎ (fault ≡ Read))
+fault_kind OutOfMemory = inr (inl refl)
+fault_kind Read = inr (inr refl)
+fault_kind Version = inl (λ e. cc, λ e. cc)
+fault_kind (Truncated at) = inl (λ e. cc, λ e. cc)
+fault_kind (BadEntry at) = inl (λ e. cc, λ e. cc)
+fault_kind TooLong = inl (λ e. cc, λ e. cc)
+fault_kind NoSuchEntry = inl (λ e. cc, λ e. cc)
+
+pub only_fault : (from to : Option (List ℕ)) (fault : KeytabFault) → IsFaulty from to fault → (whole : List ℕ) (answer : Result (List KeytabEntry) KeytabFault) → from ≡ Some whole → IsAnswerOf whole answer
+    → (result_of (Err fault) ≡ answer) ⊎ ((result_of (Err fault) ≡ Err OutOfMemory) ⊎ (result_of (Err fault) ≡ Err Read))
+only_fault from to fault f whole answer known a =
+    elim (fault_kind fault) [
+      | inl content ↦ let g = f content.0 content.1 in inl (only_given from to g.0 whole (Err fault) answer g.1 g.2 known a)
+      | inr other ↦ elim other [
+        | inl memory ↦ inr (inl (ap (λ (e : KeytabFault). result_of (Err e)) memory))
+        | inr read ↦ inr (inr (ap (λ (e : KeytabFault). result_of (Err e)) read))
+      ]
+    ]

@@ -2,6 +2,7 @@ pub mod Edit
 pub mod Entry
 pub mod Fault
 pub mod Format
+pub mod Items
 pub mod Pick
 pub mod Source
 pub mod Usable

@@ -1,9 +1,9 @@
 //! Why bytes are no keytab, or a keytab could not be had.
 
 ghost use Rattle.std.specs.Prelude.{◌≡◌};
-ghost use Rattle.krb_keytab.specs.declared.fault.KeytabFault.TheVariants.{OutOfMemory};
+ghost use Rattle.krb_keytab.specs.declared.fault.KeytabFault.TheVariants.{OutOfMemory, Read as ReadFailed};
 
-use krb_name::ReadFault;
+use krb_name::{ReadFault, SourceFailed};
 use std::alloc::{AllocError, AllocFailed};
 use thiserror::Error;
 
@@ -83,5 +83,13 @@ impl From<ReadFault> for KeytabFault {
             ReadFault::Read => KeytabFault::Read,
             ReadFault::OutOfMemory => KeytabFault::OutOfMemory,
         }
+    }
+}
+
+impl From<SourceFailed> for KeytabFault {
+    ghost from_gives = { λ _ fault. fault ≡ ReadFailed };
+
+    fn from(_: SourceFailed) -> KeytabFault {
+        KeytabFault::Read
     }
 }

@@ -15,8 +15,9 @@ use crate::next::next_record;
 use crate::opening::{FILE_LIMIT, VERSION, open};
 use crate::pick::Picked;
 use crate::record::Record;
+use crate::step::read_entries;
 use crate::writing::put_record;
-use krb_name::{Principal, Source, read_to_limit};
+use krb_name::{Principal, Source, Window};
 use std::alloc::Global;
 use std::marker::Model;
 
@@ -60,7 +61,9 @@ impl Keytab {
         Keytab::of_records(alloc, bytes)
     }
 
-    /// Reads a source to its end, or to one byte past 16,777,216, and parses what it gave.
+    /// Reads a keytab off a source, to its end or to one byte past 16,777,216, as `parse` does off bytes.
+    ///
+    /// Beside the entries the bytes of one record are held at a time, and a hole's bytes aren't kept.
     ///
     /// Condition: fewer than 18,446,744,073,709,551,615 reads of the source have failed so far.
     ///
@@ -90,8 +93,13 @@ impl Keytab {
         ensures failed { S.failure_count source.new
             ≡ S.failure_count source.old + failed_reads result }
     {
-        let bytes = read_to_limit(alloc, source, FILE_LIMIT)?;
-        Keytab::parse(alloc, &bytes)
+        let mut window = Window::new(alloc, source);
+        let answer = read_entries(alloc, &mut window);
+        let _source = window.into_source();
+        match answer {
+            Ok(entries) => Ok(Keytab { entries }),
+            Err(fault) => Err(fault),
+        }
     }
 
     fn of_records(alloc: Global, bytes: &[u8]) -> Result<Keytab, KeytabFault>

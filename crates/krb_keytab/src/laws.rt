@@ -1,6 +1,7 @@
 //! Laws over the definitions, for proofs to cite. Each function does nothing: its contract is the law.
 
-ghost use Rattle.std.specs.Prelude.{◌≡◌, ◌≤◌, ℕ, ℤ, IfSome, List, Option, Result, length};
+ghost use Rattle.std.specs.Prelude.{◌≡◌, ◌≢◌, ◌≤◌, ◌++◌, ℕ, ℤ, IfSome, List, Option, Some, Result, length};
+ghost use Rattle.std.specs.Io.KnownBytes.{Consumes};
 ghost use Rattle.std.specs.List.{flat_map};
 ghost use Rattle.krb_name.specs.Field.{IsBytes};
 ghost use Rattle.krb_name.specs.declared.principal.Principal.{Principal};
@@ -8,15 +9,18 @@ ghost use Rattle.krb_keytab.specs.Entry.{KeytabEntry};
 ghost use Rattle.krb_keytab.specs.Edit.{IsMadeOf};
 ghost use Rattle.krb_keytab.specs.Fault.{offset_of};
 ghost use Rattle.krb_keytab.specs.Format.{KeytabRecord, IsAnswerOf, IsFaultOf, IsKeytab, entries_of};
+ghost use Rattle.krb_keytab.specs.Items.{StandsTo};
 ghost use Rattle.krb_keytab.specs.Pick.{Choice, IsChoice};
 ghost use Rattle.krb_keytab.specs.declared.fault.KeytabFault.{KeytabFault};
+ghost use Rattle.krb_keytab.specs.declared.stage.Stage.{Stage};
+ghost use Rattle.krb_keytab.specs.declared.stage.Stage.TheVariants.{End, Failed};
 
 /// Says that bytes are a keytab or have a fault; and that they are a keytab of one list of entries
 /// only, or have one fault only, and not both.
 pub fn each_file_has_one_answer()
     ensures some { (bytes : List ℕ) → IsBytes bytes
         → (answer : Result (List KeytabEntry) KeytabFault) × IsAnswerOf bytes answer }
-    ensures one { (bytes : List ℕ) (answer other : Result (List KeytabEntry) KeytabFault) → IsBytes bytes
+    ensures one { (bytes : List ℕ) (answer other : Result (List KeytabEntry) KeytabFault)
         → IsAnswerOf bytes answer → IsAnswerOf bytes other → answer ≡ other }
 {}
 
@@ -53,4 +57,36 @@ pub fn records_hold_the_entries()
 pub fn each_fault_lies_within()
     ensures { (bytes : List ℕ) (fault : KeytabFault) → IsFaultOf bytes fault
         → IfSome (offset_of fault) (λ at. at ≤ length bytes) }
+{}
+
+/// Says that the last answer of a reader is what is to be said of all the bytes that were to come of its
+/// source: where it is the end, they are a keytab of the entries that it gave; where it is a fault of
+/// the content, they have this fault.
+pub fn a_reader_tells_the_file()
+    ensures end { (whole bytes : List ℕ) (left : Option (List ℕ)) (entries : List KeytabEntry)
+        → Consumes (Some whole) left bytes → StandsTo left End bytes entries → IsKeytab whole entries }
+    ensures fault { (whole bytes : List ℕ) (left : Option (List ℕ)) (entries : List KeytabEntry)
+        (fault : KeytabFault) → fault ≢ KeytabFault.Read → fault ≢ KeytabFault.OutOfMemory
+        → Consumes (Some whole) left bytes → StandsTo left (Failed fault) bytes entries
+        → IsFaultOf whole fault }
+{}
+
+/// Says that the entries that a reader gives of a keytab are its first ones, wherever the reader stands:
+/// none is skipped.
+pub fn a_reader_gives_the_first_entries()
+    ensures { (whole bytes : List ℕ) (left : Option (List ℕ)) (stage : Stage)
+        (all entries : List KeytabEntry) → Consumes (Some whole) left bytes
+        → StandsTo left stage bytes entries → IsKeytab whole all
+        → (others : List KeytabEntry) × (all ≡ entries ++ others) }
+{}
+
+/// Says that two readers of one file gave the same entries before a fault of the content.
+pub fn each_reader_gives_the_same_entries()
+    ensures { (whole bytes others : List ℕ) (left right : Option (List ℕ))
+        (entries more : List KeytabEntry) (fault other : KeytabFault)
+        → fault ≢ KeytabFault.Read → fault ≢ KeytabFault.OutOfMemory
+        → other ≢ KeytabFault.Read → other ≢ KeytabFault.OutOfMemory
+        → Consumes (Some whole) left bytes → StandsTo left (Failed fault) bytes entries
+        → Consumes (Some whole) right others → StandsTo right (Failed other) others more
+        → entries ≡ more }
 {}

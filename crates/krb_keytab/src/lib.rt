@@ -19,12 +19,16 @@ mod edit;
 mod entry;
 mod fault;
 mod finding;
+mod found;
 mod keytab;
 pub mod laws;
 mod next;
 mod opening;
 mod pick;
+mod reader;
 mod record;
+mod stage;
+mod step;
 mod usable;
 mod view;
 mod writing;
@@ -33,9 +37,12 @@ pub use entry::Entry;
 pub use fault::KeytabFault;
 pub use keytab::Keytab;
 pub use pick::Picked;
+pub use reader::EntryReader;
 
 #[cfg(test)]
 mod edit_tests;
+#[cfg(test)]
+mod reader_tests;
 #[cfg(test)]
 mod real_files;
 #[cfg(test)]

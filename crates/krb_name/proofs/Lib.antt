@@ -11,3 +11,4 @@ pub mod NameStops
 pub mod NamesBack
 pub mod OneAnswer
 pub mod Repeated
+pub mod WindowLaws

@@ -5,4 +5,5 @@ pub mod Field
 pub mod Text
 pub mod Reading
 pub mod Pieces
+pub mod Window
 pub mod Inner

@@ -4,8 +4,8 @@
 //! whether another one has the same name, writes itself as text and is read from text.
 //!
 //! A [`Source`] gives bytes and a [`Sink`] takes them; both count their failures. Any reader is a
-//! source and any writer a sink. A [`FileCursor`] reads big-endian fields off bytes, takes no memory
-//! and knows its place.
+//! source and any writer a sink. A [`Window`] has a few bytes of a source at hand. A [`FileCursor`] reads
+//! big-endian fields off bytes, takes no memory and knows its place.
 //!
 //! ```rust
 //! let mut components = Components::new(alloc);
@@ -34,6 +34,7 @@ mod source;
 mod text;
 mod text_cursor;
 mod text_fault;
+mod window;
 mod writing;
 
 pub use bytes::Bytes;
@@ -46,9 +47,12 @@ pub use sink::{Sink, SinkFailed, WriteSink};
 pub use slice_source::SliceSource;
 pub use source::{ReadSource, Source, SourceFailed};
 pub use text_fault::TextFault;
+pub use window::Window;
 pub use writing::write_all;
 
 #[cfg(test)]
 mod flow_tests;
 #[cfg(test)]
 mod tests;
+#[cfg(test)]
+mod window_tests;

@@ -1,6 +1,6 @@
 //! Sources and sinks for tests: they move a few bytes a call and fail when told to.
 
-ghost use Rattle.std.specs.Prelude.{◌≡◌, ◌≢◌, ◌+◌, ◌-◌, ◌^◌, ◌<◌, ◌≤◌, ◌↔◌, min, Some, None, IfOk, IsErr, IsOk, is_ok, length, take, [], if◌then◌else◌};
+ghost use Rattle.std.specs.Prelude.{ℕ, ◌≡◌, ◌≢◌, ◌+◌, ◌-◌, ◌^◌, ◌<◌, ◌≤◌, ◌↔◌, min, Some, None, IfOk, IsErr, IsOk, is_ok, length, take, [], if◌then◌else◌};
 ghost use Rattle.std.specs.Option.{ForSome};
 ghost use Rattle.std.specs.Io.{ReadsAtMost, WritesAtMost};
 ghost use Rattle.std.specs.Io.KnownBytes.{ReadConsumes, WriteAppends};
@@ -69,6 +69,7 @@ impl Source for PieceSource<'_> {
         ensures bound { ReadsAtMost result buffer.new }
         ensures bytes { ReadConsumes (Some self.old.bytes) (Some self.new.bytes) result buffer.new }
         ensures failed { self.new.failures ≡ self.old.failures + (if is_ok result then 0 else 1) }
+        ensures lent { ◌≡◌ {A = ℕ} 0 0 }
         ensures fails { IsErr result ↔ (self.old.fails_in ≡ Some 1) }
         ensures count { IfOk result (λ n.
             n ≡ min (min self.old.piece (length buffer.old)) (length self.old.bytes)) }

@@ -42,6 +42,7 @@ impl Source for SliceSource<'_> {
         ensures bound { ReadsAtMost result buffer.new }
         ensures bytes { ReadConsumes (Some self.old) (Some self.new) result buffer.new }
         ensures failed { 0 ≡ 0 + (if is_ok result then 0 else 1) }
+        ensures lent { ◌≡◌ {A = ℕ} 0 0 }
         ensures count { result ≡ Ok (min (length buffer.old) (length self.old)) }
     {
         let count = buffer.len().min(self.rest.len());

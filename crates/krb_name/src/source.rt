@@ -20,6 +20,9 @@ pub trait Source {
     /// How many reads have failed.
     ghost failure_count: { Self → ℕ };
 
+    /// The name of the reference by which a lent source is lent, for that is kept; 0 for any other.
+    ghost lender: { Self → ℕ } = { λ _. 0 };
+
     /// Answers how many reads have failed.
     fn failures(&self) -> u64
         ensures { result ≡ failure_count self.now };
@@ -34,13 +37,16 @@ pub trait Source {
         ensures bound { ReadsAtMost result buffer.new }
         ensures bytes { ReadConsumes (remaining self.old) (remaining self.new) result buffer.new }
         ensures failed { failure_count self.new
-            ≡ failure_count self.old + (if is_ok result then 0 else 1) };
+            ≡ failure_count self.old + (if is_ok result then 0 else 1) }
+        ensures lent { lender self.new ≡ lender self.old };
 }
 
 impl<S: Source> Source for &mut S {
     ghost remaining = { λ source. S.remaining source.now };
 
     ghost failure_count = { λ source. S.failure_count source.now };
+
+    ghost lender = { λ source. source.ghost_name };
 
     fn failures(&self) -> u64 {
         Source::failures(&**self)

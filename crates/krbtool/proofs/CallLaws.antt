@@ -1,13 +1,14 @@
 -- Lines of calls: their digits, and where they are cut.
-use Rattle.std.proofs.Common.{◌≡◌, ◌≢◌, ◌⊎◌, inl, inr, ℤ, pos, neg_ℤ, subst, Bool, true, false, ℕ, ◌+◌, ◌*◌, ◌-◌, ◌<◌, ◌≤◌, List, [], ◌∷◌, ◌++◌, length, drop, get_or, ap, sym, refl, ◌∙◌, arith, All, suc, zero}
+use Rattle.std.proofs.Common.{◌≡◌, ◌≢◌, inl, inr, ℤ, pos, neg_ℤ, subst, Bool, true, false, ℕ, ◌+◌, ◌*◌, ◌-◌, ◌<◌, ◌≤◌, List, [], ◌∷◌, ◌++◌, length, drop, get_or, ap, sym, refl, ◌∙◌, arith, All, suc, zero, Option, Some, None}
 use Rattle.std.specs.Char.{digit_value}
 use Rattle.std.specs.Int.{IsInRange}
-use Rattle.std.specs.Str.Parse.{AllDigits, IsNumeral, digits_value, digits_value_after}
+use Rattle.std.specs.Str.Parse.{AllDigits, digits_value, digits_value_after}
 use Rattle.std.proofs.lemmas.List.{drop_more}
 use Rattle.std.proofs.lemmas.Str.{digit_value_digit}
-use Rattle.krb_der.specs.Time.{IsSeconds}
-use Rattle.krb_msg.specs.Moments.{micros_of}
-use Rattle.krbtool.specs.CallLine.{SpellsNumber, SpellsSeconds}
+use Rattle.hex.specs.Hex.{is_hex_digit}
+use Rattle.hex.proofs.HexLemmas.{decode_of-ok}
+use Rattle.std.specs.List.{AllPass}
+use Rattle.krbtool.specs.CallLine.{SpellsConfounder, SpellsMessage, SpellsNumber, SpellsRest, SpellsSeconds}
 use Rattle.krbtool.specs.Inner.Moments.{TellsMoment}
 
 -- a number only grows with the digits behind it
@@ -121,3 +122,36 @@ no_micros text told micros same spells below none =
 
 pub unlike : (b : Bool) → b ≡ false → b ≡ true → ⊥
 unlike b one other = cc
+
+-- ---- what follows the moment
+
+digits_lack_spaces : (text : List ℕ) → AllPass is_hex_digit text → LacksSpace text
+digits_lack_spaces text digits k d below is = not_digit (subst (λ (c : ℕ). is_hex_digit c ≡ true) is (digits k d below))
+  where
+    not_digit : is_hex_digit 32 ≡ true → ⊥
+    not_digit e = cc
+
+message_lacks_space : (text bytes : List ℕ) → SpellsMessage text bytes → LacksSpace text
+message_lacks_space text bytes spells = elim spells [
+  | inl none ↦ subst LacksSpace (sym none.0) (minus_lacks_space [] (λ k d below. absurd (omega (arith, below))))
+  | inr some ↦ digits_lack_spaces text (decode_of-ok text bytes some.1).1
+]
+
+-- a text without a space has no confounder
+pub alone : (text bytes : List ℕ) (confounder : Option (List ℕ)) → LacksSpace text → SpellsRest text bytes confounder → SpellsMessage text bytes
+alone text bytes None none spells = spells
+alone text bytes (Some confounder) none spells = absurd (no_space spells.message_text spells.confounder_text (subst LacksSpace spells.text_is none))
+
+-- and one with a space has the text behind the first for one
+pub parted : (text front back bytes : List ℕ) (confounder : Option (List ℕ)) → text ≡ front ++ 32 ∷ back → LacksSpace front
+    → SpellsRest text bytes confounder → (told : List ℕ) × (SpellsMessage front bytes × SpellsConfounder back told)
+parted text front back bytes None is none spells = absurd (no_space front back (subst LacksSpace is (message_lacks_space text bytes spells)))
+parted text front back bytes (Some confounder) is none spells =
+    let same = one_cut front back spells.message_text spells.confounder_text (sym is ∙ spells.text_is) none
+    (message_lacks_space spells.message_text bytes spells.spells_message) in (
+      confounder,
+      (
+        subst (λ (t : List ℕ). SpellsMessage t bytes) (sym same.0) spells.spells_message,
+        subst (λ (t : List ℕ). SpellsConfounder t confounder) (sym same.1) spells.spells_confounder,
+      ),
+    )

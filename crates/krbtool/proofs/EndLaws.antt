@@ -1,16 +1,15 @@
 -- How `accept` ends.
-use Rattle.std.proofs.Common.{◌≡◌, ◌⊎◌, inl, inr, ℕ, ℤ, max, List, [], ◌∷◌, ◌++◌, Option, Some, None, length, ap, sym, refl, ◌∙◌, subst, append_assoc, append-nil, arith, ◌+◌, ◌<◌}
+use Rattle.std.proofs.Common.{◌≡◌, inl, inr, ℕ, ℤ, max, List, [], ◌∷◌, ◌++◌, Option, Some, None, length, ap, sym, refl, ◌∙◌, subst, append_assoc, append-nil, arith, ◌<◌}
 use Rattle.std.specs.Io.KnownBytes.{Appends, Consumes, IsAtEnd}
 use Rattle.std.proofs.KnownBytes.{Appends-nil, Appends-trans, Appends-kept}
-use Rattle.krb_name.specs.Flow.{AppendsBeginning}
+use Rattle.krb_name.specs.declared.principal.Principal.{Principal}
 use Rattle.krb_replay.specs.Stamp.{Stamp}
 use Rattle.krb_ap.specs.Setup.{Setup, Arrival}
 use Rattle.krb_ap.specs.History.{StandsFor}
 use Rattle.krbtool.specs.Answering.{AnswersAll, AnswersBeginning, AnswersWhole, BecomeInTurn, HasLines, LineOutcome, answer_line, answer_lines, input_limit, last_line}
-use Rattle.krbtool.specs.Inner.Going.{Answered, Begun, Going, Reached, ReachedEnd, ReachedInput, ReachedStop, Untouched}
+use Rattle.krbtool.specs.Inner.Going.{Answered, Begun, ReachedEnd, ReachedInput, ReachedStop, Untouched}
 use Rattle.krbtool.specs.declared.part_line.PartLine.{PartLine}
-use Rattle.krbtool.proofs.LineLaws.{begun_back}
-use Rattle.krbtool.proofs.GoingLaws.{all_begun, become_push, flat_map-push, no_lines, status_push}
+use Rattle.krbtool.proofs.GoingLaws.{all_begun, one_begun, become_push, flat_map-push, no_lines, status_push}
 
 -- ---- what a source gave
 
@@ -42,9 +41,9 @@ one_last : (lines : List (List ℕ)) (rest : List ℕ) → (rest ≡ [] → ⊥)
 one_last lines [] some = absurd (some refl)
 one_last lines (byte ∷ rest) some = refl
 
-module _ (from to : Option (List ℕ)) (part : PartLine) (here setup : Setup) (history : List Arrival) (status : ℕ)
+module _ (service : Option Principal) (from to : Option (List ℕ)) (part : PartLine) (here setup : Setup) (history : List Arrival) (status : ℕ)
     (Old New : Option (List ℕ)) (Has : Stamp → Type 0) (latest : Option ℤ) (input : List ℕ) (tells : from ≡ Some input)
-    (ended : ReachedEnd from to part here setup history status Old New Has latest) where
+    (ended : ReachedEnd service from to part here setup history status Old New Has latest) where
   whole : input ≡ ended.reached.came
   whole = all_by input ended.reached.came from to tells ended.reached.consumed ended.end
 
@@ -55,14 +54,14 @@ module _ (from to : Option (List ℕ)) (part : PartLine) (here setup : Setup) (h
   input_below = omega (arith, ap (λ (i : List ℕ). length i) whole, ended.reached.counted, ended.limit)
 
   -- there is no last line
-  pub all_answered : ended.reached.going.rest ≡ [] → AnswersAll setup history input status Old New Has latest
+  pub all_answered : ended.reached.going.rest ≡ [] → AnswersAll service setup history input status Old New Has latest
   all_answered none = record {
     lines = ended.reached.going.lines;
     rest = ended.reached.going.rest;
     outcomes = ended.reached.going.outcomes;
     end = ended.reached.going.end;
     parts = input_parts;
-    become = subst (λ (l : List (List ℕ)). BecomeInTurn setup history l ended.reached.going.outcomes ended.reached.going.end)
+    become = subst (λ (l : List (List ℕ)). BecomeInTurn service setup history l ended.reached.going.outcomes ended.reached.going.end)
         (sym (no_last ended.reached.going.lines ended.reached.going.rest none)) ended.reached.going.become;
     printed = ended.reached.going.printed;
     status_is = ended.reached.going.status_is;
@@ -72,22 +71,22 @@ module _ (from to : Option (List ℕ)) (part : PartLine) (here setup : Setup) (h
 
   module _ (there : Setup) (Last : Option (List ℕ)) (Later : Stamp → Type 0) (later : Option ℤ) where
     turn : (outcome : LineOutcome) (end : List Arrival) → (ended.reached.going.rest ≡ [] → ⊥)
-        → BecomeInTurn setup history (ended.reached.going.lines ++ ended.reached.going.rest ∷ []) (ended.reached.going.outcomes ++ outcome ∷ []) end
-        → BecomeInTurn setup history (ended.reached.going.lines ++ last_line ended.reached.going.rest) (ended.reached.going.outcomes ++ outcome ∷ []) end
-    turn outcome end some one = subst (λ (l : List (List ℕ)). BecomeInTurn setup history l (ended.reached.going.outcomes ++ outcome ∷ []) end)
+        → BecomeInTurn service setup history (ended.reached.going.lines ++ ended.reached.going.rest ∷ []) (ended.reached.going.outcomes ++ outcome ∷ []) end
+        → BecomeInTurn service setup history (ended.reached.going.lines ++ last_line ended.reached.going.rest) (ended.reached.going.outcomes ++ outcome ∷ []) end
+    turn outcome end some one = subst (λ (l : List (List ℕ)). BecomeInTurn service setup history l (ended.reached.going.outcomes ++ outcome ∷ []) end)
         (sym (one_last ended.reached.going.lines ended.reached.going.rest some)) one
 
     -- the last line was answered
     pub last_answered : (more : ℕ) → (ended.reached.going.rest ≡ [] → ⊥)
-        → Answered there setup ended.reached.going.end ended.reached.going.rest more New Last Later later
-        → AnswersAll setup history input (max status more) Old Last Later later
+        → Answered service there setup ended.reached.going.end ended.reached.going.rest more New Last Later later
+        → AnswersAll service setup history input (max status more) Old Last Later later
     last_answered more some one = record {
       lines = ended.reached.going.lines;
       rest = ended.reached.going.rest;
       outcomes = ended.reached.going.outcomes ++ one.outcome ∷ [];
       end = one.of_line.end;
       parts = input_parts;
-      become = turn one.outcome one.of_line.end some (become_push setup history ended.reached.going.end one.of_line.end ended.reached.going.lines
+      become = turn one.outcome one.of_line.end some (become_push service setup history ended.reached.going.end one.of_line.end ended.reached.going.lines
           ended.reached.going.outcomes ended.reached.going.rest one.outcome ended.reached.going.become one.of_line.becomes);
       printed = subst (Appends Old Last) (sym (flat_map-push answer_line ended.reached.going.outcomes one.outcome))
           (Appends-trans Old New Last (answer_lines ended.reached.going.outcomes) (answer_line one.outcome) ended.reached.going.printed one.printed);
@@ -97,7 +96,7 @@ module _ (from to : Option (List ℕ)) (part : PartLine) (here setup : Setup) (h
     }
 
     -- it was not reached
-    pub last_untouched : Untouched there setup ended.reached.going.end New Last Later later → AnswersBeginning setup history input Old Last Later later
+    pub last_untouched : Untouched there setup ended.reached.going.end New Last Later later → AnswersBeginning service setup history input Old Last Later later
     last_untouched untouched = record {
       taken = ended.reached.going.lines;
       outcomes = ended.reached.going.outcomes;
@@ -112,14 +111,14 @@ module _ (from to : Option (List ℕ)) (part : PartLine) (here setup : Setup) (h
         taken_are = inl refl;
       };
       become = ended.reached.going.become;
-      printed = all_begun Old Last (answer_lines ended.reached.going.outcomes)
+      printed = all_begun Old Last ended.reached.going.outcomes
           (Appends-kept Old New Last (answer_lines ended.reached.going.outcomes) ended.reached.going.printed untouched.kept);
       stands = untouched.stands;
     }
 
     -- its answer was begun
-    pub last_begun : (ended.reached.going.rest ≡ [] → ⊥) → Begun there setup ended.reached.going.end ended.reached.going.rest New Last Later later
-        → AnswersBeginning setup history input Old Last Later later
+    pub last_begun : (ended.reached.going.rest ≡ [] → ⊥) → Begun service there setup ended.reached.going.end ended.reached.going.rest New Last Later later
+        → AnswersBeginning service setup history input Old Last Later later
     last_begun some one = record {
       taken = ended.reached.going.lines ++ last_line ended.reached.going.rest;
       outcomes = ended.reached.going.outcomes ++ one.outcome ∷ [];
@@ -133,20 +132,19 @@ module _ (from to : Option (List ℕ)) (part : PartLine) (here setup : Setup) (h
         parts = input_parts;
         taken_are = inr (refl, refl);
       };
-      become = turn one.outcome one.of_line.end some (become_push setup history ended.reached.going.end one.of_line.end ended.reached.going.lines
+      become = turn one.outcome one.of_line.end some (become_push service setup history ended.reached.going.end one.of_line.end ended.reached.going.lines
           ended.reached.going.outcomes ended.reached.going.rest one.outcome ended.reached.going.become one.of_line.becomes);
-      printed = rw (sym (flat_map-push answer_line ended.reached.going.outcomes one.outcome)) at
-          (begun_back (answer_lines ended.reached.going.outcomes) (answer_line one.outcome) Old New Last ended.reached.going.printed one.printed);
+      printed = one_begun Old New Last ended.reached.going.outcomes one.outcome ended.reached.going.printed one.printed;
       stands = one.of_line.stands;
     }
 
 -- ---- before the end
 
-pub whole_answered : (from to : Option (List ℕ)) (old_failures new_failures : ℕ) (part : PartLine) (here setup : Setup) (history : List Arrival)
+pub whole_answered : (service : Option Principal) (from to : Option (List ℕ)) (old_failures new_failures : ℕ) (part : PartLine) (here setup : Setup) (history : List Arrival)
     (Old New : Option (List ℕ)) (Has : Stamp → Type 0) (latest : Option ℤ) (input : List ℕ) → from ≡ Some input
-    → ReachedInput from to old_failures new_failures part here setup history Old New Has latest
-    → AnswersWhole setup history input to old_failures new_failures Old New Has latest
-whole_answered from to old_failures new_failures part here setup history Old New Has latest input tells stops =
+    → ReachedInput service from to old_failures new_failures part here setup history Old New Has latest
+    → AnswersWhole service setup history input to old_failures new_failures Old New Has latest
+whole_answered service from to old_failures new_failures part here setup history Old New Has latest input tells stops =
     let rest = left_by input stops.reached.came from to tells stops.reached.consumed in
     record {
       came = stops.reached.came;
@@ -164,10 +162,10 @@ whole_answered from to old_failures new_failures part here setup history Old New
       stands = stops.reached.going.stands;
     }
 
-pub stop_begun : (from to : Option (List ℕ)) (here setup : Setup) (history : List Arrival)
+pub stop_begun : (service : Option Principal) (from to : Option (List ℕ)) (here setup : Setup) (history : List Arrival)
     (Old New : Option (List ℕ)) (Has : Stamp → Type 0) (latest : Option ℤ) (input : List ℕ) → from ≡ Some input
-    → ReachedStop from to here setup history Old New Has latest → AnswersBeginning setup history input Old New Has latest
-stop_begun from to here setup history Old New Has latest input tells stops =
+    → ReachedStop service from to here setup history Old New Has latest → AnswersBeginning service setup history input Old New Has latest
+stop_begun service from to here setup history Old New Has latest input tells stops =
     let rest = left_by input stops.came from to tells stops.consumed in
     record {
       taken = stops.stopped.lines;
@@ -187,14 +185,14 @@ stop_begun from to here setup history Old New Has latest input tells stops =
       stands = stops.stopped.stands;
     }
 
-pub none_begun : (setup : Setup) (history : List Arrival) (known : Option (List ℕ)) (Has : Stamp → Type 0) (latest : Option ℤ) (input : List ℕ)
-    → StandsFor setup Has latest history → AnswersBeginning setup history input known known Has latest
-none_begun setup history known Has latest input stands = record {
+pub none_begun : (service : Option Principal) (setup : Setup) (history : List Arrival) (known : Option (List ℕ)) (Has : Stamp → Type 0) (latest : Option ℤ) (input : List ℕ)
+    → StandsFor setup Has latest history → AnswersBeginning service setup history input known known Has latest
+none_begun service setup history known Has latest input stands = record {
   taken = [];
   outcomes = [];
   end = history;
   takes = record { came = []; left = input; lines = []; rest = []; input_is = refl; parts = no_lines; taken_are = inl refl };
   become = refl;
-  printed = (0, Appends-nil known);
+  printed = all_begun known known [] (Appends-nil known);
   stands = stands;
 }

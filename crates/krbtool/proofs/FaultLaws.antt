@@ -1,7 +1,8 @@
 -- The faults of a file that an engine passes on.
 use Rattle.krbtool.specs.declared.fault.EngineFault.{EngineFault}
-use Rattle.krbtool.specs.declared.fault.EngineFault.TheVariants.{Input, Write, OutOfMemory}
-use Rattle.std.proofs.Common.{ℕ, ◌≡◌, ◌⊎◌, Result, Ok, Err, ap, ◌∙◌, sym, inl, inr}
+use Rattle.krb_ap.specs.declared.request_fault.RequestFault.{RequestFault}
+use Rattle.krbtool.specs.declared.fault.EngineFault.TheVariants.{Request, Input, Write, OutOfMemory}
+use Rattle.std.proofs.Common.{◌≡◌, ◌⊎◌, Result, Ok, Err, ap, ◌∙◌, sym, inl, inr}
 
 -- the answer is this fault, or one of two others
 abbrev pub IsOneOf : {X F : Type 0} → Result X F → F → F → F → Type 0
@@ -59,3 +60,8 @@ value_met memory source read met value is one = elim one [
 -- a fault of the output or of memory isn't one of the input
 pub not_input : {X : Type 0} (fault : EngineFault) → (fault ≡ Write) ⊎ (fault ≡ OutOfMemory) → ◌≡◌ {A = Result X EngineFault} (Err fault) (Err Input) → ⊥
 not_input fault which e = elim which [ inl write ↦ cc | inr memory ↦ cc ]
+
+-- a fault of the request is neither
+pub not_written : {X : Type 0} (result : Result X EngineFault) (fault : RequestFault) → result ≡ Err (Request fault)
+    → (result ≡ Err Write) ⊎ (result ≡ Err OutOfMemory) → ⊥
+not_written result fault is which = elim which [ inl write ↦ cc | inr memory ↦ cc ]

@@ -1,24 +1,24 @@
 -- How far `accept` is, one byte and one line on.
-use Rattle.std.proofs.Common.{◌≡◌, ◌≢◌, ◌⊎◌, inl, inr, ℕ, ℤ, max, Bool, List, [], ◌∷◌, ◌++◌, Option, Some, Result, length, take, drop, ap, sym, refl, ◌∙◌, subst, append_assoc, append-nil, All, arith, ◌+◌, ◌<◌, ◌≤◌, suc, zero, get_or}
+use Rattle.std.proofs.Common.{◌≡◌, ◌≢◌, ℕ, ℤ, max, List, [], ◌∷◌, ◌++◌, Option, Some, length, take, drop, ap, sym, refl, ◌∙◌, subst, append_assoc, append-nil, All, arith, ◌+◌, ◌<◌, ◌≤◌, suc, zero, get_or}
 use Rattle.std.specs.List.{flat_map}
-use Rattle.std.specs.Io.KnownBytes.{Appends, Consumes, Keeps, IsAtEnd}
+use Rattle.std.specs.Io.KnownBytes.{Appends, Consumes, Keeps}
 use Rattle.std.proofs.KnownBytes.{Appends-nil, Appends-trans, Appends-kept, Consumes-nil, Consumes-trans, Consumes-kept}
 use Rattle.std.proofs.lemmas.Grind.{flat_map-append}
 use Rattle.std.proofs.lemmas.List.Concat.{flat_map-cons}
-use Rattle.std.proofs.lemmas.List.{take_all, take_more, take-append-drop, length-append, length-take}
+use Rattle.std.proofs.lemmas.List.{take_more, take-append-drop, length-append, length-take}
 use Rattle.krb_name.specs.Flow.{AppendsBeginning}
+use Rattle.krb_name.specs.declared.principal.Principal.{Principal}
 use Rattle.krb_replay.specs.Stamp.{Stamp}
 use Rattle.krb_ap.specs.Setup.{Setup, Arrival, arrival}
 use Rattle.krb_ap.specs.Answer.{Answers, after}
-use Rattle.krb_ap.specs.declared.accepted.Accepted.{Accepted}
-use Rattle.krb_ap.specs.declared.refusal.Refusal.{Refusal}
+use Rattle.krbtool.specs.Tails.{IsTail}
+use Rattle.krbtool.specs.declared.tail.LineAnswer.{LineAnswer}
 use Rattle.krbtool.specs.CallLine.{SpellsCall}
 use Rattle.krb_ap.specs.History.{StandsFor}
-use Rattle.krbtool.specs.Answering.{Becomes, BecomeInTurn, HasLines, LineOutcome, answer_line, answer_lines, ended, last_line, outcome_status, status_of_lines}
+use Rattle.krbtool.specs.Answering.{Becomes, BecomeInTurn, Came, HasLines, LineOutcome, PrintsBeginning, answer_line, answer_lines, ended, outcome_status, status_of_lines}
 use Rattle.krbtool.specs.Inner.Held.{Holds}
-use Rattle.krbtool.specs.Inner.Going.{Answered, BecomesOf, Begun, Going, Reached, ReachedEnd, ReachedInput, ReachedStop, Stopped, Untouched}
+use Rattle.krbtool.specs.Inner.Going.{Answered, BecomesOf, Begun, Going, Reached, ReachedStop, Stopped, Untouched}
 use Rattle.krbtool.specs.declared.part_line.PartLine.{PartLine}
-use Rattle.krbtool.proofs.LineLaws.{begun_back}
 
 -- ---- lists
 
@@ -53,13 +53,13 @@ line_ended bytes lines rest parts = record {
 
 -- ---- outcomes
 
-pub become_push : (setup : Setup) (history mid end : List Arrival) (lines : List (List ℕ)) (outcomes : List LineOutcome) (line : List ℕ) (outcome : LineOutcome)
-    → BecomeInTurn setup history lines outcomes mid → Becomes setup mid line outcome end
-    → BecomeInTurn setup history (lines ++ line ∷ []) (outcomes ++ outcome ∷ []) end
-become_push setup history mid end [] [] line outcome turn one = (end, (subst (λ (h : List Arrival). Becomes setup h line outcome end) turn one, refl))
-become_push setup history mid end (l ∷ ls) (o ∷ os) line outcome turn one = (turn.0, (turn.1.0, become_push setup turn.0 mid end ls os line outcome turn.1.1 one))
-become_push setup history mid end [] (o ∷ os) line outcome turn one = absurd turn
-become_push setup history mid end (l ∷ ls) [] line outcome turn one = absurd turn
+pub become_push : (service : Option Principal) (setup : Setup) (history mid end : List Arrival) (lines : List (List ℕ)) (outcomes : List LineOutcome) (line : List ℕ) (outcome : LineOutcome)
+    → BecomeInTurn service setup history lines outcomes mid → Becomes service setup mid line outcome end
+    → BecomeInTurn service setup history (lines ++ line ∷ []) (outcomes ++ outcome ∷ []) end
+become_push service setup history mid end [] [] line outcome turn one = (end, (subst (λ (h : List Arrival). Becomes service setup h line outcome end) turn one, refl))
+become_push service setup history mid end (l ∷ ls) (o ∷ os) line outcome turn one = (turn.0, (turn.1.0, become_push service setup turn.0 mid end ls os line outcome turn.1.1 one))
+become_push service setup history mid end [] (o ∷ os) line outcome turn one = absurd turn
+become_push service setup history mid end (l ∷ ls) [] line outcome turn one = absurd turn
 
 pub status_push : (outcomes : List LineOutcome) (outcome : LineOutcome) → status_of_lines (outcomes ++ outcome ∷ []) ≡ max (status_of_lines outcomes) (outcome_status outcome)
 status_push [] outcome = omega arith
@@ -67,9 +67,9 @@ status_push (o ∷ os) outcome = ap (max (outcome_status o)) (status_push os out
 
 -- ---- going on
 
-pub going_start : (part : PartLine) (here setup : Setup) (history : List Arrival) (known : Option (List ℕ)) (Has : Stamp → Type 0) (latest : Option ℤ)
-    → Holds part [] → here ≡ setup → StandsFor setup Has latest history → Going part here setup history [] 0 known known Has latest
-going_start part here setup history known Has latest holds is stands = record {
+pub going_start : (service : Option Principal) (part : PartLine) (here setup : Setup) (history : List Arrival) (known : Option (List ℕ)) (Has : Stamp → Type 0) (latest : Option ℤ)
+    → Holds part [] → here ≡ setup → StandsFor setup Has latest history → Going service part here setup history [] 0 known known Has latest
+going_start service part here setup history known Has latest holds is stands = record {
   rest = [];
   holds = holds;
   lines = [];
@@ -83,10 +83,10 @@ going_start part here setup history known Has latest holds is stands = record {
   setup_is = is;
 }
 
-pub going_byte : (part next : PartLine) (here setup : Setup) (history : List Arrival) (came : List ℕ) (status byte : ℕ) (old new : Option (List ℕ))
+pub going_byte : (service : Option Principal) (part next : PartLine) (here setup : Setup) (history : List Arrival) (came : List ℕ) (status byte : ℕ) (old new : Option (List ℕ))
     (Has : Stamp → Type 0) (latest : Option ℤ) → byte ≢ 10 → ((line : List ℕ) → Holds part line → Holds next (line ++ byte ∷ []))
-    → Going part here setup history came status old new Has latest → Going next here setup history (came ++ byte ∷ []) (max status 0) old new Has latest
-going_byte part next here setup history came status byte old new Has latest other held going = record {
+    → Going service part here setup history came status old new Has latest → Going service next here setup history (came ++ byte ∷ []) (max status 0) old new Has latest
+going_byte service part next here setup history came status byte old new Has latest other held going = record {
   rest = going.rest ++ byte ∷ [];
   holds = held going.rest going.holds;
   lines = going.lines;
@@ -100,18 +100,18 @@ going_byte part next here setup history came status byte old new Has latest othe
   setup_is = going.setup_is;
 }
 
-pub going_line : (part next : PartLine) (here there setup : Setup) (history : List Arrival) (came : List ℕ) (status more : ℕ) (old mid new : Option (List ℕ))
-    (Has Later : Stamp → Type 0) (latest later : Option ℤ) → Holds next [] → (going : Going part here setup history came status old mid Has latest)
-    → Answered there setup going.end going.rest more mid new Later later
-    → Going next there setup history (came ++ 10 ∷ []) (max status more) old new Later later
-going_line part next here there setup history came status more old mid new Has Later latest later held going one = record {
+pub going_line : (service : Option Principal) (part next : PartLine) (here there setup : Setup) (history : List Arrival) (came : List ℕ) (status more : ℕ) (old mid new : Option (List ℕ))
+    (Has Later : Stamp → Type 0) (latest later : Option ℤ) → Holds next [] → (going : Going service part here setup history came status old mid Has latest)
+    → Answered service there setup going.end going.rest more mid new Later later
+    → Going service next there setup history (came ++ 10 ∷ []) (max status more) old new Later later
+going_line service part next here there setup history came status more old mid new Has Later latest later held going one = record {
   rest = [];
   holds = held;
   lines = going.lines ++ going.rest ∷ [];
   outcomes = going.outcomes ++ one.outcome ∷ [];
   end = one.of_line.end;
   parts = line_ended came going.lines going.rest going.parts;
-  become = become_push setup history going.end one.of_line.end going.lines going.outcomes going.rest one.outcome going.become one.of_line.becomes;
+  become = become_push service setup history going.end one.of_line.end going.lines going.outcomes going.rest one.outcome going.become one.of_line.becomes;
   printed = subst (Appends old new) (sym (flat_map-push answer_line going.outcomes one.outcome))
       (Appends-trans old mid new (answer_lines going.outcomes) (answer_line one.outcome) going.printed one.printed);
   status_is = omega (arith, going.status_is, one.status_is, status_push going.outcomes one.outcome);
@@ -121,13 +121,36 @@ going_line part next here there setup history came status more old mid new Has L
 
 -- ---- stopping
 
-pub all_begun : (old new : Option (List ℕ)) (bytes : List ℕ) → Appends old new bytes → AppendsBeginning old new bytes
-all_begun old new bytes appends = (length bytes, subst (Appends old new) (sym (take_all (length bytes) bytes (omega arith))) appends)
+-- all answers, and nothing of another
+pub all_begun : (old new : Option (List ℕ)) (outcomes : List LineOutcome) → Appends old new (answer_lines outcomes) → PrintsBeginning old new outcomes
+all_begun old new outcomes printed = record {
+  whole = outcomes;
+  last = [];
+  outcomes_are = sym (append-nil outcomes);
+  one = omega arith;
+  count = 0;
+  printed = subst (Appends old new) (sym (append-nil (answer_lines outcomes))) printed;
+}
 
-pub stopped_before : (part : PartLine) (here there setup : Setup) (history : List Arrival) (came more : List ℕ) (status : ℕ) (old mid new : Option (List ℕ))
-    (Has Later : Stamp → Type 0) (latest later : Option ℤ) → (going : Going part here setup history came status old mid Has latest)
-    → Untouched there setup going.end mid new Later later → Stopped there setup history (came ++ more) old new Later later
-stopped_before part here there setup history came more status old mid new Has Later latest later going untouched = record {
+-- all answers, and a beginning of one more
+pub one_begun : (old mid new : Option (List ℕ)) (outcomes : List LineOutcome) (outcome : LineOutcome) → Appends old mid (answer_lines outcomes)
+    → AppendsBeginning mid new (answer_line outcome) → PrintsBeginning old new (outcomes ++ outcome ∷ [])
+one_begun old mid new outcomes outcome printed begun =
+    let same : answer_lines (outcome ∷ []) ≡ answer_line outcome = flat_map-cons answer_line outcome [] ∙ append-nil (answer_line outcome) in
+    record {
+      whole = outcomes;
+      last = outcome ∷ [];
+      outcomes_are = refl;
+      one = omega arith;
+      count = begun.0;
+      printed = subst (λ (l : List ℕ). Appends old new (answer_lines outcomes ++ take begun.0 l)) (sym same)
+          (Appends-trans old mid new (answer_lines outcomes) (take begun.0 (answer_line outcome)) printed begun.1);
+    }
+
+pub stopped_before : (service : Option Principal) (part : PartLine) (here there setup : Setup) (history : List Arrival) (came more : List ℕ) (status : ℕ) (old mid new : Option (List ℕ))
+    (Has Later : Stamp → Type 0) (latest later : Option ℤ) → (going : Going service part here setup history came status old mid Has latest)
+    → Untouched there setup going.end mid new Later later → Stopped service there setup history (came ++ more) old new Later later
+stopped_before service part here there setup history came more status old mid new Has Later latest later going untouched = record {
   first = came;
   left = more;
   lines = going.lines;
@@ -137,15 +160,15 @@ stopped_before part here there setup history came more status old mid new Has La
   came_is = refl;
   parts = going.parts;
   become = going.become;
-  printed = all_begun old new (answer_lines going.outcomes) (Appends-kept old mid new (answer_lines going.outcomes) going.printed untouched.kept);
+  printed = all_begun old new going.outcomes (Appends-kept old mid new (answer_lines going.outcomes) going.printed untouched.kept);
   stands = untouched.stands;
   setup_is = untouched.setup_is;
 }
 
-pub stopped_within : (part : PartLine) (here there setup : Setup) (history : List Arrival) (came : List ℕ) (status : ℕ) (old mid new : Option (List ℕ))
-    (Has Later : Stamp → Type 0) (latest later : Option ℤ) → (going : Going part here setup history came status old mid Has latest)
-    → Begun there setup going.end going.rest mid new Later later → Stopped there setup history (came ++ 10 ∷ []) old new Later later
-stopped_within part here there setup history came status old mid new Has Later latest later going one = record {
+pub stopped_within : (service : Option Principal) (part : PartLine) (here there setup : Setup) (history : List Arrival) (came : List ℕ) (status : ℕ) (old mid new : Option (List ℕ))
+    (Has Later : Stamp → Type 0) (latest later : Option ℤ) → (going : Going service part here setup history came status old mid Has latest)
+    → Begun service there setup going.end going.rest mid new Later later → Stopped service there setup history (came ++ 10 ∷ []) old new Later later
+stopped_within service part here there setup history came status old mid new Has Later latest later going one = record {
   first = came ++ 10 ∷ [];
   left = [];
   lines = going.lines ++ going.rest ∷ [];
@@ -154,16 +177,15 @@ stopped_within part here there setup history came status old mid new Has Later l
   end = one.of_line.end;
   came_is = sym (append-nil (came ++ 10 ∷ []));
   parts = line_ended came going.lines going.rest going.parts;
-  become = become_push setup history going.end one.of_line.end going.lines going.outcomes going.rest one.outcome going.become one.of_line.becomes;
-  printed = rw (sym (flat_map-push answer_line going.outcomes one.outcome)) at
-      (begun_back (answer_lines going.outcomes) (answer_line one.outcome) old mid new going.printed one.printed);
+  become = become_push service setup history going.end one.of_line.end going.lines going.outcomes going.rest one.outcome going.become one.of_line.becomes;
+  printed = one_begun old mid new going.outcomes one.outcome going.printed one.printed;
   stands = one.of_line.stands;
   setup_is = one.of_line.setup_is;
 }
 
-pub stopped_more : (here setup : Setup) (history : List Arrival) (came more : List ℕ) (old new : Option (List ℕ)) (Has : Stamp → Type 0) (latest : Option ℤ)
-    → Stopped here setup history came old new Has latest → Stopped here setup history (came ++ more) old new Has latest
-stopped_more here setup history came more old new Has latest stopped = record {
+pub stopped_more : (service : Option Principal) (here setup : Setup) (history : List Arrival) (came more : List ℕ) (old new : Option (List ℕ)) (Has : Stamp → Type 0) (latest : Option ℤ)
+    → Stopped service here setup history came old new Has latest → Stopped service here setup history (came ++ more) old new Has latest
+stopped_more service here setup history came more old new Has latest stopped = record {
   first = stopped.first;
   left = stopped.left ++ more;
   lines = stopped.lines;
@@ -180,19 +202,23 @@ stopped_more here setup history came more old new Has latest stopped = record {
 
 -- ---- a call
 
-pub called : (here there setup : Setup) (history : List Arrival) (line bytes : List ℕ) (moment : ℤ) (answer : Result Accepted Refusal)
-    (Later : Stamp → Type 0) (later : Option ℤ) → here ≡ setup → there ≡ here → SpellsCall line (arrival bytes moment)
-    → Answers here history (arrival bytes moment) answer → StandsFor there Later later (after history (arrival bytes moment) answer)
-    → BecomesOf there setup history line (Some answer) Later later
-called here there setup history line bytes moment answer Later later is same spells answers stands = record {
-  end = after history (arrival bytes moment) answer;
+pub called : (service : Option Principal) (here there setup : Setup) (history : List Arrival) (line bytes : List ℕ) (moment : ℤ)
+    (confounder : Option (List ℕ)) (answer : LineAnswer)
+    (Later : Stamp → Type 0) (later : Option ℤ) → here ≡ setup → there ≡ here → SpellsCall line (arrival bytes moment) confounder
+    → Answers here history (arrival bytes moment) answer.outcome → StandsFor there Later later (after history (arrival bytes moment) answer.outcome)
+    → IsTail answer.outcome moment confounder service answer.tail
+    → BecomesOf service there setup history line (Some answer) Later later
+called service here there setup history line bytes moment confounder answer Later later is same spells answers stands follows = record {
+  end = after history (arrival bytes moment) answer.outcome;
   becomes = record {
     call = arrival bytes moment;
+    confounder = confounder;
     spells = spells;
-    answers = subst (λ (s : Setup). Answers s history (arrival bytes moment) answer) is answers;
+    answers = subst (λ (s : Setup). Answers s history (arrival bytes moment) answer.outcome) is answers;
     end_is = refl;
+    follows = follows;
   };
-  stands = subst (λ (s : Setup). StandsFor s Later later (after history (arrival bytes moment) answer)) (same ∙ is) stands;
+  stands = subst (λ (s : Setup). StandsFor s Later later (after history (arrival bytes moment) answer.outcome)) (same ∙ is) stands;
   setup_is = same ∙ is;
 }
 
@@ -204,79 +230,87 @@ take_on came piece i byte below is =
     append_assoc came (take i piece) (byte ∷ [])
     ∙ ap (λ (l : List ℕ). came ++ l) (ap (λ (b : ℕ). take i piece ++ b ∷ []) is ∙ sym (take_more piece i byte below))
 
-pub piece_step : (part : PartLine) (here setup : Setup) (history : List Arrival) (came piece : List ℕ) (i byte status so_far more : ℕ) (old new : Option (List ℕ))
+pub piece_step : (service : Option Principal) (part : PartLine) (here setup : Setup) (history : List Arrival) (came piece : List ℕ) (i byte status so_far more : ℕ) (old new : Option (List ℕ))
     (Has : Stamp → Type 0) (latest : Option ℤ) → i < length piece → byte ≡ get_or piece i byte
-    → Going part here setup history ((came ++ take i piece) ++ byte ∷ []) (max (max status so_far) more) old new Has latest
-    → Going part here setup history (came ++ take (i + 1) piece) (max status (max so_far more)) old new Has latest
-piece_step part here setup history came piece i byte status so_far more old new Has latest below is going =
+    → Going service part here setup history ((came ++ take i piece) ++ byte ∷ []) (max (max status so_far) more) old new Has latest
+    → Going service part here setup history (came ++ take (i + 1) piece) (max status (max so_far more)) old new Has latest
+piece_step service part here setup history came piece i byte status so_far more old new Has latest below is going =
     let same : max (max status so_far) more ≡ max status (max so_far more) = omega arith in
-    subst (λ (s : ℕ). Going part here setup history (came ++ take (i + 1) piece) s old new Has latest) same
-    (subst (λ (l : List ℕ). Going part here setup history l (max (max status so_far) more) old new Has latest) (take_on came piece i byte below is) going)
+    subst (λ (s : ℕ). Going service part here setup history (came ++ take (i + 1) piece) s old new Has latest) same
+    (subst (λ (l : List ℕ). Going service part here setup history l (max (max status so_far) more) old new Has latest) (take_on came piece i byte below is) going)
 
-pub piece_stop : (here setup : Setup) (history : List Arrival) (came piece : List ℕ) (i byte : ℕ) (old new : Option (List ℕ))
+pub piece_stop : (service : Option Principal) (here setup : Setup) (history : List Arrival) (came piece : List ℕ) (i byte : ℕ) (old new : Option (List ℕ))
     (Has : Stamp → Type 0) (latest : Option ℤ) → i < length piece → byte ≡ get_or piece i byte
-    → Stopped here setup history ((came ++ take i piece) ++ byte ∷ []) old new Has latest → Stopped here setup history (came ++ piece) old new Has latest
-piece_stop here setup history came piece i byte old new Has latest below is stopped =
+    → Stopped service here setup history ((came ++ take i piece) ++ byte ∷ []) old new Has latest → Stopped service here setup history (came ++ piece) old new Has latest
+piece_stop service here setup history came piece i byte old new Has latest below is stopped =
     let whole : (came ++ take (i + 1) piece) ++ drop (i + 1) piece ≡ came ++ piece =
     append_assoc came (take (i + 1) piece) (drop (i + 1) piece) ∙ ap (λ (l : List ℕ). came ++ l) (take-append-drop (i + 1) piece) in
-    subst (λ (l : List ℕ). Stopped here setup history l old new Has latest) whole
-    (stopped_more here setup history (came ++ take (i + 1) piece) (drop (i + 1) piece) old new Has latest
-    (subst (λ (l : List ℕ). Stopped here setup history l old new Has latest) (take_on came piece i byte below is) stopped))
+    subst (λ (l : List ℕ). Stopped service here setup history l old new Has latest) whole
+    (stopped_more service here setup history (came ++ take (i + 1) piece) (drop (i + 1) piece) old new Has latest
+    (subst (λ (l : List ℕ). Stopped service here setup history l old new Has latest) (take_on came piece i byte below is) stopped))
 
 -- ---- a source
 
-pub reached_start : (part : PartLine) (here setup : Setup) (history : List Arrival) (from known : Option (List ℕ)) (Has : Stamp → Type 0) (latest : Option ℤ)
-    → Holds part [] → here ≡ setup → StandsFor setup Has latest history → Reached from from 0 part here setup history 0 known known Has latest
-reached_start part here setup history from known Has latest holds is stands = record {
+pub reached_start : (service : Option Principal) (part : PartLine) (here setup : Setup) (history : List Arrival) (from known : Option (List ℕ)) (Has : Stamp → Type 0) (latest : Option ℤ)
+    → Holds part [] → here ≡ setup → StandsFor setup Has latest history → Reached service from from 0 part here setup history 0 known known Has latest
+reached_start service part here setup history from known Has latest holds is stands = record {
   came = [];
   consumed = Consumes-nil from;
   counted = refl;
-  going = going_start part here setup history known Has latest holds is stands;
+  going = going_start service part here setup history known Has latest holds is stands;
 }
 
-pub reached_more : (part next : PartLine) (here there setup : Setup) (history : List Arrival) (from mid to : Option (List ℕ)) (count more status worse : ℕ)
+pub reached_more : (service : Option Principal) (part next : PartLine) (here there setup : Setup) (history : List Arrival) (from mid to : Option (List ℕ)) (count more status worse : ℕ)
     (piece : List ℕ) (old now new : Option (List ℕ)) (Has Later : Stamp → Type 0) (latest later : Option ℤ)
-    → (reached : Reached from mid count part here setup history status old now Has latest)
+    → (reached : Reached service from mid count part here setup history status old now Has latest)
     → Consumes mid to piece → length piece ≡ more
-    → Going next there setup history (reached.came ++ piece) (max status worse) old new Later later
-    → Reached from to (count + more) next there setup history (max status worse) old new Later later
-reached_more part next here there setup history from mid to count more status worse piece old now new Has Later latest later reached consumed counted going = record {
+    → Going service next there setup history (reached.came ++ piece) (max status worse) old new Later later
+    → Reached service from to (count + more) next there setup history (max status worse) old new Later later
+reached_more service part next here there setup history from mid to count more status worse piece old now new Has Later latest later reached consumed counted going = record {
   came = reached.came ++ piece;
   consumed = Consumes-trans from mid to reached.came piece reached.consumed consumed;
   counted = omega (arith, length-append reached.came piece, reached.counted, counted);
   going = going;
 }
 
-pub reached_kept : (part : PartLine) (here setup : Setup) (history : List Arrival) (from mid to : Option (List ℕ)) (count status : ℕ)
-    (old new : Option (List ℕ)) (Has : Stamp → Type 0) (latest : Option ℤ) → Reached from mid count part here setup history status old new Has latest → Keeps mid to
-    → Reached from to count part here setup history status old new Has latest
-reached_kept part here setup history from mid to count status old new Has latest reached kept = record {
+pub reached_kept : (service : Option Principal) (part : PartLine) (here setup : Setup) (history : List Arrival) (from mid to : Option (List ℕ)) (count status : ℕ)
+    (old new : Option (List ℕ)) (Has : Stamp → Type 0) (latest : Option ℤ) → Reached service from mid count part here setup history status old new Has latest → Keeps mid to
+    → Reached service from to count part here setup history status old new Has latest
+reached_kept service part here setup history from mid to count status old new Has latest reached kept = record {
   came = reached.came;
   consumed = Consumes-kept from mid to reached.came reached.consumed kept;
   counted = reached.counted;
   going = reached.going;
 }
 
-pub reached_stop : (part : PartLine) (here there setup : Setup) (history : List Arrival) (from mid to : Option (List ℕ)) (count status : ℕ)
+pub reached_stop : (service : Option Principal) (part : PartLine) (here there setup : Setup) (history : List Arrival) (from mid to : Option (List ℕ)) (count status : ℕ)
     (piece : List ℕ) (old now new : Option (List ℕ)) (Has Later : Stamp → Type 0) (latest later : Option ℤ)
-    → (reached : Reached from mid count part here setup history status old now Has latest) → Consumes mid to piece
-    → Stopped there setup history (reached.came ++ piece) old new Later later
-    → ReachedStop from to there setup history old new Later later
-reached_stop part here there setup history from mid to count status piece old now new Has Later latest later reached consumed stopped = record {
+    → (reached : Reached service from mid count part here setup history status old now Has latest) → Consumes mid to piece
+    → Stopped service there setup history (reached.came ++ piece) old new Later later
+    → ReachedStop service from to there setup history old new Later later
+reached_stop service part here there setup history from mid to count status piece old now new Has Later latest later reached consumed stopped = record {
   came = reached.came ++ piece;
   consumed = Consumes-trans from mid to reached.came piece reached.consumed consumed;
   stopped = stopped;
 }
 
-pub reached_none : (part : PartLine) (here setup : Setup) (history : List Arrival) (from mid to : Option (List ℕ)) (count status : ℕ) (piece : List ℕ)
-    (old new : Option (List ℕ)) (Has : Stamp → Type 0) (latest : Option ℤ) → Reached from mid count part here setup history status old new Has latest
-    → Consumes mid to piece → piece ≡ [] → Reached from to count part here setup history status old new Has latest
-reached_none part here setup history from mid to count status piece old new Has latest reached consumed none = record {
+pub reached_none : (service : Option Principal) (part : PartLine) (here setup : Setup) (history : List Arrival) (from mid to : Option (List ℕ)) (count status : ℕ) (piece : List ℕ)
+    (old new : Option (List ℕ)) (Has : Stamp → Type 0) (latest : Option ℤ) → Reached service from mid count part here setup history status old new Has latest
+    → Consumes mid to piece → piece ≡ [] → Reached service from to count part here setup history status old new Has latest
+reached_none service part here setup history from mid to count status piece old new Has latest reached consumed none = record {
   came = reached.came;
   consumed = subst (Consumes from to) (ap (λ (l : List ℕ). reached.came ++ l) none ∙ append-nil reached.came)
       (Consumes-trans from mid to reached.came piece reached.consumed consumed);
   counted = reached.counted;
   going = reached.going;
+}
+
+pub came_more : (from mid to : Option (List ℕ)) (count more : ℕ) (piece : List ℕ) → Came from mid count → Consumes mid to piece → length piece ≡ more
+    → Came from to (count + more)
+came_more from mid to count more piece came consumed counted = record {
+  bytes = came.bytes ++ piece;
+  consumed = Consumes-trans from mid to came.bytes piece came.consumed consumed;
+  counted = omega (arith, length-append came.bytes piece, came.counted, counted);
 }
 
 pub length-take-below : (count : ℕ) (bytes : List ℕ) → count ≤ length bytes → length (take count bytes) ≡ count

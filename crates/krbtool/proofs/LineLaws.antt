@@ -6,7 +6,7 @@ use Rattle.std.proofs.lemmas.Grind.{flat_map-append}
 use Rattle.std.proofs.lemmas.List.Concat.{flat_map-cons}
 use Rattle.std.proofs.Math.Seq.{take-append-add}
 use Rattle.std.specs.Io.KnownBytes.{Appends}
-use Rattle.std.proofs.KnownBytes.{Appends-trans}
+use Rattle.std.proofs.KnownBytes.{Appends-nil, Appends-trans}
 use Rattle.krb_name.specs.Flow.{AppendsBeginning}
 
 -- the lines before a place, and those from there on
@@ -56,3 +56,7 @@ pub begun_back : (front back : List ℕ) (old now new : Option (List ℕ)) → A
     → AppendsBeginning old new (front ++ back)
 begun_back front back old now new written begun =
     (length front + begun.0, subst (Appends old new) (sym (take-append-add front back begun.0)) (Appends-trans old now new front (take begun.0 back) written begun.1))
+
+-- nothing is a beginning too
+pub nothing_begun : (old : Option (List ℕ)) (bytes : List ℕ) → AppendsBeginning old old bytes
+nothing_begun old bytes = (0, Appends-nil old)

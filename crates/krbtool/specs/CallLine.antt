@@ -1,5 +1,6 @@
--- The lines that `accept` reads: `SECONDS MICROS HEX`, with the byte 32 between. Seconds are counted from 1970-01-01T00:00:00Z.
-use Rattle.std.specs.Prelude.{◌≡◌, ◌⊎◌, ◌<◌, ◌≤◌, ℕ, ℤ, pos, neg_ℤ, List, [], ◌∷◌, ◌++◌, length, Ok}
+-- The lines that `accept` reads: `SECONDS MICROS HEX` or `SECONDS MICROS HEX CONFOUNDER`, with the byte 32 between. Seconds are counted
+-- from 1970-01-01T00:00:00Z.
+use Rattle.std.specs.Prelude.{◌≡◌, ◌⊎◌, ◌<◌, ◌≤◌, ℕ, ℤ, pos, neg_ℤ, List, [], ◌∷◌, ◌++◌, Option, Some, None, length, Ok}
 use Rattle.std.specs.Str.Parse.{IsNumeral, digits_value}
 use Rattle.hex.specs.Hex.{decode_of}
 use Rattle.krb_der.specs.Time.{IsSeconds}
@@ -35,22 +36,39 @@ SpellsSeconds text seconds = SpellsBefore text seconds ⊎ SpellsSince text seco
 abbrev pub SpellsMessage : List ℕ → List ℕ → Type 0
 SpellsMessage text bytes = ((text ≡ 45 ∷ []) × (bytes ≡ [])) ⊎ ((0 < length bytes) × (decode_of text ≡ Ok bytes))
 
--- the line spells this call
-pub record SpellsCall (line : List ℕ) (call : Arrival) : Type 0 where
+-- 32 hexadecimal digits of either case, for 16 bytes
+abbrev pub SpellsConfounder : List ℕ → List ℕ → Type 0
+SpellsConfounder text bytes = (length text ≡ 32) × (decode_of text ≡ Ok bytes)
+
+-- a message with a confounder behind it
+pub record SpellsBoth (text bytes confounder : List ℕ) : Type 0 where
+  pub message_text : List ℕ
+  pub confounder_text : List ℕ
+  pub text_is : text ≡ message_text ++ 32 ∷ confounder_text
+  pub spells_message : SpellsMessage message_text bytes
+  pub spells_confounder : SpellsConfounder confounder_text confounder
+
+-- what follows the moment: a message, and a confounder or none
+abbrev pub SpellsRest : List ℕ → List ℕ → Option (List ℕ) → Type 0
+SpellsRest text bytes None = SpellsMessage text bytes
+SpellsRest text bytes (Some confounder) = SpellsBoth text bytes confounder
+
+-- the line spells this call, and this confounder for a reply
+pub record SpellsCall (line : List ℕ) (call : Arrival) (confounder : Option (List ℕ)) : Type 0 where
   pub seconds_text : List ℕ
   pub micros_text : List ℕ
-  pub message_text : List ℕ
+  pub rest_text : List ℕ
   pub seconds : ℤ
   pub micros : ℕ
-  pub line_is : line ≡ seconds_text ++ 32 ∷ (micros_text ++ 32 ∷ message_text)
+  pub line_is : line ≡ seconds_text ++ 32 ∷ (micros_text ++ 32 ∷ rest_text)
   pub limit : length line ≤ line_limit
   pub spells_seconds : SpellsSeconds seconds_text seconds
   pub spells_micros : SpellsNumber 6 micros_text micros
   pub years : IsSeconds seconds
   pub within_second : micros < 1_000_000
   pub moment_is : call.moment ≡ micros_of seconds micros
-  pub message : SpellsMessage message_text call.bytes
+  pub rest : SpellsRest rest_text call.bytes confounder
 
 -- the line spells no call
 abbrev pub IsBadLine : List ℕ → Type 0
-IsBadLine line = (call : Arrival) → ¬ SpellsCall line call
+IsBadLine line = (call : Arrival) (confounder : Option (List ℕ)) → ¬ SpellsCall line call confounder

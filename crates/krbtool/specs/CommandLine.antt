@@ -1,10 +1,15 @@
 -- The command line of krbtool, in the words of clap's own definition of a simple command: its
 -- subcommands with their operands, and what order the words of a command line give.
-use Rattle.std.specs.Prelude.{◌≡◌, ℕ, List, [], ◌∷◌, Option, Some, None, true, codes}
-use Rattle.clap.specs.Words.{App, Row, Rule, Text, first_of, new_app, new_rule, with_rule, with_subcommand}
+use Rattle.std.specs.Prelude.{◌≡◌, ℕ, Bool, List, [], ◌∷◌, Option, Some, None, true, false, codes}
+use Rattle.clap.specs.Words.{App, Row, Rule, Text, first_of, one_of, new_app, new_rule, with_rule, with_subcommand}
 use Rattle.clap.specs.declared.builder.value_parser.ValueParser.TheVariants.{Unsigned}
+use Rattle.clap.specs.declared.builder.action.ArgAction.TheVariants.{SetTrue}
+use Rattle.std.specs.Borrow.{Bor}
+use Rattle.std.specs.Option.{option_map}
+use Rattle.krbtool.specs.declared.order.AcceptWords.{AcceptWords}
+use Rattle.krbtool.specs.declared.order.RequestWords.{RequestWords}
 use Rattle.krbtool.specs.declared.order.Order.{Order}
-use Rattle.krbtool.specs.declared.order.Order.TheVariants.{ListKeytab, ListCcache, CheckKeytab, CheckCcache, ConvertKeytab, ConvertCcache, Accept}
+use Rattle.krbtool.specs.declared.order.Order.TheVariants.{ListKeytab, ListCcache, CheckKeytab, CheckCcache, ConvertKeytab, ConvertCcache, Request, Accept}
 
 -- an operand that has to be there
 abbrev pub operand : Text → Rule
@@ -14,6 +19,22 @@ operand id = record (new_rule id) { required = true }
 abbrev pub number_option : Text → ℕ → Text → Rule
 number_option id greatest default = record (new_rule id) { long = Some id; parser = Some (Unsigned 0 greatest); defaults = default ∷ [] }
 
+-- an option that has to be there
+abbrev pub needed_option : Text → Rule
+needed_option id = record (new_rule id) { long = Some id; required = true }
+
+-- one with a whole number from 0 to some greatest one
+abbrev pub needed_number : Text → ℕ → Rule
+needed_number id greatest = record (needed_option id) { parser = Some (Unsigned 0 greatest) }
+
+-- an option that may be left out
+abbrev pub free_option : Text → Rule
+free_option id = record (new_rule id) { long = Some id }
+
+-- an option without a value
+abbrev pub flag : Text → Rule
+flag id = record (new_rule id) { long = Some id; action = Some SetTrue }
+
 -- NAME FILE
 abbrev pub of_file : Text → App
 of_file name = with_rule (new_app name) (operand (codes "FILE"))
@@ -22,9 +43,22 @@ of_file name = with_rule (new_app name) (operand (codes "FILE"))
 abbrev pub of_file_and_out : Text → App
 of_file_and_out name = with_rule (of_file name) (operand (codes "OUT"))
 
--- accept KEYTAB [--skew SECONDS]
+-- request FILE SERVICE --time S --usec U --confounder H [--mutual]
+abbrev pub request_operands : App
+request_operands = with_rule (of_file (codes "request")) (operand (codes "SERVICE"))
+
+abbrev pub request_moment : App
+request_moment = with_rule (with_rule request_operands (needed_number (codes "time") 253_402_300_799)) (needed_number (codes "usec") 999_999)
+
+abbrev pub request : App
+request = with_rule (with_rule request_moment (needed_option (codes "confounder"))) (flag (codes "mutual"))
+
+-- accept KEYTAB [--skew SECONDS] [--service NAME]
+abbrev pub accept_operands : App
+accept_operands = with_rule (new_app (codes "accept")) (operand (codes "KEYTAB"))
+
 abbrev pub accept : App
-accept = with_rule (with_rule (new_app (codes "accept")) (operand (codes "KEYTAB"))) (number_option (codes "skew") 86_400 (codes "300"))
+accept = with_rule (with_rule accept_operands (number_option (codes "skew") 86_400 (codes "300"))) (free_option (codes "service"))
 
 -- an app with two more subcommands
 abbrev pub with_two : App → App → App → App
@@ -44,7 +78,7 @@ abbrev pub with_conversions : App
 with_conversions = with_two with_checks (of_file_and_out (codes "convert-keytab")) (of_file_and_out (codes "convert-ccache"))
 
 unfoldable pub krbtool : App
-krbtool = with_subcommand with_conversions accept.top
+krbtool = with_two with_conversions request accept
 
 -- an operand or an option has this value
 abbrev pub HasOperand : List Row → Text → Text → Type 0
@@ -57,6 +91,31 @@ HasFile rows file = HasOperand rows (codes "FILE") file
 abbrev pub HasFiles : List Row → Text → Text → Type 0
 HasFiles rows file out = HasFile rows file × HasOperand rows (codes "OUT") out
 
+-- a flag is given, or not, as its value says
+pub record HasFlag (rows : List Row) (id : Text) (given : Bool) : Type 0 where
+  pub said : one_of id rows ≡ Some (codes "true") → given ≡ true
+  pub denied : one_of id rows ≡ Some (codes "false") → given ≡ false
+  pub absent : one_of id rows ≡ None → given ≡ false
+
+-- the operands and options of request
+pub record AsksRequest (rows : List Row) (words : RequestWords) : Type 0 where
+  pub file : HasFile rows words.file.now
+  pub service : HasOperand rows (codes "SERVICE") words.service.now
+  pub time : HasOperand rows (codes "time") words.time.now
+  pub usec : HasOperand rows (codes "usec") words.usec.now
+  pub confounder : HasOperand rows (codes "confounder") words.confounder.now
+  pub reply : HasFlag rows (codes "mutual") words.mutual
+
+-- an option has this value, or is left out
+abbrev pub HasOption : List Row → Text → Option (Bor Text) → Type 0
+HasOption rows id value = first_of id rows ≡ option_map (λ s. s.now) value
+
+-- the operand and options of accept
+pub record AsksAcceptance (rows : List Row) (words : AcceptWords) : Type 0 where
+  pub keytab : HasOperand rows (codes "KEYTAB") words.keytab.now
+  pub skew : HasOperand rows (codes "skew") words.skew.now
+  pub service : HasOption rows (codes "service") words.service
+
 -- the order is the subcommand's, with the values that its entries have
 abbrev pub IsOrder : Order → Option (Text × List Row) → Type 0
 IsOrder order None = ⊥
@@ -66,5 +125,5 @@ IsOrder (CheckKeytab file) (Some (name, rows)) = (name ≡ codes "check-keytab")
 IsOrder (CheckCcache file) (Some (name, rows)) = (name ≡ codes "check-ccache") × HasFile rows file.now
 IsOrder (ConvertKeytab file out) (Some (name, rows)) = (name ≡ codes "convert-keytab") × HasFiles rows file.now out.now
 IsOrder (ConvertCcache file out) (Some (name, rows)) = (name ≡ codes "convert-ccache") × HasFiles rows file.now out.now
-IsOrder (Accept keytab skew) (Some (name, rows)) =
-    (name ≡ codes "accept") × (HasOperand rows (codes "KEYTAB") keytab.now × HasOperand rows (codes "skew") skew.now)
+IsOrder (Request words) (Some (name, rows)) = (name ≡ codes "request") × AsksRequest rows words
+IsOrder (Accept words) (Some (name, rows)) = (name ≡ codes "accept") × AsksAcceptance rows words

@@ -4,8 +4,10 @@ use Rattle.krb_keytab.specs.declared.fault.KeytabFault.{KeytabFault}
 use Rattle.krb_keytab.specs.declared.fault.KeytabFault.TheVariants as keytab
 use Rattle.krb_ccache.specs.declared.fault.CacheFault.{CacheFault}
 use Rattle.krb_ccache.specs.declared.fault.CacheFault.TheVariants as cache
+use Rattle.krb_ap.specs.declared.request_fault.RequestFault.{RequestFault}
+use Rattle.krb_ap.specs.declared.request_fault.RequestFault.TheVariants as request
 use Rattle.krbtool.specs.declared.fault.EngineFault.{EngineFault}
-use Rattle.krbtool.specs.declared.fault.EngineFault.TheVariants.{Keytab, Cache, Write, OutOfMemory}
+use Rattle.krbtool.specs.declared.fault.EngineFault.TheVariants.{Keytab, Cache, Request, Write, OutOfMemory}
 
 -- the bytes that were to come, where the source tells them, are a file with some value, of which this holds
 abbrev pub OfFile : {V : Type 0} → (List ℕ → V → Type 0) → Option (List ℕ) → (V → Type 0) → Type 0
@@ -24,6 +26,31 @@ cache_fault (Cache cache.Read) = None
 cache_fault (Cache cache.OutOfMemory) = None
 cache_fault (Cache fault) = Some fault
 cache_fault _ = None
+
+-- why no request is built, other than for want of memory
+abbrev pub request_fault : EngineFault → Option RequestFault
+request_fault (Request request.OutOfMemory) = None
+request_fault (Request fault) = Some fault
+request_fault _ = None
+
+-- the faults that an engine over a keytab answers: its own, a failed sink, and want of memory
+abbrev pub IsOfKeytab : EngineFault → Type 0
+IsOfKeytab (Keytab fault) = Unit {0}
+IsOfKeytab Write = Unit {0}
+IsOfKeytab OutOfMemory = Unit {0}
+IsOfKeytab _ = ⊥
+
+-- the same of one over a credential cache
+abbrev pub IsOfCache : EngineFault → Type 0
+IsOfCache (Cache fault) = Unit {0}
+IsOfCache Write = Unit {0}
+IsOfCache OutOfMemory = Unit {0}
+IsOfCache _ = ⊥
+
+-- and of one that builds a request with it
+abbrev pub IsOfRequest : EngineFault → Type 0
+IsOfRequest (Request fault) = Unit {0}
+IsOfRequest fault = IsOfCache fault
 
 -- the answer is this fault of the keytab, unless its source or memory failed
 abbrev pub FailsWith : {X : Type 0} → Result X EngineFault → KeytabFault → Type 0

@@ -7,8 +7,12 @@ use Rattle.krb_keytab.specs.Fault.{offset_of}
 use Rattle.krb_ccache.specs.declared.fault.CacheFault.{CacheFault}
 use Rattle.krb_ccache.specs.declared.fault.CacheFault.TheVariants as cache
 use Rattle.krb_ccache.specs.Fault as in_cache
+use Rattle.krb_name.specs.declared.text_fault.TextFault.{TextFault}
+use Rattle.krb_name.specs.declared.text_fault.TextFault.TheVariants as text
+use Rattle.krb_ap.specs.declared.request_fault.RequestFault.{RequestFault}
+use Rattle.krb_ap.specs.declared.request_fault.RequestFault.TheVariants as request
 use Rattle.krbtool.specs.declared.fault.EngineFault.{EngineFault}
-use Rattle.krbtool.specs.declared.fault.EngineFault.TheVariants.{Keytab, Cache, Input, Write, OutOfMemory}
+use Rattle.krbtool.specs.declared.fault.EngineFault.TheVariants.{Keytab, Cache, Request, Input, Write, OutOfMemory}
 
 abbrev pub keytab_name : KeytabFault → List ℕ
 keytab_name keytab.Version = codes "Version"
@@ -27,9 +31,18 @@ cache_name cache.TooLong = codes "TooLong"
 cache_name cache.Read = codes "Read"
 cache_name cache.OutOfMemory = codes "OutOfMemory"
 
+abbrev pub request_name : RequestFault → List ℕ
+request_name request.NoCredential = codes "NoCredential"
+request_name request.NoUsableKey = codes "NoUsableKey"
+request_name request.Expired = codes "Expired"
+request_name request.BadTicket = codes "BadTicket"
+request_name request.TooLong = codes "TooLong"
+request_name request.OutOfMemory = codes "OutOfMemory"
+
 abbrev pub name_of : EngineFault → List ℕ
 name_of (Keytab fault) = keytab_name fault
 name_of (Cache fault) = cache_name fault
+name_of (Request fault) = request_name fault
 name_of Input = codes "Read"
 name_of Write = codes "Write"
 name_of OutOfMemory = codes "OutOfMemory"
@@ -37,9 +50,21 @@ name_of OutOfMemory = codes "OutOfMemory"
 abbrev pub place_of : EngineFault → Option ℕ
 place_of (Keytab fault) = offset_of fault
 place_of (Cache fault) = in_cache.offset_of fault
+place_of (Request fault) = None
 place_of Input = None
 place_of Write = None
 place_of OutOfMemory = None
+
+-- of a service's name
+abbrev pub text_fault_name : TextFault → List ℕ
+text_fault_name (text.BadText at) = codes "BadText"
+text_fault_name text.NoRealm = codes "NoRealm"
+text_fault_name text.OutOfMemory = codes "OutOfMemory"
+
+abbrev pub text_fault_place : TextFault → Option ℕ
+text_fault_place (text.BadText at) = Some at
+text_fault_place text.NoRealm = None
+text_fault_place text.OutOfMemory = None
 
 -- `krbtool: NAME: FAULT`, with ` at OFFSET` where the fault has one
 abbrev pub line_of : List ℕ → List ℕ → Option ℕ → List ℕ

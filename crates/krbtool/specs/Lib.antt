@@ -3,6 +3,8 @@ pub mod Lines
 pub mod Status
 pub mod Engine
 pub mod FaultText
+pub mod Requesting
 pub mod CallLine
+pub mod Tails
 pub mod Answering
 pub mod Inner

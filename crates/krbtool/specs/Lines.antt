@@ -1,5 +1,5 @@
 -- The lines that the commands print. Each ends in the byte 10, and its words have the byte 32 between them.
-use Rattle.std.specs.Prelude.{◌≡◌, ◌≢◌, List, [], ◌∷◌, ◌++◌, ℕ, ℤ, Bool, false, ◌&&◌, Option, Some, None, All, codes, if◌then◌else◌}
+use Rattle.std.specs.Prelude.{◌≢◌, List, [], ◌∷◌, ◌++◌, ℕ, ℤ, Bool, false, ◌&&◌, Option, Some, None, All, codes, if◌then◌else◌}
 use Rattle.std.specs.Int.{w32}
 use Rattle.std.specs.List.{flat_map}
 use Rattle.std.specs.Str.{bytes_eq}

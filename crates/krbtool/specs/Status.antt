@@ -2,8 +2,11 @@
 use Rattle.std.specs.Prelude.{ℕ}
 use Rattle.krb_keytab.specs.declared.fault.KeytabFault.TheVariants as keytab
 use Rattle.krb_ccache.specs.declared.fault.CacheFault.TheVariants as cache
+use Rattle.krb_name.specs.declared.text_fault.TextFault.{TextFault}
+use Rattle.krb_name.specs.declared.text_fault.TextFault.TheVariants as text
+use Rattle.krb_ap.specs.declared.request_fault.RequestFault.TheVariants as request
 use Rattle.krbtool.specs.declared.fault.EngineFault.{EngineFault}
-use Rattle.krbtool.specs.declared.fault.EngineFault.TheVariants.{Keytab, Cache, Input, Write, OutOfMemory}
+use Rattle.krbtool.specs.declared.fault.EngineFault.TheVariants.{Keytab, Cache, Request, Input, Write, OutOfMemory}
 
 -- 1: the content is refused. 3: a file, the output or memory failed
 abbrev pub status_of : EngineFault → ℕ
@@ -13,6 +16,13 @@ status_of (Keytab _) = 1
 status_of (Cache cache.Read) = 3
 status_of (Cache cache.OutOfMemory) = 3
 status_of (Cache _) = 1
+status_of (Request request.OutOfMemory) = 3
+status_of (Request _) = 1
 status_of Input = 3
 status_of Write = 3
 status_of OutOfMemory = 3
+
+-- 2: the command line is wrong
+abbrev pub service_status : TextFault → ℕ
+service_status text.OutOfMemory = 3
+service_status _ = 2

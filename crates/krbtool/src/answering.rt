@@ -3,10 +3,11 @@
 ghost use Rattle.std.specs.Prelude.{◌≡◌, ◌⊎◌, ◌+◌, ◌-◌, ◌^◌, ◌<◌, IfOk, IfErr, OnOk, OnErr, string_bytes};
 ghost use Rattle.std.specs.Io.KnownBytes.{Appends};
 ghost use Rattle.krb_name.specs.Flow.{AppendsBeginning};
-ghost use Rattle.krbtool.specs.Answering.{accepted_line, answer_line, outcome_status, refusal_name, refused_line};
+ghost use Rattle.krbtool.specs.Answering.{accepted_line, answer_line, call_status, call_text, outcome_status, refusal_name, refused_line};
 ghost use Rattle.krbtool.specs.Engine.{failed_writes};
 
 use crate::fault::{EngineFault, FAILED, REFUSED};
+use crate::tail::{LineAnswer, Tail, status_of_tail, tail_text};
 use krb_ap::{Accepted, Outcome, Refusal};
 use krb_name::{Sink, write_all};
 use std::alloc::{AllocError, Global};
@@ -14,7 +15,7 @@ use std::alloc::{AllocError, Global};
 /// Prints what became of a line; `None` is a bad line.
 pub(crate) fn print_answer<K: Sink>(
     alloc: Global,
-    outcome: &Option<Outcome>,
+    outcome: &Option<LineAnswer>,
     sink: &mut K,
 ) -> Result<(), EngineFault>
     requires { K.failure_count sink.old < 2 ^ 64 - 1 }
@@ -28,39 +29,47 @@ pub(crate) fn print_answer<K: Sink>(
     Ok(())
 }
 
-fn answer_text(alloc: Global, outcome: &Option<Outcome>) -> Result<String, AllocError>
+fn answer_text(alloc: Global, outcome: &Option<LineAnswer>) -> Result<String, AllocError>
     ensures { IfOk result (λ text. string_bytes text ≡ answer_line outcome.now) }
 {
     match outcome {
         None => String::from_str(alloc, "bad line\n"),
-        Some(answer) => match answer {
-            Ok(accepted) => accepted_text(alloc, accepted),
-            Err(refusal) => refused_text(alloc, refusal),
-        },
+        Some(answer) => call_text(alloc, &answer.outcome, &answer.tail),
     }
 }
 
-fn accepted_text(alloc: Global, accepted: &Accepted) -> Result<String, AllocError>
-    ensures { IfOk result (λ text. string_bytes text ≡ accepted_line accepted.now) }
+fn call_text(alloc: Global, outcome: &Outcome, tail: &Tail) -> Result<String, AllocError>
+    ensures { IfOk result (λ text. string_bytes text ≡ call_text outcome.now tail.now) }
 {
+    match outcome {
+        Ok(accepted) => accepted_text(alloc, accepted, tail),
+        Err(refusal) => refused_text(alloc, refusal, tail),
+    }
+}
+
+fn accepted_text(alloc: Global, accepted: &Accepted, tail: &Tail) -> Result<String, AllocError>
+    ensures { IfOk result (λ text. string_bytes text ≡ accepted_line accepted.now tail.now) }
+{
+    let tail = tail_text(alloc, tail)?;
     let client = accepted.client.to_text(alloc)?;
     let etype = accepted.session_key.etype();
     let ctime = accepted.ctime.get();
     let cusec = accepted.cusec.get();
     if accepted.mutual {
-        format!(in alloc; "accepted {client} {etype} {ctime} {cusec} mutual\n")
+        format!(in alloc; "accepted {client} {etype} {ctime} {cusec} mutual{tail}\n")
     } else {
-        format!(in alloc; "accepted {client} {etype} {ctime} {cusec} plain\n")
+        format!(in alloc; "accepted {client} {etype} {ctime} {cusec} plain{tail}\n")
     }
 }
 
-fn refused_text(alloc: Global, refusal: &Refusal) -> Result<String, AllocError>
-    ensures { IfOk result (λ text. string_bytes text ≡ refused_line refusal.now) }
+fn refused_text(alloc: Global, refusal: &Refusal, tail: &Tail) -> Result<String, AllocError>
+    ensures { IfOk result (λ text. string_bytes text ≡ refused_line refusal.now tail.now) }
 {
+    let tail = tail_text(alloc, tail)?;
     let name = refusal_name(refusal);
     match refusal.code() {
-        Some(code) => format!(in alloc; "refused {code} {name}\n"),
-        None => format!(in alloc; "refused none {name}\n"),
+        Some(code) => format!(in alloc; "refused {code} {name}{tail}\n"),
+        None => format!(in alloc; "refused none {name}{tail}\n"),
     }
 }
 
@@ -90,18 +99,24 @@ fn refusal_name(refusal: &Refusal) -> &'static str
 }
 
 /// Answers what an outcome makes of the exit status: 0 where a request was accepted, 1 where a line was bad or refused, 3
-/// where memory was wanting.
-pub(crate) fn status_of_outcome(outcome: &Option<Outcome>) -> u8
+/// where memory was wanting, for a call or for what follows its answer.
+pub(crate) fn status_of_outcome(outcome: &Option<LineAnswer>) -> u8
     ensures { result ≡ outcome_status outcome.now }
 {
     match outcome {
         None => REFUSED,
-        Some(answer) => match answer {
-            Ok(_) => 0,
-            Err(refusal) => match refusal {
-                Refusal::OutOfMemory => FAILED,
-                _ => REFUSED,
-            },
+        Some(answer) => status_of_call(&answer.outcome).max(status_of_tail(&answer.tail)),
+    }
+}
+
+fn status_of_call(outcome: &Outcome) -> u8
+    ensures { result ≡ call_status outcome.now }
+{
+    match outcome {
+        Ok(_) => 0,
+        Err(refusal) => match refusal {
+            Refusal::OutOfMemory => FAILED,
+            _ => REFUSED,
         },
     }
 }

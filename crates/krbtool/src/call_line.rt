@@ -1,14 +1,14 @@
 //! The lines that `accept` reads.
 
-ghost use Rattle.std.specs.Prelude.{◌≡◌, ◌++◌, ◌∷◌, ◌≢◌, ◌≤◌, ℕ, ℤ, List, None, Some, All, IfOk, IfSome, MatchOption, Ok, SomeIff, length};
+ghost use Rattle.std.specs.Prelude.{◌≡◌, ◌++◌, Option, ◌∷◌, ◌≢◌, ◌≤◌, ℕ, ℤ, List, None, Some, All, IfOk, IfSome, MatchOption, Ok, SomeIff, length};
 ghost use Rattle.std.specs.Str.Parse.{IsNumeral, digits_value};
 ghost use Rattle.krb_der.specs.Time.{IsSeconds};
 ghost use Rattle.krb_msg.specs.Moments.{micros_of};
 ghost use Rattle.krb_ap.specs.Setup.{Arrival, arrival};
-ghost use Rattle.krbtool.specs.CallLine.{SpellsCall, SpellsMessage, SpellsNumber, SpellsSeconds, line_limit, IsBadLine};
+ghost use Rattle.krbtool.specs.CallLine.{SpellsCall, SpellsConfounder, SpellsMessage, SpellsRest, SpellsNumber, SpellsSeconds, line_limit, IsBadLine};
 ghost use Rattle.krbtool.specs.Inner.Moments.{TellsMoment};
 
-use hex::FromHexError;
+use hex::{FromHex, FromHexError};
 use krb_msg::Moment;
 use std::alloc::{AllocError, Global};
 
@@ -22,25 +22,27 @@ const MOST_MICROS: u64 = 999_999;
 
 const SPACE: u8 = b' ';
 
-/// A call that a line spells: a message, and the moment that is handed in with it.
+/// A call that a line spells: a message, and the moment that is handed in with it; and a confounder for a reply.
 #[derive(Debug, Drop)]
 pub struct SpelledCall {
     /// The message.
     pub bytes: Vec<u8>,
     /// The moment.
     pub now: Moment,
+    /// The confounder, where the line has one.
+    pub confounder: Option<[u8; 16]>,
 }
 
-/// Reads a line of `accept`, without its end: `SECONDS MICROS HEX`, with single spaces between.
+/// Reads a line of `accept`, without its end: `SECONDS MICROS HEX` or `SECONDS MICROS HEX CONFOUNDER`, with single spaces between.
 ///
 /// SECONDS is an optional minus and 1 to 19 digits, MICROS is 1 to 6 digits, and both make a moment. HEX is one byte or more
-/// in hexadecimal digits of either case, or a minus for no bytes. The answer is `None` for a line of another form, and for
-/// one of more than 4,194,304 bytes.
+/// in hexadecimal digits of either case, or a minus for no bytes. CONFOUNDER is 32 such digits. The answer is `None` for a line of
+/// another form, and for one of more than 4,194,304 bytes.
 ///
 /// # Errors
 /// `AllocError`: there was no room for the message.
 pub fn call_of(alloc: Global, line: &[u8]) -> Result<Option<SpelledCall>, AllocError>
-    ensures found { IfOk result (λ spelled. IfSome spelled (λ call. SpellsCall line.now (arrival call.bytes.items call.now))) }
+    ensures found { IfOk result (λ spelled. IfSome spelled (λ call. SpellsCall line.now (arrival call.bytes.items call.now) call.confounder)) }
     ensures bad { result ≡ Ok None → IsBadLine line.now }
 {
     if line.len() > LINE_LIMIT {
@@ -49,10 +51,11 @@ pub fn call_of(alloc: Global, line: &[u8]) -> Result<Option<SpelledCall>, AllocE
     let Some(told) = moment_of(line) else {
         return Ok(None);
     };
-    match message_of(alloc, told.message)? {
-        Some(bytes) => Ok(Some(SpelledCall {
-            bytes,
+    match rest_of(alloc, told.rest)? {
+        Some(rest) => Ok(Some(SpelledCall {
+            bytes: rest.bytes,
             now: told.now,
+            confounder: rest.confounder,
         })),
         None => Ok(None),
     }
@@ -62,17 +65,17 @@ pub fn call_of(alloc: Global, line: &[u8]) -> Result<Option<SpelledCall>, AllocE
 #[derive(Clone, Copy)]
 struct ToldMoment<'a> {
     now: Moment,
-    message: &'a [u8],
+    rest: &'a [u8],
 }
 
 fn moment_of(line: &[u8]) -> Option<ToldMoment<'_>>
-    ensures found { IfSome result (λ told. TellsMoment line.now told.now told.message.now) }
-    ensures none { result ≡ None → (moment : ℤ) (message : List ℕ) → TellsMoment line.now moment message → ⊥ }
+    ensures found { IfSome result (λ told. TellsMoment line.now told.now told.rest.now) }
+    ensures none { result ≡ None → (moment : ℤ) (rest : List ℕ) → TellsMoment line.now moment rest → ⊥ }
 {
     let (seconds, others) = cut_at_space(line)?;
-    let (micros, message) = cut_at_space(others)?;
+    let (micros, rest) = cut_at_space(others)?;
     let now = Moment::new(seconds_of(seconds)?, micros_of(micros)?)?;
-    Some(ToldMoment { now, message })
+    Some(ToldMoment { now, rest })
 }
 
 // What stands before the first space, and what stands behind it.
@@ -132,6 +135,64 @@ fn number_of(digits: &[u8], most: usize, greatest: u64) -> Option<u64>
         }
     }
     Some(number)
+}
+
+// What follows the moment.
+#[derive(Drop)]
+struct ToldRest {
+    bytes: Vec<u8>,
+    confounder: Option<[u8; 16]>,
+}
+
+fn rest_of(alloc: Global, text: &[u8]) -> Result<Option<ToldRest>, AllocError>
+    ensures found { IfOk result (λ told. IfSome told (λ rest. SpellsRest text.now rest.bytes.items rest.confounder)) }
+    ensures none { result ≡ Ok None → (bytes : List ℕ) (confounder : Option (List ℕ)) → SpellsRest text.now bytes confounder → ⊥ }
+{
+    let Some((message, digits)) = cut_at_space(text) else {
+        return message_alone(alloc, text);
+    };
+    match confounder_of(digits) {
+        Some(confounder) => message_with(alloc, message, confounder),
+        None => Ok(None),
+    }
+}
+
+fn message_alone(alloc: Global, text: &[u8]) -> Result<Option<ToldRest>, AllocError>
+    ensures found { IfOk result (λ told. IfSome told (λ rest. SpellsMessage text.now rest.bytes.items × (rest.confounder ≡ None))) }
+    ensures none { result ≡ Ok None → (bytes : List ℕ) → SpellsMessage text.now bytes → ⊥ }
+{
+    match message_of(alloc, text)? {
+        Some(bytes) => Ok(Some(ToldRest {
+            bytes,
+            confounder: None,
+        })),
+        None => Ok(None),
+    }
+}
+
+fn message_with(
+    alloc: Global,
+    text: &[u8],
+    confounder: [u8; 16],
+) -> Result<Option<ToldRest>, AllocError>
+    ensures found { IfOk result (λ told. IfSome told (λ rest. SpellsMessage text.now rest.bytes.items × (rest.confounder ≡ Some confounder))) }
+    ensures none { result ≡ Ok None → (bytes : List ℕ) → SpellsMessage text.now bytes → ⊥ }
+{
+    match message_of(alloc, text)? {
+        Some(bytes) => Ok(Some(ToldRest {
+            bytes,
+            confounder: Some(confounder),
+        })),
+        None => Ok(None),
+    }
+}
+
+/// Reads 16 bytes off 32 hexadecimal digits of either case. `None` for any other text.
+pub(crate) fn confounder_of(text: &[u8]) -> Option<[u8; 16]>
+    ensures found { IfSome result (λ confounder. SpellsConfounder text.now confounder) }
+    ensures none { result ≡ None → (confounder : List ℕ) → SpellsConfounder text.now confounder → ⊥ }
+{
+    <[u8; 16] as FromHex>::from_hex(text).ok()
 }
 
 // The bytes of a message.

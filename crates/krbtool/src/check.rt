@@ -9,7 +9,7 @@ ghost use Rattle.krb_ccache.specs.declared.fault.CacheFault.{CacheFault};
 ghost use Rattle.krb_keytab.specs.Format.{IsKeytab, IsFaultOf};
 ghost use Rattle.krb_keytab.specs.declared.fault.KeytabFault.{KeytabFault};
 ghost use Rattle.krbtool.specs.Lines.{ok_line};
-ghost use Rattle.krbtool.specs.Engine.{OfFile, keytab_fault, cache_fault, FailsWith, FailsWithCache, failed_reads, failed_writes};
+ghost use Rattle.krbtool.specs.Engine.{IsOfCache, IsOfKeytab, OfFile, keytab_fault, cache_fault, FailsWith, FailsWithCache, failed_reads, failed_writes};
 
 use crate::fault::EngineFault;
 use krb_ccache::CCache;
@@ -51,8 +51,7 @@ pub fn check_keytab<S: Source, T: Sink>(
     ensures begun { (result ≡ Err EngineFault.Write) ⊎ (result ≡ Err EngineFault.OutOfMemory)
         → OfFile IsKeytab (S.remaining source.old) (λ entries.
         AppendsBeginning (T.taken sink.old) (T.taken sink.new) (ok_line (length entries))) }
-    ensures kind { (other : CacheFault) → result ≡ Err (EngineFault.Cache other) → ⊥ }
-    ensures no_input { result ≡ Err EngineFault.Input → ⊥ }
+    ensures kind { IfErr result IsOfKeytab }
     ensures reads { S.failure_count source.new ≡ S.failure_count source.old + failed_reads result }
     ensures writes { T.failure_count sink.new ≡ T.failure_count sink.old + failed_writes result }
 {
@@ -95,8 +94,7 @@ pub fn check_ccache<S: Source, T: Sink>(
     ensures begun { (result ≡ Err EngineFault.Write) ⊎ (result ≡ Err EngineFault.OutOfMemory)
         → OfFile IsCache (S.remaining source.old) (λ cache.
         AppendsBeginning (T.taken sink.old) (T.taken sink.new) (ok_line (length cache.credentials))) }
-    ensures kind { (other : KeytabFault) → result ≡ Err (EngineFault.Keytab other) → ⊥ }
-    ensures no_input { result ≡ Err EngineFault.Input → ⊥ }
+    ensures kind { IfErr result IsOfCache }
     ensures reads { S.failure_count source.new ≡ S.failure_count source.old + failed_reads result }
     ensures writes { T.failure_count sink.new ≡ T.failure_count sink.old + failed_writes result }
 {

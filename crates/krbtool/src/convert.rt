@@ -11,7 +11,7 @@ ghost use Rattle.krb_keytab.specs.Entry.{KeytabEntry};
 ghost use Rattle.krb_keytab.specs.Format.{IsKeytab, IsFaultOf, file_limit};
 ghost use Rattle.krb_keytab.specs.Written.{written};
 ghost use Rattle.krb_keytab.specs.declared.fault.KeytabFault.{KeytabFault};
-ghost use Rattle.krbtool.specs.Engine.{OfFile, keytab_fault, cache_fault, FailsWith, FailsWithCache, failed_reads, failed_writes};
+ghost use Rattle.krbtool.specs.Engine.{IsOfCache, IsOfKeytab, OfFile, keytab_fault, cache_fault, FailsWith, FailsWithCache, failed_reads, failed_writes};
 
 use crate::fault::EngineFault;
 use krb_ccache::CCache;
@@ -59,8 +59,7 @@ pub fn convert_keytab<S: Source, T: Sink>(
         → OfFile IsKeytab (S.remaining source.old) (λ entries.
         AppendsBeginning (T.taken sink.old) (T.taken sink.new) (written entries)) }
     ensures memory { result ≡ Err EngineFault.OutOfMemory → ⊥ }
-    ensures kind { (other : CacheFault) → result ≡ Err (EngineFault.Cache other) → ⊥ }
-    ensures no_input { result ≡ Err EngineFault.Input → ⊥ }
+    ensures kind { IfErr result IsOfKeytab }
     ensures reads { S.failure_count source.new ≡ S.failure_count source.old + failed_reads result }
     ensures writes { T.failure_count sink.new ≡ T.failure_count sink.old + failed_writes result }
 {
@@ -80,8 +79,7 @@ fn write_keytab<T: Sink>(alloc: Global, keytab: &Keytab, sink: &mut T) -> Result
     ensures begun { result ≡ Err EngineFault.Write
         → AppendsBeginning (T.taken sink.old) (T.taken sink.new) (written keytab.now) }
     ensures memory { result ≡ Err EngineFault.OutOfMemory → ⊥ }
-    ensures kind { (other : CacheFault) → result ≡ Err (EngineFault.Cache other) → ⊥ }
-    ensures no_input { result ≡ Err EngineFault.Input → ⊥ }
+    ensures kind { IfErr result IsOfKeytab }
     ensures reads { failed_reads result ≡ 0 }
     ensures writes { T.failure_count sink.new ≡ T.failure_count sink.old + failed_writes result }
 {
@@ -130,8 +128,7 @@ pub fn convert_ccache<S: Source, T: Sink>(
         → OfFile IsCache (S.remaining source.old) (λ cache.
         AppendsBeginning (T.taken sink.old) (T.taken sink.new) (cache_bytes cache)) }
     ensures memory { result ≡ Err EngineFault.OutOfMemory → ⊥ }
-    ensures kind { (other : KeytabFault) → result ≡ Err (EngineFault.Keytab other) → ⊥ }
-    ensures no_input { result ≡ Err EngineFault.Input → ⊥ }
+    ensures kind { IfErr result IsOfCache }
     ensures reads { S.failure_count source.new ≡ S.failure_count source.old + failed_reads result }
     ensures writes { T.failure_count sink.new ≡ T.failure_count sink.old + failed_writes result }
 {
@@ -154,8 +151,7 @@ fn write_ccache<T: Sink>(alloc: Global, cache: &CCache, sink: &mut T) -> Result<
     ensures begun { result ≡ Err EngineFault.Write
         → AppendsBeginning (T.taken sink.old) (T.taken sink.new) (cache_bytes cache.now) }
     ensures memory { result ≡ Err EngineFault.OutOfMemory → ⊥ }
-    ensures kind { (other : KeytabFault) → result ≡ Err (EngineFault.Keytab other) → ⊥ }
-    ensures no_input { result ≡ Err EngineFault.Input → ⊥ }
+    ensures kind { IfErr result IsOfCache }
     ensures reads { failed_reads result ≡ 0 }
     ensures writes { T.failure_count sink.new ≡ T.failure_count sink.old + failed_writes result }
 {

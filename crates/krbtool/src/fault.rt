@@ -1,16 +1,15 @@
 //! Why an engine ended early, what the program says of it, and its exit status.
 
-ghost use Rattle.std.specs.Prelude.{◌≡◌, List, ℕ, Some, None, codes};
-ghost use Rattle.krbtool.specs.FaultText.{keytab_name, cache_name, name_of, place_of, line_of};
-ghost use Rattle.krbtool.specs.Status.{status_of};
-ghost use Rattle.krbtool.specs.declared.fault.EngineFault.TheVariants.{Keytab, Cache, Input, OutOfMemory, Write};
+ghost use Rattle.std.specs.Prelude.{◌≡◌};
+ghost use Rattle.krbtool.specs.FaultText.{keytab_name, cache_name, request_name, name_of, place_of};
+ghost use Rattle.krbtool.specs.Status.{status_of, service_status};
+ghost use Rattle.krbtool.specs.declared.fault.EngineFault.TheVariants.{Keytab, Cache, Request, Input, OutOfMemory, Write};
 
+use krb_ap::RequestFault;
 use krb_ccache::CacheFault;
 use krb_keytab::KeytabFault;
-use krb_name::{SinkFailed, SourceFailed};
+use krb_name::{SinkFailed, SourceFailed, TextFault};
 use std::alloc::AllocError;
-use std::fmt;
-use std::marker::Model;
 use thiserror::Error;
 
 /// Why an engine ended early.
@@ -23,13 +22,16 @@ pub enum EngineFault {
     /// The credential cache couldn't be read, there was no room for it, or what was read is none.
     #[error("{0}")]
     Cache(CacheFault),
+    /// No request is built with the credential cache, or there was no room for it.
+    #[error("{0}")]
+    Request(RequestFault),
     /// The lines of an input couldn't be read, or there were more of them than is taken.
     #[error("the input could not be read")]
     Input,
     /// The sink couldn't be written.
     #[error("the output could not be written")]
     Write,
-    /// There was no room, other than for the keytab or the credential cache.
+    /// There was no room, other than for the keytab, the credential cache or the request.
     #[error("out of memory")]
     OutOfMemory,
 }
@@ -47,6 +49,14 @@ impl From<CacheFault> for EngineFault {
 
     fn from(fault: CacheFault) -> EngineFault {
         EngineFault::Cache(fault)
+    }
+}
+
+impl From<RequestFault> for EngineFault {
+    ghost from_gives = { λ request fault. fault ≡ Request request };
+
+    fn from(fault: RequestFault) -> EngineFault {
+        EngineFault::Request(fault)
     }
 }
 
@@ -76,12 +86,13 @@ impl From<AllocError> for EngineFault {
 
 impl EngineFault {
     /// Answers the fault's name, as the program prints it.
-    fn name(&self) -> &'static str
+    pub(crate) fn name(&self) -> &'static str
         ensures { result.now ≡ name_of self.now }
     {
         match self {
             EngineFault::Keytab(fault) => keytab_name(fault),
             EngineFault::Cache(fault) => cache_name(fault),
+            EngineFault::Request(fault) => request_name(fault),
             EngineFault::Input => "Read",
             EngineFault::Write => "Write",
             EngineFault::OutOfMemory => "OutOfMemory",
@@ -89,12 +100,13 @@ impl EngineFault {
     }
 
     /// Answers the fault's offset in bytes, where it has one.
-    fn at(&self) -> Option<usize>
+    pub(crate) fn at(&self) -> Option<usize>
         ensures { result ≡ place_of self.now }
     {
         match self {
             EngineFault::Keytab(fault) => fault.at(),
             EngineFault::Cache(fault) => fault.at(),
+            EngineFault::Request(_) => None,
             EngineFault::Input | EngineFault::Write | EngineFault::OutOfMemory => None,
         }
     }
@@ -127,6 +139,19 @@ fn cache_name(fault: &CacheFault) -> &'static str
     }
 }
 
+fn request_name(fault: &RequestFault) -> &'static str
+    ensures { result.now ≡ request_name fault.now }
+{
+    match fault {
+        RequestFault::NoCredential => "NoCredential",
+        RequestFault::NoUsableKey => "NoUsableKey",
+        RequestFault::Expired => "Expired",
+        RequestFault::BadTicket => "BadTicket",
+        RequestFault::TooLong => "TooLong",
+        RequestFault::OutOfMemory => "OutOfMemory",
+    }
+}
+
 /// Answers the exit status for a fault: 3 where a file, an output or memory failed, 1 where the
 /// content is refused.
 pub fn status(fault: &EngineFault) -> u8
@@ -135,8 +160,21 @@ pub fn status(fault: &EngineFault) -> u8
     match fault {
         EngineFault::Keytab(KeytabFault::Read | KeytabFault::OutOfMemory) => FAILED,
         EngineFault::Cache(CacheFault::Read | CacheFault::OutOfMemory) => FAILED,
+        EngineFault::Request(RequestFault::OutOfMemory) => FAILED,
         EngineFault::Keytab(_) | EngineFault::Cache(_) => REFUSED,
+        EngineFault::Request(_) => REFUSED,
         EngineFault::Input | EngineFault::Write | EngineFault::OutOfMemory => FAILED,
+    }
+}
+
+/// Answers the exit status for a service's name that can't be read: 3 where memory was wanting, else 2, for a wrong command
+/// line.
+pub fn service_status(fault: &TextFault) -> u8
+    ensures { result ≡ service_status fault.now }
+{
+    match fault {
+        TextFault::OutOfMemory => FAILED,
+        TextFault::BadText { .. } | TextFault::NoRealm => WRONG_WORDS,
     }
 }
 
@@ -148,57 +186,3 @@ pub const REFUSED: u8 = 1;
 
 /// A file, an output or memory failed.
 pub const FAILED: u8 = 3;
-
-/// A line for standard error: `krbtool: NAME: FAULT`, with ` at OFFSET` where the fault has one. A
-/// contract sees it as its text.
-#[derive(Drop)]
-pub struct FaultLine<'a> {
-    name: &'a str,
-    fault: &'static str,
-    at: Option<usize>,
-}
-
-impl<'a> Model for FaultLine<'a> {
-    ghost use Rattle.std.specs.Prelude.{List, ℕ};
-    ghost use Rattle.krbtool.specs.FaultText.{line_of};
-
-    ghost Value = { List ℕ };
-
-    ghost view = { λ l. line_of l.name.now l.fault.now l.at };
-}
-
-impl fmt::Display for FaultLine<'_> {
-    ghost output = { λ text. Some text };
-
-    fn fmt<W: fmt::Write>(&self, f: &mut fmt::Formatter<W>) -> fmt::Result {
-        let name = self.name;
-        let fault = self.fault;
-        match self.at {
-            Some(at) => write!(f, "krbtool: {name}: {fault} at {at}"),
-            None => write!(f, "krbtool: {name}: {fault}"),
-        }
-    }
-}
-
-/// Gives the line for a fault of what has this name: a file as it was given, `output`, `input`, or
-/// a command. `Input` is printed as `Read`. It takes no memory.
-pub fn fault_line<'a>(name: &'a str, fault: &EngineFault) -> FaultLine<'a>
-    ensures { result ≡ line_of name.entry.now (name_of fault.now) (place_of fault.now) }
-{
-    FaultLine {
-        name,
-        fault: fault.name(),
-        at: fault.at(),
-    }
-}
-
-/// Gives the line for a file that can't be opened or written. It takes no memory.
-pub fn file_line(name: &str) -> FaultLine<'_>
-    ensures { result ≡ line_of name.entry.now (codes "File") None }
-{
-    FaultLine {
-        name,
-        fault: "File",
-        at: None,
-    }
-}

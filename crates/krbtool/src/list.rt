@@ -9,7 +9,7 @@ ghost use Rattle.krb_ccache.specs.declared.fault.CacheFault.{CacheFault};
 ghost use Rattle.krb_keytab.specs.Format.{IsKeytab, IsFaultOf};
 ghost use Rattle.krb_keytab.specs.declared.fault.KeytabFault.{KeytabFault};
 ghost use Rattle.krbtool.specs.Lines.{keytab_line, keytab_lines, credential_line, config_line, ticket_line, times_of, names_of, head_lines, IsOffset, cache_lines};
-ghost use Rattle.krbtool.specs.Engine.{OfFile, keytab_fault, cache_fault, FailsWith, FailsWithCache, failed_reads, failed_writes};
+ghost use Rattle.krbtool.specs.Engine.{IsOfCache, IsOfKeytab, OfFile, keytab_fault, cache_fault, FailsWith, FailsWithCache, failed_reads, failed_writes};
 
 use crate::fault::EngineFault;
 use crate::line::{Line, write_lines};
@@ -53,8 +53,7 @@ pub fn list_keytab<S: Source, T: Sink>(
     ensures begun { (result ≡ Err EngineFault.Write) ⊎ (result ≡ Err EngineFault.OutOfMemory)
         → OfFile IsKeytab (S.remaining source.old) (λ entries.
         AppendsBeginning (T.taken sink.old) (T.taken sink.new) (keytab_lines entries)) }
-    ensures kind { (other : CacheFault) → result ≡ Err (EngineFault.Cache other) → ⊥ }
-    ensures no_input { result ≡ Err EngineFault.Input → ⊥ }
+    ensures kind { IfErr result IsOfKeytab }
     ensures reads { S.failure_count source.new ≡ S.failure_count source.old + failed_reads result }
     ensures writes { T.failure_count sink.new ≡ T.failure_count sink.old + failed_writes result }
 {
@@ -113,8 +112,7 @@ pub fn list_ccache<S: Source, T: Sink>(
         → OfFile IsCache (S.remaining source.old) (λ cache.
         (offset : Option (ℤ × ℤ)) × (IsOffset cache.header offset
         × AppendsBeginning (T.taken sink.old) (T.taken sink.new) (cache_lines cache offset))) }
-    ensures kind { (other : KeytabFault) → result ≡ Err (EngineFault.Keytab other) → ⊥ }
-    ensures no_input { result ≡ Err EngineFault.Input → ⊥ }
+    ensures kind { IfErr result IsOfCache }
     ensures reads { S.failure_count source.new ≡ S.failure_count source.old + failed_reads result }
     ensures writes { T.failure_count sink.new ≡ T.failure_count sink.old + failed_writes result }
 {

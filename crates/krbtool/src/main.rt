@@ -8,17 +8,24 @@ mod accept;
 mod answering;
 mod call_line;
 mod check;
+mod commands;
 mod convert;
 mod fault;
+mod fault_line;
 mod line;
 mod list;
 mod order;
 mod part_line;
+mod request;
 mod run;
+mod run_accept;
+mod run_request;
 mod streams;
+mod tail;
 mod words;
 
-use crate::fault::{EngineFault, FAILED, WRONG_WORDS, fault_line, file_line};
+use crate::fault::{EngineFault, FAILED, WRONG_WORDS};
+use crate::fault_line::{fault_line, file_line};
 use crate::run::run;
 use crate::streams::{NOWHERE, hold_streams};
 use crate::words::read_words;
@@ -86,6 +93,10 @@ fn show(rt: &HostRuntime, error: &clap::Error) -> u8 {
 }
 
 #[cfg(test)]
+mod accept_tests;
+#[cfg(test)]
 mod cache_tests;
+#[cfg(test)]
+mod request_tests;
 #[cfg(test)]
 mod tests;

@@ -35,11 +35,36 @@ pub enum Order<'a> {
         /// The path of what is written.
         out: &'a str,
     },
-    /// `accept KEYTAB [--skew SECONDS]`: the lines of standard input answered by a service.
-    Accept {
-        /// The keytab's path.
-        keytab: &'a str,
-        /// By how many seconds clocks may differ, in decimal: 0 to 86400.
-        skew: &'a str,
-    },
+    /// `request FILE SERVICE --time S --usec U --confounder H [--mutual]`: a request in hexadecimal.
+    Request(RequestWords<'a>),
+    /// `accept KEYTAB [--skew SECONDS] [--service NAME]`: the lines of standard input answered by a service.
+    Accept(AcceptWords<'a>),
+}
+
+/// The words of `accept`.
+#[derive(Clone, Copy, Debug, PartialEq, Eq)]
+pub struct AcceptWords<'a> {
+    /// The keytab's path.
+    pub keytab: &'a str,
+    /// By how many seconds clocks may differ, in decimal: 0 to 86400.
+    pub skew: &'a str,
+    /// The service's name, where errors are to be told.
+    pub service: Option<&'a str>,
+}
+
+/// The words of `request`.
+#[derive(Clone, Copy, Debug, PartialEq, Eq)]
+pub struct RequestWords<'a> {
+    /// The cache's path.
+    pub file: &'a str,
+    /// The service's name.
+    pub service: &'a str,
+    /// The client's clock: seconds since 1970-01-01, in decimal: 0 to 253402300799.
+    pub time: &'a str,
+    /// The microseconds of that second, in decimal: 0 to 999999.
+    pub usec: &'a str,
+    /// The confounder, in hexadecimal.
+    pub confounder: &'a str,
+    /// Whether a reply is asked for.
+    pub mutual: bool,
 }

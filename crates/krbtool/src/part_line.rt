@@ -60,7 +60,7 @@ impl PartLine {
     /// Reads the line, as `call_of` does.
     pub(crate) fn call(&self, alloc: Global) -> Result<Option<SpelledCall>, AllocError>
         ensures found { (line : List ℕ) → Holds self.now line
-            → IfOk result (λ spelled. IfSome spelled (λ call. SpellsCall line (arrival call.bytes.items call.now))) }
+            → IfOk result (λ spelled. IfSome spelled (λ call. SpellsCall line (arrival call.bytes.items call.now) call.confounder)) }
         ensures bad { result ≡ Ok None → (line : List ℕ) → Holds self.now line → IsBadLine line }
     {
         if self.too_long {

@@ -1,23 +1,26 @@
 //! Running an order: files are opened, output is buffered, and a fault is printed.
 
-ghost use Rattle.std.specs.Prelude.{◌<◌, ◌-◌, ◌^◌};
+ghost use Rattle.std.specs.Prelude.{◌≡◌, ◌<◌, ◌-◌, ◌^◌, IfOk};
+ghost use Rattle.krb_name.specs.Flow.{source_failures};
 
-use crate::accept::accept_lines;
 use crate::check::{check_ccache, check_keytab};
 use crate::convert::{convert_ccache, convert_keytab};
-use crate::fault::{EngineFault, FAILED, FaultLine, WRONG_WORDS, fault_line, file_line, status};
+use crate::fault::{EngineFault, FAILED, status};
+use crate::fault_line::{FaultLine, fault_line, file_line};
 use crate::list::{list_ccache, list_keytab};
 use crate::order::Order;
-use krb_ap::Acceptor;
-use krb_keytab::Keytab;
+use crate::run_accept::run_accept;
+use crate::run_request::run_request;
 use krb_name::{ReadSource, Sink, Source, WriteSink};
-use krb_replay::{Skew, TimedMemory};
 use std::alloc::Global;
 use std::fs::{File, OpenOptions};
 use std::io;
-use std::io::{BufWriter, ErrorKind, Input, Write};
+use std::io::{BufReader, BufWriter, Input, Read, Write};
 use std::os::unix::fs::OpenOptionsExt;
 use std::rt::Files;
+
+// How many bytes of a file are read at a time.
+const PIECE: usize = 65_536;
 
 // The mode of a file that its owner alone may read and write.
 const OWNER_ALONE: u32 = 0o600;
@@ -93,7 +96,8 @@ pub(crate) fn run<R: AllocGlobal + Files + Input + Print + Eprint>(rt: &R, order
         Order::CheckCcache { file } => run_on_file(rt, OnFile::CheckCcache, file),
         Order::ConvertKeytab { file, out } => run_convert(rt, Convert::Keytab, file, out),
         Order::ConvertCcache { file, out } => run_convert(rt, Convert::Ccache, file, out),
-        Order::Accept { keytab, skew } => run_accept(rt, keytab, skew),
+        Order::Request(words) => run_request(rt, words),
+        Order::Accept(words) => run_accept(rt, words),
     }
 }
 
@@ -103,15 +107,7 @@ fn run_on_file<R: AllocGlobal + Files + Print + Eprint>(rt: &R, command: OnFile,
     };
     match printed(rt, command, opened) {
         Ok(()) => 0,
-        Err(fault) => {
-            let name = match fault {
-                EngineFault::Keytab(_) | EngineFault::Cache(_) => file,
-                EngineFault::Input => "input",
-                EngineFault::Write => "output",
-                EngineFault::OutOfMemory => command.name(),
-            };
-            complain(rt, fault_line(name, &fault), status(&fault))
-        }
+        Err(fault) => complain_of(rt, &fault, file, command.name()),
     }
 }
 
@@ -121,7 +117,7 @@ fn printed<R: AllocGlobal + Files + Print>(
     command: OnFile,
     file: R::File,
 ) -> Result<(), EngineFault> {
-    let mut source = ReadSource::new(file);
+    let mut source = source_of(rt.alloc(), file)?;
     let writer = BufWriter::new(rt.alloc(), io::writer(rt)).map_err(|_| EngineFault::OutOfMemory)?;
     let mut sink = WriteSink::new(writer);
     command.run(rt.alloc(), &mut source, &mut sink)?;
@@ -141,75 +137,48 @@ fn run_convert<R: AllocGlobal + Files + Print + Eprint>(
     let Ok(made) = make(rt, out) else {
         return complain(rt, file_line(out), FAILED);
     };
-    let mut source = ReadSource::new(opened);
-    let mut sink = WriteSink::new(made);
-    match kind.run(rt.alloc(), &mut source, &mut sink) {
+    match converted(rt, kind, opened, made) {
         Ok(count) => tell_wrote(rt, count),
         Err(EngineFault::Write) => complain(rt, file_line(out), FAILED),
         Err(fault) => complain(rt, fault_line(file, &fault), status(&fault)),
     }
 }
 
+fn converted<R: AllocGlobal + Files>(
+    rt: &R,
+    kind: Convert,
+    file: R::File,
+    out: R::File,
+) -> Result<usize, EngineFault> {
+    let mut source = source_of(rt.alloc(), file)?;
+    let mut sink = WriteSink::new(out);
+    kind.run(rt.alloc(), &mut source, &mut sink)
+}
+
+/// Makes a source of a file. What is asked of it a few bytes at a time is read in pieces of 65,536 bytes.
+///
+/// # Errors
+/// `OutOfMemory`: there was no room for a piece.
+pub(crate) fn source_of<F: Read + Drop>(
+    alloc: Global,
+    file: F,
+) -> Result<ReadSource<BufReader<F>>, EngineFault>
+    ensures { IfOk result (λ source. source_failures source ≡ 0) }
+{
+    match BufReader::with_capacity(alloc, PIECE, file) {
+        Ok(reader) => Ok(ReadSource::new(reader)),
+        Err(_) => Err(EngineFault::OutOfMemory),
+    }
+}
+
 // Makes OUT, for its owner alone since it holds keys; or empties the one that is there, whose mode stays.
 fn make<R: Files>(rt: &R, out: &str) -> io::Result<R::File> {
-    let made = OpenOptions::new()
+    OpenOptions::new()
         .write(true)
-        .create_new(true)
+        .create(true)
+        .truncate(true)
         .mode(OWNER_ALONE)
-        .open(rt, out);
-    match made {
-        Err(error) if error.kind() == ErrorKind::AlreadyExists => {
-            OpenOptions::new().write(true).truncate(true).open(rt, out)
-        }
-        made => made,
-    }
-}
-
-// Answers the lines of standard input by the keytab of this name.
-fn run_accept<R: AllocGlobal + Files + Input + Print + Eprint>(
-    rt: &R,
-    name: &str,
-    skew: &str,
-) -> u8 {
-    let Some(skew) = skew_of(skew) else {
-        return WRONG_WORDS;
-    };
-    let Ok(opened) = File::open(rt, name) else {
-        return complain(rt, file_line(name), FAILED);
-    };
-    let answered = match Keytab::read(rt.alloc(), &mut ReadSource::new(opened)) {
-        Ok(keytab) => answered(rt, keytab, skew),
-        Err(fault) => Err(EngineFault::Keytab(fault)),
-    };
-    match answered {
-        Ok(status) => status,
-        Err(fault) => {
-            let name = match fault {
-                EngineFault::Keytab(_) | EngineFault::Cache(_) => name,
-                EngineFault::Input => "input",
-                EngineFault::Write => "output",
-                EngineFault::OutOfMemory => "accept",
-            };
-            complain(rt, fault_line(name, &fault), status(&fault))
-        }
-    }
-}
-
-// The words of the command line were read as a number in this range.
-fn skew_of(seconds: &str) -> Option<Skew> {
-    Skew::new(seconds.parse::<u32>().ok()?)
-}
-
-// Each answer is written at once, so that another program can wait for it.
-fn answered<R: AllocGlobal + Input + Print>(
-    rt: &R,
-    keytab: Keytab,
-    skew: Skew,
-) -> Result<u8, EngineFault> {
-    let mut acceptor = Acceptor::new(keytab, skew, TimedMemory::new(rt.alloc()));
-    let mut source = ReadSource::new(rt.reader());
-    let mut sink = WriteSink::new(io::writer(rt));
-    accept_lines(rt.alloc(), &mut acceptor, &mut source, &mut sink)
+        .open(rt, out)
 }
 
 fn tell_wrote<R: Print + Eprint>(rt: &R, count: usize) -> u8 {
@@ -222,8 +191,20 @@ fn tell_wrote<R: Print + Eprint>(rt: &R, count: usize) -> u8 {
     }
 }
 
+// Prints a fault of a command on this file, and answers the status.
+pub(crate) fn complain_of<R: Eprint>(rt: &R, fault: &EngineFault, file: &str, command: &str) -> u8 {
+    let name = match fault {
+        EngineFault::Keytab(_) | EngineFault::Cache(_) => file,
+        EngineFault::Request(_) => "request",
+        EngineFault::Input => "input",
+        EngineFault::Write => "output",
+        EngineFault::OutOfMemory => command,
+    };
+    complain(rt, fault_line(name, fault), status(fault))
+}
+
 // Prints the line, and answers the status.
-fn complain<R: Eprint>(rt: &R, line: FaultLine<'_>, status: u8) -> u8 {
+pub(crate) fn complain<R: Eprint>(rt: &R, line: FaultLine<'_>, status: u8) -> u8 {
     let _ = eprintln!(rt; "{line}");
     status
 }

@@ -1,6 +1,7 @@
 use crate::check::check_keytab;
 use crate::convert::convert_keytab;
-use crate::fault::{EngineFault, fault_line, file_line, status};
+use crate::fault::{EngineFault, status};
+use crate::fault_line::{fault_line, file_line};
 use crate::list::list_keytab;
 use crate::order::Order;
 use crate::words::read_words;

@@ -1,4 +1,4 @@
-use crate::{MacPurpose, Purpose, derive_19, derive_20, derive_20_ke};
+use crate::{HmacSha256, HmacSha384, MacPurpose, Purpose, derive_19, derive_20, derive_20_ke};
 use std::process::Abort;
 use std::test::Fail;
 
@@ -117,6 +117,21 @@ fn keys_of_type_20(rt: HostRuntime) -> Result<(), Fail> {
             keys.ki_20,
             usage,
         )?;
+    }
+    Ok(())
+}
+
+#[test]
+fn keys_of_base_keys_made_ready(rt: HostRuntime) -> Result<(), Fail> {
+    let base_19 = HmacSha256::new(&BASE_KEY_19);
+    let base_20 = HmacSha384::new(&BASE_KEY_20);
+    for keys in &KEYS {
+        let usage = keys.usage;
+        let ki_19 = base_19.derive_19(usage, Purpose::Ki);
+        is_key(&rt, &ki_19, keys.ki_19, usage)?;
+        is_key(&rt, &base_20.derive_20_ke(usage), keys.ke_20, usage)?;
+        let kc_20 = base_20.derive_20(usage, MacPurpose::Kc);
+        is_key(&rt, &kc_20, keys.kc_20, usage)?;
     }
     Ok(())
 }

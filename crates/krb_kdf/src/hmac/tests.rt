@@ -1,4 +1,4 @@
-use crate::{hmac_sha256, hmac_sha384};
+use crate::{HmacSha256, HmacSha384, hmac_sha256, hmac_sha384};
 use std::process::Abort;
 use std::test::Fail;
 
@@ -174,4 +174,27 @@ fn no_parts_and_empty_parts(rt: HostRuntime) -> Result<(), Fail> {
     has_codes(&rt, b"", &[], sha256, sha384)?;
     has_codes(&rt, b"", &[b""], sha256, sha384)?;
     has_codes(&rt, b"", &[b"", b""], sha256, sha384)
+}
+
+// RFC 4231, section 4.3. Looks for a key that keeps something of the texts before.
+#[test]
+fn many_texts_under_one_ready_key(rt: HostRuntime) -> Result<(), Fail> {
+    let short = HmacSha256::new(b"Jefe");
+    let long = HmacSha384::new(b"Jefe");
+    for _ in 0..3 {
+        let code = hex::encode(
+            rt.alloc(),
+            short.code(&[b"what do ya want ", b"for nothing?"]),
+        )?;
+        assert_eq!(rt;
+            code.as_str(),
+            "5bdcc146bf60754e6a042426089575c75a003f089d2739839dec58b964ec3843"
+        );
+        let code = hex::encode(rt.alloc(), long.code(&[b"what do ya want for nothing?"]))?;
+        assert_eq!(rt;
+            code.as_str(),
+            "af45d2e376484031617f78d2b58a6b1b9c7ef464f5a01b47e42ec3736322445e8e2240ca5e69e2c78b3239ecfab21649"
+        );
+    }
+    Ok(())
 }

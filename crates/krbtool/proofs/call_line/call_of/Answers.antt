@@ -1,10 +1,10 @@
-use Rattle.std.proofs.Common.{rules, subst, sym, refl}
-use Rattle.krbtool.specs.CallLine.{SpellsMessage}
+use Rattle.std.proofs.Common.{rules, subst, sym}
+use Rattle.krbtool.specs.CallLine.{SpellsRest}
 use Rattle.krbtool.proofs.CallLaws.{one_message}
 use Rattle.krbtool.proofs.call_line.call_of.Goals as goal
 
 pub returns-in_default-clause-bad : goal.returns-in_default-clause-bad
-returns-in_default-clause-bad c = λ _ call spells. c.moment_of.ensures.none (search rules) call.moment spells.message_text (record {
+returns-in_default-clause-bad c = λ _ call confounder spells. c.moment_of.ensures.none (search rules) call.moment spells.rest_text (record {
   seconds_text = spells.seconds_text;
   micros_text = spells.micros_text;
   seconds = spells.seconds;
@@ -18,8 +18,8 @@ returns-in_default-clause-bad c = λ _ call spells. c.moment_of.ensures.none (se
 })
 
 pub returns-in-None-clause-bad : goal.returns-in-None-clause-bad
-returns-in-None-clause-bad c = λ _ call spells.
-    let same = one_message c.args.line.now c.in-Some.told.now call.moment c.in-Some.told.message.now spells.message_text c.in-Some.ensures.found (record {
+returns-in-None-clause-bad c = λ _ call confounder spells.
+    let same = one_message c.args.line.now c.in-Some.told.now call.moment c.in-Some.told.rest.now spells.rest_text c.in-Some.ensures.found (record {
       seconds_text = spells.seconds_text;
       micros_text = spells.micros_text;
       seconds = spells.seconds;
@@ -31,4 +31,4 @@ returns-in-None-clause-bad c = λ _ call spells.
       within_second = spells.within_second;
       moment_is = spells.moment_is;
     }) in
-    c.message_of.ensures.none (search rules) call.bytes (subst (λ t. SpellsMessage t call.bytes) (sym same) spells.message)
+    c.rest_of.ensures.none (search rules) call.bytes confounder (subst (λ t. SpellsRest t call.bytes confounder) (sym same) spells.rest)

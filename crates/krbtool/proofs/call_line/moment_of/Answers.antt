@@ -1,7 +1,6 @@
-use Rattle.std.proofs.Common.{rules, subst, sym, ap, ◌∙◌, ◌<◌, arith}
-use Rattle.std.specs.Str.Parse.{digits_value}
+use Rattle.std.proofs.Common.{rules, subst, sym, ◌<◌, arith}
 use Rattle.krb_der.specs.Time.{IsSeconds}
-use Rattle.krbtool.specs.CallLine.{SpellsSeconds, SpellsNumber}
+use Rattle.krbtool.specs.CallLine.{SpellsSeconds}
 use Rattle.krbtool.proofs.CallLaws.{none_told, first_told, half_told, second_told, one_second, no_micros}
 use Rattle.krbtool.proofs.call_line.moment_of.Goals as goal
 
@@ -20,7 +19,7 @@ returns-in_err-seconds_of-clause-none c = λ _ moment message tells.
 
 pub returns-in_err-micros_of-clause-none : goal.returns-in_err-micros_of-clause-none
 returns-in_err-micros_of-clause-none c = λ _ moment message tells.
-    let same = (second_told c.args.line.now c.in_ok-seconds.seconds.now c.in_ok-seconds.others.now c.in_ok-micros.micros.now c.in_ok-micros.message.now moment message
+    let same = (second_told c.args.line.now c.in_ok-seconds.seconds.now c.in_ok-seconds.others.now c.in_ok-micros.micros.now c.in_ok-micros.rest.now moment message
     c.in_ok-seconds.ensures.0 c.in_ok-seconds.ensures.1 c.in_ok-micros.ensures.0 c.in_ok-micros.ensures.1 tells).0 in
     no_micros c.in_ok-micros.micros.now tells.micros_text tells.micros same tells.spells_micros tells.within_second (search rules)
 

@@ -1,9 +1,8 @@
-use Rattle.std.proofs.Common.{◌∙◌, ap, Err, Ok, ◌<◌, length, subst}
+use Rattle.std.proofs.Common.{◌∙◌, ap, Err, Ok}
 use Rattle.std.proofs.lemmas.Result.{err_from_is_err_and}
 use Rattle.krb_ccache.specs.declared.fault.CacheFault.TheVariants.{OutOfMemory, Read, TooLong}
 use Rattle.krbtool.specs.declared.fault.EngineFault.TheVariants.{Cache}
 use Rattle.krbtool.proofs.FaultLaws.{passed_on, none_met, value_missed, value_met}
-use Rattle.krb_ccache.specs.Format.{written as cache_bytes, file_limit}
 use Rattle.krbtool.proofs.convert.convert_ccache.Goals as goal
 
 pub returns-in_err-cache-clause-faulty : goal.returns-in_err-cache-clause-faulty

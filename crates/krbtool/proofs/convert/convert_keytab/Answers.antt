@@ -1,10 +1,8 @@
-use Rattle.std.proofs.Common.{◌∙◌, ap, Err, Ok, ◌<◌, length, subst}
+use Rattle.std.proofs.Common.{◌∙◌, ap, Err, Ok}
 use Rattle.std.proofs.lemmas.Result.{err_from_is_err_and}
 use Rattle.krb_keytab.specs.declared.fault.KeytabFault.TheVariants.{OutOfMemory, Read, TooLong}
 use Rattle.krbtool.specs.declared.fault.EngineFault.TheVariants.{Keytab}
 use Rattle.krbtool.proofs.FaultLaws.{passed_on, none_met, value_missed, value_met}
-use Rattle.krb_keytab.specs.Written.{written}
-use Rattle.krb_keytab.specs.Format.{file_limit}
 use Rattle.krbtool.proofs.convert.convert_keytab.Goals as goal
 
 pub returns-in_err-keytab-clause-faulty : goal.returns-in_err-keytab-clause-faulty

@@ -1,69 +1,19 @@
-use Rattle.std.proofs.Common.{Bool, true, false, ◌≡◌, ◌<◌, ◌∙◌, sym, refl, inl, inr, arith, rules, IsErrOf}
-use Rattle.std.proofs.lemmas.List.Elements.{All-from_get_or}
-use Rattle.krb_enc.specs.declared.fault.OpenFault.TheVariants.{OutOfMemory}
-use Rattle.krb_enc.proofs.DerivedKeys.{AreBytes}
-use Rattle.krb_enc.proofs.Relation.{backwards}
-use Rattle.krb_enc.proofs.OnePlain.{one_plain}
-use Rattle.krb_enc.proofs.Opening.{parts_of, has_tag, no_tag, tagged_opens, opened}
+use Rattle.std.proofs.Common.{ℕ, List, subst, sym}
+use Rattle.krb_enc.specs.Sealed.{Profile}
+use Rattle.krb_enc.specs.Key.{UsageKeyValue, profile_of}
+use Rattle.krb_enc.specs.Opens.{OpensToNothing}
 use Rattle.krb_enc.proofs.enctype.Enctype.open.Goals as goal
 
-is_not : (b : Bool) → b ≡ true → b ≡ false → ⊥
-is_not b p q = cc
+abbrev IsRefused : List ℕ → UsageKeyValue → Type 0
+IsRefused text key = OpensToNothing (profile_of key.key) key.key.bytes key.usage text
 
-pub returns-clause-opened : goal.returns-clause-opened
-returns-clause-opened g c =
-    let text = c.args.text.now in
-    let p = g.Self.Enctype.profile in
-    let size = g.met.Self.Enctype.tag_len_is in
-    let parts = parts_of p c.args.key.now c.args.usage text c.split_at.result.0.now c.split_at.result.1.now c.tag.result c.TAG_LEN-2.result
-    (c.TAG_LEN-2.ensures ∙ sym size) c.split_at.ensures.front c.split_at.ensures.back c.tag.ensures in
-    let bytes : AreBytes text = All-from_get_or (λ byte. byte < 256) text 0 (λ i within. omega (arith, c.type_inv.text i)) in
-    let same : c.tag.result ≡ c.split_at.result.1.now = sym (c.is.ensures.0 c.if-not-is.false) in
-    opened p c.args.key.now c.args.usage text _ _ _ c.encryption_key.result c.in_ok-decrypted.field-0.items g.met.Self.Enctype.is_profile bytes (omega (arith, size))
-    parts same c.encryption_key.ensures c.in_ok-decrypted.ensures.plain
-
-pub returns-clause-found : goal.returns-clause-found
-returns-clause-found g c plain o =
-    one_plain g.Self.Enctype.profile c.args.key.now c.args.usage c.args.text.now c.in_ok-decrypted.field-0.items plain g.met.Self.Enctype.is_profile (returns-clause-opened g c) o
+abbrev IsRefusedBy : List ℕ → ℕ → List ℕ → Profile → Type 0
+IsRefusedBy key usage text p = OpensToNothing p key usage text
 
 pub returns-clause-refused : goal.returns-clause-refused
-returns-clause-refused g c = (λ which. elim which [ inl e ↦ absurd cc | inr e ↦ absurd cc ], λ none. absurd (none _ (returns-clause-opened g c)))
-
-pub returns-in_err-decrypted-clause-refused : goal.returns-in_err-decrypted-clause-refused
-returns-in_err-decrypted-clause-refused g c =
-    let text = c.args.text.now in
-    let p = g.Self.Enctype.profile in
-    let size = g.met.Self.Enctype.tag_len_is in
-    let parts = parts_of p c.args.key.now c.args.usage text c.split_at.result.0.now c.split_at.result.1.now c.tag.result c.TAG_LEN-2.result
-    (c.TAG_LEN-2.ensures ∙ sym size) c.split_at.ensures.front c.split_at.ensures.back c.tag.ensures in
-    let bytes : AreBytes text = All-from_get_or (λ byte. byte < 256) text 0 (λ i within. omega (arith, c.type_inv.text i)) in
-    let same : c.tag.result ≡ c.split_at.result.1.now = sym (c.is.ensures.0 c.if-not-is.false) in
-    let opens = tagged_opens p c.args.key.now c.args.usage text g.met.Self.Enctype.is_profile bytes (omega (arith, size)) (has_tag p c.args.key.now c.args.usage text _ _ _ parts same) in
-    let memory : IsErrOf c.from_residual.result OutOfMemory = search rules in
-    (λ which. elim which [ inl e ↦ absurd cc | inr e ↦ absurd cc ], λ none. absurd (none _ opens))
-
-pub returns-then-text-TAG_LEN-clause-found : goal.returns-then-text-TAG_LEN-clause-found
-returns-then-text-TAG_LEN-clause-found g c plain o =
-    let back = backwards g.Self.Enctype.profile c.args.key.now c.args.usage c.args.text.now plain g.met.Self.Enctype.is_profile o in
-    absurd (omega (arith, back.long, g.met.Self.Enctype.tag_len_is))
-
-pub returns-then-text-TAG_LEN-clause-refused : goal.returns-then-text-TAG_LEN-clause-refused
-returns-then-text-TAG_LEN-clause-refused g c = (
-  λ which plain o.
-      let back = backwards g.Self.Enctype.profile c.args.key.now c.args.usage c.args.text.now plain g.met.Self.Enctype.is_profile o in
-      omega (arith, back.long, g.met.Self.Enctype.tag_len_is),
-  λ none. inl refl,
-)
-
-pub returns-then-not-is-clause-refused : goal.returns-then-not-is-clause-refused
-returns-then-not-is-clause-refused g c =
-    let text = c.args.text.now in
-    let p = g.Self.Enctype.profile in
-    let size = g.met.Self.Enctype.tag_len_is in
-    let parts = parts_of p c.args.key.now c.args.usage text c.split_at.result.0.now c.split_at.result.1.now c.tag.result c.TAG_LEN-2.result
-    (c.TAG_LEN-2.ensures ∙ sym size) c.split_at.ensures.front c.split_at.ensures.back c.tag.ensures in
-    let differs : c.tag.result ≡ c.split_at.result.1.now → ⊥ = λ same. is_not c.is.result (c.is.ensures.1 (sym same)) c.if-not-is.true in
-    (λ which. no_tag p c.args.key.now c.args.usage text _ _ _ g.met.Self.Enctype.is_profile parts differs, λ none. inr refl)
-
-pub returns-then-not-is-clause-found : goal.returns-then-not-is-clause-found
-returns-then-not-is-clause-found g c plain o = absurd ((returns-then-not-is-clause-refused g c).0 (inr refl) plain o)
+returns-clause-refused g c =
+    let by = IsRefusedBy c.args.key.now c.args.usage c.args.text.now in
+    let is = g.met.Self.Enctype.numbered_is in (
+      λ which. subst by is (subst (IsRefused c.args.text.now) c.usage_key.ensures (c.open.ensures.refused.0 which)),
+      λ none. c.open.ensures.refused.1 (subst (IsRefused c.args.text.now) (sym c.usage_key.ensures) (subst by (sym is) none)),
+    )

@@ -1,26 +1,10 @@
-use Rattle.std.proofs.Common.{arith}
-use Rattle.krb_keytab.specs.Source.{IsGiven}
-use Rattle.krb_keytab.proofs.SourceLaws.{only_in, fault_given}
+use Rattle.krb_keytab.proofs.SourceLaws.{only_found, only_fault}
 use Rattle.krb_keytab.proofs.keytab.Keytab.read.Goals as goal
 
-pub returns-clause-only : goal.returns-clause-only
-returns-clause-only g c = λ bytes answer e a.
-    let read = c.in_ok-bytes.ensures in
-    let given : IsGiven (g.S.Source.remaining c.args.source.now) (g.S.Source.remaining c.read_to_limit.new.source) c.deref.result.now =
-    record {
-      given = rw c.deref.ensures.value read.bytes;
-      limit = omega (arith, read.limit, c.deref.ensures.len);
-      end = λ within. read.end (omega (arith, within, c.deref.ensures.len));
-    } in
-    only_in (g.S.Source.remaining c.args.source.now) (g.S.Source.remaining c.read_to_limit.new.source) c.deref.result.now bytes c.parse.result answer given (c.parse.ensures.only answer) e a
+pub returns-in-Ok-clause-only : goal.returns-in-Ok-clause-only
+returns-in-Ok-clause-only g c = λ bytes answer known is.
+    only_found (g.S.Source.remaining c.new-window.result.source.now) (g.S.Source.remaining c.read_entries-answer.new.window.source.now) c.in-Ok.entries.items c.in-Ok.ensures.found bytes answer (rw c.new-window.ensures known) is
 
-pub returns-clause-given : goal.returns-clause-given
-returns-clause-given g c =
-    let read = c.in_ok-bytes.ensures in
-    let given : IsGiven (g.S.Source.remaining c.args.source.now) (g.S.Source.remaining c.read_to_limit.new.source) c.deref.result.now =
-    record {
-      given = rw c.deref.ensures.value read.bytes;
-      limit = omega (arith, read.limit, c.deref.ensures.len);
-      end = λ within. read.end (omega (arith, within, c.deref.ensures.len));
-    } in
-    fault_given (g.S.Source.remaining c.args.source.now) (g.S.Source.remaining c.read_to_limit.new.source) c.deref.result.now c.parse.result given c.parse.ensures.fault
+pub returns-in-Err-clause-only : goal.returns-in-Err-clause-only
+returns-in-Err-clause-only g c = λ bytes answer known is.
+    only_fault (g.S.Source.remaining c.new-window.result.source.now) (g.S.Source.remaining c.read_entries-answer.new.window.source.now) c.in-Err.fault c.in-Err.ensures.fault bytes answer (rw c.new-window.ensures known) is

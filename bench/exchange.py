@@ -1,0 +1,123 @@
+"""Times requests made and accepted beside MIT krb5, over the same tickets, and prints tables of ratios. run.py calls it."""
+import calendar
+import resource
+import struct
+import subprocess
+import sys
+import time
+from pathlib import Path
+
+import files
+
+TOP = Path(__file__).resolve().parent.parent
+sys.path.append(str(TOP / "tests" / "vectors"))
+import fixture as der
+from sealing import BASE, sealed
+
+REALM, SERVICE, CLIENT = b"EXAMPLE.TEST", (b"host", b"web0.example.test"), b"alice"
+SESSION = {19: bytes(range(16)), 20: bytes(range(32))}
+HOURS_10 = 36_000
+SKEW = 300
+PAC = 1_024
+
+
+def written(seconds):
+    return der.time(time.strftime("%Y%m%d%H%M%SZ", time.gmtime(seconds)))
+
+
+def authorization(size):
+    """Authorization data that a service may ignore, whose one element has so many bytes."""
+    inner = der.sequence(der.sequence(der.field(0, der.integer(600)), der.field(1, der.octets(bytes(size)))))
+    return der.sequence(der.sequence(der.field(0, der.integer(1)), der.field(1, der.octets(inner))))
+
+
+def ticket(etype, now, extra):
+    part = der.element(0x63, der.sequence(
+        der.field(0, der.element(3, bytes(5))),
+        der.field(1, der.key(etype, SESSION[etype])),
+        der.field(2, der.string(REALM)),
+        der.field(3, der.name(1, CLIENT)),
+        der.field(4, der.sequence(der.field(0, der.integer(1)), der.field(1, der.octets(b"")))),
+        der.field(5, written(now)),
+        der.field(7, written(now + HOURS_10)),
+        *([der.field(10, authorization(extra))] if extra else []),
+    ))
+    cipher = sealed(etype, BASE[etype], 2, bytes(range(0x10, 0x20)), part)
+    return der.element(0x61, der.sequence(
+        der.field(0, der.integer(5)), der.field(1, der.string(REALM)), der.field(2, der.name(3, *SERVICE)),
+        der.field(3, der.encrypted(etype, cipher, 1)),
+    ))
+
+
+def cache(etype, now, extra):
+    client, server = der.principal(1, REALM, CLIENT), der.principal(3, REALM, *SERVICE)
+    times = (now, now, now + HOURS_10, 0)
+    return b"\x05\x04\x00\x00" + client + der.credential(client, server, etype, SESSION[etype], times, ticket(etype, now, extra))
+
+
+def keytab(etype, entries):
+    """The service's entry comes last."""
+    others = b"".join(files.keytab_record(index) for index in range(1, entries))
+    body = struct.pack(">H", 2) + b"".join(files.data16(it) for it in (REALM, *SERVICE))
+    body += struct.pack(">iIBh", 3, 1_700_000_000, 1, etype) + files.data16(BASE[etype]) + struct.pack(">I", 1)
+    return b"\x05\x02" + others + struct.pack(">i", len(body)) + body
+
+
+def laid_out(folder, etype, entries, extra):
+    """The paths of a keytab and of a cache whose ticket is good from now on, and the moment."""
+    now = calendar.timegm(time.gmtime())
+    (folder / "keytab").write_bytes(keytab(etype, entries))
+    (folder / "cache").write_bytes(cache(etype, now, extra))
+    return str(folder / "keytab"), str(folder / "cache"), str(now)
+
+
+def rows():
+    for etype in (19, 20):
+        for extra in (0, PAC):
+            yield etype, 1, extra, 0
+    for entries in (10, 1_000):
+        yield 19, entries, 0, 0
+    for held in (1_000, 1_000_000):
+        yield 19, 1, 0, held
+
+
+def shown(etype, entries, extra, held):
+    more = f", {extra} bytes of authorization data" if extra else ""
+    return f"type {etype}{more}, {entries:,} entries, {held:,} tuples held"
+
+
+def table(folder, ours, mit, best_in_turn):
+    print("\n| | make_request | MIT krb5's | ratio | accept | MIT krb5's | ratio |\n|---|---|---|---|---|---|---|")
+    for etype, entries, extra, held in rows():
+        keys, tickets, now = laid_out(folder, etype, entries, extra)
+        count = "5000"
+        make, there, accept, reads = best_in_turn([
+            [ours, "make", keys, tickets, now, "0", count], [mit, "make", keys, tickets, count],
+            [ours, "accept", keys, tickets, now, str(held), count], [mit, "accept", keys, tickets, count],
+        ])
+        print(f"| {shown(etype, entries, extra, held)} | {make / 1000:.1f} µs | {there / 1000:.1f} µs | {there / make:.2f} "
+              f"| {accept / 1000:.1f} µs | {reads / 1000:.1f} µs | {reads / accept:.2f} |")
+
+
+def processor_seconds(command, **more):
+    """What a command that ends well takes of a processor, the system's part too."""
+    before = resource.getrusage(resource.RUSAGE_CHILDREN)
+    subprocess.run(command, check=True, stdout=subprocess.DEVNULL, **more)
+    after = resource.getrusage(resource.RUSAGE_CHILDREN)
+    return after.ru_utime + after.ru_stime - before.ru_utime - before.ru_stime
+
+
+def lines_row(folder, ours, krbtool, mit, count=10_000, runs=5):
+    """The command accept over lines, as a whole process, beside krb5_rd_req in a loop of C over as many requests."""
+    for etype in (19, 20):
+        keys, tickets, now = laid_out(folder, etype, 1, 0)
+        lines = folder / "lines"
+        lines.write_bytes(subprocess.run([ours, "lines", keys, tickets, now, "0", str(count)], check=True, capture_output=True).stdout)
+        here, there = [], []
+        for _ in range(runs):
+            with open(lines, "rb") as given:
+                here.append(processor_seconds([krbtool, "accept", keys], stdin=given))
+            made = subprocess.run([mit, "accept", keys, tickets, str(count)], check=True, capture_output=True, text=True)
+            there.append(float(made.stdout) * count / 1e9)
+        print(f"\n{count:,} lines of krbtool accept, type {etype}: {min(here) * 1000:.0f} ms; krb5_rd_req in a loop: {min(there) * 1000:.0f} ms; "
+              f"ratio {min(there) / min(here):.2f}")

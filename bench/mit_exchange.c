@@ -1,0 +1,105 @@
+/* Times MIT krb5's krb5_mk_req_extended and krb5_rd_req, as fast as they go: keytab in memory, no replay cache.
+ *
+ *   mit_exchange make|accept KEYTAB CACHE COUNT      prints nanoseconds a call
+ *
+ * Requests are for the first credential of the cache, at the moment that the clock shows.
+ */
+#include <krb5.h>
+#include <stdio.h>
+#include <stdlib.h>
+#include <string.h>
+#include <time.h>
+
+static krb5_context context;
+
+static double now(void)
+{
+    struct timespec t;
+    clock_gettime(CLOCK_MONOTONIC, &t);
+    return t.tv_sec * 1e9 + t.tv_nsec;
+}
+
+static void must(krb5_error_code code, const char *what)
+{
+    if (code) {
+        fprintf(stderr, "mit_exchange: %s: %s\n", what, krb5_get_error_message(context, code));
+        exit(1);
+    }
+}
+
+static krb5_creds first_credential(const char *name)
+{
+    krb5_ccache cache;
+    krb5_cc_cursor cursor;
+    krb5_creds credential;
+    must(krb5_cc_resolve(context, name, &cache), "the cache");
+    must(krb5_cc_start_seq_get(context, cache, &cursor), "the cache");
+    must(krb5_cc_next_cred(context, cache, &cursor, &credential), "a credential");
+    must(krb5_cc_end_seq_get(context, cache, &cursor), "the cache");
+    return credential;
+}
+
+static krb5_keytab keytab_in_memory(const char *name)
+{
+    krb5_keytab file, memory;
+    krb5_kt_cursor cursor;
+    krb5_keytab_entry entry;
+    must(krb5_kt_resolve(context, name, &file), "the keytab");
+    must(krb5_kt_resolve(context, "MEMORY:bench", &memory), "a keytab in memory");
+    must(krb5_kt_start_seq_get(context, file, &cursor), "the keytab");
+    while (krb5_kt_next_entry(context, file, &entry, &cursor) == 0)
+        must(krb5_kt_add_entry(context, memory, &entry), "an entry");
+    must(krb5_kt_end_seq_get(context, file, &cursor), "the keytab");
+    return memory;
+}
+
+static krb5_auth_context without_times(void)
+{
+    krb5_auth_context state;
+    must(krb5_auth_con_init(context, &state), "a context");
+    must(krb5_auth_con_setflags(context, state, 0), "flags");
+    return state;
+}
+
+static double make(krb5_creds *credential, krb5_data *made, long count)
+{
+    krb5_auth_context state = without_times();
+    double start = now();
+    for (long i = 0; i < count; i++) {
+        krb5_data bytes;
+        must(krb5_mk_req_extended(context, &state, 0, NULL, credential, &bytes), "a request");
+        if (made)
+            made[i] = bytes;
+        else
+            krb5_free_data_contents(context, &bytes);
+    }
+    return (now() - start) / count;
+}
+
+static double accept(krb5_keytab keytab, krb5_creds *credential, long count)
+{
+    krb5_data *requests = calloc(count, sizeof *requests);
+    make(credential, requests, count);
+    double start = now();
+    for (long i = 0; i < count; i++) {
+        /* one that was used holds a key, and would read a request of user to user */
+        krb5_auth_context state = without_times();
+        krb5_ticket *ticket;
+        must(krb5_rd_req(context, &state, &requests[i], credential->server, keytab, NULL, &ticket), "a call");
+        krb5_free_ticket(context, ticket);
+        krb5_auth_con_free(context, state);
+    }
+    return (now() - start) / count;
+}
+
+int main(int argc, char **argv)
+{
+    if (argc != 5)
+        return 2;
+    must(krb5_init_context(&context), "a context");
+    krb5_creds credential = first_credential(argv[3]);
+    long count = atol(argv[4]);
+    double each = strcmp(argv[1], "make") ? accept(keytab_in_memory(argv[2]), &credential, count) : make(&credential, NULL, count);
+    printf("%.1f\n", each);
+    return 0;
+}

@@ -1,0 +1,149 @@
+-- What one step of a reader takes of its source.
+use Rattle.std.proofs.Common.{◌≡◌, ℕ, ◌+◌, ◌≤◌, List, [], ◌++◌, length, Option, Some, None, refl, sym, ap, subst, ◌∙◌, append-nil, arith, inl, inr}
+use Rattle.std.specs.Io.KnownBytes.{Consumes}
+use Rattle.std.proofs.KnownBytes.{Consumes-trans}
+use Rattle.std.proofs.lemmas.List.{length-append, nil_from_length}
+use Rattle.krb_name.specs.Cursor.{Place}
+use Rattle.krb_name.specs.Window.{AtHand, Keeps}
+use Rattle.krb_ccache.specs.Format.{file_limit}
+use Rattle.krb_ccache.specs.declared.fault.CacheFault.{CacheFault}
+use Rattle.krb_ccache.specs.declared.item_fault.ItemFault.{ItemFault}
+use Rattle.krb_ccache.specs.declared.item_fault.ItemFault.TheVariants as item
+use Rattle.krb_ccache.specs.declared.walking.Stop.{Stop}
+use Rattle.krb_ccache.specs.declared.walking.Stop.TheVariants as stop
+use Rattle.krb_ccache.specs.Inner.Standing.{IsMissing}
+use Rattle.krb_ccache.specs.Inner.Walking.{Walks, Stops, Halts}
+use Rattle.krb_ccache.specs.Inner.Stepping.{item_stop, Stands, cleared, Comes, Gives, Runs, IsTold, Lacks, Misses}
+use Rattle.krb_ccache.specs.Format.{version, Layout, version_4, version_of}
+use Rattle.krb_ccache.specs.Inner.Stepping.{Any}
+use Rattle.krb_name.specs.Field.{IsBytes, IsField}
+use Rattle.krb_ccache.proofs.Repeats.{missing_where}
+use Rattle.krb_ccache.proofs.WalkLaws.{front_same, part_walks}
+
+module _ {X S : Type 0} (s : X → List ℕ) (P : X → Type 0) (left : S → Option (List ℕ)) where
+  started : (old start new : AtHand S) → Walks s P left start new → start ≡ cleared old → Walks s P left (cleared old) new
+  started old start new w e = subst (λ (t : AtHand S). Walks s P left t new) e w
+
+  -- what was taken is the thing that was read
+  pub came : (old start new : AtHand S) (bytes : List ℕ) (x : X) → Walks s P left start new → start ≡ cleared old → bytes ≡ new.bytes → Stands s P bytes x → Comes s P left old new x
+  came old start new bytes x walks e at_hand stands =
+      let w = started old start new walks e in
+      let parts : w.piece ≡ s x ++ stands.others = sym (at_hand ∙ w.keeps.bytes) ∙ stands.bytes_are in
+      let len : length (s x) ≡ length w.piece = w.spans x [] stands.others stands.fits (append-nil w.piece ∙ parts) in
+      let none : stands.others ≡ [] = nil_from_length stands.others (omega (arith, len, ap length parts, length-append (s x) stands.others)) in
+      let whole : w.piece ≡ s x = parts ∙ ap (λ (t : List ℕ). s x ++ t) none ∙ append-nil (s x) in
+      record {
+        fits = stands.fits;
+        consumed = subst (λ (t : List ℕ). Consumes (left old.source) (left new.source) t) whole w.keeps.consumed;
+        given = omega (arith, w.keeps.given, len);
+        within = w.within;
+        peak = omega (arith, w.keeps.peak, ap length w.keeps.bytes, len);
+      }
+
+  -- what was taken is no such thing
+  missed : (old new : AtHand S) → Walks s P left (cleared old) new → IsMissing s P new.bytes → Halts s P left (cleared old) new stop.Long
+  missed old new w missing = record {
+    piece = w.piece;
+    keeps = w.keeps;
+    within = w.within;
+    count = file_limit + 1;
+    wants = λ x more others p e.
+        let same = front_same w.piece (s x) more others (sym (w.spans x more others p e)) e in
+        absurd (missing x [] p (w.keeps.bytes ∙ same.0 ∙ sym (append-nil (s x))));
+    cant_come = omega arith;
+  }
+
+  -- what was taken was not read
+  pub not_read : (old start new : AtHand S) (fault : ItemFault) (stop : Stop) → Walks s P left start new → start ≡ cleared old → stop ≡ item_stop fault → (fault ≡ item.Missing → IsMissing s P new.bytes) → Halts s P left (cleared old) new stop
+  not_read old start new fault stop w e is missing = subst (Halts s P left (cleared old) new) (sym is) (by_fault fault missing)
+    where
+      by_fault : (f : ItemFault) → (f ≡ item.Missing → IsMissing s P new.bytes) → Halts s P left (cleared old) new (item_stop f)
+      by_fault item.Missing m = missed old new (started old start new w e) (m refl)
+      by_fault item.OutOfMemory m = let walks = started old start new w e in record { piece = walks.piece; keeps = walks.keeps; within = walks.within }
+
+  some_given : (old new : AtHand S) (piece : List ℕ) → Keeps (left old.source) (left new.source) (cleared old) new piece → new.given ≤ file_limit → Gives left old new piece
+  some_given old new piece k within = record {
+    consumed = k.consumed;
+    given = k.given;
+    grows = omega (arith, k.peak);
+    peak = omega (arith, k.peak, ap length k.bytes);
+    limit = λ old_limit. omega (arith, k.peak, ap length k.bytes, k.given, within, old_limit);
+  }
+
+  then_run : (old middle new : AtHand S) (piece : List ℕ) → Keeps (left old.source) (left middle.source) (cleared old) middle piece → middle.given ≤ file_limit → (r : Runs left middle new) → Gives left old new (piece ++ r.piece)
+  then_run old middle new piece k within r = record {
+    consumed = Consumes-trans (left old.source) (left middle.source) (left new.source) piece r.piece k.consumed r.skips.consumed;
+    given = omega (arith, k.given, r.skips.given, length-append piece r.piece);
+    grows = omega (arith, k.peak, r.skips.peak);
+    peak = omega (arith, k.peak, ap length k.bytes, r.skips.peak, length-append piece r.piece);
+    limit = λ old_limit. omega (arith, k.peak, ap length k.bytes, k.given, within, old_limit, r.skips.peak);
+  }
+
+  -- where the end came, or the limit was passed, no such thing stands within the limit
+  ended : (old new : AtHand S) → Stops s P left (cleared old) new stop.End → Lacks s P left old new
+  ended old new h = record {
+    bytes = h.piece;
+    gives = some_given old new h.piece h.keeps h.within;
+    one_past = omega (arith, h.within);
+    missing = λ x others p le e. omega (arith, h.wants x [] others p (append-nil h.piece ∙ e), h.cant_come.1, ap length e, length-append (s x) others);
+  }
+
+  ran : (old middle new : AtHand S) → Stops s P left (cleared old) middle stop.Long → Runs left middle new → Lacks s P left old new
+  ran old middle new h r = record {
+    bytes = h.piece ++ r.piece;
+    gives = then_run old middle new h.piece h.keeps h.within r;
+    one_past = r.one_past;
+    missing = λ x others p le e. omega (arith, h.wants x r.piece others p e, h.cant_come, h.keeps.given, le);
+  }
+
+  halted : (old new : AtHand S) (stop : Stop) → Halts s P left (cleared old) new stop → (bytes : List ℕ) × Gives left old new bytes
+  halted old new stop.End h = (h.piece, some_given old new h.piece h.keeps h.within)
+  halted old new stop.Long h = (h.piece, some_given old new h.piece h.keeps h.within)
+  halted old new stop.Read h = (h.piece, some_given old new h.piece h.keeps h.within)
+  halted old new stop.OutOfMemory h = (h.piece, some_given old new h.piece h.keeps h.within)
+
+  pub misses : (old middle new : AtHand S) (stop : Stop) (fault told : CacheFault) → Halts s P left (cleared old) middle stop → IsTold left middle new stop fault told → Misses s P left old new fault told
+  misses old middle new stop.End fault told h t = subst (λ (w : AtHand S). Misses s P left old w fault told) (sym t.1) (record {
+    some = halted old middle stop.End h;
+    lacks = λ read memory. ended old middle h;
+    tells = λ memory. inr (inr (t.0, (h.cant_come.0, h.within)));
+  })
+  misses old middle new stop.Long fault told h t = record {
+    some = (h.piece ++ t.0.piece, then_run old middle new h.piece h.keeps h.within t.0);
+    lacks = λ read memory. ran old middle new h t.0;
+    tells = λ memory. t.1;
+  }
+  misses old middle new stop.Read fault told h t = subst (λ (w : AtHand S). Misses s P left old w fault told) (sym t.1) (record {
+    some = halted old middle stop.Read h;
+    lacks = λ read memory. absurd (read t.0);
+    tells = λ memory. inl t.0;
+  })
+  misses old middle new stop.OutOfMemory fault told h t = subst (λ (w : AtHand S). Misses s P left old w fault told) (sym t.1) (record {
+    some = halted old middle stop.OutOfMemory h;
+    lacks = λ read memory. absurd (memory t.0);
+    tells = λ memory. absurd (memory t.0);
+  })
+
+-- ---- a field
+
+module _ {X : Type 0} (r : Place → Option (X × Place)) (s : X → List ℕ) (P : X → Type 0) (f : IsField r s P) where
+  pub field_stands : (bytes : List ℕ) (place : Place) (x : X) (behind : Place) → place ≡ record { at = 0; rest = bytes } → IsBytes bytes → r place ≡ Some (x, behind) → Stands s P bytes x
+  field_stands bytes place x behind e fits read =
+      let t = f.takes (record { at = 0; rest = bytes }) x behind fits (subst (λ (p : Place). r p ≡ Some (x, behind)) e read) in
+      record { fits = t.1; others = behind.rest; bytes_are = t.0.parts }
+
+  pub field_missing : (bytes : List ℕ) (place : Place) → place ≡ record { at = 0; rest = bytes } → r place ≡ None → IsMissing s P bytes
+  field_missing bytes place e none = missing_where r s P f (record { at = 0; rest = bytes }) (subst (λ (p : Place). r p ≡ None) e none)
+
+-- ---- the version
+
+pub version_walks : {S : Type 0} (left : S → Option (List ℕ)) (old new : AtHand S) → Walks (λ (x : List ℕ). x) (λ (x : List ℕ). length x ≡ 2) left old new → Walks version_of Any left old new
+version_walks left old new w = part_walks left (λ (x : List ℕ). x) (λ (x : List ℕ). length x ≡ 2) version_of Any two old new w
+  where
+    two : (layout : Layout) → Any layout → length (version_of layout) ≡ 2
+    two version_4 any = refl
+
+pub not_version : (bytes : List ℕ) → length bytes ≡ 2 → (bytes ≡ version → ⊥) → IsMissing version_of Any bytes
+not_version bytes len not version_4 others any e =
+    let none : others ≡ [] = nil_from_length others (omega (arith, len, ap length e, length-append version others)) in
+    not (e ∙ ap (λ (t : List ℕ). version ++ t) none)

@@ -1,0 +1,40 @@
+use Rattle.std.proofs.Common.{◌∙◌, Option, Ok, List, sym, subst, arith}
+use Rattle.std.proofs.lemmas.Result.{err_from_is_err_and}
+use Rattle.std.specs.Prelude.{All}
+use Rattle.std.proofs.lemmas.List.Elements.{All-push}
+use Rattle.krb_ccache.specs.declared.credential.Credential.{Credential}
+use Rattle.krb_ccache.specs.Reader.{HasTaken}
+use Rattle.krb_ccache.specs.Value.{cache_of, FitsCredential}
+use Rattle.krb_ccache.specs.Inner.Stepping.{IsStep}
+use Rattle.krb_ccache.proofs.ReaderLaws.{item_taken, end_taken, item_fault}
+use Rattle.krb_ccache.proofs.stepping.steps.Goals as goal
+
+pub returns-in_err-credential-clause-fault : goal.returns-in_err-credential-clause-fault
+returns-in_err-credential-clause-fault g c =
+    let p = err_from_is_err_and c.from_residual.result c.from_residual.ensures.1 in
+    rw (p.1, p.2) (λ memory read from header name start.
+    item_fault g.S.Source.remaining from c.loop-credentials.window c.step.new.window (cache_of header name c.loop-credentials.credentials.items) c.in_err-credential.field-0.0 (c.loop-credentials.invariant.taken from header name start)
+    c.in_err-credential.ensures.step.0 c.in_err-credential.ensures.step.1 memory read)
+
+pub loop-credentials-preserved : goal.loop-credentials-preserved
+loop-credentials-preserved g c =
+    let comes = subst (λ (next : Option Credential). IsStep g.S.Source.remaining c.loop-credentials.window c.step.new.window (Ok next)) c.in-Some.is c.in_ok-credential.ensures.step in
+    record {
+      within = comes.within;
+      failures = omega (arith, c.in_ok-credential.ensures.failed, c.loop-credentials.invariant.failures);
+      fits = subst (All FitsCredential) (sym c.in_ok-push.ensures.items) (All-push FitsCredential c.loop-credentials.credentials.items c.in-Some.credential c.loop-credentials.invariant.fits comes.fits);
+      lent = c.in_ok-credential.ensures.lent ∙ c.loop-credentials.invariant.lent;
+      taken = λ from header name start.
+          subst (λ (credentials : List Credential). HasTaken from (g.S.Source.remaining c.step.new.window.source) c.step.new.window.given (cache_of header name credentials)) (sym c.in_ok-push.ensures.items)
+          (item_taken g.S.Source.remaining from c.loop-credentials.window c.step.new.window (cache_of header name c.loop-credentials.credentials.items) c.in-Some.credential (c.loop-credentials.invariant.taken from header name start) comes);
+    }
+
+pub returns-clause-end : goal.returns-clause-end
+returns-clause-end g c = λ from header name start.
+    let ends = subst (λ (next : Option Credential). IsStep g.S.Source.remaining c.loop-credentials.window c.step.new.window (Ok next)) c.in_default.is c.in_ok-credential.ensures.step in
+    end_taken g.S.Source.remaining from c.loop-credentials.window c.step.new.window (cache_of header name c.loop-credentials.credentials.items) (c.loop-credentials.invariant.taken from header name start) ends.0 ends.1
+
+pub returns-in_err-push-clause-fault : goal.returns-in_err-push-clause-fault
+returns-in_err-push-clause-fault g c =
+    let p = err_from_is_err_and c.from_residual-in_err-push.result c.from_residual-in_err-push.ensures.1 in
+    rw p.1 (λ memory read. absurd (memory p.2))

@@ -1,0 +1,86 @@
+-- What one step of a reader takes of a source and leaves at hand.
+use Rattle.std.specs.Prelude.{◌≡◌, ◌≢◌, ◌⊎◌, ℕ, ◌+◌, ◌<◌, ◌≤◌, max, List, [], ◌++◌, length, Option, Some, None, Result, Ok, Err}
+use Rattle.std.specs.Io.KnownBytes.{Consumes, IsAtEnd}
+use Rattle.krb_name.specs.Window.{AtHand, Skips}
+use Rattle.krb_ccache.specs.declared.credential.Credential.{Credential}
+use Rattle.krb_ccache.specs.Spelling.{credential_bytes}
+use Rattle.krb_ccache.specs.Value.{FitsCredential}
+use Rattle.krb_ccache.specs.Format.{file_limit}
+use Rattle.krb_ccache.specs.declared.fault.CacheFault.{CacheFault}
+use Rattle.krb_ccache.specs.declared.fault.CacheFault.TheVariants.{BadItem, TooLong, Read, OutOfMemory}
+use Rattle.krb_ccache.specs.declared.item_fault.ItemFault.{ItemFault}
+use Rattle.krb_ccache.specs.declared.item_fault.ItemFault.TheVariants as item
+use Rattle.krb_ccache.specs.declared.walking.Stop.{Stop}
+use Rattle.krb_ccache.specs.declared.walking.Stop.TheVariants as stop
+
+abbrev pub item_stop : ItemFault → Stop
+item_stop item.Missing = stop.Long
+item_stop item.OutOfMemory = stop.OutOfMemory
+
+-- a thing that is in range is spelled at the front
+pub record Stands {X : Type 0} (spelled : X → List ℕ) (InRange : X → Type 0) (bytes : List ℕ) (x : X) : Type 0 where
+  pub fits : InRange x
+  pub others : List ℕ
+  pub bytes_are : bytes ≡ spelled x ++ others
+
+-- nothing is at hand
+abbrev pub cleared : {S : Type 0} → AtHand S → AtHand S
+cleared window = record window { bytes = [] }
+
+-- anything is in range
+abbrev pub Any : {X : Type 0} → X → Type 0
+Any x = Unit {0}
+
+-- the source gave the bytes of this thing, and no more
+pub record Comes {X S : Type 0} (spelled : X → List ℕ) (InRange : X → Type 0) (left : S → Option (List ℕ)) (old new : AtHand S) (x : X) : Type 0 where
+  pub fits : InRange x
+  pub consumed : Consumes (left old.source) (left new.source) (spelled x)
+  pub given : new.given ≡ old.given + length (spelled x)
+  pub within : new.given ≤ file_limit
+  pub peak : new.peak ≡ max old.peak (length (spelled x))
+
+-- the source gave these bytes, and at most as many are at hand
+pub record Gives {S : Type 0} (left : S → Option (List ℕ)) (old new : AtHand S) (bytes : List ℕ) : Type 0 where
+  pub consumed : Consumes (left old.source) (left new.source) bytes
+  pub given : new.given ≡ old.given + length bytes
+  pub grows : old.peak ≤ new.peak
+  pub peak : new.peak ≤ max old.peak (length bytes)
+  pub limit : old.peak ≤ file_limit → new.peak ≤ file_limit
+
+-- the source was read out: up to its end, or to one byte past the limit
+pub record Runs {S : Type 0} (left : S → Option (List ℕ)) (old new : AtHand S) : Type 0 where
+  pub piece : List ℕ
+  pub skips : Skips (left old.source) (left new.source) old new piece
+  pub one_past : new.given ≤ file_limit + 1
+
+-- what is answered then in place of a fault
+abbrev pub Tells : {S : Type 0} → (S → Option (List ℕ)) → AtHand S → CacheFault → CacheFault → Type 0
+Tells left new fault told =
+    (told ≡ Read)
+    ⊎ (((told ≡ TooLong) × (file_limit < new.given))
+    ⊎ ((told ≡ fault) × (IsAtEnd (left new.source) × (new.given ≤ file_limit))))
+
+abbrev pub IsTold : {S : Type 0} → (S → Option (List ℕ)) → AtHand S → AtHand S → Stop → CacheFault → CacheFault → Type 0
+IsTold left old new stop.End fault told = (told ≡ fault) × (new ≡ old)
+IsTold left old new stop.Long fault told = Runs left old new × Tells left new fault told
+IsTold left old new stop.Read fault told = (told ≡ Read) × (new ≡ old)
+IsTold left old new stop.OutOfMemory fault told = (told ≡ OutOfMemory) × (new ≡ old)
+
+-- the source was read out, and there is no such thing within the limit at the front of its bytes
+pub record Lacks {X S : Type 0} (spelled : X → List ℕ) (InRange : X → Type 0) (left : S → Option (List ℕ)) (old new : AtHand S) : Type 0 where
+  pub bytes : List ℕ
+  pub gives : Gives left old new bytes
+  pub one_past : new.given ≤ file_limit + 1
+  pub missing : (x : X) (others : List ℕ) → InRange x → old.given + length (spelled x) ≤ file_limit → bytes ≢ spelled x ++ others
+
+-- a fault that was told where a thing should stand
+pub record Misses {X S : Type 0} (spelled : X → List ℕ) (InRange : X → Type 0) (left : S → Option (List ℕ)) (old new : AtHand S) (fault told : CacheFault) : Type 0 where
+  pub some : (bytes : List ℕ) × Gives left old new bytes
+  pub lacks : told ≢ Read → told ≢ OutOfMemory → Lacks spelled InRange left old new
+  pub tells : told ≢ OutOfMemory → Tells left new fault told
+
+-- a credential came; or there is none more; or none stands there
+abbrev pub IsStep : {S : Type 0} → (S → Option (List ℕ)) → AtHand S → AtHand S → Result (Option Credential) CacheFault → Type 0
+IsStep left old new (Ok (Some credential)) = Comes credential_bytes FitsCredential left old new credential
+IsStep left old new (Ok None) = Misses credential_bytes FitsCredential left old new (BadItem old.given) (BadItem old.given) × (new.given ≡ old.given)
+IsStep left old new (Err fault) = Misses credential_bytes FitsCredential left old new (BadItem old.given) fault × (fault ≡ BadItem old.given → new.given ≢ old.given)

@@ -1,0 +1,66 @@
+-- Reading a cache one credential at a time: what a reader has taken of its source, and how it ended.
+use Rattle.std.specs.Prelude.{◌≡◌, ◌≢◌, ℕ, ◌+◌, ◌≤◌, max, List, [], ◌∷◌, ◌++◌, length, Option, Some, None, Result, Ok, Err}
+use Rattle.std.specs.Io.KnownBytes.{Consumes}
+use Rattle.krb_name.specs.declared.principal.Principal.{Principal}
+use Rattle.krb_ccache.specs.declared.credential.HeaderField.{HeaderField}
+use Rattle.krb_ccache.specs.declared.credential.Credential.{Credential}
+use Rattle.krb_ccache.specs.Spelling.{credential_bytes}
+use Rattle.krb_ccache.specs.Value.{Cache, cache_of, FitsCredential}
+use Rattle.krb_ccache.specs.Format.{file_limit, Layout, IsReached}
+use Rattle.krb_ccache.specs.declared.fault.CacheFault.{CacheFault}
+
+-- a reader: its source; the header and the default principal; how many bytes the source has given; how many were at hand at
+-- once, at most; and the last answer, once it was given: the end or a fault
+pub record Reading (S : Type 0) : Type 0 where
+  pub source : S
+  pub header : List HeaderField
+  pub default_principal : Principal
+  pub given : ℕ
+  pub held : ℕ
+  pub ended : Option (Result (Unit {0}) CacheFault)
+
+-- the last answer that is in an answer
+abbrev pub ended_by : Result (Option Credential) CacheFault → Option (Result (Unit {0}) CacheFault)
+ended_by (Ok (Some credential)) = None
+ended_by (Ok None) = Some (Ok tt)
+ended_by (Err fault) = Some (Err fault)
+
+-- the last answer, given again
+abbrev pub last_answer : Result (Unit {0}) CacheFault → Result (Option Credential) CacheFault
+last_answer (Ok _) = Ok None
+last_answer (Err fault) = Err fault
+
+-- the source gave these bytes of a file up to an offset: a start, a default principal and whole credentials, of this cache
+pub record HasTaken (from to : Option (List ℕ)) (at : ℕ) (cache : Cache) : Type 0 where
+  pub layout : Layout
+  pub bytes : List ℕ
+  pub taken : Consumes from to bytes
+  pub reached : IsReached layout bytes at cache []
+
+-- the cache with one credential more
+abbrev pub with_credential : Cache → Credential → Cache
+with_credential cache credential = cache_of cache.header cache.default_principal (cache.credentials ++ credential ∷ [])
+
+-- a reader that hasn't ended has taken the bytes of this cache, off a source that had these to come
+pub record HasRead {S : Type 0} (left : S → Option (List ℕ)) (from : Option (List ℕ)) (reader : Reading S) (cache : Cache) : Type 0 where
+  pub going : reader.ended ≡ None
+  pub taken : HasTaken from (left reader.source) reader.given cache
+
+-- the source gave some bytes, of which at most all were at hand at once
+pub record Gave {S : Type 0} (from to : Option (List ℕ)) (old new : Reading S) : Type 0 where
+  pub bytes : List ℕ
+  pub taken : Consumes from to bytes
+  pub given : new.given ≡ old.given + length bytes
+  pub grows : old.held ≤ new.held
+  pub held : new.held ≤ max old.held (length bytes)
+
+-- the bytes are a start, a default principal and whole credentials, of this cache; and behind them stands none that ends within
+-- the limit
+pub record GoesTo (bytes : List ℕ) (cache : Cache) : Type 0 where
+  pub layout : Layout
+  pub at : ℕ
+  pub behind : List ℕ
+  pub reached : IsReached layout bytes at cache behind
+  pub within : at ≤ file_limit
+  pub missing : (credential : Credential) (others : List ℕ) → FitsCredential credential → at + length (credential_bytes credential) ≤ file_limit
+      → behind ≢ credential_bytes credential ++ others

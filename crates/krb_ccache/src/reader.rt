@@ -1,0 +1,203 @@
+//! A reader that gives the credentials of a cache one at a time.
+
+ghost use Rattle.std.specs.Prelude.{◌≡◌, ◌≢◌, ◌+◌, ◌-◌, ◌^◌, ◌<◌, ◌≤◌, ◌↔◌, ℕ, List, [], max, length, All, IsTrue, IfOk, IfErr, IfSome, IfNone, Option, Ok, Err, None};
+ghost use Rattle.krb_ccache.specs.Configuration.{HoldsOffset, IsConfiguration};
+ghost use Rattle.krb_ccache.specs.Fault.{failed_reads};
+ghost use Rattle.krb_ccache.specs.Format.{file_limit, IsCache, IsFaultOf};
+ghost use Rattle.krb_ccache.specs.Offset.{clock_offset};
+ghost use Rattle.krb_ccache.specs.Reader.{ended_by as ended_by_answer, last_answer, with_credential, HasRead, Gave, GoesTo};
+ghost use Rattle.krb_ccache.specs.Source.{IsGiven};
+ghost use Rattle.krb_ccache.specs.Spelling.{header_bytes, name_bytes, credential_bytes};
+ghost use Rattle.krb_ccache.specs.Value.{Cache, cache_of};
+
+use crate::configuration::{first_offset, is_entry};
+use crate::credential::{Credential, HeaderField};
+use crate::fault::CacheFault;
+use crate::stepping::{begin, step};
+use krb_name::{Principal, Source, Window};
+use std::alloc::Global;
+use std::marker::Model;
+
+/// Reads a cache off a source, one credential at a time.
+///
+/// What was read is let go of: at hand are the bytes of the header, of the default principal or of
+/// one credential, in one buffer, and the fields of the header and the default principal are kept.
+#[derive(Drop)]
+pub struct CredentialReader<S> {
+    window: Window<S>,
+    header: Vec<HeaderField>,
+    default_principal: Principal,
+    ended: Option<Result<(), CacheFault>>,
+}
+
+impl<S> Model for CredentialReader<S> {
+    ghost use Rattle.std.specs.Prelude.{◌≡◌, ◌≤◌, None};
+    ghost use Rattle.krb_ccache.specs.Format.{file_limit};
+    ghost use Rattle.krb_ccache.specs.Reader.{Reading};
+    ghost use Rattle.krb_ccache.specs.Value.{FitsHeader};
+
+    ghost Value = { Reading S };
+
+    ghost view = { λ r. record {
+      source = r.window.source;
+      header = r.header.items;
+      default_principal = r.default_principal;
+      given = r.window.given;
+      held = r.window.peak;
+      ended = r.ended;
+    } };
+
+    ghost invariant = { λ r. FitsHeader r.header.items
+        × (r.window.peak ≤ file_limit) × (r.ended ≡ None → r.window.given ≤ file_limit) };
+}
+
+impl<S: Source> CredentialReader<S> {
+    /// Reads the version, the header and the default principal of `source`, and not a byte more.
+    ///
+    /// Condition: fewer than 18,446,744,073,709,551,615 reads of the source have failed so far.
+    ///
+    /// # Errors
+    /// The source is handed back, with:
+    /// - `Read`: a read of the source failed.
+    /// - `OutOfMemory`: there was no room for what was read.
+    /// - `TooLong`, `Version`, `Header` or `BadItem`, as `CCache::parse` answers for all that was to come
+    ///   of the source: it was read to its end first, or to one byte past 16,777,216.
+    ///
+    /// Source: MIT krb5, "Credential cache file format", version 4.
+    pub fn open(alloc: Global, source: S) -> Result<CredentialReader<S>, (S, CacheFault)>
+        requires { S.failure_count source < 2 ^ 64 - 1 }
+        ensures read { IfOk result (λ reader. HasRead S.remaining (S.remaining source) reader
+            (cache_of reader.header reader.default_principal [])) }
+        ensures held { IfOk result (λ reader. reader.held
+            ≡ max (length (header_bytes reader.header)) (length (name_bytes reader.default_principal))) }
+        ensures fault { IfErr result (λ back.
+            back.1 ≢ CacheFault.OutOfMemory → back.1 ≢ CacheFault.Read
+            → (bytes : List ℕ) × IsGiven (S.remaining source) (S.remaining back.0) bytes
+            × IsFaultOf bytes back.1) }
+        ensures none_failed { IfOk result (λ reader.
+            S.failure_count reader.source ≡ S.failure_count source) }
+        ensures failed { IfErr result (λ back. S.failure_count back.0
+            ≡ S.failure_count source + failed_reads {T = Unit {0}} (Err back.1)) }
+    {
+        let mut window = Window::new(alloc, source);
+        match begin(alloc, &mut window) {
+            Ok((header, default_principal)) => Ok(CredentialReader {
+                window,
+                header,
+                default_principal,
+                ended: None,
+            }),
+            Err(fault) => Err((window.into_source(), fault)),
+        }
+    }
+
+    /// Reads the next credential, and not a byte more; `None` at the end. The end and every fault are
+    /// answered again by each later call, and nothing is read for it.
+    ///
+    /// Condition: fewer than 18,446,744,073,709,551,615 reads of the source have failed so far.
+    ///
+    /// # Errors
+    /// - `Read`: a read of the source failed.
+    /// - `OutOfMemory`: there was no room for the credential or its bytes.
+    /// - `TooLong` or `BadItem`, as `CCache::parse` answers for all the bytes: no whole credential
+    ///   within the limit comes next, and the source was read to its end first, or to one byte past
+    ///   16,777,216.
+    pub fn next(&mut self, alloc: Global) -> Result<Option<Credential>, CacheFault>
+        requires { S.failure_count self.old.source < 2 ^ 64 - 1 }
+
+        // The end and every fault are answered again, and the reader stays as it was.
+        ensures again { IfSome self.old.ended
+            (λ ended. (result ≡ last_answer ended) × (self.new ≡ self.old)) }
+        ensures ended { self.old.ended ≡ None → self.new.ended ≡ ended_by_answer result }
+
+        // Of a source with bytes to come, a reader has read the first, and they are a start with the
+        // credentials so far.
+        ensures item { (from : Option (List ℕ)) (cache : Cache)
+            → HasRead S.remaining from self.old cache
+            → IfOk result (λ next. IfSome next (λ credential.
+            HasRead S.remaining from self.new (with_credential cache credential))) }
+        ensures end { (from : Option (List ℕ)) (cache : Cache)
+            → HasRead S.remaining from self.old cache → result ≡ Ok None
+            → (bytes : List ℕ) × IsGiven from (S.remaining self.new.source) bytes × IsCache bytes cache }
+        ensures fault { (from : Option (List ℕ)) (cache : Cache)
+            → HasRead S.remaining from self.old cache
+            → IfErr result (λ fault. fault ≢ CacheFault.OutOfMemory → fault ≢ CacheFault.Read
+            → (bytes : List ℕ) × IsGiven from (S.remaining self.new.source) bytes
+            × IsFaultOf bytes fault) }
+
+        // No whole credential within the limit is passed over.
+        ensures stops { (from : Option (List ℕ)) (cache : Cache)
+            → HasRead S.remaining from self.old cache
+            → IfErr result (λ fault. fault ≢ CacheFault.OutOfMemory → fault ≢ CacheFault.Read
+            → IfSome from (λ bytes. GoesTo bytes cache)) }
+
+        ensures given { Gave (S.remaining self.old.source) (S.remaining self.new.source) self.old self.new }
+        ensures header { self.new.header ≡ self.old.header }
+        ensures default { self.new.default_principal ≡ self.old.default_principal }
+        ensures held { self.old.ended ≡ None → IfOk result (λ next. IfSome next (λ credential.
+            self.new.held ≡ max self.old.held (length (credential_bytes credential)))) }
+        ensures failed { self.old.ended ≡ None → S.failure_count self.new.source
+            ≡ S.failure_count self.old.source + failed_reads result }
+    {
+        if let Some(ended) = self.ended {
+            return match ended {
+                Ok(()) => Ok(None),
+                Err(fault) => Err(fault),
+            };
+        }
+        let answer = step(alloc, &mut self.window);
+        self.ended = ended_by(&answer);
+        answer
+    }
+
+    /// Answers how many bytes were at hand at once, at most. It is never more than the header, the
+    /// default principal or the longest credential so far has, nor than 16,777,216.
+    pub fn held(&self) -> usize
+        ensures held { result ≡ self.now.held }
+        ensures limit { result ≤ file_limit }
+    {
+        let _ended = self.ended;
+        self.window.held()
+    }
+
+    /// Lends the source.
+    pub fn source(&self) -> &S
+        ensures { result.now ≡ self.now.source }
+    {
+        self.window.source()
+    }
+
+    /// Lends the default principal: whose cache it is.
+    pub fn default_principal(&self) -> &Principal
+        ensures { result.now ≡ self.now.default_principal }
+    {
+        &self.default_principal
+    }
+
+    /// Answers the KDC's clock offset, as `CCache::kdc_offset` does.
+    pub fn kdc_offset(&self) -> Option<(i32, i32)>
+        ensures some { IfSome result (λ offset. HoldsOffset self.now.header offset.0 offset.1) }
+        ensures none { IfNone result (All (λ field. field.tag ≢ 1) self.now.header) }
+        ensures computed { result ≡ clock_offset self.now.header }
+    {
+        first_offset(self.header.as_slice())
+    }
+
+    /// Answers whether `credential` is a configuration entry, as `CCache::is_configuration` does.
+    pub fn is_configuration(credential: &Credential) -> bool
+        ensures { IsTrue result ↔ IsConfiguration credential.now }
+    {
+        is_entry(credential)
+    }
+}
+
+// The end or the fault that an answer is.
+fn ended_by(answer: &Result<Option<Credential>, CacheFault>) -> Option<Result<(), CacheFault>>
+    ensures { result ≡ ended_by_answer answer.now }
+{
+    match answer {
+        Ok(Some(_)) => None,
+        Ok(None) => Some(Ok(())),
+        Err(fault) => Some(Err(*fault)),
+    }
+}

@@ -1,0 +1,306 @@
+//! Reading the parts of a cache off a source, one at a time.
+
+ghost use Rattle.std.specs.Prelude.{All, Option, ℕ, List, [], length, max, ◌≡◌, ◌≢◌, ◌+◌, ◌-◌, ◌≤◌, ◌<◌, ◌^◌, IfOk, IfErr, OnOk, Err};
+ghost use Rattle.krb_ccache.specs.Fault.{failed_reads};
+ghost use Rattle.krb_ccache.specs.Format.{file_limit, version_of, version_4, IsCache, IsFaultOf};
+ghost use Rattle.krb_ccache.specs.Reader.{HasTaken};
+ghost use Rattle.krb_ccache.specs.Source.{IsGiven};
+ghost use Rattle.krb_ccache.specs.Spelling.{header_bytes, name_bytes, credential_bytes};
+ghost use Rattle.krb_ccache.specs.Value.{cache_of, FitsHeader, FitsName, FitsCredential};
+ghost use Rattle.krb_name.specs.declared.principal.Principal.{Principal as PrincipalValue};
+ghost use Rattle.krb_ccache.specs.declared.credential.HeaderField.{HeaderField as HeaderFieldValue};
+ghost use Rattle.krb_ccache.specs.declared.fault.CacheFault.TheVariants.{Version, Header, BadItem};
+ghost use Rattle.krb_ccache.specs.Inner.Standing.{IsMissing};
+ghost use Rattle.krb_ccache.specs.Inner.Walking.{Halts, stop_reads, stopped_reads};
+ghost use Rattle.krb_ccache.specs.Inner.Stepping.{Stands, cleared, Any, Comes, IsTold, Misses, IsStep};
+
+use crate::credential::{Credential, HeaderField};
+use crate::fault::CacheFault;
+use crate::header::{FILE_LIMIT, read_header};
+use crate::item_fault::ItemFault;
+use crate::items::{read_credential, read_name};
+use crate::walking::{Stop, take, take_credential, take_header, take_name};
+use krb_name::{FileCursor, Principal, Source, Window};
+use std::alloc::Global;
+
+const VERSION_BYTES: &[u8] = &[0x05, 0x04];
+
+impl From<ItemFault> for Stop {
+    ghost use Rattle.krb_ccache.specs.Inner.Stepping.{item_stop};
+
+    ghost from_gives = { λ fault stop. stop ≡ item_stop fault };
+
+    fn from(fault: ItemFault) -> Stop {
+        match fault {
+            ItemFault::Missing => Stop::Long,
+            ItemFault::OutOfMemory => Stop::OutOfMemory,
+        }
+    }
+}
+
+// Each call reads the part at the front of the bytes.
+
+fn header_of(alloc: Global, bytes: &[u8]) -> Result<Vec<HeaderField>, ItemFault>
+    ensures read { IfOk result (λ header. Stands header_bytes FitsHeader bytes.now header.items) }
+    ensures missing { result ≡ Err ItemFault.Missing
+        → IsMissing header_bytes FitsHeader bytes.now }
+{
+    let mut cursor = FileCursor::new(bytes);
+    read_header(alloc, &mut cursor)
+}
+
+fn name_of(alloc: Global, bytes: &[u8]) -> Result<Principal, ItemFault>
+    ensures read { IfOk result (Stands name_bytes FitsName bytes.now) }
+    ensures missing { result ≡ Err ItemFault.Missing → IsMissing name_bytes FitsName bytes.now }
+{
+    let mut cursor = FileCursor::new(bytes);
+    read_name(alloc, &mut cursor)
+}
+
+fn credential_of(alloc: Global, bytes: &[u8]) -> Result<Credential, ItemFault>
+    ensures read { IfOk result (Stands credential_bytes FitsCredential bytes.now) }
+    ensures missing { result ≡ Err ItemFault.Missing
+        → IsMissing credential_bytes FitsCredential bytes.now }
+{
+    let mut cursor = FileCursor::new(bytes);
+    read_credential(alloc, &mut cursor)
+}
+
+// Each call takes the bytes of a part, and no more, and reads it off them.
+
+fn come_version<S: Source>(window: &mut Window<S>) -> Result<(), Stop>
+    requires reads { S.failure_count window.old.source < 2 ^ 64 - 1 }
+    requires within { window.old.given ≤ file_limit }
+    ensures comes { OnOk result
+        (Comes version_of Any S.remaining window.old window.new version_4) }
+    ensures halts { IfErr result (Halts version_of Any S.remaining (cleared window.old) window.new) }
+    ensures failed { S.failure_count window.new.source
+        ≡ S.failure_count window.old.source + stopped_reads result }
+    ensures lent { S.lender window.new.source ≡ S.lender window.old.source }
+{
+    window.clear();
+    take(window, 2)?;
+    if window.bytes() == VERSION_BYTES {
+        Ok(())
+    } else {
+        Err(Stop::Long)
+    }
+}
+
+fn come_header<S: Source>(alloc: Global, window: &mut Window<S>) -> Result<Vec<HeaderField>, Stop>
+    requires reads { S.failure_count window.old.source < 2 ^ 64 - 1 }
+    requires within { window.old.given ≤ file_limit }
+    ensures comes { IfOk result (λ header.
+        Comes header_bytes FitsHeader S.remaining window.old window.new header.items) }
+    ensures halts { IfErr result (Halts header_bytes FitsHeader S.remaining (cleared window.old) window.new) }
+    ensures failed { S.failure_count window.new.source
+        ≡ S.failure_count window.old.source + stopped_reads result }
+    ensures lent { S.lender window.new.source ≡ S.lender window.old.source }
+{
+    window.clear();
+    take_header(window)?;
+    match header_of(alloc, window.bytes()) {
+        Ok(header) => Ok(header),
+        Err(fault) => Err(Stop::from(fault)),
+    }
+}
+
+fn come_name<S: Source>(alloc: Global, window: &mut Window<S>) -> Result<Principal, Stop>
+    requires reads { S.failure_count window.old.source < 2 ^ 64 - 1 }
+    requires within { window.old.given ≤ file_limit }
+    ensures comes { IfOk result (Comes name_bytes FitsName S.remaining window.old window.new) }
+    ensures halts { IfErr result (Halts name_bytes FitsName S.remaining (cleared window.old) window.new) }
+    ensures failed { S.failure_count window.new.source
+        ≡ S.failure_count window.old.source + stopped_reads result }
+    ensures lent { S.lender window.new.source ≡ S.lender window.old.source }
+{
+    window.clear();
+    take_name(window)?;
+    match name_of(alloc, window.bytes()) {
+        Ok(name) => Ok(name),
+        Err(fault) => Err(Stop::from(fault)),
+    }
+}
+
+fn come_credential<S: Source>(alloc: Global, window: &mut Window<S>) -> Result<Credential, Stop>
+    requires reads { S.failure_count window.old.source < 2 ^ 64 - 1 }
+    requires within { window.old.given ≤ file_limit }
+    ensures comes { IfOk result
+        (Comes credential_bytes FitsCredential S.remaining window.old window.new) }
+    ensures halts { IfErr result
+        (Halts credential_bytes FitsCredential S.remaining (cleared window.old) window.new) }
+    ensures failed { S.failure_count window.new.source
+        ≡ S.failure_count window.old.source + stopped_reads result }
+    ensures lent { S.lender window.new.source ≡ S.lender window.old.source }
+{
+    window.clear();
+    take_credential(window)?;
+    match credential_of(alloc, window.bytes()) {
+        Ok(credential) => Ok(credential),
+        Err(fault) => Err(Stop::from(fault)),
+    }
+}
+
+// Answers the fault of a part that didn't come, when the source was read out, or TooLong in its place.
+fn told<S: Source>(window: &mut Window<S>, stop: Stop, fault: CacheFault) -> CacheFault
+    requires reads { stop ≡ Stop.Long → S.failure_count window.old.source < 2 ^ 64 - 1 }
+    requires within { window.old.given ≤ file_limit }
+    requires content { failed_reads {T = Unit {0}} (Err fault) ≡ 0 }
+    ensures told { IsTold S.remaining window.old window.new stop fault result }
+    ensures failed { S.failure_count window.new.source + stop_reads stop
+        ≡ S.failure_count window.old.source + failed_reads {T = Unit {0}} (Err result) }
+    ensures lent { S.lender window.new.source ≡ S.lender window.old.source }
+{
+    match stop {
+        Stop::End => fault,
+        Stop::Long => match window.run_out(FILE_LIMIT) {
+            Ok(true) => fault,
+            Ok(false) => CacheFault::TooLong,
+            Err(_) => CacheFault::Read,
+        },
+        Stop::Read => CacheFault::Read,
+        Stop::OutOfMemory => CacheFault::OutOfMemory,
+    }
+}
+
+// Each call takes a part, or reads the source out and answers why there is none.
+
+fn step_version<S: Source>(window: &mut Window<S>) -> Result<(), CacheFault>
+    requires reads { S.failure_count window.old.source < 2 ^ 64 - 1 }
+    requires within { window.old.given ≤ file_limit }
+    ensures comes { OnOk result
+        (Comes version_of Any S.remaining window.old window.new version_4) }
+    ensures misses { IfErr result
+        (Misses version_of Any S.remaining window.old window.new Version) }
+    ensures failed { S.failure_count window.new.source
+        ≡ S.failure_count window.old.source + failed_reads result }
+    ensures lent { S.lender window.new.source ≡ S.lender window.old.source }
+{
+    match come_version(window) {
+        Ok(()) => Ok(()),
+        Err(stop) => Err(told(window, stop, CacheFault::Version)),
+    }
+}
+
+fn step_header<S: Source>(
+    alloc: Global,
+    window: &mut Window<S>,
+) -> Result<Vec<HeaderField>, CacheFault>
+    requires reads { S.failure_count window.old.source < 2 ^ 64 - 1 }
+    requires within { window.old.given ≤ file_limit }
+    ensures comes { IfOk result (λ header.
+        Comes header_bytes FitsHeader S.remaining window.old window.new header.items) }
+    ensures misses { IfErr result
+        (Misses header_bytes FitsHeader S.remaining window.old window.new Header) }
+    ensures failed { S.failure_count window.new.source
+        ≡ S.failure_count window.old.source + failed_reads result }
+    ensures lent { S.lender window.new.source ≡ S.lender window.old.source }
+{
+    match come_header(alloc, window) {
+        Ok(header) => Ok(header),
+        Err(stop) => Err(told(window, stop, CacheFault::Header)),
+    }
+}
+
+fn step_name<S: Source>(alloc: Global, window: &mut Window<S>) -> Result<Principal, CacheFault>
+    requires reads { S.failure_count window.old.source < 2 ^ 64 - 1 }
+    requires within { window.old.given ≤ file_limit }
+    ensures comes { IfOk result (Comes name_bytes FitsName S.remaining window.old window.new) }
+    ensures misses { IfErr result
+        (Misses name_bytes FitsName S.remaining window.old window.new (BadItem window.old.given)) }
+    ensures failed { S.failure_count window.new.source
+        ≡ S.failure_count window.old.source + failed_reads result }
+    ensures lent { S.lender window.new.source ≡ S.lender window.old.source }
+{
+    let at = window.given();
+    match come_name(alloc, window) {
+        Ok(name) => Ok(name),
+        Err(stop) => Err(told(window, stop, CacheFault::BadItem { at })),
+    }
+}
+
+/// Takes the version, the header and the default principal.
+pub(crate) fn begin<S: Source>(
+    alloc: Global,
+    window: &mut Window<S>,
+) -> Result<(Vec<HeaderField>, Principal), CacheFault>
+    requires reads { S.failure_count window.old.source < 2 ^ 64 - 1 }
+    requires start { window.old.given ≡ 0 }
+    ensures taken { IfOk result (λ begun. HasTaken (S.remaining window.old.source)
+        (S.remaining window.new.source) window.new.given (cache_of begun.0.items begun.1 [])) }
+    ensures peak { IfOk result (λ begun. window.new.peak ≡ max window.old.peak
+        (max (length (header_bytes begun.0.items)) (length (name_bytes begun.1)))) }
+    ensures within { OnOk result (window.new.given ≤ file_limit) }
+    ensures fits { IfOk result (λ begun. FitsHeader begun.0.items × FitsName begun.1) }
+    ensures limit { OnOk result (window.old.peak ≤ file_limit → window.new.peak ≤ file_limit) }
+    ensures fault { IfErr result (λ fault.
+        fault ≢ CacheFault.OutOfMemory → fault ≢ CacheFault.Read
+        → (bytes : List ℕ) × IsGiven (S.remaining window.old.source) (S.remaining window.new.source) bytes
+        × IsFaultOf bytes fault) }
+    ensures failed { S.failure_count window.new.source
+        ≡ S.failure_count window.old.source + failed_reads result }
+    ensures lent { S.lender window.new.source ≡ S.lender window.old.source }
+{
+    step_version(window)?;
+    let header = step_header(alloc, window)?;
+    let name = step_name(alloc, window)?;
+    Ok((header, name))
+}
+
+/// Takes the next credential, or finds that the source is at its end.
+pub(crate) fn step<S: Source>(
+    alloc: Global,
+    window: &mut Window<S>,
+) -> Result<Option<Credential>, CacheFault>
+    requires reads { S.failure_count window.old.source < 2 ^ 64 - 1 }
+    requires within { window.old.given ≤ file_limit }
+    ensures step { IsStep S.remaining window.old window.new result }
+    ensures failed { S.failure_count window.new.source
+        ≡ S.failure_count window.old.source + failed_reads result }
+    ensures lent { S.lender window.new.source ≡ S.lender window.old.source }
+{
+    let at = window.given();
+    match come_credential(alloc, window) {
+        Ok(credential) => Ok(Some(credential)),
+        Err(stop) => {
+            let fault = told(window, stop, CacheFault::BadItem { at });
+            if fault != (CacheFault::BadItem { at }) {
+                return Err(fault);
+            }
+            if window.given() == at {
+                return Ok(None);
+            }
+            Err(fault)
+        }
+    }
+}
+
+/// Takes the credentials to the end of the source.
+pub(crate) fn steps<S: Source>(
+    alloc: Global,
+    window: &mut Window<S>,
+) -> Result<Vec<Credential>, CacheFault>
+    requires reads { S.failure_count window.old.source < 2 ^ 64 - 1 }
+    requires within { window.old.given ≤ file_limit }
+    ensures end { IfOk result (λ credentials.
+        (from : Option (List ℕ)) (header : List HeaderFieldValue) (name : PrincipalValue)
+        → HasTaken from (S.remaining window.old.source) window.old.given (cache_of header name [])
+        → (bytes : List ℕ) × IsGiven from (S.remaining window.new.source) bytes
+        × IsCache bytes (cache_of header name credentials.items)) }
+    ensures fits { IfOk result (λ credentials. All FitsCredential credentials.items) }
+    ensures fault { IfErr result (λ fault.
+        fault ≢ CacheFault.OutOfMemory → fault ≢ CacheFault.Read
+        → (from : Option (List ℕ)) (header : List HeaderFieldValue) (name : PrincipalValue)
+        → HasTaken from (S.remaining window.old.source) window.old.given (cache_of header name [])
+        → (bytes : List ℕ) × IsGiven from (S.remaining window.new.source) bytes
+        × IsFaultOf bytes fault) }
+    ensures failed { S.failure_count window.new.source
+        ≡ S.failure_count window.old.source + failed_reads result }
+    ensures lent { S.lender window.new.source ≡ S.lender window.old.source }
+{
+    let mut credentials = Vec::new(alloc);
+    while let Some(credential) = step(alloc, window)? {
+        credentials.push(credential)?;
+    }
+    Ok(credentials)
+}

@@ -1,0 +1,163 @@
+//! Keys of one usage.
+
+ghost use Rattle.std.specs.Prelude.{◌≡◌, ◌↔◌, ◌⊎◌, ◌≤◌, ◌<◌, ◌+◌, ℕ, List, length, vec_len, pos, IfOk, IsErrOf, MatchResult};
+ghost use Rattle.krb_kdf.specs.Hmac.{sha256_hash, sha384_hash, block_key};
+ghost use Rattle.krb_enc.specs.Key.{KeyValue, UsageKeyValue, profile_of};
+ghost use Rattle.krb_enc.specs.Sealed.{encryption_key, tag_of, sealed};
+ghost use Rattle.krb_enc.specs.Opens.{IsShort, HasTag, Opens, OpensOnlyTo, OpensToNothing};
+ghost use Rattle.krb_enc.specs.Inner.KeyBytes.{value_of, IsReadyFor};
+
+use crate::fault::OpenFault;
+use crate::key::KeyBytes;
+use crate::tag::Tag;
+use crate::texts::{CONFOUNDER_LEN, INITIAL_VECTOR, decrypted, encrypted};
+use krb_aes::KeySchedule;
+use krb_kdf::{HmacSha256, HmacSha384, MacPurpose, Purpose};
+use std::alloc::{AllocError, Global};
+use std::marker::Model;
+
+/// The keys that a base key has for one key usage, made ready once for many texts: Ke with its round keys,
+/// and Ki as a key of HMAC. They are held in place.
+///
+/// A contract sees the base key and the usage. It has no `Debug`, so that no log shows a key.
+#[derive(Drop)]
+pub struct UsageKey {
+    bytes: KeyBytes,
+    usage: u32,
+    schedule: KeySchedule,
+}
+
+impl Model for UsageKey {
+    ghost Value = { UsageKeyValue };
+
+    ghost view = { λ k. record { key = value_of k.bytes; usage = k.usage } };
+
+    ghost invariant = { λ k. IsReadyFor k.bytes k.usage k.schedule };
+}
+
+impl UsageKey {
+    // Derives the keys of a base key of type 19, which is had ready as well.
+    #[tactic(auto, unfolding(krb_kdf::specs::Kdf::kdf, krb_kdf::specs::Kdf::kdf_of, krb_kdf::specs::Hmac::hmac))]
+    pub(crate) fn new_19(bytes: &[u8; 16], base: &HmacSha256, usage: u32) -> UsageKey
+        requires { base.now ≡ block_key sha256_hash bytes.now }
+        ensures { result ≡ record { key = record { etype = pos 19; bytes = bytes.now }; usage = usage } }
+    {
+        let integrity_key = base.derive_19(usage, Purpose::Ki);
+        UsageKey {
+            bytes: KeyBytes::Short(*bytes, HmacSha256::new(&integrity_key)),
+            usage,
+            schedule: KeySchedule::new_128(&base.derive_19(usage, Purpose::Ke)),
+        }
+    }
+
+    // Derives the keys of a base key of type 20, which is had ready as well.
+    #[tactic(auto, unfolding(krb_kdf::specs::Kdf::kdf, krb_kdf::specs::Kdf::kdf_of, krb_kdf::specs::Hmac::hmac))]
+    pub(crate) fn new_20(bytes: &[u8; 32], base: &HmacSha384, usage: u32) -> UsageKey
+        requires { base.now ≡ block_key sha384_hash bytes.now }
+        ensures { result ≡ record { key = record { etype = pos 20; bytes = bytes.now }; usage = usage } }
+    {
+        let integrity_key = base.derive_20(usage, MacPurpose::Ki);
+        UsageKey {
+            bytes: KeyBytes::Long(*bytes, HmacSha384::new(&integrity_key)),
+            usage,
+            schedule: KeySchedule::new_256(&base.derive_20_ke(usage)),
+        }
+    }
+
+    /// Seals `plain` under the base key for the usage: the confounder and the plain text, encrypted, and
+    /// behind them the tag of 16 bytes (type 19) or 24 (type 20).
+    ///
+    /// `confounder` is 16 random bytes, new for each call.
+    ///
+    /// # Errors
+    /// `AllocError`: there was no room for the sealed text.
+    ///
+    /// Source: RFC 8009, section 5.
+    pub fn seal(
+        &self,
+        alloc: Global,
+        confounder: &[u8; 16],
+        plain: &[u8],
+    ) -> Result<Vec<u8>, AllocError>
+        ensures sealed { IfOk result (λ text. text.items
+            ≡ sealed (profile_of self.now.key) self.now.key.bytes self.now.usage confounder.now plain.now) }
+        ensures length { IfOk result (λ text.
+            vec_len text ≡ 16 + length plain.now + (profile_of self.now.key).tag_len) }
+        ensures opens { IfOk result (λ text.
+            OpensOnlyTo (profile_of self.now.key) self.now.key.bytes self.now.usage text.items plain.now) }
+    {
+        let mut text = encrypted(alloc, self.schedule(), confounder, plain, self.tag_len())?;
+        let tag = self.tag(&text);
+        text.extend_from_slice(tag.as_slice())?;
+        Ok(text)
+    }
+
+    /// Opens `text`, which was sealed under the base key for the usage, and answers the plain text.
+    ///
+    /// The tag is checked before anything is decrypted.
+    ///
+    /// # Errors
+    /// The first that holds:
+    /// - `Short`: there are fewer than 32 bytes (type 19) or 40 (type 20).
+    /// - `Integrity`: the last 16 or 24 bytes aren't the tag of the rest.
+    /// - `OutOfMemory`: there was no room for the plain text.
+    ///
+    /// Source: RFC 8009, section 5.
+    pub fn open(&self, alloc: Global, text: &[u8]) -> Result<Vec<u8>, OpenFault>
+        ensures opened { IfOk result (λ plain.
+            Opens (profile_of self.now.key) self.now.key.bytes self.now.usage text.now plain.items) }
+        // A text that opens is answered by its plain text, memory aside.
+        ensures found { (plain : List ℕ)
+            → Opens (profile_of self.now.key) self.now.key.bytes self.now.usage text.now plain
+            → MatchResult result
+            (λ answer. answer.items ≡ plain) (λ fault. fault ≡ OpenFault.OutOfMemory) }
+        // Short or Integrity is answered exactly where nothing opens.
+        ensures refused { (IsErrOf result OpenFault.Short ⊎ IsErrOf result OpenFault.Integrity)
+            ↔ OpensToNothing (profile_of self.now.key) self.now.key.bytes self.now.usage text.now }
+        ensures short { IsErrOf result OpenFault.Short ↔ IsShort (profile_of self.now.key) text.now }
+        ensures integrity { IsErrOf result OpenFault.Integrity
+            ↔ ((16 + (profile_of self.now.key).tag_len ≤ length text.now)
+            × (HasTag (profile_of self.now.key) self.now.key.bytes self.now.usage text.now → ⊥)) }
+        ensures memory { IsErrOf result OpenFault.OutOfMemory
+            → (16 + (profile_of self.now.key).tag_len ≤ length text.now)
+            × HasTag (profile_of self.now.key) self.now.key.bytes self.now.usage text.now }
+    {
+        let tag_len = self.tag_len();
+        if text.len() < CONFOUNDER_LEN + tag_len {
+            return Err(OpenFault::Short);
+        }
+        let (body, end) = text.split_at(text.len() - tag_len);
+        if !self.tag(body).is(end) {
+            return Err(OpenFault::Integrity);
+        }
+        Ok(decrypted(alloc, self.schedule(), body)?)
+    }
+
+    fn schedule(&self) -> &KeySchedule
+        ensures { result.now
+            ≡ encryption_key (profile_of self.now.key) self.now.key.bytes self.now.usage }
+    {
+        &self.schedule
+    }
+
+    fn tag_len(&self) -> usize
+        ensures value { result ≡ (profile_of self.now.key).tag_len }
+        ensures most { result ≤ 24 }
+    {
+        match &self.bytes {
+            KeyBytes::Short(..) => 16,
+            KeyBytes::Long(..) => 24,
+        }
+    }
+
+    #[tactic(auto, unfolding(crate::specs::Sealed::tag_of, krb_kdf::specs::Hmac::hmac))]
+    fn tag(&self, text: &[u8]) -> Tag
+        ensures { result
+            ≡ tag_of (profile_of self.now.key) self.now.key.bytes self.now.usage text.now }
+    {
+        match &self.bytes {
+            KeyBytes::Short(_, mac) => Tag::new(&mac.code(&[&INITIAL_VECTOR, text])[..16]),
+            KeyBytes::Long(_, mac) => Tag::new(&mac.code(&[&INITIAL_VECTOR, text])[..24]),
+        }
+    }
+}

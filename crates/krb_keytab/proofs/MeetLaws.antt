@@ -1,0 +1,219 @@
+-- What a reader meets where whole records end, and what it has at hand then.
+use Rattle.std.proofs.Common.{◌≡◌, ℕ, ℤ, pos, negsuc, neg_ℤ, ◌+◌, ◌-◌, ◌<◌, ◌≤◌, ◌^◌, Bool, true, false, List, [], ◌∷◌, ◌++◌, length, take, Option, Some, None, Result, Ok, Err, refl, sym, ap, subst, ◌∙◌, append_assoc, append-nil, to_z, of_z, arith, inl, inr}
+use Rattle.std.specs.Int.{w32}
+use Rattle.std.specs.Prelude.{FitsSigned, unsigned_abs, int_lt, max, IfOk, OnErr}
+use Rattle.std.specs.Io.KnownBytes.{Consumes, IsAtEnd}
+use Rattle.std.proofs.KnownBytes.{Consumes-trans}
+use Rattle.std.proofs.Math.Seq.{take-append-add}
+use Rattle.std.proofs.lemmas.Bool.{ltb-true}
+use Rattle.std.proofs.lemmas.Int.{to_z-of_z}
+use Rattle.std.proofs.lemmas.List.{length-append, length-take, nil_from_length}
+use Rattle.krb_name.specs.Cursor.{Place, signed_at, signed_bytes}
+use Rattle.krb_name.specs.Field.{IsBytes}
+use Rattle.krb_name.specs.Window.{AtHand, CameOf, Fills}
+use Rattle.krb_name.specs.declared.reading.ReadFault.{ReadFault}
+use Rattle.krb_name.proofs.CursorLaws.{IsField-i32}
+use Rattle.krb_keytab.specs.Entry.{KeytabEntry}
+use Rattle.krb_keytab.specs.Format.{file_limit, hole, entry, entry_bytes}
+use Rattle.krb_keytab.specs.Items.{LacksRecord, IsPartOfRecord}
+use Rattle.krb_keytab.specs.Inner.Entry.{entry_at}
+use Rattle.krb_keytab.specs.Inner.Meeting.{Peaks, RanOut, IsWhole, IsLastAt, IsLongAt, IsFewAt, kept_of, MeetsSize, MeetsSizeAt, MeetsBody, MeetsOne, Meets}
+use Rattle.krb_keytab.specs.declared.fault.KeytabFault.{KeytabFault}
+use Rattle.krb_keytab.specs.declared.fault.KeytabFault.TheVariants.{Version, Truncated, BadEntry, TooLong, NoSuchEntry, Read, OutOfMemory}
+use Rattle.krb_keytab.specs.declared.found.Found.{Found}
+use Rattle.krb_keytab.proofs.EntryLaws.{take_entry, again_entry}
+use Rattle.krb_keytab.proofs.RecordLaws.{short_size}
+use Rattle.krb_name.specs.declared.cursor.Short.{Short}
+
+-- ---- a source that runs out
+
+pub cut_behind : (first later : List ℕ) (room : ℕ) → length first ≤ room → take room (first ++ later) ≡ first ++ take (room - length first) later
+cut_behind first later room fits = ap (λ (n : ℕ). take n (first ++ later)) (omega arith) ∙ take-append-add first later (room - length first)
+
+pub cut_length : (first later : List ℕ) (room : ℕ) → length first ≤ room → length (first ++ take (room - length first) later) ≤ room
+cut_length first later room fits = omega (arith, length-append first (take (room - length first) later), length-take (room - length first) later)
+
+-- no record stands behind, whatever came after the first bytes
+pub ran : {T : Type 0} (P : Result T KeytabFault → Type 0) (last answer : Result T KeytabFault) (left : Option (List ℕ)) (at given : ℕ) (first later : List ℕ) (why : Option KeytabFault)
+    → RanOut last answer left given → at + length first ≤ file_limit → given ≡ at + length (first ++ later) → ((more : List ℕ) → at + length (first ++ more) ≤ file_limit → LacksRecord at why (first ++ more))
+    → (IsLastAt left at (first ++ later) why → P last) → (IsLongAt at (first ++ later) → P (Err TooLong)) → P (Err Read) → P answer
+ran P last answer left at given first later why r fits g lacks ok long failed =
+    let room : length first ≤ file_limit - at = omega arith in
+    elim r [
+      | inl ended ↦ let within : at + length (first ++ later) ≤ file_limit = omega (arith, g, ended.1) in subst P (sym ended.0) (ok (record { limit = within; all = ended.2; lacks = lacks later within }))
+      | inr other ↦ elim other [
+        | inl past ↦ subst P (sym past.0) (long (record {
+          long = omega (arith, g, past.1);
+          last = why;
+          lacks = subst (LacksRecord at why) (sym (cut_behind first later (file_limit - at) room)) (lacks (take (file_limit - at - length first) later) (omega (arith, fits, cut_length first later (file_limit - at) room)));
+        }))
+        | inr read ↦ subst P (sym read) failed
+      ]
+    ]
+
+-- ---- the size of a record
+
+pub size_is : (bytes : List ℕ) (size : ℤ) (after : Place) → IsBytes bytes → length bytes ≤ 4 → signed_at w32 (record { at = 0; rest = bytes }) ≡ Some (size, after) → (bytes ≡ signed_bytes w32 size) × FitsSigned w32 size
+size_is bytes size after fits few e =
+    let t = IsField-i32.takes (record { at = 0; rest = bytes }) size after fits e in
+    let none : after.rest ≡ [] = nil_from_length after.rest (omega (arith, ap length t.0.parts, length-append (signed_bytes w32 size) after.rest)) in
+    (t.0.parts ∙ ap (λ (t : List ℕ). signed_bytes w32 size ++ t) none ∙ append-nil (signed_bytes w32 size), t.1)
+
+-- a record of this size isn't there as a whole
+pub cut_off : (at : ℕ) (size : ℤ) (more : List ℕ) → FitsSigned w32 size → length more < unsigned_abs size → LacksRecord at (Some (Truncated at)) (signed_bytes w32 size ++ more)
+cut_off at size more fits short = (refl, inr (record { size = size; body = more; behind_is = refl; size_fits = fits; short = short }))
+
+-- ---- the rest of a record
+
+pub count_is : (size : ℤ) (count : ℕ) → FitsSigned w32 size → count ≡ unsigned_abs (to_z w32 (of_z w32 size)) → count ≡ unsigned_abs size
+count_is size count fits e = e ∙ ap unsigned_abs (to_z-of_z w32 size fits)
+
+pub hole_whole : (at : ℕ) (size : ℤ) (body : List ℕ) → FitsSigned w32 size → int_lt size (pos 0) ≡ true → length body ≡ unsigned_abs size → at + length (signed_bytes w32 size ++ body) ≤ file_limit → IsWhole at (signed_bytes w32 size ++ body) []
+hole_whole at (pos n) body fits negative e limit = let below = ltb-true n 0 negative in absurd (omega arith)
+hole_whole at (negsuc n) body fits negative e limit =
+    let small : n < 2 ^ 31 = fits.sfits in
+    record {
+      one = hole body;
+      fits = (omega (arith, e), omega (arith, e));
+      piece_is = ap (λ (k : ℕ). signed_bytes w32 (neg_ℤ (pos k)) ++ body) (sym e);
+      entries_are = refl;
+      limit = limit;
+    }
+
+pub entry_whole : (at : ℕ) (size : ℤ) (body : List ℕ) (e : KeytabEntry) → FitsSigned w32 size → int_lt size (pos 0) ≡ false → IsBytes body → length body ≡ unsigned_abs size → entry_at body ≡ Some e
+    → at + length (signed_bytes w32 size ++ body) ≤ file_limit → IsWhole at (signed_bytes w32 size ++ body) (e ∷ [])
+entry_whole at (negsuc n) body e fits positive bytes l read limit = absurd cc
+entry_whole at (pos n) body e fits positive bytes l read limit =
+    let held = take_entry body e bytes read in
+    let small : n < 2 ^ 31 = fits.sfits in
+    let size : pos n ≡ pos (length (entry_bytes e held.short_kvno held.rest)) = ap (λ (k : ℕ). pos k) (sym l ∙ ap length held.body_is) in
+    record {
+      one = entry e held.short_kvno held.rest;
+      fits = (held.is_entry, omega (arith, l, ap length held.body_is));
+      piece_is = ap (λ (k : ℤ). signed_bytes w32 k ++ body) size ∙ ap (λ (t : List ℕ). signed_bytes w32 (pos (length (entry_bytes e held.short_kvno held.rest))) ++ t) held.body_is;
+      entries_are = refl;
+      limit = limit;
+    }
+
+pub no_entry : (at : ℕ) (size : ℤ) (body more : List ℕ) → FitsSigned w32 size → int_lt size (pos 0) ≡ false → 0 < unsigned_abs size → length body ≡ unsigned_abs size → entry_at body ≡ None
+    → LacksRecord at (Some (BadEntry at)) ((signed_bytes w32 size ++ body) ++ more)
+no_entry at (negsuc n) body more fits positive some l read = absurd cc
+no_entry at (pos n) body more fits positive some l read =
+    let small : n < 2 ^ 31 = fits.sfits in (
+      refl,
+      record {
+        body = body;
+        others = more;
+        behind_is = append_assoc (signed_bytes w32 (pos n)) body more ∙ ap (λ (k : ℕ). signed_bytes w32 (pos k) ++ (body ++ more)) (sym l);
+        size = omega (arith, l);
+        size_fits = omega (arith, l);
+        no_entry = λ made short_kvno rest is_entry same. none_and_some (entry_at body) made read (ap entry_at same ∙ again_entry made short_kvno rest is_entry);
+      },
+    )
+  where
+    none_and_some : (read : Option KeytabEntry) (made : KeytabEntry) → read ≡ None → read ≡ Some made → ⊥
+    none_and_some read made p q = cc
+
+-- ---- what is at hand
+
+pub peaks_at : (IsPart : List ℕ → Type 0) (piece part after : List ℕ) (old new : ℕ) (bytes : List ℕ) → piece ≡ part ++ after → IsPart part → bytes ≡ part → length part ≤ file_limit → new ≡ max old (length bytes) → Peaks IsPart piece old new
+peaks_at IsPart piece part after old new bytes parts p e fits peak = record {
+  part = part;
+  after = after;
+  piece_is = parts;
+  is_part = p;
+  peak = omega (arith, peak, ap length e);
+  low = λ l. omega (arith, peak, ap length e, fits, l);
+}
+
+-- the size and no more of a hole, or the size and more of a record
+is_part : (size : ℤ) (part : List ℕ) → length part ≤ kept_of size → IsPartOfRecord (signed_bytes w32 size ++ part)
+is_part (pos n) part few = inr (n, part, refl, few)
+is_part (negsuc n) part few = inl (omega (arith, few, length-append (signed_bytes w32 (negsuc n)) part))
+
+pub kept_is : (size : ℤ) → int_lt size (pos 0) ≡ false → kept_of size ≡ unsigned_abs size
+kept_is (pos n) positive = refl
+kept_is (negsuc n) positive = absurd cc
+
+pub peaks_on : (size : ℤ) (later : List ℕ) (old mid new : ℕ) → Peaks (λ part. length part ≤ 4) (signed_bytes w32 size) old mid → Peaks (λ part. length part ≤ kept_of size) later mid new → Peaks IsPartOfRecord (signed_bytes w32 size ++ later) old new
+peaks_on size later old mid new p q = record {
+  part = signed_bytes w32 size ++ q.part;
+  after = q.after;
+  piece_is = ap (λ (t : List ℕ). signed_bytes w32 size ++ t) q.piece_is ∙ sym (append_assoc (signed_bytes w32 size) q.part q.after);
+  is_part = is_part size q.part q.is_part;
+  peak = omega (arith, p.peak, q.peak, p.is_part, length-append (signed_bytes w32 size) q.part);
+  low = λ l. q.low (p.low l);
+}
+
+pub peaks_kept : (IsPart : List ℕ → Type 0) (piece : List ℕ) (old new : ℕ) → IsPart [] → new ≡ old → Peaks IsPart piece old new
+peaks_kept IsPart piece old new p e = record { part = []; after = piece; piece_is = refl; is_part = p; peak = omega (arith, e); low = λ l. omega (arith, e, l) }
+
+-- ---- fewer bytes than a size has
+
+none_more : (at : ℕ) (few more : List ℕ) → at + length few ≡ file_limit → at + length (few ++ more) ≤ file_limit → few ++ more ≡ few
+none_more at few more all within = ap (λ (t : List ℕ). few ++ t) (nil_from_length more (omega (arith, length-append few more))) ∙ append-nil few
+
+-- the source ended behind them
+pub few_last : (left : Option (List ℕ)) (at : ℕ) (few : List ℕ) (last : Result (Option ℤ) KeytabFault) → IsFewAt at few last → IsAtEnd left → at + length few ≤ file_limit → length few < 4 → MeetsSize left at few last
+few_last left at few (Ok None) f end within short = record { limit = within; all = end; lacks = inl f }
+few_last left at few (Ok (Some size)) f end within short = absurd f
+few_last left at few (Err (Truncated place)) f end within short = record { limit = within; all = end; lacks = (f.0, inl (f.1, short)) }
+few_last left at few (Err Version) f end within short = absurd f
+few_last left at few (Err (BadEntry place)) f end within short = absurd f
+few_last left at few (Err TooLong) f end within short = absurd f
+few_last left at few (Err NoSuchEntry) f end within short = absurd f
+few_last left at few (Err Read) f end within short = absurd f
+few_last left at few (Err OutOfMemory) f end within short = absurd f
+
+-- or a file has no more
+pub few_ran : (left : Option (List ℕ)) (at given : ℕ) (few later : List ℕ) (last answer : Result (Option ℤ) KeytabFault) → IsFewAt at few last → RanOut last answer left given
+    → at + length few ≡ file_limit → length few < 4 → given ≡ at + length (few ++ later) → MeetsSize left at (few ++ later) answer
+few_ran left at given few later (Ok None) answer f r all short g =
+    ran (MeetsSize left at (few ++ later)) (Ok None) answer left at given few later None r (omega (arith, all)) g (λ more within. inl (none_more at few more all within ∙ f)) (λ h. h) (λ h. h) tt
+few_ran left at given few later (Ok (Some size)) answer f r all short g = absurd f
+few_ran left at given few later (Err (Truncated place)) answer f r all short g =
+    ran (MeetsSize left at (few ++ later)) (Err (Truncated place)) answer left at given few later (Some (Truncated place)) r (omega (arith, all)) g
+    (λ more within. (f.0, inl (omega (arith, f.1, length-append few more), omega (arith, short, ap length (none_more at few more all within))))) (λ h. h) (λ h. h) tt
+few_ran left at given few later (Err Version) answer f r all short g = absurd f
+few_ran left at given few later (Err (BadEntry place)) answer f r all short g = absurd f
+few_ran left at given few later (Err TooLong) answer f r all short g = absurd f
+few_ran left at given few later (Err NoSuchEntry) answer f r all short g = absurd f
+few_ran left at given few later (Err Read) answer f r all short g = absurd f
+few_ran left at given few later (Err OutOfMemory) answer f r all short g = absurd f
+
+-- ---- the size at hand
+
+pub size_read : (bytes : List ℕ) (start after : Place) (read : Result ℤ Short) → IsBytes bytes → length bytes ≤ 4 → start ≡ record { at = 0; rest = bytes } → IfOk read (λ size. signed_at w32 start ≡ Some (size, after))
+    → IfOk read (λ size. (bytes ≡ signed_bytes w32 size) × FitsSigned w32 size)
+size_read bytes start after (Err short) fits few e h = h
+size_read bytes start after (Ok size) fits few e h = size_is bytes size after fits few (sym (ap (signed_at w32) e) ∙ h)
+
+pub size_short : (bytes : List ℕ) (start : Place) (read : Result ℤ Short) → start ≡ record { at = 0; rest = bytes } → OnErr read (signed_at w32 start ≡ None) → OnErr read (length bytes < 4)
+size_short bytes start (Ok size) e h = h
+size_short bytes start (Err short) e h = short_size (record { at = 0; rest = bytes }) (sym (ap (signed_at w32) e) ∙ h)
+
+came_within : {E : Type 0} (answer : Result Bool E) (count : ℕ) (piece : List ℕ) (to : Option (List ℕ)) → CameOf answer count piece to → length piece ≤ count
+came_within (Ok true) count piece to came = omega (arith, came)
+came_within (Ok false) count piece to came = omega (arith, came.0)
+came_within (Err fault) count piece to came = omega (arith, came)
+
+pub fills_within : {S : Type 0} (from to : Option (List ℕ)) (old new : AtHand S) (count : ℕ) (answer : Result Bool ReadFault) (f : Fills from to old new count answer) → length f.piece ≤ count
+fills_within from to old new count answer f = came_within answer count f.piece to f.came
+
+-- ---- a record
+
+pub record_met : {S : Type 0} (from mid to : Option (List ℕ)) (old between new : AtHand S) (at : ℕ) (size : ℤ) (answer : Result Found KeytabFault) → MeetsSizeAt from mid old between (Ok (Some size)) → at ≡ old.given
+    → MeetsBody mid to between new at (to_z w32 (of_z w32 size)) answer → MeetsOne from to old new answer
+record_met from mid to old between new at size answer first is handed =
+    let behind = subst (λ (z : ℤ). MeetsBody mid to between new at z answer) (to_z-of_z w32 size first.meets.fits) handed in
+    let word : List ℕ = signed_bytes w32 size in
+    let whole = Consumes-trans from mid to first.piece behind.piece first.moves.consumed behind.moves.consumed in
+    record {
+      piece = word ++ behind.piece;
+      moves = record {
+        consumed = subst (λ (t : List ℕ). Consumes from to (t ++ behind.piece)) first.meets.piece_is whole;
+        given = omega (arith, first.moves.given, behind.moves.given, ap length first.meets.piece_is, length-append word behind.piece);
+      };
+      peaks = peaks_on size behind.piece old.peak between.peak new.peak (subst (λ (t : List ℕ). Peaks (λ part. length part ≤ 4) t old.peak between.peak) first.meets.piece_is first.peaks) behind.peaks;
+      meets = subst (λ (n : ℕ). Meets to n (word ++ behind.piece) answer) is behind.meets;
+    }

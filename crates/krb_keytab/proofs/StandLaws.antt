@@ -1,0 +1,286 @@
+-- Where a reader stands after what it met.
+use Rattle.std.proofs.Common.{◌≡◌, ℕ, ◌-◌, ◌≤◌, List, [], ◌∷◌, ◌++◌, length, take, Option, Some, None, Result, Ok, Err, refl, sym, ap, subst, ◌∙◌, append_assoc, append-nil, arith, inl, inr}
+use Rattle.std.specs.List.{flat_map}
+use Rattle.std.specs.Io.KnownBytes.{Consumes}
+use Rattle.std.proofs.KnownBytes.{Consumes-nil, Consumes-trans}
+use Rattle.std.proofs.lemmas.Bool.{cases_lt}
+use Rattle.std.proofs.lemmas.List.{length-append, take_at}
+use Rattle.std.proofs.lemmas.List.Elements.{All-push}
+use Rattle.krb_name.specs.Window.{AtHand}
+use Rattle.krb_keytab.specs.Entry.{KeytabEntry}
+use Rattle.krb_keytab.specs.Format.{version, file_limit, record_bytes, FitsRecord, entries_of, IsReached}
+use Rattle.krb_keytab.specs.Items.{LacksVersion, LacksRecord, Stops, StopsSo, IsTooLong, Concludes, AreFirst, StandsTo, IsPartOfRecord, HasMet, HasRead, EntriesRead, stage_after, entries_after, GivesMore}
+use Rattle.krb_keytab.specs.Inner.Meeting.{Moves, Peaks, RanOut, OpensAt, MeetsVersion, IsWhole, IsLastAt, IsLongAt, Meets, MeetsOne, PassesHoles, MeetsNext, MeetsFirst, IsWithin}
+use Rattle.krb_keytab.specs.declared.fault.KeytabFault.{KeytabFault}
+use Rattle.krb_keytab.specs.declared.fault.KeytabFault.TheVariants.{Version, Truncated, BadEntry, TooLong, NoSuchEntry, Read, OutOfMemory}
+use Rattle.krb_keytab.specs.declared.found.Found.{Found}
+use Rattle.krb_keytab.specs.declared.found.Found.TheVariants.{End, Hole, Entry}
+use Rattle.krb_keytab.specs.declared.stage.Stage.{Stage}
+use Rattle.krb_keytab.specs.declared.stage.Stage.TheVariants.{Start, Records}
+use Rattle.krb_keytab.proofs.FileLaws.{reach_start, record_first}
+use Rattle.krb_keytab.proofs.ScanLaws.{flat_push}
+use Rattle.krb_keytab.proofs.MeetLaws.{cut_behind}
+
+-- ---- whole records, and what lies behind them
+
+module _ (bytes : List ℕ) (entries : List KeytabEntry) (reached : IsReached bytes (length bytes) entries []) where
+  pub reach_piece : (piece : List ℕ) → IsReached (bytes ++ piece) (length bytes) entries piece
+  reach_piece piece =
+      let front : List ℕ = flat_map record_bytes reached.records in
+      record {
+        records = reached.records;
+        fit = reached.fit;
+        bytes_are = ap (λ (t : List ℕ). t ++ piece) (reached.bytes_are ∙ ap (λ (t : List ℕ). version ++ t) (append-nil front));
+        at_is = reached.at_is;
+        entries_are = reached.entries_are;
+      }
+
+  pub reach_whole : (piece : List ℕ) (more : List KeytabEntry) → IsWhole (length bytes) piece more → IsReached (bytes ++ piece) (length (bytes ++ piece)) (entries ++ more) []
+  unfolding reach_piece
+  reach_whole piece more w =
+      let front : List ℕ = flat_map record_bytes reached.records in
+      let flat : flat_map record_bytes (reached.records ++ w.one ∷ []) ≡ front ++ record_bytes w.one = flat_push record_bytes reached.records w.one in
+      let behind = reach_piece piece in
+      record {
+        records = reached.records ++ w.one ∷ [];
+        fit = All-push FitsRecord reached.records w.one reached.fit w.fits;
+        bytes_are = behind.bytes_are ∙ ap (λ (t : List ℕ). version ++ t) (ap (λ (t : List ℕ). front ++ t) w.piece_is ∙ sym flat ∙ sym (append-nil (flat_map record_bytes (reached.records ++ w.one ∷ []))));
+        at_is = omega (arith, length-append bytes piece, reached.at_is, ap length w.piece_is, ap length flat, length-append front (record_bytes w.one));
+        entries_are = ap (λ (t : List KeytabEntry). t ++ more) reached.entries_are ∙ ap (λ (t : List KeytabEntry). flat_map entries_of reached.records ++ t) w.entries_are ∙ sym (flat_push entries_of reached.records w.one);
+      }
+
+  stops_so : (some : List ℕ) (last : Option KeytabFault) → Stops some entries last → StopsSo some entries last
+  stops_so some None s = s
+  stops_so some (Some (Truncated at)) s = s
+  stops_so some (Some (BadEntry at)) s = s
+  stops_so some (Some Version) s = absurd s.lacks
+  stops_so some (Some TooLong) s = s
+  stops_so some (Some NoSuchEntry) s = s
+  stops_so some (Some Read) s = s
+  stops_so some (Some OutOfMemory) s = s
+
+  stops_at : (piece : List ℕ) (last : Option KeytabFault) → LacksRecord (length bytes) last piece → StopsSo (bytes ++ piece) entries last
+  stops_at piece last lacks = stops_so (bytes ++ piece) last (record { at = length bytes; behind = piece; reached = reach_piece piece; lacks = lacks })
+
+  concludes : (left : Option (List ℕ)) (piece : List ℕ) (last : Option KeytabFault) → IsLastAt left (length bytes) piece last → Concludes left (bytes ++ piece) entries last
+  concludes left piece last l = record { limit = omega (arith, l.limit, length-append bytes piece); all = l.all; stops = stops_at piece last l.lacks }
+
+  too_long : (piece : List ℕ) → length bytes ≤ file_limit → IsLongAt (length bytes) piece → IsTooLong (bytes ++ piece) entries
+  too_long piece within l = record {
+    long = omega (arith, l.long, length-append bytes piece);
+    last = l.last;
+    stops = subst (λ (t : List ℕ). StopsSo t entries l.last) (sym (cut_behind bytes piece file_limit within)) (stops_at (take (file_limit - length bytes) piece) l.last l.lacks);
+  }
+
+  first : (piece : List ℕ) → AreFirst (bytes ++ piece) entries
+  first piece = inr (length bytes, piece, reach_piece piece)
+
+  pub failed_stands : (left : Option (List ℕ)) (piece : List ℕ) (fault : KeytabFault) → length bytes ≤ file_limit → Meets left (length bytes) piece (Err fault) → StandsTo left (stage_after (Err fault)) (bytes ++ piece) entries
+  failed_stands left piece Version within m = absurd m.lacks
+  failed_stands left piece (Truncated at) within m = concludes left piece (Some (Truncated at)) m
+  failed_stands left piece (BadEntry at) within m = concludes left piece (Some (BadEntry at)) m
+  failed_stands left piece TooLong within m = too_long piece within m
+  failed_stands left piece NoSuchEntry within m = absurd m.lacks
+  failed_stands left piece Read within m = first piece
+  failed_stands left piece OutOfMemory within m = first piece
+
+  pub end_stands : (left : Option (List ℕ)) (piece : List ℕ) → Meets left (length bytes) piece (Ok End) → StandsTo left (stage_after (Ok None)) (bytes ++ piece) entries
+  end_stands left piece m = concludes left piece None m
+
+  pub entry_stands : (left : Option (List ℕ)) (piece : List ℕ) (e : KeytabEntry) → Meets left (length bytes) piece (Ok (Entry e)) → StandsTo left (stage_after (Ok (Some e))) (bytes ++ piece) (entries ++ e ∷ [])
+  entry_stands left piece e m = (omega (arith, m.limit, length-append bytes piece), reach_whole piece (e ∷ []) m)
+
+-- ---- what is at hand
+
+met_before : (bytes piece : List ℕ) (old new : ℕ) → new ≤ old → HasMet bytes old → HasMet (bytes ++ piece) new
+met_before bytes piece old new lower m = record {
+  before = m.before;
+  part = m.part;
+  after = m.after ++ piece;
+  bytes_are = ap (λ (t : List ℕ). t ++ piece) m.bytes_are ∙ append_assoc m.before (m.part ++ m.after) piece ∙ ap (λ (t : List ℕ). m.before ++ t) (append_assoc m.part m.after piece);
+  enough = omega (arith, lower, m.enough);
+  one = m.one;
+}
+
+pub met_record : (bytes piece : List ℕ) (entries : List KeytabEntry) (old new : ℕ) → IsReached bytes (length bytes) entries [] → Peaks IsPartOfRecord piece old new → HasMet bytes old → HasMet (bytes ++ piece) new
+met_record bytes piece entries old new reached p m =
+    elim (cases_lt old new) [
+      | inl higher ↦ record {
+        before = bytes;
+        part = p.part;
+        after = p.after;
+        bytes_are = ap (λ (t : List ℕ). bytes ++ t) p.piece_is;
+        enough = omega (arith, higher, p.peak);
+        one = inr ((entries, reached), p.is_part);
+      }
+      | inr lower ↦ met_before bytes piece old new lower m
+    ]
+
+pub met_version : (piece : List ℕ) (old new : ℕ) → Peaks (λ part. length part ≤ 2) piece old new → HasMet [] old → HasMet piece new
+met_version piece old new p m =
+    elim (cases_lt old new) [
+      | inl higher ↦ record { before = []; part = p.part; after = p.after; bytes_are = p.piece_is; enough = omega (arith, higher, p.peak); one = inl (refl, p.is_part) }
+      | inr lower ↦ met_before [] piece old new lower m
+    ]
+
+-- ---- the version
+
+pub lacks_more : (two more : List ℕ) → length two ≡ 2 → LacksVersion two → LacksVersion (two ++ more)
+lacks_more two more size lacks = λ others e. lacks [] (sym (take_at two more 2 size) ∙ ap (take 2) e)
+
+pub version_ran : (left : Option (List ℕ)) (given : ℕ) (two later : List ℕ) (answer : Result Unit KeytabFault) → RanOut (Err Version) answer left given → given ≡ length (two ++ later) → length two ≡ 2 → LacksVersion two → MeetsVersion left (two ++ later) answer
+version_ran left given two later answer r g size lacks =
+    elim r [
+      | inl ended ↦ subst (MeetsVersion left (two ++ later)) (sym ended.0) (omega (arith, g, ended.1), ended.2, lacks_more two later size lacks)
+      | inr other ↦ elim other [
+        | inl past ↦ subst (MeetsVersion left (two ++ later)) (sym past.0) (omega (arith, g, past.1), subst LacksVersion (sym (cut_behind two later file_limit (omega (arith, size)))) (lacks_more two (take (file_limit - length two) later) size lacks))
+        | inr read ↦ subst (MeetsVersion left (two ++ later)) (sym read) tt
+      ]
+    ]
+
+-- ---- holes, and then another answer
+
+pub passes_none : {S : Type 0} (from : Option (List ℕ)) (window : AtHand S) → window.given ≤ file_limit → PassesHoles from from window window
+passes_none from window limit = record {
+  piece = [];
+  moves = record { consumed = Consumes-nil from; given = omega arith };
+  limit = limit;
+  low = λ l. l;
+  reaches = λ bytes entries given reached. subst (λ (t : List ℕ). IsReached t (length t) entries []) (sym (append-nil bytes)) reached;
+  met = λ bytes entries given reached m. subst (λ (t : List ℕ). HasMet t window.peak) (sym (append-nil bytes)) m;
+}
+
+moves_on : {S : Type 0} (from mid to : Option (List ℕ)) (old between new : AtHand S) (p q : List ℕ) → Moves from mid old between p → Moves mid to between new q → Moves from to old new (p ++ q)
+moves_on from mid to old between new p q m n = record { consumed = Consumes-trans from mid to p q m.consumed n.consumed; given = omega (arith, m.given, n.given, length-append p q) }
+
+come : {S : Type 0} (from mid : Option (List ℕ)) (old between : AtHand S) (bytes p : List ℕ) → Moves from mid old between p → old.given ≡ length bytes → between.given ≡ length (bytes ++ p)
+come from mid old between bytes p m g = omega (arith, m.given, g, length-append bytes p)
+
+pub passes_hole : {S : Type 0} (from mid to : Option (List ℕ)) (old between new : AtHand S) → PassesHoles from mid old between → MeetsOne mid to between new (Ok Hole) → PassesHoles from to old new
+passes_hole from mid to old between new h m = record {
+  piece = h.piece ++ m.piece;
+  moves = moves_on from mid to old between new h.piece m.piece h.moves m.moves;
+  limit = omega (arith, m.meets.limit, m.moves.given);
+  low = λ l. m.peaks.low (h.low l);
+  reaches = λ bytes entries given reached.
+      let some : List ℕ = bytes ++ h.piece in
+      let whole = subst (λ (n : ℕ). IsWhole n m.piece []) (come from mid old between bytes h.piece h.moves given) m.meets in
+      let more = reach_whole some entries (h.reaches bytes entries given reached) m.piece [] whole in
+      subst (λ (t : List ℕ). IsReached t (length t) entries []) (append_assoc bytes h.piece m.piece) (subst (λ (e : List KeytabEntry). IsReached (some ++ m.piece) (length (some ++ m.piece)) e []) (append-nil entries) more);
+  met = λ bytes entries given reached was.
+      subst (λ (t : List ℕ). HasMet t new.peak) (append_assoc bytes h.piece m.piece)
+      (met_record (bytes ++ h.piece) m.piece entries between.peak new.peak (h.reaches bytes entries given reached) m.peaks (h.met bytes entries given reached was));
+}
+
+next_by : {S : Type 0} (from mid to : Option (List ℕ)) (old between new : AtHand S) (found : Result Found KeytabFault) (answer : Result (Option KeytabEntry) KeytabFault) → PassesHoles from mid old between → (m : MeetsOne mid to between new found)
+    → IsWithin (stage_after answer) new.given → GivesMore answer old.given new.given
+    → ((some : List ℕ) (entries : List KeytabEntry) → IsReached some (length some) entries [] → length some ≤ file_limit → Meets to (length some) m.piece found → StandsTo to (stage_after answer) (some ++ m.piece) (entries_after entries answer))
+    → MeetsNext from to old new answer
+next_by from mid to old between new found answer h m within more ends = record {
+  piece = h.piece ++ m.piece;
+  moves = moves_on from mid to old between new h.piece m.piece h.moves m.moves;
+  low = λ l. m.peaks.low (h.low l);
+  within = within;
+  more = more;
+  stands = λ bytes entries given limit reached.
+      let some : List ℕ = bytes ++ h.piece in
+      let here = come from mid old between bytes h.piece h.moves given in
+      subst (λ (t : List ℕ). StandsTo to (stage_after answer) t (entries_after entries answer)) (append_assoc bytes h.piece m.piece)
+      (ends some entries (h.reaches bytes entries given reached) (omega (arith, here, h.limit)) (subst (λ (n : ℕ). Meets to n m.piece found) here m.meets));
+  met = λ bytes entries given reached was.
+      subst (λ (t : List ℕ). HasMet t new.peak) (append_assoc bytes h.piece m.piece)
+      (met_record (bytes ++ h.piece) m.piece entries between.peak new.peak (h.reaches bytes entries given reached) m.peaks (h.met bytes entries given reached was));
+}
+
+pub next_end : {S : Type 0} (from mid to : Option (List ℕ)) (old between new : AtHand S) → PassesHoles from mid old between → MeetsOne mid to between new (Ok End) → MeetsNext from to old new (Ok None)
+next_end from mid to old between new h m = next_by from mid to old between new (Ok End) (Ok None) h m tt tt (λ some entries reached limit meets. end_stands some entries reached to m.piece meets)
+
+pub next_entry : {S : Type 0} (from mid to : Option (List ℕ)) (old between new : AtHand S) (e : KeytabEntry) → PassesHoles from mid old between → MeetsOne mid to between new (Ok (Entry e)) → MeetsNext from to old new (Ok (Some e))
+next_entry from mid to old between new e h m =
+    next_by from mid to old between new (Ok (Entry e)) (Ok (Some e)) h m (omega (arith, m.meets.limit, m.moves.given)) (omega (arith, m.moves.given, h.moves.given, ap length m.meets.piece_is, record_first m.meets.one), omega (arith, m.meets.limit, m.moves.given)) (λ some entries reached limit meets. entry_stands some entries reached to m.piece e meets)
+
+pub next_fault : {S : Type 0} (from mid to : Option (List ℕ)) (old between new : AtHand S) (fault : KeytabFault) → PassesHoles from mid old between → MeetsOne mid to between new (Err fault) → MeetsNext from to old new (Err fault)
+next_fault from mid to old between new fault h m =
+    next_by from mid to old between new (Err fault) (Err fault) h m tt tt (λ some entries reached limit meets. failed_stands some entries reached to m.piece fault limit meets)
+
+-- ---- the first answer
+
+more_after : (old between new : ℕ) (answer : Result (Option KeytabEntry) KeytabFault) → old ≤ between → GivesMore answer between new → GivesMore answer old new
+more_after old between new (Ok (Some e)) within more = (omega (arith, within, more.0), more.1)
+more_after old between new (Ok None) within more = tt
+more_after old between new (Err fault) within more = tt
+
+pub first_next : {S : Type 0} (from mid to : Option (List ℕ)) (old between new : AtHand S) (opened : Unit) (answer : Result (Option KeytabEntry) KeytabFault) → OpensAt from mid old between (Ok opened) → old.given ≡ 0
+    → MeetsNext mid to between new answer → MeetsFirst from to old new answer
+first_next from mid to old between new opened answer o start n =
+    let here : between.given ≡ length o.piece = omega (arith, o.moves.given, start) in
+    let few : length o.piece ≡ 2 = ap length o.meets in
+    let reached : IsReached o.piece (length o.piece) [] [] = subst (λ (t : List ℕ). IsReached t (length t) [] []) (sym o.meets) (reach_start version [] refl) in
+    record {
+      piece = o.piece ++ n.piece;
+      moves = moves_on from mid to old between new o.piece n.piece o.moves n.moves;
+      low = λ l. n.low (o.peaks.low l);
+      within = n.within;
+      more = more_after old.given between.given new.given answer (omega (arith, start)) n.more;
+      stands = n.stands o.piece [] here (omega (arith, few)) reached;
+      met = λ m. n.met o.piece [] here reached (met_version o.piece old.peak between.peak o.peaks m);
+    }
+
+version_stands : (left : Option (List ℕ)) (piece : List ℕ) (fault : KeytabFault) → MeetsVersion left piece (Err fault) → StandsTo left (stage_after (Err fault)) piece []
+version_stands left piece Version m = record { limit = m.0; all = m.1; stops = (refl, m.2) }
+version_stands left piece (Truncated at) m = absurd m
+version_stands left piece (BadEntry at) m = absurd m
+version_stands left piece TooLong m = record { long = m.0; last = Some Version; stops = (refl, m.1) }
+version_stands left piece NoSuchEntry m = absurd m
+version_stands left piece Read m = inl refl
+version_stands left piece OutOfMemory m = inl refl
+
+pub first_fault : {S : Type 0} (from to : Option (List ℕ)) (old new : AtHand S) (fault : KeytabFault) → OpensAt from to old new (Err fault) → MeetsFirst from to old new (Err fault)
+first_fault from to old new fault o = record {
+  piece = o.piece;
+  moves = o.moves;
+  low = o.peaks.low;
+  within = tt;
+  more = tt;
+  stands = version_stands to o.piece fault o.meets;
+  met = λ m. met_version o.piece old.peak new.peak o.peaks m;
+}
+
+pub opened_given : {S : Type 0} (from to : Option (List ℕ)) (old new : AtHand S) (opened : Unit) → OpensAt from to old new (Ok opened) → old.given ≡ 0 → new.given ≡ 2
+opened_given from to old new opened o start = omega (arith, o.moves.given, start, ap length o.meets)
+
+-- ---- what a reader has read
+
+pub read_first : {S : Type 0} (from to : Option (List ℕ)) (reader : EntriesRead S) (old new : AtHand S) (answer : Result (Option KeytabEntry) KeytabFault) → reader.stage ≡ Start → reader.held ≡ old.peak → MeetsFirst from to old new answer → old.given ≡ 0
+    → (bytes : List ℕ) (entries : List KeytabEntry) → HasRead from reader bytes entries
+    → (piece : List ℕ) × Consumes from to piece × HasRead to (record { source = new.source; held = new.peak; given = new.given; stage = stage_after answer }) (bytes ++ piece) (entries_after entries answer)
+read_first from to reader old new answer stage held m start bytes entries r =
+    let none = subst (λ (s : Stage). StandsTo from s bytes entries) stage r.stands in
+    let empty : bytes ++ m.piece ≡ m.piece = ap (λ (t : List ℕ). t ++ m.piece) none.0 in (
+      m.piece,
+      m.moves.consumed,
+      record {
+        given = omega (arith, m.moves.given, start, ap length empty);
+        stands = subst (λ (t : List ℕ). StandsTo to (stage_after answer) t (entries_after entries answer)) (sym empty) (subst (λ (e : List KeytabEntry). StandsTo to (stage_after answer) m.piece (entries_after e answer)) (sym none.1) m.stands);
+        held = subst (λ (t : List ℕ). HasMet t new.peak) (sym empty) (m.met (subst (λ (n : ℕ). HasMet [] n) held (subst (λ (t : List ℕ). HasMet t reader.held) none.0 r.held)));
+      },
+    )
+
+pub read_next : {S : Type 0} (from to : Option (List ℕ)) (reader : EntriesRead S) (old new : AtHand S) (answer : Result (Option KeytabEntry) KeytabFault) → reader.stage ≡ Records → reader.held ≡ old.peak → reader.given ≡ old.given → MeetsNext from to old new answer
+    → (bytes : List ℕ) (entries : List KeytabEntry) → HasRead from reader bytes entries
+    → (piece : List ℕ) × Consumes from to piece × HasRead to (record { source = new.source; held = new.peak; given = new.given; stage = stage_after answer }) (bytes ++ piece) (entries_after entries answer)
+read_next from to reader old new answer stage held given m bytes entries r =
+    let stands = subst (λ (s : Stage). StandsTo from s bytes entries) stage r.stands in
+    let here : old.given ≡ length bytes = sym given ∙ r.given in (
+      m.piece,
+      m.moves.consumed,
+      record {
+        given = omega (arith, m.moves.given, here, length-append bytes m.piece);
+        stands = m.stands bytes entries here stands.0 stands.1;
+        held = m.met bytes entries here stands.1 (subst (HasMet bytes) held r.held);
+      },
+    )
+
+-- the same answer, and no byte more
+pub read_again : {S : Type 0} (left : Option (List ℕ)) (reader : EntriesRead S) (bytes : List ℕ) (entries : List KeytabEntry) → HasRead left reader bytes entries → (piece : List ℕ) × Consumes left left piece × HasRead left reader (bytes ++ piece) entries
+read_again left reader bytes entries r = ([], Consumes-nil left, subst (λ (t : List ℕ). HasRead left reader t entries) (sym (append-nil bytes)) r)

@@ -1,0 +1,5 @@
+use Rattle.krb_keytab.proofs.OneReader.{same_before}
+use Rattle.krb_keytab.proofs.laws.each_reader_gives_the_same_entries.Goals as goal
+
+pub returns : goal.returns
+returns c = same_before

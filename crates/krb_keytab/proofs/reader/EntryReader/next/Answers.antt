@@ -1,0 +1,15 @@
+use Rattle.std.proofs.Common.{refl}
+use Rattle.krb_keytab.proofs.StandLaws.{read_first, read_next}
+use Rattle.krb_keytab.proofs.reader.EntryReader.next.Goals as goal
+use Rattle.krb_keytab.proofs.reader.EntryReader.next.Goals.{in-Start, in-Records}
+
+pub returns-clause-reads : goal.returns-clause-reads
+returns-clause-reads g c =
+    elim c.match-self.branch [
+      | in-Start w ↦
+          rw (c.after-self-inside.ensures, w.answer-is, w.self-inside-is, ← c.self.view_is)
+          (read_first _ _ _ _ _ w.read_first-answer.result w.in-Start.is refl w.read_first-answer.ensures.meets (rw w.in-Start.is at c.self.invariant.1))
+      | in-Records w ↦
+          rw (c.after-self-inside.ensures, w.answer-is, w.self-inside-is, ← c.self.view_is)
+          (read_next _ _ _ _ _ w.read_entry-answer.result w.in-Records.is refl refl w.read_entry-answer.ensures.meets)
+    ]

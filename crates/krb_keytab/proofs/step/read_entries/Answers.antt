@@ -1,0 +1,32 @@
+use Rattle.std.proofs.Common.{◌∙◌, add-zero, Option, Ok, subst}
+use Rattle.std.proofs.lemmas.Result.{err_from_is_err_and}
+use Rattle.krb_keytab.specs.Entry.{KeytabEntry}
+use Rattle.krb_keytab.specs.Inner.Meeting.{MeetsNext}
+use Rattle.krb_keytab.proofs.CollectLaws.{entry_taken, end_taken, next_faulty}
+use Rattle.krb_keytab.proofs.step.read_entries.Goals as goal
+
+pub returns-in_err-entry-clause-fault : goal.returns-in_err-entry-clause-fault
+returns-in_err-entry-clause-fault g c =
+    let p = err_from_is_err_and c.from_residual-in_err-entry.result c.from_residual-in_err-entry.ensures.1 in
+    rw (p.1, p.2) (next_faulty _ _ _ _ _ c.loop-entries.entries.items c.in_err-entry.field-0.0 c.loop-entries.invariant.taken c.loop-entries.invariant.limit c.in_err-entry.ensures.meets)
+
+pub loop-entries-preserved : goal.loop-entries-preserved
+loop-entries-preserved g c =
+    let from = g.S.Source.remaining c.args.window.now.source in
+    let mid = g.S.Source.remaining c.loop-entries.window.source in
+    let to = g.S.Source.remaining c.read_entry.new.window.source in
+    let meets = subst (λ (next : Option KeytabEntry). MeetsNext mid to c.loop-entries.window c.read_entry.new.window (Ok next)) c.in-Some.is c.in_ok-entry.ensures.meets in
+    record {
+      taken = entry_taken from mid to c.loop-entries.window c.read_entry.new.window c.loop-entries.entries.items c.push.new.self.items c.in-Some.entry c.loop-entries.invariant.taken c.loop-entries.invariant.limit meets c.in_ok-push.ensures.items;
+      limit = meets.within;
+      failures = rw add-zero at c.in_ok-entry.ensures.failed ∙ c.loop-entries.invariant.failures;
+      lent = c.in_ok-entry.ensures.lent ∙ c.loop-entries.invariant.lent;
+    }
+
+pub returns-clause-found : goal.returns-clause-found
+returns-clause-found g c =
+    let from = g.S.Source.remaining c.args.window.now.source in
+    let mid = g.S.Source.remaining c.loop-entries.window.source in
+    let to = g.S.Source.remaining c.read_entry.new.window.source in
+    let meets = subst (λ (next : Option KeytabEntry). MeetsNext mid to c.loop-entries.window c.read_entry.new.window (Ok next)) c.in_default.is c.in_ok-entry.ensures.meets in
+    end_taken from mid to c.loop-entries.window c.read_entry.new.window c.loop-entries.entries.items c.loop-entries.invariant.taken c.loop-entries.invariant.limit meets

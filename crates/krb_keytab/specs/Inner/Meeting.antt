@@ -1,0 +1,187 @@
+-- What a reader meets where whole records end, of the bytes that its source gives from there on.
+use Rattle.std.specs.Prelude.{◌≡◌, ◌≢◌, ◌⊎◌, ℕ, ◌+◌, ◌-◌, ◌<◌, ◌≤◌, ℤ, pos, negsuc, max, List, [], ◌∷◌, ◌++◌, length, take, Option, Some, None, Result, Ok, Err, ⊤, FitsSigned, unsigned_abs}
+use Rattle.std.specs.Int.{w32}
+use Rattle.std.specs.Io.KnownBytes.{Consumes, IsAtEnd}
+use Rattle.krb_name.specs.Cursor.{signed_bytes}
+use Rattle.krb_name.specs.Window.{AtHand}
+use Rattle.krb_keytab.specs.Entry.{KeytabEntry}
+use Rattle.krb_keytab.specs.Format.{version, file_limit, KeytabRecord, record_bytes, FitsRecord, entries_of, IsReached, IsKeytab, IsFaultOf}
+use Rattle.krb_keytab.specs.Source.{IsGiven}
+use Rattle.krb_keytab.specs.Items.{LacksRecord, LacksVersion, IsPartOfRecord, HasMet, StandsTo, stage_after, entries_after, GivesMore}
+use Rattle.krb_keytab.specs.declared.fault.KeytabFault.{KeytabFault}
+use Rattle.krb_keytab.specs.declared.fault.KeytabFault.TheVariants.{Version, Truncated, TooLong, Read, OutOfMemory}
+use Rattle.krb_keytab.specs.declared.found.Found.{Found}
+use Rattle.krb_keytab.specs.declared.found.Found.TheVariants.{End, Hole, Entry}
+use Rattle.krb_keytab.specs.declared.stage.Stage.{Stage}
+use Rattle.krb_keytab.specs.declared.stage.Stage.TheVariants as stage
+
+-- how far a reader that still reads has come
+abbrev pub IsWithin : Stage → ℕ → Type 0
+IsWithin stage.Start given = given ≡ 0
+IsWithin stage.Records given = given ≤ file_limit
+IsWithin stage.End given = ⊤
+IsWithin (stage.Failed fault) given = ⊤
+
+-- the source gave these bytes
+pub record Moves {S : Type 0} (from to : Option (List ℕ)) (old new : AtHand S) (piece : List ℕ) : Type 0 where
+  pub consumed : Consumes from to piece
+  pub given : new.given ≡ old.given + length piece
+
+-- the peak is no higher than it was, or than a part at their front
+pub record Peaks (IsPart : List ℕ → Type 0) (piece : List ℕ) (old new : ℕ) : Type 0 where
+  pub part : List ℕ
+  pub after : List ℕ
+  pub piece_is : piece ≡ part ++ after
+  pub is_part : IsPart part
+  pub peak : new ≤ max old (length part)
+  pub low : old ≤ file_limit → new ≤ file_limit
+
+-- the source was read to its end, or past the limit, behind what the last answer rests on; or a read failed
+abbrev pub RanOut : {T : Type 0} → Result T KeytabFault → Result T KeytabFault → Option (List ℕ) → ℕ → Type 0
+RanOut last answer left given = ((answer ≡ last) × (given ≤ file_limit) × IsAtEnd left) ⊎ (((answer ≡ Err TooLong) × (given ≡ file_limit + 1)) ⊎ (answer ≡ Err Read))
+
+pub record RunsOutTo {S T : Type 0} (from to : Option (List ℕ)) (old new : AtHand S) (last answer : Result T KeytabFault) : Type 0 where
+  pub piece : List ℕ
+  pub moves : Moves from to old new piece
+  pub peak : new.peak ≡ old.peak
+  pub ran : RanOut last answer to new.given
+
+-- ---- the version
+
+abbrev pub MeetsVersion : Option (List ℕ) → List ℕ → Result Unit KeytabFault → Type 0
+MeetsVersion left piece (Ok _) = piece ≡ version
+MeetsVersion left piece (Err Version) = (length piece ≤ file_limit) × IsAtEnd left × LacksVersion piece
+MeetsVersion left piece (Err TooLong) = (length piece ≡ file_limit + 1) × LacksVersion (take file_limit piece)
+MeetsVersion left piece (Err Read) = ⊤
+MeetsVersion left piece (Err OutOfMemory) = ⊤
+MeetsVersion left piece (Err _) = ⊥
+
+pub record OpensAt {S : Type 0} (from to : Option (List ℕ)) (old new : AtHand S) (answer : Result Unit KeytabFault) : Type 0 where
+  pub piece : List ℕ
+  pub moves : Moves from to old new piece
+  pub peaks : Peaks (λ part. length part ≤ 2) piece old.peak new.peak
+  pub meets : MeetsVersion to piece answer
+
+-- ---- a record
+
+pub record IsWhole (at : ℕ) (piece : List ℕ) (entries : List KeytabEntry) : Type 0 where
+  pub one : KeytabRecord
+  pub fits : FitsRecord one
+  pub piece_is : piece ≡ record_bytes one
+  pub entries_are : entries ≡ entries_of one
+  pub limit : at + length piece ≤ file_limit
+
+-- all bytes have come, and no record stands at the offset
+pub record IsLastAt (left : Option (List ℕ)) (at : ℕ) (piece : List ℕ) (last : Option KeytabFault) : Type 0 where
+  pub limit : at + length piece ≤ file_limit
+  pub all : IsAtEnd left
+  pub lacks : LacksRecord at last piece
+
+-- none stands there, and too many bytes have come
+pub record IsLongAt (at : ℕ) (piece : List ℕ) : Type 0 where
+  pub long : at + length piece ≡ file_limit + 1
+  pub last : Option KeytabFault
+  pub lacks : LacksRecord at last (take (file_limit - at) piece)
+
+abbrev pub MeetsLast : Option (List ℕ) → ℕ → List ℕ → Option KeytabFault → Type 0
+MeetsLast left at piece (Some TooLong) = IsLongAt at piece
+MeetsLast left at piece (Some Read) = ⊤
+MeetsLast left at piece (Some OutOfMemory) = ⊤
+MeetsLast left at piece last = IsLastAt left at piece last
+
+abbrev pub Meets : Option (List ℕ) → ℕ → List ℕ → Result Found KeytabFault → Type 0
+Meets left at piece (Ok End) = MeetsLast left at piece None
+Meets left at piece (Ok Hole) = IsWhole at piece []
+Meets left at piece (Ok (Entry e)) = IsWhole at piece (e ∷ [])
+Meets left at piece (Err fault) = MeetsLast left at piece (Some fault)
+
+pub record MeetsOne {S : Type 0} (from to : Option (List ℕ)) (old new : AtHand S) (answer : Result Found KeytabFault) : Type 0 where
+  pub piece : List ℕ
+  pub moves : Moves from to old new piece
+  pub peaks : Peaks IsPartOfRecord piece old.peak new.peak
+  pub meets : Meets to old.given piece answer
+
+-- ---- its size
+
+-- what is answered where fewer bytes than a size has are left
+abbrev pub IsFewAt : ℕ → List ℕ → Result (Option ℤ) KeytabFault → Type 0
+IsFewAt at few (Ok None) = few ≡ []
+IsFewAt at few (Err (Truncated place)) = (place ≡ at) × (0 < length few)
+IsFewAt at few _ = ⊥
+
+pub record IsSizeAt (at : ℕ) (piece : List ℕ) (size : ℤ) : Type 0 where
+  pub piece_is : piece ≡ signed_bytes w32 size
+  pub fits : FitsSigned w32 size
+  pub some : 0 < unsigned_abs size
+  pub limit : at + 4 ≤ file_limit
+
+abbrev pub MeetsSize : Option (List ℕ) → ℕ → List ℕ → Result (Option ℤ) KeytabFault → Type 0
+MeetsSize left at piece (Ok (Some size)) = IsSizeAt at piece size
+MeetsSize left at piece (Ok None) = MeetsLast left at piece None
+MeetsSize left at piece (Err fault) = MeetsLast left at piece (Some fault)
+
+pub record MeetsSizeAt {S : Type 0} (from to : Option (List ℕ)) (old new : AtHand S) (answer : Result (Option ℤ) KeytabFault) : Type 0 where
+  pub piece : List ℕ
+  pub moves : Moves from to old new piece
+  pub peaks : Peaks (λ part. length part ≤ 4) piece old.peak new.peak
+  pub meets : MeetsSize to old.given piece answer
+
+-- ---- what is behind it
+
+-- how many of its bytes are at hand: none of a hole
+abbrev pub kept_of : ℤ → ℕ
+kept_of (pos n) = n
+kept_of (negsuc n) = 0
+
+pub record MeetsBody {S : Type 0} (from to : Option (List ℕ)) (old new : AtHand S) (at : ℕ) (size : ℤ) (answer : Result Found KeytabFault) : Type 0 where
+  pub piece : List ℕ
+  pub moves : Moves from to old new piece
+  pub peaks : Peaks (λ part. length part ≤ kept_of size) piece old.peak new.peak
+  pub meets : Meets to at (signed_bytes w32 size ++ piece) answer
+
+-- ---- records up to an entry
+
+pub record PassesHoles {S : Type 0} (from to : Option (List ℕ)) (old new : AtHand S) : Type 0 where
+  pub piece : List ℕ
+  pub moves : Moves from to old new piece
+  pub limit : new.given ≤ file_limit
+  pub low : old.peak ≤ file_limit → new.peak ≤ file_limit
+  pub reaches : (bytes : List ℕ) (entries : List KeytabEntry) → old.given ≡ length bytes → IsReached bytes (length bytes) entries [] → IsReached (bytes ++ piece) (length (bytes ++ piece)) entries []
+  pub met : (bytes : List ℕ) (entries : List KeytabEntry) → old.given ≡ length bytes → IsReached bytes (length bytes) entries [] → HasMet bytes old.peak → HasMet (bytes ++ piece) new.peak
+
+pub record MeetsNext {S : Type 0} (from to : Option (List ℕ)) (old new : AtHand S) (answer : Result (Option KeytabEntry) KeytabFault) : Type 0 where
+  pub piece : List ℕ
+  pub moves : Moves from to old new piece
+  pub low : old.peak ≤ file_limit → new.peak ≤ file_limit
+  pub within : IsWithin (stage_after answer) new.given
+  pub more : GivesMore answer old.given new.given
+  pub stands : (bytes : List ℕ) (entries : List KeytabEntry) → old.given ≡ length bytes → length bytes ≤ file_limit → IsReached bytes (length bytes) entries [] → StandsTo to (stage_after answer) (bytes ++ piece) (entries_after entries answer)
+  pub met : (bytes : List ℕ) (entries : List KeytabEntry) → old.given ≡ length bytes → IsReached bytes (length bytes) entries [] → HasMet bytes old.peak → HasMet (bytes ++ piece) new.peak
+
+-- ---- the version and records up to an entry
+
+pub record MeetsFirst {S : Type 0} (from to : Option (List ℕ)) (old new : AtHand S) (answer : Result (Option KeytabEntry) KeytabFault) : Type 0 where
+  pub piece : List ℕ
+  pub moves : Moves from to old new piece
+  pub low : old.peak ≤ file_limit → new.peak ≤ file_limit
+  pub within : IsWithin (stage_after answer) new.given
+  pub more : GivesMore answer old.given new.given
+  pub stands : StandsTo to (stage_after answer) piece (entries_after [] answer)
+  pub met : HasMet [] old.peak → HasMet piece new.peak
+
+-- ---- the version and all records
+
+-- the source gave the version and whole records with these entries
+pub record HasTaken (from to : Option (List ℕ)) (given : ℕ) (entries : List KeytabEntry) : Type 0 where
+  pub bytes : List ℕ
+  pub taken : Consumes from to bytes
+  pub given_is : given ≡ length bytes
+  pub reached : IsReached bytes (length bytes) entries []
+
+-- what the source gave is a keytab of these entries
+abbrev pub IsFound : Option (List ℕ) → Option (List ℕ) → List KeytabEntry → Type 0
+IsFound from to entries = (bytes : List ℕ) × IsGiven from to bytes × IsKeytab bytes entries
+
+-- or it has this fault of the content
+abbrev pub IsFaulty : Option (List ℕ) → Option (List ℕ) → KeytabFault → Type 0
+IsFaulty from to fault = fault ≢ OutOfMemory → fault ≢ Read → (bytes : List ℕ) × IsGiven from to bytes × IsFaultOf bytes fault

@@ -1,0 +1,116 @@
+-- Entries that are read one at a time: what a source has given so far, the entries that were given of it, and where their reader stands.
+use Rattle.std.specs.Prelude.{◌≡◌, ◌≢◌, ◌⊎◌, ⊤, ℕ, ◌+◌, ◌<◌, ◌≤◌, pos, List, [], ◌∷◌, ◌++◌, length, take, Option, Some, None, Result, Ok, Err}
+use Rattle.std.specs.Int.{w32}
+use Rattle.std.specs.Io.KnownBytes.{IsAtEnd}
+use Rattle.krb_name.specs.Cursor.{signed_bytes}
+use Rattle.krb_keytab.specs.Entry.{KeytabEntry}
+use Rattle.krb_keytab.specs.Format.{version, file_limit, IsReached, IsEnd, IsCutOff, HoldsNoEntry}
+use Rattle.krb_keytab.specs.declared.fault.KeytabFault.{KeytabFault}
+use Rattle.krb_keytab.specs.declared.fault.KeytabFault.TheVariants.{Version, Truncated, BadEntry, TooLong, Read, OutOfMemory}
+use Rattle.krb_keytab.specs.declared.stage.Stage.{Stage}
+use Rattle.krb_keytab.specs.declared.stage.Stage.TheVariants.{Start, Records, End, Failed}
+
+-- a reader: its source, the most bytes that were at hand at once, how many the source has given, and where it stands
+pub record EntriesRead (S : Type 0) : Type 0 where
+  pub source : S
+  pub held : ℕ
+  pub given : ℕ
+  pub stage : Stage
+
+-- ---- the last answer: the end, which is no fault, or a fault
+
+-- no record stands at an offset, and why
+abbrev pub LacksRecord : ℕ → Option KeytabFault → List ℕ → Type 0
+LacksRecord at None behind = IsEnd behind
+LacksRecord at (Some (Truncated place)) behind = (place ≡ at) × IsCutOff behind
+LacksRecord at (Some (BadEntry place)) behind = (place ≡ at) × HoldsNoEntry behind
+LacksRecord at (Some _) behind = ⊥
+
+-- whole records with these entries, up to an offset where none stands
+pub record Stops (bytes : List ℕ) (entries : List KeytabEntry) (last : Option KeytabFault) : Type 0 where
+  pub at : ℕ
+  pub behind : List ℕ
+  pub reached : IsReached bytes at entries behind
+  pub lacks : LacksRecord at last behind
+
+abbrev pub LacksVersion : List ℕ → Type 0
+LacksVersion bytes = (others : List ℕ) → bytes ≢ version ++ others
+
+-- or the version isn't there, and so no entry
+abbrev pub StopsSo : List ℕ → List KeytabEntry → Option KeytabFault → Type 0
+StopsSo bytes entries (Some Version) = (entries ≡ []) × LacksVersion bytes
+StopsSo bytes entries last = Stops bytes entries last
+
+-- one byte past the limit has come; the entries are those of the bytes within it
+pub record IsTooLong (bytes : List ℕ) (entries : List KeytabEntry) : Type 0 where
+  pub long : length bytes ≡ file_limit + 1
+  pub last : Option KeytabFault
+  pub stops : StopsSo (take file_limit bytes) entries last
+
+-- all bytes have come, and this is the last answer for them
+pub record Concludes (left : Option (List ℕ)) (bytes : List ℕ) (entries : List KeytabEntry) (last : Option KeytabFault) : Type 0 where
+  pub limit : length bytes ≤ file_limit
+  pub all : IsAtEnd left
+  pub stops : StopsSo bytes entries last
+
+-- ---- where a reader stands
+
+-- the entries of the first whole records
+abbrev pub AreFirst : List ℕ → List KeytabEntry → Type 0
+AreFirst bytes entries = (entries ≡ []) ⊎ ((at : ℕ) × (behind : List ℕ) × IsReached bytes at entries behind)
+
+-- how it stands to the bytes that are left of its source, to those that the source gave, and to the entries that it gave
+abbrev pub StandsTo : Option (List ℕ) → Stage → List ℕ → List KeytabEntry → Type 0
+StandsTo left Start bytes entries = (bytes ≡ []) × (entries ≡ [])
+StandsTo left Records bytes entries = (length bytes ≤ file_limit) × IsReached bytes (length bytes) entries []
+StandsTo left End bytes entries = Concludes left bytes entries None
+StandsTo left (Failed TooLong) bytes entries = IsTooLong bytes entries
+StandsTo left (Failed Read) bytes entries = AreFirst bytes entries
+StandsTo left (Failed OutOfMemory) bytes entries = AreFirst bytes entries
+StandsTo left (Failed fault) bytes entries = Concludes left bytes entries (Some fault)
+
+-- ---- what it has at hand
+
+-- no more than the record of an entry: its size, and as many bytes as that says; of a hole the size alone
+abbrev pub IsPartOfRecord : List ℕ → Type 0
+IsPartOfRecord part = (length part ≤ 4) ⊎ ((size : ℕ) × (body : List ℕ) × (part ≡ signed_bytes w32 (pos size) ++ body) × (length body ≤ size))
+
+-- there are so many bytes of the version, or of one record behind whole records
+pub record HasMet (bytes : List ℕ) (count : ℕ) : Type 0 where
+  pub before : List ℕ
+  pub part : List ℕ
+  pub after : List ℕ
+  pub bytes_are : bytes ≡ before ++ (part ++ after)
+  pub enough : count ≤ length part
+  pub one : ((before ≡ []) × (length part ≤ 2)) ⊎ (((entries : List KeytabEntry) × IsReached before (length before) entries []) × IsPartOfRecord part)
+
+-- a reader whose source gave these bytes, and which gave these entries
+pub record HasRead {S : Type 0} (left : Option (List ℕ)) (reader : EntriesRead S) (bytes : List ℕ) (entries : List KeytabEntry) : Type 0 where
+  pub given : reader.given ≡ length bytes
+  pub stands : StandsTo left reader.stage bytes entries
+  pub held : HasMet bytes reader.held
+
+-- ---- one answer more
+
+abbrev pub stage_after : Result (Option KeytabEntry) KeytabFault → Stage
+stage_after (Ok (Some entry)) = Records
+stage_after (Ok None) = End
+stage_after (Err fault) = Failed fault
+
+abbrev pub entries_after : List KeytabEntry → Result (Option KeytabEntry) KeytabFault → List KeytabEntry
+entries_after entries (Ok (Some entry)) = entries ++ entry ∷ []
+entries_after entries (Ok None) = entries
+entries_after entries (Err fault) = entries
+
+-- the source gave a byte at least before an entry, and no more than a file has
+abbrev pub GivesMore : Result (Option KeytabEntry) KeytabFault → ℕ → ℕ → Type 0
+GivesMore (Ok (Some entry)) old new = (old < new) × (new ≤ file_limit)
+GivesMore (Ok None) old new = ⊤
+GivesMore (Err fault) old new = ⊤
+
+-- what is answered from here on, where that is known
+abbrev pub last_answer : Stage → Option (Result (Option KeytabEntry) KeytabFault)
+last_answer Start = None
+last_answer Records = None
+last_answer End = Some (Ok None)
+last_answer (Failed fault) = Some (Err fault)

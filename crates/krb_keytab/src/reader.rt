@@ -1,0 +1,149 @@
+//! Entries, one at a time.
+
+ghost use Rattle.std.specs.Prelude.{◌≡◌, ◌+◌, ◌-◌, ◌^◌, ◌<◌, ◌≤◌, ℕ, List, [], ◌++◌, None, IfSome, if◌then◌else◌, is_some};
+ghost use Rattle.std.specs.Io.KnownBytes.{Consumes};
+ghost use Rattle.krb_keytab.specs.Entry.{KeytabEntry};
+ghost use Rattle.krb_keytab.specs.Fault.{failed_reads};
+ghost use Rattle.krb_keytab.specs.Format.{file_limit};
+ghost use Rattle.krb_keytab.specs.Items.{HasRead, stage_after, entries_after, last_answer, GivesMore};
+ghost use Rattle.krb_keytab.specs.Inner.Meeting.{MeetsFirst};
+
+use crate::entry::Entry;
+use crate::fault::KeytabFault;
+use crate::stage::Stage;
+use crate::step::{read_entry, read_version};
+use krb_name::{Source, Window};
+use std::alloc::Global;
+use std::marker::Model;
+
+/// Reads the entries of a keytab from a source, one at a time.
+///
+/// The bytes of one record are at hand at a time, in one buffer, whose room grows as they come: nothing
+/// is reserved by a length that the source hasn't borne out, and a hole's bytes aren't kept. A contract
+/// sees the source, how many bytes of it were at hand at most, how many it gave, and where the reader
+/// stands.
+///
+/// ```rust
+/// let mut reader = EntryReader::new(alloc, ReadSource::new(file));
+/// while let Some(entry) = reader.next(alloc)? {
+///     let kvno = entry.kvno();
+///     println!(rt; "{kvno}")?;
+/// }
+/// ```
+#[derive(Drop)]
+pub struct EntryReader<S> {
+    window: Window<S>,
+    stage: Stage,
+}
+
+impl<S> Model for EntryReader<S> {
+    ghost use Rattle.std.specs.Prelude.{◌≤◌};
+    ghost use Rattle.krb_keytab.specs.Format.{file_limit};
+    ghost use Rattle.krb_keytab.specs.Items.{EntriesRead};
+    ghost use Rattle.krb_keytab.specs.Inner.Meeting.{IsWithin};
+
+    ghost Value = { EntriesRead S };
+
+    ghost view = { λ r. record {
+      source = r.window.source;
+      held = r.window.peak;
+      given = r.window.given;
+      stage = r.stage;
+    } };
+
+    ghost invariant = { λ r. (r.window.peak ≤ file_limit) × IsWithin r.stage r.window.given };
+}
+
+impl<S: Source> EntryReader<S> {
+    /// Reads from `source`, of which nothing has been read yet. It takes no memory.
+    pub fn new(alloc: Global, source: S) -> Self
+        ensures source { result.source ≡ source }
+        ensures start { HasRead (S.remaining source) result [] [] }
+        ensures open { last_answer result.stage ≡ None }
+    {
+        EntryReader {
+            window: Window::new(alloc, source),
+            stage: Stage::Start,
+        }
+    }
+
+    /// Lends the source.
+    pub fn source(&self) -> &S
+        ensures { result.now ≡ self.now.source }
+    {
+        self.window.source()
+    }
+
+    /// Answers how many bytes of the source were at hand at most: no more than the version has, or the
+    /// longest record of an entry so far, and no more than 16,777,216. The end of the records and a
+    /// hole count as records of 4 bytes.
+    pub fn held(&self) -> usize
+        ensures held { result ≡ self.now.held }
+        ensures limit { result ≤ file_limit }
+    {
+        self.window.held()
+    }
+
+    /// Reads on to the next entry, and answers it; or `None`, where the entries have ended.
+    ///
+    /// Behind an entry the source has given exactly the bytes up to the end of its record. Before the
+    /// end or a fault of the content is answered, the source is read to its end or to one byte past
+    /// 16,777,216, and nothing of this is kept; so the last answer is that of `Keytab::parse` for all
+    /// the bytes. The end and each fault, also `Read` and `OutOfMemory`, are answered again by each
+    /// later call, which reads nothing.
+    ///
+    /// Condition: fewer than 18,446,744,073,709,551,615 reads of the source have failed so far.
+    ///
+    /// # Errors
+    /// - `Read`: a read of the source failed. Its count of failures grew, as it does for no other
+    ///   answer.
+    /// - `OutOfMemory`: there was no room for a record or its entry.
+    /// - Else the first that holds of all the bytes: `TooLong`, `Version`, and `Truncated` or
+    ///   `BadEntry` with the offset of the first record of which there are too few bytes, or that no
+    ///   entry fits into.
+    ///
+    /// Source: MIT krb5, "Keytab file format".
+    pub fn next(&mut self, alloc: Global) -> Result<Option<Entry>, KeytabFault>
+        requires { S.failure_count self.old.source < 2 ^ 64 - 1 }
+
+        // Whatever was read and given before: what the source gave now comes behind it.
+        ensures reads { (bytes : List ℕ) (entries : List KeytabEntry)
+            → HasRead (S.remaining self.old.source) self.old bytes entries
+            → (piece : List ℕ) × Consumes (S.remaining self.old.source) (S.remaining self.new.source) piece
+            × HasRead (S.remaining self.new.source) self.new (bytes ++ piece) (entries_after entries result) }
+        ensures stage { self.new.stage ≡ stage_after result }
+
+        ensures more { GivesMore result self.old.given self.new.given }
+
+        // What was answered last is answered again, and nothing is read.
+        ensures again { IfSome (last_answer self.old.stage) (λ answer.
+            (result ≡ answer) × (self.new ≡ self.old)) }
+        ensures failed { S.failure_count self.new.source ≡ S.failure_count self.old.source
+            + (if is_some (last_answer self.old.stage) then 0 else failed_reads result) }
+    {
+        let answer = match self.stage {
+            Stage::End => return Ok(None),
+            Stage::Failed(fault) => return Err(fault),
+            Stage::Start => read_first(alloc, &mut self.window),
+            Stage::Records => read_entry(alloc, &mut self.window),
+        };
+        self.stage = Stage::after(&answer);
+        answer
+    }
+}
+
+// Reads the version, and then on to the first entry.
+fn read_first<S: Source>(
+    alloc: Global,
+    window: &mut Window<S>,
+) -> Result<Option<Entry>, KeytabFault>
+    requires reads { S.failure_count window.old.source < 2 ^ 64 - 1 }
+    requires start { window.old.given ≡ 0 }
+    ensures meets { MeetsFirst (S.remaining window.old.source) (S.remaining window.new.source)
+        window.old window.new result }
+    ensures failed { S.failure_count window.new.source
+        ≡ S.failure_count window.old.source + failed_reads result }
+{
+    read_version(window)?;
+    read_entry(alloc, window)
+}

@@ -1,0 +1,34 @@
+//! How far a reader of entries has come.
+
+ghost use Rattle.std.specs.Prelude.{◌≡◌};
+
+use crate::entry::Entry;
+use crate::fault::KeytabFault;
+
+/// Where a reader of entries stands.
+#[derive(Clone, Copy, Debug, Drop)]
+pub(crate) enum Stage {
+    /// Before the version.
+    Start,
+    /// Behind the version and whole records.
+    Records,
+    /// The entries have ended.
+    End,
+    /// A fault was answered, and is the answer from here on.
+    Failed(KeytabFault),
+}
+
+impl Stage {
+    ghost use Rattle.krb_keytab.specs.Items.{stage_after};
+
+    /// Where a reader stands once it has given this answer.
+    pub(crate) fn after(answer: &Result<Option<Entry>, KeytabFault>) -> Stage
+        ensures { result ≡ stage_after answer.now }
+    {
+        match answer {
+            Ok(Some(_)) => Stage::Records,
+            Ok(None) => Stage::End,
+            Err(fault) => Stage::Failed(*fault),
+        }
+    }
+}

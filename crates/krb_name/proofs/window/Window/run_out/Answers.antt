@@ -1,0 +1,17 @@
+use Rattle.std.proofs.Common.{arith, ◌∙◌, ◌++◌, add-zero}
+use Rattle.krb_name.proofs.WindowLaws.{skips_more}
+use Rattle.krb_name.proofs.window.Window.run_out.Goals as goal
+
+pub loop-self-preserved : goal.loop-self-preserved
+loop-self-preserved g c =
+    let first = c.loop-self.invariant.skips in
+    let second = c.in_ok-skip_some.ensures.skips in
+    record {
+      skips = record {
+        piece = first.piece ++ second.piece;
+        skips = skips_more _ _ _ _ _ _ first.piece second.piece first.skips second.skips;
+        one_past = λ within. omega (arith, second.skips.given, second.one.0, second.one.1, c.loop-self-test.true, c.given.ensures, c.given-in-loop-self.ensures);
+      };
+      failures = rw add-zero at c.in_ok-skip_some.ensures.failed ∙ c.loop-self.invariant.failures;
+      lent = c.in_ok-skip_some.ensures.lent ∙ c.loop-self.invariant.lent;
+    }

@@ -1,0 +1,42 @@
+-- What one read, or some of them, leave at hand.
+use Rattle.std.specs.Prelude.{◌≡◌, ℕ, ◌+◌, ◌≤◌, List, [], ◌++◌, length, Option, Result, Ok, Err}
+use Rattle.std.specs.Io.KnownBytes.{Consumes, IsAtEnd}
+use Rattle.krb_name.specs.Window.{AtHand, Keeps, Skips}
+
+-- what one read gave, none only at the end, or where it failed
+abbrev pub OneRead : {E : Type 0} → Result ℕ E → ℕ → List ℕ → Option (List ℕ) → Type 0
+OneRead (Ok count) most piece to = (length piece ≡ count) × (count ≤ most) × (count ≡ 0 → IsAtEnd to)
+OneRead (Err _) most piece to = piece ≡ []
+
+pub record ReadsBehind {E : Type 0} (from to : Option (List ℕ)) (old new : List ℕ) (most : ℕ) (answer : Result ℕ E) : Type 0 where
+  pub piece : List ℕ
+  pub consumed : Consumes from to piece
+  pub bytes : new ≡ old ++ piece
+  pub one : OneRead answer most piece to
+
+pub record KeepsSome {S E : Type 0} (from to : Option (List ℕ)) (old new : AtHand S) (most : ℕ) (answer : Result ℕ E) : Type 0 where
+  pub piece : List ℕ
+  pub keeps : Keeps from to old new piece
+  pub one : OneRead answer most piece to
+
+pub record SkipsSome {S E : Type 0} (from to : Option (List ℕ)) (old new : AtHand S) (most : ℕ) (answer : Result ℕ E) : Type 0 where
+  pub piece : List ℕ
+  pub skips : Skips from to old new piece
+  pub one : OneRead answer most piece to
+
+-- so many bytes are still to come
+pub record KeepsSoFar {S : Type 0} (from to : Option (List ℕ)) (old new : AtHand S) (count left : ℕ) : Type 0 where
+  pub piece : List ℕ
+  pub keeps : Keeps from to old new piece
+  pub counted : length piece + left ≡ count
+
+pub record SkipsSoFar {S : Type 0} (from to : Option (List ℕ)) (old new : AtHand S) (count left : ℕ) : Type 0 where
+  pub piece : List ℕ
+  pub skips : Skips from to old new piece
+  pub counted : length piece + left ≡ count
+
+-- at most one byte past a limit was given
+pub record SkipsWithin {S : Type 0} (from to : Option (List ℕ)) (old new : AtHand S) (limit : ℕ) : Type 0 where
+  pub piece : List ℕ
+  pub skips : Skips from to old new piece
+  pub one_past : old.given ≤ limit + 1 → new.given ≤ limit + 1

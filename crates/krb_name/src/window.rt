@@ -1,0 +1,251 @@
+//! The bytes of a source that are at hand.
+
+ghost use Rattle.std.specs.Prelude.{◌≡◌, ◌+◌, ◌-◌, ◌^◌, ◌<◌, ◌≤◌, [], length, is_ok, if◌then◌else◌};
+ghost use Rattle.krb_name.specs.Flow.{failed_reads};
+ghost use Rattle.krb_name.specs.Window.{Fills, Passes, RunsOut};
+ghost use Rattle.krb_name.specs.Inner.Window.{ReadsBehind, KeepsSome, SkipsSome};
+
+use crate::reading::ReadFault;
+use crate::source::{Source, SourceFailed};
+use std::alloc::Global;
+use std::marker::Model;
+
+// How many bytes are asked of a source at a time, where they are kept and where they aren't.
+const PIECE: usize = 65_536;
+
+const PASSED: usize = 4_096;
+
+/// A source, and those of its bytes that are at hand, in one buffer.
+///
+/// It counts the bytes that the source has given, and knows the most that were at hand at once.
+/// The source is never asked for more bytes than a call says.
+#[derive(Drop)]
+pub struct Window<S> {
+    source: S,
+    bytes: Vec<u8>,
+    peak: usize,
+    given: usize,
+}
+
+impl<S> Model for Window<S> {
+    ghost use Rattle.std.specs.Prelude.{◌≤◌, length};
+    ghost use Rattle.krb_name.specs.Window.{AtHand};
+
+    ghost Value = { AtHand S };
+
+    ghost view = { λ w. record { source = w.source; bytes = w.bytes.items; peak = w.peak; given = w.given } };
+
+    ghost invariant = { λ w. length w.bytes.items ≤ w.peak };
+}
+
+impl<S: Source> Window<S> {
+    /// Has no byte of `source` at hand, and takes no memory.
+    pub fn new(alloc: Global, source: S) -> Self
+        ensures { result ≡ record { source = source; bytes = []; peak = 0; given = 0 } }
+    {
+        Window {
+            source,
+            bytes: Vec::new(alloc),
+            peak: 0,
+            given: 0,
+        }
+    }
+
+    /// Lends the source.
+    pub fn source(&self) -> &S
+        ensures { result.now ≡ self.now.source }
+    {
+        &self.source
+    }
+
+    /// Gives the source back.
+    pub fn into_source(self) -> S
+        ensures { result ≡ self.source }
+    {
+        let Window {
+            source,
+            bytes: _,
+            peak: _,
+            given: _,
+        } = self;
+        source
+    }
+
+    /// Lends the bytes that are at hand.
+    pub fn bytes(&self) -> &[u8]
+        ensures { result.now ≡ self.now.bytes }
+    {
+        self.bytes.as_slice()
+    }
+
+    /// Answers how many bytes were at hand at most.
+    pub fn held(&self) -> usize
+        ensures peak { result ≡ self.now.peak }
+        ensures within { length self.now.bytes ≤ result }
+    {
+        self.peak
+    }
+
+    /// Answers how many bytes the source has given in all.
+    pub fn given(&self) -> usize
+        ensures { result ≡ self.now.given }
+    {
+        self.given
+    }
+
+    /// Lets go of the bytes at hand. The room for them stays.
+    pub fn clear(&mut self)
+        ensures { self.new ≡ record self.old { bytes = [] } }
+    {
+        self.bytes.clear();
+    }
+
+    /// Takes `count` bytes of the source, puts them behind those at hand, and answers whether so many
+    /// came; fewer come only where the source ends.
+    ///
+    /// They are asked for in pieces of at most 65,536, and the room for them grows as they come.
+    ///
+    /// Conditions: fewer than 18,446,744,073,709,551,615 reads of the source have failed so far, and
+    /// `count` and the bytes given so far are fewer than 18,446,744,073,709,551,616.
+    ///
+    /// # Errors
+    /// At each, what came before is at hand.
+    /// - `Read`: a read failed.
+    /// - `OutOfMemory`: there was no room for the bytes.
+    pub fn fill(&mut self, count: usize) -> Result<bool, ReadFault>
+        requires reads { S.failure_count self.old.source < 2 ^ 64 - 1 }
+        requires count { self.old.given + count < 2 ^ 64 }
+        ensures fills { Fills (S.remaining self.old.source) (S.remaining self.new.source)
+            self.old self.new count result }
+        ensures failed { S.failure_count self.new.source
+            ≡ S.failure_count self.old.source + failed_reads result }
+        ensures lent { S.lender self.new.source ≡ S.lender self.old.source }
+    {
+        let _peak = self.peak;
+        let mut left = count;
+        while left > 0 {
+            let came = self.fill_some(left)?;
+            if came == 0 {
+                return Ok(false);
+            }
+            left -= came;
+        }
+        Ok(true)
+    }
+
+    /// Takes `count` bytes of the source, keeps none of them, and answers whether so many came; fewer
+    /// come only where the source ends. It takes no memory.
+    ///
+    /// Conditions: as for `fill`.
+    ///
+    /// # Errors
+    /// `SourceFailed`: a read failed.
+    pub fn skip(&mut self, count: usize) -> Result<bool, SourceFailed>
+        requires reads { S.failure_count self.old.source < 2 ^ 64 - 1 }
+        requires count { self.old.given + count < 2 ^ 64 }
+        ensures passes { Passes (S.remaining self.old.source) (S.remaining self.new.source)
+            self.old self.new count result }
+        ensures failed { S.failure_count self.new.source
+            ≡ S.failure_count self.old.source + (if is_ok result then 0 else 1) }
+        ensures lent { S.lender self.new.source ≡ S.lender self.old.source }
+    {
+        let mut left = count;
+        while left > 0 {
+            let passed = self.skip_some(left)?;
+            if passed == 0 {
+                return Ok(false);
+            }
+            left -= passed;
+        }
+        Ok(true)
+    }
+
+    /// Reads the source to its end, or until it has given `limit` bytes and one more in all, keeps
+    /// none of them, and answers whether it ended before that. It takes no memory.
+    ///
+    /// Conditions: fewer than 18,446,744,073,709,551,615 reads of the source have failed so far, and
+    /// `limit` is below 18,446,744,073,709,551,615.
+    ///
+    /// # Errors
+    /// `SourceFailed`: a read failed.
+    pub fn run_out(&mut self, limit: usize) -> Result<bool, SourceFailed>
+        requires reads { S.failure_count self.old.source < 2 ^ 64 - 1 }
+        requires limit { limit < 2 ^ 64 - 1 }
+        ensures runs_out { RunsOut (S.remaining self.old.source) (S.remaining self.new.source)
+            self.old self.new limit result }
+        ensures failed { S.failure_count self.new.source
+            ≡ S.failure_count self.old.source + (if is_ok result then 0 else 1) }
+        ensures lent { S.lender self.new.source ≡ S.lender self.old.source }
+    {
+        while self.given() <= limit {
+            let most = limit - self.given() + 1;
+            if self.skip_some(most)? == 0 {
+                return Ok(true);
+            }
+        }
+        Ok(false)
+    }
+
+    // Asks the source once for at most `most` bytes, which are then at hand.
+    fn fill_some(&mut self, most: usize) -> Result<usize, ReadFault>
+        requires reads { S.failure_count self.old.source < 2 ^ 64 - 1 }
+        requires some { 0 < most }
+        requires most { self.old.given + most < 2 ^ 64 }
+        ensures keeps { KeepsSome (S.remaining self.old.source) (S.remaining self.new.source)
+            self.old self.new most result }
+        ensures failed { S.failure_count self.new.source
+            ≡ S.failure_count self.old.source + failed_reads result }
+        ensures lent { S.lender self.new.source ≡ S.lender self.old.source }
+    {
+        let came = read_behind(&mut self.source, &mut self.bytes, most.min(PIECE))?;
+        self.peak = self.peak.max(self.bytes.len());
+        self.given += came;
+        Ok(came)
+    }
+
+    // Asks the source once for at most `most` bytes, of which nothing is kept.
+    fn skip_some(&mut self, most: usize) -> Result<usize, SourceFailed>
+        requires reads { S.failure_count self.old.source < 2 ^ 64 - 1 }
+        requires some { 0 < most }
+        requires most { self.old.given + most < 2 ^ 64 }
+        ensures skips { SkipsSome (S.remaining self.old.source) (S.remaining self.new.source)
+            self.old self.new most result }
+        ensures failed { S.failure_count self.new.source
+            ≡ S.failure_count self.old.source + (if is_ok result then 0 else 1) }
+        ensures lent { S.lender self.new.source ≡ S.lender self.old.source }
+    {
+        let mut passed = [0u8; PASSED];
+        let came = self.source.read(&mut passed[..most.min(PASSED)])?;
+        self.given += came;
+        Ok(came)
+    }
+}
+
+// Asks a source once for at most `most` bytes, and puts those that come behind `bytes`.
+fn read_behind<S: Source>(
+    source: &mut S,
+    bytes: &mut Vec<u8>,
+    most: usize,
+) -> Result<usize, ReadFault>
+    requires reads { S.failure_count source.old < 2 ^ 64 - 1 }
+    requires some { 0 < most }
+    requires most { most ≤ 65536 }
+    ensures behind { ReadsBehind (S.remaining source.old) (S.remaining source.new)
+        bytes.old.items bytes.new.items most result }
+    ensures failed { S.failure_count source.new
+        ≡ S.failure_count source.old + failed_reads result }
+    ensures lent { S.lender source.new ≡ S.lender source.old }
+{
+    let old = bytes.len();
+    bytes.resize(old + most, 0)?;
+    match source.read(&mut bytes[old..]) {
+        Ok(came) => {
+            bytes.truncate(old + came);
+            Ok(came)
+        }
+        Err(SourceFailed) => {
+            bytes.truncate(old);
+            Err(ReadFault::Read)
+        }
+    }
+}

@@ -1,0 +1,290 @@
+//! The commands, as `clap` is told of them.
+
+ghost use Rattle.std.specs.Prelude.{◌≡◌, false, IfOk, codes};
+ghost use Rattle.clap.specs.Words.{app_of, rule_of};
+ghost use Rattle.clap.specs.declared.builder.command.Command.TheViews.{out-Command};
+ghost use Rattle.krbtool.specs.CommandLine.{krbtool, accept, accept_operands, bare, flag, free_option, needed_number, needed_option, number_option, operand, request, request_operands, request_moment, with_two, with_lists, with_checks, with_conversions, of_file, of_file_and_out};
+
+use clap::builder::ValueParser;
+use clap::{Arg, ArgAction, Command};
+use std::alloc::{AllocError, Global};
+
+// A command whose one operand is a file.
+fn of_file_command<'a>(
+    alloc: Global,
+    name: &'a str,
+    about: &'a str,
+    help: &'a str,
+) -> Result<Command<'a>, AllocError>
+    ensures app { IfOk result (λ c. app_of c ≡ of_file name.entry.now) }
+    ensures local { IfOk result (λ c. (out-Command c).has_globals ≡ false) }
+{
+    let file = Arg::new(alloc, "FILE").required(true).help(help);
+    Command::new(alloc, name).about(about).arg(file)
+}
+
+fn list_keytab_command<'a>(alloc: Global) -> Result<Command<'a>, AllocError>
+    ensures app { IfOk result (λ c. app_of c ≡ of_file (codes "list-keytab")) }
+    ensures local { IfOk result (λ c. (out-Command c).has_globals ≡ false) }
+{
+    of_file_command(
+        alloc,
+        "list-keytab",
+        "Lists a keytab: kvno, enctype, timestamp and principal of each entry",
+        "The keytab",
+    )
+}
+
+fn check_keytab_command<'a>(alloc: Global) -> Result<Command<'a>, AllocError>
+    ensures app { IfOk result (λ c. app_of c ≡ of_file (codes "check-keytab")) }
+    ensures local { IfOk result (λ c. (out-Command c).has_globals ≡ false) }
+{
+    of_file_command(
+        alloc,
+        "check-keytab",
+        "Checks a keytab: says how many entries it has, or where it is faulty",
+        "The keytab",
+    )
+}
+
+// A command whose operands are a file and one that it makes.
+fn of_file_and_out_command<'a>(
+    alloc: Global,
+    name: &'a str,
+    about: &'a str,
+    help: &'a str,
+) -> Result<Command<'a>, AllocError>
+    ensures app { IfOk result (λ c. app_of c ≡ of_file_and_out name.entry.now) }
+    ensures local { IfOk result (λ c. (out-Command c).has_globals ≡ false) }
+{
+    let out = Arg::new(alloc, "OUT").required(true).help(
+        "The file to write. It is emptied before FILE is read, so it must not be FILE; a new one is its owner's alone",
+    );
+    of_file_command(alloc, name, about, help)?.arg(out)
+}
+
+fn convert_keytab_command<'a>(alloc: Global) -> Result<Command<'a>, AllocError>
+    ensures app { IfOk result (λ c. app_of c ≡ of_file_and_out (codes "convert-keytab")) }
+    ensures local { IfOk result (λ c. (out-Command c).has_globals ≡ false) }
+{
+    of_file_and_out_command(
+        alloc,
+        "convert-keytab",
+        "Writes a keytab anew, without holes and without what follows its entries",
+        "The keytab",
+    )
+}
+
+fn list_ccache_command<'a>(alloc: Global) -> Result<Command<'a>, AllocError>
+    ensures app { IfOk result (λ c. app_of c ≡ of_file (codes "list-ccache")) }
+    ensures local { IfOk result (λ c. (out-Command c).has_globals ≡ false) }
+{
+    of_file_command(
+        alloc,
+        "list-ccache",
+        "Lists a credential cache: its principal, clock offset, configuration entries and tickets",
+        "The credential cache",
+    )
+}
+
+fn check_ccache_command<'a>(alloc: Global) -> Result<Command<'a>, AllocError>
+    ensures app { IfOk result (λ c. app_of c ≡ of_file (codes "check-ccache")) }
+    ensures local { IfOk result (λ c. (out-Command c).has_globals ≡ false) }
+{
+    of_file_command(
+        alloc,
+        "check-ccache",
+        "Checks a credential cache: says how many credentials it has, or where it is faulty",
+        "The credential cache",
+    )
+}
+
+fn convert_ccache_command<'a>(alloc: Global) -> Result<Command<'a>, AllocError>
+    ensures app { IfOk result (λ c. app_of c ≡ of_file_and_out (codes "convert-ccache")) }
+    ensures local { IfOk result (λ c. (out-Command c).has_globals ≡ false) }
+{
+    of_file_and_out_command(
+        alloc,
+        "convert-ccache",
+        "Writes a credential cache anew",
+        "The credential cache",
+    )
+}
+
+// An option with a whole number up to some greatest one.
+fn number_arg<'a>(
+    alloc: Global,
+    name: &'a str,
+    greatest: u64,
+    default: &'a str,
+    help: &'a str,
+) -> Arg<'a>
+    ensures rule { rule_of result ≡ number_option name.entry.now greatest default.entry.now }
+    ensures local { result.global ≡ false }
+{
+    Arg::new(alloc, name)
+        .long(name)
+        .value_parser(ValueParser::unsigned(0, greatest))
+        .default_value(default)
+        .help(help)
+}
+
+// An option with a whole number up to some greatest one, which has to be there.
+fn needed_number_arg<'a>(alloc: Global, name: &'a str, greatest: u64, help: &'a str) -> Arg<'a>
+    ensures rule { rule_of result ≡ needed_number name.entry.now greatest }
+    ensures local { result.global ≡ false }
+{
+    needed_arg(alloc, name, help).value_parser(ValueParser::unsigned(0, greatest))
+}
+
+// An option that has to be there.
+fn needed_arg<'a>(alloc: Global, name: &'a str, help: &'a str) -> Arg<'a>
+    ensures rule { rule_of result ≡ needed_option name.entry.now }
+    ensures local { result.global ≡ false }
+{
+    Arg::new(alloc, name).long(name).required(true).help(help)
+}
+
+// The command `request` with its operands.
+fn request_with_operands<'a>(alloc: Global) -> Result<Command<'a>, AllocError>
+    ensures app { IfOk result (λ c. app_of c ≡ request_operands) }
+    ensures local { IfOk result (λ c. (out-Command c).has_globals ≡ false) }
+{
+    let service = Arg::new(alloc, "SERVICE")
+        .required(true)
+        .help("The service's name, as host/web@EXAMPLE.COM");
+    of_file_command(
+        alloc,
+        "request",
+        "Builds a request for a service with a ticket of a credential cache, and prints it in hexadecimal",
+        "The credential cache",
+    )?
+    .arg(service)
+}
+
+// And with the moment.
+fn request_with_moment<'a>(alloc: Global) -> Result<Command<'a>, AllocError>
+    ensures app { IfOk result (λ c. app_of c ≡ request_moment) }
+    ensures local { IfOk result (λ c. (out-Command c).has_globals ≡ false) }
+{
+    let time = needed_number_arg(
+        alloc,
+        "time",
+        253_402_300_799,
+        "The client's clock: seconds since 1970-01-01",
+    );
+    let usec = needed_number_arg(alloc, "usec", 999_999, "The microseconds of that second");
+    request_with_operands(alloc)?.arg(time)?.arg(usec)
+}
+
+fn request_command<'a>(alloc: Global) -> Result<Command<'a>, AllocError>
+    ensures app { IfOk result (λ c. app_of c ≡ request) }
+    ensures local { IfOk result (λ c. (out-Command c).has_globals ≡ false) }
+{
+    let confounder = needed_arg(
+        alloc,
+        "confounder",
+        "16 random bytes, new for each request, as 32 hexadecimal digits",
+    );
+    let mutual = Arg::new(alloc, "mutual")
+        .long("mutual")
+        .action(ArgAction::SetTrue)
+        .help("Asks the service for a reply");
+    request_with_moment(alloc)?.arg(confounder)?.arg(mutual)
+}
+
+// The command `accept` with its operand.
+fn accept_with_operand<'a>(alloc: Global) -> Result<Command<'a>, AllocError>
+    ensures app { IfOk result (λ c. app_of c ≡ accept_operands) }
+    ensures local { IfOk result (λ c. (out-Command c).has_globals ≡ false) }
+{
+    let keytab = Arg::new(alloc, "KEYTAB")
+        .required(true)
+        .help("The service's keytab");
+    Command::new(alloc, "accept")
+        .about(
+            "Answers requests: for each line SECONDS MICROS HEX [CONFOUNDER] of standard input, whether a service accepts it",
+        )
+        .arg(keytab)
+}
+
+// An option that may be left out.
+fn free_arg<'a>(alloc: Global, name: &'a str, help: &'a str) -> Arg<'a>
+    ensures rule { rule_of result ≡ free_option name.entry.now }
+    ensures local { result.global ≡ false }
+{
+    Arg::new(alloc, name).long(name).help(help)
+}
+
+fn accept_command<'a>(alloc: Global) -> Result<Command<'a>, AllocError>
+    ensures app { IfOk result (λ c. app_of c ≡ accept) }
+    ensures local { IfOk result (λ c. (out-Command c).has_globals ≡ false) }
+{
+    let skew = number_arg(
+        alloc,
+        "skew",
+        86_400,
+        "300",
+        "By how many seconds clocks may differ: 0 to 86400",
+    );
+    let service = free_arg(
+        alloc,
+        "service",
+        "The service's name: what is refused with a code is followed by an error that tells it",
+    );
+    accept_with_operand(alloc)?.arg(skew)?.arg(service)
+}
+
+// The command with two more subcommands.
+fn with_two<'a>(
+    command: Command<'a>,
+    one: Command<'a>,
+    other: Command<'a>,
+) -> Result<Command<'a>, AllocError>
+    requires one { (out-Command one).has_globals ≡ false }
+    requires other { (out-Command other).has_globals ≡ false }
+    ensures { IfOk result (λ c. app_of c ≡ with_two (app_of command.entry) (app_of one.entry) (app_of other.entry)) }
+{
+    command.subcommand(one)?.subcommand(other)
+}
+
+fn bare_command<'a>(alloc: Global) -> Command<'a>
+    ensures { app_of result ≡ bare }
+{
+    Command::new(alloc, "krbtool")
+        .about("Kerberos 5 keytabs, credential caches and AP exchange")
+        .subcommand_required(true)
+}
+
+fn command_with_lists<'a>(alloc: Global) -> Result<Command<'a>, AllocError>
+    ensures { IfOk result (λ c. app_of c ≡ with_lists) }
+{
+    let keytab = list_keytab_command(alloc)?;
+    let ccache = list_ccache_command(alloc)?;
+    with_two(bare_command(alloc), keytab, ccache)
+}
+
+fn command_with_checks<'a>(alloc: Global) -> Result<Command<'a>, AllocError>
+    ensures { IfOk result (λ c. app_of c ≡ with_checks) }
+{
+    let keytab = check_keytab_command(alloc)?;
+    let ccache = check_ccache_command(alloc)?;
+    with_two(command_with_lists(alloc)?, keytab, ccache)
+}
+
+fn command_with_conversions<'a>(alloc: Global) -> Result<Command<'a>, AllocError>
+    ensures { IfOk result (λ c. app_of c ≡ with_conversions) }
+{
+    let keytab = convert_keytab_command(alloc)?;
+    let ccache = convert_ccache_command(alloc)?;
+    with_two(command_with_checks(alloc)?, keytab, ccache)
+}
+
+#[tactic(auto, unfolding(crate::specs::CommandLine::krbtool))]
+pub(crate) fn krbtool_command<'a>(alloc: Global) -> Result<Command<'a>, AllocError>
+    ensures { IfOk result (λ c. app_of c ≡ krbtool) }
+{
+    let request = request_command(alloc)?;
+    let accept = accept_command(alloc)?;
+    with_two(command_with_conversions(alloc)?, request, accept)
+}

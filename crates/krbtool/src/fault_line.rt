@@ -1,0 +1,106 @@
+//! The lines that the program prints of faults.
+
+ghost use Rattle.std.specs.Prelude.{◌≡◌, None, codes};
+ghost use Rattle.krbtool.specs.FaultText.{name_of, place_of, text_fault_name, text_fault_place, line_of};
+
+use crate::fault::EngineFault;
+use krb_name::TextFault;
+use std::fmt;
+use std::marker::Model;
+
+/// A line for standard error: `krbtool: NAME: FAULT`, with ` at OFFSET` where the fault has one. A
+/// contract sees it as its text.
+#[derive(Drop)]
+pub struct FaultLine<'a> {
+    name: &'a str,
+    fault: &'static str,
+    at: Option<usize>,
+}
+
+impl<'a> Model for FaultLine<'a> {
+    ghost use Rattle.std.specs.Prelude.{List, ℕ};
+    ghost use Rattle.krbtool.specs.FaultText.{line_of};
+
+    ghost Value = { List ℕ };
+
+    ghost view = { λ l. line_of l.name.now l.fault.now l.at };
+}
+
+impl fmt::Display for FaultLine<'_> {
+    ghost use Rattle.std.specs.Prelude.{Some};
+
+    ghost output = { λ text. Some text };
+
+    fn fmt<W: fmt::Write>(&self, f: &mut fmt::Formatter<W>) -> fmt::Result {
+        let name = self.name;
+        let fault = self.fault;
+        match self.at {
+            Some(at) => write!(f, "krbtool: {name}: {fault} at {at}"),
+            None => write!(f, "krbtool: {name}: {fault}"),
+        }
+    }
+}
+
+/// Gives the line for a fault of what has this name: a file as it was given, `output`, `input`, or
+/// a command. `Input` is printed as `Read`. It takes no memory.
+pub fn fault_line<'a>(name: &'a str, fault: &EngineFault) -> FaultLine<'a>
+    ensures { result ≡ line_of name.entry.now (name_of fault.now) (place_of fault.now) }
+{
+    FaultLine {
+        name,
+        fault: fault.name(),
+        at: fault.at(),
+    }
+}
+
+/// Gives the line for a file that can't be opened or written. It takes no memory.
+pub fn file_line(name: &str) -> FaultLine<'_>
+    ensures { result ≡ line_of name.entry.now (codes "File") None }
+{
+    FaultLine {
+        name,
+        fault: "File",
+        at: None,
+    }
+}
+
+/// Gives the line for a service's name that can't be read. It takes no memory.
+pub fn service_line(fault: &TextFault) -> FaultLine<'static>
+    ensures { result ≡ line_of (codes "service") (text_fault_name fault.now) (text_fault_place fault.now) }
+{
+    FaultLine {
+        name: "service",
+        fault: text_fault_name(fault),
+        at: text_fault_place(fault),
+    }
+}
+
+fn text_fault_name(fault: &TextFault) -> &'static str
+    ensures { result.now ≡ text_fault_name fault.now }
+{
+    match fault {
+        TextFault::BadText { .. } => "BadText",
+        TextFault::NoRealm => "NoRealm",
+        TextFault::OutOfMemory => "OutOfMemory",
+    }
+}
+
+fn text_fault_place(fault: &TextFault) -> Option<usize>
+    ensures { result ≡ text_fault_place fault.now }
+{
+    match fault {
+        TextFault::BadText { at } => Some(*at),
+        TextFault::NoRealm | TextFault::OutOfMemory => None,
+    }
+}
+
+/// Gives the line for a confounder that isn't 32 hexadecimal digits. It takes no memory.
+pub fn confounder_line() -> FaultLine<'static>
+    ensures { result ≡ line_of (codes "confounder") (codes "BadHex") None }
+{
+    FaultLine {
+        name: "confounder",
+        fault: "BadHex",
+        at: None,
+    }
+}

@@ -1,0 +1,75 @@
+//! Running `request`: its words are read before its file is opened.
+
+use crate::fault::{EngineFault, FAILED, WRONG_WORDS, service_status};
+use crate::fault_line::{confounder_line, file_line, service_line};
+use crate::order::RequestWords;
+use crate::request::{read_confounder, read_service, request_line};
+use crate::run::{complain, complain_of, source_of};
+use krb_msg::Moment;
+use krb_name::{Principal, WriteSink};
+use std::fs::File;
+use std::io;
+use std::rt::Files;
+
+// What is asked for, but for the cache.
+#[derive(Drop)]
+struct Asked {
+    service: Principal,
+    at: Moment,
+    confounder: [u8; 16],
+    mutual: bool,
+}
+
+/// Builds a request with the credential cache and prints it, and answers the exit status.
+pub(crate) fn run_request<R: AllocGlobal + Files + Print + Eprint>(
+    rt: &R,
+    words: RequestWords<'_>,
+) -> u8 {
+    let Some(at) = moment_of(words.time, words.usec) else {
+        return WRONG_WORDS;
+    };
+    let service = match read_service(rt.alloc(), words.service) {
+        Ok(service) => service,
+        Err(fault) => return complain(rt, service_line(&fault), service_status(&fault)),
+    };
+    let Some(confounder) = read_confounder(words.confounder) else {
+        return complain(rt, confounder_line(), WRONG_WORDS);
+    };
+    let Ok(opened) = File::open(rt, words.file) else {
+        return complain(rt, file_line(words.file), FAILED);
+    };
+    let asked = Asked {
+        service,
+        at,
+        confounder,
+        mutual: words.mutual,
+    };
+    match printed(rt, opened, &asked) {
+        Ok(()) => 0,
+        Err(fault) => complain_of(rt, &fault, words.file, "request"),
+    }
+}
+
+// The words of the command line were read as numbers in these ranges.
+fn moment_of(seconds: &str, micros: &str) -> Option<Moment> {
+    Moment::new(seconds.parse::<i64>().ok()?, micros.parse::<u32>().ok()?)
+}
+
+// Prints the request, with standard output as the engine's sink.
+fn printed<R: AllocGlobal + Files + Print>(
+    rt: &R,
+    file: R::File,
+    asked: &Asked,
+) -> Result<(), EngineFault> {
+    let mut source = source_of(rt.alloc(), file)?;
+    let mut sink = WriteSink::new(io::writer(rt));
+    request_line(
+        rt.alloc(),
+        &mut source,
+        &mut sink,
+        &asked.service,
+        asked.at,
+        &asked.confounder,
+        asked.mutual,
+    )
+}

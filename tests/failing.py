@@ -1,0 +1,89 @@
+"""Runs the program where its reads and writes fail, one after another, by a preloaded library (tests/fail.c).
+
+Of each command every read, and every write, fails in turn, alone and with all that come after it; is interrupted by a signal; or moves a
+single byte. A failure is named, with status 3; what was written before it is a beginning of what is written where all goes well, and of
+accept the answers to all whole lines that came. A read or write that is short changes nothing.
+
+Each check is a pair: its name, and what is wrong, or None.
+"""
+import subprocess
+import tempfile
+
+import preload
+from preload import ALL, OLD
+
+# How many bytes of standard input accept asks for at a time.
+PIECE = 65_536
+# So that standard input takes more than one read.
+MANY = 100
+
+
+def commands(program):
+    yield from preload.file_commands()
+    yield preload.calls(program)
+    yield preload.calls_with_tails(program)
+    lines = preload.calls(program).stdin.splitlines(keepends=True)
+    yield preload.with_answer(program, preload.called(lines * MANY))
+
+
+def answers_to(command, reads):
+    """The answers to the whole lines of what so many reads of standard input gave."""
+    came = command.stdin[:reads * PIECE].count(b"\n")
+    return b"".join(command.wrote.splitlines(keepends=True)[:came])
+
+
+def is_unread(command, found, failed, reads_of_file):
+    """Whether the run is that of a failed read: of the file, or of standard input."""
+    if found.status != 3:
+        return False
+    if failed <= reads_of_file:
+        return found.said == "krbtool: f: Read\n" and not found.wrote and found.out == (OLD if command.out == OLD else b"")
+    wrote = answers_to(command, failed - reads_of_file - 1)
+    return found.said == "krbtool: input: Read\n" and found.wrote == wrote and found.out == OLD
+
+
+def is_unwritten(command, found):
+    """Whether the run is that of a failed write: into OUT, or of standard output."""
+    if found.said == "krbtool: out: File\n":
+        return found.status == 3 and not found.wrote and command.out.startswith(found.out) and found.out != command.out
+    # a buffer whose write failed once tries again when it is dropped, so all may have been written
+    begins = command.wrote.startswith(found.wrote)
+    return found.status == 3 and found.said == "krbtool: output: Write\n" and begins and found.out == command.out
+
+
+def is_right(command, call, how, lasting, failed, found):
+    if how == "short":
+        return found.is_well(command)
+    if how == "interrupted" and found.is_well(command):
+        return True
+    if lasting and call == "write":
+        # no fault's line can be written then
+        return found.status == 3 and not found.said and command.wrote.startswith(found.wrote) and command.out.startswith(found.out)
+    # a file is read once more, to find its end
+    return is_unread(command, found, failed, 2) if call == "read" else is_unwritten(command, found)
+
+
+def swept(program, command, call, how, lasting, preloaded):
+    """What is wrong with a run in which a call fails, or None where each such run is right."""
+    for failed in range(1, ALL):
+        more = {"FAIL_CALL": call, "FAIL_HOW": how, "FAIL_FIRST": str(failed), "FAIL_LAST": str(ALL if lasting else failed)}
+        found, met = preload.run(program, command, preloaded, "FAIL_TOLD", **more)
+        if not met:
+            return None if found.is_well(command) and failed > 1 else f"where {failed} calls go well it gives {found}"
+        if not is_right(command, call, how, lasting, failed, found):
+            return f"where {call} {failed} is met by '{how}' it gives {found}"
+    return "it reads or writes again and again"
+
+
+def checks(program):
+    with tempfile.TemporaryDirectory(prefix="krbtool-fail-") as folder:
+        try:
+            preloaded = preload.library(folder, "fail")
+            for command in commands(program):
+                for call in ("read", "write"):
+                    for how, lasting in (("error", False), ("error", True), ("interrupted", False), ("short", False), ("short", True)):
+                        lines = f" over {len(command.stdin.splitlines())} lines" if command.stdin else ""
+                        name = f"failing: {' '.join(command.words[:3])}{lines}, each {call}: {how}{', and all after it' if lasting else ''}"
+                        yield name, swept(program, command, call, how, lasting, preloaded)
+        except (OSError, subprocess.SubprocessError) as error:
+            yield "failing", str(error)

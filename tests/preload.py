@@ -1,0 +1,103 @@
+"""The program's commands, run beside a preloaded library of C (refuse.c, fail.c; a C compiler makes them)."""
+import os
+import subprocess
+import sys
+import tempfile
+from dataclasses import dataclass
+from pathlib import Path
+
+import generated
+
+HERE = Path(__file__).resolve().parent
+sys.path.append(str(HERE / "vectors"))
+import fixture  # noqa: E402
+OLD = b"what OUT held"
+# More calls than any command makes.
+ALL = 1_000_000
+SECONDS = 60
+TAILS = ("--service", "host/web@EX")
+
+
+@dataclass
+class Command:
+    """A command's words; the bytes of its file and of standard input; what it writes where all goes well, on standard output (None where
+    that is clap's text) and into OUT; and its status then."""
+    words: list
+    file: bytes
+    stdin: bytes
+    wrote: bytes
+    out: bytes
+    status: int = 0
+
+
+@dataclass
+class Found:
+    """Status, standard output, standard error, and OUT."""
+    status: int
+    wrote: bytes
+    said: str
+    out: bytes
+
+    def is_well(self, command):
+        return self == Found(command.status, command.wrote, "", command.out)
+
+
+def file_commands():
+    keytab, cache = (generated.EXAMPLES / "mit-holes.keytab").read_bytes(), (generated.EXAMPLES / "heimdal.ccache").read_bytes()
+    for word, (_, command) in generated.COMMANDS.items():
+        file = keytab if word.endswith("keytab") else cache
+        if word.startswith("convert"):
+            made = command(file)
+            yield Command([word, "f", "out"], file, b"", f"wrote {len(made)}\n".encode(), made)
+        else:
+            yield Command([word, "f"], file, b"", command(file).encode(), OLD)
+    yield requested()
+
+
+def requested():
+    words = "request f host/web@EX --time 1700000100 --usec 5 --mutual --confounder 202122232425262728292a2b2c2d2e2f".split()
+    return Command(words, fixture.cache(), b"", f"{fixture.request(0x20000000).hex()}\n".encode(), OLD)
+
+
+def called(lines, *more):
+    """The command accept over these lines. What it answers is not known yet."""
+    return Command(["accept", "f", *more], (generated.EXAMPLES / "service.keytab").read_bytes(), b"".join(lines), None, OLD)
+
+
+def library(folder, name):
+    made = f"{folder}/{name}.so"
+    subprocess.run(["cc", "-shared", "-fPIC", "-O1", "-o", made, str(HERE / f"{name}.c")], check=True, capture_output=True)
+    return made
+
+
+def run(program, command, preloaded=None, told=None, **more):
+    """What a run gives, and whether the library met what it waits for (then it makes the file that the variable `told` names)."""
+    with tempfile.TemporaryDirectory(prefix="krbtool-preload-") as name:
+        room = Path(name)
+        (room / "f").write_bytes(command.file)
+        (room / "out").write_bytes(OLD)
+        (room / "stdin").write_bytes(command.stdin)
+        if preloaded:
+            more = {"LD_PRELOAD": preloaded, told: str(room / "told"), **more}
+        with open(room / "stdin", "rb") as stdin:
+            done = subprocess.run([program, *command.words], cwd=room, env={**os.environ, **more}, stdin=stdin, capture_output=True, timeout=SECONDS)
+        found = Found(done.returncode, done.stdout, done.stderr.decode(errors="replace"), (room / "out").read_bytes())
+        return found, (room / "told").exists()
+
+
+def with_answer(program, command):
+    """The command, with what it writes and its status where all goes well."""
+    found, _ = run(program, command)
+    return Command(command.words, command.file, command.stdin, found.wrote, found.out, found.status)
+
+
+def calls(program):
+    """Lines of each kind: a request, the same again, no request, another form, and a repeat."""
+    lines = (generated.EXAMPLES / "calls.txt").read_bytes().splitlines(keepends=True)
+    return with_answer(program, called(lines + lines[:1]))
+
+
+def calls_with_tails(program):
+    """A service of this name, which gets a request for a reply, no request, another form, and the first again."""
+    mutual = f"1700000100 5 {fixture.request(0x20000000).hex()} {'5a' * 16}\n".encode()
+    return with_answer(program, called([mutual, b"1700000100 7 -\n", b"hello\n", mutual], *TAILS))
