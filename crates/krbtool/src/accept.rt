@@ -224,7 +224,7 @@ fn answer_source<M: ReplayMemory, S: Source, K: Sink>(
 /// # Errors
 /// - `Input`: a read failed, or 1,099,511,627,776 bytes came. The whole lines of what came were answered.
 /// - `Write`: the sink failed. It took the answers to all lines that were taken but the last, and a beginning of that.
-/// - `OutOfMemory`: there was no room, other than in a call or for what follows its answer. The sink took as much too.
+/// - `OutOfMemory`: there was no room, other than in a call or for a reply or an error. The sink took as much too.
 ///
 /// Condition: fewer than 18,446,744,073,709,551,615 reads and writes have failed so far.
 pub fn accept_lines<M: ReplayMemory, S: Source, K: Sink>(
