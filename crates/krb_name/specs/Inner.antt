@@ -1,5 +1,4 @@
 pub mod Components
 pub mod Escapes
 pub mod Names
-pub mod Pieces
 pub mod Window

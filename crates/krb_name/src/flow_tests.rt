@@ -1,5 +1,8 @@
+ghost use Rattle.std.specs.Prelude.{◌<◌, ◌^◌, ◌-◌};
+
 use super::*;
 use crate::tests::is;
+use std::alloc::Global;
 use std::io;
 use std::io::{ErrorKind, Read, Write};
 use std::test::*;
@@ -36,28 +39,34 @@ impl Write for Full {
     }
 }
 
+// What a source gives where so many bytes are asked of it, and whether so many came.
+fn given<S: Source + Drop>(alloc: Global, source: S, count: u16) -> Result<(Vec<u8>, bool), ReadFault>
+    requires { S.failure_count source < 2 ^ 64 - 1 }
+{
+    let mut window = Window::new(alloc, source);
+    let came = window.fill(usize::from(count))?;
+    Ok((Vec::from_slice(alloc, window.bytes())?, came))
+}
+
 #[test]
-fn reading_to_the_limit(rt: HostRuntime) -> Result<(), Fail> {
+fn reading(rt: HostRuntime) -> Result<(), Fail> {
     let bytes = [1, 2, 3, 4, 5];
-    let table: [(usize, &[u8]); 6] = [
-        (0, &[1]),
-        (3, &[1, 2, 3, 4]),
-        (4, &[1, 2, 3, 4, 5]),
-        (5, &[1, 2, 3, 4, 5]),
-        (6, &[1, 2, 3, 4, 5]),
-        (usize::MAX, &[1, 2, 3, 4, 5]),
+    let table: [(u16, &[u8], bool); 5] = [
+        (0, &[], true),
+        (3, &[1, 2, 3], true),
+        (4, &[1, 2, 3, 4], true),
+        (5, &[1, 2, 3, 4, 5], true),
+        (6, &[1, 2, 3, 4, 5], false),
     ];
-    for (limit, want) in table {
-        let whole = read_to_limit(rt.alloc(), &mut SliceSource::new(&bytes), limit)?;
-        assert_eq!(rt; whole.as_slice(), want, "limit {limit}");
+    for (count, want, came) in table {
+        let whole = given(rt.alloc(), SliceSource::new(&bytes), count)?;
+        assert_eq!(rt; (whole.0.as_slice(), whole.1), (want, came), "{count} bytes");
         for piece in 1..4 {
-            let mut source = PieceSource::new(&bytes, piece, None);
-            let read = read_to_limit(rt.alloc(), &mut source, limit)?;
-            assert_eq!(rt; read.as_slice(), want, "limit {limit}, {piece} a read");
+            let read = given(rt.alloc(), PieceSource::new(&bytes, piece, None), count)?;
+            assert_eq!(rt; (read.0.as_slice(), read.1), (want, came), "{count}, {piece} a read");
         }
-        let mut reader = ReadSource::new(bytes.as_slice());
-        let read = read_to_limit(rt.alloc(), &mut reader, limit)?;
-        assert_eq!(rt; read.as_slice(), want, "limit {limit}, by a reader");
+        let read = given(rt.alloc(), ReadSource::new(bytes.as_slice()), count)?;
+        assert_eq!(rt; (read.0.as_slice(), read.1), (want, came), "{count}, by a reader");
     }
     Ok(())
 }
@@ -66,27 +75,24 @@ fn reading_to_the_limit(rt: HostRuntime) -> Result<(), Fail> {
 #[test]
 fn reading_fails(rt: HostRuntime) {
     for failing in 1..6 {
-        let mut source = PieceSource::new(&[1, 2, 3, 4, 5], 2, Some(failing));
-        let read = read_to_limit(rt.alloc(), &mut source, 100);
+        let source = PieceSource::new(&[1, 2, 3, 4, 5], 2, Some(failing));
+        let mut window = Window::new(rt.alloc(), source);
+        let came = window.fill(100);
         if failing < 5 {
             assert!(rt;
-                matches!(read, Err(ReadFault::Read)),
+                matches!(came, Err(ReadFault::Read)),
                 "read {failing} fails"
             );
-            is(&rt, source.failures(), 1);
+            is(&rt, window.source().failures(), 1);
         } else {
-            assert!(rt; read.is_ok());
-            is(&rt, source.failures(), 0);
+            assert!(rt; matches!(came, Ok(false)));
+            is(&rt, window.source().failures(), 0);
         }
     }
-    let mut source = ReadSource::new(Flaky(0));
-    assert!(rt;
-        matches!(
-            read_to_limit(rt.alloc(), &mut source, 9),
-            Err(ReadFault::Read)
-        )
-    );
-    is(&rt, source.failures(), 1);
+    let mut window = Window::new(rt.alloc(), ReadSource::new(Flaky(0)));
+    assert!(rt; matches!(window.fill(9), Err(ReadFault::Read)));
+    is(&rt, window.source().failures(), 1);
+    is(&rt, window.bytes(), [7].as_slice());
 }
 
 #[test]

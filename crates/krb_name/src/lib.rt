@@ -42,7 +42,7 @@ pub use components::Components;
 pub use cursor::{FileCursor, Short};
 pub use pieces::{PieceSink, PieceSource};
 pub use principal::Principal;
-pub use reading::{ReadFault, read_to_limit};
+pub use reading::ReadFault;
 pub use sink::{Sink, SinkFailed, WriteSink};
 pub use slice_source::SliceSource;
 pub use source::{ReadSource, Source, SourceFailed};
