@@ -5,8 +5,10 @@
 
 Then it compares the tables of the crates' tests with the scripts that make them (tests/tables.py), holds README.md to what is there
 (tests/readme.py), runs the script krbtool (tests/script.py), refuses the program's calls for memory one after another
-(tests/refused.py), lets its reads and writes fail (tests/failing.py), compares it with a second client and service on generated input
-(tests/exchange.py), and ends with what MIT's tools say of files that the program wrote (tests/peers.py; Debian's package krb5-user).
+(tests/refused.py), and those of further calls of the library (tests/calls.py, by the program of the crate krb_calls), runs it within less
+and less memory (tests/limited.py), lets its reads and writes fail (tests/failing.py), compares it with a second client and service on
+generated input (tests/exchange.py), and ends with what MIT's tools say of files that the program wrote (tests/peers.py; Debian's package
+krb5-user).
 
 A case is a table [[case]] of a TOML file:
 
@@ -45,10 +47,12 @@ TOP = HERE.parent
 sys.path.insert(0, str(HERE))
 sys.dont_write_bytecode = True
 
+import calls  # noqa: E402
 import dialogue  # noqa: E402
 import exchange  # noqa: E402
 import failing  # noqa: E402
 import generated  # noqa: E402
+import limited  # noqa: E402
 import peers  # noqa: E402
 import readme  # noqa: E402
 import refused  # noqa: E402
@@ -58,6 +62,7 @@ import tables  # noqa: E402
 WORDS = """name args files folders links umask stdin output closed status stdout stdout_begins stdout_holds stderr stderr_begins
     after modes gone"""
 KEYS = set(WORDS.split())
+PARTS = (tables, readme, script, refused, calls, limited, failing, dialogue, exchange, peers)
 
 
 def content(text):
@@ -158,8 +163,8 @@ def results(program, word, jobs):
     """The name of each case and what is wrong with it, or None. Cases run side by side, each in a folder of its own."""
     chosen = (case for case in chain(stored_cases(), generated.cases()) if word in case["name"])
     yield from in_turn(jobs, lambda case: (case["name"], run(program, case)), chosen)
-    for part in (tables.checks, readme.checks, script.checks, refused.checks, failing.checks, dialogue.checks, exchange.checks, peers.checks):
-        yield from ((name, wrong) for name, wrong in part(program) if word in name)
+    for part in PARTS:
+        yield from ((name, wrong) for name, wrong in part.checks(program) if word in name)
 
 
 def read_words():

@@ -1,9 +1,7 @@
 //! Calls that are made twice: where memory was refused to the first, the second shows that nothing has changed.
 
 use crate::given::{CONFOUNDER, cache, entry, keytab, keytab_file, moment, request};
-use krb_ap::{
-    Acceptor, Agreed, Call, FinishFault, Outcome, Pending, Refusal, ReplyOptions,
-};
+use krb_ap::{Acceptor, Agreed, Call, FinishFault, Outcome, Pending, Refusal, ReplyOptions};
 use krb_enc::{Key, OpenFault};
 use krb_keytab::{Keytab, KeytabFault};
 use krb_msg::Moment;
@@ -52,11 +50,12 @@ fn tell_opened(rt: &HostRuntime, opened: Result<Vec<u8>, OpenFault>) -> Option<(
     }
 }
 
-/// An entry is added at the end of a keytab.
+/// An entry is added at the end of a keytab that has no room to spare.
 pub(crate) fn append(rt: &HostRuntime) -> Option<()> {
     let mut file = keytab_file(rt)?;
     let entry = entry(rt.alloc(), 7)?;
     for _ in 0..2 {
+        file = file.to_vec(rt.alloc()).ok()?;
         let added = Keytab::add_in(&mut file, &entry);
         tell_added(rt, added, &file)?;
     }
@@ -131,11 +130,19 @@ fn accept_twice<M: ReplayMemory>(rt: &HostRuntime, acceptor: &mut Acceptor<M>) -
     let made = request(rt.alloc(), &cache(rt)?, 5)?;
     let now = moment(5)?;
     for _ in 0..2 {
-        let outcome = acceptor.accept(rt.alloc(), &made.0, now);
-        tell_outcome(rt, &outcome)?;
-        tell_memory(rt, acceptor.memory())?;
+        accept_once(rt, acceptor, &made.0, now)?;
     }
     Some(())
+}
+
+fn accept_once<M: ReplayMemory>(
+    rt: &HostRuntime,
+    acceptor: &mut Acceptor<M>,
+    bytes: &[u8],
+    now: Moment,
+) -> Option<()> {
+    tell_outcome(rt, &acceptor.accept(rt.alloc(), bytes, now))?;
+    tell_memory(rt, acceptor.memory())
 }
 
 fn tell_outcome(rt: &HostRuntime, outcome: &Outcome) -> Option<()> {
@@ -165,7 +172,11 @@ pub(crate) fn serve(rt: &HostRuntime) -> Option<()> {
     let first = request(rt.alloc(), &cache, 5)?;
     let other = request(rt.alloc(), &cache, 6)?;
     let now = moment(6)?;
-    let calls = [call(&first.0, now), call(&first.0, now), call(&other.0, now)];
+    let calls = [
+        call(&first.0, now),
+        call(&first.0, now),
+        call(&other.0, now),
+    ];
     for _ in 0..2 {
         serve_once(rt, &calls)?;
     }

@@ -20,8 +20,12 @@ pub(crate) fn keytab_file(rt: &HostRuntime) -> Option<Vec<u8>> {
 }
 
 pub(crate) fn cache(rt: &HostRuntime) -> Option<CCache> {
-    let file = fs::read(rt, "client.ccache").ok()?;
+    let file = cache_file(rt)?;
     CCache::parse(rt.alloc(), &file).ok()
+}
+
+pub(crate) fn cache_file(rt: &HostRuntime) -> Option<Vec<u8>> {
+    fs::read(rt, "client.ccache").ok()
 }
 
 pub(crate) fn service(alloc: Global) -> Option<Principal> {

@@ -1,16 +1,17 @@
 //! Calls of many sizes, with ample memory: none is refused, and each gives what it should.
 
-use crate::given::{CONFOUNDER, cache, entry, keytab, moment, request, service};
-use krb_ap::{Acceptor, Refusal, ReplyOptions, RequestOptions, error_reply, make_request};
-use krb_ccache::{CCache, Credential, TypedList};
+use crate::given::{CONFOUNDER, cache, cache_file, entry, keytab, moment, request, service};
+use krb_ap::{Acceptor, Pending, Refusal, ReplyOptions, RequestOptions, error_reply, make_request};
+use krb_ccache::CCache;
 use krb_enc::Key;
 use krb_keytab::Keytab;
 use krb_msg::KrbErrorRef;
-use krb_name::{Bytes, Principal, SliceSource};
+use krb_name::{Principal, SliceSource};
 use krb_replay::{ListMemory, ReplayMemory, Skew, TimedMemory};
 use std::alloc::Global;
 
 /// How many trials gave what they should, and how many didn't.
+#[derive(Drop)]
 struct Tally {
     right: u64,
     wrong: u64,
@@ -97,63 +98,54 @@ fn does_each_return(keytab: &Keytab, mut file: Vec<u8>) -> Option<bool> {
 
 /// Caches of 0 to 300 credentials are written and read, and a request is made with the last one.
 pub(crate) fn caches(rt: &HostRuntime) -> Option<()> {
-    let model = cache(rt)?;
+    let model = cache_file(rt)?;
     let mut tally = Tally::new();
-    for count in 0..=300u32 {
+    for count in 0..=300u16 {
         tally.add(is_cache_kept(rt.alloc(), &model, count));
     }
     tally.tell(rt)
 }
 
-fn is_cache_kept(alloc: Global, model: &CCache, count: u32) -> Option<bool> {
-    let cache = cache_of(alloc, model, count)?;
-    let file = cache.to_bytes(alloc).ok()?;
+fn is_cache_kept(alloc: Global, model: &[u8], count: u16) -> Option<bool> {
+    let file = cache_of(alloc, model, count)?;
     let read = CCache::read(alloc, &mut SliceSource::new(&file)).ok()?;
-    let is_whole = read.credentials().len() == usize::try_from(count).ok()?;
+    let is_whole = read.credentials().len() == usize::from(count);
     let is_same = read.to_bytes(alloc).ok()? == file;
     Some(is_whole && is_same && (count == 0 || is_last_used(alloc, &read)?))
 }
 
-fn cache_of(alloc: Global, model: &CCache, count: u32) -> Option<CCache> {
-    let mut credentials = Vec::new(alloc);
+// Where the one credential begins in the model's bytes, and in the credential the last component of its service's name.
+const CREDENTIAL: usize = 27;
+
+const COMPONENT: usize = 49;
+
+/// So many credentials, each for a service of its own.
+fn cache_of(alloc: Global, model: &[u8], count: u16) -> Option<Vec<u8>> {
+    let (head, credential) = model.split_at_checked(CREDENTIAL)?;
+    let mut file = head.to_vec(alloc).ok()?;
     for number in 0..count {
-        let credential = credential(alloc, model.credentials().first()?, number)?;
-        credentials.push(credential).ok()?;
+        add_credential(&mut file, credential, number)?;
     }
-    let client = model.default_principal().clone().ok()?;
-    CCache::from_parts(Vec::new(alloc), client, credentials)
+    Some(file)
 }
 
-/// The credential, as one for a service of that number.
-fn credential(alloc: Global, model: &Credential, number: u32) -> Option<Credential> {
-    let service = format!(in alloc; "host/web{number}@EX").ok()?;
-    Some(Credential {
-        client: model.client.clone().ok()?,
-        server: Principal::from_text(alloc, service.as_str(), 3).ok()?,
-        etype: model.etype,
-        key: model.key.clone().ok()?,
-        authtime: model.authtime,
-        starttime: model.starttime,
-        endtime: model.endtime,
-        renew_till: model.renew_till,
-        is_skey: model.is_skey,
-        ticket_flags: model.ticket_flags,
-        addresses: TypedList::new(alloc),
-        authdata: TypedList::new(alloc),
-        ticket: model.ticket.clone().ok()?,
-        second_ticket: Bytes::new(alloc),
-    })
+fn add_credential(file: &mut Vec<u8>, credential: &[u8], number: u16) -> Option<()> {
+    let (before, rest) = credential.split_at_checked(COMPONENT)?;
+    let [high, low] = number.to_be_bytes();
+    file.extend_from_slice(before).ok()?;
+    file.extend_from_slice(&[high, low, b'b']).ok()?;
+    file.extend_from_slice(rest.get(3..)?).ok()
 }
 
 fn is_last_used(alloc: Global, cache: &CCache) -> Option<bool> {
-    let last = cache.credentials().last()?;
+    let service = &cache.credentials().last()?.server;
     let options = RequestOptions {
         mutual: false,
         subkey: None,
         seq: None,
     };
     let now = moment(5)?;
-    let made = make_request(alloc, cache, &last.server, now, &CONFOUNDER, options).ok()?;
+    let made = make_request(alloc, cache, service, now, &CONFOUNDER, options).ok()?;
     Some(!made.0.is_empty())
 }
 
@@ -208,14 +200,28 @@ fn is_agreed<M: ReplayMemory>(
     micros: u32,
 ) -> Option<bool> {
     let made = request(alloc, cache, micros)?;
-    let accepted = acceptor.accept(alloc, &made.0, moment(1_000)?).ok()?;
+    let reply = reply_of(alloc, acceptor, &made.0, micros)?;
+    is_finished(alloc, &made.1, &reply, micros)
+}
+
+fn reply_of<M: ReplayMemory>(
+    alloc: Global,
+    acceptor: &mut Acceptor<M>,
+    request: &[u8],
+    number: u32,
+) -> Option<Vec<u8>> {
+    let now = moment(1_000)?;
+    let accepted = acceptor.accept(alloc, request, now).ok()?;
     let options = ReplyOptions {
         subkey: None,
-        seq: Some(micros),
+        seq: Some(number),
     };
-    let reply = accepted.reply(alloc, &CONFOUNDER, options).ok()?;
-    let agreed = made.1.finish(alloc, &reply).ok()?;
-    Some(agreed.service_seq == Some(micros))
+    accepted.reply(alloc, &CONFOUNDER, options).ok()
+}
+
+fn is_finished(alloc: Global, pending: &Pending, reply: &[u8], number: u32) -> Option<bool> {
+    let agreed = pending.finish(alloc, reply).ok()?;
+    Some(agreed.service_seq == Some(number))
 }
 
 const REFUSALS: [Refusal; 16] = [

@@ -64,9 +64,9 @@ accept = with_rule (with_rule accept_operands (number_option (codes "skew") 86_4
 abbrev pub with_two : App → App → App → App
 with_two app one other = with_subcommand (with_subcommand app one.top) other.top
 
--- krbtool COMMAND ..: one of its commands has to be there
+-- krbtool COMMAND ..: one of its commands has to be there; it has a version, which --version asks for
 abbrev pub bare : App
-bare = let top = new_app (codes "krbtool") in record top { top = record top.top { subcommand_required = true } }
+bare = let top = new_app (codes "krbtool") in record top { top = record top.top { has_version = true; subcommand_required = true } }
 
 abbrev pub with_lists : App
 with_lists = with_two bare (of_file (codes "list-keytab")) (of_file (codes "list-ccache"))

@@ -1,5 +1,5 @@
 -- The lines that the commands print. Each ends in the byte 10, and its words have the byte 32 between them.
-use Rattle.std.specs.Prelude.{◌≢◌, List, [], ◌∷◌, ◌++◌, ℕ, ℤ, Bool, false, ◌&&◌, Option, Some, None, All, codes, if◌then◌else◌}
+use Rattle.std.specs.Prelude.{List, [], ◌∷◌, ◌++◌, ℕ, ℤ, Bool, false, ◌&&◌, Option, Some, None, codes, if◌then◌else◌}
 use Rattle.std.specs.Int.{w32}
 use Rattle.std.specs.List.{flat_map}
 use Rattle.std.specs.Str.{bytes_eq}
@@ -9,10 +9,9 @@ use Rattle.krb_name.specs.Cursor.{number_bytes}
 use Rattle.krb_name.specs.Text.{text_of}
 use Rattle.krb_name.specs.declared.principal.Principal.{Principal}
 use Rattle.krb_keytab.specs.Entry.{KeytabEntry}
-use Rattle.krb_ccache.specs.Configuration.{HoldsOffset}
+use Rattle.krb_ccache.specs.Offset.{clock_offset}
 use Rattle.krb_ccache.specs.Value.{Cache}
 use Rattle.krb_ccache.specs.declared.credential.Credential.{Credential}
-use Rattle.krb_ccache.specs.declared.credential.HeaderField.{HeaderField}
 
 -- key version number, enctype, timestamp and principal
 abbrev pub keytab_line : KeytabEntry → List ℕ
@@ -57,17 +56,12 @@ ticket_line c =
 abbrev pub credential_line : Credential → List ℕ
 credential_line c = if is_config c then config_line c else ticket_line c
 
--- the KDC's clock offset that a header holds, if any
-abbrev pub IsOffset : List HeaderField → Option (ℤ × ℤ) → Type 0
-IsOffset header None = All (λ field. field.tag ≢ 1) header
-IsOffset header (Some offset) = HoldsOffset header offset.0 offset.1
-
 -- the default principal, and the offset where there is one
 abbrev pub head_lines : Principal → Option (ℤ × ℤ) → List ℕ
 head_lines name None = codes "default " ++ (text_of name ++ 10 ∷ [])
 head_lines name (Some offset) =
     codes "default " ++ (text_of name ++ (codes "\noffset " ++ (signed_decimal offset.0 ++ (32 ∷ (signed_decimal offset.1 ++ 10 ∷ [])))))
 
--- what list-ccache prints: these, and a line for each credential, in their order
-abbrev pub cache_lines : Cache → Option (ℤ × ℤ) → List ℕ
-cache_lines cache offset = head_lines cache.default_principal offset ++ flat_map credential_line cache.credentials
+-- what list-ccache prints: these, with the KDC's clock offset that the header holds, and a line for each credential, in their order
+abbrev pub cache_lines : Cache → List ℕ
+cache_lines cache = head_lines cache.default_principal (clock_offset cache.header) ++ flat_map credential_line cache.credentials

@@ -9,50 +9,109 @@ use clap::builder::ValueParser;
 use clap::{Arg, ArgAction, Command};
 use std::alloc::{AllocError, Global};
 
+// What a command's help says at its end, and of its exit status.
+macro_rules! with_statuses {
+    ($text:literal, $refused:literal) => {
+        concat!(
+            $text,
+            "\n\nExit status: 0 if all is well, 1 ",
+            $refused,
+            ", 2 if these words are wrong, 3 if something can't be opened, read or written, or for want of memory"
+        )
+    };
+}
+
+macro_rules! of_faulty_file {
+    ($text:literal) => {
+        with_statuses!($text, "if the file is faulty")
+    };
+}
+
+/// What help says of a command over a file: what it does, what the file is, and more at the end.
+struct Help<'a> {
+    about: &'a str,
+    file: &'a str,
+    end: &'a str,
+}
+
+const KEYTAB: &str = "The keytab";
+
+const CCACHE: &str = "The credential cache";
+
+const LIST_KEYTAB: Help<'static> = Help {
+    about: "Lists a keytab: kvno, enctype, timestamp and principal of each entry",
+    file: KEYTAB,
+    end: of_faulty_file!(
+        "Each line: KVNO ENCTYPE TIMESTAMP PRINCIPAL; the timestamp in seconds since 1970-01-01."
+    ),
+};
+
+const LIST_CCACHE: Help<'static> = Help {
+    about: "Lists a credential cache: its principal, clock offset, configuration entries and tickets",
+    file: CCACHE,
+    end: of_faulty_file!(
+        "Lines:\n  default PRINCIPAL\n  offset SECONDS MICROSECONDS\n  config PRINCIPAL\n  ticket ENCTYPE AUTHTIME STARTTIME ENDTIME RENEW-TILL FLAGS CLIENT SERVER\nTimes are in seconds since 1970-01-01, 0 where there is none; flags are 8 hexadecimal digits."
+    ),
+};
+
+const CHECK_KEYTAB: Help<'static> = Help {
+    about: "Checks a keytab: says how many entries it has, or where it is faulty",
+    file: KEYTAB,
+    end: of_faulty_file!(
+        "It prints 'ok COUNT', or on standard error what is wrong, and at which byte."
+    ),
+};
+
+const CHECK_CCACHE: Help<'static> = Help {
+    about: "Checks a credential cache: says how many credentials it has, or where it is faulty",
+    file: CCACHE,
+    end: of_faulty_file!(
+        "It prints 'ok COUNT', or on standard error what is wrong, and at which byte."
+    ),
+};
+
+const CONVERT_KEYTAB: Help<'static> = Help {
+    about: "Writes a keytab anew, without holes and without what follows its entries",
+    file: KEYTAB,
+    end: of_faulty_file!("It prints 'wrote COUNT', of bytes."),
+};
+
+const CONVERT_CCACHE: Help<'static> = Help {
+    about: "Writes a credential cache anew",
+    file: CCACHE,
+    end: of_faulty_file!("It prints 'wrote COUNT', of bytes."),
+};
+
+const REQUEST: Help<'static> = Help {
+    about: "Builds a request for a service with a ticket of a credential cache, and prints it in hexadecimal",
+    file: CCACHE,
+    end: with_statuses!(
+        "It prints one line of hexadecimal digits.",
+        "if the file is faulty, or there is no request"
+    ),
+};
+
 // A command whose one operand is a file.
 fn of_file_command<'a>(
     alloc: Global,
     name: &'a str,
-    about: &'a str,
-    help: &'a str,
+    help: &Help<'a>,
 ) -> Result<Command<'a>, AllocError>
     ensures app { IfOk result (λ c. app_of c ≡ of_file name.entry.now) }
     ensures local { IfOk result (λ c. (out-Command c).has_globals ≡ false) }
 {
-    let file = Arg::new(alloc, "FILE").required(true).help(help);
-    Command::new(alloc, name).about(about).arg(file)
-}
-
-fn list_keytab_command<'a>(alloc: Global) -> Result<Command<'a>, AllocError>
-    ensures app { IfOk result (λ c. app_of c ≡ of_file (codes "list-keytab")) }
-    ensures local { IfOk result (λ c. (out-Command c).has_globals ≡ false) }
-{
-    of_file_command(
-        alloc,
-        "list-keytab",
-        "Lists a keytab: kvno, enctype, timestamp and principal of each entry",
-        "The keytab",
-    )
-}
-
-fn check_keytab_command<'a>(alloc: Global) -> Result<Command<'a>, AllocError>
-    ensures app { IfOk result (λ c. app_of c ≡ of_file (codes "check-keytab")) }
-    ensures local { IfOk result (λ c. (out-Command c).has_globals ≡ false) }
-{
-    of_file_command(
-        alloc,
-        "check-keytab",
-        "Checks a keytab: says how many entries it has, or where it is faulty",
-        "The keytab",
-    )
+    let file = Arg::new(alloc, "FILE").required(true).help(help.file);
+    Command::new(alloc, name)
+        .about(help.about)
+        .after_help(help.end)
+        .arg(file)
 }
 
 // A command whose operands are a file and one that it makes.
 fn of_file_and_out_command<'a>(
     alloc: Global,
     name: &'a str,
-    about: &'a str,
-    help: &'a str,
+    help: &Help<'a>,
 ) -> Result<Command<'a>, AllocError>
     ensures app { IfOk result (λ c. app_of c ≡ of_file_and_out name.entry.now) }
     ensures local { IfOk result (λ c. (out-Command c).has_globals ≡ false) }
@@ -60,55 +119,7 @@ fn of_file_and_out_command<'a>(
     let out = Arg::new(alloc, "OUT").required(true).help(
         "The file to write. It is emptied before FILE is read, so it must not be FILE; a new one is its owner's alone",
     );
-    of_file_command(alloc, name, about, help)?.arg(out)
-}
-
-fn convert_keytab_command<'a>(alloc: Global) -> Result<Command<'a>, AllocError>
-    ensures app { IfOk result (λ c. app_of c ≡ of_file_and_out (codes "convert-keytab")) }
-    ensures local { IfOk result (λ c. (out-Command c).has_globals ≡ false) }
-{
-    of_file_and_out_command(
-        alloc,
-        "convert-keytab",
-        "Writes a keytab anew, without holes and without what follows its entries",
-        "The keytab",
-    )
-}
-
-fn list_ccache_command<'a>(alloc: Global) -> Result<Command<'a>, AllocError>
-    ensures app { IfOk result (λ c. app_of c ≡ of_file (codes "list-ccache")) }
-    ensures local { IfOk result (λ c. (out-Command c).has_globals ≡ false) }
-{
-    of_file_command(
-        alloc,
-        "list-ccache",
-        "Lists a credential cache: its principal, clock offset, configuration entries and tickets",
-        "The credential cache",
-    )
-}
-
-fn check_ccache_command<'a>(alloc: Global) -> Result<Command<'a>, AllocError>
-    ensures app { IfOk result (λ c. app_of c ≡ of_file (codes "check-ccache")) }
-    ensures local { IfOk result (λ c. (out-Command c).has_globals ≡ false) }
-{
-    of_file_command(
-        alloc,
-        "check-ccache",
-        "Checks a credential cache: says how many credentials it has, or where it is faulty",
-        "The credential cache",
-    )
-}
-
-fn convert_ccache_command<'a>(alloc: Global) -> Result<Command<'a>, AllocError>
-    ensures app { IfOk result (λ c. app_of c ≡ of_file_and_out (codes "convert-ccache")) }
-    ensures local { IfOk result (λ c. (out-Command c).has_globals ≡ false) }
-{
-    of_file_and_out_command(
-        alloc,
-        "convert-ccache",
-        "Writes a credential cache anew",
-        "The credential cache",
-    )
+    of_file_command(alloc, name, help)?.arg(out)
 }
 
 // An option with a whole number up to some greatest one.
@@ -153,13 +164,7 @@ fn request_with_operands<'a>(alloc: Global) -> Result<Command<'a>, AllocError>
     let service = Arg::new(alloc, "SERVICE")
         .required(true)
         .help("The service's name, as host/web@EXAMPLE.COM");
-    of_file_command(
-        alloc,
-        "request",
-        "Builds a request for a service with a ticket of a credential cache, and prints it in hexadecimal",
-        "The credential cache",
-    )?
-    .arg(service)
+    of_file_command(alloc, "request", &REQUEST)?.arg(service)
 }
 
 // And with the moment.
@@ -193,6 +198,11 @@ fn request_command<'a>(alloc: Global) -> Result<Command<'a>, AllocError>
     request_with_moment(alloc)?.arg(confounder)?.arg(mutual)
 }
 
+const ACCEPT_END: &str = with_statuses!(
+    "A line of input: the service's clock (seconds since 1970-01-01, and microseconds), the request in hexadecimal (- for no bytes), and a confounder for the reply (32 digits). Its answer:\n  accepted CLIENT ENCTYPE SECONDS MICROS plain|mutual [reply HEX]\n  refused CODE NAME [error HEX]\n  bad line",
+    "if the keytab is faulty, or a request or a line is refused"
+);
+
 // The command `accept` with its operand.
 fn accept_with_operand<'a>(alloc: Global) -> Result<Command<'a>, AllocError>
     ensures app { IfOk result (λ c. app_of c ≡ accept_operands) }
@@ -205,6 +215,7 @@ fn accept_with_operand<'a>(alloc: Global) -> Result<Command<'a>, AllocError>
         .about(
             "Answers requests: for each line SECONDS MICROS HEX [CONFOUNDER] of standard input, whether a service accepts it",
         )
+        .after_help(ACCEPT_END)
         .arg(keytab)
 }
 
@@ -253,30 +264,31 @@ fn bare_command<'a>(alloc: Global) -> Command<'a>
 {
     Command::new(alloc, "krbtool")
         .about("Kerberos 5 keytabs, credential caches and AP exchange")
+        .version("0.1.0")
         .subcommand_required(true)
 }
 
 fn command_with_lists<'a>(alloc: Global) -> Result<Command<'a>, AllocError>
     ensures { IfOk result (λ c. app_of c ≡ with_lists) }
 {
-    let keytab = list_keytab_command(alloc)?;
-    let ccache = list_ccache_command(alloc)?;
+    let keytab = of_file_command(alloc, "list-keytab", &LIST_KEYTAB)?;
+    let ccache = of_file_command(alloc, "list-ccache", &LIST_CCACHE)?;
     with_two(bare_command(alloc), keytab, ccache)
 }
 
 fn command_with_checks<'a>(alloc: Global) -> Result<Command<'a>, AllocError>
     ensures { IfOk result (λ c. app_of c ≡ with_checks) }
 {
-    let keytab = check_keytab_command(alloc)?;
-    let ccache = check_ccache_command(alloc)?;
+    let keytab = of_file_command(alloc, "check-keytab", &CHECK_KEYTAB)?;
+    let ccache = of_file_command(alloc, "check-ccache", &CHECK_CCACHE)?;
     with_two(command_with_lists(alloc)?, keytab, ccache)
 }
 
 fn command_with_conversions<'a>(alloc: Global) -> Result<Command<'a>, AllocError>
     ensures { IfOk result (λ c. app_of c ≡ with_conversions) }
 {
-    let keytab = convert_keytab_command(alloc)?;
-    let ccache = convert_ccache_command(alloc)?;
+    let keytab = of_file_and_out_command(alloc, "convert-keytab", &CONVERT_KEYTAB)?;
+    let ccache = of_file_and_out_command(alloc, "convert-ccache", &CONVERT_CCACHE)?;
     with_two(command_with_checks(alloc)?, keytab, ccache)
 }
 

@@ -1,6 +1,6 @@
 //! The engines of `list-keytab` and `list-ccache`.
 
-ghost use Rattle.std.specs.Prelude.{◌≡◌, ◌⊎◌, ◌+◌, ◌-◌, ◌^◌, ◌<◌, ℕ, ℤ, List, Option, Some, Err, IfOk, IfErr, IfSome, OnOk, OnErr, string_bytes};
+ghost use Rattle.std.specs.Prelude.{◌≡◌, ◌⊎◌, ◌+◌, ◌-◌, ◌^◌, ◌<◌, ℕ, List, Some, Err, IfOk, IfErr, IfSome, OnOk, OnErr, string_bytes};
 ghost use Rattle.std.specs.Io.KnownBytes.{Appends, Keeps};
 ghost use Rattle.krb_name.specs.Flow.{AppendsBeginning};
 ghost use Rattle.krb_ccache.specs.Format.{IsCache};
@@ -8,7 +8,7 @@ ghost use Rattle.krb_ccache.specs.Format as in_cache;
 ghost use Rattle.krb_ccache.specs.declared.fault.CacheFault.{CacheFault};
 ghost use Rattle.krb_keytab.specs.Format.{IsKeytab, IsFaultOf};
 ghost use Rattle.krb_keytab.specs.declared.fault.KeytabFault.{KeytabFault};
-ghost use Rattle.krbtool.specs.Lines.{keytab_line, keytab_lines, credential_line, config_line, ticket_line, times_of, names_of, head_lines, IsOffset, cache_lines};
+ghost use Rattle.krbtool.specs.Lines.{keytab_line, keytab_lines, credential_line, config_line, ticket_line, times_of, names_of, head_lines, cache_lines};
 ghost use Rattle.krbtool.specs.Engine.{IsOfCache, IsOfKeytab, OfFile, keytab_fault, cache_fault, FailsWith, FailsWithCache, failed_reads, failed_writes};
 
 use crate::fault::EngineFault;
@@ -95,8 +95,7 @@ pub fn list_ccache<S: Source, T: Sink>(
     requires source { S.failure_count source.old < 2 ^ 64 - 1 }
     requires sink { T.failure_count sink.old < 2 ^ 64 - 1 }
     ensures listed { OnOk result (OfFile IsCache (S.remaining source.old) (λ cache.
-        (offset : Option (ℤ × ℤ)) × (IsOffset cache.header offset
-        × Appends (T.taken sink.old) (T.taken sink.new) (cache_lines cache offset)))) }
+        Appends (T.taken sink.old) (T.taken sink.new) (cache_lines cache))) }
 
     // A fault of the content is the file's own, and is answered wherever the file has it.
     ensures fault { IfErr result (λ e. IfSome (cache_fault e) (λ fault.
@@ -110,37 +109,28 @@ pub fn list_ccache<S: Source, T: Sink>(
         → Keeps (T.taken sink.old) (T.taken sink.new) }
     ensures begun { (result ≡ Err EngineFault.Write) ⊎ (result ≡ Err EngineFault.OutOfMemory)
         → OfFile IsCache (S.remaining source.old) (λ cache.
-        (offset : Option (ℤ × ℤ)) × (IsOffset cache.header offset
-        × AppendsBeginning (T.taken sink.old) (T.taken sink.new) (cache_lines cache offset))) }
+        AppendsBeginning (T.taken sink.old) (T.taken sink.new) (cache_lines cache)) }
     ensures kind { IfErr result IsOfCache }
     ensures reads { S.failure_count source.new ≡ S.failure_count source.old + failed_reads result }
     ensures writes { T.failure_count sink.new ≡ T.failure_count sink.old + failed_writes result }
 {
     let cache = CCache::read(alloc, source)?;
-    let offset = offset_of(&cache);
-    write_listing(alloc, &cache, offset, sink)
-}
-
-fn offset_of(cache: &CCache) -> Option<(i32, i32)>
-    ensures { IsOffset cache.now.header result }
-{
-    cache.kdc_offset()
+    write_listing(alloc, &cache, sink)
 }
 
 fn write_listing<T: Sink>(
     alloc: Global,
     cache: &CCache,
-    offset: Option<(i32, i32)>,
     sink: &mut T,
 ) -> Result<(), EngineFault>
     requires { T.failure_count sink.old < 2 ^ 64 - 1 }
-    ensures ok { OnOk result (Appends (T.taken sink.old) (T.taken sink.new) (cache_lines cache.now offset)) }
+    ensures ok { OnOk result (Appends (T.taken sink.old) (T.taken sink.new) (cache_lines cache.now)) }
     ensures err { OnErr result
-        (AppendsBeginning (T.taken sink.old) (T.taken sink.new) (cache_lines cache.now offset)) }
+        (AppendsBeginning (T.taken sink.old) (T.taken sink.new) (cache_lines cache.now)) }
     ensures which { IfErr result (λ e. (e ≡ EngineFault.Write) ⊎ (e ≡ EngineFault.OutOfMemory)) }
     ensures writes { T.failure_count sink.new ≡ T.failure_count sink.old + failed_writes result }
 {
-    write_head(alloc, cache.default_principal(), offset, sink)?;
+    write_head(alloc, cache.default_principal(), cache.kdc_offset(), sink)?;
     match write_lines(alloc, cache.credentials(), sink) {
         Ok(()) => Ok(()),
         Err(fault) => Err(fault),

@@ -1,0 +1,76 @@
+"""Runs the program within less and less address space, in steps (setrlimit, as the shell's `ulimit -v`).
+
+Wherever the program starts at all, a run ends by itself: it does what it should, or says that there was no memory; no signal ends it,
+and nothing wrong is written.
+
+Each check is a pair: its name, and what is wrong, or None.
+"""
+import resource
+import subprocess
+import tempfile
+from pathlib import Path
+
+import generated
+import preload
+from preload import Command, Found
+
+STEP = 128 * 1024
+SAID = ("krbtool: words: OutOfMemory\n", "error: out of memory\n", "krbtool: f: OutOfMemory\n")
+
+
+def run(program, room, command, limit):
+    def limited():
+        resource.setrlimit(resource.RLIMIT_AS, (limit, limit))
+
+    (room / "out").write_bytes(preload.OLD)
+    done = subprocess.run([program, *command.words], cwd=room, preexec_fn=limited, input=command.stdin, capture_output=True, timeout=preload.SECONDS)
+    return Found(done.returncode, done.stdout, done.stderr.decode(errors="replace"), (room / "out").read_bytes())
+
+
+def is_named(command, found):
+    """Whether a run says that there was no memory, and wrote nothing wrong."""
+    said = (*SAID, f"krbtool: {command.words[0]}: OutOfMemory\n")
+    return found.status in (2, 3) and found.said in said and command.wrote.startswith(found.wrote) and found.out in (b"", preload.OLD)
+
+
+def least(program, room):
+    """The least address space, in steps, in which the program starts."""
+    command = Command(["--help"], b"", b"", None, preload.OLD)
+    limit = STEP
+    while run(program, room, command, limit).status != 0:
+        limit += STEP
+    return limit
+
+
+def commands(program):
+    """Each command, with files that take some steps more than none."""
+    keytab = b"\x05\x02" + (generated.EXAMPLES / "service.keytab").read_bytes()[2:] * 20_000
+    cache = (generated.EXAMPLES / "client.ccache").read_bytes()
+    cache = cache[:27] + cache[27:] * 3_000
+    for word in generated.COMMANDS:
+        words = [word, "f", "out"] if word.startswith("convert") else [word, "f"]
+        yield Command(words, keytab if word.endswith("keytab") else cache, b"", None, preload.OLD)
+    yield preload.requested()
+    yield preload.calls_with_tails(program)
+
+
+def stepped(program, room, command, first):
+    """What is wrong with a run in one of the steps, or None."""
+    (room / "f").write_bytes(command.file)
+    wanted = run(program, room, command, resource.RLIM_INFINITY)
+    command = Command(command.words, command.file, command.stdin, wanted.wrote, wanted.out, wanted.status)
+    named, limit = 0, first
+    while (found := run(program, room, command, limit)) != wanted:
+        if not is_named(command, found):
+            return f"within {limit} bytes it gives {found.status} {found.wrote[:200]!r} {found.said!r}"
+        named += 1
+        limit += STEP
+    return None if named or command.stdin or len(command.file) < STEP else "no run was short of memory"
+
+
+def checks(program):
+    with tempfile.TemporaryDirectory(prefix="krbtool-limit-") as folder:
+        room = Path(folder)
+        first = least(program, room)
+        for command in commands(program):
+            yield f"within less and less memory: {command.words[0]}", stepped(program, room, command, first)
