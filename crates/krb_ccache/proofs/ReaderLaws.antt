@@ -15,7 +15,7 @@ use Rattle.krb_ccache.specs.Spelling.{header_bytes, name_bytes, credential_bytes
 use Rattle.krb_ccache.specs.Value.{Cache, cache_of, FitsHeader, FitsName, FitsCredential, Fits}
 use Rattle.krb_ccache.specs.Format.{version, file_limit, start_bytes, written, Layout, version_4, version_of, IsReached, IsCache, IsFaultOf}
 use Rattle.krb_ccache.specs.Source.{IsGiven}
-use Rattle.krb_ccache.specs.Reader.{Reading, ended_by, HasTaken, HasRead, GoesTo, with_credential}
+use Rattle.krb_ccache.specs.Reader.{Reading, ended_by, HasTaken, HasRead, GaveOne, GoesTo, with_credential}
 use Rattle.krb_ccache.specs.declared.fault.CacheFault.{CacheFault}
 use Rattle.krb_ccache.specs.declared.fault.CacheFault.TheVariants.{Version, Header, BadItem, TooLong, Read, OutOfMemory}
 use Rattle.krb_ccache.specs.Inner.Version4.{IsFaultOf4}
@@ -24,6 +24,7 @@ use Rattle.std.proofs.lemmas.Bool.{cases_lt}
 use Rattle.std.proofs.Math.Seq.{take-append-add}
 use Rattle.krb_ccache.specs.Inner.Standing.{IsMissing}
 use Rattle.krb_ccache.proofs.AnswerLaws.{same_cache}
+use Rattle.krb_ccache.proofs.FileLaws.{credential_some}
 use Rattle.krb_ccache.proofs.LayoutLaws.{reached, reached4, cache_is, fault_is}
 
 -- ---- no credential within the limit
@@ -257,6 +258,11 @@ module _ {S : Type 0} (left : S → Option (List ℕ)) where
       record { going = ended; taken = subst (λ (n : ℕ). HasTaken from (left reader.source) n (with_credential cache credential)) (sym given) moved }
   next_item from old new reader cache (Ok None) step h source given ended = tt
   next_item from old new reader cache (Err fault) step h source given ended = tt
+
+  pub next_more : (old new : AtHand S) (result : Result (Option Credential) CacheFault) → IsStep left old new result → IfOk result (λ next. IfSome next (λ credential. GaveOne old.given new.given credential))
+  next_more old new (Ok (Some credential)) step = record { given = step.given; some = omega (arith, step.given, credential_some credential); limit = step.within }
+  next_more old new (Ok None) step = tt
+  next_more old new (Err fault) step = tt
 
   pub next_end : (from : Option (List ℕ)) (old new : AtHand S) (cache : Cache) (result : Result (Option Credential) CacheFault) → IsStep left old new result → HasTaken from (left old.source) old.given cache → result ≡ Ok None
       → (bytes : List ℕ) × IsGiven from (left new.source) bytes × IsCache bytes cache

@@ -1,5 +1,5 @@
 -- Reading a cache one credential at a time: what a reader has taken of its source, and how it ended.
-use Rattle.std.specs.Prelude.{◌≡◌, ◌≢◌, ℕ, ◌+◌, ◌≤◌, max, List, [], ◌∷◌, ◌++◌, length, Option, Some, None, Result, Ok, Err}
+use Rattle.std.specs.Prelude.{◌≡◌, ◌≢◌, ℕ, ◌+◌, ◌<◌, ◌≤◌, max, List, [], ◌∷◌, ◌++◌, length, Option, Some, None, Result, Ok, Err}
 use Rattle.std.specs.Io.KnownBytes.{Consumes}
 use Rattle.krb_name.specs.declared.principal.Principal.{Principal}
 use Rattle.krb_ccache.specs.declared.credential.HeaderField.{HeaderField}
@@ -53,6 +53,12 @@ pub record Gave {S : Type 0} (from to : Option (List ℕ)) (old new : Reading S)
   pub given : new.given ≡ old.given + length bytes
   pub grows : old.held ≤ new.held
   pub held : new.held ≤ max old.held (length bytes)
+
+-- the source gave the bytes of a credential, and no more in all than a file has
+pub record GaveOne (old new : ℕ) (credential : Credential) : Type 0 where
+  pub given : new ≡ old + length (credential_bytes credential)
+  pub some : old < new
+  pub limit : new ≤ file_limit
 
 -- the bytes are a start, a default principal and whole credentials, of this cache; and behind them stands none that ends within
 -- the limit

@@ -5,7 +5,7 @@ ghost use Rattle.krb_ccache.specs.Configuration.{HoldsOffset, IsConfiguration};
 ghost use Rattle.krb_ccache.specs.Fault.{failed_reads};
 ghost use Rattle.krb_ccache.specs.Format.{file_limit, IsCache, IsFaultOf};
 ghost use Rattle.krb_ccache.specs.Offset.{clock_offset};
-ghost use Rattle.krb_ccache.specs.Reader.{ended_by as ended_by_answer, last_answer, with_credential, HasRead, Gave, GoesTo};
+ghost use Rattle.krb_ccache.specs.Reader.{ended_by as ended_by_answer, last_answer, with_credential, HasRead, Gave, GaveOne, GoesTo};
 ghost use Rattle.krb_ccache.specs.Source.{IsGiven};
 ghost use Rattle.krb_ccache.specs.Spelling.{header_bytes, name_bytes, credential_bytes};
 ghost use Rattle.krb_ccache.specs.Value.{Cache, cache_of};
@@ -78,6 +78,8 @@ impl<S: Source> CredentialReader<S> {
             S.failure_count reader.source ≡ S.failure_count source) }
         ensures failed { IfErr result (λ back. S.failure_count back.0
             ≡ S.failure_count source + failed_reads {T = Unit {0}} (Err back.1)) }
+        ensures kept { IfOk result (λ reader. S.lender reader.source ≡ S.lender source) }
+        ensures handed_back { IfErr result (λ back. S.lender back.0 ≡ S.lender source) }
     {
         let mut window = Window::new(alloc, source);
         match begin(alloc, &mut window) {
@@ -134,10 +136,13 @@ impl<S: Source> CredentialReader<S> {
         ensures given { Gave (S.remaining self.old.source) (S.remaining self.new.source) self.old self.new }
         ensures header { self.new.header ≡ self.old.header }
         ensures default { self.new.default_principal ≡ self.old.default_principal }
+        ensures more { self.old.ended ≡ None → IfOk result (λ next. IfSome next (λ credential.
+            GaveOne self.old.given self.new.given credential)) }
         ensures held { self.old.ended ≡ None → IfOk result (λ next. IfSome next (λ credential.
             self.new.held ≡ max self.old.held (length (credential_bytes credential)))) }
         ensures failed { self.old.ended ≡ None → S.failure_count self.new.source
             ≡ S.failure_count self.old.source + failed_reads result }
+        ensures lent { S.lender self.new.source ≡ S.lender self.old.source }
     {
         if let Some(ended) = self.ended {
             return match ended {
@@ -165,6 +170,19 @@ impl<S: Source> CredentialReader<S> {
         ensures { result.now ≡ self.now.source }
     {
         self.window.source()
+    }
+
+    /// Gives the source back. Whatever it gave behind the last credential is lost.
+    pub fn into_source(self) -> S
+        ensures { result ≡ self.source }
+    {
+        let CredentialReader {
+            window,
+            header: _,
+            default_principal: _,
+            ended: _,
+        } = self;
+        window.into_source()
     }
 
     /// Lends the default principal: whose cache it is.

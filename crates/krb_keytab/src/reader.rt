@@ -74,6 +74,14 @@ impl<S: Source> EntryReader<S> {
         self.window.source()
     }
 
+    /// Gives the source back. Whatever it gave behind the last entry is lost.
+    pub fn into_source(self) -> S
+        ensures { result ≡ self.source }
+    {
+        let EntryReader { window, stage: _ } = self;
+        window.into_source()
+    }
+
     /// Answers how many bytes of the source were at hand at most: no more than the version has, or the
     /// longest record of an entry so far, and no more than 16,777,216. The end of the records and a
     /// hole count as records of 4 bytes.
@@ -120,6 +128,7 @@ impl<S: Source> EntryReader<S> {
             (result ≡ answer) × (self.new ≡ self.old)) }
         ensures failed { S.failure_count self.new.source ≡ S.failure_count self.old.source
             + (if is_some (last_answer self.old.stage) then 0 else failed_reads result) }
+        ensures lent { S.lender self.new.source ≡ S.lender self.old.source }
     {
         let answer = match self.stage {
             Stage::End => return Ok(None),
@@ -143,6 +152,7 @@ fn read_first<S: Source>(
         window.old window.new result }
     ensures failed { S.failure_count window.new.source
         ≡ S.failure_count window.old.source + failed_reads result }
+    ensures lent { S.lender window.new.source ≡ S.lender window.old.source }
 {
     read_version(window)?;
     read_entry(alloc, window)

@@ -4,5 +4,6 @@ pub mod FaultLaws
 pub mod FileLaws
 pub mod CallLaws
 pub mod GoingLaws
+pub mod CountLaws
 pub mod EndLaws
 pub mod CommandLaws

@@ -11,9 +11,8 @@ ghost use Rattle.krb_keytab.specs.declared.fault.KeytabFault.{KeytabFault};
 ghost use Rattle.krbtool.specs.Lines.{ok_line};
 ghost use Rattle.krbtool.specs.Engine.{IsOfCache, IsOfKeytab, OfFile, keytab_fault, cache_fault, FailsWith, FailsWithCache, failed_reads, failed_writes};
 
+use crate::count::{count_ccache, count_keytab};
 use crate::fault::EngineFault;
-use krb_ccache::CCache;
-use krb_keytab::Keytab;
 use krb_name::{Sink, Source, write_all};
 use std::alloc::{AllocError, Global};
 
@@ -55,8 +54,8 @@ pub fn check_keytab<S: Source, T: Sink>(
     ensures reads { S.failure_count source.new ≡ S.failure_count source.old + failed_reads result }
     ensures writes { T.failure_count sink.new ≡ T.failure_count sink.old + failed_writes result }
 {
-    let keytab = Keytab::read(alloc, source)?;
-    write_ok(alloc, keytab.entries().len(), sink)
+    let count = count_keytab(alloc, source)?;
+    write_ok(alloc, count, sink)
 }
 
 /// Checks a credential cache: writes the line `ok N`, where N is the number of its credentials, configuration
@@ -98,8 +97,8 @@ pub fn check_ccache<S: Source, T: Sink>(
     ensures reads { S.failure_count source.new ≡ S.failure_count source.old + failed_reads result }
     ensures writes { T.failure_count sink.new ≡ T.failure_count sink.old + failed_writes result }
 {
-    let cache = CCache::read(alloc, source)?;
-    write_ok(alloc, cache.credentials().len(), sink)
+    let count = count_ccache(alloc, source)?;
+    write_ok(alloc, count, sink)
 }
 
 /// Writes the line `ok N`.

@@ -10,6 +10,7 @@ mod call_line;
 mod check;
 mod commands;
 mod convert;
+mod count;
 mod fault;
 mod fault_line;
 mod line;

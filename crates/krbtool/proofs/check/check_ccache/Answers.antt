@@ -5,12 +5,12 @@ use Rattle.krbtool.specs.declared.fault.EngineFault.TheVariants.{Cache}
 use Rattle.krbtool.proofs.FaultLaws.{passed_on, none_met}
 use Rattle.krbtool.proofs.check.check_ccache.Goals as goal
 
-pub returns-in_err-cache-clause-faulty : goal.returns-in_err-cache-clause-faulty
-returns-in_err-cache-clause-faulty g c =
+pub returns-in_err-count-clause-faulty : goal.returns-in_err-count-clause-faulty
+returns-in_err-count-clause-faulty g c =
     let p = err_from_is_err_and c.from_residual.result c.from_residual.ensures.1 in
-    λ bytes fault tells is. passed_on Cache OutOfMemory Read c.read.result c.from_residual.result c.in_err-cache.field-0.0 fault
-    c.in_err-cache.was (p.1 ∙ ap (λ e. Err e) p.2) (c.read.ensures.only bytes (Err fault) tells is)
+    λ bytes fault tells is. passed_on Cache OutOfMemory Read c.count_ccache.result c.from_residual.result c.in_err-count.field-0.0 fault
+    c.in_err-count.was (p.1 ∙ ap (λ e. Err e) p.2) (c.count_ccache.ensures.only bytes fault tells is)
 
 pub returns-clause-faulty : goal.returns-clause-faulty
 returns-clause-faulty g c = λ bytes fault tells is.
-    absurd (none_met OutOfMemory Read c.read.result c.in_ok-cache.cache fault c.in_ok-cache.was (c.read.ensures.only bytes (Err fault) tells is))
+    absurd (none_met OutOfMemory Read c.count_ccache.result c.in_ok-count.count fault c.in_ok-count.was (c.count_ccache.ensures.only bytes fault tells is))

@@ -1,6 +1,6 @@
 use Rattle.std.proofs.Common.{refl, sym, subst}
 use Rattle.krb_ccache.specs.Reader.{Reading, HasRead}
-use Rattle.krb_ccache.proofs.ReaderLaws.{next_item, next_end, next_fault, next_stops}
+use Rattle.krb_ccache.proofs.ReaderLaws.{next_item, next_more, next_end, next_fault, next_stops}
 use Rattle.krb_ccache.proofs.reader.CredentialReader.next.Goals as goal
 
 pub returns-clause-item : goal.returns-clause-item
@@ -19,3 +19,7 @@ pub returns-clause-stops : goal.returns-clause-stops
 returns-clause-stops g c = λ from cache h.
     let started = subst (λ (reader : Reading g.row.S.Denot). HasRead g.S.Source.remaining from reader cache) (sym c.self.view_is) h in
     next_stops g.S.Source.remaining from c.self.inside.window c.step-answer.new.window cache c.step-answer.result c.step-answer.ensures.step started.taken (c.self.invariant.2 started.going)
+
+pub returns-clause-more : goal.returns-clause-more
+returns-clause-more g c = λ going.
+    rw (← c.self.view_is) (next_more g.S.Source.remaining c.self.inside.window c.step-answer.new.window c.step-answer.result c.step-answer.ensures.step)

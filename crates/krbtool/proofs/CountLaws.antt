@@ -1,0 +1,164 @@
+-- What is counted of a file, one item at a time, is what the file has.
+use Rattle.std.proofs.Common.{◌≡◌, ◌⊎◌, ℕ, ◌+◌, List, [], ◌∷◌, ◌++◌, length, Option, Some, None, Result, Ok, Err, refl, ap, subst, arith, inl, inr}
+use Rattle.std.specs.Prelude.{◌≢◌, IfOk, IfErr, IfSome}
+use Rattle.std.specs.Io.KnownBytes.{Consumes}
+use Rattle.std.proofs.KnownBytes.{Consumes-trans, Consumes-nil}
+use Rattle.std.proofs.lemmas.List.{length-append}
+use Rattle.krb_keytab.specs.Entry.{KeytabEntry}
+use Rattle.krb_keytab.specs.Format.{IsKeytab}
+use Rattle.krb_keytab.specs.Format as keytab
+use Rattle.krb_keytab.specs.Items.{EntriesRead, HasRead, StandsTo, entries_after}
+use Rattle.krb_keytab.specs.declared.fault.KeytabFault.{KeytabFault}
+use Rattle.krb_keytab.specs.declared.fault.KeytabFault.TheVariants as of_keytab
+use Rattle.krb_keytab.specs.declared.stage.Stage.{Stage}
+use Rattle.krb_keytab.specs.declared.stage.Stage.TheVariants.{End, Failed}
+use Rattle.krb_ccache.specs.Format as cache
+use Rattle.krb_ccache.specs.Reader as reads
+use Rattle.krb_ccache.specs.Source.{IsGiven}
+use Rattle.krb_ccache.specs.Value.{Cache}
+use Rattle.krb_ccache.specs.declared.credential.Credential.{Credential}
+use Rattle.krb_ccache.specs.declared.fault.CacheFault.{CacheFault}
+use Rattle.krb_ccache.specs.declared.fault.CacheFault.TheVariants as of_cache
+use Rattle.krbtool.specs.Engine.{OfFile}
+use Rattle.krbtool.specs.Inner.Counting.{EntriesCounted, CredentialsCounted}
+use Rattle.krbtool.proofs.FaultLaws.{IsOneOf}
+
+-- ---- a file with one fault
+
+-- a fault is one of memory, or of the source, or of the content
+abbrev pub Kind : {F : Type 0} → F → F → F → Type 0
+Kind memory source fault = ((fault ≢ memory) × (fault ≢ source)) ⊎ ((fault ≡ memory) ⊎ (fault ≡ source))
+
+module _ {V F : Type 0} (IsFile : List ℕ → V → Type 0) (IsFault : List ℕ → F → Type 0) (memory source : F) (kind : (fault : F) → Kind memory source fault) (Is : List ℕ → Result V F → Type 0) (file : (bytes : List ℕ) (value : V) → IsFile bytes value → Is bytes (Ok value)) (faulty : (bytes : List ℕ) (fault : F) → IsFault bytes fault → Is bytes (Err fault)) (one : (bytes : List ℕ) (answer other : Result V F) → Is bytes answer → Is bytes other → answer ≡ other) where
+  no_value : (value : V) (fault : F) → ◌≡◌ {A = Result V F} (Ok value) (Err fault) → ⊥
+  no_value value fault e = cc
+
+  one_fault : (fault other : F) → ◌≡◌ {A = Result V F} (Err fault) (Err other) → fault ≡ other
+  one_fault fault other e = cc
+
+  -- it is the one that is answered
+  pub fault_alone : (from : Option (List ℕ)) (Holds : ℕ → V → Type 0) (result : Result ℕ F) → IfOk result (λ count. OfFile IsFile from (Holds count)) → IfErr result (λ fault. fault ≢ memory → fault ≢ source → IfSome from (λ bytes. IsFault bytes fault))
+      → (bytes : List ℕ) (fault : F) → from ≡ Some bytes → IsFault bytes fault → IsOneOf result fault memory source
+  fault_alone from Holds (Ok count) found failed bytes fault tells is =
+      let v = subst (λ (o : Option (List ℕ)). OfFile IsFile o (Holds count)) tells found in
+      absurd (no_value v.0 fault (one bytes (Ok v.0) (Err fault) (file bytes v.0 v.1.0) (faulty bytes fault is)))
+  fault_alone from Holds (Err met) found failed bytes fault tells is =
+      elim (kind met) [
+        | inl content ↦
+            let there = subst (λ (o : Option (List ℕ)). IfSome o (λ bytes. IsFault bytes met)) tells (failed content.0 content.1) in
+            inl (ap (λ (f : F). Err f) (one_fault met fault (one bytes (Err met) (Err fault) (faulty bytes met there) (faulty bytes fault is))))
+        | inr other ↦ elim other [ inl m ↦ inr (inl (ap (λ (f : F). Err f) m)) | inr s ↦ inr (inr (ap (λ (f : F). Err f) s)) ]
+      ]
+
+-- ---- a keytab
+
+keytab_kind : (fault : KeytabFault) → Kind of_keytab.OutOfMemory of_keytab.Read fault
+keytab_kind of_keytab.OutOfMemory = inr (inl refl)
+keytab_kind of_keytab.Read = inr (inr refl)
+keytab_kind of_keytab.Version = inl (λ e. cc, λ e. cc)
+keytab_kind (of_keytab.Truncated at) = inl (λ e. cc, λ e. cc)
+keytab_kind (of_keytab.BadEntry at) = inl (λ e. cc, λ e. cc)
+keytab_kind of_keytab.TooLong = inl (λ e. cc, λ e. cc)
+keytab_kind of_keytab.NoSuchEntry = inl (λ e. cc, λ e. cc)
+
+pub keytab_fault_alone : ((bytes : List ℕ) (answer other : Result (List KeytabEntry) KeytabFault) → keytab.IsAnswerOf bytes answer → keytab.IsAnswerOf bytes other → answer ≡ other)
+    → (from : Option (List ℕ)) (result : Result ℕ KeytabFault) → IfOk result (λ count. OfFile IsKeytab from (λ entries. count ≡ length entries))
+    → IfErr result (λ fault. fault ≢ of_keytab.OutOfMemory → fault ≢ of_keytab.Read → IfSome from (λ bytes. keytab.IsFaultOf bytes fault))
+    → (bytes : List ℕ) (fault : KeytabFault) → from ≡ Some bytes → keytab.IsFaultOf bytes fault → IsOneOf result fault of_keytab.OutOfMemory of_keytab.Read
+keytab_fault_alone one from result found failed =
+    fault_alone IsKeytab keytab.IsFaultOf of_keytab.OutOfMemory of_keytab.Read keytab_kind keytab.IsAnswerOf (λ bytes value is. is) (λ bytes fault is. is) one from (λ count entries. count ≡ length entries) result found failed
+
+-- what a reader answers
+abbrev pub Reads : {S : Type 0} → Option (List ℕ) → Option (List ℕ) → EntriesRead S → EntriesRead S → Result (Option KeytabEntry) KeytabFault → Type 0
+Reads mid to old new result = (bytes : List ℕ) (entries : List KeytabEntry) → HasRead mid old bytes entries → (piece : List ℕ) × Consumes mid to piece × HasRead to new (bytes ++ piece) (entries_after entries result)
+
+-- what its last answers say of the file
+abbrev pub EndTells : Type 0
+EndTells = (whole bytes : List ℕ) (left : Option (List ℕ)) (entries : List KeytabEntry) → Consumes (Some whole) left bytes → StandsTo left End bytes entries → IsKeytab whole entries
+
+abbrev pub FaultTells : Type 0
+FaultTells = (whole bytes : List ℕ) (left : Option (List ℕ)) (entries : List KeytabEntry) (fault : KeytabFault) → fault ≢ of_keytab.Read → fault ≢ of_keytab.OutOfMemory → Consumes (Some whole) left bytes
+    → StandsTo left (Failed fault) bytes entries → keytab.IsFaultOf whole fault
+
+module _ {S : Type 0} where
+  pub none_counted : (from : Option (List ℕ)) (reader : EntriesRead S) → HasRead from reader [] [] → EntriesCounted from from reader 0
+  none_counted from reader read = record { bytes = []; entries = []; taken = Consumes-nil from; read = read; counted = refl }
+
+  pub one_counted : (from mid to : Option (List ℕ)) (old new : EntriesRead S) (count : ℕ) (entry : KeytabEntry) → EntriesCounted from mid old count → Reads mid to old new (Ok (Some entry)) → EntriesCounted from to new (count + 1)
+  one_counted from mid to old new count entry c reads =
+      let r = reads c.bytes c.entries c.read in
+      record {
+        bytes = c.bytes ++ r.0;
+        entries = c.entries ++ entry ∷ [];
+        taken = Consumes-trans from mid to c.bytes r.0 c.taken r.1;
+        read = r.2;
+        counted = omega (arith, c.counted, length-append c.entries (entry ∷ []));
+      }
+
+  pub all_counted : (from mid to : Option (List ℕ)) (old new : EntriesRead S) (count : ℕ) → EndTells → EntriesCounted from mid old count → Reads mid to old new (Ok None) → new.stage ≡ End
+      → OfFile IsKeytab from (λ entries. count ≡ length entries)
+  all_counted None mid to old new count law c reads stage = tt
+  all_counted (Some whole) mid to old new count law c reads stage =
+      let r = reads c.bytes c.entries c.read in
+      let stands = subst (λ (s : Stage). StandsTo to s (c.bytes ++ r.0) c.entries) stage r.2.stands in
+      (c.entries, (law whole (c.bytes ++ r.0) to c.entries (Consumes-trans (Some whole) mid to c.bytes r.0 c.taken r.1) stands, c.counted))
+
+  pub fault_counted : (from mid to : Option (List ℕ)) (old new : EntriesRead S) (count : ℕ) (fault : KeytabFault) → FaultTells → EntriesCounted from mid old count → Reads mid to old new (Err fault) → new.stage ≡ Failed fault
+      → fault ≢ of_keytab.OutOfMemory → fault ≢ of_keytab.Read → IfSome from (λ bytes. keytab.IsFaultOf bytes fault)
+  fault_counted None mid to old new count fault law c reads stage memory read = tt
+  fault_counted (Some whole) mid to old new count fault law c reads stage memory read =
+      let r = reads c.bytes c.entries c.read in
+      let stands = subst (λ (s : Stage). StandsTo to s (c.bytes ++ r.0) c.entries) stage r.2.stands in
+      law whole (c.bytes ++ r.0) to c.entries fault read memory (Consumes-trans (Some whole) mid to c.bytes r.0 c.taken r.1) stands
+
+-- ---- a cache
+
+cache_kind : (fault : CacheFault) → Kind of_cache.OutOfMemory of_cache.Read fault
+cache_kind of_cache.OutOfMemory = inr (inl refl)
+cache_kind of_cache.Read = inr (inr refl)
+cache_kind of_cache.Version = inl (λ e. cc, λ e. cc)
+cache_kind of_cache.Header = inl (λ e. cc, λ e. cc)
+cache_kind (of_cache.BadItem at) = inl (λ e. cc, λ e. cc)
+cache_kind of_cache.TooLong = inl (λ e. cc, λ e. cc)
+
+pub cache_fault_alone : ((bytes : List ℕ) (answer other : Result Cache CacheFault) → cache.IsAnswerOf bytes answer → cache.IsAnswerOf bytes other → answer ≡ other)
+    → (from : Option (List ℕ)) (result : Result ℕ CacheFault) → IfOk result (λ count. OfFile cache.IsCache from (λ cache. count ≡ length cache.credentials))
+    → IfErr result (λ fault. fault ≢ of_cache.OutOfMemory → fault ≢ of_cache.Read → IfSome from (λ bytes. cache.IsFaultOf bytes fault))
+    → (bytes : List ℕ) (fault : CacheFault) → from ≡ Some bytes → cache.IsFaultOf bytes fault → IsOneOf result fault of_cache.OutOfMemory of_cache.Read
+cache_fault_alone one from result found failed =
+    fault_alone cache.IsCache cache.IsFaultOf of_cache.OutOfMemory of_cache.Read cache_kind cache.IsAnswerOf (λ bytes value is. is) (λ bytes fault is. is) one from (λ count value. count ≡ length value.credentials) result found failed
+
+-- what is told of the bytes that a source gave holds of all that were to come
+abbrev pub SourceTells : Type 0
+SourceTells = (whole bytes : List ℕ) (left : Option (List ℕ)) (answer : Result Cache CacheFault) → IsGiven (Some whole) left bytes → cache.IsAnswerOf bytes answer → cache.IsAnswerOf whole answer
+
+pub cache_told : (from to : Option (List ℕ)) (count : ℕ) (value : Cache) → SourceTells → (bytes : List ℕ) × IsGiven from to bytes × cache.IsCache bytes value → count ≡ length value.credentials
+    → OfFile cache.IsCache from (λ cache. count ≡ length cache.credentials)
+cache_told None to count value law given counted = tt
+cache_told (Some whole) to count value law given counted = (value, (law whole given.0 to (Ok value) given.1 given.2, counted))
+
+pub fault_told : (from to : Option (List ℕ)) (fault : CacheFault) → SourceTells → (bytes : List ℕ) × IsGiven from to bytes × cache.IsFaultOf bytes fault → IfSome from (λ bytes. cache.IsFaultOf bytes fault)
+fault_told None to fault law given = tt
+fault_told (Some whole) to fault law given = law whole given.0 to (Err fault) given.1 given.2
+
+module _ {S : Type 0} (left : S → Option (List ℕ)) where
+  pub credential_counted : (from : Option (List ℕ)) (old new : reads.Reading S) (count : ℕ) (credential : Credential) → CredentialsCounted left from old count
+      → ((value : Cache) → reads.HasRead left from old value → reads.HasRead left from new (reads.with_credential value credential)) → CredentialsCounted left from new (count + 1)
+  credential_counted from old new count credential c item = record {
+    cache_read = reads.with_credential c.cache_read credential;
+    read = item c.cache_read c.read;
+    counted = omega (arith, c.counted, length-append c.cache_read.credentials (credential ∷ []));
+  }
+
+-- what holds wherever a reader began holds of the source that it was opened on
+pub found_from : (Begun : Option (List ℕ) → Type 0) (from : Option (List ℕ)) (result : Result ℕ CacheFault) → Begun from
+    → IfOk result (λ count. (begun : Option (List ℕ)) → Begun begun → OfFile cache.IsCache begun (λ cache. count ≡ length cache.credentials))
+    → IfOk result (λ count. OfFile cache.IsCache from (λ cache. count ≡ length cache.credentials))
+found_from Begun from (Ok count) begun found = found from begun
+found_from Begun from (Err fault) begun found = tt
+
+pub fault_from : (Begun : Option (List ℕ) → Type 0) (from : Option (List ℕ)) (result : Result ℕ CacheFault) → Begun from
+    → IfErr result (λ fault. fault ≢ of_cache.OutOfMemory → fault ≢ of_cache.Read → (begun : Option (List ℕ)) → Begun begun → IfSome begun (λ bytes. cache.IsFaultOf bytes fault))
+    → IfErr result (λ fault. fault ≢ of_cache.OutOfMemory → fault ≢ of_cache.Read → IfSome from (λ bytes. cache.IsFaultOf bytes fault))
+fault_from Begun from (Ok count) begun fault = tt
+fault_from Begun from (Err f) begun fault = λ memory read. fault memory read from begun
