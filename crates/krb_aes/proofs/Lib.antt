@@ -14,3 +14,4 @@ pub mod LaneRules
 pub mod LaneTests
 pub mod LaneRounds
 pub mod InvRounds
+pub mod InvSteps

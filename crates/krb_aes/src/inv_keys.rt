@@ -8,6 +8,7 @@ use crate::expansion::EXPANDED_LEN;
 use crate::lanes::inv_key;
 
 // The keys of rounds 1 to `last` - 1 as `inv_round` takes them, at the places that they have in `words`.
+#[inline(always)]
 pub(crate) fn inv_keys(words: &[u8; EXPANDED_LEN], last: usize) -> [u8; EXPANDED_LEN]
     requires { last ≤ 14 }
     ensures { (j : ℕ) → 1 ≤ j → j < last → round_key result j ≡ inv_round_key words.now j }

@@ -64,6 +64,15 @@ fn last_round(state: u8x16, key: &[u8]) -> u8x16
     once.swizzle(SHIFTED) ^ u8x16::from_slice(key)
 }
 
+// The first round key added to a block, in the form that decryption keeps.
+#[inline(always)]
+fn inv_first_round(block: &[u8; 16], key: &[u8]) -> u8x16
+    requires { length key.now ≡ 16 }
+    ensures { result ≡ map inv_form (add_round_key block.now key.now) }
+{
+    inv_formed(u8x16::from_array(*block) ^ u8x16::from_slice(key))
+}
+
 // A round of the inverse cipher, on a block in the form that decryption keeps, with a key of `inv_key`.
 #[inline(always)]
 fn inv_round(form: u8x16, key: &[u8]) -> u8x16
@@ -107,6 +116,7 @@ fn inv_mix_columns(state: u8x16) -> u8x16
 }
 
 // The key of a round as `inv_round` takes it.
+#[inline(always)]
 pub(crate) fn inv_key(key: &[u8]) -> [u8; 16]
     requires { length key.now ≡ 16 }
     ensures { result ≡ map inv_form (inv_mix_columns key.now) }
@@ -134,11 +144,34 @@ pub(crate) fn decrypt_block(schedule: &KeySchedule, block: &mut [u8; 16])
     ensures undone { cipher schedule.now block.new ≡ block.old }
 {
     let last = schedule.rounds();
-    let keyed = u8x16::from_array(*block) ^ u8x16::from_slice(schedule.round_key(last));
-    let mut form = inv_formed(keyed);
+    let mut form = inv_first_round(block, schedule.round_key(last));
     for at in (1..last).rev() {
         let next = inv_round(form, schedule.inv_key(at));
         form = next;
     }
     *block = inv_last_round(form, schedule.round_key(0)).to_array();
+}
+
+// Two blocks at once, since the steps of one wait for one another.
+pub(crate) fn decrypt_two_blocks(schedule: &KeySchedule, one: &mut [u8; 16], other: &mut [u8; 16])
+    ensures key { IsKey schedule.now }
+    ensures one { one.new ≡ inv_cipher schedule.now one.old }
+    ensures other { other.new ≡ inv_cipher schedule.now other.old }
+    ensures one_undone { cipher schedule.now one.new ≡ one.old }
+    ensures other_undone { cipher schedule.now other.new ≡ other.old }
+{
+    let last = schedule.rounds();
+    let first_key = schedule.round_key(last);
+    let mut one_form = inv_first_round(one, first_key);
+    let mut other_form = inv_first_round(other, first_key);
+    for round in (1..last).rev() {
+        let key = schedule.inv_key(round);
+        let next_one = inv_round(one_form, key);
+        let next_other = inv_round(other_form, key);
+        one_form = next_one;
+        other_form = next_other;
+    }
+    let last_key = schedule.round_key(0);
+    *one = inv_last_round(one_form, last_key).to_array();
+    *other = inv_last_round(other_form, last_key).to_array();
 }

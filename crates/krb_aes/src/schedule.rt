@@ -79,6 +79,20 @@ impl KeySchedule {
         lanes::decrypt_block(self, block);
     }
 
+    /// Decrypts two blocks in place, each as `decrypt_block` does, in less time than one after the other.
+    ///
+    /// Source: FIPS 197, section 5.3.
+    pub fn decrypt_two_blocks(&self, one: &mut [u8; 16], other: &mut [u8; 16])
+        ensures key { IsKey self.now }
+        ensures one { one.new ≡ inv_cipher self.now one.old }
+        ensures other { other.new ≡ inv_cipher self.now other.old }
+        // Encryption gives the old blocks back.
+        ensures one_undone { cipher self.now one.new ≡ one.old }
+        ensures other_undone { cipher self.now other.new ≡ other.old }
+    {
+        lanes::decrypt_two_blocks(self, one, other);
+    }
+
     // The number of rounds.
     pub(crate) fn rounds(&self) -> usize
         ensures key { IsKey self.now }
