@@ -70,6 +70,17 @@ def unaffine(b):
     return LINEAR.index(b ^ 0x63)
 
 
+def tower(byte):
+    """The byte k + i * s, written as 16 * i + k."""
+    i, k = COORDINATES[byte]
+    return 16 * i + k
+
+
+def unaffine_form(b):
+    """That of what the affine transformation without its constant makes to b."""
+    return tower(LINEAR.index(b))
+
+
 def over(a, k):
     return small_product(a, SMALL_INVERSE[k]) if k else INFINITY
 
@@ -112,13 +123,14 @@ TABLES = {
     "SUB_JO": from_jo(lambda x: LINEAR[x]),
     "DOUBLED_IO": from_io(lambda x: product(2, LINEAR[x])),
     "DOUBLED_JO": from_jo(lambda x: product(2, LINEAR[x])),
-    "INV_SUB_I_LOW": nibbles(lambda x: COORDINATES[unaffine(x)][0])[0],
-    "INV_SUB_I_HIGH": nibbles(lambda x: COORDINATES[unaffine(x)][0])[1],
-    "INV_SUB_K_LOW": nibbles(lambda x: COORDINATES[unaffine(x)][1])[0],
-    "INV_SUB_K_HIGH": nibbles(lambda x: COORDINATES[unaffine(x)][1])[1],
+    "INV_FORM_LOW": nibbles(lambda x: tower(unaffine(x)))[0],
+    "INV_FORM_HIGH": nibbles(lambda x: tower(unaffine(x)))[1],
     "INV_SUB_IO": from_io(lambda x: x),
     "INV_SUB_JO": from_jo(lambda x: x),
 }
+for c in (0x0E, 0x0B, 0x0D, 0x09):
+    TABLES[f"INV_{c:02X}_IO"] = from_io(lambda x: unaffine_form(product(c, x)))
+    TABLES[f"INV_{c:02X}_JO"] = from_jo(lambda x: unaffine_form(product(c, x)))
 for c in (0x0E, 0x0B, 0x0D, 0x09):
     low, high = nibbles(lambda x: product(c, x))
     TABLES[f"TIMES_{c:02X}_LOW"], TABLES[f"TIMES_{c:02X}_HIGH"] = low, high
@@ -132,8 +144,7 @@ def check():
     def half(table, x):
         return look(table + "_LOW", x & 15) ^ look(table + "_HIGH", x >> 4)
 
-    def turned(x, prefix):
-        i, k = half(prefix + "_I", x), half(prefix + "_K", x)
+    def inverted(i, k):
         ak = look("A_OVER", k)
         io = look("INVERSES", look("INVERSES", i) ^ ak) ^ i ^ k
         jo = look("INVERSES", look("INVERSES", i ^ k) ^ ak) ^ i
@@ -141,12 +152,16 @@ def check():
 
     inverses = [next((b for b in range(256) if product(a, b) == 1), 0) for a in range(256)]
     for x in range(256):
-        io, jo = turned(x, "SUB")
+        io, jo = inverted(half("SUB_I", x), half("SUB_K", x))
         s = affine(inverses[x])
         assert look("SUB_IO", io) ^ look("SUB_JO", jo) ^ 0x63 == s
         assert look("DOUBLED_IO", io) ^ look("DOUBLED_JO", jo) ^ 0xC6 == product(2, s)
-        io, jo = turned(s, "INV_SUB")
+        form = half("INV_FORM", s)
+        io, jo = inverted(form >> 4, form & 15)
         assert look("INV_SUB_IO", io) ^ look("INV_SUB_JO", jo) == x
+        for c in (0x0E, 0x0B, 0x0D, 0x09):
+            times = look(f"INV_{c:02X}_IO", io) ^ look(f"INV_{c:02X}_JO", jo)
+            assert times == half("INV_FORM", product(c, x)) ^ half("INV_FORM", 0)
 
 
 if __name__ == "__main__":

@@ -37,7 +37,7 @@ place s i bytes =
 below_256 : (n : ℕ) → n / 256 ≡ 0 → n < 256
 below_256 n e = omega arith
 
-byte_tests : (f : ℕ → ℕ) → same_on (λ x. f x / 256) (λ _. 0) 256 ≡ true → (x : ℕ) → x < 256 → f x < 256
+pub byte_tests : (f : ℕ → ℕ) → same_on (λ x. f x / 256) (λ _. 0) 256 ≡ true → (x : ℕ) → x < 256 → f x < 256
 byte_tests f ok x x_byte = below_256 (f x) (same_below (λ y. f y / 256) (λ _. 0) 256 ok x x_byte)
 
 pub s_box_byte : (x : ℕ) → x < 256 → s_box x < 256

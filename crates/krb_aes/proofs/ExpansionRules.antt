@@ -1,10 +1,12 @@
 -- The key expansion, as far as the code has come.
-use Rattle.std.proofs.Common.{◌++◌, subst, ◌≡◌, ℕ, zero, suc, ◌<◌, ◌≤◌, ◌-◌, ◌+◌, ◌*◌, ◌/◌, ◌%◌, ◌&&◌, List, refl, arith, length, length-append, take, drop, ap, sym, ◌∙◌, inl, inr}
+use Rattle.std.proofs.Common.{◌++◌, subst, ◌≡◌, ℕ, zero, suc, ◌<◌, ◌≤◌, ◌-◌, ◌+◌, ◌*◌, ◌/◌, ◌%◌, ◌&&◌, List, map, refl, arith, length, length-append, take, drop, ap, sym, ◌∙◌, inl, inr}
 use Rattle.std.proofs.lemmas.List.{get_or-take, take-take, take-append-le, take_all, drop-take}
-use Rattle.std.proofs.lemmas.Slice.{take-put_mid}
+use Rattle.std.proofs.lemmas.Slice.{between-put_mid, take-put_mid, take-put_mid_below}
 use Rattle.std.specs.Prelude.{◌==◌, nat_lt}
 use borrow.Rule.Slice.PartMut.{put_mid}
-use Rattle.krb_aes.specs.Inner.Schedule.{IsSchedule}
+use Rattle.krb_aes.specs.Inner.Schedule.{IsSchedule, inv_round_key}
+use Rattle.krb_aes.specs.Inner.Tower.{inv_form}
+use Rattle.krb_aes.specs.State.{inv_mix_columns}
 use Rattle.krb_aes.specs.KeyExpansion.{IsKey, first_words, key_expansion, key_words, round_count, next_word, sum_of_words, changed_word, word, round_key}
 
 -- a key has whole words
@@ -96,13 +98,40 @@ round_key-take words n j within =
     let rest = drop-take (16 * j) (n - 16 * j) words in
     (rw parts at (ap (take 16) rest)) ∙ take-take 16 (n - 16 * j) (drop (16 * j) words) (omega arith)
 
-pub schedule_of : (n : ℕ) (key words : List ℕ) → length key ≡ n → IsKey key → take (length key) words ≡ key →
-    take (4 * length key + 112) words ≡ key_expansion key → IsSchedule n words
-schedule_of n key words size is front all =
+pub schedule_of : (n : ℕ) (key words inv_words : List ℕ) → length key ≡ n → IsKey key → take (length key) words ≡ key →
+    take (4 * length key + 112) words ≡ key_expansion key →
+    ((j : ℕ) → 1 ≤ j → j < round_count key → round_key inv_words j ≡ inv_round_key words j) → IsSchedule n words inv_words
+schedule_of n key words inv_words size is front all inverse =
     let P : List ℕ → Type 0 = λ k. IsKey k in
-    let Q : ℕ → Type 0 = λ m. IsSchedule m words in
+    let Q : ℕ → Type 0 = λ m. IsSchedule m words inv_words in
     subst Q size record {
       key_size = ap length front;
       key = subst P (sym front) is;
       expanded = all ∙ ap key_expansion (sym front);
+      inverse = λ j some below.
+          inverse j some below
+          ∙ ap (λ k. map inv_form (inv_mix_columns k))
+          (sym (round_key-take words (4 * length key + 112) j (omega (arith, bytes_of_words key is)))
+          ∙ ap (λ w. round_key w j) (all ∙ ap key_expansion (sym front)));
     }
+
+-- a round key put in its place, and those before it
+pub put_round_key : (keys key : List ℕ) (at : ℕ) → 16 * at + 16 ≤ length keys → length key ≡ 16 →
+    round_key (put_mid (16 * at) (16 * at + 16 - 16 * at) keys key) at ≡ key
+put_round_key keys key at room size =
+    let sixteen : 16 * at + 16 - 16 * at ≡ 16 = omega arith in
+    let here = between-put_mid (16 * at) (16 * at + 16 - 16 * at) keys key (16 * at + 16) (omega arith) (omega (arith, size)) in
+    let P : ℕ → Type 0 = λ n. take n (drop (16 * at) (put_mid (16 * at) (16 * at + 16 - 16 * at) keys key)) ≡ key in
+    subst P sixteen here
+
+pub before_round_key : (keys key : List ℕ) (at j : ℕ) → 16 * at + 16 ≤ length keys → j < at →
+    round_key (put_mid (16 * at) (16 * at + 16 - 16 * at) keys key) j ≡ round_key keys j
+before_round_key keys key at j room before =
+    sym (round_key-take (put_mid (16 * at) (16 * at + 16 - 16 * at) keys key) (16 * at) j (omega arith))
+    ∙ ap (λ w. round_key w j)
+    (take-put_mid_below (16 * at) (16 * at + 16 - 16 * at) keys key (16 * at) (omega arith) (omega arith))
+    ∙ round_key-take keys (16 * at) j (omega arith)
+
+pub length-inv_round_key : (w : List ℕ) (j : ℕ) → length (inv_round_key w j) ≡ 16
+unfolding inv_mix_columns
+length-inv_round_key w j = refl

@@ -1,5 +1,5 @@
--- The product of bytes is linear in its second factor.
-use Rattle.std.proofs.Common.{◌≡◌, ◌⊎◌, ℕ, zero, suc, ◌+◌, ◌*◌, ◌%◌, ◌^◌, ◌<◌, refl, sym, ap, ◌∙◌, arith, add-zero, bit_xor, inl, inr}
+-- The product of bytes is linear in its second factor; so is a sum of entries at the bits of a byte.
+use Rattle.std.proofs.Common.{◌≡◌, ◌⊎◌, ℕ, zero, suc, ◌+◌, ◌*◌, ◌%◌, ◌^◌, ◌<◌, refl, List, get_or, sym, ap, ◌∙◌, arith, add-zero, bit_xor, inl, inr}
 use Rattle.std.specs.Int.{bit_at}
 use Rattle.std.specs.Int.Bits.{xor_assoc, xor_self, xor_zero_r}
 use Rattle.std.proofs.lemmas.Nat.{xor_block, xor_comm, pow_pos}
@@ -71,3 +71,18 @@ remainder-xor (suc n) p q =
 pub product-xor : (a b c : ℕ) → product a (bit_xor b c) ≡ bit_xor (product a b) (product a c)
 unfolding product
 product-xor a b c = ap (remainder 7) (carryless-xor 8 a b c) ∙ remainder-xor 7 (carryless 8 a b) (carryless 8 a c)
+
+-- the sum of the entries at the places of the n low bits that are 1
+unfoldable pub linear : List ℕ → ℕ → ℕ → ℕ
+linear columns zero x = 0
+linear columns (suc n) x = bit_xor (linear columns n x) (bit_at x n * get_or columns n 0)
+
+pub linear-xor : (columns : List ℕ) (n x y : ℕ) → linear columns n (bit_xor x y) ≡ bit_xor (linear columns n x) (linear columns n y)
+unfolding linear
+linear-xor columns zero x y = refl
+linear-xor columns (suc n) x y =
+    let c = get_or columns n 0 in
+    let before = linear-xor columns n x y in
+    let last : bit_at (bit_xor x y) n * c ≡ bit_xor (bit_at x n * c) (bit_at y n * c) =
+    ap (λ b. b * c) (bit_at_xor x y n) ∙ xor_times (bit_at x n) (bit_at y n) c (bit_at-lt x n) (bit_at-lt y n) in
+    rw (before, last) (xor_exchange (linear columns n x) (linear columns n y) (bit_at x n * c) (bit_at y n * c))

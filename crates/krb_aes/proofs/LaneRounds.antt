@@ -5,8 +5,8 @@ use Rattle.std.specs.Int.Bits.{xor_assoc}
 use Rattle.std.proofs.lemmas.Nat.{xor_comm}
 use Rattle.std.proofs.lemmas.Simd.{Each1-from_get_or}
 use Rattle.krb_aes.specs.Field.{product}
-use Rattle.krb_aes.specs.SBox.{s_box, inv_s_box}
-use Rattle.krb_aes.specs.State.{at, state_of, row_times_column, mix, inv_mix, sub_bytes, inv_sub_bytes, shift_rows, inv_shift_rows, mix_columns, inv_mix_columns, add_round_key}
+use Rattle.krb_aes.specs.SBox.{s_box}
+use Rattle.krb_aes.specs.State.{at, state_of, row_times_column, mix, inv_mix, sub_bytes, shift_rows, mix_columns, inv_mix_columns, add_round_key}
 use Rattle.krb_aes.specs.Cipher.{IsBlock}
 use Rattle.krb_aes.specs.Inner.Tower.{LanesBelow}
 use Rattle.krb_aes.proofs.Bytes.{place, s_box_byte, state_of-at, same_state}
@@ -67,12 +67,12 @@ mixed_lane_is (suc (suc (suc zero))) y k small bytes =
     ∙ turned (y 1) (y 2) (product 0x02 (y 3)) (bit_xor (product 0x02 (y 0)) (y 0))))
 mixed_lane_is (suc (suc (suc (suc r)))) y k small bytes = absurd (omega arith)
 
-abbrev inv_mixed_lane : ℕ → (ℕ → ℕ) → ℕ
+abbrev pub inv_mixed_lane : ℕ → (ℕ → ℕ) → ℕ
 inv_mixed_lane r y =
     bit_xor (bit_xor (product 0x0e (y r)) (product 0x0b (y ((r + 1) % 4))))
     (bit_xor (product 0x0d (y ((r + 2) % 4))) (product 0x09 (y ((r + 3) % 4))))
 
-inv_mixed_lane_is : (r : ℕ) (y : ℕ → ℕ) → r < 4 → inv_mixed_lane r y ≡ row_times_column inv_mix r y
+pub inv_mixed_lane_is : (r : ℕ) (y : ℕ → ℕ) → r < 4 → inv_mixed_lane r y ≡ row_times_column inv_mix r y
 inv_mixed_lane_is zero y small =
     in_pairs (product 0x0e (y 0)) (product 0x0b (y 1)) (product 0x0d (y 2)) (product 0x09 (y 3))
 inv_mixed_lane_is (suc zero) y small =
@@ -103,9 +103,6 @@ shifted_turned_2 = 10 ∷ 15 ∷ 0 ∷ 5 ∷ 14 ∷ 3 ∷ 4 ∷ 9 ∷ 2 ∷ 7 �
 abbrev shifted_turned_3 : List ℕ
 shifted_turned_3 = 15 ∷ 0 ∷ 5 ∷ 10 ∷ 3 ∷ 4 ∷ 9 ∷ 14 ∷ 7 ∷ 8 ∷ 13 ∷ 2 ∷ 11 ∷ 12 ∷ 1 ∷ 6 ∷ []
 
-abbrev unshifted : List ℕ
-unshifted = 0 ∷ 13 ∷ 10 ∷ 7 ∷ 4 ∷ 1 ∷ 14 ∷ 11 ∷ 8 ∷ 5 ∷ 2 ∷ 15 ∷ 12 ∷ 9 ∷ 6 ∷ 3 ∷ []
-
 abbrev turned_1 : List ℕ
 turned_1 = 1 ∷ 2 ∷ 3 ∷ 0 ∷ 5 ∷ 6 ∷ 7 ∷ 4 ∷ 9 ∷ 10 ∷ 11 ∷ 8 ∷ 13 ∷ 14 ∷ 15 ∷ 12 ∷ []
 
@@ -116,10 +113,10 @@ abbrev turned_3 : List ℕ
 turned_3 = 3 ∷ 0 ∷ 1 ∷ 2 ∷ 7 ∷ 4 ∷ 5 ∷ 6 ∷ 11 ∷ 8 ∷ 9 ∷ 10 ∷ 15 ∷ 12 ∷ 13 ∷ 14 ∷ []
 
 -- the lanes of v at these places
-abbrev picked : List ℕ → List ℕ → List ℕ
+abbrev pub picked : List ℕ → List ℕ → List ℕ
 picked v places = pick_l 0 (v ++ v) places
 
-at_16 : (P : List ℕ → List ℕ → Type 0) (s key : List ℕ) → length s ≡ 16 → length key ≡ 16 →
+pub at_16 : (P : List ℕ → List ℕ → Type 0) (s key : List ℕ) → length s ≡ 16 → length key ≡ 16 →
     P (state_of (at s)) (state_of (at key)) → P s key
 at_16 P s key s_size key_size h =
     subst (λ t. P t key) (state_of-at s s_size) (subst (λ t. P (state_of (at s)) t) (state_of-at key key_size) h)
@@ -150,14 +147,6 @@ last_round_lanes s key once block size once_is =
     zip2 bit_xor (picked (map s_box t) shifted) (chunk 0 16 k) ≡ add_round_key (shift_rows (sub_bytes t)) k in
     (λ i. zip2 bit_xor (picked (once_is i) shifted) (chunk 0 16 key)) ∙ at_16 P s key block.size size refl
 
-pub inv_last_round_lanes : (s key once : List ℕ) → IsBlock s → length key ≡ 16 → once ≡ map inv_s_box s →
-    zip2 bit_xor (picked once unshifted) (chunk 0 16 key) ≡ add_round_key (inv_sub_bytes (inv_shift_rows s)) key
-unfolding add_round_key inv_shift_rows inv_sub_bytes
-inv_last_round_lanes s key once block size once_is =
-    let P : List ℕ → List ℕ → Type 0 = λ t k.
-    zip2 bit_xor (picked (map inv_s_box t) unshifted) (chunk 0 16 k) ≡ add_round_key (inv_sub_bytes (inv_shift_rows t)) k in
-    (λ i. zip2 bit_xor (picked (once_is i) unshifted) (chunk 0 16 key)) ∙ at_16 P s key block.size size refl
-
 pub inv_mix_lanes : (s e b d n : List ℕ) → IsBlock s →
     e ≡ map (product 0x0e) s → b ≡ map (product 0x0b) s → d ≡ map (product 0x0d) s → n ≡ map (product 0x09) s →
     zip2 bit_xor (zip2 bit_xor e (picked b turned_1)) (zip2 bit_xor (picked d turned_2) (picked n turned_3)) ≡ inv_mix_columns s
@@ -175,3 +164,6 @@ pub first_key_lanes : (s key : List ℕ) → length s ≡ 16 → length key ≡ 
 unfolding add_round_key
 first_key_lanes s key s_size key_size =
     at_16 (λ t k. zip2 bit_xor t (chunk 0 16 k) ≡ add_round_key t k) s key s_size key_size refl
+
+pub chunk_16 : (s : List ℕ) → length s ≡ 16 → chunk 0 16 s ≡ s
+chunk_16 s size = subst (λ t. chunk 0 16 t ≡ t) (state_of-at s size) refl

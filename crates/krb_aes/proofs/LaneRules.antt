@@ -5,7 +5,7 @@ use Rattle.std.proofs.lemmas.Bool.{agree_below, agree_below_at, or_right, lt-ltb
 use Rattle.std.proofs.lemmas.Float.{T_from_true}
 use Rattle.std.proofs.lemmas.Simd.{swz_l, SwzOk, SwzOk-from_Each1, Each1-weaker, Each1-zip2, Each2-of, length-zip2, zip2_splat, zip2_of_maps}
 use Rattle.krb_aes.specs.State.{at, state_of}
-use Rattle.krb_aes.specs.Inner.Tower.{ArePlaces, LanesBelow, looked_up, by_nibbles, io_of, jo_of}
+use Rattle.krb_aes.specs.Inner.Tower.{ArePlaces, LanesBelow, looked_up, by_nibbles, io_of, jo_of, io_at, jo_at, read_from}
 use Rattle.krb_aes.specs.declared.tower.TheConstants.{INVERSES, A_OVER}
 use Rattle.krb_aes.proofs.Bytes.{state_of-at}
 
@@ -41,7 +41,7 @@ below_by_test p g ok [] bytes = tt
 below_by_test p g ok (x ∷ xs) bytes =
     (agree_below_at (λ y. p (g y)) (λ _. true) 256 x ok bytes.0, below_by_test p g ok xs bytes.1)
 
-length-map_lanes : (g : ℕ → ℕ) (v : List ℕ) → length (map g v) ≡ length v
+pub length-map_lanes : (g : ℕ → ℕ) (v : List ℕ) → length (map g v) ≡ length v
 length-map_lanes g [] = refl
 length-map_lanes g (x ∷ xs) = ap suc (length-map_lanes g xs)
 
@@ -165,3 +165,11 @@ summed_lanes s t f g (x ∷ xs) = ap (λ l. bit_xor (s (f x)) (t (g x)) ∷ l) (
 pub pairs_lanes : (e : ℕ → ℕ → ℕ) (f g : ℕ → ℕ) (v p q r : List ℕ) → p ≡ map f v → q ≡ map g v → r ≡ zip2 e p q →
     r ≡ map (λ x. e (f x) (g x)) v
 pairs_lanes e f g v p q r p_is q_is r_is = r_is ∙ zip2_of_maps e f g v p_is q_is
+
+-- the sum of look-ups at the two values of each lane
+pub read_lanes : (io_table jo_table form io jo r : List ℕ) → io ≡ map io_at form → jo ≡ map jo_at form →
+    r ≡ zip2 bit_xor (map (looked_up io_table) io) (map (looked_up jo_table) jo) → r ≡ map (read_from io_table jo_table) form
+read_lanes io_table jo_table form io jo r io_is jo_is r_is =
+    r_is
+    ∙ (λ i. zip2 bit_xor (map (looked_up io_table) (io_is i)) (map (looked_up jo_table) (jo_is i)))
+    ∙ summed_lanes (looked_up io_table) (looked_up jo_table) io_at jo_at form

@@ -13,3 +13,5 @@ pub mod LawRules
 pub mod LaneRules
 pub mod LaneTests
 pub mod LaneRounds
+pub mod InvRounds
+pub mod InvSteps

@@ -17,6 +17,14 @@ sum4-xor f g =
     ∙ ap (λ x. bit_xor x (bit_xor (f 3) (g 3))) (xor_exchange (bit_xor (f 0) (f 1)) (bit_xor (g 0) (g 1)) (f 2) (g 2))
     ∙ xor_exchange (bit_xor (bit_xor (f 0) (f 1)) (f 2)) (bit_xor (bit_xor (g 0) (g 1)) (g 2)) (f 3) (g 3)
 
+pub row_times_column-xor : (m : ℕ → ℕ → ℕ) (r : ℕ) (f g : ℕ → ℕ) →
+    row_times_column m r (λ k. bit_xor (f k) (g k)) ≡ bit_xor (row_times_column m r f) (row_times_column m r g)
+row_times_column-xor m r f g =
+    let e : (k : ℕ) → product (m r k) (bit_xor (f k) (g k)) ≡ bit_xor (product (m r k) (f k)) (product (m r k) (g k)) =
+    λ k. product-xor (m r k) (f k) (g k) in
+    (λ i. bit_xor (bit_xor (bit_xor (e 0 i) (e 1 i)) (e 2 i)) (e 3 i))
+    ∙ sum4-xor (λ k. product (m r k) (f k)) (λ k. product (m r k) (g k))
+
 -- the sum over rows of the sums over columns, and the other way round
 transposed : (a : ℕ → ℕ → ℕ) → sum4 (λ j. sum4 (a j)) ≡ sum4 (λ k. sum4 (λ j. a j k))
 transposed a =

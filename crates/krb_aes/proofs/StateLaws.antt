@@ -9,7 +9,7 @@ use Rattle.krb_aes.specs.State.{at, row_times_column, mix, inv_mix, sub_bytes, i
 use Rattle.krb_aes.specs.Cipher.{IsBlock}
 use Rattle.krb_aes.proofs.ByteTests.{same_below}
 use Rattle.krb_aes.proofs.Bytes.{AreBytes, place, small_place, s_box_byte, inv_s_box_byte, row_byte, IsBlock-state_of, state_of-at, same_state}
-use Rattle.krb_aes.proofs.MixLaws.{inv_mix_undoes_mix, mix_undoes_inv_mix}
+use Rattle.krb_aes.proofs.MixLaws.{row_times_column-xor, inv_mix_undoes_mix, mix_undoes_inv_mix}
 
 inv_s_box-s_box : (x : ℕ) → x < 256 → inv_s_box (s_box x) ≡ x
 unfolding carryless remainder product inverse number_with affine s_box inv_s_box
@@ -61,6 +61,14 @@ added_twice s key size =
     (λ r c small. xor_twice (at s r c) (at key r c))
     ∙ state_of-at s size
 
+pub inv_mix_columns-added : (s key : List ℕ) →
+    inv_mix_columns (add_round_key s key) ≡ add_round_key (inv_mix_columns s) (inv_mix_columns key)
+unfolding inv_mix_columns add_round_key
+inv_mix_columns-added s key =
+    same_state (λ r c. row_times_column inv_mix r (λ k. bit_xor (at s k c) (at key k c)))
+    (λ r c. bit_xor (row_times_column inv_mix r (λ k. at s k c)) (row_times_column inv_mix r (λ k. at key k c)))
+    (λ r c small. row_times_column-xor inv_mix r (λ k. at s k c) (λ k. at key k c))
+
 -- ---- blocks
 
 mix_small : (r k : ℕ) → mix r k < 16
@@ -68,7 +76,7 @@ mix_small r k =
     small_place (2 ∷ 3 ∷ 1 ∷ 1 ∷ []) ((k + 4 - r) % 4)
     (All-from_recursion (λ x. x < 16) (2 ∷ 3 ∷ 1 ∷ 1 ∷ []) (lit< tt, (lit< tt, (lit< tt, (lit< tt, tt)))))
 
-inv_mix_small : (r k : ℕ) → inv_mix r k < 16
+pub inv_mix_small : (r k : ℕ) → inv_mix r k < 16
 inv_mix_small r k =
     small_place (14 ∷ 11 ∷ 13 ∷ 9 ∷ []) ((k + 4 - r) % 4)
     (All-from_recursion (λ x. x < 16) (14 ∷ 11 ∷ 13 ∷ 9 ∷ []) (lit< tt, (lit< tt, (lit< tt, (lit< tt, tt)))))

@@ -1,12 +1,16 @@
 // The cipher on 16 lanes, one for each byte of the state.
 
-ghost use Rattle.std.specs.Prelude.{◌≡◌, length};
+ghost use Rattle.std.specs.Prelude.{All, ◌≡◌, ◌<◌, List, ℕ, length, map};
 ghost use Rattle.krb_aes.specs.State.{sub_bytes, inv_sub_bytes, shift_rows, inv_shift_rows, mix_columns, inv_mix_columns, add_round_key};
 ghost use Rattle.krb_aes.specs.KeyExpansion.{IsKey};
 ghost use Rattle.krb_aes.specs.Cipher.{IsBlock, cipher, inv_cipher};
+ghost use Rattle.krb_aes.specs.Inner.Tower.{LanesBelow, inv_form};
 
 use crate::KeySchedule;
-use crate::tower::{inv_substituted, substituted, times_0b, times_0d, times_0e, times_09};
+use crate::tower::{
+    InvProducts, inv_formed, inv_products, inv_substituted, substituted, times_0b, times_0d,
+    times_0e, times_09,
+};
 use std::simd::prelude::*;
 
 // ShiftRows, and then each column turned up by 0 to 3 places.
@@ -18,8 +22,14 @@ const SHIFTED_TURNED_2: [usize; 16] = [10, 15, 0, 5, 14, 3, 4, 9, 2, 7, 8, 13, 6
 
 const SHIFTED_TURNED_3: [usize; 16] = [15, 0, 5, 10, 3, 4, 9, 14, 7, 8, 13, 2, 11, 12, 1, 6];
 
-// InvShiftRows.
+// InvShiftRows, and then each column turned up by 0 to 3 places.
 const UNSHIFTED: [usize; 16] = [0, 13, 10, 7, 4, 1, 14, 11, 8, 5, 2, 15, 12, 9, 6, 3];
+
+const UNSHIFTED_TURNED_1: [usize; 16] = [13, 10, 7, 0, 1, 14, 11, 4, 5, 2, 15, 8, 9, 6, 3, 12];
+
+const UNSHIFTED_TURNED_2: [usize; 16] = [10, 7, 0, 13, 14, 11, 4, 1, 2, 15, 8, 5, 6, 3, 12, 9];
+
+const UNSHIFTED_TURNED_3: [usize; 16] = [7, 0, 13, 10, 11, 4, 1, 14, 15, 8, 5, 2, 3, 12, 9, 6];
 
 // Each column turned up by 1 to 3 places.
 const TURNED_1: [usize; 16] = [1, 2, 3, 0, 5, 6, 7, 4, 9, 10, 11, 8, 13, 14, 15, 12];
@@ -54,15 +64,44 @@ fn last_round(state: u8x16, key: &[u8]) -> u8x16
     once.swizzle(SHIFTED) ^ u8x16::from_slice(key)
 }
 
-// InvShiftRows, InvSubBytes and AddRoundKey.
+// The first round key added to a block, in the form that decryption keeps.
 #[inline(always)]
-fn inv_last_round(state: u8x16, key: &[u8]) -> u8x16
-    requires state { IsBlock state }
-    requires key { length key.now ≡ 16 }
-    ensures value { result ≡ add_round_key (inv_sub_bytes (inv_shift_rows state)) key.now }
-    ensures block { IsBlock result }
+fn inv_first_round(block: &[u8; 16], key: &[u8]) -> u8x16
+    requires { length key.now ≡ 16 }
+    ensures { result ≡ map inv_form (add_round_key block.now key.now) }
 {
-    inv_substituted(state).swizzle(UNSHIFTED) ^ u8x16::from_slice(key)
+    inv_formed(u8x16::from_array(*block) ^ u8x16::from_slice(key))
+}
+
+// A round of the inverse cipher, on a block in the form that decryption keeps, with a key of `inv_key`.
+#[inline(always)]
+fn inv_round(form: u8x16, key: &[u8]) -> u8x16
+    requires form { LanesBelow 256 form }
+    requires key { length key.now ≡ 16 }
+    ensures { (block round_key : List ℕ) → IsBlock block → All (λ byte. byte < 256) round_key
+        → form ≡ map inv_form block → key.now ≡ map inv_form (inv_mix_columns round_key)
+        → result ≡ map inv_form (inv_mix_columns (add_round_key (inv_sub_bytes (inv_shift_rows block)) round_key)) }
+{
+    let InvProducts {
+        by_0e,
+        by_0b,
+        by_0d,
+        by_09,
+    } = inv_products(form);
+    let first = by_0e.swizzle(UNSHIFTED) ^ by_0b.swizzle(UNSHIFTED_TURNED_1);
+    let others = by_0d.swizzle(UNSHIFTED_TURNED_2) ^ by_09.swizzle(UNSHIFTED_TURNED_3);
+    first ^ (others ^ u8x16::from_slice(key))
+}
+
+// The last round, which has no InvMixColumns.
+#[inline(always)]
+fn inv_last_round(form: u8x16, key: &[u8]) -> u8x16
+    requires form { LanesBelow 256 form }
+    requires key { length key.now ≡ 16 }
+    ensures { (block : List ℕ) → IsBlock block → form ≡ map inv_form block
+        → result ≡ add_round_key (inv_sub_bytes (inv_shift_rows block)) key.now }
+{
+    inv_substituted(form).swizzle(UNSHIFTED) ^ u8x16::from_slice(key)
 }
 
 #[inline(always)]
@@ -74,6 +113,15 @@ fn inv_mix_columns(state: u8x16) -> u8x16
     let first = times_0e(state) ^ times_0b(state).swizzle(TURNED_1);
     let others = times_0d(state).swizzle(TURNED_2) ^ times_09(state).swizzle(TURNED_3);
     first ^ others
+}
+
+// The key of a round as `inv_round` takes it.
+#[inline(always)]
+pub(crate) fn inv_key(key: &[u8]) -> [u8; 16]
+    requires { length key.now ≡ 16 }
+    ensures { result ≡ map inv_form (inv_mix_columns key.now) }
+{
+    inv_formed(inv_mix_columns(u8x16::from_slice(key))).to_array()
 }
 
 pub(crate) fn encrypt_block(schedule: &KeySchedule, block: &mut [u8; 16])
@@ -96,10 +144,34 @@ pub(crate) fn decrypt_block(schedule: &KeySchedule, block: &mut [u8; 16])
     ensures undone { cipher schedule.now block.new ≡ block.old }
 {
     let last = schedule.rounds();
-    let mut state = u8x16::from_array(*block) ^ u8x16::from_slice(schedule.round_key(last));
+    let mut form = inv_first_round(block, schedule.round_key(last));
     for at in (1..last).rev() {
-        let next = inv_mix_columns(inv_last_round(state, schedule.round_key(at)));
-        state = next;
+        let next = inv_round(form, schedule.inv_key(at));
+        form = next;
     }
-    *block = inv_last_round(state, schedule.round_key(0)).to_array();
+    *block = inv_last_round(form, schedule.round_key(0)).to_array();
+}
+
+// Two blocks at once, since the steps of one wait for one another.
+pub(crate) fn decrypt_two_blocks(schedule: &KeySchedule, one: &mut [u8; 16], other: &mut [u8; 16])
+    ensures key { IsKey schedule.now }
+    ensures one { one.new ≡ inv_cipher schedule.now one.old }
+    ensures other { other.new ≡ inv_cipher schedule.now other.old }
+    ensures one_undone { cipher schedule.now one.new ≡ one.old }
+    ensures other_undone { cipher schedule.now other.new ≡ other.old }
+{
+    let last = schedule.rounds();
+    let first_key = schedule.round_key(last);
+    let mut one_form = inv_first_round(one, first_key);
+    let mut other_form = inv_first_round(other, first_key);
+    for round in (1..last).rev() {
+        let key = schedule.inv_key(round);
+        let next_one = inv_round(one_form, key);
+        let next_other = inv_round(other_form, key);
+        one_form = next_one;
+        other_form = next_other;
+    }
+    let last_key = schedule.round_key(0);
+    *one = inv_last_round(one_form, last_key).to_array();
+    *other = inv_last_round(other_form, last_key).to_array();
 }

@@ -18,6 +18,7 @@
 #![tactic(auto)]
 
 mod expansion;
+mod inv_keys;
 mod lanes;
 pub mod laws;
 pub mod plain;

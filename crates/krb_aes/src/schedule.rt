@@ -1,9 +1,10 @@
 ghost use Rattle.std.specs.Prelude.{◌≡◌, ◌+◌, ◌*◌, ◌/◌, ◌<◌, ◌≤◌, List, ℕ, length, take};
 ghost use Rattle.krb_aes.specs.KeyExpansion.{IsKey, key_expansion, round_count, round_key};
 ghost use Rattle.krb_aes.specs.Cipher.{cipher, inv_cipher};
-ghost use Rattle.krb_aes.specs.Inner.Schedule.{IsSchedule};
+ghost use Rattle.krb_aes.specs.Inner.Schedule.{IsSchedule, inv_round_key};
 
 use crate::expansion::{EXPANDED_LEN, expand};
+use crate::inv_keys::inv_keys;
 use crate::lanes;
 use std::marker::Model;
 
@@ -13,6 +14,7 @@ use std::marker::Model;
 #[derive(Drop)]
 pub struct KeySchedule {
     words: [u8; EXPANDED_LEN],
+    inv_words: [u8; EXPANDED_LEN],
     key_len: usize,
 }
 
@@ -21,7 +23,7 @@ impl Model for KeySchedule {
 
     ghost view = { λ s. take s.key_len s.words };
 
-    ghost invariant = { λ s. IsSchedule s.key_len s.words };
+    ghost invariant = { λ s. IsSchedule s.key_len s.words s.inv_words };
 }
 
 impl KeySchedule {
@@ -31,8 +33,10 @@ impl KeySchedule {
     pub fn new_128(key: &[u8; 16]) -> KeySchedule
         ensures { result ≡ key.now }
     {
+        let words = expand(key);
         KeySchedule {
-            words: expand(key),
+            inv_words: inv_keys(&words, 10),
+            words,
             key_len: 16,
         }
     }
@@ -43,8 +47,10 @@ impl KeySchedule {
     pub fn new_256(key: &[u8; 32]) -> KeySchedule
         ensures { result ≡ key.now }
     {
+        let words = expand(key);
         KeySchedule {
-            words: expand(key),
+            inv_words: inv_keys(&words, 14),
+            words,
             key_len: 32,
         }
     }
@@ -73,6 +79,20 @@ impl KeySchedule {
         lanes::decrypt_block(self, block);
     }
 
+    /// Decrypts two blocks in place, each as `decrypt_block` does, in less time than one after the other.
+    ///
+    /// Source: FIPS 197, section 5.3.
+    pub fn decrypt_two_blocks(&self, one: &mut [u8; 16], other: &mut [u8; 16])
+        ensures key { IsKey self.now }
+        ensures one { one.new ≡ inv_cipher self.now one.old }
+        ensures other { other.new ≡ inv_cipher self.now other.old }
+        // Encryption gives the old blocks back.
+        ensures one_undone { cipher self.now one.new ≡ one.old }
+        ensures other_undone { cipher self.now other.new ≡ other.old }
+    {
+        lanes::decrypt_two_blocks(self, one, other);
+    }
+
     // The number of rounds.
     pub(crate) fn rounds(&self) -> usize
         ensures key { IsKey self.now }
@@ -90,5 +110,15 @@ impl KeySchedule {
         ensures len { length result.now ≡ 16 }
     {
         &self.words[16 * round..16 * round + 16]
+    }
+    // The key of a round of decryption but the first and the last, as `lanes::inv_round` takes it.
+    pub(crate) fn inv_key(&self, round: usize) -> &[u8]
+        requires key { IsKey self.now }
+        requires some { 1 ≤ round }
+        requires round { round < round_count self.now }
+        ensures value { result.now ≡ inv_round_key (key_expansion self.now) round }
+        ensures len { length result.now ≡ 16 }
+    {
+        &self.inv_words[16 * round..16 * round + 16]
     }
 }

@@ -1,11 +1,13 @@
 // The S-box on 16 lanes, by look-ups in tables of 16 bytes: a byte is k + i * s over the field of 16
-// elements, where its inverse needs few of them. docs/TOWER.md tells where the tables come from.
+// elements, where its inverse needs few of them. Between rounds, decryption keeps bytes as 16 * i + k.
+// docs/TOWER.md tells where the tables come from.
 
-ghost use Rattle.std.specs.Prelude.{◌≡◌, map};
+ghost use Rattle.std.specs.Prelude.{◌≡◌, map, bit_xor};
 ghost use Rattle.std.specs.Simd.Lanes.{zip2};
 ghost use Rattle.krb_aes.specs.Field.{product};
-ghost use Rattle.krb_aes.specs.SBox.{s_box, inv_s_box};
-ghost use Rattle.krb_aes.specs.Inner.Tower.{ArePlaces, LanesBelow, looked_up, by_nibbles, io_of, jo_of};
+ghost use Rattle.krb_aes.specs.SBox.{s_box};
+ghost use Rattle.krb_aes.specs.Inner.Tower.{ArePlaces, LanesBelow, looked_up, by_nibbles, io_of, jo_of, io_at, jo_at, read_from, inv_form};
+ghost use Rattle.krb_aes.specs.declared.tower.TheConstants.{INV_SUB_IO, INV_SUB_JO, INV_0E_IO, INV_0E_JO, INV_0B_IO, INV_0B_JO, INV_0D_IO, INV_0D_JO, INV_09_IO, INV_09_JO};
 
 use std::simd::prelude::*;
 
@@ -49,20 +51,12 @@ static DOUBLED_JO: [u8; 16] = [
     0x00, 0x25, 0xc2, 0x2c, 0x9f, 0x54, 0xee, 0xcb, 0x09, 0x96, 0xba, 0x78, 0x71, 0x5d, 0xb3, 0xe7,
 ];
 
-static INV_SUB_I_LOW: [u8; 16] = [
-    0x02, 0x09, 0x0f, 0x04, 0x0f, 0x04, 0x02, 0x09, 0x03, 0x08, 0x0e, 0x05, 0x0e, 0x05, 0x03, 0x08,
+static INV_FORM_LOW: [u8; 16] = [
+    0x2c, 0x99, 0xf0, 0x45, 0xf7, 0x42, 0x2b, 0x9e, 0x38, 0x8d, 0xe4, 0x51, 0xe3, 0x56, 0x3f, 0x8a,
 ];
 
-static INV_SUB_I_HIGH: [u8; 16] = [
-    0x00, 0x0a, 0x0a, 0x00, 0x0e, 0x04, 0x04, 0x0e, 0x0d, 0x07, 0x07, 0x0d, 0x03, 0x09, 0x09, 0x03,
-];
-
-static INV_SUB_K_LOW: [u8; 16] = [
-    0x0c, 0x09, 0x00, 0x05, 0x07, 0x02, 0x0b, 0x0e, 0x08, 0x0d, 0x04, 0x01, 0x03, 0x06, 0x0f, 0x0a,
-];
-
-static INV_SUB_K_HIGH: [u8; 16] = [
-    0x00, 0x07, 0x08, 0x0f, 0x0d, 0x0a, 0x05, 0x02, 0x01, 0x06, 0x09, 0x0e, 0x0c, 0x0b, 0x04, 0x03,
+static INV_FORM_HIGH: [u8; 16] = [
+    0x00, 0xa7, 0xa8, 0x0f, 0xed, 0x4a, 0x45, 0xe2, 0xd1, 0x76, 0x79, 0xde, 0x3c, 0x9b, 0x94, 0x33,
 ];
 
 static INV_SUB_IO: [u8; 16] = [
@@ -71,6 +65,38 @@ static INV_SUB_IO: [u8; 16] = [
 
 static INV_SUB_JO: [u8; 16] = [
     0x00, 0x24, 0x91, 0x19, 0x23, 0x8f, 0x88, 0xac, 0x3d, 0x1e, 0x07, 0x96, 0xab, 0xb2, 0x3a, 0xb5,
+];
+
+static INV_0E_IO: [u8; 16] = [
+    0x00, 0xeb, 0xa6, 0xb9, 0x7b, 0x8f, 0x1f, 0xf4, 0x52, 0x29, 0x90, 0x36, 0x64, 0xdd, 0xc2, 0x4d,
+];
+
+static INV_0E_JO: [u8; 16] = [
+    0x00, 0xfd, 0xdf, 0x65, 0x9d, 0xda, 0xba, 0x47, 0x98, 0x05, 0x60, 0xbf, 0x27, 0x42, 0xf8, 0x22,
+];
+
+static INV_0B_IO: [u8; 16] = [
+    0x00, 0xc2, 0x4d, 0xeb, 0xdd, 0xb9, 0xa6, 0x64, 0x29, 0xf4, 0x1f, 0x52, 0x7b, 0x90, 0x36, 0x8f,
+];
+
+static INV_0B_JO: [u8; 16] = [
+    0x00, 0xf8, 0x22, 0xfd, 0x42, 0x65, 0xdf, 0x27, 0x05, 0x47, 0xba, 0x98, 0x9d, 0x60, 0xbf, 0xda,
+];
+
+static INV_0D_IO: [u8; 16] = [
+    0x00, 0x7c, 0x1b, 0x3d, 0x15, 0x4f, 0x26, 0x5a, 0x41, 0x54, 0x69, 0x72, 0x33, 0x0e, 0x28, 0x67,
+];
+
+static INV_0D_JO: [u8; 16] = [
+    0x00, 0x77, 0xb2, 0xb0, 0xb6, 0xc3, 0x02, 0x75, 0xc7, 0x71, 0xc1, 0x73, 0xb4, 0x04, 0x06, 0xc5,
+];
+
+static INV_09_IO: [u8; 16] = [
+    0x00, 0x27, 0xbf, 0x47, 0xda, 0x05, 0xf8, 0xdf, 0x60, 0xba, 0xfd, 0x42, 0x22, 0x65, 0x9d, 0x98,
+];
+
+static INV_09_JO: [u8; 16] = [
+    0x00, 0x01, 0x8c, 0x2e, 0xa8, 0x0b, 0xa2, 0xa3, 0x2f, 0x87, 0xa9, 0x25, 0x0a, 0x24, 0x86, 0x8d,
 ];
 
 static TIMES_0E_LOW: [u8; 16] = [
@@ -153,16 +179,69 @@ pub(crate) fn substituted(bytes: u8x16) -> (u8x16, u8x16)
     (once, doubled)
 }
 
-// InvSBox of each lane.
+// Each byte in the form that decryption keeps: as 16 * i + k, with the affine transformation undone.
 #[inline(always)]
-pub(crate) fn inv_substituted(bytes: u8x16) -> u8x16
+pub(crate) fn inv_formed(bytes: u8x16) -> u8x16
     requires { LanesBelow 256 bytes }
-    ensures { result ≡ map inv_s_box bytes }
+    ensures { result ≡ map inv_form bytes }
 {
-    let i = by_nibbles(&INV_SUB_I_LOW, &INV_SUB_I_HIGH, bytes);
-    let k = by_nibbles(&INV_SUB_K_LOW, &INV_SUB_K_HIGH, bytes);
-    let (io, jo) = inverted(i, k);
-    looked_up(&INV_SUB_IO, io) ^ looked_up(&INV_SUB_JO, jo)
+    by_nibbles(&INV_FORM_LOW, &INV_FORM_HIGH, bytes)
+}
+
+// The two values from which the inverse of each k + i * s is read, where a lane is 16 * i + k.
+#[inline(always)]
+fn inverted_form(form: u8x16) -> (u8x16, u8x16)
+    requires { LanesBelow 256 form }
+    ensures io { result.0 ≡ map io_at form }
+    ensures jo { result.1 ≡ map jo_at form }
+    ensures io_places { ArePlaces result.0 }
+    ensures jo_places { ArePlaces result.1 }
+{
+    inverted(form >> u8x16::splat(4), form & u8x16::splat(0x0f))
+}
+
+// The sum of what two tables have at these two values.
+#[inline(always)]
+fn read(io_table: &[u8; 16], jo_table: &[u8; 16], values: (u8x16, u8x16)) -> u8x16
+    requires io { ArePlaces values.0 }
+    requires jo { ArePlaces values.1 }
+    ensures { result ≡ zip2 bit_xor (map (looked_up io_table.now) values.0) (map (looked_up jo_table.now) values.1) }
+{
+    looked_up(io_table, values.0) ^ looked_up(jo_table, values.1)
+}
+
+// InvSBox of each byte in the form that decryption keeps.
+#[inline(always)]
+pub(crate) fn inv_substituted(form: u8x16) -> u8x16
+    requires { LanesBelow 256 form }
+    ensures { result ≡ map (read_from INV_SUB_IO INV_SUB_JO) form }
+{
+    read(&INV_SUB_IO, &INV_SUB_JO, inverted_form(form))
+}
+
+// InvSBox of 16 bytes times the entries of InvMixColumns, in the form that decryption keeps but for its constant.
+pub(crate) struct InvProducts {
+    pub(crate) by_0e: u8x16,
+    pub(crate) by_0b: u8x16,
+    pub(crate) by_0d: u8x16,
+    pub(crate) by_09: u8x16,
+}
+
+#[inline(always)]
+pub(crate) fn inv_products(form: u8x16) -> InvProducts
+    requires { LanesBelow 256 form }
+    ensures by_0e { result.by_0e ≡ map (read_from INV_0E_IO INV_0E_JO) form }
+    ensures by_0b { result.by_0b ≡ map (read_from INV_0B_IO INV_0B_JO) form }
+    ensures by_0d { result.by_0d ≡ map (read_from INV_0D_IO INV_0D_JO) form }
+    ensures by_09 { result.by_09 ≡ map (read_from INV_09_IO INV_09_JO) form }
+{
+    let values = inverted_form(form);
+    InvProducts {
+        by_0e: read(&INV_0E_IO, &INV_0E_JO, values),
+        by_0b: read(&INV_0B_IO, &INV_0B_JO, values),
+        by_0d: read(&INV_0D_IO, &INV_0D_JO, values),
+        by_09: read(&INV_09_IO, &INV_09_JO, values),
+    }
 }
 
 #[inline(always)]

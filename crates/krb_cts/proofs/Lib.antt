@@ -1,5 +1,6 @@
 pub mod Xor
 pub mod Blocks
+pub mod Unchained
 pub mod Parts
 pub mod Ends
 pub mod Stolen

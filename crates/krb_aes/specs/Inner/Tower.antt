@@ -1,7 +1,7 @@
 -- The look-ups in tables of 16 bytes, as functions of one lane.
 use Rattle.std.specs.Prelude.{◌≡◌, ℕ, ◌/◌, ◌^◌, ◌<◌, ◌||◌, IsTrue, nat_le, nat_lt, List, length, slice_index, bit_and, bit_xor, if◌then◌else◌}
 use Rattle.std.specs.Simd.Lanes.{Each1}
-use Rattle.krb_aes.specs.declared.tower.TheConstants.{INVERSES, A_OVER}
+use Rattle.krb_aes.specs.declared.tower.TheConstants.{INVERSES, A_OVER, INV_FORM_LOW, INV_FORM_HIGH}
 
 -- 16 lanes below a bound
 pub record LanesBelow (bound : ℕ) (lanes : List ℕ) : Type 0 where
@@ -27,3 +27,18 @@ io_of i k = bit_xor (looked_up INVERSES (bit_xor (looked_up INVERSES i) (looked_
 
 abbrev pub jo_of : ℕ → ℕ → ℕ
 jo_of i k = bit_xor (looked_up INVERSES (bit_xor (looked_up INVERSES (bit_xor i k)) (looked_up A_OVER k))) i
+
+-- the same two, where one number is 16 * i + k
+abbrev pub io_at : ℕ → ℕ
+io_at t = io_of (t / 2 ^ 4) (bit_and t 15)
+
+abbrev pub jo_at : ℕ → ℕ
+jo_at t = jo_of (t / 2 ^ 4) (bit_and t 15)
+
+-- the sum of what two tables have at these two
+abbrev pub read_from : List ℕ → List ℕ → ℕ → ℕ
+read_from io_table jo_table t = bit_xor (looked_up io_table (io_at t)) (looked_up jo_table (jo_at t))
+
+-- the form in which decryption keeps a byte: 16 * i + k, where k + i * s is the byte with the affine transformation undone
+unfoldable pub inv_form : ℕ → ℕ
+inv_form = by_nibbles INV_FORM_LOW INV_FORM_HIGH

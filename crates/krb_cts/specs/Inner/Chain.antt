@@ -1,5 +1,5 @@
 -- Whole blocks of a text that was chained.
-use Rattle.std.specs.Prelude.{ℕ, zero, suc, ◌-◌, ◌*◌, List, take, drop}
+use Rattle.std.specs.Prelude.{ℕ, zero, suc, ◌+◌, ◌-◌, ◌*◌, List, ◌++◌, take, drop}
 use Rattle.krb_aes.specs.Cipher.{inv_cipher}
 use Rattle.krb_cts.specs.Stealing.{xor, zeros}
 
@@ -11,3 +11,7 @@ whole_block text (suc i) = take 16 (drop (16 * i) text)
 -- what block i was before it was chained
 abbrev pub unchained_block : List ℕ → List ℕ → ℕ → List ℕ
 unchained_block key text i = xor (inv_cipher key (whole_block text i)) (whole_block text (i - 1))
+
+-- the text with the chain of its block at a place undone, behind the block `previous`
+abbrev pub undone_at : List ℕ → List ℕ → ℕ → List ℕ → List ℕ
+undone_at key text at previous = take at text ++ xor (inv_cipher key (take 16 (drop at text))) previous ++ drop (at + 16) text

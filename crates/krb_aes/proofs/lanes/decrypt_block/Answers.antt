@@ -1,41 +1,30 @@
-use Rattle.std.proofs.Common.{◌≡◌, ◌-◌, ◌∙◌, ap, sym, subst, arith}
-use Rattle.krb_aes.specs.State.{add_round_key}
-use Rattle.krb_aes.specs.KeyExpansion.{key_expansion, round_key}
-use Rattle.krb_aes.specs.Cipher.{IsBlock, inv_rounds, inv_cipher}
-use Rattle.krb_aes.proofs.Bytes.{block_of_array, round_key_bytes}
-use Rattle.krb_aes.proofs.LaneRounds.{first_key_lanes}
+use Rattle.std.proofs.Common.{arith}
+use Rattle.krb_aes.proofs.Bytes.{block_of_array}
+use Rattle.krb_aes.proofs.InvSteps.{lanes_of_form, begun, gone_on, ended}
 use Rattle.krb_aes.proofs.RoundLaws.{cipher-inv_cipher}
-use Rattle.krb_aes.proofs.RoundRules.{inv_rounds_before}
-use Rattle.krb_aes.proofs.StateLaws.{IsBlock-add_round_key}
 use Rattle.krb_aes.proofs.lanes.decrypt_block.Goals as goal
 
+pub inv_round-next-requires-clause-form : goal.inv_round-next-requires-clause-form
+inv_round-next-requires-clause-form c = lanes_of_form _ _ _ _ c.loop-at.invariant
+
+pub inv_last_round-requires-clause-form : goal.inv_last_round-requires-clause-form
+inv_last_round-requires-clause-form c = lanes_of_form _ _ _ _ c.loop-at.invariant
+
 pub loop-at-init : goal.loop-at-init
-unfolding inv_cipher
 loop-at-init c =
     let block = block_of_array c.args.block.now c.told-block c.fits-block in
-    let k = round_key (key_expansion c.args.schedule.now) in
-    let keyed = first_key_lanes c.args.block.now c.round_key.result.now c.told-block c.round_key.ensures.len
-    ∙ ap (add_round_key c.args.block.now) c.round_key.ensures.value in
-    record {
-      value = cc keyed;
-      block = subst IsBlock (sym keyed) (IsBlock-add_round_key c.args.block.now (k c.rounds-last.result) block
-          (round_key_bytes c.args.schedule.now c.rounds-last.result c.rounds-last.ensures.key.bytes));
-    }
+    begun c.args.schedule.now c.args.block.now _ _ _ c.rounds-last.ensures.key block c.rounds-last.ensures.count
+    c.round_key.ensures.value c.inv_first_round-form.ensures
 
 pub loop-at-preserved : goal.loop-at-preserved
 loop-at-preserved c =
-    let k = round_key (key_expansion c.args.schedule.now) in
-    record {
-      value = cc (inv_rounds_before k c.loop-at.state (c.loop-at.at - 1) (omega arith), c.loop-at.invariant.value);
-      block = c.inv_mix_columns-next.ensures.block;
-    }
+    gone_on c.args.schedule.now c.args.block.now _ _ _ c.loop-at.at c.rounds-last.ensures.key (omega arith) c.loop-at.invariant
+    c.inv_key.ensures.value c.inv_round-next.ensures
 
 pub returns-clause-block : goal.returns-clause-block
-unfolding inv_rounds
 returns-clause-block c =
-    let end : c.loop-at.at - 1 ≡ 0 = omega arith in
-    let done = rw end at c.loop-at.invariant.value in
-    cc
+    ended c.args.schedule.now c.args.block.now _ _ _ c.loop-at.at (omega arith) c.loop-at.invariant
+    c.round_key-2.ensures.value c.inv_last_round.ensures
 
 pub returns-clause-undone : goal.returns-clause-undone
 returns-clause-undone c =

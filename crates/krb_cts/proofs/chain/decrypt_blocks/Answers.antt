@@ -1,8 +1,7 @@
-use Rattle.std.proofs.Common.{◌≡◌, ◌+◌, ◌*◌, ◌≤◌, length, suc, refl, ap, ap₂, ◌∙◌, add-one, arith}
-use Rattle.krb_aes.specs.Cipher.{inv_cipher}
-use Rattle.krb_cts.specs.Stealing.{joined, xor}
-use Rattle.krb_cts.specs.Inner.Chain.{whole_block, unchained_block}
-use Rattle.krb_cts.proofs.Blocks.{IsDone, next_block, goes_on, length-unchained_block, unchained_block-next}
+use Rattle.std.proofs.Common.{subst, ℕ, ◌≡◌, ◌-◌, ◌+◌, ◌*◌, ◌≤◌, length, suc, refl, ◌∙◌, arith}
+use Rattle.krb_cts.specs.Stealing.{joined}
+use Rattle.krb_cts.specs.Inner.Chain.{whole_block, undone_at}
+use Rattle.krb_cts.proofs.Unchained.{IsUndone, later_block, two_more, one_more}
 use Rattle.krb_cts.proofs.chain.decrypt_blocks.Goals as goal
 
 pub loop-i-init : goal.loop-i-init
@@ -10,18 +9,27 @@ unfolding joined whole_block
 loop-i-init c = record { undone = refl; key = λ some. absurd (omega arith); last = refl }
 
 pub loop-i-preserved : goal.loop-i-preserved
-unfolding whole_block
 loop-i-preserved c =
     let key = c.args.schedule.now in
     let old = c.args.text.now in
-    let n = c.loop-i.i in
-    let done : IsDone (unchained_block key old) n old c.loop-i.text = record { parts = c.loop-i.invariant.undone; whole = λ i lt. length-unchained_block key old i (omega arith) } in
-    let fits : 16 * n + 16 ≤ length old = omega arith in
-    let last : c.block_at-chained.result ≡ whole_block old (suc n) = c.block_at-chained.ensures ∙ next_block _ n old c.loop-i.text done in
-    let next : c.xor.result ≡ unchained_block key old (suc n) =
-    c.xor.ensures ∙ ap₂ xor (c.decrypt_block.ensures.block ∙ ap (λ b. inv_cipher key b) last) c.loop-i.invariant.last ∙ unchained_block-next key old n in
-    rw add-one (record {
-      undone = c.put_block.ensures ∙ goes_on (unchained_block key old) n old c.loop-i.text c.xor.result done fits next;
-      key = λ some. c.decrypt_block.ensures.key;
-      last = last;
-    })
+    let n = 2 * c.loop-i.i in
+    let fits : 16 * n + 32 ≤ length old = omega arith in
+    let more : suc (suc n) ≡ 2 * (c.loop-i.i + 1) = omega arith in
+    record {
+      undone = subst (λ (m : ℕ). IsUndone key old m c.decrypt_two-chained.new.text) more
+          (c.decrypt_two-chained.ensures.text ∙ two_more key old c.loop-i.text c.loop-i.previous n fits c.loop-i.invariant.undone c.loop-i.invariant.last);
+      key = λ some. c.decrypt_two-chained.ensures.key;
+      last = subst (λ (m : ℕ). c.decrypt_two-chained.result ≡ whole_block old m) more
+          (c.decrypt_two-chained.ensures.last ∙ later_block key old c.loop-i.text n fits c.loop-i.invariant.undone);
+    }
+
+pub returns-then-count-eq1-clause-text : goal.returns-then-count-eq1-clause-text
+returns-then-count-eq1-clause-text c =
+    let key = c.args.schedule.now in
+    let old = c.args.text.now in
+    let n = 2 * c.loop-i.i in
+    let before : c.args.count - 1 ≡ n = omega arith in
+    let all : suc n ≡ c.args.count = omega arith in
+    let text : c.decrypt_one.new.text ≡ undone_at key c.loop-i.text (16 * n) c.loop-i.previous = (rw before at c.decrypt_one.ensures.text) in
+    subst (λ (m : ℕ). IsUndone key old m c.decrypt_one.new.text) all
+    (text ∙ one_more key old c.loop-i.text c.loop-i.previous n (omega arith) c.loop-i.invariant.undone c.loop-i.invariant.last)

@@ -1,0 +1,56 @@
+use Rattle.std.proofs.Common.{arith}
+use Rattle.krb_aes.proofs.Bytes.{block_of_array}
+use Rattle.krb_aes.proofs.InvSteps.{lanes_of_form, begun, gone_on, ended}
+use Rattle.krb_aes.proofs.RoundLaws.{cipher-inv_cipher}
+use Rattle.krb_aes.proofs.lanes.decrypt_two_blocks.Goals as goal
+
+pub inv_round-next_one-requires-clause-form : goal.inv_round-next_one-requires-clause-form
+inv_round-next_one-requires-clause-form c = lanes_of_form _ _ _ _ c.loop-round.invariant.one
+
+pub inv_round-next_other-requires-clause-form : goal.inv_round-next_other-requires-clause-form
+inv_round-next_other-requires-clause-form c = lanes_of_form _ _ _ _ c.loop-round.invariant.other
+
+pub inv_last_round-requires-clause-form : goal.inv_last_round-requires-clause-form
+inv_last_round-requires-clause-form c = lanes_of_form _ _ _ _ c.loop-round.invariant.one
+
+pub loop-round-init : goal.loop-round-init
+loop-round-init c =
+    let one = block_of_array c.args.one.now c.told-one c.fits-one in
+    let other = block_of_array c.args.other.now c.told-other c.fits-other in
+    let key = c.args.schedule.now in
+    record {
+      one = begun key c.args.one.now _ _ _ c.rounds-last.ensures.key one c.rounds-last.ensures.count
+          c.round_key-first_key.ensures.value c.inv_first_round-one_form.ensures;
+      other = begun key c.args.other.now _ _ _ c.rounds-last.ensures.key other c.rounds-last.ensures.count
+          c.round_key-first_key.ensures.value c.inv_first_round-other_form.ensures;
+    }
+
+pub loop-round-preserved : goal.loop-round-preserved
+loop-round-preserved c =
+    let key = c.args.schedule.now in
+    record {
+      one = gone_on key c.args.one.now _ _ _ c.loop-round.round c.rounds-last.ensures.key (omega arith) c.loop-round.invariant.one
+          c.inv_key-key.ensures.value c.inv_round-next_one.ensures;
+      other = gone_on key c.args.other.now _ _ _ c.loop-round.round c.rounds-last.ensures.key (omega arith) c.loop-round.invariant.other
+          c.inv_key-key.ensures.value c.inv_round-next_other.ensures;
+    }
+
+pub returns-clause-one : goal.returns-clause-one
+returns-clause-one c =
+    ended c.args.schedule.now c.args.one.now _ _ _ c.loop-round.round (omega arith) c.loop-round.invariant.one
+    c.round_key-last_key.ensures.value c.inv_last_round.ensures
+
+pub returns-clause-other : goal.returns-clause-other
+returns-clause-other c =
+    ended c.args.schedule.now c.args.other.now _ _ _ c.loop-round.round (omega arith) c.loop-round.invariant.other
+    c.round_key-last_key.ensures.value c.inv_last_round-2.ensures
+
+pub returns-clause-one_undone : goal.returns-clause-one_undone
+returns-clause-one_undone c =
+    let block = block_of_array c.args.one.now c.told-one c.fits-one in
+    rw (returns-clause-one c) (cipher-inv_cipher c.args.schedule.now c.args.one.now c.rounds-last.ensures.key block)
+
+pub returns-clause-other_undone : goal.returns-clause-other_undone
+returns-clause-other_undone c =
+    let block = block_of_array c.args.other.now c.told-other c.fits-other in
+    rw (returns-clause-other c) (cipher-inv_cipher c.args.schedule.now c.args.other.now c.rounds-last.ensures.key block)
