@@ -20,6 +20,7 @@ use crate::call::{Call, Outcome};
 use crate::inner_laws::facts;
 use crate::laws::no_stamp_twice;
 use crate::refusal::Refusal;
+use krb_enc::UsageKey;
 use krb_keytab::Keytab;
 use krb_msg::Moment;
 use krb_replay::{ReplayMemory, Skew, Tuple};
@@ -34,6 +35,8 @@ pub struct Acceptor<M> {
     pub(crate) keytab: Keytab,
     pub(crate) skew: Skew,
     pub(crate) memory: M,
+    // The keys for tickets of the service key that was used last, so that they needn't be derived again for the next ticket.
+    pub(crate) ready: Option<UsageKey>,
 }
 
 impl<M> Model for Acceptor<M> {
@@ -63,6 +66,7 @@ impl<M: ReplayMemory> Acceptor<M> {
             keytab,
             skew,
             memory,
+            ready: None,
         }
     }
 

@@ -76,7 +76,7 @@ fn is_usable_for(cache: &CCache, service: &Principal, credential: &Credential) -
     ensures { IsTrue result ↔ IsUsableFor cache.now service.now credential.now }
 {
     is_for(cache, service, credential)
-        && Key::new(i32::from(credential.etype), credential.key.as_slice()).is_ok()
+        && Key::is_usable(i32::from(credential.etype), credential.key.as_slice())
 }
 
 fn is_for(cache: &CCache, service: &Principal, credential: &Credential) -> bool

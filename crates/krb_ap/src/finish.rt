@@ -16,7 +16,7 @@ ghost use Rattle.krb_ap.specs.declared.finish_fault.FinishFault.TheVariants.{Int
 
 use crate::finish_fault::FinishFault;
 use crate::inner_laws::facts;
-use crate::keys::{own_key, owned_key, same_key};
+use crate::keys::{own_key, owned_key};
 use crate::laws::both_agree;
 use crate::opening::begins_otherwise;
 use crate::pending::Pending;
@@ -81,7 +81,7 @@ impl Pending {
         }
         Ok(Agreed {
             client: self.client.clone()?,
-            session_key: same_key(&self.key),
+            session_key: self.key.copy(),
             subkey: own_key(&self.subkey),
             seq: self.seq,
             service_subkey: owned_key(alloc, &part.subkey)?,

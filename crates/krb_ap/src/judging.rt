@@ -17,10 +17,11 @@ use crate::acceptor::Acceptor;
 use crate::inner_laws::facts;
 use crate::keys::owned_key;
 use crate::opening::{
-    is_of_type, is_same_client, open_under, read_authenticator, read_part, read_request, service,
-    ticket_key, usable_key,
+    is_of_type, is_same_client, open_authenticator, read_authenticator, read_part, read_request,
+    service, usable_key,
 };
 use crate::refusal::Refusal;
+use crate::ticket_keys::{make_ready, open_ticket};
 use crate::times::{is_near, refusal_of_times};
 use krb_enc::Key;
 use krb_msg::{
@@ -29,10 +30,6 @@ use krb_msg::{
 };
 use krb_replay::{ReplayMemory, Tuple};
 use std::alloc::{AllocError, Global};
-
-const TICKET_USAGE: u32 = 2;
-
-const AUTHENTICATOR_USAGE: u32 = 11;
 
 /// A request that is to be remembered, and its answer.
 #[derive(Drop)]
@@ -44,8 +41,14 @@ pub(crate) struct Judged {
 impl<M: ReplayMemory> Acceptor<M> {
     /// What is to be remembered of a request and its answer, or why it is refused without being remembered. `now` is the
     /// effective moment.
-    pub(crate) fn judge(&self, alloc: Global, bytes: &[u8], now: Moment) -> Result<Judged, Refusal>
-        ensures judged { Judges self.now.setup (M.has self.now.memory) (M.newest self.now.memory) bytes.now now result }
+    pub(crate) fn judge(
+        &mut self,
+        alloc: Global,
+        bytes: &[u8],
+        now: Moment,
+    ) -> Result<Judged, Refusal>
+        ensures same { self.new ≡ self.old }
+        ensures judged { Judges self.old.setup (M.has self.old.memory) (M.newest self.old.memory) bytes.now now result }
         ensures named { IfOk result (λ j. IfErr j.answer (λ r. r ≢ OutOfMemory)) }
         ensures placed { IsPlacedWithin bytes.now result }
         ensures asks { IfOk result (λ _. (request : ValueOf ap_req) × Asks bytes.now request) }
@@ -64,30 +67,25 @@ impl<M: ReplayMemory> Acceptor<M> {
     }
 
     fn judge_request(
-        &self,
+        &mut self,
         alloc: Global,
         server: Principal,
         request: &ApReqRef,
         now: Moment,
     ) -> Result<Judged, Refusal>
+        ensures same { self.new ≡ self.old }
         ensures named { IfOk result (λ j. IfErr j.answer (λ r. r ≢ OutOfMemory)) }
         ensures placeless { IsPlaceless result }
         ensures judged { (bytes : List ℕ) → Asks bytes (ap_req_of request.now) → server ≡ service_of (ap_req_of request.now)
-            → Judges self.now.setup (M.has self.now.memory) (M.newest self.now.memory) bytes now result }
+            → Judges self.old.setup (M.has self.old.memory) (M.newest self.old.memory) bytes now result }
     {
         facts();
         let sealed = &request.ticket.enc_part;
-        let key = match ticket_key(&self.keytab, &server, sealed) {
-            Ok(key) => key,
+        match make_ready(&mut self.ready, &self.keytab, &server, sealed) {
+            Ok(()) => {}
             Err(refusal) => return Err(refusal),
-        };
-        let plain = match open_under(
-            alloc,
-            &key,
-            TICKET_USAGE,
-            sealed.cipher,
-            Refusal::TicketIntegrity,
-        ) {
+        }
+        let plain = match open_ticket(alloc, &self.ready, sealed.cipher) {
             Ok(plain) => plain,
             Err(refusal) => return Err(refusal),
         };
@@ -121,13 +119,7 @@ impl<M: ReplayMemory> Acceptor<M> {
         if !is_of_type(sealed, &part.key) {
             return Err(Refusal::AuthenticatorIntegrity);
         }
-        let plain = match open_under(
-            alloc,
-            &key,
-            AUTHENTICATOR_USAGE,
-            sealed.cipher,
-            Refusal::AuthenticatorIntegrity,
-        ) {
+        let plain = match open_authenticator(alloc, &key, sealed.cipher) {
             Ok(plain) => plain,
             Err(refusal) => return Err(refusal),
         };

@@ -36,22 +36,12 @@ pub(crate) fn owned_key(alloc: Global, key: &Option<KeyRef>) -> Result<Option<Ra
     }
 }
 
-/// A copy of a key. It takes no memory.
-pub(crate) fn same_key(key: &Key) -> Key
-    ensures { result ≡ key.now }
-{
-    match Key::new(key.etype(), key.bytes()) {
-        Ok(key) => key,
-        Err(_) => unreachable!(),
-    }
-}
-
 /// A copy of a key, where there is one. It takes no memory.
 pub(crate) fn own_key(key: &Option<Key>) -> Option<Key>
     ensures { result ≡ key.now }
 {
     match key {
-        Some(key) => Some(same_key(key)),
+        Some(key) => Some(key.copy()),
         None => None,
     }
 }

@@ -40,6 +40,7 @@ mod refusal;
 mod reply;
 mod request;
 mod request_fault;
+mod ticket_keys;
 mod times;
 
 pub use accepted::Accepted;

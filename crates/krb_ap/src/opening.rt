@@ -4,24 +4,25 @@ ghost use Rattle.std.specs.Prelude.{◌≡◌, ◌≢◌, ◌<◌, ◌↔◌, �
 ghost use Rattle.krb_enc.specs.Key.{IsKnown, IsUsable, profile_of};
 ghost use Rattle.krb_enc.specs.Opens.{Opens};
 ghost use Rattle.krb_der.specs.Spells.{IsMessage};
-ghost use Rattle.krb_msg.specs.Borrowed.{ap_req_of, authenticator_of, enc_ticket_part_of, encrypted_of, name_of, key_of};
+ghost use Rattle.krb_msg.specs.Borrowed.{ap_req_of, authenticator_of, enc_ticket_part_of, name_of, key_of};
 ghost use Rattle.krb_msg.specs.Fields.{ticket_service, principal_in, type_of, bytes_of};
 ghost use Rattle.krb_msg.specs.Borrowed.{ticket_of};
 ghost use Rattle.krb_msg.specs.Module.{ap_req, authenticator, enc_ticket_part};
 ghost use Rattle.krb_ap.specs.Causes.{BeginsOtherwise, place};
-ghost use Rattle.krb_ap.specs.Opened.{Asks, SameClient};
-ghost use Rattle.krb_ap.specs.Inner.Stages.{IsCauseOfBytes, IsChosenKey, IsNone, IsShut, Wants};
+ghost use Rattle.krb_ap.specs.Opened.{Asks, SameClient, authenticator_usage};
+ghost use Rattle.krb_ap.specs.Inner.Stages.{IsCauseOfBytes, IsNone, IsShut};
 ghost use Rattle.krb_ap.specs.declared.refusal.Refusal.TheVariants.{OutOfMemory, TicketIntegrity, AuthenticatorIntegrity, SessionKey, Skew};
 
 use crate::inner_laws::facts;
 use crate::refusal::Refusal;
-use krb_enc::{Key, OpenFault};
-use krb_keytab::{Keytab, Picked};
+use krb_enc::{Key, OpenFault, UsageKey};
 use krb_msg::{
     ApReqRef, AuthenticatorRef, EncTicketRef, EncryptedRef, KeyRef, NameRef, Principal, TicketRef,
     USE_SESSION_KEY,
 };
 use std::alloc::{AllocError, Global};
+
+const AUTHENTICATOR_USAGE: u32 = 11;
 
 /// Reads a request that asks in the ordinary way. It takes no memory.
 pub(crate) fn read_request<'a>(bytes: &'a [u8]) -> Result<ApReqRef<'a>, Refusal>
@@ -70,44 +71,39 @@ pub(crate) fn service(alloc: Global, ticket: &TicketRef) -> Result<Principal, Al
     ticket.sname.to_principal(alloc, ticket.realm)
 }
 
-/// The key that a keytab has for a service's ticket. It takes no memory.
-pub(crate) fn ticket_key(
-    keytab: &Keytab,
-    service: &Principal,
-    sealed: &EncryptedRef,
-) -> Result<Key, Refusal>
-    ensures chosen { IfOk result (IsChosenKey keytab.now service.now (encrypted_of sealed.now)) }
-    ensures wanting { IfErr result (Wants keytab.now service.now (encrypted_of sealed.now)) }
-{
-    match keytab.pick(service, sealed.etype, sealed.kvno) {
-        Picked::Entry(entry) => match Key::new(i32::from(entry.etype()), entry.key()) {
-            Ok(key) => Ok(key),
-            Err(_) => Err(Refusal::NoKey),
-        },
-        Picked::NoName => Err(Refusal::NotUs),
-        Picked::NoKey => Err(Refusal::NoKey),
-        Picked::NoVersion => Err(Refusal::BadKeyVersion),
-    }
-}
-
 /// Opens a sealed text, or answers `shut` where nothing opens.
 pub(crate) fn open_under(
     alloc: Global,
-    key: &Key,
-    usage: u32,
+    key: &UsageKey,
     cipher: &[u8],
     shut: Refusal,
 ) -> Result<Vec<u8>, Refusal>
-    ensures opened { IfOk result (λ plain. Opens (profile_of key.now) key.now.bytes usage cipher.now plain.items) }
+    ensures opened { IfOk result (λ plain.
+        Opens (profile_of key.now.key) key.now.key.bytes key.now.usage cipher.now plain.items) }
     ensures refused { IfErr result (λ refusal. refusal ≢ OutOfMemory → refusal ≡ shut) }
-    ensures nothing { IfErr result (λ refusal. refusal ≢ OutOfMemory → IsShut key.now usage cipher.now) }
+    ensures nothing { IfErr result (λ refusal. refusal ≢ OutOfMemory → IsShut key.now.key key.now.usage cipher.now) }
 {
-    match key.open(alloc, usage, cipher) {
+    match key.open(alloc, cipher) {
         Ok(plain) => Ok(plain),
         Err(OpenFault::OutOfMemory) => Err(Refusal::OutOfMemory),
         Err(OpenFault::Short) => Err(shut),
         Err(OpenFault::Integrity) => Err(shut),
     }
+}
+
+/// Opens an authenticator under a ticket's session key.
+pub(crate) fn open_authenticator(
+    alloc: Global,
+    key: &Key,
+    cipher: &[u8],
+) -> Result<Vec<u8>, Refusal>
+    ensures opened { IfOk result (λ plain.
+        Opens (profile_of key.now) key.now.bytes authenticator_usage cipher.now plain.items) }
+    ensures refused { IfErr result (λ refusal. refusal ≢ OutOfMemory → refusal ≡ AuthenticatorIntegrity) }
+    ensures nothing { IfErr result (λ refusal. refusal ≢ OutOfMemory → IsShut key.now authenticator_usage cipher.now) }
+{
+    let ready = key.for_usage(AUTHENTICATOR_USAGE);
+    open_under(alloc, &ready, cipher, Refusal::AuthenticatorIntegrity)
 }
 
 /// Reads the opened ticket. It takes no memory.

@@ -74,6 +74,28 @@ impl Key {
         Ok(Key { bytes })
     }
 
+    /// Answers whether these make a key: 16 bytes of type 19, or 32 of type 20. It derives nothing.
+    pub fn is_usable(etype: i32, bytes: &[u8]) -> bool
+        ensures { IsTrue result ↔ IsUsable (record { etype = etype; bytes = bytes.now }) }
+    {
+        match etype {
+            19 => bytes.len() == Sha256Aes128::KEY_LEN,
+            20 => bytes.len() == Sha384Aes256::KEY_LEN,
+            _ => false,
+        }
+    }
+
+    /// Answers a copy of this key. It takes no memory, and derives nothing.
+    pub fn copy(&self) -> Key
+        ensures { result ≡ self.now }
+    {
+        let bytes = match &self.bytes {
+            KeyBytes::Short(bytes, base) => KeyBytes::Short(*bytes, base.copy()),
+            KeyBytes::Long(bytes, base) => KeyBytes::Long(*bytes, base.copy()),
+        };
+        Key { bytes }
+    }
+
     /// Answers the number of the encryption type: 19 or 20.
     pub fn etype(&self) -> i32
         ensures value { result ≡ self.now.etype }

@@ -52,8 +52,8 @@ impl Tag {
     }
 }
 
-// Whether two texts are the same: the bits in which bytes differ are gathered, and looked at in the end.
-fn are_same(one: &[u8], other: &[u8]) -> bool
+/// Whether two texts are the same: the bits in which bytes differ are gathered, and looked at in the end.
+pub(crate) fn are_same(one: &[u8], other: &[u8]) -> bool
     ensures { IsTrue result ↔ (other.now ≡ one.now) }
 {
     if one.len() != other.len() {

@@ -258,6 +258,56 @@ fn keys_that_are_refused(rt: HostRuntime) -> Result<(), Fail> {
     Ok(())
 }
 
+// Looks for another length, and for a type that isn't looked at.
+#[test]
+fn what_makes_a_key(rt: HostRuntime) -> Result<(), Fail> {
+    for (etype, size, wanted) in [
+        (19, 16, true),
+        (20, 32, true),
+        (19, 32, false),
+        (20, 16, false),
+        (20, 24, false),
+        (18, 32, false),
+        (19, 0, false),
+    ] {
+        let bytes = text_of(rt.alloc(), 1, size)?;
+        is(&rt, (etype, size), Key::is_usable(etype, &bytes), wanted);
+    }
+    Ok(())
+}
+
+// A copy seals what its original does (RFC 8009, appendix A).
+#[test]
+fn copies_of_keys(rt: HostRuntime) -> Result<(), Fail> {
+    for (etype, size, confounder, wanted) in SEALED {
+        let key = key_of(&rt, etype, base_of(etype))?.copy();
+        let plain = text_of(rt.alloc(), 1, size)?;
+        let sealed = key.seal(rt.alloc(), 2, &confounder_of(&rt, confounder)?, &plain)?;
+        let found = hex::encode(rt.alloc(), sealed.as_slice())?;
+        is(&rt, (etype, size), found.as_str(), wanted);
+    }
+    Ok(())
+}
+
+// Looks for a key of a usage that is taken for another's.
+#[test]
+fn what_keys_of_a_usage_are_for(rt: HostRuntime) -> Result<(), Fail> {
+    let bytes = hex::decode(rt.alloc(), BASE_19)?;
+    let other = text_of(rt.alloc(), 1, 16)?;
+    let key = Key::new(19, &bytes)?.for_usage(2);
+    let rows: [(i32, &[u8], u32, bool); 5] = [
+        (19, &bytes, 2, true),
+        (19, &bytes, 3, false),
+        (20, &bytes, 2, false),
+        (19, &other, 2, false),
+        (19, b"", 2, false),
+    ];
+    for (etype, bytes, usage, wanted) in rows {
+        is(&rt, (etype, usage), key.is_for(etype, bytes, usage), wanted);
+    }
+    Ok(())
+}
+
 #[test]
 fn keys_of_both_types(rt: HostRuntime) -> Result<(), Fail> {
     let bytes = text_of(rt.alloc(), 1, 32)?;

@@ -1,6 +1,6 @@
 //! Keys of one usage.
 
-ghost use Rattle.std.specs.Prelude.{◌≡◌, ◌↔◌, ◌⊎◌, ◌≤◌, ◌<◌, ◌+◌, ℕ, List, length, vec_len, pos, IfOk, IsErrOf, MatchResult};
+ghost use Rattle.std.specs.Prelude.{◌≡◌, ◌↔◌, ◌⊎◌, ◌≤◌, ◌<◌, ◌+◌, ℕ, List, length, vec_len, pos, IfOk, IsErrOf, IsTrue, MatchResult};
 ghost use Rattle.krb_kdf.specs.Hmac.{sha256_hash, sha384_hash, block_key};
 ghost use Rattle.krb_enc.specs.Key.{KeyValue, UsageKeyValue, profile_of};
 ghost use Rattle.krb_enc.specs.Sealed.{encryption_key, tag_of, sealed};
@@ -9,7 +9,7 @@ ghost use Rattle.krb_enc.specs.Inner.KeyBytes.{value_of, IsReadyFor};
 
 use crate::fault::OpenFault;
 use crate::key::KeyBytes;
-use crate::tag::Tag;
+use crate::tag::{Tag, are_same};
 use crate::texts::{CONFOUNDER_LEN, INITIAL_VECTOR, decrypted, encrypted};
 use krb_aes::KeySchedule;
 use krb_kdf::{HmacSha256, HmacSha384, MacPurpose, Purpose};
@@ -62,6 +62,20 @@ impl UsageKey {
             usage,
             schedule: KeySchedule::new_256(&base.derive_20_ke(usage)),
         }
+    }
+
+    /// Answers whether these are the keys of the base key of type `etype` with the bytes `key`, for `usage`.
+    ///
+    /// All bytes are compared, also behind the first difference.
+    pub fn is_for(&self, etype: i32, key: &[u8], usage: u32) -> bool
+        ensures { IsTrue result
+            ↔ (self.now ≡ record { key = record { etype = etype; bytes = key.now }; usage = usage }) }
+    {
+        let is_same_key = match &self.bytes {
+            KeyBytes::Short(bytes, _) => etype == 19 && are_same(bytes, key),
+            KeyBytes::Long(bytes, _) => etype == 20 && are_same(bytes, key),
+        };
+        is_same_key && self.usage == usage
     }
 
     /// Seals `plain` under the base key for the usage: the confounder and the plain text, encrypted, and

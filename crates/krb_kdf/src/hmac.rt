@@ -45,6 +45,17 @@ impl HmacSha256 {
         }
     }
 
+    /// A copy of this key. It is ready too, and nothing is hashed for it.
+    pub fn copy(&self) -> HmacSha256
+        ensures { result ≡ self.now }
+    {
+        HmacSha256 {
+            block: self.block,
+            inner: copied::<Sha256, 32>(&self.inner),
+            outer: copied::<Sha256, 32>(&self.outer),
+        }
+    }
+
     /// The HMAC of a text under this key: 32 bytes.
     ///
     /// The text is the parts joined, in order; there may be none, and each may be empty.
@@ -90,6 +101,17 @@ impl HmacSha384 {
             block,
             inner: padded(&block, INNER_PAD),
             outer: padded(&block, OUTER_PAD),
+        }
+    }
+
+    /// A copy of this key. It is ready too, and nothing is hashed for it.
+    pub fn copy(&self) -> HmacSha384
+        ensures { result ≡ self.now }
+    {
+        HmacSha384 {
+            block: self.block,
+            inner: copied::<Sha384, 48>(&self.inner),
+            outer: copied::<Sha384, 48>(&self.outer),
         }
     }
 

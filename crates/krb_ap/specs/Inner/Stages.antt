@@ -1,16 +1,16 @@
 -- The words of private contracts: what the stages of a decision say.
-use Rattle.std.specs.Prelude.{◌≡◌, ℕ, ℤ, List}
+use Rattle.std.specs.Prelude.{◌≡◌, ℕ, ℤ, List, Option, Some}
 use Rattle.krb_name.specs.declared.principal.Principal.{Principal}
 use Rattle.krb_der.specs.Kind.{Kind, ValueOf}
 use Rattle.krb_der.specs.Spells.{IsMessage}
-use Rattle.krb_enc.specs.Key.{KeyValue, profile_of}
+use Rattle.krb_enc.specs.Key.{KeyValue, UsageKeyValue, profile_of}
 use Rattle.krb_enc.specs.Opens.{Opens}
 use Rattle.krb_msg.specs.Module.{ap_req, encrypted_data, enc_ticket_part, authenticator}
 use Rattle.krb_msg.specs.Fields.{etype_of, kvno_of}
 use Rattle.krb_keytab.specs.Entry.{KeytabEntry}
 use Rattle.krb_keytab.specs.Pick.{chosen, no_name, no_key, no_version, IsChoice}
 use Rattle.krb_ap.specs.Setup.{Setup, Arrival, arrival}
-use Rattle.krb_ap.specs.Opened.{entry_key}
+use Rattle.krb_ap.specs.Opened.{entry_key, ticket_usage}
 use Rattle.krb_ap.specs.Times.{IsEarly, IsLate, IsPathTrusted, IsDataIgnorable}
 use Rattle.krb_ap.specs.Causes.{Cause}
 use Rattle.krb_ap.specs.declared.refusal.Refusal.{Refusal}
@@ -29,6 +29,15 @@ pub record IsChosenKey (entries : List KeytabEntry) (name : Principal) (text : V
   pub entry : KeytabEntry
   pub chosen_is : IsChoice entries name (etype_of text) (kvno_of text) (chosen entry)
   pub key_is : key ≡ entry_key entry
+
+-- the keys for tickets of such a key, and that they are held
+abbrev pub ready_key : KeyValue → UsageKeyValue
+ready_key key = record { key = key; usage = ticket_usage }
+
+pub record HoldsChosen (entries : List KeytabEntry) (name : Principal) (text : ValueOf encrypted_data) (held : Option UsageKeyValue) : Type 0 where
+  pub key : KeyValue
+  pub chosen : IsChosenKey entries name text key
+  pub held_is : held ≡ Some (ready_key key)
 
 -- what is wanting, as a refusal
 abbrev pub Wants : List KeytabEntry → Principal → ValueOf encrypted_data → Refusal → Type 0

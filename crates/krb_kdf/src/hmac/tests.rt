@@ -198,3 +198,20 @@ fn many_texts_under_one_ready_key(rt: HostRuntime) -> Result<(), Fail> {
     }
     Ok(())
 }
+
+// RFC 4231, section 4.3.
+#[test]
+fn copies_of_ready_keys(rt: HostRuntime) -> Result<(), Fail> {
+    let text = b"what do ya want for nothing?";
+    let short = hex::encode(rt.alloc(), HmacSha256::new(b"Jefe").copy().code(&[text]))?;
+    assert_eq!(rt;
+        short.as_str(),
+        "5bdcc146bf60754e6a042426089575c75a003f089d2739839dec58b964ec3843"
+    );
+    let long = hex::encode(rt.alloc(), HmacSha384::new(b"Jefe").copy().code(&[text]))?;
+    assert_eq!(rt;
+        long.as_str(),
+        "af45d2e376484031617f78d2b58a6b1b9c7ef464f5a01b47e42ec3736322445e8e2240ca5e69e2c78b3239ecfab21649"
+    );
+    Ok(())
+}

@@ -16,13 +16,13 @@ use Rattle.krb_ap.proofs.Standing.{after_advance, after_exactly, after_forgettin
 use Rattle.krb_ap.proofs.acceptor.Acceptor.decide.Goals as goal
 
 pub returns-then-is_memory-clause-goes_on : goal.returns-then-is_memory-clause-goes_on
-returns-then-is_memory-clause-goes_on g c = λ history stands.
+returns-then-is_memory-clause-goes_on g c = rw c.judge.ensures.same (λ history stands.
     let is : c.in-Err.refusal ≡ OutOfMemory = is_so _ _ c.is_memory.ensures c.if-is_memory.true in
     subst (λ (h : List Arrival). GoesOn g.M.ReplayMemory.KEEPS g.M.ReplayMemory.FORGETS c.args.self.now.setup c.args.self.now.setup history h
     (g.M.ReplayMemory.has c.args.self.now.memory) (g.M.ReplayMemory.has c.args.self.now.memory) (g.M.ReplayMemory.newest c.args.self.now.memory)
     (IsErrOf {T = Accepted} {E = Refusal} (Err c.in-Err.refusal) OutOfMemory))
     (ap (after_refusal history (arrival c.args.bytes.now c.args.now)) (sym is))
-    (record { stands = stands; keeps = λ keeping exact. exact; forgets = λ forgetting named. absurd (named (ap Err is)) })
+    (record { stands = stands; keeps = λ keeping exact. exact; forgets = λ forgetting named. absurd (named (ap Err is)) }))
 
 pub returns-in-Err-clause-goes_on : goal.returns-in-Err-clause-goes_on
 returns-in-Err-clause-goes_on g c = λ history stands.
@@ -42,14 +42,14 @@ returns-in-Err-clause-goes_on g c = λ history stands.
       stands = after_advance c.args.self.now.setup c.advance.new.self.setup history c.args.bytes.now c.args.now c.effective-now.result
           (g.M.ReplayMemory.has c.args.self.now.memory) (g.M.ReplayMemory.has c.args.self.now.memory) (g.M.ReplayMemory.has c.advance.new.self.memory)
           (g.M.ReplayMemory.newest c.args.self.now.memory) (g.M.ReplayMemory.newest c.args.self.now.memory) (g.M.ReplayMemory.newest c.advance.new.self.memory)
-          stands c.effective-now.ensures refl c.advance.ensures.newest c.advance.ensures.setup added held
-          c.advance.ensures.none_added c.advance.ensures.kept;
+          stands c.effective-now.ensures refl (rw c.judge.ensures.same at c.advance.ensures.newest) (rw c.judge.ensures.same at c.advance.ensures.setup) added held
+          (rw c.judge.ensures.same at c.advance.ensures.none_added) (rw c.judge.ensures.same at c.advance.ensures.kept);
       keeps = λ keeping exact. after_exactly c.args.self.now.setup history c.args.bytes.now c.args.now
           (g.M.ReplayMemory.has c.args.self.now.memory) (g.M.ReplayMemory.has c.args.self.now.memory) (g.M.ReplayMemory.has c.advance.new.self.memory)
-          exact added held (c.advance.ensures.keeps keeping);
+          exact added held (rw c.judge.ensures.same at c.advance.ensures.keeps keeping);
       forgets = λ forgetting memory. after_forgetting c.args.self.now.setup history c.args.now c.effective-now.result
           (g.M.ReplayMemory.newest c.args.self.now.memory) (g.M.ReplayMemory.newest c.args.self.now.memory) (g.M.ReplayMemory.has c.advance.new.self.memory)
-          stands.latest_is c.effective-now.ensures refl (c.advance.ensures.forgets forgetting);
+          stands.latest_is c.effective-now.ensures refl (rw c.judge.ensures.same at c.advance.ensures.forgets forgetting);
     })
 
 pub returns-in-Err-clause-unchanged : goal.returns-in-Err-clause-unchanged
@@ -60,11 +60,11 @@ returns-then-is_memory-clause-moves g c = λ named. absurd (named (ap Err (is_so
 
 pub returns-in-Err-clause-moves : goal.returns-in-Err-clause-moves
 returns-in-Err-clause-moves g c = λ named.
-    moved_on _ _ _ c.args.now c.effective-now.result c.effective-now.ensures refl c.advance.ensures.newest
+    moved_on _ _ _ c.args.now c.effective-now.result c.effective-now.ensures refl (rw c.judge.ensures.same at c.advance.ensures.newest)
 
 pub returns-in-Ok-remember-clause-moves : goal.returns-in-Ok-remember-clause-moves
 returns-in-Ok-remember-clause-moves g c = λ named.
-    moved_on _ _ _ c.args.now c.effective-now.result c.effective-now.ensures c.in-Ok-remember.ensures.newest c.advance-in-Ok-remember.ensures.newest
+    moved_on _ _ _ c.args.now c.effective-now.result c.effective-now.ensures (rw c.judge.ensures.same at c.in-Ok-remember.ensures.newest) c.advance-in-Ok-remember.ensures.newest
 
 pub returns-in-Ok-remember-clause-goes_on : goal.returns-in-Ok-remember-clause-goes_on
 returns-in-Ok-remember-clause-goes_on g c = λ history stands.
@@ -73,22 +73,22 @@ returns-in-Ok-remember-clause-goes_on g c = λ history stands.
     c.in-Ok.ensures.judged history c.args.now stands eff in
     let added : (stamp : Stamp) → g.M.ReplayMemory.has c.remember.new.self.memory stamp
     → g.M.ReplayMemory.has c.args.self.now.memory stamp ⊎ Shows c.args.self.now.setup (effective history c.args.now) c.args.bytes.now stamp =
-    λ stamp had. elim ((c.in-Ok-remember.ensures.ok stamp).0 had) [
+    λ stamp had. elim (((rw c.judge.ensures.same at c.in-Ok-remember.ensures.ok) stamp).0 had) [
       | inl same ↦ inr (subst (λ (s : Stamp). Shows c.args.self.now.setup (effective history c.args.now) c.args.bytes.now s) (sym same) judged.shows)
       | inr had ↦ inl had
     ] in
     let held : (stamp : Stamp) → g.M.ReplayMemory.has c.args.self.now.memory stamp ⊎ Shows c.args.self.now.setup (effective history c.args.now) c.args.bytes.now stamp
     → g.M.ReplayMemory.has c.remember.new.self.memory stamp =
-    λ stamp either. (c.in-Ok-remember.ensures.ok stamp).1 (elim either [
+    λ stamp either. ((rw c.judge.ensures.same at c.in-Ok-remember.ensures.ok) stamp).1 (elim either [
       | inl had ↦ inr had
       | inr shows ↦ inl (one_stamp c.facts.ensures c.args.self.now.setup history c.args.bytes.now c.args.now (effective history c.args.now) c.in-Ok.judged.tuple stamp judged.shows shows)
     ]) in
     let recent : (stamp : Stamp) → IsRecent (later_of (g.M.ReplayMemory.newest c.remember.new.self.memory) c.effective-now.result) c.args.self.now.setup.skew stamp
     → IsRecent (later_of (g.M.ReplayMemory.newest c.remember.new.self.memory) c.effective-now.result) c.remember.new.self.setup.skew stamp =
-    λ stamp. subst (λ (s : Setup). IsRecent (later_of (g.M.ReplayMemory.newest c.remember.new.self.memory) c.effective-now.result) s.skew stamp) (sym c.in-Ok-remember.ensures.setup) in
+    λ stamp. subst (λ (s : Setup). IsRecent (later_of (g.M.ReplayMemory.newest c.remember.new.self.memory) c.effective-now.result) s.skew stamp) (sym (rw c.judge.ensures.same at c.in-Ok-remember.ensures.setup)) in
     let lately : (stamp : Stamp) → IsRecent (later_of (g.M.ReplayMemory.newest c.remember.new.self.memory) c.effective-now.result) c.remember.new.self.setup.skew stamp
     → IsRecent (later_of (g.M.ReplayMemory.newest c.remember.new.self.memory) c.effective-now.result) c.args.self.now.setup.skew stamp =
-    λ stamp. subst (λ (s : Setup). IsRecent (later_of (g.M.ReplayMemory.newest c.remember.new.self.memory) c.effective-now.result) s.skew stamp) c.in-Ok-remember.ensures.setup in
+    λ stamp. subst (λ (s : Setup). IsRecent (later_of (g.M.ReplayMemory.newest c.remember.new.self.memory) c.effective-now.result) s.skew stamp) (rw c.judge.ensures.same at c.in-Ok-remember.ensures.setup) in
     subst (λ (h : List Arrival). GoesOn g.M.ReplayMemory.KEEPS g.M.ReplayMemory.FORGETS c.args.self.now.setup c.advance-in-Ok-remember.new.self.setup history h
     (g.M.ReplayMemory.has c.args.self.now.memory) (g.M.ReplayMemory.has c.advance-in-Ok-remember.new.self.memory) (g.M.ReplayMemory.newest c.advance-in-Ok-remember.new.self.memory)
     (IsErrOf c.in-Ok.judged.answer OutOfMemory))
@@ -97,8 +97,8 @@ returns-in-Ok-remember-clause-goes_on g c = λ history stands.
       stands = after_advance c.args.self.now.setup c.advance-in-Ok-remember.new.self.setup history c.args.bytes.now c.args.now c.effective-now.result
           (g.M.ReplayMemory.has c.args.self.now.memory) (g.M.ReplayMemory.has c.remember.new.self.memory) (g.M.ReplayMemory.has c.advance-in-Ok-remember.new.self.memory)
           (g.M.ReplayMemory.newest c.args.self.now.memory) (g.M.ReplayMemory.newest c.remember.new.self.memory) (g.M.ReplayMemory.newest c.advance-in-Ok-remember.new.self.memory)
-          stands c.effective-now.ensures c.in-Ok-remember.ensures.newest c.advance-in-Ok-remember.ensures.newest
-          (c.advance-in-Ok-remember.ensures.setup ∙ c.in-Ok-remember.ensures.setup) added held
+          stands c.effective-now.ensures (rw c.judge.ensures.same at c.in-Ok-remember.ensures.newest) c.advance-in-Ok-remember.ensures.newest
+          (c.advance-in-Ok-remember.ensures.setup ∙ (rw c.judge.ensures.same at c.in-Ok-remember.ensures.setup)) added held
           c.advance-in-Ok-remember.ensures.none_added
           (λ stamp had r. c.advance-in-Ok-remember.ensures.kept stamp had (recent stamp r));
       keeps = λ keeping exact. after_exactly c.args.self.now.setup history c.args.bytes.now c.args.now
@@ -106,7 +106,7 @@ returns-in-Ok-remember-clause-goes_on g c = λ history stands.
           exact added held (c.advance-in-Ok-remember.ensures.keeps keeping);
       forgets = λ forgetting memory. after_forgetting c.args.self.now.setup history c.args.now c.effective-now.result
           (g.M.ReplayMemory.newest c.args.self.now.memory) (g.M.ReplayMemory.newest c.remember.new.self.memory) (g.M.ReplayMemory.has c.advance-in-Ok-remember.new.self.memory)
-          stands.latest_is c.effective-now.ensures c.in-Ok-remember.ensures.newest
+          stands.latest_is c.effective-now.ensures (rw c.judge.ensures.same at c.in-Ok-remember.ensures.newest)
           (λ stamp new. lately stamp (c.advance-in-Ok-remember.ensures.forgets forgetting stamp new));
     })
 
@@ -122,8 +122,8 @@ returns-in-Err-remember-clause-memory g c = λ memory. c.in-Ok.ensures.asks
 pub returns-in-Err-remember-clause-goes_on : goal.returns-in-Err-remember-clause-goes_on
 returns-in-Err-remember-clause-goes_on g c = λ history stands. record {
   stands = subst (λ (s : Setup). StandsFor s (g.M.ReplayMemory.has c.remember.new.self.memory) (g.M.ReplayMemory.newest c.remember.new.self.memory) history)
-      (sym c.in-Err-remember.ensures.setup)
-      (stands_still c.args.self.now.setup history _ _ _ _ stands c.in-Err-remember.ensures.err c.in-Err-remember.ensures.newest);
-  keeps = λ keeping exact stamp. (λ new. (exact stamp).0 ((c.in-Err-remember.ensures.err stamp).0 new), λ shown. (c.in-Err-remember.ensures.err stamp).1 ((exact stamp).1 shown));
+      (sym (rw c.judge.ensures.same at c.in-Err-remember.ensures.setup))
+      (stands_still c.args.self.now.setup history _ _ _ _ stands (rw c.judge.ensures.same at c.in-Err-remember.ensures.err) (rw c.judge.ensures.same at c.in-Err-remember.ensures.newest));
+  keeps = λ keeping exact stamp. (λ new. (exact stamp).0 (((rw c.judge.ensures.same at c.in-Err-remember.ensures.err) stamp).0 new), λ shown. ((rw c.judge.ensures.same at c.in-Err-remember.ensures.err) stamp).1 ((exact stamp).1 shown));
   forgets = λ forgetting named. absurd (named refl);
 }

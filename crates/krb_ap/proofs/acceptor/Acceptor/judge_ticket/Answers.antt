@@ -23,13 +23,13 @@ returns-then-not-is_of_type-clause-judged g c = λ bytes ticketed server history
     ticketed (subst (λ (k : KeyValue). IsUsable k) c.in-Ok.ensures.made c.in-Ok.ensures.usable)
     (λ auth opens. is_not _ _ c.is_of_type.ensures c.if-not-is_of_type.true opens.same_type)
 
-pub returns-in-Err-open_under-clause-judged : goal.returns-in-Err-open_under-clause-judged
-returns-in-Err-open_under-clause-judged g c = λ bytes ticketed server history moment stands eff named.
+pub returns-in-Err-open_authenticator-clause-judged : goal.returns-in-Err-open_authenticator-clause-judged
+returns-in-Err-open_authenticator-clause-judged g c = λ bytes ticketed server history moment stands eff named.
     subst (λ (r : Refusal). IsTurnedAway c.args.self.now.setup history (arrival bytes moment) (g.M.ReplayMemory.has c.args.self.now.memory) r)
-    (sym (c.in-Err-open_under.ensures.refused named))
+    (sym (c.in-Err-open_authenticator.ensures.refused named))
     (authenticator_shut c.facts.ensures c.args.self.now.setup history bytes moment _ (ap_req_of c.args.request.now) (enc_ticket_part_of c.args.part.now)
     ticketed (subst (λ (k : KeyValue). IsUsable k) c.in-Ok.ensures.made c.in-Ok.ensures.usable)
-    (λ auth opens. shut_by _ (session_key (enc_ticket_part_of c.args.part.now)) authenticator_usage _ authenticator c.in-Ok.ensures.made (c.in-Err-open_under.ensures.nothing named) auth opens.opens))
+    (λ auth opens. shut_by _ (session_key (enc_ticket_part_of c.args.part.now)) authenticator_usage _ authenticator c.in-Ok.ensures.made (c.in-Err-open_authenticator.ensures.nothing named) auth opens.opens))
 
 pub returns-in-Err-read_authenticator-clause-judged : goal.returns-in-Err-read_authenticator-clause-judged
 returns-in-Err-read_authenticator-clause-judged g c = λ bytes ticketed server history moment stands eff named.
@@ -38,7 +38,7 @@ returns-in-Err-read_authenticator-clause-judged g c = λ bytes ticketed server h
     (authenticator_shut c.facts.ensures c.args.self.now.setup history bytes moment _ (ap_req_of c.args.request.now) (enc_ticket_part_of c.args.part.now)
     ticketed (subst (λ (k : KeyValue). IsUsable k) c.in-Ok.ensures.made c.in-Ok.ensures.usable)
     (λ auth opens. none_by c.facts.ensures _ (session_key (enc_ticket_part_of c.args.part.now)) authenticator_usage _ _ _ authenticator c.in-Ok.ensures.made c.as_slice.ensures.value
-    c.in-Ok-open_under.ensures.opened c.in-Err-read_authenticator.ensures.nothing auth opens.opens))
+    c.in-Ok-open_authenticator.ensures.opened c.in-Err-read_authenticator.ensures.nothing auth opens.opens))
 
 pub returns-then-not-is_same_client-clause-judged : goal.returns-then-not-is_same_client-clause-judged
 returns-then-not-is_same_client-clause-judged g c = λ bytes ticketed server history moment stands eff named.
@@ -49,7 +49,7 @@ returns-then-not-is_same_client-clause-judged g c = λ bytes ticketed server his
       usable = subst (λ (k : KeyValue). IsUsable k) c.in-Ok.ensures.made c.in-Ok.ensures.usable;
       opens = record {
         same_type = is_so _ _ c.is_of_type.ensures c.if-not-is_of_type.false;
-        opens = opens_by _ (session_key (enc_ticket_part_of c.args.part.now)) authenticator_usage _ _ _ authenticator _ c.in-Ok.ensures.made c.as_slice.ensures.value c.in-Ok-open_under.ensures.opened c.in-Ok-read_authenticator.ensures.read;
+        opens = opens_by _ (session_key (enc_ticket_part_of c.args.part.now)) authenticator_usage _ _ _ authenticator _ c.in-Ok.ensures.made c.as_slice.ensures.value c.in-Ok-open_authenticator.ensures.opened c.in-Ok-read_authenticator.ensures.read;
       };
     })
     (is_not _ _ c.is_same_client.ensures c.if-not-is_same_client.true)
@@ -62,7 +62,7 @@ returns-clause-judged g c = λ bytes ticketed server.
         usable = subst (λ (k : KeyValue). IsUsable k) c.in-Ok.ensures.made c.in-Ok.ensures.usable;
         opens = record {
           same_type = is_so _ _ c.is_of_type.ensures c.if-not-is_of_type.false;
-          opens = opens_by _ (session_key (enc_ticket_part_of c.args.part.now)) authenticator_usage _ _ _ authenticator _ c.in-Ok.ensures.made c.as_slice.ensures.value c.in-Ok-open_under.ensures.opened c.in-Ok-read_authenticator.ensures.read;
+          opens = opens_by _ (session_key (enc_ticket_part_of c.args.part.now)) authenticator_usage _ _ _ authenticator _ c.in-Ok.ensures.made c.as_slice.ensures.value c.in-Ok-open_authenticator.ensures.opened c.in-Ok-read_authenticator.ensures.read;
         };
       };
       same_client = is_so _ _ c.is_same_client.ensures c.if-not-is_same_client.false;

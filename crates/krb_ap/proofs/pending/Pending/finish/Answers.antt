@@ -57,10 +57,10 @@ returns-clause-agreed c = record {
         c.in-Ok-open_reply.ensures.same_type c.as_slice.ensures.value c.in-Ok-open_reply.ensures.opened c.in-Ok-parse.ensures.found);
   };
   same = is_so _ _ c.is_at.ensures c.if-not-is_at.false ∙ ap (λ (a : Awaited). a.at) c.self.view_is;
-  agreement_is = copied_agreement c.args.self.now (enc_ap_rep_part_of c.in-Ok-parse.part) c.in_ok-clone.field-0 c.same_key.result c.own_key.result c.self.inside.seq
+  agreement_is = copied_agreement c.args.self.now (enc_ap_rep_part_of c.in-Ok-parse.part) c.in_ok-clone.field-0 c.copy.result c.own_key.result c.self.inside.seq
       (option_map owned_key_of c.in_ok-owned_key.field-0)
       (c.in_ok-clone.ensures.cases ∙ ap (λ (a : Awaited). a.client) c.self.view_is)
-      (c.same_key.ensures ∙ ap (λ (a : Awaited). a.key) c.self.view_is)
+      (c.copy.ensures ∙ ap (λ (a : Awaited). a.key) c.self.view_is)
       (c.own_key.ensures ∙ ap (λ (a : Awaited). a.subkey) c.self.view_is)
       (ap (λ (a : Awaited). a.seq) c.self.view_is)
       c.in_ok-owned_key.ensures;
