@@ -1,0 +1,6 @@
+//! The library for C.
+#![tactic(auto)]
+
+mod handle;
+mod held;
+mod login;
