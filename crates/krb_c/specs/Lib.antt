@@ -1,1 +1,4 @@
 pub mod Handle
+pub mod Codes
+pub mod Answer
+pub mod Accepting

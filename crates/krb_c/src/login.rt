@@ -1,11 +1,39 @@
 //! What a filled handle holds.
 
-use krb_ap::{Accepted, Acceptor};
+ghost use Rattle.std.specs.Prelude.{◌≡◌};
+ghost use Rattle.krb_ap.specs.Setup.{arrival};
+ghost use Rattle.krb_c.specs.Accepting.{Decides, accepted_by};
+
+use crate::answer::Answer;
+use krb_ap::{Accepted, Acceptor, Refusal};
+use krb_msg::Moment;
 use krb_replay::TimedMemory;
+use std::alloc::Global;
 
 /// A service that takes requests, and what it accepted last.
 #[derive(Drop)]
 pub struct Login {
     pub acceptor: Acceptor<TimedMemory>,
     pub last: Option<Accepted>,
+}
+
+impl Login {
+    /// Decides a request, and keeps what is accepted.
+    pub(crate) fn decide(&mut self, alloc: Global, bytes: &[u8], now: Moment) -> Answer
+        ensures { Decides self.old self.new (arrival bytes.now now) result }
+    {
+        let outcome = self.acceptor.accept(alloc, bytes, now);
+        let answer = Answer::told(&outcome);
+        self.last = kept(outcome);
+        answer
+    }
+}
+
+fn kept(outcome: Result<Accepted, Refusal>) -> Option<Accepted>
+    ensures { result ≡ accepted_by outcome }
+{
+    match outcome {
+        Ok(accepted) => Some(accepted),
+        Err(_) => None,
+    }
 }

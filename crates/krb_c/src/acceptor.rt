@@ -1,0 +1,78 @@
+//! The service's side: a handle over a service that takes requests.
+
+ghost use Rattle.std.specs.Prelude.{◌≡◌, ◌≢◌, ◌<◌, ◌≤◌, ◌*◌, ◌↔◌, ◌⊎◌, List, None, Some, IfErr, IsErrAnd, IsErrOf, MatchResult};
+ghost use Rattle.krb_keytab.specs.Entry.{KeytabEntry};
+ghost use Rattle.krb_keytab.specs.Format.{IsFaultOf, IsKeytab};
+ghost use Rattle.krb_keytab.specs.declared.fault.KeytabFault.{KeytabFault};
+ghost use Rattle.krb_c.specs.Accepting.{fresh};
+ghost use Rattle.krb_c.specs.Answer.{keytab_answer, plain};
+ghost use Rattle.krb_c.specs.Codes.{bad_skew, ok, out_of_memory};
+
+use crate::answer::Answer;
+use crate::code;
+use crate::handle::Handle;
+use crate::login::Login;
+use krb_ap::Acceptor;
+use krb_keytab::Keytab;
+use krb_replay::{Skew, TimedMemory};
+use std::alloc::Global;
+
+/// Makes the handle hold a service that decides by the keys of a keytab and by a skew of so many seconds, and has seen nothing. What
+/// the handle held is let go of; where no service is made, it stays.
+#[unsafe(no_mangle)]
+pub extern "C" fn fevstunik_acceptor_new(
+    handle: &mut Handle,
+    alloc: Global,
+    keytab: &[u8],
+    skew: u32,
+) -> Answer
+    ensures skew { (result ≡ plain bad_skew) ↔ (86_400 < skew) }
+    ensures made { (entries : List KeytabEntry) → skew ≤ 86_400 → IsKeytab keytab.now entries
+        → ((result ≡ plain ok) × (handle.new.value ≡ Some (fresh entries (1_000_000 * skew)))) ⊎ (result ≡ plain out_of_memory) }
+    ensures fault { (fault : KeytabFault) → skew ≤ 86_400 → IsFaultOf keytab.now fault
+        → (result ≡ keytab_answer fault) ⊎ (result ≡ plain out_of_memory) }
+    ensures unchanged { result ≢ plain ok → handle.new.value ≡ handle.old.value }
+{
+    match service(alloc, keytab, skew) {
+        Ok(login) => {
+            *handle = Handle::of(login);
+            Answer::plain(code::OK)
+        }
+        Err(answer) => answer,
+    }
+}
+
+fn service(alloc: Global, keytab: &[u8], skew: u32) -> Result<Box<Login>, Answer>
+    ensures skew { IsErrOf result (plain bad_skew) ↔ (86_400 < skew) }
+    ensures made { (entries : List KeytabEntry) → skew ≤ 86_400 → IsKeytab keytab.now entries
+        → MatchResult result (λ login. login.value ≡ fresh entries (1_000_000 * skew)) (λ answer. answer ≡ plain out_of_memory) }
+    ensures fault { (fault : KeytabFault) → skew ≤ 86_400 → IsFaultOf keytab.now fault
+        → IsErrAnd result (λ answer. (answer ≡ keytab_answer fault) ⊎ (answer ≡ plain out_of_memory)) }
+    ensures refused { IfErr result (λ answer. answer ≢ plain ok) }
+{
+    let skew = match Skew::new(skew) {
+        Some(skew) => skew,
+        None => return Err(Answer::plain(code::BAD_SKEW)),
+    };
+    let keytab = match Keytab::parse(alloc, keytab) {
+        Ok(keytab) => keytab,
+        Err(fault) => return Err(Answer::keytab(fault)),
+    };
+    let acceptor = Acceptor::new(keytab, skew, TimedMemory::new(alloc));
+    let login = Login {
+        acceptor,
+        last: None,
+    };
+    match Box::new(alloc, login) {
+        Ok(login) => Ok(login),
+        Err(_) => Err(Answer::plain(code::OUT_OF_MEMORY)),
+    }
+}
+
+/// Lets go of what the handle holds.
+#[unsafe(no_mangle)]
+pub extern "C" fn fevstunik_acceptor_free(handle: &mut Handle, alloc: Global)
+    ensures { handle.new.value ≡ None }
+{
+    *handle = Handle::empty(alloc);
+}
