@@ -1,20 +1,25 @@
 //! The service's side: a handle over a service that takes requests.
 
 ghost use Rattle.std.specs.Prelude.{◌≡◌, ◌≢◌, ◌<◌, ◌≤◌, ◌*◌, ◌↔◌, ◌⊎◌, List, None, Some, IfErr, IsErrAnd, IsErrOf, MatchResult};
+ghost use Rattle.std.specs.Option.{MatchOption};
+ghost use Rattle.krb_msg.specs.Moments.{micros_of};
+ghost use Rattle.krb_replay.specs.Memory.{IsSizeOf};
+ghost use Rattle.krb_ap.specs.Setup.{arrival};
 ghost use Rattle.krb_keytab.specs.Entry.{KeytabEntry};
 ghost use Rattle.krb_keytab.specs.Format.{IsFaultOf, IsKeytab};
 ghost use Rattle.krb_keytab.specs.declared.fault.KeytabFault.{KeytabFault};
-ghost use Rattle.krb_c.specs.Accepting.{fresh};
+ghost use Rattle.krb_c.specs.Accepting.{Decides, IsMomentOf, Remembers, TellsLatest, Turns, fresh, latest_of};
 ghost use Rattle.krb_c.specs.Answer.{keytab_answer, plain};
-ghost use Rattle.krb_c.specs.Codes.{bad_skew, ok, out_of_memory};
+ghost use Rattle.krb_c.specs.Codes.{bad_moment, bad_skew, empty_handle, ok, out_of_memory};
 
-use crate::answer::Answer;
+use crate::answer::{Answer, Time};
 use crate::code;
 use crate::handle::Handle;
 use crate::login::Login;
 use krb_ap::Acceptor;
 use krb_keytab::Keytab;
-use krb_replay::{Skew, TimedMemory};
+use krb_msg::Moment;
+use krb_replay::{ReplayMemory, Skew, TimedMemory};
 use std::alloc::Global;
 
 /// Makes the handle hold a service that decides by the keys of a keytab and by a skew of so many seconds, and has seen nothing. What
@@ -66,6 +71,70 @@ fn service(alloc: Global, keytab: &[u8], skew: u32) -> Result<Box<Login>, Answer
     match Box::new(alloc, login) {
         Ok(login) => Ok(login),
         Err(_) => Err(Answer::plain(code::OUT_OF_MEMORY)),
+    }
+}
+
+/// Decides whether a request is accepted at a moment of the service's clock, and remembers what has to be remembered of it. What is
+/// accepted is kept until the next call, and is told by `fevstunik_acceptor_accepted`.
+#[unsafe(no_mangle)]
+pub extern "C" fn fevstunik_acceptor_accept(
+    handle: &mut Handle,
+    alloc: Global,
+    request: &[u8],
+    now: &Time,
+) -> Answer
+    ensures moment { ¬ IsMomentOf now.now → (result ≡ plain bad_moment) × (handle.new.value ≡ handle.old.value) }
+    ensures decided { IsMomentOf now.now → Turns handle.old.value handle.new.value (result ≡ plain empty_handle)
+        (λ old new. Decides old new (arrival request.now (micros_of now.now.seconds now.now.micros)) result) }
+{
+    let now = match Moment::new(now.seconds, now.micros) {
+        Some(now) => now,
+        None => return Answer::plain(code::BAD_MOMENT),
+    };
+    match handle.take(alloc) {
+        Some(mut login) => {
+            let answer = login.decide(alloc, request, now);
+            *handle = Handle::of(login);
+            answer
+        }
+        None => Answer::plain(code::EMPTY_HANDLE),
+    }
+}
+
+/// Counts what is remembered. An empty handle remembers nothing.
+#[unsafe(no_mangle)]
+pub extern "C" fn fevstunik_acceptor_count(handle: &mut Handle, alloc: Global) -> usize
+    ensures count { MatchOption handle.old.value (result ≡ 0) (λ login. IsSizeOf (Remembers login) result) }
+    ensures stays { handle.new.value ≡ handle.old.value }
+{
+    match handle.take(alloc) {
+        Some(login) => {
+            let count = login.acceptor.memory().len();
+            *handle = Handle::of(login);
+            count
+        }
+        None => 0,
+    }
+}
+
+/// Tells the latest moment that was handed in, where there is one.
+#[unsafe(no_mangle)]
+pub extern "C" fn fevstunik_acceptor_latest(
+    handle: &mut Handle,
+    alloc: Global,
+    latest: &mut Time,
+) -> Answer
+    ensures latest { MatchOption handle.old.value ((result ≡ plain empty_handle) × (latest.new ≡ latest.old))
+        (λ login. TellsLatest (latest_of login) latest.old latest.new result) }
+    ensures stays { handle.new.value ≡ handle.old.value }
+{
+    match handle.take(alloc) {
+        Some(login) => {
+            let answer = login.tell_latest(latest);
+            *handle = Handle::of(login);
+            answer
+        }
+        None => Answer::plain(code::EMPTY_HANDLE),
     }
 }
 

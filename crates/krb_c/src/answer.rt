@@ -22,6 +22,16 @@ pub struct Answer {
     pub size: usize,
 }
 
+/// A moment, from 1970-01-01T00:00:00Z on.
+#[repr(C)]
+#[derive(Clone, Copy)]
+pub struct Time {
+    /// Whole seconds, of the years 0000 to 9999.
+    pub seconds: i64,
+    /// Microseconds after them: 0 to 999,999.
+    pub micros: u32,
+}
+
 impl Answer {
     pub(crate) fn plain(code: u32) -> Answer
         ensures { result ≡ plain code }

@@ -11,6 +11,7 @@ use crate::held::Held;
 use crate::login::Login;
 use std::alloc::Global;
 use std::marker::Model;
+use std::mem::replace;
 use std::ptr::null_mut;
 
 /// The handle.
@@ -72,6 +73,16 @@ impl Handle {
             None => None,
             Some(held) => Some(held.into_box()),
         }
+    }
+}
+
+impl Handle {
+    /// Takes what the handle holds, which is empty then.
+    pub(crate) fn take(&mut self, alloc: Global) -> Option<Box<Login>>
+        ensures empty { self.new.value ≡ None }
+        ensures held { MatchOption result (self.old.value ≡ None) (λ login. self.old.value ≡ Some login.value) }
+    {
+        replace(self, Handle::empty(alloc)).into_box()
     }
 }
 

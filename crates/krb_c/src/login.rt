@@ -2,12 +2,13 @@
 
 ghost use Rattle.std.specs.Prelude.{◌≡◌};
 ghost use Rattle.krb_ap.specs.Setup.{arrival};
-ghost use Rattle.krb_c.specs.Accepting.{Decides, accepted_by};
+ghost use Rattle.krb_c.specs.Accepting.{Decides, TellsLatest, accepted_by, latest_of};
 
-use crate::answer::Answer;
+use crate::answer::{Answer, Time};
+use crate::code;
 use krb_ap::{Accepted, Acceptor, Refusal};
 use krb_msg::Moment;
-use krb_replay::TimedMemory;
+use krb_replay::{ReplayMemory, TimedMemory};
 use std::alloc::Global;
 
 /// A service that takes requests, and what it accepted last.
@@ -26,6 +27,23 @@ impl Login {
         let answer = Answer::told(&outcome);
         self.last = kept(outcome);
         answer
+    }
+
+    /// Tells the latest moment, where there is one.
+    pub(crate) fn tell_latest(&self, latest: &mut Time) -> Answer
+        ensures { TellsLatest (latest_of self.now) latest.old latest.new result }
+    {
+        match self.acceptor.memory().latest() {
+            Some(moment) => {
+                let (second, micros) = moment.parts();
+                *latest = Time {
+                    seconds: second.get(),
+                    micros: micros.get(),
+                };
+                Answer::plain(code::OK)
+            }
+            None => Answer::plain(code::NOTHING_THERE),
+        }
     }
 }
 
