@@ -1,5 +1,5 @@
 -- What a call answers: a code, and what goes with it.
-use Rattle.std.specs.Prelude.{◌≡◌, ◌≤◌, ◌<◌, ℕ, ℤ, pos, List, ◌++◌, length, drop, Option, Some, None, Result, Ok, Err}
+use Rattle.std.specs.Prelude.{◌≡◌, ◌≤◌, ◌<◌, ◌⊎◌, ℕ, ℤ, pos, List, ◌++◌, length, drop, Option, Some, None, Result, Ok, Err}
 use Rattle.krb_keytab.specs.declared.fault.KeytabFault.{KeytabFault}
 use Rattle.krb_keytab.specs.declared.fault.KeytabFault.TheVariants as keytab
 use Rattle.krb_ap.specs.Causes.{place, code_of, offset_of}
@@ -48,3 +48,7 @@ keytab_answer keytab.OutOfMemory = plain out_of_memory
 pub record Hands (bytes old new : List ℕ) (answer : Answer) : Type 0 where
   pub fits : length bytes ≤ length old → (answer ≡ sized ok (length bytes)) × (new ≡ bytes ++ drop (length bytes) old)
   pub short : length old < length bytes → (answer ≡ sized short_buffer (length bytes)) × (new ≡ old)
+
+-- either bytes of which this holds are handed over, or an answer of which that holds is given and the buffer stays
+abbrev pub Delivers : (List ℕ → Type 0) → (Answer → Type 0) → List ℕ → List ℕ → Answer → Type 0
+Delivers Good Bad old new answer = ((bytes : List ℕ) × (Good bytes × Hands bytes old new answer)) ⊎ (Bad answer × (new ≡ old))

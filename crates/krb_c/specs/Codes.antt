@@ -51,3 +51,42 @@ no_such_entry = 32
 
 abbrev pub not_read : ℕ
 not_read = 33
+
+abbrev pub no_credential : ℕ
+no_credential = 34
+
+abbrev pub no_usable_key : ℕ
+no_usable_key = 35
+
+abbrev pub credential_expired : ℕ
+credential_expired = 36
+
+abbrev pub bad_ticket : ℕ
+bad_ticket = 37
+
+abbrev pub reply_type : ℕ
+reply_type = 38
+
+abbrev pub reply_malformed : ℕ
+reply_malformed = 39
+
+abbrev pub reply_integrity : ℕ
+reply_integrity = 40
+
+abbrev pub reply_mismatch : ℕ
+reply_mismatch = 41
+
+abbrev pub text_short : ℕ
+text_short = 42
+
+abbrev pub text_integrity : ℕ
+text_integrity = 43
+
+abbrev pub bad_text : ℕ
+bad_text = 44
+
+abbrev pub no_realm : ℕ
+no_realm = 45
+
+abbrev pub no_code : ℕ
+no_code = 46

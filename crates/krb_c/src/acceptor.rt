@@ -9,12 +9,16 @@ ghost use Rattle.krb_keytab.specs.Entry.{KeytabEntry};
 ghost use Rattle.krb_keytab.specs.Format.{IsFaultOf, IsKeytab};
 ghost use Rattle.krb_keytab.specs.declared.fault.KeytabFault.{KeytabFault};
 ghost use Rattle.krb_c.specs.Accepting.{Decides, IsMomentOf, Remembers, TellsLatest, Turns, fresh, latest_of};
+ghost use Rattle.krb_c.specs.Choice.{TellsReply};
+ghost use Rattle.krb_c.specs.Known.{TellsKnown};
 ghost use Rattle.krb_c.specs.Answer.{keytab_answer, plain};
 ghost use Rattle.krb_c.specs.Codes.{bad_moment, bad_skew, empty_handle, ok, out_of_memory};
 
 use crate::answer::{Answer, Time};
+use crate::choice::Choice;
 use crate::code;
 use crate::handle::Handle;
+use crate::known::Known;
 use crate::login::Login;
 use krb_ap::Acceptor;
 use krb_keytab::Keytab;
@@ -94,6 +98,53 @@ pub extern "C" fn fevstunik_acceptor_accept(
     match handle.take(alloc) {
         Some(mut login) => {
             let answer = login.decide(alloc, request, now);
+            *handle = Handle::of(login);
+            answer
+        }
+        None => Answer::plain(code::EMPTY_HANDLE),
+    }
+}
+
+/// Tells what the last call of `fevstunik_acceptor_accept` accepted: in the buffer the client's text, the session key and the client's
+/// subkey, and in `known` where they stand, and the numbers. The places are told also where the buffer is too short.
+#[unsafe(no_mangle)]
+pub extern "C" fn fevstunik_acceptor_accepted(
+    handle: &mut Handle,
+    alloc: Global,
+    known: &mut Known,
+    buffer: &mut [u8],
+) -> Answer
+    ensures told { MatchOption handle.old.value ((result ≡ plain empty_handle) × ((known.new ≡ known.old) × (buffer.new ≡ buffer.old)))
+        (λ login. TellsKnown login.last known.old known.new buffer.old buffer.new result) }
+    ensures stays { handle.new.value ≡ handle.old.value }
+{
+    match handle.take(alloc) {
+        Some(login) => {
+            let answer = login.tell(alloc, known, buffer);
+            *handle = Handle::of(login);
+            answer
+        }
+        None => Answer::plain(code::EMPTY_HANDLE),
+    }
+}
+
+/// Builds the reply to what the last call of `fevstunik_acceptor_accept` accepted. The confounder is 16 random bytes, new for each call.
+#[unsafe(no_mangle)]
+pub extern "C" fn fevstunik_acceptor_reply(
+    handle: &mut Handle,
+    alloc: Global,
+    confounder: &[u8],
+    choice: &Choice,
+    subkey: &[u8],
+    buffer: &mut [u8],
+) -> Answer
+    ensures reply { MatchOption handle.old.value ((result ≡ plain empty_handle) × (buffer.new ≡ buffer.old))
+        (λ login. TellsReply login.last confounder.now choice.now subkey.now buffer.old buffer.new result) }
+    ensures stays { handle.new.value ≡ handle.old.value }
+{
+    match handle.take(alloc) {
+        Some(login) => {
+            let answer = login.reply(alloc, confounder, choice, subkey, buffer);
             *handle = Handle::of(login);
             answer
         }

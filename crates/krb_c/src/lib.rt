@@ -3,7 +3,10 @@
 
 mod acceptor;
 mod answer;
+mod choice;
 mod code;
 mod handle;
 mod held;
+mod known;
 mod login;
+mod sealing;
