@@ -1,13 +1,14 @@
 -- What a side chooses: a subkey, a sequence number, whether a reply is wanted; and which keys and confounders are none.
 use Rattle.std.specs.Prelude.{◌≡◌, ◌≢◌, ◌⊎◌, ℕ, ℤ, pos, Bool, true, false, List, length, Option, Some, None}
 use Rattle.krb_enc.specs.Key.{KeyValue, IsKnown, IsUsable, IsUsableKey, profile_of}
-use Rattle.krb_enc.specs.Sealed.{sealed}
+use Rattle.krb_enc.specs.Opens.{HasTag, IsShort, Opens}
+use Rattle.krb_enc.specs.Sealed.{checksum_of, sealed}
 use Rattle.krb_ap.specs.Answer.{taken_of}
 use Rattle.krb_ap.specs.Reply.{IsReply}
 use Rattle.krb_ap.specs.declared.accepted.Accepted.{Accepted}
 use Rattle.krb_ap.specs.declared.reply.ReplyOptions.{ReplyOptions}
 use Rattle.krb_c.specs.Answer.{Delivers, plain}
-use Rattle.krb_c.specs.Codes.{bad_confounder, key_length, key_type, nothing_there, out_of_memory}
+use Rattle.krb_c.specs.Codes.{bad_confounder, key_length, key_type, nothing_there, ok, out_of_memory, text_integrity, text_short}
 use Rattle.krb_c.specs.declared.answer.Answer.{Answer}
 use Rattle.krb_c.specs.declared.choice.Choice.{Choice}
 
@@ -53,6 +54,21 @@ pub record SealsTo (key : KeyValue) (usage : ℕ) (confounder plain_text text : 
 abbrev pub IsSealFault : KeyValue → List ℕ → Answer → Type 0
 IsSealFault key confounder answer =
     IsKeyFault key.etype key.bytes answer ⊎ (IsConfounderFault confounder answer ⊎ (answer ≡ plain out_of_memory))
+
+-- a text that is opened, and why it isn't
+abbrev pub OpensTo : KeyValue → ℕ → List ℕ → List ℕ → Type 0
+OpensTo key usage text plain_text = IsUsable key × Opens (profile_of key) key.bytes usage text plain_text
+
+abbrev pub IsOpenFault : KeyValue → ℕ → List ℕ → Answer → Type 0
+IsOpenFault key usage text answer =
+    IsKeyFault key.etype key.bytes answer ⊎ ((IsShort (profile_of key) text × (answer ≡ plain text_short))
+    ⊎ (((¬ HasTag (profile_of key) key.bytes usage text) × (answer ≡ plain text_integrity)) ⊎ (answer ≡ plain out_of_memory)))
+
+-- a tag is the checksum of a text, or isn't
+abbrev pub IsChecked : KeyValue → ℕ → List ℕ → List ℕ → Answer → Type 0
+IsChecked key usage text tag answer =
+    IsKeyFault key.etype key.bytes answer ⊎ (((tag ≡ checksum_of (profile_of key) key.bytes usage text) × (answer ≡ plain ok))
+    ⊎ ((tag ≢ checksum_of (profile_of key) key.bytes usage text) × (answer ≡ plain text_integrity)))
 
 -- the reply to what was accepted is handed over, or it is told why not
 abbrev pub TellsReply : Option Accepted → List ℕ → Choice → List ℕ → List ℕ → List ℕ → Answer → Type 0
