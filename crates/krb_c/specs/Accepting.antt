@@ -1,0 +1,75 @@
+-- What a filled handle is, and what is made of a call of it.
+use Rattle.std.specs.Prelude.{◌≡◌, ◌≤◌, ◌<◌, ℕ, ℤ, List, [], length, Contains, Option, Some, None, Result, Ok, Err, IfErr, IfSome, IsErrOf}
+use Rattle.krb_der.specs.Kind.{ValueOf}
+use Rattle.krb_der.specs.Time.{IsSeconds}
+use Rattle.krb_msg.specs.Module.{ap_req}
+use Rattle.krb_msg.specs.Moments.{micros_of}
+use Rattle.krb_keytab.specs.Entry.{KeytabEntry}
+use Rattle.krb_replay.specs.Memory.{later_of, SameStamps}
+use Rattle.krb_replay.specs.Stamp.{Stamp}
+use Rattle.krb_ap.specs.Setup.{Arrival}
+use Rattle.krb_ap.specs.Opened.{Asks}
+use Rattle.krb_ap.specs.History.{IsShownLately, StandsFor}
+use Rattle.krb_ap.specs.Causes.{offset_of}
+use Rattle.krb_ap.specs.Answer.{Answers, after}
+use Rattle.krb_ap.specs.declared.accepted.Accepted.{Accepted}
+use Rattle.krb_ap.specs.declared.refusal.Refusal.{Refusal}
+use Rattle.krb_ap.specs.declared.refusal.Refusal.TheVariants.{OutOfMemory}
+use Rattle.krb_c.specs.Answer.{plain, told}
+use Rattle.krb_c.specs.Codes.{nothing_there, ok}
+use Rattle.krb_c.specs.declared.answer.Answer.{Answer}
+use Rattle.krb_c.specs.declared.answer.Time.{Time}
+use Rattle.krb_c.specs.declared.login.Login.{Login}
+
+-- what it has seen, and the latest moment that it was told
+abbrev pub Remembers : Login → Stamp → Type 0
+Remembers login = Contains login.acceptor.memory.stamps
+
+abbrev pub latest_of : Login → Option ℤ
+latest_of login = login.acceptor.memory.latest
+
+-- its memory stands for what was handed in before
+abbrev pub Stands : Login → List Arrival → Type 0
+Stands login history = StandsFor login.acceptor.setup (Remembers login) (latest_of login) history
+
+-- it is new: it has these entries and a skew of so many microseconds, has seen nothing, and has accepted nothing
+abbrev pub fresh : List KeytabEntry → ℕ → Login
+fresh entries skew = record {
+  acceptor = record { setup = record { entries = entries; skew = skew; start = None }; memory = record { stamps = []; latest = None } };
+  last = None;
+}
+
+-- what was accepted, if it was
+abbrev pub accepted_by : Result Accepted Refusal → Option Accepted
+accepted_by (Ok accepted) = Some accepted
+accepted_by (Err refusal) = None
+
+-- these are a second of the years 0000 to 9999, and microseconds after it
+abbrev pub IsMomentOf : Time → Type 0
+IsMomentOf time = IsSeconds time.seconds × (time.micros < 1_000_000)
+
+-- a handle that was empty stays so, and of a filled one this holds before and after
+abbrev pub Turns : Option Login → Option Login → Type 0 → (Login → Login → Type 0) → Type 0
+Turns None new Empty Filled = (new ≡ None) × Empty
+Turns (Some old) None Empty Filled = ⊥
+Turns (Some old) (Some new) Empty Filled = Filled old new
+
+-- the latest moment is told, as a second and the microseconds after it, where there is one
+abbrev pub TellsLatest : Option ℤ → Time → Time → Answer → Type 0
+TellsLatest None old new answer = (answer ≡ plain nothing_there) × (new ≡ old)
+TellsLatest (Some at) old new answer = (answer ≡ plain ok) × ((at ≡ micros_of new.seconds new.micros) × (new.micros < 1_000_000))
+
+-- A call is decided: this is the outcome, what is known afterwards, and what is answered.
+pub record Decides (old new : Login) (call : Arrival) (answer : Answer) : Type 0 where
+  pub outcome : Result Accepted Refusal
+  pub answers : (history : List Arrival) → Stands old history → Answers old.acceptor.setup history call outcome
+  pub goes_on : (history : List Arrival) → Stands old history → Stands new (after history call outcome)
+  pub forgets : (history : List Arrival) → Stands old history → ¬ IsErrOf outcome OutOfMemory
+      → SameStamps (IsShownLately old.acceptor.setup (after history call outcome)) (Remembers new)
+  pub setup : new.acceptor.setup ≡ old.acceptor.setup
+  pub moves : ¬ IsErrOf outcome OutOfMemory → latest_of new ≡ Some (later_of (latest_of old) call.moment)
+  pub offset : IfErr outcome (λ refusal. IfSome (offset_of refusal) (λ at. at ≤ length call.bytes))
+  pub memory : IsErrOf outcome OutOfMemory → (request : ValueOf ap_req) × Asks call.bytes request
+  pub unchanged : IsErrOf outcome OutOfMemory → SameStamps (Remembers old) (Remembers new) × (latest_of new ≡ latest_of old)
+  pub last : new.last ≡ accepted_by outcome
+  pub told_is : answer ≡ told outcome

@@ -1,0 +1,77 @@
+-- What a side chooses: a subkey, a sequence number, whether a reply is wanted; and which keys and confounders are none.
+use Rattle.std.specs.Prelude.{◌≡◌, ◌≢◌, ◌⊎◌, ℕ, ℤ, pos, Bool, true, false, List, length, Option, Some, None}
+use Rattle.krb_enc.specs.Key.{KeyValue, IsKnown, IsUsable, IsUsableKey, profile_of}
+use Rattle.krb_enc.specs.Opens.{HasTag, IsShort, Opens}
+use Rattle.krb_enc.specs.Sealed.{checksum_of, sealed}
+use Rattle.krb_ap.specs.Answer.{taken_of}
+use Rattle.krb_ap.specs.Reply.{IsReply}
+use Rattle.krb_ap.specs.declared.accepted.Accepted.{Accepted}
+use Rattle.krb_ap.specs.declared.reply.ReplyOptions.{ReplyOptions}
+use Rattle.krb_c.specs.Answer.{Delivers, plain}
+use Rattle.krb_c.specs.Codes.{bad_confounder, key_length, key_type, nothing_there, ok, out_of_memory, text_integrity, text_short}
+use Rattle.krb_c.specs.declared.answer.Answer.{Answer}
+use Rattle.krb_c.specs.declared.choice.Choice.{Choice}
+
+abbrev pub key_value : ℤ → List ℕ → KeyValue
+key_value etype bytes = record { etype = etype; bytes = bytes }
+
+-- why a type and bytes are no key, and why bytes are no confounder
+abbrev pub IsKeyFault : ℤ → List ℕ → Answer → Type 0
+IsKeyFault etype bytes answer = (¬ IsKnown etype × (answer ≡ plain key_type)) ⊎ ((IsKnown etype × ¬ IsUsable (key_value etype bytes)) × (answer ≡ plain key_length))
+
+abbrev pub IsConfounderFault : List ℕ → Answer → Type 0
+IsConfounderFault confounder answer = (length confounder ≢ 16) × (answer ≡ plain bad_confounder)
+
+-- type 0 asks for no subkey
+abbrev pub IsChosen : ℤ → List ℕ → Option KeyValue → Type 0
+IsChosen etype bytes None = etype ≡ pos 0
+IsChosen etype bytes (Some key) = (etype ≢ pos 0) × (key ≡ key_value etype bytes)
+
+abbrev pub seq_if : Bool → ℕ → Option ℕ
+seq_if true seq = Some seq
+seq_if false seq = None
+
+abbrev pub seq_of : Choice → Option ℕ
+seq_of choice = seq_if choice.has_seq choice.seq
+
+-- the reply to what was accepted, with a confounder of 16 bytes and the chosen subkey and number
+pub record Replied (accepted : Accepted) (confounder : List ℕ) (choice : Choice) (subkey bytes : List ℕ) : Type 0 where
+  pub key : Option KeyValue
+  pub chosen : IsChosen choice.subkey_type subkey key
+  pub size : length confounder ≡ 16
+  pub reply : IsReply (taken_of accepted) confounder (record { subkey = key; seq = seq_of choice }) bytes
+
+abbrev pub IsReplyFault : List ℕ → Choice → List ℕ → Answer → Type 0
+IsReplyFault confounder choice subkey answer =
+    IsConfounderFault confounder answer ⊎ (((choice.subkey_type ≢ pos 0) × IsKeyFault choice.subkey_type subkey answer) ⊎ (answer ≡ plain out_of_memory))
+
+-- a text that is sealed
+pub record SealsTo (key : KeyValue) (usage : ℕ) (confounder plain_text text : List ℕ) : Type 0 where
+  pub usable : IsUsable key
+  pub size : length confounder ≡ 16
+  pub text_is : text ≡ sealed (profile_of key) key.bytes usage confounder plain_text
+
+abbrev pub IsSealFault : KeyValue → List ℕ → Answer → Type 0
+IsSealFault key confounder answer =
+    IsKeyFault key.etype key.bytes answer ⊎ (IsConfounderFault confounder answer ⊎ (answer ≡ plain out_of_memory))
+
+-- a text that is opened, and why it isn't
+abbrev pub OpensTo : KeyValue → ℕ → List ℕ → List ℕ → Type 0
+OpensTo key usage text plain_text = IsUsable key × Opens (profile_of key) key.bytes usage text plain_text
+
+abbrev pub IsOpenFault : KeyValue → ℕ → List ℕ → Answer → Type 0
+IsOpenFault key usage text answer =
+    IsKeyFault key.etype key.bytes answer ⊎ ((IsShort (profile_of key) text × (answer ≡ plain text_short))
+    ⊎ (((¬ HasTag (profile_of key) key.bytes usage text) × (answer ≡ plain text_integrity)) ⊎ (answer ≡ plain out_of_memory)))
+
+-- a tag is the checksum of a text, or isn't
+abbrev pub IsChecked : KeyValue → ℕ → List ℕ → List ℕ → Answer → Type 0
+IsChecked key usage text tag answer =
+    IsKeyFault key.etype key.bytes answer ⊎ (((tag ≡ checksum_of (profile_of key) key.bytes usage text) × (answer ≡ plain ok))
+    ⊎ ((tag ≢ checksum_of (profile_of key) key.bytes usage text) × (answer ≡ plain text_integrity)))
+
+-- the reply to what was accepted is handed over, or it is told why not
+abbrev pub TellsReply : Option Accepted → List ℕ → Choice → List ℕ → List ℕ → List ℕ → Answer → Type 0
+TellsReply None confounder choice subkey old new answer = (answer ≡ plain nothing_there) × (new ≡ old)
+TellsReply (Some accepted) confounder choice subkey old new answer =
+    Delivers (Replied accepted confounder choice subkey) (IsReplyFault confounder choice subkey) old new answer

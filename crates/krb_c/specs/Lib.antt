@@ -1,0 +1,6 @@
+pub mod Handle
+pub mod Codes
+pub mod Answer
+pub mod Accepting
+pub mod Known
+pub mod Choice

@@ -1,0 +1,198 @@
+//! The service's side: a handle over a service that takes requests.
+
+ghost use Rattle.std.specs.Prelude.{◌≡◌, ◌≢◌, ◌<◌, ◌≤◌, ◌*◌, ◌↔◌, ◌⊎◌, List, None, Some, IfErr, IsErrAnd, IsErrOf, MatchResult};
+ghost use Rattle.std.specs.Option.{MatchOption};
+ghost use Rattle.krb_msg.specs.Moments.{micros_of};
+ghost use Rattle.krb_replay.specs.Memory.{IsSizeOf};
+ghost use Rattle.krb_ap.specs.Setup.{arrival};
+ghost use Rattle.krb_keytab.specs.Entry.{KeytabEntry};
+ghost use Rattle.krb_keytab.specs.Format.{IsFaultOf, IsKeytab};
+ghost use Rattle.krb_keytab.specs.declared.fault.KeytabFault.{KeytabFault};
+ghost use Rattle.krb_c.specs.Accepting.{Decides, IsMomentOf, Remembers, TellsLatest, Turns, fresh, latest_of};
+ghost use Rattle.krb_c.specs.Choice.{TellsReply};
+ghost use Rattle.krb_c.specs.Known.{TellsKnown};
+ghost use Rattle.krb_c.specs.Answer.{keytab_answer, plain};
+ghost use Rattle.krb_c.specs.Codes.{bad_moment, bad_skew, empty_handle, ok, out_of_memory};
+
+use crate::answer::{Answer, Time};
+use crate::choice::Choice;
+use crate::code;
+use crate::handle::Handle;
+use crate::known::Known;
+use crate::login::Login;
+use krb_ap::Acceptor;
+use krb_keytab::Keytab;
+use krb_msg::Moment;
+use krb_replay::{ReplayMemory, Skew, TimedMemory};
+use std::alloc::Global;
+
+/// Makes the handle hold a service that decides by the keys of a keytab and by a skew of so many seconds, and has seen nothing. What
+/// the handle held is let go of; where no service is made, it stays.
+#[unsafe(no_mangle)]
+pub extern "C" fn fevstunik_acceptor_new(
+    handle: &mut Handle,
+    alloc: Global,
+    keytab: &[u8],
+    skew: u32,
+) -> Answer
+    ensures skew { (result ≡ plain bad_skew) ↔ (86_400 < skew) }
+    ensures made { (entries : List KeytabEntry) → skew ≤ 86_400 → IsKeytab keytab.now entries
+        → ((result ≡ plain ok) × (handle.new.value ≡ Some (fresh entries (1_000_000 * skew)))) ⊎ (result ≡ plain out_of_memory) }
+    ensures fault { (fault : KeytabFault) → skew ≤ 86_400 → IsFaultOf keytab.now fault
+        → (result ≡ keytab_answer fault) ⊎ (result ≡ plain out_of_memory) }
+    ensures unchanged { result ≢ plain ok → handle.new.value ≡ handle.old.value }
+{
+    match service(alloc, keytab, skew) {
+        Ok(login) => {
+            *handle = Handle::of(login);
+            Answer::plain(code::OK)
+        }
+        Err(answer) => answer,
+    }
+}
+
+fn service(alloc: Global, keytab: &[u8], skew: u32) -> Result<Box<Login>, Answer>
+    ensures skew { IsErrOf result (plain bad_skew) ↔ (86_400 < skew) }
+    ensures made { (entries : List KeytabEntry) → skew ≤ 86_400 → IsKeytab keytab.now entries
+        → MatchResult result (λ login. login.value ≡ fresh entries (1_000_000 * skew)) (λ answer. answer ≡ plain out_of_memory) }
+    ensures fault { (fault : KeytabFault) → skew ≤ 86_400 → IsFaultOf keytab.now fault
+        → IsErrAnd result (λ answer. (answer ≡ keytab_answer fault) ⊎ (answer ≡ plain out_of_memory)) }
+    ensures refused { IfErr result (λ answer. answer ≢ plain ok) }
+{
+    let skew = match Skew::new(skew) {
+        Some(skew) => skew,
+        None => return Err(Answer::plain(code::BAD_SKEW)),
+    };
+    let keytab = match Keytab::parse(alloc, keytab) {
+        Ok(keytab) => keytab,
+        Err(fault) => return Err(Answer::keytab(fault)),
+    };
+    let acceptor = Acceptor::new(keytab, skew, TimedMemory::new(alloc));
+    let login = Login {
+        acceptor,
+        last: None,
+    };
+    match Box::new(alloc, login) {
+        Ok(login) => Ok(login),
+        Err(_) => Err(Answer::plain(code::OUT_OF_MEMORY)),
+    }
+}
+
+/// Decides whether a request is accepted at a moment of the service's clock, and remembers what has to be remembered of it. What is
+/// accepted is kept until the next call, and is told by `fevstunik_acceptor_accepted`.
+#[unsafe(no_mangle)]
+pub extern "C" fn fevstunik_acceptor_accept(
+    handle: &mut Handle,
+    alloc: Global,
+    request: &[u8],
+    now: &Time,
+) -> Answer
+    ensures moment { ¬ IsMomentOf now.now → (result ≡ plain bad_moment) × (handle.new.value ≡ handle.old.value) }
+    ensures decided { IsMomentOf now.now → Turns handle.old.value handle.new.value (result ≡ plain empty_handle)
+        (λ old new. Decides old new (arrival request.now (micros_of now.now.seconds now.now.micros)) result) }
+{
+    let now = match Moment::new(now.seconds, now.micros) {
+        Some(now) => now,
+        None => return Answer::plain(code::BAD_MOMENT),
+    };
+    match handle.take(alloc) {
+        Some(mut login) => {
+            let answer = login.decide(alloc, request, now);
+            *handle = Handle::of(login);
+            answer
+        }
+        None => Answer::plain(code::EMPTY_HANDLE),
+    }
+}
+
+/// Tells what the last call of `fevstunik_acceptor_accept` accepted: in the buffer the client's text, the session key and the client's
+/// subkey, and in `known` where they stand, and the numbers. The places are told also where the buffer is too short.
+#[unsafe(no_mangle)]
+pub extern "C" fn fevstunik_acceptor_accepted(
+    handle: &mut Handle,
+    alloc: Global,
+    known: &mut Known,
+    buffer: &mut [u8],
+) -> Answer
+    ensures told { MatchOption handle.old.value ((result ≡ plain empty_handle) × ((known.new ≡ known.old) × (buffer.new ≡ buffer.old)))
+        (λ login. TellsKnown login.last known.old known.new buffer.old buffer.new result) }
+    ensures stays { handle.new.value ≡ handle.old.value }
+{
+    match handle.take(alloc) {
+        Some(login) => {
+            let answer = login.tell(alloc, known, buffer);
+            *handle = Handle::of(login);
+            answer
+        }
+        None => Answer::plain(code::EMPTY_HANDLE),
+    }
+}
+
+/// Builds the reply to what the last call of `fevstunik_acceptor_accept` accepted. The confounder is 16 random bytes, new for each call.
+#[unsafe(no_mangle)]
+pub extern "C" fn fevstunik_acceptor_reply(
+    handle: &mut Handle,
+    alloc: Global,
+    confounder: &[u8],
+    choice: &Choice,
+    subkey: &[u8],
+    buffer: &mut [u8],
+) -> Answer
+    ensures reply { MatchOption handle.old.value ((result ≡ plain empty_handle) × (buffer.new ≡ buffer.old))
+        (λ login. TellsReply login.last confounder.now choice.now subkey.now buffer.old buffer.new result) }
+    ensures stays { handle.new.value ≡ handle.old.value }
+{
+    match handle.take(alloc) {
+        Some(login) => {
+            let answer = login.reply(alloc, confounder, choice, subkey, buffer);
+            *handle = Handle::of(login);
+            answer
+        }
+        None => Answer::plain(code::EMPTY_HANDLE),
+    }
+}
+
+/// Counts what is remembered. An empty handle remembers nothing.
+#[unsafe(no_mangle)]
+pub extern "C" fn fevstunik_acceptor_count(handle: &mut Handle, alloc: Global) -> usize
+    ensures count { MatchOption handle.old.value (result ≡ 0) (λ login. IsSizeOf (Remembers login) result) }
+    ensures stays { handle.new.value ≡ handle.old.value }
+{
+    match handle.take(alloc) {
+        Some(login) => {
+            let count = login.acceptor.memory().len();
+            *handle = Handle::of(login);
+            count
+        }
+        None => 0,
+    }
+}
+
+/// Tells the latest moment that was handed in, where there is one.
+#[unsafe(no_mangle)]
+pub extern "C" fn fevstunik_acceptor_latest(
+    handle: &mut Handle,
+    alloc: Global,
+    latest: &mut Time,
+) -> Answer
+    ensures latest { MatchOption handle.old.value ((result ≡ plain empty_handle) × (latest.new ≡ latest.old))
+        (λ login. TellsLatest (latest_of login) latest.old latest.new result) }
+    ensures stays { handle.new.value ≡ handle.old.value }
+{
+    match handle.take(alloc) {
+        Some(login) => {
+            let answer = login.tell_latest(latest);
+            *handle = Handle::of(login);
+            answer
+        }
+        None => Answer::plain(code::EMPTY_HANDLE),
+    }
+}
+
+/// Lets go of what the handle holds.
+#[unsafe(no_mangle)]
+pub extern "C" fn fevstunik_acceptor_free(handle: &mut Handle, alloc: Global)
+    ensures { handle.new.value ≡ None }
+{
+    *handle = Handle::empty(alloc);
+}

@@ -1,0 +1,138 @@
+//! What each call answers.
+
+ghost use Rattle.std.specs.Prelude.{◌≡◌};
+ghost use Rattle.krb_ap.specs.Causes.{place};
+ghost use Rattle.krb_c.specs.Answer.{Hands, keytab_answer, plain, placed, refused, sized, told};
+
+use crate::code;
+use krb_ap::{Accepted, Refusal};
+use krb_keytab::KeytabFault;
+
+/// What a call answers. The numbers that don't go with its code are 0.
+#[repr(C)]
+#[derive(Clone, Copy)]
+pub struct Answer {
+    /// Whether all is well, or why not.
+    pub code: u32,
+    /// The error code of RFC 4120, section 7.5.9, that goes with it.
+    pub kerberos: i32,
+    /// Where a fault is, in bytes from the start of what was handed in.
+    pub at: usize,
+    /// How many bytes were written, or are needed.
+    pub size: usize,
+}
+
+/// A moment, from 1970-01-01T00:00:00Z on.
+#[repr(C)]
+#[derive(Clone, Copy)]
+pub struct Time {
+    /// Whole seconds, of the years 0000 to 9999.
+    pub seconds: i64,
+    /// Microseconds after them: 0 to 999,999.
+    pub micros: u32,
+}
+
+impl Answer {
+    pub(crate) fn plain(code: u32) -> Answer
+        ensures { result ≡ plain code }
+    {
+        Answer::sized(code, 0)
+    }
+
+    pub(crate) fn sized(code: u32, size: usize) -> Answer
+        ensures { result ≡ sized code size }
+    {
+        Answer {
+            code,
+            kerberos: 0,
+            at: 0,
+            size,
+        }
+    }
+
+    pub(crate) fn placed(code: u32, at: usize) -> Answer
+        ensures { result ≡ placed code at }
+    {
+        Answer {
+            code,
+            kerberos: 0,
+            at,
+            size: 0,
+        }
+    }
+
+    pub(crate) fn refused(refusal: &Refusal) -> Answer
+        ensures { result ≡ refused refusal.now }
+    {
+        let at = match refusal {
+            Refusal::Malformed(fault) => fault.at,
+            _ => 0,
+        };
+        Answer {
+            code: place_of(refusal),
+            kerberos: refusal.code().unwrap_or(0),
+            at,
+            size: 0,
+        }
+    }
+
+    pub(crate) fn told(outcome: &Result<Accepted, Refusal>) -> Answer
+        ensures { result ≡ told outcome.now }
+    {
+        match outcome {
+            Ok(_) => Answer::plain(code::OK),
+            Err(refusal) => Answer::refused(refusal),
+        }
+    }
+
+    pub(crate) fn keytab(fault: KeytabFault) -> Answer
+        ensures { result ≡ keytab_answer fault }
+    {
+        match fault {
+            KeytabFault::Version => Answer::plain(code::FILE_VERSION),
+            KeytabFault::Truncated { at } => Answer::placed(code::FILE_TRUNCATED, at),
+            KeytabFault::BadEntry { at } => Answer::placed(code::FILE_BAD_ITEM, at),
+            KeytabFault::TooLong => Answer::plain(code::TOO_LONG),
+            KeytabFault::NoSuchEntry => Answer::plain(code::NO_SUCH_ENTRY),
+            KeytabFault::Read => Answer::plain(code::NOT_READ),
+            KeytabFault::OutOfMemory => Answer::plain(code::OUT_OF_MEMORY),
+        }
+    }
+}
+
+// A refusal's place in the table.
+fn place_of(refusal: &Refusal) -> u32
+    ensures { result ≡ place refusal.now }
+{
+    match refusal {
+        Refusal::MessageType => code::MESSAGE_TYPE,
+        Refusal::Malformed(_) => code::MALFORMED,
+        Refusal::UserToUser => code::USER_TO_USER,
+        Refusal::TicketEtype => code::TICKET_ETYPE,
+        Refusal::NotUs => code::NOT_US,
+        Refusal::NoKey => code::NO_KEY,
+        Refusal::BadKeyVersion => code::BAD_KEY_VERSION,
+        Refusal::TicketIntegrity => code::TICKET_INTEGRITY,
+        Refusal::SessionKey => code::SESSION_KEY,
+        Refusal::AuthenticatorIntegrity => code::AUTHENTICATOR_INTEGRITY,
+        Refusal::BadMatch => code::BAD_MATCH,
+        Refusal::Skew => code::SKEW,
+        Refusal::Repeat => code::REPEAT,
+        Refusal::NotYetValid => code::NOT_YET_VALID,
+        Refusal::Expired => code::EXPIRED,
+        Refusal::Transited => code::TRANSITED,
+        Refusal::Authorization => code::AUTHORIZATION,
+        Refusal::OutOfMemory => code::OUT_OF_MEMORY,
+    }
+}
+
+/// Copies bytes to the front of a buffer, where there is room.
+pub(crate) fn hand_over(bytes: &[u8], buffer: &mut [u8]) -> Answer
+    ensures { Hands bytes.now buffer.old buffer.new result }
+{
+    if buffer.len() < bytes.len() {
+        return Answer::sized(code::SHORT_BUFFER, bytes.len());
+    }
+    buffer[..bytes.len()].copy_from_slice(bytes);
+    Answer::sized(code::OK, bytes.len())
+}

@@ -1,0 +1,144 @@
+//! What is told of a request that was accepted.
+
+ghost use Rattle.std.specs.Prelude.{◌≡◌, ◌++◌, IfOk, length};
+ghost use Rattle.krb_c.specs.Known.{is_there, key_bytes, key_type, known_of, number_or_zero, told_bytes};
+
+use krb_ap::Accepted;
+use krb_msg::RawKey;
+use std::alloc::{AllocError, Global};
+
+/// A place in the buffer.
+#[repr(C)]
+#[derive(Clone, Copy)]
+pub struct Span {
+    /// Where it begins, in bytes.
+    pub at: usize,
+    /// How many bytes it has.
+    pub size: usize,
+}
+
+/// What is known of a request that was accepted. Texts and keys stand in the buffer.
+#[repr(C)]
+#[derive(Clone, Copy)]
+pub struct Known {
+    /// The client, as text.
+    pub client: Span,
+    /// The key that client and service share.
+    pub session_key: Span,
+    /// The key that the client chose, if it did.
+    pub subkey: Span,
+    /// When the client was authenticated, in seconds.
+    pub authtime: i64,
+    /// Until when the ticket is valid, in seconds.
+    pub endtime: i64,
+    /// The client's time, in seconds.
+    pub ctime: i64,
+    /// The microseconds of the client's time.
+    pub cusec: u32,
+    /// The ticket's flags; bit 0 of the RFC is the most significant.
+    pub flags: u32,
+    /// The client's first sequence number, if it told one.
+    pub seq: u32,
+    /// The type of the client's name.
+    pub name_type: i32,
+    /// The encryption type of the session key.
+    pub session_type: i32,
+    /// The encryption type of the client's subkey, if it chose one.
+    pub subkey_type: i32,
+    /// Whether the client chose a subkey.
+    pub has_subkey: bool,
+    /// Whether the client told a sequence number.
+    pub has_seq: bool,
+    /// Whether the client asks for a reply.
+    pub wants_reply: bool,
+}
+
+/// The bytes that are told, and where each part stands.
+pub(crate) fn tell(alloc: Global, accepted: &Accepted) -> Result<(Vec<u8>, Known), AllocError>
+    ensures bytes { IfOk result (λ made. made.0.items ≡ told_bytes accepted.now) }
+    ensures known { IfOk result (λ made. made.1 ≡ known_of accepted.now) }
+{
+    let text = accepted.client.to_text(alloc)?;
+    let mut bytes = Vec::from_slice(alloc, text.as_bytes())?;
+    let client = Span {
+        at: 0,
+        size: bytes.len(),
+    };
+    let session_key = append(&mut bytes, accepted.session_key.bytes())?;
+    let subkey = append(&mut bytes, bytes_of(&accepted.subkey))?;
+    let known = Known {
+        client,
+        session_key,
+        subkey,
+        authtime: accepted.authtime.get(),
+        endtime: accepted.endtime.get(),
+        ctime: accepted.ctime.get(),
+        cusec: accepted.cusec.get(),
+        flags: accepted.flags.0,
+        seq: number(accepted.seq),
+        name_type: accepted.client.name_type,
+        session_type: accepted.session_key.etype(),
+        subkey_type: type_of(&accepted.subkey),
+        has_subkey: has_key(&accepted.subkey),
+        has_seq: has_number(accepted.seq),
+        wants_reply: accepted.mutual,
+    };
+    Ok((bytes, known))
+}
+
+fn append(bytes: &mut Vec<u8>, more: &[u8]) -> Result<Span, AllocError>
+    ensures bytes { IfOk result (λ span. bytes.new.items ≡ bytes.old.items ++ more.now) }
+    ensures span { IfOk result (λ span. span ≡ record { at = length bytes.old.items; size = length more.now }) }
+{
+    let at = bytes.len();
+    bytes.extend_from_slice(more)?;
+    Ok(Span {
+        at,
+        size: more.len(),
+    })
+}
+
+fn bytes_of(key: &Option<RawKey>) -> &[u8]
+    ensures { result.now ≡ key_bytes key.now }
+{
+    match key {
+        Some(key) => key.bytes.as_slice(),
+        None => &[],
+    }
+}
+
+fn type_of(key: &Option<RawKey>) -> i32
+    ensures { result ≡ key_type key.now }
+{
+    match key {
+        Some(key) => key.etype,
+        None => 0,
+    }
+}
+
+fn has_key(key: &Option<RawKey>) -> bool
+    ensures { result ≡ is_there key.now }
+{
+    match key {
+        Some(_) => true,
+        None => false,
+    }
+}
+
+fn number(number: Option<u32>) -> u32
+    ensures { result ≡ number_or_zero number }
+{
+    match number {
+        Some(number) => number,
+        None => 0,
+    }
+}
+
+fn has_number(number: Option<u32>) -> bool
+    ensures { result ≡ is_there number }
+{
+    match number {
+        Some(_) => true,
+        None => false,
+    }
+}

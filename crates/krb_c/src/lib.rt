@@ -1,0 +1,12 @@
+//! The library for C.
+#![tactic(auto)]
+
+mod acceptor;
+mod answer;
+mod choice;
+mod code;
+mod handle;
+mod held;
+mod known;
+mod login;
+mod sealing;

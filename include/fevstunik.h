@@ -1,0 +1,250 @@
+/* Fevstunik: the application exchange of Kerberos 5 (RFC 4120, section 3.2) with the encryption types of RFC 8009, for C and C++.
+ *
+ * Each function calls a proved function of this repository; crates/krb_c has their contracts. Link with libkrb_c.a, which `rt lib`
+ * builds, and with the toolchain's liblibc_c.a, by which the library reaches malloc, realloc and free.
+ *
+ * What is proved of a call holds where its caller keeps to this, and nothing is promised otherwise:
+ *  - A handle is all zero before its first use, as `fevstunik_acceptor handle = {0};` makes it. That is the empty handle.
+ *  - A handle is never copied and never written but by these functions. It may be moved in memory between calls, not during one.
+ *  - A handle is used by one thread, by one call at a time. Different handles have nothing to do with each other.
+ *  - Pointers are valid and never NULL, also those to no bytes: hand in any valid pointer with size 0.
+ *  - What a call writes (its handle, its buffer, its other results) overlaps nothing else that is handed to that call.
+ *  - A bool is 0 or 1. Sizes are at most PTRDIFF_MAX.
+ *  - malloc, realloc and free are of one allocator, and aligned as C asks.
+ * No function is called from a signal handler, or from the child of a fork of a process with threads.
+ *
+ * The library keeps no state but in handles, reads no clock and no random numbers, and writes nothing anywhere. Keys aren't wiped from
+ * memory that is let go of, and nothing is promised of how long a call takes.
+ *
+ * Bytes that a function answers stand at the front of the caller's buffer, and the rest of the buffer stays as it is. Where the buffer is
+ * too short the code is FEVSTUNIK_SHORT_BUFFER, `size` says how many bytes are needed, and the buffer stays: the call may be made again
+ * with a longer one. A call without a handle may be made with no buffer first, to learn the size.
+ */
+#ifndef FEVSTUNIK_H
+#define FEVSTUNIK_H
+
+#include <stdbool.h>
+#include <stddef.h>
+#include <stdint.h>
+
+#ifdef __cplusplus
+extern "C" {
+#endif
+
+/* ---- codes ---- */
+
+enum {
+    FEVSTUNIK_OK = 0,
+
+    /* Why a request is refused, in the order in which the causes are looked at: the first that holds is answered. `kerberos` has the
+     * code of RFC 4120, section 7.5.9, which is named here. */
+    FEVSTUNIK_MESSAGE_TYPE = 1,             /* 40: the first byte isn't that of a request */
+    FEVSTUNIK_MALFORMED = 2,                /* 60: the bytes are no request; `at` is where */
+    FEVSTUNIK_USER_TO_USER = 3,             /* 45: the option use-session-key is set */
+    FEVSTUNIK_TICKET_ETYPE = 4,             /* 14: the ticket is of an encryption type other than 19 and 20 */
+    FEVSTUNIK_NOT_US = 5,                   /* 35: the keytab has no entry of the service's name */
+    FEVSTUNIK_NO_KEY = 6,                   /* 45: no key of the ticket's encryption type is usable */
+    FEVSTUNIK_BAD_KEY_VERSION = 7,          /* 44: no such key has the ticket's version number */
+    FEVSTUNIK_TICKET_INTEGRITY = 8,         /* 31: the key doesn't open the ticket */
+    FEVSTUNIK_SESSION_KEY = 9,              /* 14: the ticket's session key isn't usable */
+    FEVSTUNIK_AUTHENTICATOR_INTEGRITY = 10, /* 31: the session key doesn't open the authenticator */
+    FEVSTUNIK_BAD_MATCH = 11,               /* 36: the authenticator names another client than the ticket */
+    FEVSTUNIK_SKEW = 12,                    /* 37: the clocks differ by more than the skew */
+    FEVSTUNIK_REPEAT = 13,                  /* 34: a request of this service, client and time was seen before */
+    FEVSTUNIK_NOT_YET_VALID = 14,           /* 33: the ticket begins later, or is marked invalid */
+    FEVSTUNIK_EXPIRED = 15,                 /* 32: the ticket has ended */
+    FEVSTUNIK_TRANSITED = 16,               /* 60: the client is of another realm, and no KDC checked the realms between */
+    FEVSTUNIK_AUTHORIZATION = 17,           /* 60: there is authorization data that may not be ignored */
+
+    /* What may come of many calls. */
+    FEVSTUNIK_OUT_OF_MEMORY = 18,  /* malloc or realloc gave nothing */
+    FEVSTUNIK_SHORT_BUFFER = 19,   /* `size` bytes are needed */
+    FEVSTUNIK_EMPTY_HANDLE = 20,   /* the handle holds nothing */
+    FEVSTUNIK_NOTHING_THERE = 21,  /* nothing was accepted by the last call, or no moment was told so far */
+    FEVSTUNIK_BAD_SKEW = 22,       /* more than 86,400 seconds */
+    FEVSTUNIK_BAD_MOMENT = 23,     /* outside the years 0000 to 9999, or 1,000,000 microseconds or more */
+    FEVSTUNIK_BAD_CONFOUNDER = 24, /* not 16 bytes */
+    FEVSTUNIK_KEY_TYPE = 25,       /* an encryption type other than 19 and 20 */
+    FEVSTUNIK_KEY_LENGTH = 26,     /* not 16 bytes (type 19) or 32 (type 20) */
+
+    /* What is wrong with a keytab. */
+    FEVSTUNIK_FILE_VERSION = 27,   /* it doesn't begin with 05 02 */
+    FEVSTUNIK_FILE_TRUNCATED = 29, /* it ends before the record at `at` does */
+    FEVSTUNIK_FILE_BAD_ITEM = 30,  /* the record at `at` holds no entry */
+    FEVSTUNIK_TOO_LONG = 31,       /* more than 16,777,216 bytes */
+
+    /* Why a text isn't opened, or a tag isn't its checksum. */
+    FEVSTUNIK_TEXT_SHORT = 42,    /* fewer bytes than a sealed empty text has: 32 (type 19) or 40 (type 20) */
+    FEVSTUNIK_TEXT_INTEGRITY = 43 /* the tag is wrong */
+};
+
+/* ---- what is handed in and out ---- */
+
+/* What a call answers. Numbers that don't go with the code are 0. */
+typedef struct fevstunik_answer {
+    uint32_t code;    /* one of the codes above */
+    int32_t kerberos; /* the error code of RFC 4120, section 7.5.9, that goes with it */
+    size_t at;        /* where a fault is, in bytes from the start of what was handed in */
+    size_t size;      /* how many bytes were written, or are needed */
+} fevstunik_answer;
+
+/* A moment: whole seconds from 1970-01-01T00:00:00Z on (leap seconds not counted), and microseconds after them. */
+typedef struct fevstunik_time {
+    int64_t seconds; /* -62,167,219,200 to 253,402,300,799 */
+    uint32_t micros; /* 0 to 999,999 */
+} fevstunik_time;
+
+/* A place in the buffer. */
+typedef struct fevstunik_span {
+    size_t at;
+    size_t size;
+} fevstunik_span;
+
+/* What is known of a request that was accepted. The spans are places in the buffer that was handed in beside it. */
+typedef struct fevstunik_known {
+    fevstunik_span client;      /* the client as text, as alice@EX; no zero byte ends it */
+    fevstunik_span session_key; /* the key that client and service share: 16 or 32 bytes */
+    fevstunik_span subkey;      /* the key that the client chose, if it did; of any length */
+    int64_t authtime;           /* when the client was authenticated, in seconds */
+    int64_t endtime;            /* until when the ticket is valid, in seconds */
+    int64_t ctime;              /* the client's time, in seconds */
+    uint32_t cusec;             /* and the microseconds after them */
+    uint32_t flags;             /* the ticket's flags; bit 0 of RFC 4120 is the most significant */
+    uint32_t seq;               /* the client's first sequence number, or 0 */
+    int32_t name_type;          /* the type of the client's name */
+    int32_t session_type;       /* the encryption type of the session key: 19 or 20 */
+    int32_t subkey_type;        /* the encryption type of the client's subkey, or 0; any type */
+    bool has_subkey;            /* whether the client chose a subkey */
+    bool has_seq;               /* whether it told a sequence number */
+    bool wants_reply;           /* whether it asks for a reply */
+} fevstunik_known;
+
+/* What a side chooses for its message. */
+typedef struct fevstunik_choice {
+    int32_t subkey_type; /* the encryption type of its subkey, 19 or 20, or 0 for no subkey */
+    uint32_t seq;        /* its first sequence number */
+    bool has_seq;        /* whether it tells the number */
+    bool wants_reply;    /* not looked at by a service */
+} fevstunik_choice;
+
+/* A service that takes requests: opaque, and all zero before its first use. */
+typedef struct fevstunik_acceptor {
+    void *opaque;
+} fevstunik_acceptor;
+
+/* ---- the service's side ---- */
+
+/* Makes the handle hold a service that decides by the keys of a keytab (the bytes of a file of version 0x0502) and by a skew of so many
+ * seconds (300 is usual), and that has seen nothing. What the handle held is freed. The keytab's bytes aren't needed afterwards.
+ *
+ * It is for a service that had no earlier life: one that lost its memory takes again what it took before, until the skew has passed.
+ *
+ * FEVSTUNIK_OK; FEVSTUNIK_BAD_SKEW; FEVSTUNIK_TOO_LONG, _FILE_VERSION, _FILE_TRUNCATED, _FILE_BAD_ITEM; FEVSTUNIK_OUT_OF_MEMORY.
+ * Where it isn't FEVSTUNIK_OK the handle is as before.
+ *
+ *     fevstunik_acceptor service = {0};
+ *     fevstunik_answer answer = fevstunik_acceptor_new(&service, file, file_size, 300);
+ */
+fevstunik_answer fevstunik_acceptor_new(fevstunik_acceptor *handle, const uint8_t *keytab, size_t keytab_size, uint32_t skew);
+
+/* Decides whether a request (the bytes of an AP-REQ) is accepted at a moment of the service's clock, and remembers what has to be
+ * remembered of it. Time doesn't go back: what counts is the latest moment that was handed in so far.
+ *
+ * What is accepted is kept until the next call of this function: fevstunik_acceptor_accepted tells it, and fevstunik_acceptor_reply
+ * replies to it. After any other answer nothing is kept.
+ *
+ * FEVSTUNIK_BAD_MOMENT, and the handle is as before; FEVSTUNIK_EMPTY_HANDLE; FEVSTUNIK_OK; a cause from FEVSTUNIK_MESSAGE_TYPE to
+ * FEVSTUNIK_AUTHORIZATION; FEVSTUNIK_OUT_OF_MEMORY, and then what is remembered and the latest moment are as before.
+ *
+ *     fevstunik_time now = {1700000101, 0};
+ *     if (fevstunik_acceptor_accept(&service, request, request_size, &now).code == FEVSTUNIK_OK) ...
+ */
+fevstunik_answer fevstunik_acceptor_accept(fevstunik_acceptor *handle, const uint8_t *request, size_t request_size,
+                                           const fevstunik_time *now);
+
+/* Tells what the last call of fevstunik_acceptor_accept accepted: in the buffer the client's text, the session key and the client's
+ * subkey, one after another, and in `known` where they stand, and the numbers. `known` is written also where the buffer is too short.
+ *
+ * FEVSTUNIK_EMPTY_HANDLE, FEVSTUNIK_NOTHING_THERE and FEVSTUNIK_OUT_OF_MEMORY, and nothing is written; FEVSTUNIK_OK;
+ * FEVSTUNIK_SHORT_BUFFER.
+ *
+ *     fevstunik_known known;
+ *     uint8_t buffer[4096];
+ *     fevstunik_answer answer = fevstunik_acceptor_accepted(&service, &known, buffer, sizeof buffer);
+ *     printf("%.*s\n", (int)known.client.size, (const char *)buffer + known.client.at);
+ */
+fevstunik_answer fevstunik_acceptor_accepted(fevstunik_acceptor *handle, fevstunik_known *known, uint8_t *buffer, size_t buffer_size);
+
+/* Builds the reply (the bytes of an AP-REP) to what the last call of fevstunik_acceptor_accept accepted. It is for a request whose
+ * `wants_reply` is true, at which it doesn't look. `confounder` is 16 random bytes, new for each call. `subkey` has the bytes of the
+ * subkey whose type `choice` tells; where that is 0 they aren't looked at.
+ *
+ * FEVSTUNIK_EMPTY_HANDLE, FEVSTUNIK_NOTHING_THERE, FEVSTUNIK_BAD_CONFOUNDER, FEVSTUNIK_KEY_TYPE, FEVSTUNIK_KEY_LENGTH and
+ * FEVSTUNIK_OUT_OF_MEMORY, and nothing is written; FEVSTUNIK_OK; FEVSTUNIK_SHORT_BUFFER. A reply has fewer than 256 bytes.
+ *
+ *     fevstunik_choice choice = {0, 0, false, false};
+ *     uint8_t reply[256];
+ *     answer = fevstunik_acceptor_reply(&service, random, 16, &choice, random, 0, reply, sizeof reply);
+ */
+fevstunik_answer fevstunik_acceptor_reply(fevstunik_acceptor *handle, const uint8_t *confounder, size_t confounder_size,
+                                          const fevstunik_choice *choice, const uint8_t *subkey, size_t subkey_size, uint8_t *buffer,
+                                          size_t buffer_size);
+
+/* Counts the requests that are remembered; none where the handle is empty. */
+size_t fevstunik_acceptor_count(fevstunik_acceptor *handle);
+
+/* Tells the latest moment that was handed in.
+ *
+ * FEVSTUNIK_EMPTY_HANDLE and FEVSTUNIK_NOTHING_THERE, and nothing is written; FEVSTUNIK_OK. */
+fevstunik_answer fevstunik_acceptor_latest(fevstunik_acceptor *handle, fevstunik_time *latest);
+
+/* Frees what the handle holds, which is empty then. An empty handle stays so. */
+void fevstunik_acceptor_free(fevstunik_acceptor *handle);
+
+/* ---- texts (RFC 8009, sections 5 and 6) ---- */
+
+/* Seals a plain text under a key (16 bytes for type 19, 32 for type 20) for a usage (RFC 4120, section 7.5.1). `confounder` is 16 random
+ * bytes, new for each call. The sealed text has 16 bytes and the plain text's, and 16 (type 19) or 24 (type 20).
+ *
+ * FEVSTUNIK_KEY_TYPE, FEVSTUNIK_KEY_LENGTH, FEVSTUNIK_BAD_CONFOUNDER and FEVSTUNIK_OUT_OF_MEMORY, and nothing is written;
+ * FEVSTUNIK_OK; FEVSTUNIK_SHORT_BUFFER.
+ *
+ *     answer = fevstunik_seal(19, key, 16, 1024, random, 16, text, text_size, buffer, sizeof buffer);
+ */
+fevstunik_answer fevstunik_seal(int32_t key_type, const uint8_t *key, size_t key_size, uint32_t usage, const uint8_t *confounder,
+                                size_t confounder_size, const uint8_t *plain, size_t plain_size, uint8_t *buffer, size_t buffer_size);
+
+/* Opens a text that was sealed under a key for a usage, and answers the plain text.
+ *
+ * FEVSTUNIK_KEY_TYPE, FEVSTUNIK_KEY_LENGTH, FEVSTUNIK_TEXT_SHORT, FEVSTUNIK_TEXT_INTEGRITY and FEVSTUNIK_OUT_OF_MEMORY, and nothing is
+ * written; FEVSTUNIK_OK; FEVSTUNIK_SHORT_BUFFER.
+ *
+ *     answer = fevstunik_open(19, key, 16, 1024, sealed, sealed_size, buffer, sizeof buffer);
+ */
+fevstunik_answer fevstunik_open(int32_t key_type, const uint8_t *key, size_t key_size, uint32_t usage, const uint8_t *text,
+                                size_t text_size, uint8_t *buffer, size_t buffer_size);
+
+/* Answers the checksum of a text under a key for a usage: 16 bytes (type 19) or 24 (type 20). It takes no memory.
+ *
+ * FEVSTUNIK_KEY_TYPE and FEVSTUNIK_KEY_LENGTH, and nothing is written; FEVSTUNIK_OK; FEVSTUNIK_SHORT_BUFFER.
+ *
+ *     uint8_t tag[24];
+ *     answer = fevstunik_checksum(20, key, 32, 1025, text, text_size, tag, sizeof tag);
+ */
+fevstunik_answer fevstunik_checksum(int32_t key_type, const uint8_t *key, size_t key_size, uint32_t usage, const uint8_t *text,
+                                    size_t text_size, uint8_t *buffer, size_t buffer_size);
+
+/* Looks whether a tag is the whole checksum of a text under a key for a usage. It takes no memory.
+ *
+ * FEVSTUNIK_KEY_TYPE, FEVSTUNIK_KEY_LENGTH; FEVSTUNIK_OK where it is; FEVSTUNIK_TEXT_INTEGRITY where it isn't.
+ *
+ *     if (fevstunik_checksum_check(20, key, 32, 1025, text, text_size, tag, 24).code == FEVSTUNIK_OK) ...
+ */
+fevstunik_answer fevstunik_checksum_check(int32_t key_type, const uint8_t *key, size_t key_size, uint32_t usage, const uint8_t *text,
+                                          size_t text_size, const uint8_t *tag, size_t tag_size);
+
+#ifdef __cplusplus
+}
+#endif
+
+#endif
