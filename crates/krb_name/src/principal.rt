@@ -43,11 +43,20 @@ impl Principal {
     pub fn to_text(&self, alloc: Global) -> Result<String, AllocError>
         ensures { IfOk result (λ text. string_bytes text ≡ text_of self.now) }
     {
-        let mut text = String::new(alloc);
+        let mut text = String::with_capacity(alloc, self.plain_len())?;
         write_components(&mut text, self.components.as_slice())?;
         text.push('@')?;
         write_escaped(&mut text, self.realm.as_slice())?;
         Ok(text)
+    }
+
+    // The length of the text where nothing in it is escaped, or one more.
+    fn plain_len(&self) -> usize {
+        let mut length = self.realm.len().saturating_add(1);
+        for component in self.components.as_slice() {
+            length = length.saturating_add(component.len()).saturating_add(1);
+        }
+        length
     }
 }
 

@@ -1,6 +1,6 @@
 //! Lines that are written one after another.
 
-ghost use Rattle.std.specs.Prelude.{◌≡◌, ◌⊎◌, ◌+◌, ◌-◌, ◌^◌, ◌<◌, ℕ, List, IfOk, IfErr, OnOk, OnErr, string_bytes};
+ghost use Rattle.std.specs.Prelude.{◌≡◌, ◌⊎◌, ◌+◌, ◌-◌, ◌^◌, ◌<◌, ◌++◌, ℕ, List, IfErr, OnOk, OnErr, string_bytes};
 ghost use Rattle.std.specs.Io.KnownBytes.{Appends};
 ghost use Rattle.std.specs.List.{flat_map};
 ghost use Rattle.krb_name.specs.Flow.{AppendsBeginning};
@@ -14,9 +14,9 @@ use std::alloc::{AllocError, Global};
 pub(crate) trait Line {
     ghost line: { Self → List ℕ };
 
-    /// Gives the line, with its end.
-    fn line(&self, alloc: Global) -> Result<String, AllocError>
-        ensures { IfOk result (λ text. string_bytes text ≡ line self.now) };
+    /// Writes the line, with its end, behind a text.
+    fn write_line(&self, alloc: Global, text: &mut String) -> Result<(), AllocError>
+        ensures { OnOk result (string_bytes text.new ≡ string_bytes text.old ++ line self.now) };
 }
 
 /// Writes the line of each item, in their order.
@@ -32,8 +32,10 @@ pub(crate) fn write_lines<L: Line, T: Sink>(
     ensures which { IfErr result (λ e. (e ≡ EngineFault.Write) ⊎ (e ≡ EngineFault.OutOfMemory)) }
     ensures writes { T.failure_count sink.new ≡ T.failure_count sink.old + failed_writes result }
 {
+    let mut line = String::new(alloc);
     for item in items {
-        let line = item.line(alloc)?;
+        line.clear();
+        item.write_line(alloc, &mut line)?;
         write_all(sink, line.as_bytes())?;
     }
     Ok(())

@@ -1,6 +1,6 @@
 //! The engines of `list-keytab` and `list-ccache`.
 
-ghost use Rattle.std.specs.Prelude.{◌≡◌, ◌⊎◌, ◌+◌, ◌-◌, ◌^◌, ◌<◌, ℕ, List, Some, Err, IfOk, IfErr, IfSome, OnOk, OnErr, string_bytes};
+ghost use Rattle.std.specs.Prelude.{◌≡◌, ◌⊎◌, ◌+◌, ◌-◌, ◌^◌, ◌<◌, ◌++◌, ◌∷◌, [], ℕ, List, Some, Err, IfOk, IfErr, IfSome, OnOk, OnErr, string_bytes};
 ghost use Rattle.std.specs.Io.KnownBytes.{Appends, Keeps};
 ghost use Rattle.krb_name.specs.Flow.{AppendsBeginning};
 ghost use Rattle.krb_ccache.specs.Format.{IsCache};
@@ -17,6 +17,7 @@ use krb_ccache::{CCache, Credential};
 use krb_keytab::{Entry, Keytab};
 use krb_name::{Principal, Sink, Source, write_all};
 use std::alloc::{AllocError, Global};
+use std::fmt::Write;
 
 /// Lists a keytab: writes a line for each entry, in the order of the file, with its key version
 /// number, encryption type, timestamp (seconds since 1970-01-01) and principal.
@@ -64,12 +65,12 @@ pub fn list_keytab<S: Source, T: Sink>(
 impl Line for Entry {
     ghost line = { keytab_line };
 
-    fn line(&self, alloc: Global) -> Result<String, AllocError> {
+    fn write_line(&self, alloc: Global, text: &mut String) -> Result<(), AllocError> {
         let kvno = self.kvno();
         let etype = self.etype();
         let timestamp = self.timestamp();
         let principal = self.principal().to_text(alloc)?;
-        format!(in alloc; "{kvno} {etype} {timestamp} {principal}\n")
+        write!(text, "{kvno} {etype} {timestamp} {principal}\n")
     }
 }
 
@@ -174,46 +175,59 @@ fn head_lines(
 impl Line for Credential {
     ghost line = { credential_line };
 
-    fn line(&self, alloc: Global) -> Result<String, AllocError> {
+    fn write_line(&self, alloc: Global, text: &mut String) -> Result<(), AllocError> {
         if CCache::is_configuration(self) {
-            config_line(alloc, self)
+            write_config(alloc, self, text)
         } else {
-            ticket_line(alloc, self)
+            write_ticket(alloc, self, text)
         }
     }
 }
 
-fn config_line(alloc: Global, credential: &Credential) -> Result<String, AllocError>
-    ensures { IfOk result (λ line. string_bytes line ≡ config_line credential.now) }
+fn write_config(
+    alloc: Global,
+    credential: &Credential,
+    text: &mut String,
+) -> Result<(), AllocError>
+    ensures { OnOk result (string_bytes text.new ≡ string_bytes text.old ++ config_line credential.now) }
 {
     let server = credential.server.to_text(alloc)?;
-    format!(in alloc; "config {server}\n")
+    write!(text, "config {server}\n")
 }
 
-fn ticket_line(alloc: Global, credential: &Credential) -> Result<String, AllocError>
-    ensures { IfOk result (λ line. string_bytes line ≡ ticket_line credential.now) }
+fn write_ticket(
+    alloc: Global,
+    credential: &Credential,
+    text: &mut String,
+) -> Result<(), AllocError>
+    ensures { OnOk result (string_bytes text.new ≡ string_bytes text.old ++ ticket_line credential.now) }
 {
     let etype = credential.etype;
-    let times = times(alloc, credential)?;
     let flags = hex::encode(alloc, credential.ticket_flags.to_be_bytes())?;
-    let names = names(alloc, credential)?;
-    format!(in alloc; "ticket {etype} {times} {flags} {names}\n")
+    write!(text, "ticket {etype} ")?;
+    write_times(credential, text)?;
+    write!(text, " {flags} ")?;
+    write_names(alloc, credential, text)
 }
 
-fn times(alloc: Global, credential: &Credential) -> Result<String, AllocError>
-    ensures { IfOk result (λ text. string_bytes text ≡ times_of credential.now) }
+fn write_times(credential: &Credential, text: &mut String) -> Result<(), AllocError>
+    ensures { OnOk result (string_bytes text.new ≡ string_bytes text.old ++ times_of credential.now) }
 {
     let authtime = credential.authtime;
     let starttime = credential.starttime;
     let endtime = credential.endtime;
     let renew_till = credential.renew_till;
-    format!(in alloc; "{authtime} {starttime} {endtime} {renew_till}")
+    write!(text, "{authtime} {starttime} {endtime} {renew_till}")
 }
 
-fn names(alloc: Global, credential: &Credential) -> Result<String, AllocError>
-    ensures { IfOk result (λ text. string_bytes text ≡ names_of credential.now) }
+fn write_names(
+    alloc: Global,
+    credential: &Credential,
+    text: &mut String,
+) -> Result<(), AllocError>
+    ensures { OnOk result (string_bytes text.new ≡ string_bytes text.old ++ (names_of credential.now ++ 10 ∷ [])) }
 {
     let client = credential.client.to_text(alloc)?;
     let server = credential.server.to_text(alloc)?;
-    format!(in alloc; "{client} {server}")
+    write!(text, "{client} {server}\n")
 }
