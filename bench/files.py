@@ -114,16 +114,36 @@ def empty_cache(limit):
     return b"\x05\x04\x00\x00" + bytes(12) + many_components(bytes(12) + name, data32(b""), rest, limit)
 
 
+def keytab_of_long_records(limit, size):
+    """Records of so many bytes, with components of 60,000."""
+    parts = (size - 200) // 60_002
+    body = struct.pack(">H", parts + 1) + data16(b"EXAMPLE.TEST") + data16(bytes(60_000)) * parts
+    end = struct.pack(">iIBh", 1, 0, 1, 19) + data16(bytes(16))
+    body += data16(bytes(size - 4 - 2 - len(body) - len(end))) + end
+    return b"\x05\x02" + (struct.pack(">i", len(body)) + body) * ((limit - 2) // size)
+
+
+def cache_of_long_credentials(limit, size):
+    """Credentials of so many bytes, with one ticket each."""
+    head = principal(b"alice") + principal(b"host", b"web.example.test") + struct.pack(">h", 20) + data32(bytes(32))
+    head += struct.pack(">4I", 1, 1, 1, 1) + struct.pack(">BI", 0, 0) + struct.pack(">II", 0, 0)
+    one = head + data32(bytes(size - len(head) - 8)) + data32(b"")
+    start = b"\x05\x04\x00\x00" + principal(b"alice")
+    return start + one * ((limit - len(start)) // size)
+
+
 def at_the_limit(launcher, word, path, files):
-    """How much memory a command takes on files, as a multiple of their size; on a file of nothing it is what the program itself takes."""
+    """How much memory a command takes on files, as a multiple of their size, and how much more than on the first, which is one of nothing."""
+    own = None
     for name, data in files.items():
         path.write_bytes(data)
         done = subprocess.run([launcher, word[0], word[1], str(path)], capture_output=True, text=True)
         if done.returncode:
             sys.exit(f"{word} on {name} ended with {done.returncode}")
         used = int(done.stdout)
-        times = f"{used / len(data):.1f} times the file" if name != "nothing" else ""
-        print(f"| {word[1]}, memory at {len(data):,} bytes, {name} | {used:,} bytes | | {times} |")
+        own = own or used
+        more = f"{used / len(data):.1f} times the file, {used - own:,} bytes more than for nothing" if name != "nothing" else ""
+        print(f"| {word[1]}, memory at {len(data):,} bytes, {name} | {used:,} bytes | | {more} |")
 
 
 def tables(program):
@@ -140,12 +160,14 @@ def tables(program):
         growing((program, "list-keytab"), keys, keytab, most)
         for word in ("list-keytab", "check-keytab"):
             at_the_limit(launcher, (program, word), keys, {
-                "nothing": keytab(0), "large": keytab(most), "smallest records": small_keytab(LIMIT), "empty components": empty_keytab(LIMIT)})
+                "nothing": keytab(0), "large": keytab(most), "smallest records": small_keytab(LIMIT), "empty components": empty_keytab(LIMIT),
+                "records of 1 MiB": keytab_of_long_records(LIMIT, 1 << 20)})
         most = (LIMIT - 100) // len(credential(99_999))
         growing((program, "list-ccache"), tickets, cache, most)
         for word in ("list-ccache", "check-ccache"):
             at_the_limit(launcher, (program, word), tickets, {
-                "nothing": cache(0), "large": cache(most), "smallest credentials": small_cache(LIMIT), "empty components": empty_cache(LIMIT)})
+                "nothing": cache(0), "large": cache(most), "smallest credentials": small_cache(LIMIT), "empty components": empty_cache(LIMIT),
+                "credentials of 1 MiB": cache_of_long_credentials(LIMIT, 1 << 20)})
 
 
 if __name__ == "__main__":

@@ -1,5 +1,5 @@
 -- What one step of a reader takes of its source.
-use Rattle.std.proofs.Common.{◌≡◌, ℕ, ◌+◌, ◌≤◌, List, [], ◌++◌, length, Option, Some, None, refl, sym, ap, subst, ◌∙◌, append-nil, arith, inl, inr}
+use Rattle.std.proofs.Common.{◌≡◌, ℕ, ◌+◌, ◌≤◌, List, [], ◌++◌, length, Option, Some, None, refl, sym, ap, subst, ◌∙◌, append_assoc, append-nil, arith, inl, inr}
 use Rattle.std.specs.Io.KnownBytes.{Consumes}
 use Rattle.std.proofs.KnownBytes.{Consumes-trans}
 use Rattle.std.proofs.lemmas.List.{length-append, nil_from_length}
@@ -11,8 +11,11 @@ use Rattle.krb_ccache.specs.declared.item_fault.ItemFault.{ItemFault}
 use Rattle.krb_ccache.specs.declared.item_fault.ItemFault.TheVariants as item
 use Rattle.krb_ccache.specs.declared.walking.Stop.{Stop}
 use Rattle.krb_ccache.specs.declared.walking.Stop.TheVariants as stop
+use Rattle.krb_ccache.specs.Reader.{HeldPart}
+use Rattle.krb_ccache.specs.Value.{FitsCredential}
+use Rattle.krb_ccache.specs.declared.credential.Credential.{Credential}
 use Rattle.krb_ccache.specs.Inner.Standing.{IsMissing}
-use Rattle.krb_ccache.specs.Inner.Walking.{Walks, Stops, Halts}
+use Rattle.krb_ccache.specs.Inner.Walking.{Walks, Halts, FitsMarked, whole}
 use Rattle.krb_ccache.specs.Inner.Stepping.{item_stop, Stands, cleared, Comes, Gives, Runs, IsTold, Lacks, Misses}
 use Rattle.krb_ccache.specs.Format.{version, Layout, version_4, version_of}
 use Rattle.krb_ccache.specs.Inner.Stepping.{Any}
@@ -59,7 +62,8 @@ module _ {X S : Type 0} (s : X → List ℕ) (P : X → Type 0) (left : S → Op
     where
       by_fault : (f : ItemFault) → (f ≡ item.Missing → IsMissing s P new.bytes) → Halts s P left (cleared old) new (item_stop f)
       by_fault item.Missing m = missed old new (started old start new w e) (m refl)
-      by_fault item.OutOfMemory m = let walks = started old start new w e in record { piece = walks.piece; keeps = walks.keeps; within = walks.within }
+      by_fault item.OutOfMemory m = let walks = started old start new w e in
+          record { piece = walks.piece; keeps = walks.keeps; within = walks.within; count = 0; wants = λ x more others p same. omega (arith, walks.spans x more others p same); cant_come = tt }
 
   some_given : (old new : AtHand S) (piece : List ℕ) → Keeps (left old.source) (left new.source) (cleared old) new piece → new.given ≤ file_limit → Gives left old new piece
   some_given old new piece k within = record {
@@ -80,7 +84,7 @@ module _ {X S : Type 0} (s : X → List ℕ) (P : X → Type 0) (left : S → Op
   }
 
   -- where the end came, or the limit was passed, no such thing stands within the limit
-  ended : (old new : AtHand S) → Stops s P left (cleared old) new stop.End → Lacks s P left old new
+  ended : (old new : AtHand S) → Halts s P left (cleared old) new stop.End → Lacks s P left old new
   ended old new h = record {
     bytes = h.piece;
     gives = some_given old new h.piece h.keeps h.within;
@@ -88,7 +92,7 @@ module _ {X S : Type 0} (s : X → List ℕ) (P : X → Type 0) (left : S → Op
     missing = λ x others p le e. omega (arith, h.wants x [] others p (append-nil h.piece ∙ e), h.cant_come.1, ap length e, length-append (s x) others);
   }
 
-  ran : (old middle new : AtHand S) → Stops s P left (cleared old) middle stop.Long → Runs left middle new → Lacks s P left old new
+  ran : (old middle new : AtHand S) → Halts s P left (cleared old) middle stop.Long → Runs left middle new → Lacks s P left old new
   ran old middle new h r = record {
     bytes = h.piece ++ r.piece;
     gives = then_run old middle new h.piece h.keeps h.within r;
@@ -97,10 +101,7 @@ module _ {X S : Type 0} (s : X → List ℕ) (P : X → Type 0) (left : S → Op
   }
 
   halted : (old new : AtHand S) (stop : Stop) → Halts s P left (cleared old) new stop → (bytes : List ℕ) × Gives left old new bytes
-  halted old new stop.End h = (h.piece, some_given old new h.piece h.keeps h.within)
-  halted old new stop.Long h = (h.piece, some_given old new h.piece h.keeps h.within)
-  halted old new stop.Read h = (h.piece, some_given old new h.piece h.keeps h.within)
-  halted old new stop.OutOfMemory h = (h.piece, some_given old new h.piece h.keeps h.within)
+  halted old new stop h = (h.piece, some_given old new h.piece h.keeps h.within)
 
   pub misses : (old middle new : AtHand S) (stop : Stop) (fault told : CacheFault) → Halts s P left (cleared old) middle stop → IsTold left middle new stop fault told → Misses s P left old new fault told
   misses old middle new stop.End fault told h t = subst (λ (w : AtHand S). Misses s P left old w fault told) (sym t.1) (record {
@@ -147,3 +148,39 @@ pub not_version : (bytes : List ℕ) → length bytes ≡ 2 → (bytes ≡ versi
 not_version bytes len not version_4 others any e =
     let none : others ≡ [] = nil_from_length others (omega (arith, len, ap length e, length-append version others)) in
     not (e ∙ ap (λ (t : List ℕ). version ++ t) none)
+
+-- ---- how much of a credential was at hand
+
+module _ {S : Type 0} (left : S → Option (List ℕ)) where
+  part_kept : (old start new : AtHand S) (piece : List ℕ) → Keeps (left start.source) (left new.source) start new piece → start ≡ cleared old
+      → ((credential : Credential) (mark : ℕ) (more others : List ℕ) → FitsCredential credential → piece ++ more ≡ whole (credential, mark) ++ others → length piece ≤ length (whole (credential, mark)))
+      → HeldPart (left old.source) (left new.source) old.peak new.peak
+  part_kept old start new piece keeps e no_longer =
+      let k = subst (λ (t : AtHand S). Keeps (left t.source) (left new.source) t new piece) e keeps in
+      record {
+        part = piece;
+        after = [];
+        given = subst (λ (t : List ℕ). Consumes (left old.source) (left new.source) t) (sym (append-nil piece)) k.consumed;
+        no_longer = no_longer;
+        held = omega (arith, k.peak, ap length k.bytes);
+      }
+
+  pub part_walked : (old start new : AtHand S) → Walks whole FitsMarked left start new → start ≡ cleared old → HeldPart (left old.source) (left new.source) old.peak new.peak
+  part_walked old start new w e = part_kept old start new w.piece w.keeps e (λ credential mark more others p same. omega (arith, w.spans (credential, mark) more others p same))
+
+  pub part_halted : (old start new : AtHand S) (stop : Stop) → Halts whole FitsMarked left start new stop → start ≡ cleared old → HeldPart (left old.source) (left new.source) old.peak new.peak
+  part_halted old start new stop h e = part_kept old start new h.piece h.keeps e (λ credential mark more others p same. omega (arith, h.wants (credential, mark) more others p same))
+
+  pub part_told : (old middle new : AtHand S) (stop : Stop) (fault told : CacheFault) → HeldPart (left old.source) (left middle.source) old.peak middle.peak → IsTold left middle new stop fault told
+      → HeldPart (left old.source) (left new.source) old.peak new.peak
+  part_told old middle new stop.End fault told h t = subst (λ (w : AtHand S). HeldPart (left old.source) (left w.source) old.peak w.peak) (sym t.1) h
+  part_told old middle new stop.Long fault told h t = record {
+    part = h.part;
+    after = h.after ++ t.0.piece;
+    given = subst (λ (l : List ℕ). Consumes (left old.source) (left new.source) l) (append_assoc h.part h.after t.0.piece)
+        (Consumes-trans (left old.source) (left middle.source) (left new.source) (h.part ++ h.after) t.0.piece h.given t.0.skips.consumed);
+    no_longer = h.no_longer;
+    held = omega (arith, h.held, t.0.skips.peak);
+  }
+  part_told old middle new stop.Read fault told h t = subst (λ (w : AtHand S). HeldPart (left old.source) (left w.source) old.peak w.peak) (sym t.1) h
+  part_told old middle new stop.OutOfMemory fault told h t = subst (λ (w : AtHand S). HeldPart (left old.source) (left w.source) old.peak w.peak) (sym t.1) h

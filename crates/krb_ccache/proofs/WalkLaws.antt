@@ -8,8 +8,8 @@ use Rattle.krb_name.specs.Window.{AtHand, Keeps}
 use Rattle.krb_name.specs.Cursor.{number_bytes}
 use Rattle.krb_ccache.specs.Format.{file_limit}
 use Rattle.krb_ccache.specs.declared.walking.Stop.{Stop}
-use Rattle.krb_ccache.specs.declared.walking.Stop.TheVariants.{End, Long, Read, OutOfMemory}
-use Rattle.krb_ccache.specs.Inner.Walking.{Spans, Wants, Walks, Stops, Halts, IsWalk, last_number}
+use Rattle.krb_ccache.specs.declared.walking.Stop.TheVariants.{Long}
+use Rattle.krb_ccache.specs.Inner.Walking.{Spans, Wants, Walks, Halts, IsWalk, last_number}
 
 -- ---- lists
 
@@ -66,7 +66,7 @@ module _ {S : Type 0} (left : S → Option (List ℕ)) where
   joined old middle new front bytes p q = keeps_then (left old.source) (left middle.source) (left new.source) old middle new front bytes p q
 
   -- so many bytes would pass the limit
-  pub nothing_comes : (old : AtHand S) (count : ℕ) → length old.bytes ≤ old.peak → old.given ≤ file_limit → file_limit - old.given < count → Stops (λ (x : List ℕ). x) (λ (x : List ℕ). length x ≡ count) left old old Long
+  pub nothing_comes : (old : AtHand S) (count : ℕ) → length old.bytes ≤ old.peak → old.given ≤ file_limit → file_limit - old.given < count → Halts (λ (x : List ℕ). x) (λ (x : List ℕ). length x ≡ count) left old old Long
   nothing_comes old count peak within long = record {
     piece = [];
     keeps = record { consumed = Consumes-nil (left old.source); bytes = sym (append-nil old.bytes); peak = omega (arith, peak); given = omega arith };
@@ -83,7 +83,7 @@ module _ {S : Type 0} (left : S → Option (List ℕ)) where
     part_walks old new w = record { piece = w.piece; keeps = w.keeps; within = w.within; spans = λ y more others q e. w.spans (part y) more others (in_part y q) e }
 
     part_halts : (old new : AtHand S) (stop : Stop) → Halts s P left old new stop → Halts (λ (y : Y). s (part y)) Q left old new stop
-    part_halts old new End h = record {
+    part_halts old new stop h = record {
       piece = h.piece;
       keeps = h.keeps;
       within = h.within;
@@ -91,16 +91,6 @@ module _ {S : Type 0} (left : S → Option (List ℕ)) where
       wants = λ y more others q e. h.wants (part y) more others (in_part y q) e;
       cant_come = h.cant_come;
     }
-    part_halts old new Long h = record {
-      piece = h.piece;
-      keeps = h.keeps;
-      within = h.within;
-      count = h.count;
-      wants = λ y more others q e. h.wants (part y) more others (in_part y q) e;
-      cant_come = h.cant_come;
-    }
-    part_halts old new Read h = record { piece = h.piece; keeps = h.keeps; within = h.within }
-    part_halts old new OutOfMemory h = record { piece = h.piece; keeps = h.keeps; within = h.within }
 
     pub walk_of : {T : Type 0} (old new : AtHand S) (result : Result T Stop) → IsWalk s P left old new result → IsWalk (λ (y : Y). s (part y)) Q left old new result
     walk_of old new (Ok x) w = part_walks old new w
@@ -109,7 +99,7 @@ module _ {S : Type 0} (left : S → Option (List ℕ)) where
   -- the same spelling in other words
   module _ {X : Type 0} (s t : X → List ℕ) (P : X → Type 0) (same : (x : X) → t x ≡ s x) where
     pub halts_same : (old new : AtHand S) (stop : Stop) → Halts s P left old new stop → Halts t P left old new stop
-    halts_same old new End h = record {
+    halts_same old new stop h = record {
       piece = h.piece;
       keeps = h.keeps;
       within = h.within;
@@ -117,16 +107,6 @@ module _ {S : Type 0} (left : S → Option (List ℕ)) where
       wants = λ x more others p e. omega (arith, h.wants x more others p (e ∙ ap (λ (l : List ℕ). l ++ others) (same x)), ap length (same x));
       cant_come = h.cant_come;
     }
-    halts_same old new Long h = record {
-      piece = h.piece;
-      keeps = h.keeps;
-      within = h.within;
-      count = h.count;
-      wants = λ x more others p e. omega (arith, h.wants x more others p (e ∙ ap (λ (l : List ℕ). l ++ others) (same x)), ap length (same x));
-      cant_come = h.cant_come;
-    }
-    halts_same old new Read h = record { piece = h.piece; keeps = h.keeps; within = h.within }
-    halts_same old new OutOfMemory h = record { piece = h.piece; keeps = h.keeps; within = h.within }
 
     pub walk_same : {T : Type 0} (old new : AtHand S) (result : Result T Stop) → IsWalk s P left old new result → IsWalk t P left old new result
     walk_same old new (Ok y) w = record {
@@ -142,7 +122,7 @@ module _ {S : Type 0} (left : S → Option (List ℕ)) where
   module _ {X : Type 0} (one other : X → List ℕ) (P Q : X → Type 0) where
     -- the first part doesn't come whole
     halts_first : (old new : AtHand S) (stop : Stop) → Halts one P left old new stop → Halts (both one other P Q) P left old new stop
-    halts_first old new End h = record {
+    halts_first old new stop h = record {
       piece = h.piece;
       keeps = h.keeps;
       within = h.within;
@@ -150,16 +130,6 @@ module _ {S : Type 0} (left : S → Option (List ℕ)) where
       wants = wants_first one other P Q h.piece h.count h.wants;
       cant_come = h.cant_come;
     }
-    halts_first old new Long h = record {
-      piece = h.piece;
-      keeps = h.keeps;
-      within = h.within;
-      count = h.count;
-      wants = wants_first one other P Q h.piece h.count h.wants;
-      cant_come = h.cant_come;
-    }
-    halts_first old new Read h = record { piece = h.piece; keeps = h.keeps; within = h.within }
-    halts_first old new OutOfMemory h = record { piece = h.piece; keeps = h.keeps; within = h.within }
 
     -- the other comes, or doesn't
     walk_then : {T : Type 0} (old middle new : AtHand S) (result : Result T Stop) → (w : Walks one P left old middle) → ((x : X) → P x → w.piece ≡ one x → Q x) → IsWalk other Q left middle new result
@@ -170,7 +140,7 @@ module _ {S : Type 0} (left : S → Option (List ℕ)) where
       within = h.within;
       spans = spans_then one other P Q w.piece w.spans known h.piece h.spans;
     }
-    walk_then old middle new (Err End) w known h = record {
+    walk_then old middle new (Err stop) w known h = record {
       piece = w.piece ++ h.piece;
       keeps = joined old middle new w.piece h.piece w.keeps h.keeps;
       within = h.within;
@@ -178,16 +148,6 @@ module _ {S : Type 0} (left : S → Option (List ℕ)) where
       wants = wants_then one other P Q w.piece w.spans known h.piece h.count h.wants;
       cant_come = h.cant_come;
     }
-    walk_then old middle new (Err Long) w known h = record {
-      piece = w.piece ++ h.piece;
-      keeps = joined old middle new w.piece h.piece w.keeps h.keeps;
-      within = h.within;
-      count = h.count;
-      wants = wants_then one other P Q w.piece w.spans known h.piece h.count h.wants;
-      cant_come = h.cant_come;
-    }
-    walk_then old middle new (Err Read) w known h = record { piece = w.piece ++ h.piece; keeps = joined old middle new w.piece h.piece w.keeps h.keeps; within = h.within }
-    walk_then old middle new (Err OutOfMemory) w known h = record { piece = w.piece ++ h.piece; keeps = joined old middle new w.piece h.piece w.keeps h.keeps; within = h.within }
 
   -- a part, and what lies behind it
   module _ {X Y : Type 0} (s : X → List ℕ) (P : X → Type 0) (part : Y → X) (other : Y → List ℕ) (Q : Y → Type 0) (in_part : (y : Y) → Q y → P (part y)) where

@@ -1,6 +1,6 @@
 -- How a walk goes over the parts of a cache.
-use Rattle.std.proofs.Common.{◌≡◌, ℕ, ◌<◌, ◌^◌, Bool, true, false, List, ◌++◌, length, Option, Result, refl}
-use Rattle.std.specs.Int.{w16, w32}
+use Rattle.std.proofs.Common.{◌≡◌, ℕ, ◌<◌, ◌^◌, Bool, true, false, List, ◌++◌, length, Option, Result, refl, ap}
+use Rattle.std.specs.Int.{w8, w16, w32}
 use Rattle.std.specs.List.{flat_map}
 use Rattle.std.proofs.lemmas.List.Elements.{recursion_from_All}
 use Rattle.krb_name.specs.Window.{AtHand}
@@ -10,9 +10,9 @@ use Rattle.krb_ccache.specs.declared.typed.TypedBytes.{TypedBytes}
 use Rattle.krb_ccache.specs.declared.credential.HeaderField.{HeaderField}
 use Rattle.krb_ccache.specs.declared.credential.Credential.{Credential}
 use Rattle.krb_ccache.specs.declared.walking.Stop.{Stop}
-use Rattle.krb_ccache.specs.Spelling.{fields_bytes, header_bytes, name_bytes, flag_bytes, typed_bytes, list_bytes, credential_bytes}
+use Rattle.krb_ccache.specs.Spelling.{fields_bytes, header_bytes, name_bytes, flag_bytes, typed_bytes, list_bytes, marked_bytes, credential_bytes}
 use Rattle.krb_ccache.specs.Value.{FitsHeader, FitsName, FitsList, FitsCredential}
-use Rattle.krb_ccache.specs.Inner.Walking.{Counted, Walks, Halts, IsWalk, last_number, from_key, from_times, from_ticket}
+use Rattle.krb_ccache.specs.Inner.Walking.{Counted, Walks, Halts, IsWalk, last_number, Marked, FitsMarked, whole, from_key, from_times, from_ticket}
 use Rattle.krb_ccache.proofs.PartLaws.{Short32}
 use Rattle.krb_ccache.proofs.WalkLaws.{walk_of, walk_same, halts_same, part_then, part_first, number_then, number_first, len16, len32, back16, back32}
 
@@ -35,40 +35,42 @@ from_count name = number_bytes w32 (length name.components) ++ from_realm name
 abbrev FitsCount : ℕ → Principal → Type 0
 FitsCount count name = FitsName name × (length name.components ≡ count)
 
-abbrev times : Credential → List ℕ
+abbrev times : Marked → List ℕ
 times c =
-    number_bytes w32 c.authtime ++ (number_bytes w32 c.starttime ++ (number_bytes w32 c.endtime ++ (number_bytes w32 c.renew_till ++ (flag_bytes c.is_skey ++ number_bytes w32 c.ticket_flags))))
+    number_bytes w32 c.0.authtime ++ (number_bytes w32 c.0.starttime ++ (number_bytes w32 c.0.endtime ++ (number_bytes w32 c.0.renew_till ++ (number_bytes w8 c.1 ++ number_bytes w32 c.0.ticket_flags))))
 
-abbrev from_authdata : Credential → List ℕ
-from_authdata c = list_bytes c.authdata ++ from_ticket c
+abbrev from_authdata : Marked → List ℕ
+from_authdata c = list_bytes c.0.authdata ++ from_ticket c
 
-abbrev from_addresses : Credential → List ℕ
-from_addresses c = list_bytes c.addresses ++ from_authdata c
+abbrev from_addresses : Marked → List ℕ
+from_addresses c = list_bytes c.0.addresses ++ from_authdata c
 
-abbrev second_of : Credential → List ℕ
-second_of c = data_bytes w32 c.second_ticket
+abbrev second_of : Marked → List ℕ
+second_of c = data_bytes w32 c.0.second_ticket
 
-abbrev from_data : Credential → List ℕ
-from_data c = data_bytes w32 c.key ++ from_times c
+abbrev from_data : Marked → List ℕ
+from_data c = data_bytes w32 c.0.key ++ from_times c
 
-abbrev from_server : Credential → List ℕ
-from_server c = name_bytes c.server ++ from_key c
+abbrev from_server : Marked → List ℕ
+from_server c = name_bytes c.0.server ++ from_key c
 
-times_length : (c : Credential) → length (times c) ≡ 21
-times_length c = flagged c.is_skey
+times_length : (c : Marked) → length (times c) ≡ 21
+times_length c = refl
+
+times_joined : (c : Marked) → from_times c ≡ times c ++ from_addresses c
+times_joined c = refl
+
+mark_of : Bool → ℕ
+mark_of true = 1
+mark_of false = 0
+
+mark_is : (c : Credential) → credential_bytes c ≡ whole (c, mark_of c.is_skey)
+unfolding mark_of
+mark_is c = ap (marked_bytes c) (flag c.is_skey)
   where
-    flagged : (b : Bool) → length (number_bytes w32 c.authtime ++ (number_bytes w32 c.starttime ++ (number_bytes w32 c.endtime ++ (number_bytes w32 c.renew_till ++ (flag_bytes b ++ number_bytes w32 c.ticket_flags))))) ≡ 21
-    flagged true = refl
-    flagged false = refl
-
-times_joined : (c : Credential) → from_times c ≡ times c ++ from_addresses c
-times_joined c = flagged c.is_skey
-  where
-    flagged : (b : Bool)
-        → number_bytes w32 c.authtime ++ (number_bytes w32 c.starttime ++ (number_bytes w32 c.endtime ++ (number_bytes w32 c.renew_till ++ (flag_bytes b ++ (number_bytes w32 c.ticket_flags ++ from_addresses c)))))
-        ≡ (number_bytes w32 c.authtime ++ (number_bytes w32 c.starttime ++ (number_bytes w32 c.endtime ++ (number_bytes w32 c.renew_till ++ (flag_bytes b ++ number_bytes w32 c.ticket_flags))))) ++ from_addresses c
-    flagged true = refl
-    flagged false = refl
+    flag : (b : Bool) → flag_bytes b ≡ number_bytes w8 (mark_of b)
+    flag true = refl
+    flag false = refl
 
 module _ {S : Type 0} (left : S → Option (List ℕ)) where
   abbrev Of : ℕ → AtHand S → AtHand S → Type 0
@@ -145,56 +147,63 @@ module _ {S : Type 0} (left : S → Option (List ℕ)) where
 
   -- ---- a credential
 
-  pub client_then : {T : Type 0} (old middle new : AtHand S) (result : Result T Stop) → Walks name_bytes FitsName left old middle → IsWalk from_server FitsCredential left middle new result → IsWalk credential_bytes FitsCredential left old new result
-  client_then old middle new result w h = part_then left name_bytes FitsName (λ (c : Credential). c.client) from_server FitsCredential (λ c p. p.client) old middle new result w h
+  pub client_then : {T : Type 0} (old middle new : AtHand S) (result : Result T Stop) → Walks name_bytes FitsName left old middle → IsWalk from_server FitsMarked left middle new result → IsWalk whole FitsMarked left old new result
+  client_then old middle new result w h = part_then left name_bytes FitsName (λ (c : Marked). c.0.client) from_server FitsMarked (λ c p. p.client) old middle new result w h
 
-  pub client_first : (old new : AtHand S) (stop : Stop) → Halts name_bytes FitsName left old new stop → Halts credential_bytes FitsCredential left old new stop
-  client_first old new stop h = part_first left name_bytes FitsName (λ (c : Credential). c.client) from_server FitsCredential (λ c p. p.client) old new stop h
+  pub client_first : (old new : AtHand S) (stop : Stop) → Halts name_bytes FitsName left old new stop → Halts whole FitsMarked left old new stop
+  client_first old new stop h = part_first left name_bytes FitsName (λ (c : Marked). c.0.client) from_server FitsMarked (λ c p. p.client) old new stop h
 
-  pub server_then : {T : Type 0} (old middle new : AtHand S) (result : Result T Stop) → Walks name_bytes FitsName left old middle → IsWalk from_key FitsCredential left middle new result → IsWalk from_server FitsCredential left old new result
-  server_then old middle new result w h = part_then left name_bytes FitsName (λ (c : Credential). c.server) from_key FitsCredential (λ c p. p.server) old middle new result w h
+  pub server_then : {T : Type 0} (old middle new : AtHand S) (result : Result T Stop) → Walks name_bytes FitsName left old middle → IsWalk from_key FitsMarked left middle new result → IsWalk from_server FitsMarked left old new result
+  server_then old middle new result w h = part_then left name_bytes FitsName (λ (c : Marked). c.0.server) from_key FitsMarked (λ c p. p.server) old middle new result w h
 
-  pub server_first : (old new : AtHand S) (stop : Stop) → Halts name_bytes FitsName left old new stop → Halts from_server FitsCredential left old new stop
-  server_first old new stop h = part_first left name_bytes FitsName (λ (c : Credential). c.server) from_key FitsCredential (λ c p. p.server) old new stop h
+  pub server_first : (old new : AtHand S) (stop : Stop) → Halts name_bytes FitsName left old new stop → Halts from_server FitsMarked left old new stop
+  server_first old new stop h = part_first left name_bytes FitsName (λ (c : Marked). c.0.server) from_key FitsMarked (λ c p. p.server) old new stop h
 
-  pub etype_then : {T : Type 0} (old middle new : AtHand S) (result : Result T Stop) → Of 2 old middle → IsWalk from_data FitsCredential left middle new result → IsWalk from_key FitsCredential left old new result
-  etype_then old middle new result w h = part_then left (λ (x : List ℕ). x) (λ (x : List ℕ). length x ≡ 2) (λ (c : Credential). signed_bytes w16 c.etype) from_data FitsCredential (λ c p. refl) old middle new result w h
+  pub etype_then : {T : Type 0} (old middle new : AtHand S) (result : Result T Stop) → Of 2 old middle → IsWalk from_data FitsMarked left middle new result → IsWalk from_key FitsMarked left old new result
+  etype_then old middle new result w h = part_then left (λ (x : List ℕ). x) (λ (x : List ℕ). length x ≡ 2) (λ (c : Marked). signed_bytes w16 c.0.etype) from_data FitsMarked (λ c p. refl) old middle new result w h
 
-  pub etype_first : (old new : AtHand S) (stop : Stop) → HaltOf 2 old new stop → Halts from_key FitsCredential left old new stop
-  etype_first old new stop h = part_first left (λ (x : List ℕ). x) (λ (x : List ℕ). length x ≡ 2) (λ (c : Credential). signed_bytes w16 c.etype) from_data FitsCredential (λ c p. refl) old new stop h
+  pub etype_first : (old new : AtHand S) (stop : Stop) → HaltOf 2 old new stop → Halts from_key FitsMarked left old new stop
+  etype_first old new stop h = part_first left (λ (x : List ℕ). x) (λ (x : List ℕ). length x ≡ 2) (λ (c : Marked). signed_bytes w16 c.0.etype) from_data FitsMarked (λ c p. refl) old new stop h
 
-  pub key_then : {T : Type 0} (old middle new : AtHand S) (result : Result T Stop) → Walks (data_bytes w32) Short32 left old middle → IsWalk from_times FitsCredential left middle new result → IsWalk from_data FitsCredential left old new result
-  key_then old middle new result w h = part_then left (data_bytes w32) Short32 (λ (c : Credential). c.key) from_times FitsCredential (λ c p. p.key) old middle new result w h
+  pub key_then : {T : Type 0} (old middle new : AtHand S) (result : Result T Stop) → Walks (data_bytes w32) Short32 left old middle → IsWalk from_times FitsMarked left middle new result → IsWalk from_data FitsMarked left old new result
+  key_then old middle new result w h = part_then left (data_bytes w32) Short32 (λ (c : Marked). c.0.key) from_times FitsMarked (λ c p. p.key) old middle new result w h
 
-  pub key_first : (old new : AtHand S) (stop : Stop) → Halts (data_bytes w32) Short32 left old new stop → Halts from_data FitsCredential left old new stop
-  key_first old new stop h = part_first left (data_bytes w32) Short32 (λ (c : Credential). c.key) from_times FitsCredential (λ c p. p.key) old new stop h
+  pub key_first : (old new : AtHand S) (stop : Stop) → Halts (data_bytes w32) Short32 left old new stop → Halts from_data FitsMarked left old new stop
+  key_first old new stop h = part_first left (data_bytes w32) Short32 (λ (c : Marked). c.0.key) from_times FitsMarked (λ c p. p.key) old new stop h
 
-  pub addresses_then : {T : Type 0} (old middle new : AtHand S) (result : Result T Stop) → Walks list_bytes FitsList left old middle → IsWalk from_authdata FitsCredential left middle new result → IsWalk from_addresses FitsCredential left old new result
-  addresses_then old middle new result w h = part_then left list_bytes FitsList (λ (c : Credential). c.addresses) from_authdata FitsCredential (λ c p. p.addresses) old middle new result w h
+  pub addresses_then : {T : Type 0} (old middle new : AtHand S) (result : Result T Stop) → Walks list_bytes FitsList left old middle → IsWalk from_authdata FitsMarked left middle new result → IsWalk from_addresses FitsMarked left old new result
+  addresses_then old middle new result w h = part_then left list_bytes FitsList (λ (c : Marked). c.0.addresses) from_authdata FitsMarked (λ c p. p.addresses) old middle new result w h
 
-  pub addresses_first : (old new : AtHand S) (stop : Stop) → Halts list_bytes FitsList left old new stop → Halts from_addresses FitsCredential left old new stop
-  addresses_first old new stop h = part_first left list_bytes FitsList (λ (c : Credential). c.addresses) from_authdata FitsCredential (λ c p. p.addresses) old new stop h
+  pub addresses_first : (old new : AtHand S) (stop : Stop) → Halts list_bytes FitsList left old new stop → Halts from_addresses FitsMarked left old new stop
+  addresses_first old new stop h = part_first left list_bytes FitsList (λ (c : Marked). c.0.addresses) from_authdata FitsMarked (λ c p. p.addresses) old new stop h
 
-  pub authdata_then : {T : Type 0} (old middle new : AtHand S) (result : Result T Stop) → Walks list_bytes FitsList left old middle → IsWalk from_ticket FitsCredential left middle new result → IsWalk from_authdata FitsCredential left old new result
-  authdata_then old middle new result w h = part_then left list_bytes FitsList (λ (c : Credential). c.authdata) from_ticket FitsCredential (λ c p. p.authdata) old middle new result w h
+  pub authdata_then : {T : Type 0} (old middle new : AtHand S) (result : Result T Stop) → Walks list_bytes FitsList left old middle → IsWalk from_ticket FitsMarked left middle new result → IsWalk from_authdata FitsMarked left old new result
+  authdata_then old middle new result w h = part_then left list_bytes FitsList (λ (c : Marked). c.0.authdata) from_ticket FitsMarked (λ c p. p.authdata) old middle new result w h
 
-  pub authdata_first : (old new : AtHand S) (stop : Stop) → Halts list_bytes FitsList left old new stop → Halts from_authdata FitsCredential left old new stop
-  authdata_first old new stop h = part_first left list_bytes FitsList (λ (c : Credential). c.authdata) from_ticket FitsCredential (λ c p. p.authdata) old new stop h
+  pub authdata_first : (old new : AtHand S) (stop : Stop) → Halts list_bytes FitsList left old new stop → Halts from_authdata FitsMarked left old new stop
+  authdata_first old new stop h = part_first left list_bytes FitsList (λ (c : Marked). c.0.authdata) from_ticket FitsMarked (λ c p. p.authdata) old new stop h
 
-  pub ticket_then : {T : Type 0} (old middle new : AtHand S) (result : Result T Stop) → Walks (data_bytes w32) Short32 left old middle → IsWalk (data_bytes w32) Short32 left middle new result → IsWalk from_ticket FitsCredential left old new result
+  pub ticket_then : {T : Type 0} (old middle new : AtHand S) (result : Result T Stop) → Walks (data_bytes w32) Short32 left old middle → IsWalk (data_bytes w32) Short32 left middle new result → IsWalk from_ticket FitsMarked left old new result
   ticket_then old middle new result w h =
-      part_then left (data_bytes w32) Short32 (λ (c : Credential). c.ticket) second_of FitsCredential (λ c p. p.ticket) old middle new result w
-      (walk_of left (data_bytes w32) Short32 (λ (c : Credential). c.second_ticket) FitsCredential (λ c p. p.second_ticket) middle new result h)
+      part_then left (data_bytes w32) Short32 (λ (c : Marked). c.0.ticket) second_of FitsMarked (λ c p. p.ticket) old middle new result w
+      (walk_of left (data_bytes w32) Short32 (λ (c : Marked). c.0.second_ticket) FitsMarked (λ c p. p.second_ticket) middle new result h)
 
-  pub ticket_first : (old new : AtHand S) (stop : Stop) → Halts (data_bytes w32) Short32 left old new stop → Halts from_ticket FitsCredential left old new stop
-  ticket_first old new stop h = part_first left (data_bytes w32) Short32 (λ (c : Credential). c.ticket) second_of FitsCredential (λ c p. p.ticket) old new stop h
+  pub ticket_first : (old new : AtHand S) (stop : Stop) → Halts (data_bytes w32) Short32 left old new stop → Halts from_ticket FitsMarked left old new stop
+  ticket_first old new stop h = part_first left (data_bytes w32) Short32 (λ (c : Marked). c.0.ticket) second_of FitsMarked (λ c p. p.ticket) old new stop h
 
-  pub times_then : {T : Type 0} (old middle new : AtHand S) (result : Result T Stop) → Of 21 old middle → IsWalk from_addresses FitsCredential left middle new result → IsWalk from_times FitsCredential left old new result
+  pub times_then : {T : Type 0} (old middle new : AtHand S) (result : Result T Stop) → Of 21 old middle → IsWalk from_addresses FitsMarked left middle new result → IsWalk from_times FitsMarked left old new result
   times_then old middle new result w h =
-      walk_same left (λ (c : Credential). times c ++ from_addresses c) from_times FitsCredential times_joined old new result
-      (part_then left (λ (x : List ℕ). x) (λ (x : List ℕ). length x ≡ 21) times from_addresses FitsCredential (λ c p. times_length c) old middle new result w h)
+      walk_same left (λ (c : Marked). times c ++ from_addresses c) from_times FitsMarked times_joined old new result
+      (part_then left (λ (x : List ℕ). x) (λ (x : List ℕ). length x ≡ 21) times from_addresses FitsMarked (λ c p. times_length c) old middle new result w h)
 
-  pub times_first : (old new : AtHand S) (stop : Stop) → HaltOf 21 old new stop → Halts from_times FitsCredential left old new stop
+  pub times_first : (old new : AtHand S) (stop : Stop) → HaltOf 21 old new stop → Halts from_times FitsMarked left old new stop
   times_first old new stop h =
-      halts_same left (λ (c : Credential). times c ++ from_addresses c) from_times FitsCredential times_joined old new stop
-      (part_first left (λ (x : List ℕ). x) (λ (x : List ℕ). length x ≡ 21) times from_addresses FitsCredential (λ c p. times_length c) old new stop h)
+      halts_same left (λ (c : Marked). times c ++ from_addresses c) from_times FitsMarked times_joined old new stop
+      (part_first left (λ (x : List ℕ). x) (λ (x : List ℕ). length x ≡ 21) times from_addresses FitsMarked (λ c p. times_length c) old new stop h)
+
+  -- ---- a credential is one with the byte of its `is_skey`
+
+  pub unmarked : {T : Type 0} (old new : AtHand S) (result : Result T Stop) → IsWalk whole FitsMarked left old new result → IsWalk credential_bytes FitsCredential left old new result
+  unmarked old new result w =
+      walk_same left (λ (c : Credential). whole (c, mark_of c.is_skey)) credential_bytes FitsCredential mark_is old new result
+      (walk_of left whole FitsMarked (λ (c : Credential). (c, mark_of c.is_skey)) FitsCredential (λ c p. p) old new result w)

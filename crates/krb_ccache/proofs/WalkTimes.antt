@@ -4,7 +4,6 @@ use Rattle.std.specs.List.{flat_map}
 use Rattle.std.proofs.KnownBytes.{Consumes-nil}
 use Rattle.krb_name.specs.Window.{AtHand, Keeps}
 use Rattle.krb_ccache.specs.declared.walking.Stop.{Stop}
-use Rattle.krb_ccache.specs.declared.walking.Stop.TheVariants.{End, Long, Read, OutOfMemory}
 use Rattle.krb_ccache.specs.Format.{file_limit}
 use Rattle.krb_ccache.specs.Inner.Walking.{Spans, Wants, Counted, Walks, Halts}
 use Rattle.krb_ccache.proofs.WalkLaws.{joined, spans_then, wants_first, wants_then}
@@ -76,7 +75,7 @@ module _ {X : Type 0} (s : X → List ℕ) (P : X → Type 0) where
     }
 
     pub one_halts : (old middle new : AtHand S) (count i : ℕ) (stop : Stop) → Front old middle count i → i < count → Halts s P left middle new stop → Halts All_of (Counted P count) left old new stop
-    one_halts old middle new count i End f lt h = record {
+    one_halts old middle new count i stop f lt h = record {
       piece = f.piece ++ h.piece;
       keeps = joined left old middle new f.piece h.piece f.keeps h.keeps;
       within = h.within;
@@ -84,16 +83,6 @@ module _ {X : Type 0} (s : X → List ℕ) (P : X → Type 0) where
       wants = f.wants h.piece h.count (subst (λ (m : ℕ). Wants All_of (Counted P m) h.piece h.count) (sym (one_less count i lt)) (cut_wants (count - (i + 1)) h.piece h.count h.wants));
       cant_come = h.cant_come;
     }
-    one_halts old middle new count i Long f lt h = record {
-      piece = f.piece ++ h.piece;
-      keeps = joined left old middle new f.piece h.piece f.keeps h.keeps;
-      within = h.within;
-      count = h.count;
-      wants = f.wants h.piece h.count (subst (λ (m : ℕ). Wants All_of (Counted P m) h.piece h.count) (sym (one_less count i lt)) (cut_wants (count - (i + 1)) h.piece h.count h.wants));
-      cant_come = h.cant_come;
-    }
-    one_halts old middle new count i Read f lt h = record { piece = f.piece ++ h.piece; keeps = joined left old middle new f.piece h.piece f.keeps h.keeps; within = h.within }
-    one_halts old middle new count i OutOfMemory f lt h = record { piece = f.piece ++ h.piece; keeps = joined left old middle new f.piece h.piece f.keeps h.keeps; within = h.within }
 
     pub all_came : (old now : AtHand S) (count i : ℕ) → Front old now count i → count ≤ i → Walks All_of (Counted P count) left old now
     all_came old now count i f le =

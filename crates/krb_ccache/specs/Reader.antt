@@ -1,10 +1,12 @@
 -- Reading a cache one credential at a time: what a reader has taken of its source, and how it ended.
 use Rattle.std.specs.Prelude.{◌≡◌, ◌≢◌, ℕ, ◌+◌, ◌<◌, ◌≤◌, max, List, [], ◌∷◌, ◌++◌, length, Option, Some, None, Result, Ok, Err}
+use Rattle.std.specs.Int.{w8}
 use Rattle.std.specs.Io.KnownBytes.{Consumes}
+use Rattle.krb_name.specs.Cursor.{number_bytes}
 use Rattle.krb_name.specs.declared.principal.Principal.{Principal}
 use Rattle.krb_ccache.specs.declared.credential.HeaderField.{HeaderField}
 use Rattle.krb_ccache.specs.declared.credential.Credential.{Credential}
-use Rattle.krb_ccache.specs.Spelling.{credential_bytes}
+use Rattle.krb_ccache.specs.Spelling.{credential_bytes, marked_bytes}
 use Rattle.krb_ccache.specs.Value.{Cache, cache_of, FitsCredential}
 use Rattle.krb_ccache.specs.Format.{file_limit, Layout, IsReached}
 use Rattle.krb_ccache.specs.declared.fault.CacheFault.{CacheFault}
@@ -53,6 +55,16 @@ pub record Gave {S : Type 0} (from to : Option (List ℕ)) (old new : Reading S)
   pub given : new.given ≡ old.given + length bytes
   pub grows : old.held ≤ new.held
   pub held : new.held ≤ max old.held (length bytes)
+
+-- a beginning of what the source gave was at hand; it is no longer than any credential that begins with it, whichever byte is
+-- its `is_skey`
+pub record HeldPart (from to : Option (List ℕ)) (old new : ℕ) : Type 0 where
+  pub part : List ℕ
+  pub after : List ℕ
+  pub given : Consumes from to (part ++ after)
+  pub no_longer : (credential : Credential) (mark : ℕ) (more others : List ℕ) → FitsCredential credential → part ++ more ≡ marked_bytes credential (number_bytes w8 mark) ++ others
+      → length part ≤ length (marked_bytes credential (number_bytes w8 mark))
+  pub held : new ≤ max old (length part)
 
 -- the source gave the bytes of a credential, and no more in all than a file has
 pub record GaveOne (old new : ℕ) (credential : Credential) : Type 0 where

@@ -40,8 +40,9 @@ typed_bytes element = number_bytes w16 element.kind ++ data_bytes w32 element.by
 abbrev pub list_bytes : List TypedBytes → List ℕ
 list_bytes list = number_bytes w32 (length list) ++ flat_map typed_bytes list
 
-abbrev pub credential_bytes : Credential → List ℕ
-credential_bytes credential =
+-- with these bytes for `is_skey`
+abbrev pub marked_bytes : Credential → List ℕ → List ℕ
+marked_bytes credential mark =
     name_bytes credential.client
     ++ (name_bytes credential.server
     ++ (signed_bytes w16 credential.etype
@@ -50,9 +51,12 @@ credential_bytes credential =
     ++ (number_bytes w32 credential.starttime
     ++ (number_bytes w32 credential.endtime
     ++ (number_bytes w32 credential.renew_till
-    ++ (flag_bytes credential.is_skey
+    ++ (mark
     ++ (number_bytes w32 credential.ticket_flags
     ++ (list_bytes credential.addresses
     ++ (list_bytes credential.authdata
     ++ (data_bytes w32 credential.ticket
     ++ data_bytes w32 credential.second_ticket))))))))))))
+
+abbrev pub credential_bytes : Credential → List ℕ
+credential_bytes credential = marked_bytes credential (flag_bytes credential.is_skey)

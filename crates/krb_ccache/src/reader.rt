@@ -1,11 +1,11 @@
 //! A reader that gives the credentials of a cache one at a time.
 
-ghost use Rattle.std.specs.Prelude.{◌≡◌, ◌≢◌, ◌+◌, ◌-◌, ◌^◌, ◌<◌, ◌≤◌, ◌↔◌, ℕ, List, [], max, length, All, IsTrue, IfOk, IfErr, IfSome, IfNone, Option, Ok, Err, None};
+ghost use Rattle.std.specs.Prelude.{◌≡◌, ◌≢◌, ◌+◌, ◌-◌, ◌^◌, ◌<◌, ◌≤◌, ◌↔◌, ℕ, List, [], max, length, All, IsTrue, IfOk, IfErr, IfSome, IfNone, OnErr, Option, Ok, Err, None};
 ghost use Rattle.krb_ccache.specs.Configuration.{HoldsOffset, IsConfiguration};
 ghost use Rattle.krb_ccache.specs.Fault.{failed_reads};
 ghost use Rattle.krb_ccache.specs.Format.{file_limit, IsCache, IsFaultOf};
 ghost use Rattle.krb_ccache.specs.Offset.{clock_offset};
-ghost use Rattle.krb_ccache.specs.Reader.{ended_by as ended_by_answer, last_answer, with_credential, HasRead, Gave, GaveOne, GoesTo};
+ghost use Rattle.krb_ccache.specs.Reader.{ended_by as ended_by_answer, last_answer, with_credential, HasRead, Gave, GaveOne, HeldPart, GoesTo};
 ghost use Rattle.krb_ccache.specs.Source.{IsGiven};
 ghost use Rattle.krb_ccache.specs.Spelling.{header_bytes, name_bytes, credential_bytes};
 ghost use Rattle.krb_ccache.specs.Value.{Cache, cache_of};
@@ -140,6 +140,8 @@ impl<S: Source> CredentialReader<S> {
             GaveOne self.old.given self.new.given credential)) }
         ensures held { self.old.ended ≡ None → IfOk result (λ next. IfSome next (λ credential.
             self.new.held ≡ max self.old.held (length (credential_bytes credential)))) }
+        ensures part { self.old.ended ≡ None → OnErr result (HeldPart (S.remaining self.old.source)
+            (S.remaining self.new.source) self.old.held self.new.held) }
         ensures failed { self.old.ended ≡ None → S.failure_count self.new.source
             ≡ S.failure_count self.old.source + failed_reads result }
         ensures lent { S.lender self.new.source ≡ S.lender self.old.source }
@@ -156,7 +158,8 @@ impl<S: Source> CredentialReader<S> {
     }
 
     /// Answers how many bytes were at hand at once, at most. It is never more than the header, the
-    /// default principal or the longest credential so far has, nor than 16,777,216.
+    /// default principal or the longest credential so far has, at a fault as many of its bytes as
+    /// there were, nor than 16,777,216.
     pub fn held(&self) -> usize
         ensures held { result ≡ self.now.held }
         ensures limit { result ≤ file_limit }

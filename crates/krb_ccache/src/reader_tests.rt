@@ -98,7 +98,9 @@ fn prefixes_in_pieces(rt: HostRuntime) -> Result<(), Fail> {
             _ => Some(CacheFault::BadItem { at: 27 }),
         };
         let prefix = fixture().get(..length).ok_or("the cache is longer")?;
-        assert_eq!(rt; fault_of(alloc, prefix, 3), wanted, "{length} bytes");
+        for piece in PIECES {
+            assert_eq!(rt; fault_of(alloc, prefix, piece), wanted, "{length} bytes");
+        }
     }
     Ok(())
 }
@@ -176,6 +178,7 @@ fn failed_reads_are_told(rt: HostRuntime) -> Result<(), Fail> {
             );
         }
         is(&rt, reader.source().failures(), 1);
+        is(&rt, reader.into_source().failures(), 1);
     }
     Ok(())
 }

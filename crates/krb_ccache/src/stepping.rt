@@ -1,9 +1,9 @@
 //! Reading the parts of a cache off a source, one at a time.
 
-ghost use Rattle.std.specs.Prelude.{All, Option, ℕ, List, [], length, max, ◌≡◌, ◌≢◌, ◌+◌, ◌-◌, ◌≤◌, ◌<◌, ◌^◌, IfOk, IfErr, OnOk, Err};
+ghost use Rattle.std.specs.Prelude.{All, Option, ℕ, List, [], length, max, ◌≡◌, ◌≢◌, ◌+◌, ◌-◌, ◌≤◌, ◌<◌, ◌^◌, IfOk, IfErr, OnOk, OnErr, Err};
 ghost use Rattle.krb_ccache.specs.Fault.{failed_reads};
 ghost use Rattle.krb_ccache.specs.Format.{file_limit, version_of, version_4, IsCache, IsFaultOf};
-ghost use Rattle.krb_ccache.specs.Reader.{HasTaken};
+ghost use Rattle.krb_ccache.specs.Reader.{HasTaken, HeldPart};
 ghost use Rattle.krb_ccache.specs.Source.{IsGiven};
 ghost use Rattle.krb_ccache.specs.Spelling.{header_bytes, name_bytes, credential_bytes};
 ghost use Rattle.krb_ccache.specs.Value.{cache_of, FitsHeader, FitsName, FitsCredential};
@@ -129,6 +129,8 @@ fn come_credential<S: Source>(alloc: Global, window: &mut Window<S>) -> Result<C
         (Comes credential_bytes FitsCredential S.remaining window.old window.new) }
     ensures halts { IfErr result
         (Halts credential_bytes FitsCredential S.remaining (cleared window.old) window.new) }
+    ensures part { OnErr result (HeldPart (S.remaining window.old.source) (S.remaining window.new.source)
+        window.old.peak window.new.peak) }
     ensures failed { S.failure_count window.new.source
         ≡ S.failure_count window.old.source + stopped_reads result }
     ensures lent { S.lender window.new.source ≡ S.lender window.old.source }
@@ -255,6 +257,8 @@ pub(crate) fn step<S: Source>(
     requires reads { S.failure_count window.old.source < 2 ^ 64 - 1 }
     requires within { window.old.given ≤ file_limit }
     ensures step { IsStep S.remaining window.old window.new result }
+    ensures part { OnErr result (HeldPart (S.remaining window.old.source) (S.remaining window.new.source)
+        window.old.peak window.new.peak) }
     ensures failed { S.failure_count window.new.source
         ≡ S.failure_count window.old.source + failed_reads result }
     ensures lent { S.lender window.new.source ≡ S.lender window.old.source }

@@ -6,9 +6,9 @@ ghost use Rattle.std.specs.Int.{w16, w32, from_be_bytes};
 ghost use Rattle.std.specs.List.{flat_map};
 ghost use Rattle.krb_name.specs.Cursor.{data_bytes};
 ghost use Rattle.krb_ccache.specs.Format.{file_limit};
-ghost use Rattle.krb_ccache.specs.Spelling.{header_bytes, name_bytes, typed_bytes, list_bytes, credential_bytes};
-ghost use Rattle.krb_ccache.specs.Value.{FitsHeader, FitsName, FitsList, FitsCredential};
-ghost use Rattle.krb_ccache.specs.Inner.Walking.{IsWalk, Counted, last_number, stopped_reads, from_key, from_times, from_ticket};
+ghost use Rattle.krb_ccache.specs.Spelling.{header_bytes, name_bytes, typed_bytes, list_bytes};
+ghost use Rattle.krb_ccache.specs.Value.{FitsHeader, FitsName, FitsList};
+ghost use Rattle.krb_ccache.specs.Inner.Walking.{IsWalk, Counted, last_number, stopped_reads, FitsMarked, whole, from_key, from_times, from_ticket};
 
 use crate::header::FILE_LIMIT;
 use krb_name::{ReadFault, Source, Window};
@@ -217,7 +217,7 @@ fn take_elements<S: Source>(window: &mut Window<S>, count: u32) -> Result<(), St
 pub(crate) fn take_credential<S: Source>(window: &mut Window<S>) -> Result<(), Stop>
     requires reads { S.failure_count window.old.source < 2 ^ 64 - 1 }
     requires within { window.old.given ≤ file_limit }
-    ensures walk { IsWalk credential_bytes FitsCredential
+    ensures walk { IsWalk whole FitsMarked
         S.remaining window.old window.new result }
     ensures failed { S.failure_count window.new.source
         ≡ S.failure_count window.old.source + stopped_reads result }
@@ -231,7 +231,7 @@ pub(crate) fn take_credential<S: Source>(window: &mut Window<S>) -> Result<(), S
 fn take_from_key<S: Source>(window: &mut Window<S>) -> Result<(), Stop>
     requires reads { S.failure_count window.old.source < 2 ^ 64 - 1 }
     requires within { window.old.given ≤ file_limit }
-    ensures walk { IsWalk from_key FitsCredential
+    ensures walk { IsWalk from_key FitsMarked
         S.remaining window.old window.new result }
     ensures failed { S.failure_count window.new.source
         ≡ S.failure_count window.old.source + stopped_reads result }
@@ -245,7 +245,7 @@ fn take_from_key<S: Source>(window: &mut Window<S>) -> Result<(), Stop>
 fn take_from_times<S: Source>(window: &mut Window<S>) -> Result<(), Stop>
     requires reads { S.failure_count window.old.source < 2 ^ 64 - 1 }
     requires within { window.old.given ≤ file_limit }
-    ensures walk { IsWalk from_times FitsCredential
+    ensures walk { IsWalk from_times FitsMarked
         S.remaining window.old window.new result }
     ensures failed { S.failure_count window.new.source
         ≡ S.failure_count window.old.source + stopped_reads result }
@@ -260,7 +260,7 @@ fn take_from_times<S: Source>(window: &mut Window<S>) -> Result<(), Stop>
 fn take_from_ticket<S: Source>(window: &mut Window<S>) -> Result<(), Stop>
     requires reads { S.failure_count window.old.source < 2 ^ 64 - 1 }
     requires within { window.old.given ≤ file_limit }
-    ensures walk { IsWalk from_ticket FitsCredential
+    ensures walk { IsWalk from_ticket FitsMarked
         S.remaining window.old window.new result }
     ensures failed { S.failure_count window.new.source
         ≡ S.failure_count window.old.source + stopped_reads result }

@@ -19,6 +19,9 @@ const WEB: [u8; 56] = [
 
 const WEB_LINE: &str = "3 19 1700000000 host/web@EX";
 
+// How many bytes a source gives at a time.
+const PIECES: [usize; 4] = [1, 2, 3, 7];
+
 const ALICE_LINE: &str = "256 19 1700000000 alice@EX";
 
 // What is answered next: an entry as a line, or why there is none.
@@ -44,7 +47,7 @@ fn line(alloc: Global, reader: &mut EntryReader<PieceSource<'_>>) -> Result<Stri
 #[test]
 fn pieces(rt: HostRuntime) -> Result<(), Fail> {
     let alloc = rt.alloc();
-    for piece in [1, 2, 3, 7] {
+    for piece in PIECES {
         let mut reader = EntryReader::new(alloc, PieceSource::new(&WEB, piece, None));
         is(&rt, reader.held(), 0);
         is(&rt, line(alloc, &mut reader)?.as_str(), WEB_LINE);
@@ -120,9 +123,11 @@ fn small_files(rt: HostRuntime) -> Result<(), Fail> {
         (&ALICE[..51], cut),
     ];
     for (bytes, wanted) in table {
-        let mut reader = EntryReader::new(alloc, PieceSource::new(bytes, 1, None));
-        is(&rt, line(alloc, &mut reader)?.as_str(), wanted);
-        is(&rt, line(alloc, &mut reader)?.as_str(), wanted);
+        for piece in PIECES {
+            let mut reader = EntryReader::new(alloc, PieceSource::new(bytes, piece, None));
+            is(&rt, line(alloc, &mut reader)?.as_str(), wanted);
+            is(&rt, line(alloc, &mut reader)?.as_str(), wanted);
+        }
     }
     Ok(())
 }
@@ -144,8 +149,10 @@ fn version_numbers(rt: HostRuntime) -> Result<(), Fail> {
         (&cut[..47], "the record at offset 2 holds no entry"),
     ];
     for (bytes, wanted) in table {
-        let mut reader = EntryReader::new(alloc, PieceSource::new(bytes, 2, None));
-        is(&rt, line(alloc, &mut reader)?.as_str(), wanted);
+        for piece in PIECES {
+            let mut reader = EntryReader::new(alloc, PieceSource::new(bytes, piece, None));
+            is(&rt, line(alloc, &mut reader)?.as_str(), wanted);
+        }
     }
     Ok(())
 }
@@ -198,6 +205,7 @@ fn sources_that_fail(rt: HostRuntime) -> Result<(), Fail> {
             "the file could not be read",
         );
         is(&rt, reader.source().failures(), 1);
+        is(&rt, reader.into_source().failures(), 1);
     }
     Ok(())
 }

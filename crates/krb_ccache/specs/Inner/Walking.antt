@@ -1,6 +1,6 @@
 -- How far a part of a cache reaches whose bytes come piece by piece: as far as the bytes before say.
 use Rattle.std.specs.Prelude.{◌≡◌, ℕ, ◌+◌, ◌<◌, ◌≤◌, List, ◌++◌, length, drop, Option, Result, Ok, Err}
-use Rattle.std.specs.Int.{Width, w16, w32, from_be_bytes}
+use Rattle.std.specs.Int.{Width, w8, w16, w32, from_be_bytes}
 use Rattle.std.specs.List.{AllByRecursion}
 use Rattle.std.specs.Io.KnownBytes.{IsAtEnd}
 use Rattle.krb_name.specs.Window.{AtHand, Keeps}
@@ -8,7 +8,8 @@ use Rattle.krb_name.specs.declared.reading.ReadFault.{ReadFault}
 use Rattle.krb_name.specs.declared.reading.ReadFault.TheVariants as source
 use Rattle.krb_name.specs.Cursor.{number_bytes, signed_bytes, data_bytes}
 use Rattle.krb_ccache.specs.declared.credential.Credential.{Credential}
-use Rattle.krb_ccache.specs.Spelling.{flag_bytes, list_bytes}
+use Rattle.krb_ccache.specs.Spelling.{list_bytes, marked_bytes}
+use Rattle.krb_ccache.specs.Value.{FitsCredential}
 use Rattle.krb_ccache.specs.Format.{file_limit}
 use Rattle.krb_ccache.specs.declared.walking.Stop.{Stop}
 use Rattle.krb_ccache.specs.declared.walking.Stop.TheVariants.{End, Long, Read, OutOfMemory}
@@ -38,26 +39,14 @@ pub record Walks {X S : Type 0} (spelled : X → List ℕ) (InRange : X → Type
   pub within : new.given ≤ file_limit
   pub spans : Spans spelled InRange piece
 
--- the source gave fewer bytes than a thing has, and the next can't come
-pub record Stops {X S : Type 0} (spelled : X → List ℕ) (InRange : X → Type 0) (left : S → Option (List ℕ)) (old new : AtHand S) (stop : Stop) : Type 0 where
+-- the source gave no more bytes than a thing has, and the next can't come
+pub record Halts {X S : Type 0} (spelled : X → List ℕ) (InRange : X → Type 0) (left : S → Option (List ℕ)) (old new : AtHand S) (stop : Stop) : Type 0 where
   pub piece : List ℕ
   pub keeps : Keeps (left old.source) (left new.source) old new piece
   pub within : new.given ≤ file_limit
   pub count : ℕ
   pub wants : Wants spelled InRange piece count
   pub cant_come : CantCome stop (left new.source) new.given count
-
--- the source gave some bytes
-pub record Breaks {S : Type 0} (left : S → Option (List ℕ)) (old new : AtHand S) : Type 0 where
-  pub piece : List ℕ
-  pub keeps : Keeps (left old.source) (left new.source) old new piece
-  pub within : new.given ≤ file_limit
-
-abbrev pub Halts : {X S : Type 0} → (X → List ℕ) → (X → Type 0) → (S → Option (List ℕ)) → AtHand S → AtHand S → Stop → Type 0
-Halts spelled InRange left old new End = Stops spelled InRange left old new End
-Halts spelled InRange left old new Long = Stops spelled InRange left old new Long
-Halts spelled InRange left old new Read = Breaks left old new
-Halts spelled InRange left old new OutOfMemory = Breaks left old new
 
 -- the source was asked for as many bytes as a thing has
 abbrev pub IsWalk : {X S T : Type 0} → (X → List ℕ) → (X → Type 0) → (S → Option (List ℕ)) → AtHand S → AtHand S → Result T Stop → Type 0
@@ -81,22 +70,31 @@ stopped_reads (Err stop) = stop_reads stop
 abbrev pub last_number : Width → List ℕ → List ℕ → ℕ
 last_number w before now = from_be_bytes w (drop (length before) now)
 
--- ---- a credential from one of its fields on
+-- ---- a credential from one of its fields on, with any byte for `is_skey`
 
-abbrev pub from_ticket : Credential → List ℕ
-from_ticket credential = data_bytes w32 credential.ticket ++ data_bytes w32 credential.second_ticket
+abbrev pub Marked : Type 0
+Marked = Credential × ℕ
 
-abbrev pub from_times : Credential → List ℕ
-from_times credential =
-    number_bytes w32 credential.authtime
-    ++ (number_bytes w32 credential.starttime
-    ++ (number_bytes w32 credential.endtime
-    ++ (number_bytes w32 credential.renew_till
-    ++ (flag_bytes credential.is_skey
-    ++ (number_bytes w32 credential.ticket_flags
-    ++ (list_bytes credential.addresses
-    ++ (list_bytes credential.authdata
-    ++ from_ticket credential)))))))
+abbrev pub FitsMarked : Marked → Type 0
+FitsMarked marked = FitsCredential marked.0
 
-abbrev pub from_key : Credential → List ℕ
-from_key credential = signed_bytes w16 credential.etype ++ (data_bytes w32 credential.key ++ from_times credential)
+abbrev pub whole : Marked → List ℕ
+whole marked = marked_bytes marked.0 (number_bytes w8 marked.1)
+
+abbrev pub from_ticket : Marked → List ℕ
+from_ticket marked = data_bytes w32 marked.0.ticket ++ data_bytes w32 marked.0.second_ticket
+
+abbrev pub from_times : Marked → List ℕ
+from_times marked =
+    number_bytes w32 marked.0.authtime
+    ++ (number_bytes w32 marked.0.starttime
+    ++ (number_bytes w32 marked.0.endtime
+    ++ (number_bytes w32 marked.0.renew_till
+    ++ (number_bytes w8 marked.1
+    ++ (number_bytes w32 marked.0.ticket_flags
+    ++ (list_bytes marked.0.addresses
+    ++ (list_bytes marked.0.authdata
+    ++ from_ticket marked)))))))
+
+abbrev pub from_key : Marked → List ℕ
+from_key marked = signed_bytes w16 marked.0.etype ++ (data_bytes w32 marked.0.key ++ from_times marked)

@@ -23,3 +23,6 @@ returns-clause-stops g c = λ from cache h.
 pub returns-clause-more : goal.returns-clause-more
 returns-clause-more g c = λ going.
     rw (← c.self.view_is) (next_more g.S.Source.remaining c.self.inside.window c.step-answer.new.window c.step-answer.result c.step-answer.ensures.step)
+
+pub returns-clause-part : goal.returns-clause-part
+returns-clause-part g c = λ going. rw (← c.self.view_is) c.step-answer.ensures.part
