@@ -1,13 +1,13 @@
 // The S-box on 16 lanes, by look-ups in tables of 16 bytes: a byte is k + i * s over the field of 16
-// elements, where its inverse needs few of them. Between rounds, decryption keeps bytes as 16 * i + k.
+// elements, where its inverse needs few of them. Between rounds, bytes are kept as 16 * i + k.
 // docs/TOWER.md tells where the tables come from.
 
 ghost use Rattle.std.specs.Prelude.{◌≡◌, map, bit_xor};
 ghost use Rattle.std.specs.Simd.Lanes.{zip2};
 ghost use Rattle.krb_aes.specs.Field.{product};
 ghost use Rattle.krb_aes.specs.SBox.{s_box};
-ghost use Rattle.krb_aes.specs.Inner.Tower.{ArePlaces, LanesBelow, looked_up, by_nibbles, io_of, jo_of, io_at, jo_at, read_from, inv_form};
-ghost use Rattle.krb_aes.specs.declared.tower.TheConstants.{INV_SUB_IO, INV_SUB_JO, INV_0E_IO, INV_0E_JO, INV_0B_IO, INV_0B_JO, INV_0D_IO, INV_0D_JO, INV_09_IO, INV_09_JO};
+ghost use Rattle.krb_aes.specs.Inner.Tower.{ArePlaces, LanesBelow, looked_up, by_nibbles, io_of, jo_of, io_at, jo_at, read_from, substituted_of, tower_form, inv_form};
+ghost use Rattle.krb_aes.specs.declared.tower.TheConstants.{ONCE_IO, ONCE_JO, TWICE_IO, TWICE_JO, INV_SUB_IO, INV_SUB_JO, INV_0E_IO, INV_0E_JO, INV_0B_IO, INV_0B_JO, INV_0D_IO, INV_0D_JO, INV_09_IO, INV_09_JO};
 
 use std::simd::prelude::*;
 
@@ -19,20 +19,12 @@ static A_OVER: [u8; 16] = [
     0x80, 0x02, 0x01, 0x0f, 0x09, 0x05, 0x0e, 0x0c, 0x0d, 0x04, 0x0b, 0x0a, 0x07, 0x08, 0x06, 0x03,
 ];
 
-static SUB_I_LOW: [u8; 16] = [
-    0x00, 0x00, 0x01, 0x01, 0x02, 0x02, 0x03, 0x03, 0x02, 0x02, 0x03, 0x03, 0x00, 0x00, 0x01, 0x01,
+static TOWER_LOW: [u8; 16] = [
+    0x00, 0x01, 0x1c, 0x1d, 0x2d, 0x2c, 0x31, 0x30, 0x27, 0x26, 0x3b, 0x3a, 0x0a, 0x0b, 0x16, 0x17,
 ];
 
-static SUB_I_HIGH: [u8; 16] = [
-    0x00, 0x08, 0x0f, 0x07, 0x08, 0x00, 0x07, 0x0f, 0x07, 0x0f, 0x08, 0x00, 0x0f, 0x07, 0x00, 0x08,
-];
-
-static SUB_K_LOW: [u8; 16] = [
-    0x00, 0x01, 0x0c, 0x0d, 0x0d, 0x0c, 0x01, 0x00, 0x07, 0x06, 0x0b, 0x0a, 0x0a, 0x0b, 0x06, 0x07,
-];
-
-static SUB_K_HIGH: [u8; 16] = [
-    0x00, 0x06, 0x0d, 0x0b, 0x0e, 0x08, 0x03, 0x05, 0x07, 0x01, 0x0a, 0x0c, 0x09, 0x0f, 0x04, 0x02,
+static TOWER_HIGH: [u8; 16] = [
+    0x00, 0x86, 0xfd, 0x7b, 0x8e, 0x08, 0x73, 0xf5, 0x77, 0xf1, 0x8a, 0x0c, 0xf9, 0x7f, 0x04, 0x82,
 ];
 
 static SUB_IO: [u8; 16] = [
@@ -43,12 +35,20 @@ static SUB_JO: [u8; 16] = [
     0x00, 0x9f, 0x61, 0x16, 0xc2, 0x2a, 0x77, 0xe8, 0x89, 0x4b, 0x5d, 0x3c, 0xb5, 0xa3, 0xd4, 0xfe,
 ];
 
-static DOUBLED_IO: [u8; 16] = [
-    0x00, 0x8d, 0xb5, 0x7b, 0x42, 0x01, 0xce, 0x43, 0xf6, 0xb4, 0xcf, 0x7a, 0x8c, 0xf7, 0x39, 0x38,
+static ONCE_IO: [u8; 16] = [
+    0x00, 0xc3, 0x4f, 0x0c, 0xfc, 0x7c, 0x43, 0x80, 0xcf, 0x33, 0x3f, 0x70, 0xbf, 0xb3, 0xf0, 0x8c,
 ];
 
-static DOUBLED_JO: [u8; 16] = [
-    0x00, 0x25, 0xc2, 0x2c, 0x9f, 0x54, 0xee, 0xcb, 0x09, 0x96, 0xba, 0x78, 0x71, 0x5d, 0xb3, 0xe7,
+static ONCE_JO: [u8; 16] = [
+    0x00, 0xe6, 0x72, 0xb7, 0xe5, 0xc6, 0xc5, 0x23, 0x51, 0xb4, 0x03, 0x71, 0x20, 0x97, 0x52, 0x94,
+];
+
+static TWICE_IO: [u8; 16] = [
+    0x00, 0x7c, 0x20, 0xcf, 0x92, 0x01, 0xef, 0x93, 0xb3, 0x21, 0xee, 0xce, 0x7d, 0xb2, 0x5d, 0x5c,
+];
+
+static TWICE_JO: [u8; 16] = [
+    0x00, 0xd1, 0xe5, 0xf7, 0xe6, 0x25, 0x12, 0xc3, 0x26, 0xc0, 0x37, 0xd2, 0xf4, 0x03, 0x11, 0x34,
 ];
 
 static INV_FORM_LOW: [u8; 16] = [
@@ -164,19 +164,13 @@ fn inverted(i: u8x16, k: u8x16) -> (u8x16, u8x16)
     (io, jo)
 }
 
-// SBox of each lane, and x times that.
+// Each byte in the form that encryption keeps: as 16 * i + k.
 #[inline(always)]
-pub(crate) fn substituted(bytes: u8x16) -> (u8x16, u8x16)
+pub(crate) fn formed(bytes: u8x16) -> u8x16
     requires { LanesBelow 256 bytes }
-    ensures once { result.0 ≡ map s_box bytes }
-    ensures doubled { result.1 ≡ map (λ x. product 0x02 (s_box x)) bytes }
+    ensures { result ≡ map tower_form bytes }
 {
-    let i = by_nibbles(&SUB_I_LOW, &SUB_I_HIGH, bytes);
-    let k = by_nibbles(&SUB_K_LOW, &SUB_K_HIGH, bytes);
-    let (io, jo) = inverted(i, k);
-    let once = (looked_up(&SUB_IO, io) ^ u8x16::splat(0x63)) ^ looked_up(&SUB_JO, jo);
-    let doubled = (looked_up(&DOUBLED_IO, io) ^ u8x16::splat(0xc6)) ^ looked_up(&DOUBLED_JO, jo);
-    (once, doubled)
+    by_nibbles(&TOWER_LOW, &TOWER_HIGH, bytes)
 }
 
 // Each byte in the form that decryption keeps: as 16 * i + k, with the affine transformation undone.
@@ -208,6 +202,38 @@ fn read(io_table: &[u8; 16], jo_table: &[u8; 16], values: (u8x16, u8x16)) -> u8x
     ensures { result ≡ zip2 bit_xor (map (looked_up io_table.now) values.0) (map (looked_up jo_table.now) values.1) }
 {
     looked_up(io_table, values.0) ^ looked_up(jo_table, values.1)
+}
+
+// SBox of each byte in the form that encryption keeps.
+#[inline(always)]
+pub(crate) fn substituted_form(form: u8x16) -> u8x16
+    requires { LanesBelow 256 form }
+    ensures { result ≡ map substituted_of form }
+{
+    read(&SUB_IO, &SUB_JO, inverted_form(form)) ^ u8x16::splat(0x63)
+}
+
+// SBox of each byte.
+#[inline(always)]
+pub(crate) fn substituted(bytes: u8x16) -> u8x16
+    requires { LanesBelow 256 bytes }
+    ensures { result ≡ map s_box bytes }
+{
+    substituted_form(formed(bytes))
+}
+
+// SBox of each byte in the form that encryption keeps, without the constant 63, and x times that: both in this form.
+#[inline(always)]
+pub(crate) fn products(form: u8x16) -> (u8x16, u8x16)
+    requires { LanesBelow 256 form }
+    ensures once { result.0 ≡ map (read_from ONCE_IO ONCE_JO) form }
+    ensures doubled { result.1 ≡ map (read_from TWICE_IO TWICE_JO) form }
+{
+    let values = inverted_form(form);
+    (
+        read(&ONCE_IO, &ONCE_JO, values),
+        read(&TWICE_IO, &TWICE_JO, values),
+    )
 }
 
 // InvSBox of each byte in the form that decryption keeps.
