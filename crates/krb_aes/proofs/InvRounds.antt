@@ -7,8 +7,8 @@ use Rattle.krb_aes.specs.Field.{product}
 use Rattle.krb_aes.specs.SBox.{inv_s_box}
 use Rattle.krb_aes.specs.State.{at, row_times_column, inv_mix, inv_sub_bytes, inv_shift_rows, inv_mix_columns, add_round_key}
 use Rattle.krb_aes.specs.Cipher.{IsBlock}
-use Rattle.krb_aes.specs.Inner.Tower.{LanesBelow, read_from, inv_form}
-use Rattle.krb_aes.specs.declared.tower.TheConstants.{INV_SUB_IO, INV_SUB_JO, INV_0E_IO, INV_0E_JO, INV_0B_IO, INV_0B_JO, INV_0D_IO, INV_0D_JO, INV_09_IO, INV_09_JO}
+use Rattle.krb_aes.specs.Inner.Tower.{LanesBelow, read_from, inv_form, inv_by_09, inv_by_0b, inv_by_0d, inv_by_0e}
+use Rattle.krb_aes.specs.declared.tower.TheConstants.{INV_SUB_IO, INV_SUB_JO}
 use Rattle.krb_aes.proofs.Bytes.{AreBytes, byte_tests, place, row_byte, inv_s_box_byte, state_of-at, same_state}
 use Rattle.krb_aes.proofs.FieldLaws.{linear-xor}
 use Rattle.krb_aes.proofs.StateLaws.{inv_mix_small, inv_mix_columns-added}
@@ -90,14 +90,14 @@ inv_round_block block round_key is key_is =
 
 pub inv_round_lanes : (form key e b d n block round_key : List ℕ) → IsBlock block → AreBytes round_key →
     form ≡ map inv_form block → key ≡ map inv_form (inv_mix_columns round_key) →
-    e ≡ map (read_from INV_0E_IO INV_0E_JO) form → b ≡ map (read_from INV_0B_IO INV_0B_JO) form →
-    d ≡ map (read_from INV_0D_IO INV_0D_JO) form → n ≡ map (read_from INV_09_IO INV_09_JO) form →
+    e ≡ map inv_by_0e form → b ≡ map inv_by_0b form →
+    d ≡ map inv_by_0d form → n ≡ map inv_by_09 form →
     inv_round_of e b d n key ≡ map inv_form (inv_mix_columns (add_round_key (inv_sub_bytes (inv_shift_rows block)) round_key))
 inv_round_lanes form key e b d n block round_key is key_is form_is key_form e_is b_is d_is n_is =
-    let e_lanes = of_block inv_form (read_from INV_0E_IO INV_0E_JO) (λ x. inv_part (product 0x0e (inv_s_box x))) inv_0e_is block form e is form_is e_is in
-    let b_lanes = of_block inv_form (read_from INV_0B_IO INV_0B_JO) (λ x. inv_part (product 0x0b (inv_s_box x))) inv_0b_is block form b is form_is b_is in
-    let d_lanes = of_block inv_form (read_from INV_0D_IO INV_0D_JO) (λ x. inv_part (product 0x0d (inv_s_box x))) inv_0d_is block form d is form_is d_is in
-    let n_lanes = of_block inv_form (read_from INV_09_IO INV_09_JO) (λ x. inv_part (product 0x09 (inv_s_box x))) inv_09_is block form n is form_is n_is in
+    let e_lanes = of_block inv_form inv_by_0e (λ x. inv_part (product 0x0e (inv_s_box x))) inv_0e_is block form e is form_is e_is in
+    let b_lanes = of_block inv_form inv_by_0b (λ x. inv_part (product 0x0b (inv_s_box x))) inv_0b_is block form b is form_is b_is in
+    let d_lanes = of_block inv_form inv_by_0d (λ x. inv_part (product 0x0d (inv_s_box x))) inv_0d_is block form d is form_is d_is in
+    let n_lanes = of_block inv_form inv_by_09 (λ x. inv_part (product 0x09 (inv_s_box x))) inv_09_is block form n is form_is n_is in
     (λ i. inv_round_of (e_lanes i) (b_lanes i) (d_lanes i) (n_lanes i) (key_form i))
     ∙ inv_round_block block round_key is key_is
     ∙ ap (map inv_form) (sym (inv_mix_columns-added (inv_sub_bytes (inv_shift_rows block)) round_key))

@@ -2,8 +2,8 @@
 use Rattle.std.proofs.Common.{◌≡◌, ℕ, ◌<◌, List, [], ◌∷◌, refl, bit_xor}
 use Rattle.krb_aes.specs.Field.{carryless, remainder, product, inverse, number_with}
 use Rattle.krb_aes.specs.SBox.{affine, s_box, inv_s_box}
-use Rattle.krb_aes.specs.Inner.Tower.{by_nibbles, read_from, substituted_of, tower_form, inv_form}
-use Rattle.krb_aes.specs.declared.tower.TheConstants.{ONCE_IO, ONCE_JO, TWICE_IO, TWICE_JO, INV_SUB_IO, INV_SUB_JO, INV_0E_IO, INV_0E_JO, INV_0B_IO, INV_0B_JO, INV_0D_IO, INV_0D_JO, INV_09_IO, INV_09_JO, TIMES_0E_LOW, TIMES_0E_HIGH, TIMES_0B_LOW, TIMES_0B_HIGH, TIMES_0D_LOW, TIMES_0D_HIGH, TIMES_09_LOW, TIMES_09_HIGH}
+use Rattle.krb_aes.specs.Inner.Tower.{by_nibbles, read_from, substituted_of, tower_form, inv_form, inv_by_09, inv_by_0b, inv_by_0d, inv_by_0e}
+use Rattle.krb_aes.specs.declared.tower.TheConstants.{ONCE_IO, ONCE_JO, TWICE_IO, TWICE_JO, INV_SUB_IO, INV_SUB_JO, TIMES_0E_LOW, TIMES_0E_HIGH, TIMES_0B_LOW, TIMES_0B_HIGH, TIMES_0D_LOW, TIMES_0D_HIGH, TIMES_09_LOW, TIMES_09_HIGH}
 use Rattle.krb_aes.proofs.ByteTests.{same_below}
 use Rattle.krb_aes.proofs.FieldLaws.{linear}
 
@@ -52,25 +52,25 @@ pub inv_sub_is : (x : ℕ) → x < 256 → read_from INV_SUB_IO INV_SUB_JO (inv_
 unfolding carryless remainder product inverse number_with affine s_box inv_s_box inv_form
 inv_sub_is = same_below (λ x. read_from INV_SUB_IO INV_SUB_JO (inv_form x)) inv_s_box 256 refl
 
-pub inv_0e_is : (x : ℕ) → x < 256 → read_from INV_0E_IO INV_0E_JO (inv_form x) ≡ inv_part (product 0x0e (inv_s_box x))
+pub inv_0e_is : (x : ℕ) → x < 256 → inv_by_0e (inv_form x) ≡ inv_part (product 0x0e (inv_s_box x))
 unfolding carryless remainder product inverse number_with affine s_box inv_s_box linear inv_form
 inv_0e_is =
-    same_below (λ x. read_from INV_0E_IO INV_0E_JO (inv_form x)) (λ x. inv_part (product 0x0e (inv_s_box x))) 256 refl
+    same_below (λ x. inv_by_0e (inv_form x)) (λ x. inv_part (product 0x0e (inv_s_box x))) 256 refl
 
-pub inv_0b_is : (x : ℕ) → x < 256 → read_from INV_0B_IO INV_0B_JO (inv_form x) ≡ inv_part (product 0x0b (inv_s_box x))
+pub inv_0b_is : (x : ℕ) → x < 256 → inv_by_0b (inv_form x) ≡ inv_part (product 0x0b (inv_s_box x))
 unfolding carryless remainder product inverse number_with affine s_box inv_s_box linear inv_form
 inv_0b_is =
-    same_below (λ x. read_from INV_0B_IO INV_0B_JO (inv_form x)) (λ x. inv_part (product 0x0b (inv_s_box x))) 256 refl
+    same_below (λ x. inv_by_0b (inv_form x)) (λ x. inv_part (product 0x0b (inv_s_box x))) 256 refl
 
-pub inv_0d_is : (x : ℕ) → x < 256 → read_from INV_0D_IO INV_0D_JO (inv_form x) ≡ inv_part (product 0x0d (inv_s_box x))
+pub inv_0d_is : (x : ℕ) → x < 256 → inv_by_0d (inv_form x) ≡ inv_part (product 0x0d (inv_s_box x))
 unfolding carryless remainder product inverse number_with affine s_box inv_s_box linear inv_form
 inv_0d_is =
-    same_below (λ x. read_from INV_0D_IO INV_0D_JO (inv_form x)) (λ x. inv_part (product 0x0d (inv_s_box x))) 256 refl
+    same_below (λ x. inv_by_0d (inv_form x)) (λ x. inv_part (product 0x0d (inv_s_box x))) 256 refl
 
-pub inv_09_is : (x : ℕ) → x < 256 → read_from INV_09_IO INV_09_JO (inv_form x) ≡ inv_part (product 0x09 (inv_s_box x))
+pub inv_09_is : (x : ℕ) → x < 256 → inv_by_09 (inv_form x) ≡ inv_part (product 0x09 (inv_s_box x))
 unfolding carryless remainder product inverse number_with affine s_box inv_s_box linear inv_form
 inv_09_is =
-    same_below (λ x. read_from INV_09_IO INV_09_JO (inv_form x)) (λ x. inv_part (product 0x09 (inv_s_box x))) 256 refl
+    same_below (λ x. inv_by_09 (inv_form x)) (λ x. inv_part (product 0x09 (inv_s_box x))) 256 refl
 
 -- ---- products
 
