@@ -17,7 +17,7 @@ use Rattle.krb_aes.proofs.MixLaws.{row_times_column-xor}
 use Rattle.krb_aes.proofs.StateLaws.{mix_small}
 use Rattle.krb_aes.proofs.LaneRules.{map_below}
 use Rattle.krb_aes.proofs.LaneTests.{tower_columns, tower_part, tower_form_is, sub_is, once_is, twice_is}
-use Rattle.krb_aes.proofs.LaneRounds.{lanes_of_block, of_block, mixed_lane, mixed_lane_is, shifted, shifted_turned_1, shifted_turned_2, shifted_turned_3, picked, at_16, chunk_16}
+use Rattle.krb_aes.proofs.LaneRounds.{lanes_of_block, of_block, mixed_lane_is, shifted, shifted_turned_1, shifted_turned_2, shifted_turned_3, picked, at_16, chunk_16}
 
 -- ---- one lane
 

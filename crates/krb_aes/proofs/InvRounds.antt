@@ -1,6 +1,6 @@
 -- The rounds of the inverse cipher on 16 lanes, on blocks in the form that decryption keeps.
 use Rattle.std.proofs.Common.{◌≡◌, ℕ, ◌+◌, ◌-◌, ◌*◌, ◌%◌, ◌<◌, List, [], ◌∷◌, length, map, refl, sym, ap, ◌∙◌, subst, bit_xor}
-use Rattle.std.specs.Simd.Lanes.{Each1, zip2, chunk}
+use Rattle.std.specs.Simd.Lanes.{zip2, chunk}
 use Rattle.std.specs.Int.Bits.{xor_assoc}
 use Rattle.std.proofs.lemmas.Nat.{xor_of_8}
 use Rattle.krb_aes.specs.Field.{product}

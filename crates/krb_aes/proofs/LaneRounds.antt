@@ -1,15 +1,14 @@
 -- The rounds on 16 lanes: each lane is the byte of the state at its place.
-use Rattle.std.proofs.Common.{◌≡◌, ℕ, zero, suc, ◌+◌, ◌*◌, ◌%◌, ◌<◌, List, [], ◌∷◌, ◌++◌, length, map, refl, sym, ap, ◌∙◌, subst, arith, bit_xor}
+use Rattle.std.proofs.Common.{◌≡◌, ℕ, zero, suc, ◌+◌, ◌%◌, ◌<◌, List, [], ◌∷◌, ◌++◌, length, map, refl, sym, ap, ◌∙◌, subst, arith, bit_xor}
 use Rattle.std.specs.Simd.Lanes.{zip2, pick_l, chunk}
 use Rattle.std.specs.Int.Bits.{xor_assoc}
 use Rattle.std.proofs.lemmas.Nat.{xor_comm}
 use Rattle.std.proofs.lemmas.Simd.{Each1-from_get_or}
 use Rattle.krb_aes.specs.Field.{product}
-use Rattle.krb_aes.specs.SBox.{s_box}
-use Rattle.krb_aes.specs.State.{at, state_of, row_times_column, mix, inv_mix, sub_bytes, shift_rows, mix_columns, inv_mix_columns, add_round_key}
+use Rattle.krb_aes.specs.State.{at, state_of, row_times_column, mix, inv_mix, inv_mix_columns, add_round_key}
 use Rattle.krb_aes.specs.Cipher.{IsBlock}
 use Rattle.krb_aes.specs.Inner.Tower.{LanesBelow}
-use Rattle.krb_aes.proofs.Bytes.{place, s_box_byte, state_of-at, same_state}
+use Rattle.krb_aes.proofs.Bytes.{place, state_of-at, same_state}
 use Rattle.krb_aes.proofs.LaneRules.{map_after}
 use Rattle.krb_aes.proofs.ProductRules.{product_by_01, product_by_03}
 

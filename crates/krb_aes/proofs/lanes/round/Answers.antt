@@ -1,5 +1,3 @@
-use Rattle.std.proofs.Common.{sym, subst, replicate}
-use Rattle.krb_aes.specs.Inner.Tower.{LanesBelow}
 use Rattle.krb_aes.proofs.Bytes.{bytes_of_slice}
 use Rattle.krb_aes.proofs.FormRounds.{round_lanes, key_below}
 use Rattle.krb_aes.proofs.lanes.round.Goals as goal

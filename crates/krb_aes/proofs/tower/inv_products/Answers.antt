@@ -1,5 +1,5 @@
-use Rattle.std.proofs.Common.{◌≡◌, ℕ, map, refl, bit_xor}
-use Rattle.krb_aes.specs.Inner.Tower.{read_from, inv_by_09, inv_by_0b, inv_by_0d, inv_by_0e}
+use Rattle.std.proofs.Common.{ℕ, refl, bit_xor}
+use Rattle.krb_aes.specs.Inner.Tower.{read_from, inv_by_09, inv_by_0d}
 use Rattle.krb_aes.specs.declared.tower.TheConstants.{INV_09_IO, INV_09_JO, INV_04_IO, INV_04_JO, INV_02_IO, INV_02_JO, INV_01_IO, INV_01_JO}
 use Rattle.krb_aes.proofs.LaneRules.{read_lanes, pairs_lanes}
 use Rattle.krb_aes.proofs.tower.inv_products.Goals as goal

@@ -1,4 +1,4 @@
-use Rattle.std.proofs.Common.{◌∙◌, ◌≡◌, length, ap, map, replicate, bit_xor}
+use Rattle.std.proofs.Common.{◌∙◌, ap, replicate, bit_xor}
 use Rattle.std.specs.Simd.Lanes.{zip2}
 use Rattle.krb_aes.specs.Inner.Tower.{read_from}
 use Rattle.krb_aes.specs.declared.tower.TheConstants.{SUB_IO, SUB_JO}
