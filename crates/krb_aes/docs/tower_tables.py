@@ -115,20 +115,20 @@ def nibbles(change):
 TABLES = {
     "INVERSES": [over(1, x) for x in range(16)],
     "A_OVER": [over(A, x) for x in range(16)],
-    "SUB_I_LOW": nibbles(lambda x: COORDINATES[x][0])[0],
-    "SUB_I_HIGH": nibbles(lambda x: COORDINATES[x][0])[1],
-    "SUB_K_LOW": nibbles(lambda x: COORDINATES[x][1])[0],
-    "SUB_K_HIGH": nibbles(lambda x: COORDINATES[x][1])[1],
+    "TOWER_LOW": nibbles(tower)[0],
+    "TOWER_HIGH": nibbles(tower)[1],
     "SUB_IO": from_io(lambda x: LINEAR[x]),
     "SUB_JO": from_jo(lambda x: LINEAR[x]),
-    "DOUBLED_IO": from_io(lambda x: product(2, LINEAR[x])),
-    "DOUBLED_JO": from_jo(lambda x: product(2, LINEAR[x])),
+    "ONCE_IO": from_io(lambda x: tower(LINEAR[x])),
+    "ONCE_JO": from_jo(lambda x: tower(LINEAR[x])),
+    "TWICE_IO": from_io(lambda x: tower(product(2, LINEAR[x]))),
+    "TWICE_JO": from_jo(lambda x: tower(product(2, LINEAR[x]))),
     "INV_FORM_LOW": nibbles(lambda x: tower(unaffine(x)))[0],
     "INV_FORM_HIGH": nibbles(lambda x: tower(unaffine(x)))[1],
     "INV_SUB_IO": from_io(lambda x: x),
     "INV_SUB_JO": from_jo(lambda x: x),
 }
-for c in (0x0E, 0x0B, 0x0D, 0x09):
+for c in (0x09, 0x04, 0x02, 0x01):
     TABLES[f"INV_{c:02X}_IO"] = from_io(lambda x: unaffine_form(product(c, x)))
     TABLES[f"INV_{c:02X}_JO"] = from_jo(lambda x: unaffine_form(product(c, x)))
 for c in (0x0E, 0x0B, 0x0D, 0x09):
@@ -152,14 +152,16 @@ def check():
 
     inverses = [next((b for b in range(256) if product(a, b) == 1), 0) for a in range(256)]
     for x in range(256):
-        io, jo = inverted(half("SUB_I", x), half("SUB_K", x))
+        form = half("TOWER", x)
+        io, jo = inverted(form >> 4, form & 15)
         s = affine(inverses[x])
         assert look("SUB_IO", io) ^ look("SUB_JO", jo) ^ 0x63 == s
-        assert look("DOUBLED_IO", io) ^ look("DOUBLED_JO", jo) ^ 0xC6 == product(2, s)
+        assert look("ONCE_IO", io) ^ look("ONCE_JO", jo) == half("TOWER", s ^ 0x63)
+        assert look("TWICE_IO", io) ^ look("TWICE_JO", jo) == half("TOWER", product(2, s ^ 0x63))
         form = half("INV_FORM", s)
         io, jo = inverted(form >> 4, form & 15)
         assert look("INV_SUB_IO", io) ^ look("INV_SUB_JO", jo) == x
-        for c in (0x0E, 0x0B, 0x0D, 0x09):
+        for c in (0x09, 0x04, 0x02, 0x01):
             times = look(f"INV_{c:02X}_IO", io) ^ look(f"INV_{c:02X}_JO", jo)
             assert times == half("INV_FORM", product(c, x)) ^ half("INV_FORM", 0)
 

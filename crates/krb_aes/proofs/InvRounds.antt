@@ -1,20 +1,20 @@
 -- The rounds of the inverse cipher on 16 lanes, on blocks in the form that decryption keeps.
 use Rattle.std.proofs.Common.{◌≡◌, ℕ, ◌+◌, ◌-◌, ◌*◌, ◌%◌, ◌<◌, List, [], ◌∷◌, length, map, refl, sym, ap, ◌∙◌, subst, bit_xor}
-use Rattle.std.specs.Simd.Lanes.{Each1, zip2, chunk}
+use Rattle.std.specs.Simd.Lanes.{zip2, chunk}
 use Rattle.std.specs.Int.Bits.{xor_assoc}
 use Rattle.std.proofs.lemmas.Nat.{xor_of_8}
 use Rattle.krb_aes.specs.Field.{product}
 use Rattle.krb_aes.specs.SBox.{inv_s_box}
 use Rattle.krb_aes.specs.State.{at, row_times_column, inv_mix, inv_sub_bytes, inv_shift_rows, inv_mix_columns, add_round_key}
 use Rattle.krb_aes.specs.Cipher.{IsBlock}
-use Rattle.krb_aes.specs.Inner.Tower.{LanesBelow, read_from, inv_form}
-use Rattle.krb_aes.specs.declared.tower.TheConstants.{INV_SUB_IO, INV_SUB_JO, INV_0E_IO, INV_0E_JO, INV_0B_IO, INV_0B_JO, INV_0D_IO, INV_0D_JO, INV_09_IO, INV_09_JO}
+use Rattle.krb_aes.specs.Inner.Tower.{LanesBelow, read_from, inv_form, inv_by_09, inv_by_0b, inv_by_0d, inv_by_0e}
+use Rattle.krb_aes.specs.declared.tower.TheConstants.{INV_SUB_IO, INV_SUB_JO}
 use Rattle.krb_aes.proofs.Bytes.{AreBytes, byte_tests, place, row_byte, inv_s_box_byte, state_of-at, same_state}
 use Rattle.krb_aes.proofs.FieldLaws.{linear-xor}
 use Rattle.krb_aes.proofs.StateLaws.{inv_mix_small, inv_mix_columns-added}
 use Rattle.krb_aes.proofs.LaneTests.{inv_columns, inv_part, inv_form_is, inv_sub_is, inv_0e_is, inv_0b_is, inv_0d_is, inv_09_is}
-use Rattle.krb_aes.proofs.LaneRules.{length-map_lanes}
-use Rattle.krb_aes.proofs.LaneRounds.{lanes_of_block, inv_mixed_lane_is, picked, at_16}
+use Rattle.krb_aes.proofs.LaneRules.{map_below}
+use Rattle.krb_aes.proofs.LaneRounds.{lanes_of_block, of_block, inv_mixed_lane_is, picked, at_16}
 
 abbrev unshifted : List ℕ
 unshifted = 0 ∷ 13 ∷ 10 ∷ 7 ∷ 4 ∷ 1 ∷ 14 ∷ 11 ∷ 8 ∷ 5 ∷ 2 ∷ 15 ∷ 12 ∷ 9 ∷ 6 ∷ 3 ∷ []
@@ -62,18 +62,6 @@ inv_round_lane_is r y key small bytes key_byte =
 
 -- ---- all lanes
 
--- a function of the forms of bytes
-of_forms : (f h : ℕ → ℕ) → ((x : ℕ) → x < 256 → f (inv_form x) ≡ h x) → (v : List ℕ) → Each1 (λ x. x < 256) v →
-    map f (map inv_form v) ≡ map h v
-of_forms f h same [] bytes = refl
-of_forms f h same (x ∷ xs) bytes = λ i. same x bytes.0 i ∷ of_forms f h same xs bytes.1 i
-
-of_block : (f h : ℕ → ℕ) → ((x : ℕ) → x < 256 → f (inv_form x) ≡ h x) → (block form read : List ℕ) → IsBlock block →
-    form ≡ map inv_form block → read ≡ map f form → read ≡ map h block
-of_block f h same block form read is form_is read_is =
-    let lanes : LanesBelow 256 block = lanes_of_block block is in
-    read_is ∙ ap (map f) form_is ∙ of_forms f h same block lanes.each
-
 abbrev inv_round_of : List ℕ → List ℕ → List ℕ → List ℕ → List ℕ → List ℕ
 inv_round_of e b d n key =
     zip2 bit_xor (zip2 bit_xor (picked e unshifted) (picked b unshifted_turned_1))
@@ -102,14 +90,14 @@ inv_round_block block round_key is key_is =
 
 pub inv_round_lanes : (form key e b d n block round_key : List ℕ) → IsBlock block → AreBytes round_key →
     form ≡ map inv_form block → key ≡ map inv_form (inv_mix_columns round_key) →
-    e ≡ map (read_from INV_0E_IO INV_0E_JO) form → b ≡ map (read_from INV_0B_IO INV_0B_JO) form →
-    d ≡ map (read_from INV_0D_IO INV_0D_JO) form → n ≡ map (read_from INV_09_IO INV_09_JO) form →
+    e ≡ map inv_by_0e form → b ≡ map inv_by_0b form →
+    d ≡ map inv_by_0d form → n ≡ map inv_by_09 form →
     inv_round_of e b d n key ≡ map inv_form (inv_mix_columns (add_round_key (inv_sub_bytes (inv_shift_rows block)) round_key))
 inv_round_lanes form key e b d n block round_key is key_is form_is key_form e_is b_is d_is n_is =
-    let e_lanes = of_block (read_from INV_0E_IO INV_0E_JO) (λ x. inv_part (product 0x0e (inv_s_box x))) inv_0e_is block form e is form_is e_is in
-    let b_lanes = of_block (read_from INV_0B_IO INV_0B_JO) (λ x. inv_part (product 0x0b (inv_s_box x))) inv_0b_is block form b is form_is b_is in
-    let d_lanes = of_block (read_from INV_0D_IO INV_0D_JO) (λ x. inv_part (product 0x0d (inv_s_box x))) inv_0d_is block form d is form_is d_is in
-    let n_lanes = of_block (read_from INV_09_IO INV_09_JO) (λ x. inv_part (product 0x09 (inv_s_box x))) inv_09_is block form n is form_is n_is in
+    let e_lanes = of_block inv_form inv_by_0e (λ x. inv_part (product 0x0e (inv_s_box x))) inv_0e_is block form e is form_is e_is in
+    let b_lanes = of_block inv_form inv_by_0b (λ x. inv_part (product 0x0b (inv_s_box x))) inv_0b_is block form b is form_is b_is in
+    let d_lanes = of_block inv_form inv_by_0d (λ x. inv_part (product 0x0d (inv_s_box x))) inv_0d_is block form d is form_is d_is in
+    let n_lanes = of_block inv_form inv_by_09 (λ x. inv_part (product 0x09 (inv_s_box x))) inv_09_is block form n is form_is n_is in
     (λ i. inv_round_of (e_lanes i) (b_lanes i) (d_lanes i) (n_lanes i) (key_form i))
     ∙ inv_round_block block round_key is key_is
     ∙ ap (map inv_form) (sym (inv_mix_columns-added (inv_sub_bytes (inv_shift_rows block)) round_key))
@@ -121,7 +109,7 @@ unfolding add_round_key inv_shift_rows inv_sub_bytes
 inv_last_round_lanes form key once block is size form_is once_is =
     let P : List ℕ → List ℕ → Type 0 = λ t k.
     zip2 bit_xor (picked (map inv_s_box t) unshifted) (chunk 0 16 k) ≡ add_round_key (inv_sub_bytes (inv_shift_rows t)) k in
-    let lanes = of_block (read_from INV_SUB_IO INV_SUB_JO) inv_s_box inv_sub_is block form once is form_is once_is in
+    let lanes = of_block inv_form (read_from INV_SUB_IO INV_SUB_JO) inv_s_box inv_sub_is block form once is form_is once_is in
     (λ i. zip2 bit_xor (picked (lanes i) unshifted) (chunk 0 16 key)) ∙ at_16 P block key is.size size refl
 
 -- the forms of bytes are bytes
@@ -129,14 +117,6 @@ inv_form_byte : (x : ℕ) → x < 256 → inv_form x < 256
 unfolding inv_form
 inv_form_byte = byte_tests inv_form refl
 
-each_inv_form : (v : List ℕ) → Each1 (λ x. x < 256) v → Each1 (λ x. x < 256) (map inv_form v)
-each_inv_form [] bytes = tt
-each_inv_form (x ∷ xs) bytes = (inv_form_byte x bytes.0, each_inv_form xs bytes.1)
-
 pub lanes_of_inv_form : (block form : List ℕ) → IsBlock block → form ≡ map inv_form block → LanesBelow 256 form
 lanes_of_inv_form block form is form_is =
-    let lanes : LanesBelow 256 (map inv_form block) = record {
-      size = length-map_lanes inv_form block ∙ is.size;
-      each = each_inv_form block (lanes_of_block block is).each;
-    } in
-    subst (LanesBelow 256) (sym form_is) lanes
+    subst (LanesBelow 256) (sym form_is) (map_below inv_form inv_form_byte block (lanes_of_block block is))

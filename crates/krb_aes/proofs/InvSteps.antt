@@ -1,5 +1,5 @@
 -- Decryption under way: from the block whose form is kept, what is left to do gives InvCipher of the block.
-use Rattle.std.proofs.Common.{◌≡◌, ℕ, ◌-◌, ◌<◌, List, map, refl, sym, ap, ◌∙◌, arith}
+use Rattle.std.proofs.Common.{◌≡◌, ℕ, ◌-◌, ◌<◌, List, map, sym, ap, ◌∙◌, arith}
 use Rattle.krb_aes.specs.State.{inv_sub_bytes, inv_shift_rows, inv_mix_columns, add_round_key}
 use Rattle.krb_aes.specs.KeyExpansion.{IsKey, key_expansion, round_count, round_key}
 use Rattle.krb_aes.specs.Cipher.{IsBlock, inv_rounds, inv_cipher}

@@ -1,15 +1,15 @@
 -- The rounds on 16 lanes: each lane is the byte of the state at its place.
-use Rattle.std.proofs.Common.{◌≡◌, ℕ, zero, suc, ◌+◌, ◌*◌, ◌%◌, ◌<◌, List, [], ◌∷◌, ◌++◌, length, map, refl, sym, ap, ◌∙◌, subst, arith, bit_xor}
+use Rattle.std.proofs.Common.{◌≡◌, ℕ, zero, suc, ◌+◌, ◌%◌, ◌<◌, List, [], ◌∷◌, ◌++◌, length, map, refl, sym, ap, ◌∙◌, subst, arith, bit_xor}
 use Rattle.std.specs.Simd.Lanes.{zip2, pick_l, chunk}
 use Rattle.std.specs.Int.Bits.{xor_assoc}
 use Rattle.std.proofs.lemmas.Nat.{xor_comm}
 use Rattle.std.proofs.lemmas.Simd.{Each1-from_get_or}
 use Rattle.krb_aes.specs.Field.{product}
-use Rattle.krb_aes.specs.SBox.{s_box}
-use Rattle.krb_aes.specs.State.{at, state_of, row_times_column, mix, inv_mix, sub_bytes, shift_rows, mix_columns, inv_mix_columns, add_round_key}
+use Rattle.krb_aes.specs.State.{at, state_of, row_times_column, mix, inv_mix, inv_mix_columns, add_round_key}
 use Rattle.krb_aes.specs.Cipher.{IsBlock}
 use Rattle.krb_aes.specs.Inner.Tower.{LanesBelow}
-use Rattle.krb_aes.proofs.Bytes.{place, s_box_byte, state_of-at, same_state}
+use Rattle.krb_aes.proofs.Bytes.{place, state_of-at, same_state}
+use Rattle.krb_aes.proofs.LaneRules.{map_after}
 use Rattle.krb_aes.proofs.ProductRules.{product_by_01, product_by_03}
 
 pub lanes_of_block : (s : List ℕ) → IsBlock s → LanesBelow 256 s
@@ -17,6 +17,13 @@ lanes_of_block s block = record {
   size = block.size;
   each = Each1-from_get_or (λ x. x < 256) s 0 (λ i within. place s i block.bytes);
 }
+
+-- a function of the forms of a block's bytes
+pub of_block : (g f h : ℕ → ℕ) → ((x : ℕ) → x < 256 → f (g x) ≡ h x) → (block form read : List ℕ) → IsBlock block →
+    form ≡ map g block → read ≡ map f form → read ≡ map h block
+of_block g f h same block form read is form_is read_is =
+    let lanes : LanesBelow 256 block = lanes_of_block block is in
+    read_is ∙ ap (map f) form_is ∙ map_after g f h same block lanes.each
 
 -- ---- sums in another order
 
@@ -38,12 +45,12 @@ in_pairs_with a b c d k =
 
 -- ---- MixColumns, from row r of the column y on
 
-abbrev mixed_lane : ℕ → (ℕ → ℕ) → ℕ → ℕ
+abbrev pub mixed_lane : ℕ → (ℕ → ℕ) → ℕ → ℕ
 mixed_lane r y k =
     bit_xor (bit_xor (product 0x02 (y r)) (bit_xor (product 0x02 (y ((r + 1) % 4))) (y ((r + 1) % 4))))
     (bit_xor (bit_xor (y ((r + 2) % 4)) (y ((r + 3) % 4))) k)
 
-mixed_lane_is : (r : ℕ) (y : ℕ → ℕ) (k : ℕ) → r < 4 → ((j : ℕ) → y j < 256) →
+pub mixed_lane_is : (r : ℕ) (y : ℕ → ℕ) (k : ℕ) → r < 4 → ((j : ℕ) → y j < 256) →
     mixed_lane r y k ≡ bit_xor (row_times_column mix r y) k
 mixed_lane_is zero y k small bytes =
     rw (product_by_03 (y 1) (bytes 1), product_by_01 (y 2) (bytes 2), product_by_01 (y 3) (bytes 3))
@@ -91,16 +98,16 @@ inv_mixed_lane_is (suc (suc (suc (suc r)))) y small = absurd (omega arith)
 
 -- ---- whole rounds
 
-abbrev shifted : List ℕ
+abbrev pub shifted : List ℕ
 shifted = 0 ∷ 5 ∷ 10 ∷ 15 ∷ 4 ∷ 9 ∷ 14 ∷ 3 ∷ 8 ∷ 13 ∷ 2 ∷ 7 ∷ 12 ∷ 1 ∷ 6 ∷ 11 ∷ []
 
-abbrev shifted_turned_1 : List ℕ
+abbrev pub shifted_turned_1 : List ℕ
 shifted_turned_1 = 5 ∷ 10 ∷ 15 ∷ 0 ∷ 9 ∷ 14 ∷ 3 ∷ 4 ∷ 13 ∷ 2 ∷ 7 ∷ 8 ∷ 1 ∷ 6 ∷ 11 ∷ 12 ∷ []
 
-abbrev shifted_turned_2 : List ℕ
+abbrev pub shifted_turned_2 : List ℕ
 shifted_turned_2 = 10 ∷ 15 ∷ 0 ∷ 5 ∷ 14 ∷ 3 ∷ 4 ∷ 9 ∷ 2 ∷ 7 ∷ 8 ∷ 13 ∷ 6 ∷ 11 ∷ 12 ∷ 1 ∷ []
 
-abbrev shifted_turned_3 : List ℕ
+abbrev pub shifted_turned_3 : List ℕ
 shifted_turned_3 = 15 ∷ 0 ∷ 5 ∷ 10 ∷ 3 ∷ 4 ∷ 9 ∷ 14 ∷ 7 ∷ 8 ∷ 13 ∷ 2 ∷ 11 ∷ 12 ∷ 1 ∷ 6 ∷ []
 
 abbrev turned_1 : List ℕ
@@ -120,32 +127,6 @@ pub at_16 : (P : List ℕ → List ℕ → Type 0) (s key : List ℕ) → length
     P (state_of (at s)) (state_of (at key)) → P s key
 at_16 P s key s_size key_size h =
     subst (λ t. P t key) (state_of-at s s_size) (subst (λ t. P (state_of (at s)) t) (state_of-at key key_size) h)
-
-abbrev round_of : List ℕ → List ℕ → List ℕ → List ℕ
-round_of doubled once key =
-    zip2 bit_xor (zip2 bit_xor (picked doubled shifted) (picked (zip2 bit_xor doubled once) shifted_turned_1))
-    (zip2 bit_xor (zip2 bit_xor (picked once shifted_turned_2) (picked once shifted_turned_3)) (chunk 0 16 key))
-
-pub round_lanes : (s key doubled once : List ℕ) → IsBlock s → length key ≡ 16 →
-    doubled ≡ map (λ x. product 0x02 (s_box x)) s → once ≡ map s_box s →
-    round_of doubled once key ≡ add_round_key (mix_columns (shift_rows (sub_bytes s))) key
-unfolding add_round_key mix_columns shift_rows sub_bytes
-round_lanes s key doubled once block size doubled_is once_is =
-    let P : List ℕ → List ℕ → Type 0 = λ t k.
-    round_of (map (λ x. product 0x02 (s_box x)) t) (map s_box t) k ≡ add_round_key (mix_columns (shift_rows (sub_bytes t))) k in
-    let column : ℕ → ℕ → ℕ = λ c j. s_box (at s j ((c + j) % 4)) in
-    (λ i. round_of (doubled_is i) (once_is i) key)
-    ∙ at_16 P s key block.size size
-    (same_state (λ r c. mixed_lane r (column c) (at key r c)) (λ r c. bit_xor (row_times_column mix r (column c)) (at key r c))
-    (λ r c small. mixed_lane_is r (column c) (at key r c) small (λ j. s_box_byte _ (place s (j + 4 * ((c + j) % 4)) block.bytes))))
-
-pub last_round_lanes : (s key once : List ℕ) → IsBlock s → length key ≡ 16 → once ≡ map s_box s →
-    zip2 bit_xor (picked once shifted) (chunk 0 16 key) ≡ add_round_key (shift_rows (sub_bytes s)) key
-unfolding add_round_key shift_rows sub_bytes
-last_round_lanes s key once block size once_is =
-    let P : List ℕ → List ℕ → Type 0 = λ t k.
-    zip2 bit_xor (picked (map s_box t) shifted) (chunk 0 16 k) ≡ add_round_key (shift_rows (sub_bytes t)) k in
-    (λ i. zip2 bit_xor (picked (once_is i) shifted) (chunk 0 16 key)) ∙ at_16 P s key block.size size refl
 
 pub inv_mix_lanes : (s e b d n : List ℕ) → IsBlock s →
     e ≡ map (product 0x0e) s → b ≡ map (product 0x0b) s → d ≡ map (product 0x0d) s → n ≡ map (product 0x09) s →

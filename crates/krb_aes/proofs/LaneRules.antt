@@ -81,6 +81,19 @@ map_same f g same (x ∷ xs) bytes = λ i. same x bytes.0 i ∷ map_same f g sam
 pub lanes_16 : (P : List ℕ → Type 0) → ((f : ℕ → ℕ → ℕ) → P (state_of f)) → (v : List ℕ) → length v ≡ 16 → P v
 lanes_16 P h v size = subst P (state_of-at v size) (h (at v))
 
+-- a function of what another gives for bytes
+pub map_after : (g f h : ℕ → ℕ) → ((x : ℕ) → x < 256 → f (g x) ≡ h x) → (v : List ℕ) → Each1 (λ x. x < 256) v →
+    map f (map g v) ≡ map h v
+map_after g f h same [] bytes = refl
+map_after g f h same (x ∷ xs) bytes = λ i. same x bytes.0 i ∷ map_after g f h same xs bytes.1 i
+
+each_below : (g : ℕ → ℕ) → ((x : ℕ) → x < 256 → g x < 256) → (v : List ℕ) → Each1 (λ x. x < 256) v → Each1 (λ x. x < 256) (map g v)
+each_below g below [] bytes = tt
+each_below g below (x ∷ xs) bytes = (below x bytes.0, each_below g below xs bytes.1)
+
+pub map_below : (g : ℕ → ℕ) → ((x : ℕ) → x < 256 → g x < 256) → (v : List ℕ) → LanesBelow 256 v → LanesBelow 256 (map g v)
+map_below g below v lanes = record { size = length-map_lanes g v ∙ lanes.size; each = each_below g below v lanes.each }
+
 pub by_nibbles_lanes : (low high v p q : List ℕ) → length v ≡ 16 →
     p ≡ map (looked_up low) (zip2 bit_and v (replicate 16 15)) →
     q ≡ map (looked_up high) (zip2 (λ a b. a / 2 ^ b) v (replicate 16 4)) →
@@ -97,13 +110,10 @@ low_halves v size = zip2_splat bit_and v 16 15 size
 pub high_halves : (v : List ℕ) → length v ≡ 16 → zip2 (λ a b. a / 2 ^ b) v (replicate 16 4) ≡ map (λ x. x / 2 ^ 4) v
 high_halves v size = zip2_splat (λ a b. a / 2 ^ b) v 16 4 size
 
--- the sum of two look-ups and a constant
-pub joined_lanes : (s t f g : ℕ → ℕ) (c : ℕ) (v : List ℕ) → length v ≡ 16 →
-    zip2 bit_xor (zip2 bit_xor (map s (map f v)) (replicate 16 c)) (map t (map g v))
-    ≡ map (λ x. bit_xor (bit_xor (s (f x)) c) (t (g x))) v
-joined_lanes s t f g c =
-    lanes_16 (λ w. zip2 bit_xor (zip2 bit_xor (map s (map f w)) (replicate 16 c)) (map t (map g w))
-    ≡ map (λ x. bit_xor (bit_xor (s (f x)) c) (t (g x))) w) (λ f. refl)
+-- the same constant added to each lane
+pub with_constant : (f : ℕ → ℕ) (c : ℕ) (v : List ℕ) → length v ≡ 16 →
+    zip2 bit_xor (map f v) (replicate 16 c) ≡ map (λ x. bit_xor (f x) c) v
+with_constant f c = lanes_16 (λ w. zip2 bit_xor (map f w) (replicate 16 c) ≡ map (λ x. bit_xor (f x) c) w) (λ g. refl)
 
 -- ---- the inverse of k + i * s
 

@@ -15,3 +15,4 @@ pub mod LaneTests
 pub mod LaneRounds
 pub mod InvRounds
 pub mod InvSteps
+pub mod FormRounds

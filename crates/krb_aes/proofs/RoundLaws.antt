@@ -6,10 +6,10 @@ use Rattle.krb_aes.specs.Cipher.{IsBlock, rounds, inv_rounds, cipher, inv_cipher
 use Rattle.krb_aes.proofs.Bytes.{AreBytes, round_key_bytes}
 use Rattle.krb_aes.proofs.StateLaws.{unsubstituted, resubstituted, unmixed, remixed, added_twice, IsBlock-add_round_key, IsBlock-shifted, IsBlock-restored, IsBlock-mix_columns, IsBlock-inv_mix_columns}
 
-abbrev AreKeys : (ℕ → List ℕ) → Type 0
+abbrev pub AreKeys : (ℕ → List ℕ) → Type 0
 AreKeys k = (j : ℕ) → AreBytes (k j)
 
-IsBlock-rounds : (k : ℕ → List ℕ) (j : ℕ) (s : List ℕ) → AreKeys k → IsBlock s → IsBlock (rounds k j s)
+pub IsBlock-rounds : (k : ℕ → List ℕ) (j : ℕ) (s : List ℕ) → AreKeys k → IsBlock s → IsBlock (rounds k j s)
 unfolding rounds
 IsBlock-rounds k zero s keys block = IsBlock-add_round_key s (k 0) block (keys 0)
 IsBlock-rounds k (suc j) s keys block =

@@ -71,7 +71,7 @@ inv_mix_columns-added s key =
 
 -- ---- blocks
 
-mix_small : (r k : ℕ) → mix r k < 16
+pub mix_small : (r k : ℕ) → mix r k < 16
 mix_small r k =
     small_place (2 ∷ 3 ∷ 1 ∷ 1 ∷ []) ((k + 4 - r) % 4)
     (All-from_recursion (λ x. x < 16) (2 ∷ 3 ∷ 1 ∷ 1 ∷ []) (lit< tt, (lit< tt, (lit< tt, (lit< tt, tt)))))

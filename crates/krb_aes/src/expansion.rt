@@ -35,8 +35,7 @@ fn sub_word(t: Word) -> Word
     ensures { result ≡ sub_word t }
 {
     let lanes = [t[0], t[1], t[2], t[3], 0, 0, 0, 0, 0, 0, 0, 0, 0, 0, 0, 0];
-    let (once, _) = substituted(u8x16::from_array(lanes));
-    let bytes = once.to_array();
+    let bytes = substituted(u8x16::from_array(lanes)).to_array();
     [bytes[0], bytes[1], bytes[2], bytes[3]]
 }
 

@@ -4,12 +4,12 @@ ghost use Rattle.std.specs.Prelude.{All, ◌≡◌, ◌<◌, List, ℕ, length, 
 ghost use Rattle.krb_aes.specs.State.{sub_bytes, inv_sub_bytes, shift_rows, inv_shift_rows, mix_columns, inv_mix_columns, add_round_key};
 ghost use Rattle.krb_aes.specs.KeyExpansion.{IsKey};
 ghost use Rattle.krb_aes.specs.Cipher.{IsBlock, cipher, inv_cipher};
-ghost use Rattle.krb_aes.specs.Inner.Tower.{LanesBelow, inv_form};
+ghost use Rattle.krb_aes.specs.Inner.Tower.{LanesBelow, tower_form, inv_form};
 
 use crate::KeySchedule;
 use crate::tower::{
-    InvProducts, inv_formed, inv_products, inv_substituted, substituted, times_0b, times_0d,
-    times_0e, times_09,
+    InvProducts, formed, inv_formed, inv_products, inv_substituted, products, substituted_form,
+    times_0b, times_0d, times_0e, times_09,
 };
 use std::simd::prelude::*;
 
@@ -38,30 +38,41 @@ const TURNED_2: [usize; 16] = [2, 3, 0, 1, 6, 7, 4, 5, 10, 11, 8, 9, 14, 15, 12,
 
 const TURNED_3: [usize; 16] = [3, 0, 1, 2, 7, 4, 5, 6, 11, 8, 9, 10, 15, 12, 13, 14];
 
-// A round of the cipher.
+// The first round key added to a block, in the form that encryption keeps.
 #[inline(always)]
-fn round(state: u8x16, key: &[u8]) -> u8x16
-    requires state { IsBlock state }
-    requires key { length key.now ≡ 16 }
-    ensures value { result ≡ add_round_key (mix_columns (shift_rows (sub_bytes state))) key.now }
-    ensures block { IsBlock result }
+fn first_round(block: &[u8; 16], key: &[u8]) -> u8x16
+    requires { length key.now ≡ 16 }
+    ensures { result ≡ map tower_form (add_round_key block.now key.now) }
 {
-    let (once, doubled) = substituted(state);
+    formed(u8x16::from_array(*block) ^ u8x16::from_slice(key))
+}
+
+// A round of the cipher, on a block in the form that encryption keeps. The constant of SubBytes, which
+// MixColumns leaves as it is, is added with the key, whose form isn't on the way that all else waits for.
+#[inline(always)]
+fn round(form: u8x16, key: &[u8]) -> u8x16
+    requires form { LanesBelow 256 form }
+    requires key { length key.now ≡ 16 }
+    ensures { (block : List ℕ) → IsBlock block → form ≡ map tower_form block
+        → result ≡ map tower_form (add_round_key (mix_columns (shift_rows (sub_bytes block))) key.now) }
+{
+    let (once, doubled) = products(form);
     let tripled = doubled ^ once;
+    let key_form = formed(u8x16::from_slice(key) ^ u8x16::splat(0x63));
     let first = doubled.swizzle(SHIFTED) ^ tripled.swizzle(SHIFTED_TURNED_1);
     let others = once.swizzle(SHIFTED_TURNED_2) ^ once.swizzle(SHIFTED_TURNED_3);
-    first ^ (others ^ u8x16::from_slice(key))
+    first ^ (others ^ key_form)
 }
 
 // The last round, which has no MixColumns.
 #[inline(always)]
-fn last_round(state: u8x16, key: &[u8]) -> u8x16
-    requires state { IsBlock state }
+fn last_round(form: u8x16, key: &[u8]) -> u8x16
+    requires form { LanesBelow 256 form }
     requires key { length key.now ≡ 16 }
-    ensures { result ≡ add_round_key (shift_rows (sub_bytes state)) key.now }
+    ensures { (block : List ℕ) → IsBlock block → form ≡ map tower_form block
+        → result ≡ add_round_key (shift_rows (sub_bytes block)) key.now }
 {
-    let (once, _) = substituted(state);
-    once.swizzle(SHIFTED) ^ u8x16::from_slice(key)
+    substituted_form(form).swizzle(SHIFTED) ^ u8x16::from_slice(key)
 }
 
 // The first round key added to a block, in the form that decryption keeps.
@@ -130,12 +141,12 @@ pub(crate) fn encrypt_block(schedule: &KeySchedule, block: &mut [u8; 16])
     ensures undone { inv_cipher schedule.now block.new ≡ block.old }
 {
     let last = schedule.rounds();
-    let mut state = u8x16::from_array(*block) ^ u8x16::from_slice(schedule.round_key(0));
+    let mut form = first_round(block, schedule.round_key(0));
     for at in 1..last {
-        let next = round(state, schedule.round_key(at));
-        state = next;
+        let next = round(form, schedule.round_key(at));
+        form = next;
     }
-    *block = last_round(state, schedule.round_key(last)).to_array();
+    *block = last_round(form, schedule.round_key(last)).to_array();
 }
 
 pub(crate) fn decrypt_block(schedule: &KeySchedule, block: &mut [u8; 16])

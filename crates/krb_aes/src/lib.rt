@@ -13,7 +13,7 @@
 //! the other. In a clause a `KeySchedule` is the list of its key's bytes. No call takes memory,
 //! fails, or asks anything of its arguments.
 //!
-//! The blocks are turned on 16 lanes. `plain` has the same calls byte by byte, under the same
+//! The blocks are turned on 16 lanes. `plain` has the calls of one block byte by byte, under the same
 //! contracts, and `laws` what holds for all keys and blocks.
 #![tactic(auto)]
 

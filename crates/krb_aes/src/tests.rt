@@ -123,3 +123,37 @@ fn bodies_agree_at_each_first_byte(rt: HostRuntime) {
         bodies_agree(&rt, &long, block);
     }
 }
+
+// The first two blocks of NIST SP 800-38A's examples of ECB come out of these.
+fn two_turn_back(rt: &impl Abort, schedule: &KeySchedule, first: u128, second: u128) {
+    let mut one = first.to_be_bytes();
+    let mut other = second.to_be_bytes();
+    schedule.decrypt_two_blocks(&mut one, &mut other);
+    assert_eq!(rt;
+        u128::from_be_bytes(one),
+        0x6bc1bee22e409f96e93d7e117393172a
+    );
+    assert_eq!(rt;
+        u128::from_be_bytes(other),
+        0xae2d8a571e03ac9c9eb76fac45af8e51
+    );
+}
+
+// NIST SP 800-38A, F.1.2 and F.1.6.
+#[test]
+fn two_blocks_at_once(rt: HostRuntime) {
+    let [key, _, _] = STANDARD_128[0];
+    two_turn_back(
+        &rt,
+        &KeySchedule::new_128(&key.to_be_bytes()),
+        0x3ad77bb40d7a3660a89ecaf32466ef97,
+        0xf5d3d58503b9699de785895a96fdbaaf,
+    );
+    let [high, low, _, _] = STANDARD_256[1];
+    two_turn_back(
+        &rt,
+        &KeySchedule::new_256(&key_of_halves(high, low)),
+        0xf3eed1bdb5d2a03c064b5a7e3db181f8,
+        0x591ccb10d410ed26dc5ba74a31362870,
+    );
+}

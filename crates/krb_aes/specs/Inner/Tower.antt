@@ -1,7 +1,7 @@
 -- The look-ups in tables of 16 bytes, as functions of one lane.
 use Rattle.std.specs.Prelude.{◌≡◌, ℕ, ◌/◌, ◌^◌, ◌<◌, ◌||◌, IsTrue, nat_le, nat_lt, List, length, slice_index, bit_and, bit_xor, if◌then◌else◌}
 use Rattle.std.specs.Simd.Lanes.{Each1}
-use Rattle.krb_aes.specs.declared.tower.TheConstants.{INVERSES, A_OVER, INV_FORM_LOW, INV_FORM_HIGH}
+use Rattle.krb_aes.specs.declared.tower.TheConstants.{INVERSES, A_OVER, TOWER_LOW, TOWER_HIGH, SUB_IO, SUB_JO, INV_FORM_LOW, INV_FORM_HIGH, INV_09_IO, INV_09_JO, INV_04_IO, INV_04_JO, INV_02_IO, INV_02_JO, INV_01_IO, INV_01_JO}
 
 -- 16 lanes below a bound
 pub record LanesBelow (bound : ℕ) (lanes : List ℕ) : Type 0 where
@@ -39,6 +39,27 @@ jo_at t = jo_of (t / 2 ^ 4) (bit_and t 15)
 abbrev pub read_from : List ℕ → List ℕ → ℕ → ℕ
 read_from io_table jo_table t = bit_xor (looked_up io_table (io_at t)) (looked_up jo_table (jo_at t))
 
+-- the SBox value of the byte k + i * s
+abbrev pub substituted_of : ℕ → ℕ
+substituted_of t = bit_xor (read_from SUB_IO SUB_JO t) 0x63
+
+-- the form in which encryption keeps the byte k + i * s: 16 * i + k
+unfoldable pub tower_form : ℕ → ℕ
+tower_form = by_nibbles TOWER_LOW TOWER_HIGH
+
 -- the form in which decryption keeps a byte: 16 * i + k, where k + i * s is the byte with the affine transformation undone
 unfoldable pub inv_form : ℕ → ℕ
 inv_form = by_nibbles INV_FORM_LOW INV_FORM_HIGH
+
+-- the inverse times each entry of InvMixColumns, in this form but for its constant
+abbrev pub inv_by_09 : ℕ → ℕ
+inv_by_09 = read_from INV_09_IO INV_09_JO
+
+abbrev pub inv_by_0b : ℕ → ℕ
+inv_by_0b t = bit_xor (inv_by_09 t) (read_from INV_02_IO INV_02_JO t)
+
+abbrev pub inv_by_0d : ℕ → ℕ
+inv_by_0d t = bit_xor (inv_by_09 t) (read_from INV_04_IO INV_04_JO t)
+
+abbrev pub inv_by_0e : ℕ → ℕ
+inv_by_0e t = bit_xor (inv_by_0d t) (bit_xor (read_from INV_02_IO INV_02_JO t) (read_from INV_01_IO INV_01_JO t))

@@ -1,41 +1,64 @@
-use Rattle.std.proofs.Common.{◌≡◌, ◌+◌, ◌-◌, ◌∙◌, ap, sym, subst, arith}
-use Rattle.krb_aes.specs.State.{add_round_key}
+use Rattle.std.proofs.Common.{◌≡◌, ◌+◌, ◌-◌, ◌∙◌, ap, map, sym, arith}
+use Rattle.krb_aes.specs.State.{add_round_key, sub_bytes, shift_rows, mix_columns}
 use Rattle.krb_aes.specs.KeyExpansion.{key_expansion, round_key}
 use Rattle.krb_aes.specs.Cipher.{IsBlock, rounds, cipher}
+use Rattle.krb_aes.specs.Inner.Tower.{tower_form}
 use Rattle.krb_aes.proofs.Bytes.{block_of_array, round_key_bytes}
-use Rattle.krb_aes.proofs.LaneRounds.{first_key_lanes}
-use Rattle.krb_aes.proofs.RoundLaws.{inv_cipher-cipher}
+use Rattle.krb_aes.proofs.FormRounds.{lanes_of_tower_form}
+use Rattle.krb_aes.proofs.RoundLaws.{IsBlock-rounds, inv_cipher-cipher}
 use Rattle.krb_aes.proofs.RoundRules.{rounds_after}
-use Rattle.krb_aes.proofs.StateLaws.{IsBlock-add_round_key}
 use Rattle.krb_aes.proofs.lanes.encrypt_block.Goals as goal
+
+pub round-next-requires-clause-form : goal.round-next-requires-clause-form
+round-next-requires-clause-form c =
+    let block = block_of_array c.args.block.now c.told-block c.fits-block in
+    let key = c.args.schedule.now in
+    lanes_of_tower_form _ c.loop-at.form
+    (IsBlock-rounds (round_key (key_expansion key)) (c.loop-at.at - 1) c.args.block.now
+    (λ j. round_key_bytes key j c.rounds-last.ensures.key.bytes) block) c.loop-at.invariant.form
+
+pub last_round-requires-clause-form : goal.last_round-requires-clause-form
+last_round-requires-clause-form c =
+    let block = block_of_array c.args.block.now c.told-block c.fits-block in
+    let key = c.args.schedule.now in
+    lanes_of_tower_form _ c.loop-at.form
+    (IsBlock-rounds (round_key (key_expansion key)) (c.loop-at.at - 1) c.args.block.now
+    (λ j. round_key_bytes key j c.rounds-last.ensures.key.bytes) block) c.loop-at.invariant.form
 
 pub loop-at-init : goal.loop-at-init
 unfolding rounds
-loop-at-init c =
-    let block = block_of_array c.args.block.now c.told-block c.fits-block in
-    let k = round_key (key_expansion c.args.schedule.now) in
-    let keyed = first_key_lanes c.args.block.now c.round_key.result.now c.told-block c.round_key.ensures.len
-    ∙ ap (add_round_key c.args.block.now) c.round_key.ensures.value in
-    record {
-      value = keyed;
-      block = subst IsBlock (sym keyed) (IsBlock-add_round_key c.args.block.now (k 0) block
-          (round_key_bytes c.args.schedule.now 0 c.rounds-last.ensures.key.bytes));
-    }
+loop-at-init c = record {
+  form = c.first_round-form.ensures ∙ ap (λ k. map tower_form (add_round_key c.args.block.now k)) c.round_key.ensures.value;
+}
 
 pub loop-at-preserved : goal.loop-at-preserved
 loop-at-preserved c =
-    let k = round_key (key_expansion c.args.schedule.now) in
-    let same : c.loop-at.at + 1 - 1 ≡ c.loop-at.at = omega arith in
-    record {
-      value = rw same (cc (rounds_after k c.args.block.now c.loop-at.at (omega arith), c.loop-at.invariant.value));
-      block = c.round-next.ensures.block;
-    }
+    let key = c.args.schedule.now in
+    let k = round_key (key_expansion key) in
+    let at = c.loop-at.at in
+    let before = rounds k (at - 1) c.args.block.now in
+    let block = block_of_array c.args.block.now c.told-block c.fits-block in
+    let is : IsBlock before = IsBlock-rounds k (at - 1) c.args.block.now (λ j. round_key_bytes key j c.rounds-last.ensures.key.bytes) block in
+    let same : at + 1 - 1 ≡ at = omega arith in
+    let next = c.round-next.ensures before is c.loop-at.invariant.form
+    ∙ ap (λ t. map tower_form (add_round_key (mix_columns (shift_rows (sub_bytes before))) t)) c.round_key-in-loop-at.ensures.value
+    ∙ ap (map tower_form) (sym (rounds_after k c.args.block.now at (omega arith))) in
+    record { form = rw same next }
 
 pub returns-clause-block : goal.returns-clause-block
 unfolding cipher
 returns-clause-block c =
-    let end : c.loop-at.at ≡ c.rounds-last.result = omega arith in
-    cc (c.loop-at.invariant.value)
+    let key = c.args.schedule.now in
+    let k = round_key (key_expansion key) in
+    let last = c.rounds-last.result in
+    let end : c.loop-at.at - 1 ≡ last - 1 = omega arith in
+    let before = rounds k (c.loop-at.at - 1) c.args.block.now in
+    let block = block_of_array c.args.block.now c.told-block c.fits-block in
+    let is : IsBlock before = IsBlock-rounds k (c.loop-at.at - 1) c.args.block.now (λ j. round_key_bytes key j c.rounds-last.ensures.key.bytes) block in
+    c.last_round.ensures before is c.loop-at.invariant.form
+    ∙ ap (add_round_key (shift_rows (sub_bytes before))) c.round_key-2.ensures.value
+    ∙ ap (λ n. add_round_key (shift_rows (sub_bytes (rounds k n c.args.block.now))) (k last)) end
+    ∙ ap (λ n. add_round_key (shift_rows (sub_bytes (rounds k (n - 1) c.args.block.now))) (k n)) c.rounds-last.ensures.count
 
 pub returns-clause-undone : goal.returns-clause-undone
 returns-clause-undone c =
