@@ -29,7 +29,9 @@ use std::marker::Model;
 
 /// The service's side of the exchange (RFC 4120, section 3.2.3): a keytab, a skew and a memory of what was seen.
 ///
-/// A contract sees the entries and the skew, by which it decides, and the memory.
+/// It keeps the keys that it derived for tickets under the service key that it used last, in place, so that the next ticket under
+/// that key costs no derivation. A contract sees the entries and the skew, by which it decides, and the memory: no answer depends
+/// on what is kept.
 #[derive(Drop)]
 pub struct Acceptor<M> {
     pub(crate) keytab: Keytab,

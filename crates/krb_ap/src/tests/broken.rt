@@ -2,8 +2,8 @@
 
 use super::client::sent;
 use super::*;
-use crate::{FinishFault, ReplyOptions};
-use krb_msg::{ApRepRef, ApReqRef};
+use crate::{FinishFault, Pending, ReplyOptions};
+use krb_msg::ApRepRef;
 
 const AT: (i64, u32) = (1_700_000_100, 5);
 
@@ -96,48 +96,66 @@ fn resealed(alloc: Global, key: &Key, from: u32, to: u32, cipher: &[u8]) -> Resu
     Ok(key.seal(alloc, to, &[0x20; 16], &plain)?)
 }
 
+// The request with a ticket that is sealed for another usage.
+fn with_resealed_ticket(alloc: Global) -> Result<Vec<u8>, Fail> {
+    let key = key(alloc, 19, &SERVICE_KEY)?;
+    let ticket = resealed(alloc, &key, 2, 11, &sealed_part(alloc, FIXTURE)?)?;
+    let authenticator = sealed_authenticator(alloc, FIXTURE)?;
+    request_with(alloc, FIXTURE, ticket, authenticator)
+}
+
 #[test]
 fn a_ticket_for_another_usage(rt: HostRuntime) -> Result<(), Fail> {
-    let alloc = rt.alloc();
-    let mut broken = ApReqRef::parse(&request(alloc, FIXTURE)?)?.to_owned(alloc)?;
-    let key = key(alloc, 19, &SERVICE_KEY)?;
-    broken.ticket.enc_part.cipher = resealed(alloc, &key, 2, 11, &broken.ticket.enc_part.cipher)?;
-    let outcome = answered(alloc, &broken.encode(alloc)?)?;
+    let outcome = answered(rt.alloc(), &with_resealed_ticket(rt.alloc())?)?;
     is(&rt, "usage 11", kind_of(outcome), "ticket integrity");
     Ok(())
 }
 
+// The request with an authenticator that is sealed for another usage.
+fn with_resealed_authenticator(alloc: Global) -> Result<Vec<u8>, Fail> {
+    let key = key(alloc, 19, &SESSION_KEY)?;
+    let authenticator = sealed_authenticator(alloc, FIXTURE)?;
+    let authenticator = resealed(alloc, &key, 11, 2, &authenticator)?;
+    request_with(alloc, FIXTURE, sealed_part(alloc, FIXTURE)?, authenticator)
+}
+
 #[test]
 fn an_authenticator_for_another_usage(rt: HostRuntime) -> Result<(), Fail> {
-    let alloc = rt.alloc();
-    let mut broken = ApReqRef::parse(&request(alloc, FIXTURE)?)?.to_owned(alloc)?;
-    let key = key(alloc, 19, &SESSION_KEY)?;
-    broken.authenticator.cipher = resealed(alloc, &key, 11, 2, &broken.authenticator.cipher)?;
-    let outcome = answered(alloc, &broken.encode(alloc)?)?;
+    let outcome = answered(rt.alloc(), &with_resealed_authenticator(rt.alloc())?)?;
     is(&rt, "usage 2", kind_of(outcome), "authenticator integrity");
     Ok(())
 }
 
-// A reply to these bytes that is sealed for another usage.
-fn reply_for_another_usage(alloc: Global, bytes: &[u8]) -> Result<Vec<u8>, Fail> {
-    let accepted = answered(alloc, bytes)?.map_err(|_| "refused")?;
+// The reply to these bytes.
+fn reply_to(alloc: Global, bytes: &[u8]) -> Result<Vec<u8>, Fail> {
+    let accepted = taken_by(alloc, TimedMemory::new(alloc), bytes, AT)?;
     let options = ReplyOptions {
         subkey: None,
         seq: None,
     };
-    let reply = accepted.reply(alloc, &[0x30; 16], options)?;
-    let mut broken = ApRepRef::parse(&reply)?.to_owned(alloc)?;
-    let key = &accepted.session_key;
-    broken.enc_part.cipher = resealed(alloc, key, 12, 11, &broken.enc_part.cipher)?;
+    Ok(accepted.reply(alloc, &[0x30; 16], options)?)
+}
+
+// What a reply is with this sealed text.
+fn reply_with(alloc: Global, reply: &ApRepRef, cipher: Vec<u8>) -> Result<Vec<u8>, Fail> {
+    let mut broken = reply.to_owned(alloc)?;
+    broken.enc_part.cipher = cipher;
     Ok(broken.encode(alloc)?)
+}
+
+// A reply that is sealed for another usage.
+fn resealed_reply(alloc: Global, reply: &[u8]) -> Result<Vec<u8>, Fail> {
+    let key = key(alloc, 19, &SESSION_KEY)?;
+    let reply = ApRepRef::parse(reply)?;
+    let cipher = resealed(alloc, &key, 12, 11, reply.enc_part.cipher)?;
+    reply_with(alloc, &reply, cipher)
 }
 
 #[test]
 fn a_reply_for_another_usage(rt: HostRuntime) -> Result<(), Fail> {
-    let alloc = rt.alloc();
-    let (bytes, pending) = sent(alloc, FIXTURE, None, None)?;
-    let reply = reply_for_another_usage(alloc, &bytes)?;
-    let fault = pending.finish(alloc, &reply).err();
+    let (bytes, pending) = sent(rt.alloc(), FIXTURE, None, None)?;
+    let reply = resealed_reply(rt.alloc(), &reply_to(rt.alloc(), &bytes)?)?;
+    let fault = pending.finish(rt.alloc(), &reply).err();
     is(&rt, "usage 11", fault, Some(FinishFault::Integrity));
     Ok(())
 }
@@ -189,30 +207,24 @@ fn bent(alloc: Global, key: &Key, usage: u32, cipher: &[u8], bend: Bend) -> Resu
 }
 
 fn with_bent_ticket(alloc: Global, bend: Bend) -> Result<Vec<u8>, Fail> {
-    let mut broken = ApReqRef::parse(&request(alloc, FIXTURE)?)?.to_owned(alloc)?;
     let key = key(alloc, 19, &SERVICE_KEY)?;
-    broken.ticket.enc_part.cipher = bent(alloc, &key, 2, &broken.ticket.enc_part.cipher, bend)?;
-    Ok(broken.encode(alloc)?)
+    let ticket = bent(alloc, &key, 2, &sealed_part(alloc, FIXTURE)?, bend)?;
+    let authenticator = sealed_authenticator(alloc, FIXTURE)?;
+    request_with(alloc, FIXTURE, ticket, authenticator)
 }
 
 fn with_bent_authenticator(alloc: Global, bend: Bend) -> Result<Vec<u8>, Fail> {
-    let mut broken = ApReqRef::parse(&request(alloc, FIXTURE)?)?.to_owned(alloc)?;
     let key = key(alloc, 19, &SESSION_KEY)?;
-    broken.authenticator.cipher = bent(alloc, &key, 11, &broken.authenticator.cipher, bend)?;
-    Ok(broken.encode(alloc)?)
+    let authenticator = sealed_authenticator(alloc, FIXTURE)?;
+    let authenticator = bent(alloc, &key, 11, &authenticator, bend)?;
+    request_with(alloc, FIXTURE, sealed_part(alloc, FIXTURE)?, authenticator)
 }
 
-fn with_bent_reply(alloc: Global, bytes: &[u8], bend: Bend) -> Result<Vec<u8>, Fail> {
-    let accepted = answered(alloc, bytes)?.map_err(|_| "refused")?;
-    let options = ReplyOptions {
-        subkey: None,
-        seq: None,
-    };
-    let reply = accepted.reply(alloc, &[0x30; 16], options)?;
-    let mut broken = ApRepRef::parse(&reply)?.to_owned(alloc)?;
-    let key = &accepted.session_key;
-    broken.enc_part.cipher = bent(alloc, key, 12, &broken.enc_part.cipher, bend)?;
-    Ok(broken.encode(alloc)?)
+fn bent_reply(alloc: Global, reply: &[u8], bend: Bend) -> Result<Vec<u8>, Fail> {
+    let key = key(alloc, 19, &SESSION_KEY)?;
+    let reply = ApRepRef::parse(reply)?;
+    let cipher = bent(alloc, &key, 12, reply.enc_part.cipher, bend)?;
+    reply_with(alloc, &reply, cipher)
 }
 
 // Both memories answer so to one request.
@@ -235,39 +247,71 @@ fn both_memories(
 
 #[test]
 fn tickets_that_are_bent(rt: HostRuntime) -> Result<(), Fail> {
-    let alloc = rt.alloc();
-    let straight = with_bent_ticket(alloc, STRAIGHT)?;
-    both_memories(&rt, alloc, STRAIGHT, &straight, None)?;
+    is_ticket_answered(&rt, rt.alloc(), STRAIGHT, None)?;
     for bend in BENDS {
-        let bytes = with_bent_ticket(alloc, bend)?;
-        both_memories(&rt, alloc, bend, &bytes, Some(Refusal::TicketIntegrity))?;
+        let wanted = Some(Refusal::TicketIntegrity);
+        is_ticket_answered(&rt, rt.alloc(), bend, wanted)?;
     }
     Ok(())
 }
 
+fn is_ticket_answered(
+    rt: &(impl Alloc + Abort),
+    alloc: Global,
+    bend: Bend,
+    wanted: Option<Refusal>,
+) -> Result<(), Fail> {
+    both_memories(rt, alloc, bend, &with_bent_ticket(alloc, bend)?, wanted)
+}
+
 #[test]
 fn authenticators_that_are_bent(rt: HostRuntime) -> Result<(), Fail> {
-    let alloc = rt.alloc();
-    let straight = with_bent_authenticator(alloc, STRAIGHT)?;
-    both_memories(&rt, alloc, STRAIGHT, &straight, None)?;
+    is_authenticator_answered(&rt, rt.alloc(), STRAIGHT, None)?;
     for bend in BENDS {
-        let bytes = with_bent_authenticator(alloc, bend)?;
         let wanted = Some(Refusal::AuthenticatorIntegrity);
-        both_memories(&rt, alloc, bend, &bytes, wanted)?;
+        is_authenticator_answered(&rt, rt.alloc(), bend, wanted)?;
     }
     Ok(())
+}
+
+fn is_authenticator_answered(
+    rt: &(impl Alloc + Abort),
+    alloc: Global,
+    bend: Bend,
+    wanted: Option<Refusal>,
+) -> Result<(), Fail> {
+    both_memories(
+        rt,
+        alloc,
+        bend,
+        &with_bent_authenticator(alloc, bend)?,
+        wanted,
+    )
 }
 
 #[test]
 fn replies_that_are_bent(rt: HostRuntime) -> Result<(), Fail> {
     let alloc = rt.alloc();
     let (bytes, pending) = sent(alloc, FIXTURE, None, None)?;
-    let straight = with_bent_reply(alloc, &bytes, STRAIGHT)?;
-    is(&rt, STRAIGHT, pending.finish(alloc, &straight).err(), None);
+    let reply = reply_to(alloc, &bytes)?;
+    is_finished(&rt, alloc, &pending, &reply, STRAIGHT, None)?;
     for bend in BENDS {
-        let reply = with_bent_reply(alloc, &bytes, bend)?;
-        let fault = pending.finish(alloc, &reply).err();
-        is(&rt, bend, fault, Some(FinishFault::Integrity));
+        let wanted = Some(FinishFault::Integrity);
+        is_finished(&rt, alloc, &pending, &reply, bend, wanted)?;
     }
+    Ok(())
+}
+
+// What the client answers to a reply that is bent so.
+fn is_finished(
+    rt: &(impl Alloc + Abort),
+    alloc: Global,
+    pending: &Pending,
+    reply: &[u8],
+    bend: Bend,
+    wanted: Option<FinishFault>,
+) -> Result<(), Fail> {
+    let reply = bent_reply(alloc, reply, bend)?;
+    is(rt, bend, pending.finish(alloc, &reply).err(), wanted);
     Ok(())
 }

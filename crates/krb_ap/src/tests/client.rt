@@ -1,7 +1,7 @@
 //! The client's side: which credential is used, and the request that is built with it.
 
 use super::*;
-use crate::{Accepted, Pending, RequestFault, RequestOptions, make_request};
+use crate::{Pending, RequestFault, RequestOptions, make_request};
 use krb_ccache::{CCache, Credential, TypedList};
 use krb_msg::Bytes;
 
@@ -91,11 +91,13 @@ fn credential(
     client: Principal,
     ticket: Vec<u8>,
 ) -> Result<Credential, Fail> {
+    let server = name(alloc, held.server, 3)?;
+    let key = stretched(alloc, &SESSION_KEY, held.key_len)?;
     Ok(Credential {
         client,
-        server: name(alloc, held.server, 3)?,
+        server,
         etype: held.etype,
-        key: Bytes::from(stretched(alloc, &SESSION_KEY, held.key_len)?),
+        key: Bytes::from(key),
         authtime: 1_700_000_000,
         starttime: 0,
         endtime: held.endtime,
@@ -109,12 +111,16 @@ fn credential(
     })
 }
 
+fn held_credential(alloc: Global, held: Held) -> Result<Credential, Fail> {
+    let client = name(alloc, held.client, 1)?;
+    let ticket = hex::decode(alloc, held.ticket)?;
+    credential(alloc, held, client, ticket)
+}
+
 fn cache(alloc: Global, held: &[Held]) -> Result<CCache, Fail> {
     let mut credentials = Vec::new(alloc);
     for one in held {
-        let client = name(alloc, one.client, 1)?;
-        let ticket = hex::decode(alloc, one.ticket)?;
-        credentials.push(credential(alloc, *one, client, ticket)?)?;
+        credentials.push(held_credential(alloc, *one)?)?;
     }
     let client = name(alloc, "alice@EX", 1)?;
     Ok(CCache::from_parts(Vec::new(alloc), client, credentials).ok_or("a cache")?)
@@ -149,45 +155,49 @@ fn fault_of<T: Drop>(made: Result<T, RequestFault>) -> Option<RequestFault> {
     }
 }
 
-#[test]
-fn the_request_of_the_fixture(rt: HostRuntime) -> Result<(), Fail> {
-    let alloc = rt.alloc();
+// The request for the fixture's service is this one, and as long.
+fn is_request(
+    rt: &(impl Alloc + Abort),
+    alloc: Global,
+    options: RequestOptions,
+    wanted: &[u8],
+) -> Result<(), Fail> {
     let cache = cache(alloc, &[HELD])?;
-    let wanted = hex::decode(alloc, REQUEST)?;
-    let found = made(alloc, &cache, "host/web@EX", SENT, plain_options())?.map_err(
-        |_| "no request",
-    )?;
-    is(&rt, "plain", found.as_slice(), wanted.as_slice());
-    let options = RequestOptions {
-        mutual: true,
-        ..plain_options()
-    };
-    let found = made(alloc, &cache, "host/web@EX", SENT, options)?.map_err(|_| "no request")?;
-    // The options begin at the byte 23.
-    let mut wanted = wanted;
-    if let Some(options) = wanted.get_mut(23) {
-        *options = 0x20;
+    match made(alloc, &cache, "host/web@EX", SENT, options)? {
+        Ok(found) => is(rt, "request", found.as_slice(), wanted),
+        Err(fault) => is(rt, "request", Some(fault), None),
     }
-    is(&rt, "mutual", found.as_slice(), wanted.as_slice());
-    is(&rt, "length", found.len(), 348);
     Ok(())
 }
 
 #[test]
-fn a_subkey_and_a_number(rt: HostRuntime) -> Result<(), Fail> {
-    let alloc = rt.alloc();
+fn the_request_of_the_fixture(rt: HostRuntime) -> Result<(), Fail> {
+    let mut wanted = hex::decode(rt.alloc(), REQUEST)?;
+    is(&rt, "length", wanted.len(), 348);
+    is_request(&rt, rt.alloc(), plain_options(), &wanted)?;
+    // The options begin at the byte 23.
+    *wanted.get_mut(23).ok_or("a place")? = 0x20;
+    let mutual = RequestOptions {
+        mutual: true,
+        subkey: None,
+        seq: None,
+    };
+    is_request(&rt, rt.alloc(), mutual, &wanted)
+}
+
+fn keyed_options(alloc: Global) -> Result<RequestOptions, Fail> {
     let subkey: Vec<u8> = Vec::from_iter(alloc, 32..64)?;
-    let options = RequestOptions {
+    Ok(RequestOptions {
         mutual: true,
         subkey: Some(Key::new(20, &subkey)?),
         seq: Some(u32::MAX),
-    };
-    let found = made(alloc, &cache(alloc, &[HELD])?, "host/web@EX", SENT, options)?.map_err(
-        |_| "no request",
-    )?;
-    let wanted = hex::decode(alloc, KEYED)?;
-    is(&rt, "bytes", found.as_slice(), wanted.as_slice());
-    Ok(())
+    })
+}
+
+#[test]
+fn a_subkey_and_a_number(rt: HostRuntime) -> Result<(), Fail> {
+    let wanted = hex::decode(rt.alloc(), KEYED)?;
+    is_request(&rt, rt.alloc(), keyed_options(rt.alloc())?, &wanted)
 }
 
 // The end of a ticket is the first moment at which it isn't used any more.
@@ -264,48 +274,67 @@ fn fault_in(
     }
 }
 
+// There is no credential for the fixture's service, nor for that of a configuration entry.
+fn has_no_credential(
+    rt: &(impl Alloc + Abort),
+    alloc: Global,
+    row: &'static str,
+    cache: &CCache,
+) -> Result<(), Fail> {
+    for service in ["host/web@EX", CONFIGURATION.server] {
+        let found = made(alloc, cache, service, SENT, plain_options())?;
+        let wanted = Some(RequestFault::NoCredential);
+        is(rt, (row, service), fault_of(found), wanted);
+    }
+    Ok(())
+}
+
 // A configuration entry is no ticket, also where its own server is asked for.
 #[test]
 fn a_configuration_entry(rt: HostRuntime) -> Result<(), Fail> {
-    let alloc = rt.alloc();
-    let configured = CCache::parse(alloc, &hex::decode(alloc, CONFIGURED)?)?;
-    let held = cache(alloc, &[CONFIGURATION])?;
-    for (row, cache) in [&configured, &held].into_iter().enumerate() {
-        for service in ["host/web@EX", CONFIGURATION.server] {
-            let found = made(alloc, cache, service, SENT, plain_options())?;
-            is(
-                &rt,
-                (row, service),
-                fault_of(found),
-                Some(RequestFault::NoCredential),
-            );
-        }
-    }
-    Ok(())
+    has_no_credential(&rt, rt.alloc(), "file", &configured(rt.alloc())?)?;
+    let held = cache(rt.alloc(), &[CONFIGURATION])?;
+    has_no_credential(&rt, rt.alloc(), "entry", &held)
+}
+
+fn configured(alloc: Global) -> Result<CCache, Fail> {
+    let bytes = hex::decode(alloc, CONFIGURED)?;
+    Ok(CCache::parse(alloc, &bytes)?)
+}
+
+fn with_realm(alloc: Global, size: usize) -> Result<Principal, Fail> {
+    let mut realm = Vec::new(alloc);
+    realm.resize(size, 0x45)?;
+    let mut client = name(alloc, "alice@EX", 1)?;
+    client.realm = Bytes::from(realm);
+    Ok(client)
+}
+
+// A cache of this client, with one ticket.
+fn cache_of(alloc: Global, held: Held, client: Principal, ticket: Vec<u8>) -> Result<CCache, Fail> {
+    let mut credentials = Vec::new(alloc);
+    credentials.push(credential(alloc, held, client.clone()?, ticket)?)?;
+    Ok(CCache::from_parts(Vec::new(alloc), client, credentials).ok_or("a cache")?)
 }
 
 // The authenticator, or the request round it, passes the limit of a message.
 #[test]
 fn a_client_with_a_long_realm(rt: HostRuntime) -> Result<(), Fail> {
-    let alloc = rt.alloc();
     let rows = [
         (1_048_000, None),
         (1_048_450, Some(RequestFault::TooLong)),
         (1_048_576, Some(RequestFault::TooLong)),
     ];
     for (size, wanted) in rows {
-        let mut realm = Vec::new(alloc);
-        realm.resize(size, 0x45)?;
-        let mut client = name(alloc, "alice@EX", 1)?;
-        client.realm = Bytes::from(realm);
-        let ticket = hex::decode(alloc, TICKET)?;
-        let mut credentials = Vec::new(alloc);
-        credentials.push(credential(alloc, HELD, client.clone()?, ticket)?)?;
-        let cache = CCache::from_parts(Vec::new(alloc), client, credentials).ok_or("a cache")?;
-        let found = made(alloc, &cache, "host/web@EX", SENT, plain_options())?;
-        is(&rt, size, fault_of(found), wanted);
+        is(&rt, size, fault_with_realm(rt.alloc(), size)?, wanted);
     }
     Ok(())
+}
+
+fn fault_with_realm(alloc: Global, size: usize) -> Result<Option<RequestFault>, Fail> {
+    let ticket = hex::decode(alloc, TICKET)?;
+    let cache = cache_of(alloc, HELD, with_realm(alloc, size)?, ticket)?;
+    Ok(fault_of(made(alloc, &cache, "host/web@EX", SENT, plain_options())?))
 }
 
 // A request that was built with a ticket for these, and what is kept of it.
@@ -331,9 +360,7 @@ pub(super) fn sent_with(
     };
     let client = name(alloc, ticket.ticket_client, 2)?;
     let bytes = ticket_of(alloc, ticket)?.encode(alloc)?;
-    let mut credentials = Vec::new(alloc);
-    credentials.push(credential(alloc, held, client.clone()?, bytes)?)?;
-    let cache = CCache::from_parts(Vec::new(alloc), client, credentials).ok_or("a cache")?;
+    let cache = cache_of(alloc, held, client, bytes)?;
     let options = RequestOptions {
         mutual: true,
         subkey,
@@ -360,34 +387,44 @@ fn taken(
     seq: Option<u32>,
 ) -> Result<(), Fail> {
     let (bytes, _) = sent(alloc, ticket, subkey, seq)?;
-    let mut plain = acceptor(alloc, ListMemory::new(alloc))?;
-    let mut timed = acceptor(alloc, TimedMemory::new(alloc))?;
-    let kept = plain.accept(alloc, &bytes, moment(SENT)?);
-    is_taken(rt, alloc, &kept.map_err(|_| "refused")?, ticket)?;
-    let accepted = timed
-        .accept(alloc, &bytes, moment(SENT)?)
-        .map_err(|_| "refused")?;
-    is_taken(rt, alloc, &accepted, ticket)?;
-    is(rt, "seq", accepted.seq, seq);
-    let found = accepted.subkey.map(|key| (key.etype, key.bytes.len()));
-    is(rt, "subkey", found, subkey);
-    Ok(())
+    let kept = taken_by(alloc, ListMemory::new(alloc), &bytes, SENT)?;
+    is_taken(rt, alloc, &kept, (ticket, subkey, seq))?;
+    let timed = taken_by(alloc, TimedMemory::new(alloc), &bytes, SENT)?;
+    is_taken(rt, alloc, &timed, (ticket, subkey, seq))
 }
+
+// A ticket for these, and what the client chose.
+type Wanted = (Made, Option<(i32, usize)>, Option<u32>);
 
 fn is_taken(
     rt: &(impl Alloc + Abort),
     alloc: Global,
     accepted: &Accepted,
-    ticket: Made,
+    wanted: Wanted,
 ) -> Result<(), Fail> {
+    is_chosen(rt, accepted, wanted);
     let client = accepted.client.to_text(alloc)?;
-    is(rt, "client", client.as_str(), ticket.ticket_client);
+    is(rt, "client", client.as_str(), wanted.0.ticket_client);
+    Ok(())
+}
+
+fn is_chosen(rt: &(impl Alloc + Abort), accepted: &Accepted, wanted: Wanted) {
+    let (ticket, subkey, seq) = wanted;
     let etype = accepted.session_key.etype();
     is(rt, "etype", etype, ticket.session_etype);
     is(rt, "mutual", accepted.mutual, true);
     is(rt, "ctime", accepted.ctime.get(), SENT.0);
     is(rt, "cusec", accepted.cusec.get(), SENT.1);
-    Ok(())
+    is(rt, "seq", accepted.seq, seq);
+    is(rt, "subkey", size_of_key(&accepted.subkey), subkey);
+}
+
+// The type of a key, and how many bytes it has.
+pub(super) fn size_of_key(key: &Option<RawKey>) -> Option<(i32, usize)> {
+    match key {
+        Some(key) => Some((key.etype, key.bytes.len())),
+        None => None,
+    }
 }
 
 #[test]

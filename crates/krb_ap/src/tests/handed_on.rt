@@ -2,8 +2,7 @@
 
 use super::client::sent;
 use super::*;
-use crate::Accepted;
-use krb_msg::{ApRep, ApReqRef, AuthenticatorRef, EncApRepPart, EncTicketRef};
+use krb_msg::{ApRep, AuthenticatorRef, EncApRepPart, EncTicketRef};
 
 fn typed(alloc: Global, kind: i32, byte: u8, size: usize) -> Result<Typed, Fail> {
     Ok(Typed {
@@ -28,34 +27,53 @@ fn other_key(alloc: Global) -> Result<Option<RawKey>, Fail> {
     }))
 }
 
-fn full_part(alloc: Global, cipher: &[u8]) -> Result<Vec<u8>, Fail> {
-    let key = key(alloc, 19, &SERVICE_KEY)?;
-    let mut part = EncTicketRef::parse(&key.open(alloc, 2, cipher)?)?.to_owned(alloc)?;
-    part.flags = Flags::only(TRANSITED_POLICY_CHECKED);
-    part.transited = typed(alloc, 1, 0xc0, 3)?;
-    part.starttime = Some(seconds(1_700_000_001)?);
-    part.renew_till = Some(seconds(1_700_100_000)?);
-    part.caddr = two_elements(alloc, 2, 0xa0)?;
-    part.authorization = two_elements(alloc, 1, 0xb0)?;
-    Ok(key.seal(alloc, 2, &[0x10; 16], &part.encode(alloc)?)?)
+fn opened_part(alloc: Global, key: &Key) -> Result<EncTicketPart, Fail> {
+    let plain = key.open(alloc, 2, &sealed_part(alloc, FIXTURE)?)?;
+    Ok(EncTicketRef::parse(&plain)?.to_owned(alloc)?)
 }
 
-fn full_authenticator(alloc: Global, cipher: &[u8]) -> Result<Vec<u8>, Fail> {
-    let key = key(alloc, 19, &SESSION_KEY)?;
-    let plain = key.open(alloc, 11, cipher)?;
-    let mut authenticator = AuthenticatorRef::parse(&plain)?.to_owned(alloc)?;
+fn full_part(alloc: Global, key: &Key) -> Result<EncTicketPart, Fail> {
+    let starttime = seconds(1_700_000_001)?;
+    let renew_till = seconds(1_700_100_000)?;
+    let mut part = opened_part(alloc, key)?;
+    part.flags = Flags::only(TRANSITED_POLICY_CHECKED);
+    part.transited = typed(alloc, 1, 0xc0, 3)?;
+    part.starttime = Some(starttime);
+    part.renew_till = Some(renew_till);
+    part.caddr = two_elements(alloc, 2, 0xa0)?;
+    part.authorization = two_elements(alloc, 1, 0xb0)?;
+    Ok(part)
+}
+
+fn sealed_full_part(alloc: Global) -> Result<Vec<u8>, Fail> {
+    let key = key(alloc, 19, &SERVICE_KEY)?;
+    let plain = full_part(alloc, &key)?.encode(alloc)?;
+    Ok(key.seal(alloc, 2, &[0x10; 16], &plain)?)
+}
+
+fn opened_authenticator(alloc: Global, key: &Key) -> Result<Authenticator, Fail> {
+    let plain = key.open(alloc, 11, &sealed_authenticator(alloc, FIXTURE)?)?;
+    Ok(AuthenticatorRef::parse(&plain)?.to_owned(alloc)?)
+}
+
+fn full_authenticator(alloc: Global, key: &Key) -> Result<Authenticator, Fail> {
+    let mut authenticator = opened_authenticator(alloc, key)?;
     authenticator.checksum = Some(typed(alloc, 32_771, 0xd0, 4)?);
     authenticator.subkey = other_key(alloc)?;
     authenticator.seq_number = Some(u32::MAX);
     authenticator.authorization = two_elements(alloc, 1, 0xe0)?;
-    Ok(key.seal(alloc, 11, &[0x20; 16], &authenticator.encode(alloc)?)?)
+    Ok(authenticator)
+}
+
+fn sealed_full_authenticator(alloc: Global) -> Result<Vec<u8>, Fail> {
+    let key = key(alloc, 19, &SESSION_KEY)?;
+    let plain = full_authenticator(alloc, &key)?.encode(alloc)?;
+    Ok(key.seal(alloc, 11, &[0x20; 16], &plain)?)
 }
 
 fn full_request(alloc: Global) -> Result<Vec<u8>, Fail> {
-    let mut full = ApReqRef::parse(&request(alloc, FIXTURE)?)?.to_owned(alloc)?;
-    full.ticket.enc_part.cipher = full_part(alloc, &full.ticket.enc_part.cipher)?;
-    full.authenticator.cipher = full_authenticator(alloc, &full.authenticator.cipher)?;
-    Ok(full.encode(alloc)?)
+    let ticket = sealed_full_part(alloc)?;
+    request_with(alloc, FIXTURE, ticket, sealed_full_authenticator(alloc)?)
 }
 
 // The type of an element, how many bytes it has, and the byte that they all are.
@@ -105,26 +123,34 @@ fn is_other_key(rt: &(impl Alloc + Abort), found: &Option<RawKey>) -> Result<(),
 fn a_full_request(rt: HostRuntime) -> Result<(), Fail> {
     let alloc = rt.alloc();
     let bytes = full_request(alloc)?;
-    let now = moment(FIXTURE.sent)?;
-    let kept = acceptor(alloc, ListMemory::new(alloc))?.accept(alloc, &bytes, now);
-    is_handed_on(&rt, &kept.map_err(|_| "refused")?)?;
-    let timed = acceptor(alloc, TimedMemory::new(alloc))?.accept(alloc, &bytes, now);
-    is_handed_on(&rt, &timed.map_err(|_| "refused")?)
+    let kept = taken_by(alloc, ListMemory::new(alloc), &bytes, FIXTURE.sent)?;
+    is_handed_on(&rt, &kept)?;
+    let timed = taken_by(alloc, TimedMemory::new(alloc), &bytes, FIXTURE.sent)?;
+    is_handed_on(&rt, &timed)
+}
+
+fn full_reply_part(alloc: Global) -> Result<EncApRepPart, Fail> {
+    let ctime = seconds(FIXTURE.sent.0)?;
+    let cusec = Microseconds::new(FIXTURE.sent.1).ok_or("microseconds")?;
+    Ok(EncApRepPart {
+        ctime,
+        cusec,
+        subkey: other_key(alloc)?,
+        seq_number: Some(u32::MAX),
+    })
+}
+
+fn sealed_full_reply(alloc: Global) -> Result<Vec<u8>, Fail> {
+    let plain = full_reply_part(alloc)?.encode(alloc)?;
+    Ok(key(alloc, 19, &SESSION_KEY)?.seal(alloc, 12, &[0x30; 16], &plain)?)
 }
 
 fn full_reply(alloc: Global) -> Result<Vec<u8>, Fail> {
-    let part = EncApRepPart {
-        ctime: seconds(FIXTURE.sent.0)?,
-        cusec: Microseconds::new(FIXTURE.sent.1).ok_or("microseconds")?,
-        subkey: other_key(alloc)?,
-        seq_number: Some(u32::MAX),
-    };
-    let key = key(alloc, 19, &SESSION_KEY)?;
     let reply = ApRep {
         enc_part: Encrypted {
             etype: 19,
             kvno: Some(1),
-            cipher: key.seal(alloc, 12, &[0x30; 16], &part.encode(alloc)?)?,
+            cipher: sealed_full_reply(alloc)?,
         },
     };
     Ok(reply.encode(alloc)?)

@@ -1,8 +1,8 @@
 //! Replies and errors, as both sides see them.
 
-use super::client::{own_key, sent};
+use super::client::{own_key, sent, size_of_key};
 use super::*;
-use crate::{Accepted, Agreed, FinishFault, Pending, ReplyFault, ReplyOptions, error_reply};
+use crate::{Agreed, FinishFault, ReplyFault, ReplyOptions, error_reply};
 use krb_msg::Bytes;
 
 // The replies and the error of the fixture, made by tests/vectors/fixture.py.
@@ -33,16 +33,7 @@ fn nothing() -> ReplyOptions {
 
 // What a fresh service makes of a request at its own moment.
 fn accepted(alloc: Global, bytes: &[u8], at: (i64, u32)) -> Result<Accepted, Fail> {
-    let mut service = acceptor(alloc, TimedMemory::new(alloc))?;
-    let outcome = service.accept(alloc, bytes, moment(at)?);
-    Ok(outcome.map_err(|_| "refused")?)
-}
-
-fn finish_fault(alloc: Global, pending: &Pending, reply: &[u8]) -> Option<FinishFault> {
-    match pending.finish(alloc, reply) {
-        Ok(_) => None,
-        Err(fault) => Some(fault),
-    }
+    taken_by(alloc, TimedMemory::new(alloc), bytes, at)
 }
 
 // The reply to the fixture's request.
@@ -92,9 +83,8 @@ fn agreed_by(alloc: Global, reply: &str) -> Result<Agreed, Fail> {
 #[test]
 fn what_a_plain_reply_agrees_on(rt: HostRuntime) -> Result<(), Fail> {
     let agreed = agreed_by(rt.alloc(), REPLY)?;
-    is_agreed(&rt, rt.alloc(), &agreed, &PLAIN)?;
     is(&rt, "key", agreed.session_key.bytes(), &SESSION_KEY);
-    Ok(())
+    is_agreed(&rt, rt.alloc(), &agreed, &PLAIN)
 }
 
 #[test]
@@ -105,10 +95,9 @@ fn what_a_reply_with_a_subkey_agrees_on(rt: HostRuntime) -> Result<(), Fail> {
         service_seq: Some(128),
         ..PLAIN
     };
-    is_agreed(&rt, rt.alloc(), &agreed, &wanted)?;
-    let key = agreed.service_subkey.ok_or("no subkey")?;
+    let key = agreed.service_subkey.as_ref().ok_or("no subkey")?;
     is(&rt, "first byte", key.bytes.first(), Some(&64));
-    Ok(())
+    is_agreed(&rt, rt.alloc(), &agreed, &wanted)
 }
 
 // Types and lengths of the keys, and the numbers, of both sides.
@@ -136,13 +125,6 @@ fn own_size(key: &Option<Key>) -> Option<(i32, usize)> {
     }
 }
 
-fn raw_size(key: &Option<RawKey>) -> Option<(i32, usize)> {
-    match key {
-        Some(key) => Some((key.etype, key.bytes.len())),
-        None => None,
-    }
-}
-
 fn is_agreed(
     rt: &(impl Alloc + Abort),
     alloc: Global,
@@ -151,13 +133,18 @@ fn is_agreed(
 ) -> Result<(), Fail> {
     let client = agreed.client.to_text(alloc)?;
     is(rt, "client", client.as_str(), "alice@EX");
+    are_parts(rt, agreed, wanted);
+    Ok(())
+}
+
+fn are_parts(rt: &(impl Alloc + Abort), agreed: &Agreed, wanted: &Parts) {
     is(rt, "etype", agreed.session_key.etype(), wanted.etype);
     is(rt, "subkey", own_size(&agreed.subkey), wanted.subkey);
     is(rt, "number", agreed.seq, wanted.seq);
     is(
         rt,
         "service's subkey",
-        raw_size(&agreed.service_subkey),
+        size_of_key(&agreed.service_subkey),
         wanted.service_subkey,
     );
     is(
@@ -166,7 +153,6 @@ fn is_agreed(
         agreed.service_seq,
         wanted.service_seq,
     );
-    Ok(())
 }
 
 // The reply to a request that carries these, and with these.
@@ -220,27 +206,35 @@ fn what_both_sides_know(rt: HostRuntime) -> Result<(), Fail> {
 // What the client of the fixture answers to a reply.
 fn refused_as(alloc: Global, reply: &[u8]) -> Result<Option<FinishFault>, Fail> {
     let (_, pending) = sent(alloc, FIXTURE, None, None)?;
-    Ok(finish_fault(alloc, &pending, reply))
+    Ok(pending.finish(alloc, reply).err())
+}
+
+fn is_refused_as(
+    rt: &(impl Alloc + Abort),
+    alloc: Global,
+    reply: &[u8],
+    wanted: FinishFault,
+) -> Result<(), Fail> {
+    is(rt, reply.len(), refused_as(alloc, reply)?, Some(wanted));
+    Ok(())
+}
+
+#[test]
+fn an_error_is_no_reply(rt: HostRuntime) -> Result<(), Fail> {
+    let error = hex::decode(rt.alloc(), ERROR)?;
+    is_refused_as(&rt, rt.alloc(), &error, FinishFault::MessageType)
 }
 
 #[test]
 fn replies_that_are_malformed(rt: HostRuntime) -> Result<(), Fail> {
-    let alloc = rt.alloc();
-    let error = hex::decode(alloc, ERROR)?;
-    is(
-        &rt,
-        "error",
-        refused_as(alloc, &error)?,
-        Some(FinishFault::MessageType),
-    );
-    let reply = hex::decode(alloc, REPLY)?;
+    let reply = hex::decode(rt.alloc(), REPLY)?;
     for length in [0, 1, 86] {
         let cut = Fault {
             kind: FaultKind::Truncated,
             at: length,
         };
-        let found = refused_as(alloc, reply.get(..length).ok_or("a beginning")?)?;
-        is(&rt, length, found, Some(FinishFault::Malformed(cut)));
+        let beginning = reply.get(..length).ok_or("a beginning")?;
+        is_refused_as(&rt, rt.alloc(), beginning, FinishFault::Malformed(cut))?;
     }
     Ok(())
 }
@@ -248,36 +242,29 @@ fn replies_that_are_malformed(rt: HostRuntime) -> Result<(), Fail> {
 // A reply with another last byte, or of another type (told at the byte 22: 20 and not 19), isn't opened.
 #[test]
 fn replies_that_are_shut(rt: HostRuntime) -> Result<(), Fail> {
-    let alloc = rt.alloc();
     for (place, value) in [(86, 0xd1), (22, 20)] {
-        let mut reply = hex::decode(alloc, REPLY)?;
+        let mut reply = hex::decode(rt.alloc(), REPLY)?;
         *reply.get_mut(place).ok_or("a place")? = value;
-        is(
-            &rt,
-            place,
-            refused_as(alloc, &reply)?,
-            Some(FinishFault::Integrity),
-        );
+        is_refused_as(&rt, rt.alloc(), &reply, FinishFault::Integrity)?;
     }
     Ok(())
 }
 
+// The reply to the fixture's request of this moment.
+fn reply_at(alloc: Global, at: (i64, u32)) -> Result<Vec<u8>, Fail> {
+    let later = Made {
+        sent: at,
+        ..FIXTURE
+    };
+    let later = accepted(alloc, &request(alloc, later)?, at)?;
+    Ok(later.reply(alloc, &CONFOUNDER, nothing())?)
+}
+
 #[test]
 fn replies_of_another_time(rt: HostRuntime) -> Result<(), Fail> {
-    let alloc = rt.alloc();
     for at in [(1_700_000_100, 6), (1_700_000_101, 5)] {
-        let later = Made {
-            sent: at,
-            ..FIXTURE
-        };
-        let later = accepted(alloc, &request(alloc, later)?, at)?;
-        let reply = later.reply(alloc, &CONFOUNDER, nothing())?;
-        is(
-            &rt,
-            at,
-            refused_as(alloc, &reply)?,
-            Some(FinishFault::Mismatch),
-        );
+        let reply = reply_at(rt.alloc(), at)?;
+        is_refused_as(&rt, rt.alloc(), &reply, FinishFault::Mismatch)?;
     }
     Ok(())
 }
@@ -290,50 +277,34 @@ fn error_of(
     Ok(error_reply(alloc, &refusal, moment((1_700_000_100, 7))?, service))
 }
 
-#[test]
-fn errors_that_are_told(rt: HostRuntime) -> Result<(), Fail> {
-    let alloc = rt.alloc();
-    let mut service = name(alloc, "host/web@EX", 3)?;
-    let found = error_of(alloc, Refusal::Skew, &service)?.map_err(|_| "no error")?;
-    let wanted = hex::decode(alloc, ERROR)?;
-    is(&rt, "skew", found.as_slice(), wanted.as_slice());
-    let empty = Fault {
-        kind: FaultKind::Truncated,
-        at: 0,
-    };
-    let found = error_of(alloc, Refusal::Malformed(empty), &service)?.map_err(|_| "no error")?;
-    let generic = hex::decode(
-        alloc,
-        "7e473045a003020105a10302011ea411180f32303233313131343232313530305aa503020107a60302013c\
-         a9041b024558aa163014a003020103a10d300b1b04686f73741b03776562",
-    )?;
-    is(&rt, "malformed", found.as_slice(), generic.as_slice());
-    let none = error_of(alloc, Refusal::OutOfMemory, &service)?;
-    is(
-        &rt,
-        "no code",
-        matches!(none, Err(ReplyFault::NoCode)),
-        true,
-    );
-    let mut realm = Vec::new(alloc);
-    realm.resize(1_048_576, 0x45)?;
-    service.realm = Bytes::from(realm);
-    let long = error_of(alloc, Refusal::Skew, &service)?;
-    is(
-        &rt,
-        "too long",
-        matches!(long, Err(ReplyFault::TooLong)),
-        true,
-    );
+// The error of a refusal is this one.
+fn is_error(
+    rt: &(impl Alloc + Abort),
+    alloc: Global,
+    refusal: Refusal,
+    service: &Principal,
+    wanted: &[u8],
+) -> Result<(), Fail> {
+    match error_of(alloc, refusal, service)? {
+        Ok(found) => is(rt, refusal, found.as_slice(), wanted),
+        Err(_) => is(rt, refusal, "no error", ""),
+    }
     Ok(())
 }
 
-// The error of the fixture with each code, which stands at the byte 42.
+// The error of the fixture with this code, which stands at the byte 42.
+fn error_with(alloc: Global, code: u8) -> Result<Vec<u8>, Fail> {
+    let mut error = hex::decode(alloc, ERROR)?;
+    *error.get_mut(42).ok_or("a code")? = code;
+    Ok(error)
+}
+
 #[test]
 fn an_error_for_each_refusal(rt: HostRuntime) -> Result<(), Fail> {
     let service = name(rt.alloc(), "host/web@EX", 3)?;
     let rows = [
         (Refusal::MessageType, 40),
+        (malformed_at_once(), 60),
         (Refusal::UserToUser, 45),
         (Refusal::TicketEtype, 14),
         (Refusal::NotUs, 35),
@@ -343,6 +314,7 @@ fn an_error_for_each_refusal(rt: HostRuntime) -> Result<(), Fail> {
         (Refusal::SessionKey, 14),
         (Refusal::AuthenticatorIntegrity, 31),
         (Refusal::BadMatch, 36),
+        (Refusal::Skew, 37),
         (Refusal::Repeat, 34),
         (Refusal::NotYetValid, 33),
         (Refusal::Expired, 32),
@@ -350,10 +322,44 @@ fn an_error_for_each_refusal(rt: HostRuntime) -> Result<(), Fail> {
         (Refusal::Authorization, 60),
     ];
     for (refusal, code) in rows {
-        let mut wanted = hex::decode(rt.alloc(), ERROR)?;
-        *wanted.get_mut(42).ok_or("a code")? = code;
-        let found = error_of(rt.alloc(), refusal, &service)?.map_err(|_| "no error")?;
-        is(&rt, refusal, found.as_slice(), wanted.as_slice());
+        let wanted = error_with(rt.alloc(), code)?;
+        is_error(&rt, rt.alloc(), refusal, &service, &wanted)?;
     }
+    Ok(())
+}
+
+fn malformed_at_once() -> Refusal {
+    Refusal::Malformed(Fault {
+        kind: FaultKind::Truncated,
+        at: 0,
+    })
+}
+
+#[test]
+fn the_error_of_the_fixture(rt: HostRuntime) -> Result<(), Fail> {
+    let service = name(rt.alloc(), "host/web@EX", 3)?;
+    let wanted = hex::decode(rt.alloc(), ERROR)?;
+    is_error(&rt, rt.alloc(), Refusal::Skew, &service, &wanted)
+}
+
+// Why there is no error.
+fn error_fault(
+    alloc: Global,
+    refusal: Refusal,
+    service: &Principal,
+) -> Result<Option<ReplyFault>, Fail> {
+    Ok(error_of(alloc, refusal, service)?.err())
+}
+
+#[test]
+fn errors_that_are_not_told(rt: HostRuntime) -> Result<(), Fail> {
+    let mut service = name(rt.alloc(), "host/web@EX", 3)?;
+    let none = error_fault(rt.alloc(), Refusal::OutOfMemory, &service)?;
+    is(&rt, "no code", none, Some(ReplyFault::NoCode));
+    let mut realm = Vec::new(rt.alloc());
+    realm.resize(1_048_576, 0x45)?;
+    service.realm = Bytes::from(realm);
+    let long = error_fault(rt.alloc(), Refusal::Skew, &service)?;
+    is(&rt, "too long", long, Some(ReplyFault::TooLong));
     Ok(())
 }

@@ -2,7 +2,7 @@
 
 use super::client::sent_with;
 use super::*;
-use crate::{Accepted, Agreed, FinishFault, Pending, ReplyOptions};
+use crate::{Agreed, FinishFault, Pending, ReplyOptions};
 
 // What one side chooses: the type of a subkey, each byte of it, and a sequence number.
 #[derive(Clone, Copy, Debug, PartialEq, Eq)]
@@ -74,23 +74,20 @@ fn three_packets(alloc: Global) -> Result<Vec<Packet>, Fail> {
     Ok(packets)
 }
 
-// Which of the packets were accepted, with the replies; a repeat is refused.
-fn replies_to(
+// The reply to a packet that is accepted; a repeat is refused.
+fn reply_to(
     rt: &(impl Alloc + Abort),
     alloc: Global,
-    packets: &[Packet],
-    order: &[usize],
-) -> Result<Vec<(usize, Vec<u8>)>, Fail> {
-    let mut service = acceptor(alloc, TimedMemory::new(alloc))?;
-    let mut replies = Vec::new(alloc);
-    for which in order {
-        let sent = packets.get(*which).ok_or("a request")?;
-        match service.accept(alloc, &sent.bytes, moment((1_700_000_101, 0))?) {
-            Ok(accepted) => replies.push((*which, replied(alloc, &accepted, NOTHING)?))?,
-            Err(refusal) => is(rt, (replies.len(), refusal), refusal, Refusal::Repeat),
+    service: &mut Acceptor<TimedMemory>,
+    packet: &Packet,
+) -> Result<Option<Vec<u8>>, Fail> {
+    match service.accept(alloc, &packet.bytes, moment((1_700_000_101, 0))?) {
+        Ok(accepted) => Ok(Some(replied(alloc, &accepted, NOTHING)?)),
+        Err(refusal) => {
+            is(rt, packet.at, refusal, Refusal::Repeat);
+            Ok(None)
         }
     }
-    Ok(replies)
 }
 
 // What each of the clients answers to the reply to one of them.
@@ -108,14 +105,32 @@ fn is_for_one(
     }
 }
 
+// How many replies there are to one of the packets, each for its own request alone.
+fn replies_to(
+    rt: &(impl Alloc + Abort),
+    alloc: Global,
+    service: &mut Acceptor<TimedMemory>,
+    packets: &[Packet],
+    which: usize,
+) -> Result<usize, Fail> {
+    let packet = packets.get(which).ok_or("a request")?;
+    match reply_to(rt, alloc, service, packet)? {
+        Some(reply) => {
+            is_for_one(rt, alloc, packets, which, &reply);
+            Ok(1)
+        }
+        None => Ok(0),
+    }
+}
+
 // Each of the three is accepted when it first comes, and its repeat refused; and each reply is for its own request alone.
 #[test]
 fn three_requests(rt: HostRuntime) -> Result<(), Fail> {
     let packets = three_packets(rt.alloc())?;
-    let replies = replies_to(&rt, rt.alloc(), &packets, &[2, 0, 1, 0, 2, 1])?;
-    is(&rt, "replies", replies.len(), 3);
-    for (which, reply) in replies.iter() {
-        is_for_one(&rt, rt.alloc(), &packets, *which, reply);
+    let mut service = acceptor(rt.alloc(), TimedMemory::new(rt.alloc()))?;
+    for (which, wanted) in [(2, 1), (0, 1), (1, 1), (0, 0), (2, 0), (1, 0)] {
+        let found = replies_to(&rt, rt.alloc(), &mut service, &packets, which)?;
+        is(&rt, which, found, wanted);
     }
     Ok(())
 }
@@ -263,11 +278,13 @@ fn deliver(
     if let Some(kept) = deliver_to(rt, alloc, &mut services.kept, packet, now, wanted) {
         is_known(rt, packet, &kept);
     }
-    if let Some(timed) = deliver_to(rt, alloc, &mut services.timed, packet, now, wanted) {
-        services.accepted = services.accepted.saturating_add(1);
-        deliver_reply(rt, alloc, &timed, packet, other, choice)?;
+    match deliver_to(rt, alloc, &mut services.timed, packet, now, wanted) {
+        Some(timed) => {
+            services.accepted = services.accepted.saturating_add(1);
+            deliver_reply(rt, alloc, &timed, packet, other, choice)
+        }
+        None => Ok(()),
     }
-    Ok(())
 }
 
 fn some_choice(dice: &mut Dice) -> Choice {
@@ -291,6 +308,21 @@ fn some_moment(dice: &mut Dice) -> (i64, u32) {
     )
 }
 
+// Delivers some packet, and its reply to some other one.
+fn one_delivery(
+    rt: &(impl Alloc + Abort),
+    alloc: Global,
+    dice: &mut Dice,
+    services: &mut Services,
+    packets: &[Packet],
+) -> Result<(), Fail> {
+    let one = packets.get(dice.roll(20) as usize).ok_or("a packet")?;
+    let other = packets.get(dice.roll(20) as usize).ok_or("a packet")?;
+    let now = moment(some_moment(dice))?;
+    let choice = some_choice(dice);
+    deliver(rt, alloc, services, one, other, now, choice)
+}
+
 // How many requests one schedule accepts.
 fn one_schedule(
     rt: &(impl Alloc + Abort),
@@ -300,11 +332,7 @@ fn one_schedule(
 ) -> Result<u32, Fail> {
     let mut services = new_services(alloc)?;
     for _ in 0..dice.roll(21) {
-        let one = packets.get(dice.roll(20) as usize).ok_or("a packet")?;
-        let other = packets.get(dice.roll(20) as usize).ok_or("a packet")?;
-        let now = moment(some_moment(dice))?;
-        let choice = some_choice(dice);
-        deliver(rt, alloc, &mut services, one, other, now, choice)?;
+        one_delivery(rt, alloc, dice, &mut services, packets)?;
     }
     Ok(services.accepted)
 }
