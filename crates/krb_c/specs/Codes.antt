@@ -90,3 +90,6 @@ no_realm = 45
 
 abbrev pub no_code : ℕ
 no_code = 46
+
+abbrev pub not_utf8 : ℕ
+not_utf8 = 47

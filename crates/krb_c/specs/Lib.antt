@@ -4,3 +4,4 @@ pub mod Answer
 pub mod Accepting
 pub mod Known
 pub mod Choice
+pub mod Asking

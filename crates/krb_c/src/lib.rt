@@ -3,6 +3,7 @@
 
 mod acceptor;
 mod answer;
+mod asking;
 mod choice;
 mod code;
 mod handle;
