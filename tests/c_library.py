@@ -80,7 +80,7 @@ def from_c(room):
     if built.returncode:
         return
     messages = [fixture("client.rt", "REQUEST"), fixture("client.rt", "KEYED"), fixture("replies.rt", "REPLY"), fixture("replies.rt", "KEYED")]
-    ran = run(program, ROOT / "examples/service.keytab", *messages)
+    ran = run(program, ROOT / "examples/service.keytab", ROOT / "examples/client.ccache", *messages)
     lines = ran.stdout.splitlines()
     for line in lines[:-1]:
         yield line, "in the C program"

@@ -1,5 +1,6 @@
-/* Runs the library on the exchange that tests share (tests/vectors/fixture.py), with exact answers. The arguments are the keytab's file
- * and the messages in hex: the request, the request with a subkey, its reply. Each line of output that begins with `wrong` is one. */
+/* Runs the library on the exchange that tests share (tests/vectors/fixture.py), with exact answers. The arguments are the files of the
+ * keytab and of the cache, and in hex the request, the request with a subkey, the reply and the reply with a subkey. Each line of output
+ * that begins with `wrong` is one. */
 #include <stdio.h>
 #include <stdlib.h>
 #include <string.h>
@@ -58,7 +59,10 @@ static void from_file(struct bytes *bytes, const char *name)
     fclose(file);
 }
 
-static struct bytes keytab, request, keyed, reply, keyed_reply;
+/* Where the credential begins in the cache: behind the version, an empty header and the default principal. */
+#define CREDENTIAL_AT 27
+
+static struct bytes keytab, cache, request, keyed, reply, keyed_reply;
 static uint8_t buffer[4096];
 static const fevstunik_choice nothing = {0, 0, false, false};
 
@@ -241,17 +245,107 @@ static void texts(void)
     is_answer("no key", fevstunik_checksum_check(19, key, 15, 6, key, 5, tag, 16), FEVSTUNIK_KEY_LENGTH, 0, 0, 0);
 }
 
+static fevstunik_answer asked(const char *service, fevstunik_time at, size_t confounder_size, int32_t type, size_t room)
+{
+    uint8_t confounder[17], subkey[32];
+    fevstunik_choice choice = nothing;
+    size_t i;
+
+    for (i = 0; i < sizeof confounder; i++)
+        confounder[i] = (uint8_t)(0x20 + i);
+    for (i = 0; i < sizeof subkey; i++)
+        subkey[i] = (uint8_t)(0x20 + i);
+    choice.subkey_type = type;
+    choice.wants_reply = choice.has_seq = type != 0;
+    choice.seq = 4294967295;
+    return fevstunik_request(cache.at, cache.size, (const uint8_t *)service, strlen(service), &at, confounder, confounder_size, &choice,
+                             subkey, sizeof subkey, buffer, room);
+}
+
+/* The requests are those of the fixture, to the byte; what isn't asked for says why. */
+static void requests(void)
+{
+    fevstunik_time at = moment(1700000100, 5);
+
+    is_answer("request", asked("host/web@EX", at, 16, 0, sizeof buffer), FEVSTUNIK_OK, 0, 0, request.size);
+    is_bytes("request", buffer, request.at, request.size);
+    is_answer("keyed request", asked("host/web@EX", at, 16, 20, sizeof buffer), FEVSTUNIK_OK, 0, 0, keyed.size);
+    is_bytes("keyed request", buffer, keyed.at, keyed.size);
+    is_answer("short request", asked("host/web@EX", at, 16, 0, request.size - 1), FEVSTUNIK_SHORT_BUFFER, 0, 0, request.size);
+    is_answer("another service", asked("host/web@EY", at, 16, 0, sizeof buffer), FEVSTUNIK_NO_CREDENTIAL, 0, 0, 0);
+    is_answer("no realm", asked("host/web", at, 16, 0, sizeof buffer), FEVSTUNIK_NO_REALM, 0, 0, 0);
+    is_answer("bad text", asked("a@b@c", at, 16, 0, sizeof buffer), FEVSTUNIK_BAD_TEXT, 0, 3, 0);
+    is_answer("not UTF-8", asked("\xff@EX", at, 16, 0, sizeof buffer), FEVSTUNIK_NOT_UTF8, 0, 0, 0);
+    is_answer("confounder", asked("host/web@EX", at, 15, 0, sizeof buffer), FEVSTUNIK_BAD_CONFOUNDER, 0, 0, 0);
+    is_answer("length", asked("host/web@EX", at, 16, 19, sizeof buffer), FEVSTUNIK_KEY_LENGTH, 0, 0, 0);
+    is_answer("type", asked("host/web@EX", at, 16, 1, sizeof buffer), FEVSTUNIK_KEY_TYPE, 0, 0, 0);
+    is_answer("expired", asked("host/web@EX", moment(1700036000, 0), 16, 0, sizeof buffer), FEVSTUNIK_CREDENTIAL_EXPIRED, 0, 0, 0);
+    is_answer("moment", asked("host/web@EX", moment(253402300800, 0), 16, 0, sizeof buffer), FEVSTUNIK_BAD_MOMENT, 0, 0, 0);
+    cache.size--;
+    is_answer("cut off", asked("host/web@EX", at, 16, 0, sizeof buffer), FEVSTUNIK_FILE_BAD_ITEM, 0, CREDENTIAL_AT, 0);
+    cache.size++;
+    cache.at[0]++;
+    is_answer("version", asked("host/web@EX", at, 16, 0, sizeof buffer), FEVSTUNIK_FILE_VERSION, 0, 0, 0);
+    cache.at[0]--;
+}
+
+static fevstunik_answer finished(const struct bytes *bytes, fevstunik_time at, fevstunik_agreement *agreement, size_t room)
+{
+    return fevstunik_finish(cache.at, cache.size, (const uint8_t *)"host/web@EX", 11, &at, &nothing, cache.at, 0, bytes->at, bytes->size,
+                            agreement, buffer, room);
+}
+
+/* What is agreed on by the fixture's replies, and why others are refused. */
+static void agreements(void)
+{
+    fevstunik_time at = moment(1700000100, 5);
+    fevstunik_agreement told;
+    struct bytes none;
+    size_t i;
+
+    is_answer("finish", finished(&reply, at, &told, sizeof buffer), FEVSTUNIK_OK, 0, 0, 24);
+    is_bytes("client", buffer + told.client.at, "alice@EX", told.client.size);
+    is("client size", (long long)told.client.size, 8);
+    is("key at", (long long)told.session_key.at, 8);
+    is("key size", (long long)told.session_key.size, 16);
+    for (i = 0; i < 16; i++)
+        is("key", buffer[8 + i], (long long)i);
+    is("name type", told.name_type, 1);
+    is("session type", told.session_type, 19);
+    is("no subkey", told.has_service_subkey, 0);
+    is("no number", told.has_service_seq, 0);
+    is_answer("finish short", finished(&keyed_reply, at, &told, 39), FEVSTUNIK_SHORT_BUFFER, 0, 0, 40);
+    is_answer("finish keyed", finished(&keyed_reply, at, &told, 40), FEVSTUNIK_OK, 0, 0, 40);
+    is("subkey", told.has_service_subkey, 1);
+    is("subkey type", told.service_subkey_type, 19);
+    is("subkey at", (long long)told.service_subkey.at, 24);
+    is("subkey size", (long long)told.service_subkey.size, 16);
+    for (i = 0; i < 16; i++)
+        is("subkey", buffer[24 + i], (long long)(0x40 + i));
+    is("number", told.service_seq, 128);
+    is("numbered", told.has_service_seq, 1);
+    is_answer("mismatch", finished(&reply, moment(1700000100, 6), &told, sizeof buffer), FEVSTUNIK_REPLY_MISMATCH, 46, 0, 0);
+    is_answer("a request", finished(&request, at, &told, sizeof buffer), FEVSTUNIK_REPLY_TYPE, 0, 0, 0);
+    none = reply;
+    none.size = 1;
+    is_answer("one byte", finished(&none, at, &told, sizeof buffer), FEVSTUNIK_REPLY_MALFORMED, 0, 1, 0);
+    none = reply;
+    none.at[none.size - 1] ^= 1;
+    is_answer("bent", finished(&none, at, &told, sizeof buffer), FEVSTUNIK_REPLY_INTEGRITY, 0, 0, 0);
+}
+
 int main(int count, char **words)
 {
     fevstunik_acceptor service = {0};
 
-    if (count != 6)
+    if (count != 7)
         return 2;
     from_file(&keytab, words[1]);
-    from_hex(&request, words[2]);
-    from_hex(&keyed, words[3]);
-    from_hex(&reply, words[4]);
-    from_hex(&keyed_reply, words[5]);
+    from_file(&cache, words[2]);
+    from_hex(&request, words[3]);
+    from_hex(&keyed, words[4]);
+    from_hex(&reply, words[5]);
+    from_hex(&keyed_reply, words[6]);
     empty_handles();
     is_answer("new", fevstunik_acceptor_new(&service, keytab.at, keytab.size, 300), FEVSTUNIK_OK, 0, 0, 0);
     faulty_keytabs(&service);
@@ -264,6 +358,8 @@ int main(int count, char **words)
     fevstunik_acceptor_free(&service);
     is("freed", service.opaque == NULL, 1);
     is_keyed();
+    requests();
+    agreements();
     texts();
     printf("%d passed, %d failed\n", passed, failed);
     return failed != 0;

@@ -5,3 +5,4 @@ pub mod Accepting
 pub mod Known
 pub mod Choice
 pub mod Asking
+pub mod Finishing

@@ -37,7 +37,7 @@ pub extern "C" fn fevstunik_request(
 }
 
 /// The request and what is kept of it.
-fn asked(
+pub(crate) fn asked(
     alloc: Global,
     cache: &[u8],
     service: &[u8],
