@@ -3,10 +3,16 @@
 
 The header is compiled alone, as C99 and as C++; its functions are exactly those of the archive, and its codes those of the crate. A C
 program (tests/c/library.c) runs the exchange that tests share, with exact answers, and so does examples/fevstunik.py over a shared
-object. The last line is 'N passed, M failed'.
+object. tests/c/fuzz.c hands the library good and broken files and messages, some of them under valgrind.
+
+    tests/c_library.py [--inputs N]     so many inputs, 50,000 if left out
+
+The last line is 'N passed, M failed'.
 """
+import argparse
 import pathlib
 import re
+import shutil
 import subprocess
 import sys
 import tempfile
@@ -15,6 +21,9 @@ ROOT = pathlib.Path(__file__).resolve().parent.parent
 CRATE = ROOT / "crates/krb_c"
 ARCHIVE = CRATE / "out/libkrb_c.a"
 HEADER = ROOT / "include/fevstunik.h"
+# What is drawn for fuzzing, and how many inputs valgrind watches.
+SEED = 20_261_123
+WATCHED = 5_000
 STRICT = ["-Wall", "-Wextra", "-Werror", "-pedantic"]
 
 
@@ -106,7 +115,24 @@ def from_python(room):
     yield "the Python service replies", None if re.fullmatch(r"accepted alice@EX 6f55[0-9a-f]{170}\n", ran.stdout) else ran.stdout + ran.stderr[-1000:]
 
 
-def checks():
+def fuzzed(room, inputs):
+    """The library is handed files and messages, good and broken; a few of them under valgrind, which looks for errors and for leaks."""
+    files = [ROOT / "examples/service.keytab", ROOT / "examples/client.ccache", fixture("client.rt", "REQUEST"), fixture("replies.rt", "REPLY")]
+    program = room / "fuzz"
+    built = run("gcc", "-std=c99", "-O1", "-g", *STRICT, f"-I{HEADER.parent}", ROOT / "tests/c/fuzz.c", ARCHIVE, toolchain(), "-o", program)
+    yield "the fuzzing program is linked", wrong(built)
+    if built.returncode:
+        return
+    yield f"{inputs} inputs", wrong(run(program, *files, inputs, SEED))
+    if shutil.which("valgrind") is None:
+        yield "inputs under valgrind", "there is no valgrind"
+        return
+    watched = run("valgrind", "-q", "--error-exitcode=9", "--leak-check=full", "--show-leak-kinds=all", "--errors-for-leak-kinds=all",
+                  program, *files, WATCHED, SEED)
+    yield "inputs under valgrind", wrong(watched)
+
+
+def checks(inputs):
     built = run("rt", "lib", "--jobs", "1", cwd=CRATE)
     yield "the archive is built", wrong(built)
     if built.returncode:
@@ -118,11 +144,14 @@ def checks():
         yield from headers(room)
         yield from from_c(room)
         yield from from_python(room)
+        yield from fuzzed(room, inputs)
 
 
 def main():
+    words = argparse.ArgumentParser()
+    words.add_argument("--inputs", type=int, default=50_000)
     passed = failed = 0
-    for name, fault in checks():
+    for name, fault in checks(words.parse_args().inputs):
         if fault is None:
             passed += 1
         else:
