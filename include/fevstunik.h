@@ -161,6 +161,25 @@ typedef struct fevstunik_acceptor {
     void *opaque;
 } fevstunik_acceptor;
 
+/* ---- files ---- */
+
+/* Looks whether the bytes of a file are a keytab of version 0x0502. `size` is how many entries it has.
+ *
+ * FEVSTUNIK_OK; FEVSTUNIK_TOO_LONG, _FILE_VERSION, _FILE_TRUNCATED, _FILE_BAD_ITEM; FEVSTUNIK_OUT_OF_MEMORY.
+ *
+ *     if (fevstunik_keytab_check(file, file_size).code == FEVSTUNIK_OK) ...
+ */
+fevstunik_answer fevstunik_keytab_check(const uint8_t *keytab, size_t keytab_size);
+
+/* Looks whether the bytes of a file are a credential cache of version 0x0504. `size` is how many credentials it has, configuration
+ * entries among them.
+ *
+ * FEVSTUNIK_OK; FEVSTUNIK_TOO_LONG, _FILE_VERSION, _FILE_HEADER, _FILE_BAD_ITEM; FEVSTUNIK_OUT_OF_MEMORY.
+ *
+ *     if (fevstunik_cache_check(file, file_size).code == FEVSTUNIK_OK) ...
+ */
+fevstunik_answer fevstunik_cache_check(const uint8_t *cache, size_t cache_size);
+
 /* ---- the service's side ---- */
 
 /* Makes the handle hold a service that decides by the keys of a keytab (the bytes of a file of version 0x0502) and by a skew of so many

@@ -61,6 +61,8 @@ static void from_file(struct bytes *bytes, const char *name)
 
 /* Where the credential begins in the cache: behind the version, an empty header and the default principal. */
 #define CREDENTIAL_AT 27
+/* How many entries the keytab has. */
+#define ENTRIES 1
 
 static struct bytes keytab, cache, request, keyed, reply, keyed_reply;
 static uint8_t buffer[4096];
@@ -334,6 +336,20 @@ static void agreements(void)
     is_answer("bent", finished(&none, at, &told, sizeof buffer), FEVSTUNIK_REPLY_INTEGRITY, 0, 0, 0);
 }
 
+/* Files are looked at, and their entries counted. */
+static void files(void)
+{
+    is_answer("keytab", fevstunik_keytab_check(keytab.at, keytab.size), FEVSTUNIK_OK, 0, 0, ENTRIES);
+    is_answer("keytab cut off", fevstunik_keytab_check(keytab.at, 10), FEVSTUNIK_FILE_TRUNCATED, 0, 2, 0);
+    is_answer("a cache as a keytab", fevstunik_keytab_check(cache.at, cache.size), FEVSTUNIK_FILE_VERSION, 0, 0, 0);
+    is_answer("no entries", fevstunik_keytab_check(keytab.at, 2), FEVSTUNIK_OK, 0, 0, 0);
+    is_answer("cache", fevstunik_cache_check(cache.at, cache.size), FEVSTUNIK_OK, 0, 0, 1);
+    is_answer("no credentials", fevstunik_cache_check(cache.at, CREDENTIAL_AT), FEVSTUNIK_OK, 0, 0, 0);
+    is_answer("cache cut off", fevstunik_cache_check(cache.at, cache.size - 1), FEVSTUNIK_FILE_BAD_ITEM, 0, CREDENTIAL_AT, 0);
+    is_answer("no header", fevstunik_cache_check(cache.at, 3), FEVSTUNIK_FILE_HEADER, 0, 0, 0);
+    is_answer("a keytab as a cache", fevstunik_cache_check(keytab.at, keytab.size), FEVSTUNIK_FILE_VERSION, 0, 0, 0);
+}
+
 int main(int count, char **words)
 {
     fevstunik_acceptor service = {0};
@@ -358,6 +374,7 @@ int main(int count, char **words)
     fevstunik_acceptor_free(&service);
     is("freed", service.opaque == NULL, 1);
     is_keyed();
+    files();
     requests();
     agreements();
     texts();

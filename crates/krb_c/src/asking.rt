@@ -105,7 +105,7 @@ fn name_of(alloc: Global, bytes: &[u8]) -> Result<Principal, Answer>
     }
 }
 
-fn cache_told(fault: CacheFault) -> Answer
+pub(crate) fn cache_told(fault: CacheFault) -> Answer
     ensures { result ≡ cache_answer fault }
 {
     match fault {

@@ -23,6 +23,7 @@ mod answer;
 mod asking;
 mod choice;
 mod code;
+mod files;
 mod handle;
 mod held;
 mod known;
