@@ -1,12 +1,11 @@
 -- The client's side: a request for a cache's credential, and what is agreed on by the reply.
-use Rattle.std.specs.Prelude.{◌≡◌, ◌≢◌, ◌⊎◌, ℕ, ℤ, pos, List, length, Option, Ok, Err}
+use Rattle.std.specs.Prelude.{◌≡◌, ◌≢◌, ◌⊎◌, ℕ, ℤ, pos, List, length, Ok, Err}
 use Rattle.std.specs.Str.{IsUtf8}
 use Rattle.krb_name.specs.Reading.{IsReadAs}
 use Rattle.krb_name.specs.declared.principal.Principal.{Principal}
 use Rattle.krb_name.specs.declared.text_fault.TextFault.{TextFault}
 use Rattle.krb_name.specs.declared.text_fault.TextFault.TheVariants as text
 use Rattle.krb_msg.specs.Moments.{micros_of}
-use Rattle.krb_enc.specs.Key.{KeyValue}
 use Rattle.krb_ccache.specs.Format.{IsCache, IsFaultOf}
 use Rattle.krb_ccache.specs.Value.{Cache}
 use Rattle.krb_ccache.specs.declared.fault.CacheFault.{CacheFault}

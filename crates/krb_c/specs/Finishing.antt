@@ -1,7 +1,7 @@
 -- The client's side: what is agreed on by the reply to a request.
-use Rattle.std.specs.Prelude.{◌≡◌, ◌≢◌, ◌⊎◌, ℕ, ℤ, pos, List, [], ◌++◌, length, Some}
+use Rattle.std.specs.Prelude.{◌≡◌, ◌≢◌, ◌⊎◌, ℕ, pos, List, [], ◌++◌, length}
 use Rattle.krb_name.specs.Text.{text_of}
-use Rattle.krb_ap.specs.Finish.{FinishCause, IsAgreed, agreement_of, finish_offset_of}
+use Rattle.krb_ap.specs.Finish.{FinishCause, IsAgreed, agreement_of}
 use Rattle.krb_ap.specs.Request.{Awaited}
 use Rattle.krb_ap.specs.World.{IsHeldInEachWorld}
 use Rattle.krb_ap.specs.declared.finish.Agreed.{Agreed}

@@ -98,6 +98,4 @@ pub(crate) const BAD_TEXT: u32 = 44;
 
 pub(crate) const NO_REALM: u32 = 45;
 
-pub(crate) const NO_CODE: u32 = 46;
-
 pub(crate) const NOT_UTF8: u32 = 47;
