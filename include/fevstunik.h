@@ -67,15 +67,31 @@ enum {
     FEVSTUNIK_KEY_TYPE = 25,       /* an encryption type other than 19 and 20 */
     FEVSTUNIK_KEY_LENGTH = 26,     /* not 16 bytes (type 19) or 32 (type 20) */
 
-    /* What is wrong with a keytab. */
-    FEVSTUNIK_FILE_VERSION = 27,   /* it doesn't begin with 05 02 */
-    FEVSTUNIK_FILE_TRUNCATED = 29, /* it ends before the record at `at` does */
-    FEVSTUNIK_FILE_BAD_ITEM = 30,  /* the record at `at` holds no entry */
-    FEVSTUNIK_TOO_LONG = 31,       /* more than 16,777,216 bytes */
+    /* What is wrong with a file. */
+    FEVSTUNIK_FILE_VERSION = 27,   /* it doesn't begin with 05 02 (a keytab), or with 05 04 (a cache) */
+    FEVSTUNIK_FILE_HEADER = 28,    /* the header of a cache is malformed */
+    FEVSTUNIK_FILE_TRUNCATED = 29, /* a keytab ends before the record at `at` does */
+    FEVSTUNIK_FILE_BAD_ITEM = 30,  /* the record at `at` holds no entry, or no principal or credential is at `at` */
+    FEVSTUNIK_TOO_LONG = 31,       /* a file has more than 16,777,216 bytes, or a request would have more than 1,048,576 */
 
-    /* Why a text isn't opened, or a tag isn't its checksum. */
-    FEVSTUNIK_TEXT_SHORT = 42,    /* fewer bytes than a sealed empty text has: 32 (type 19) or 40 (type 20) */
-    FEVSTUNIK_TEXT_INTEGRITY = 43 /* the tag is wrong */
+    /* Why there is no request. */
+    FEVSTUNIK_NO_CREDENTIAL = 34,      /* the cache has no ticket of its default principal for the service */
+    FEVSTUNIK_NO_USABLE_KEY = 35,      /* of these none has a usable session key */
+    FEVSTUNIK_CREDENTIAL_EXPIRED = 36, /* of those that have none ends later than the moment */
+    FEVSTUNIK_BAD_TICKET = 37,         /* the bytes that the credential has for a ticket are none */
+
+    /* Why a reply is refused: the first that holds. */
+    FEVSTUNIK_REPLY_TYPE = 38,      /* the first byte isn't that of a reply */
+    FEVSTUNIK_REPLY_MALFORMED = 39, /* the bytes are no reply; `at` is where */
+    FEVSTUNIK_REPLY_INTEGRITY = 40, /* the session key doesn't open it */
+    FEVSTUNIK_REPLY_MISMATCH = 41,  /* 46: its time isn't the request's */
+
+    /* Why a text isn't opened, or a tag isn't its checksum; and why a text is no name. */
+    FEVSTUNIK_TEXT_SHORT = 42,     /* fewer bytes than a sealed empty text has: 32 (type 19) or 40 (type 20) */
+    FEVSTUNIK_TEXT_INTEGRITY = 43, /* the tag is wrong */
+    FEVSTUNIK_BAD_TEXT = 44,       /* at `at` the text goes on as no name does */
+    FEVSTUNIK_NO_REALM = 45,       /* no bare `@` stands in the text */
+    FEVSTUNIK_NOT_UTF8 = 47        /* the text isn't UTF-8 */
 };
 
 /* ---- what is handed in and out ---- */
@@ -119,18 +135,50 @@ typedef struct fevstunik_known {
     bool wants_reply;           /* whether it asks for a reply */
 } fevstunik_known;
 
+/* What a client and a service agreed on. The spans are places in the buffer that was handed in beside it. */
+typedef struct fevstunik_agreement {
+    fevstunik_span client;         /* the client as text */
+    fevstunik_span session_key;    /* the key that client and service share: 16 or 32 bytes */
+    fevstunik_span service_subkey; /* the key that the service chose, if it did; of any length */
+    uint32_t service_seq;          /* the service's first sequence number, or 0 */
+    int32_t name_type;             /* the type of the client's name */
+    int32_t session_type;          /* the encryption type of the session key: 19 or 20 */
+    int32_t service_subkey_type;   /* the encryption type of the service's subkey, or 0; any type */
+    bool has_service_subkey;       /* whether the service chose a subkey */
+    bool has_service_seq;          /* whether it told a sequence number */
+} fevstunik_agreement;
+
 /* What a side chooses for its message. */
 typedef struct fevstunik_choice {
     int32_t subkey_type; /* the encryption type of its subkey, 19 or 20, or 0 for no subkey */
     uint32_t seq;        /* its first sequence number */
     bool has_seq;        /* whether it tells the number */
-    bool wants_reply;    /* not looked at by a service */
+    bool wants_reply;    /* whether a client asks for a reply; not looked at by a service */
 } fevstunik_choice;
 
 /* A service that takes requests: opaque, and all zero before its first use. */
 typedef struct fevstunik_acceptor {
     void *opaque;
 } fevstunik_acceptor;
+
+/* ---- files ---- */
+
+/* Looks whether the bytes of a file are a keytab of version 0x0502. `size` is how many entries it has.
+ *
+ * FEVSTUNIK_OK; FEVSTUNIK_TOO_LONG, _FILE_VERSION, _FILE_TRUNCATED, _FILE_BAD_ITEM; FEVSTUNIK_OUT_OF_MEMORY.
+ *
+ *     if (fevstunik_keytab_check(file, file_size).code == FEVSTUNIK_OK) ...
+ */
+fevstunik_answer fevstunik_keytab_check(const uint8_t *keytab, size_t keytab_size);
+
+/* Looks whether the bytes of a file are a credential cache of version 0x0504. `size` is how many credentials it has, configuration
+ * entries among them.
+ *
+ * FEVSTUNIK_OK; FEVSTUNIK_TOO_LONG, _FILE_VERSION, _FILE_HEADER, _FILE_BAD_ITEM; FEVSTUNIK_OUT_OF_MEMORY.
+ *
+ *     if (fevstunik_cache_check(file, file_size).code == FEVSTUNIK_OK) ...
+ */
+fevstunik_answer fevstunik_cache_check(const uint8_t *cache, size_t cache_size);
 
 /* ---- the service's side ---- */
 
@@ -200,6 +248,45 @@ fevstunik_answer fevstunik_acceptor_latest(fevstunik_acceptor *handle, fevstunik
 
 /* Frees what the handle holds, which is empty then. An empty handle stays so. */
 void fevstunik_acceptor_free(fevstunik_acceptor *handle);
+
+/* ---- the client's side ---- */
+
+/* Builds a request (the bytes of an AP-REQ) for a service with the first credential of a cache that fits: a ticket of the cache's default
+ * principal for the service whose session key is usable, and that ends later than `at`, the client's clock. `cache` has the bytes of a
+ * file of version 0x0504, `service` the service's name as text, as host/web@EX. `confounder` is 16 random bytes, new for each call.
+ * `subkey` has the bytes of the subkey whose type `choice` tells; where that is 0 they aren't looked at.
+ *
+ * The first that holds: FEVSTUNIK_FILE_VERSION, _FILE_HEADER, _FILE_BAD_ITEM and _TOO_LONG for the cache; FEVSTUNIK_NOT_UTF8, _BAD_TEXT and
+ * _NO_REALM for the service; FEVSTUNIK_BAD_MOMENT; FEVSTUNIK_BAD_CONFOUNDER; FEVSTUNIK_KEY_TYPE and _KEY_LENGTH;
+ * FEVSTUNIK_NO_CREDENTIAL, _NO_USABLE_KEY, _CREDENTIAL_EXPIRED, _BAD_TICKET and _TOO_LONG; or FEVSTUNIK_OUT_OF_MEMORY; and nothing is
+ * written. FEVSTUNIK_OK; FEVSTUNIK_SHORT_BUFFER.
+ *
+ * A call that is made again for a short buffer is handed the same moment and confounder; no other request is made of that moment.
+ *
+ *     fevstunik_choice choice = {0, 0, false, true};
+ *     answer = fevstunik_request(file, file_size, (const uint8_t *)"host/web@EX", 11, &now, random, 16, &choice, random, 0,
+ *                                buffer, sizeof buffer);
+ */
+fevstunik_answer fevstunik_request(const uint8_t *cache, size_t cache_size, const uint8_t *service, size_t service_size,
+                                   const fevstunik_time *at, const uint8_t *confounder, size_t confounder_size,
+                                   const fevstunik_choice *choice, const uint8_t *subkey, size_t subkey_size, uint8_t *buffer,
+                                   size_t buffer_size);
+
+/* Reads the reply (the bytes of an AP-REP) to the request that fevstunik_request builds of the same cache, service, moment and choice, and
+ * tells what both sides agree on: in the buffer the client's text, the session key and the service's subkey, one after another, and in
+ * `agreement` where they stand, and the numbers. `agreement` is written also where the buffer is too short.
+ *
+ * The first that holds: what fevstunik_request answers; FEVSTUNIK_REPLY_TYPE, _REPLY_MALFORMED, _REPLY_INTEGRITY, _REPLY_MISMATCH; or
+ * FEVSTUNIK_OUT_OF_MEMORY; and nothing is written. FEVSTUNIK_OK; FEVSTUNIK_SHORT_BUFFER.
+ *
+ *     fevstunik_agreement agreement;
+ *     answer = fevstunik_finish(file, file_size, (const uint8_t *)"host/web@EX", 11, &now, &choice, random, 0, reply, reply_size,
+ *                               &agreement, buffer, sizeof buffer);
+ */
+fevstunik_answer fevstunik_finish(const uint8_t *cache, size_t cache_size, const uint8_t *service, size_t service_size,
+                                  const fevstunik_time *at, const fevstunik_choice *choice, const uint8_t *subkey, size_t subkey_size,
+                                  const uint8_t *reply, size_t reply_size, fevstunik_agreement *agreement, uint8_t *buffer,
+                                  size_t buffer_size);
 
 /* ---- texts (RFC 8009, sections 5 and 6) ---- */
 

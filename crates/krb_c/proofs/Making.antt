@@ -1,14 +1,10 @@
--- How a keytab and a skew make a service.
-use Rattle.std.proofs.Common.{◌≡◌, ◌⊎◌, inl, inr, ℕ, List, [], refl, ap, subst, ◌∙◌}
+-- How files are read as the answers that they have, and how a keytab and a skew make a service.
+use Rattle.std.proofs.Common.{◌≡◌, ◌⊎◌, inl, inr, ℕ, List, [], ap, subst, ◌∙◌}
 use Rattle.std.specs.Prelude.{Result, Ok, Err, None}
 use Rattle.krb_keytab.specs.Entry.{KeytabEntry}
-use Rattle.krb_keytab.specs.declared.fault.KeytabFault.{KeytabFault}
-use Rattle.krb_keytab.specs.declared.fault.KeytabFault.TheVariants.{OutOfMemory}
 use Rattle.krb_replay.specs.Memory.{Memory}
 use Rattle.krb_ap.specs.Service.{Service}
 use Rattle.krb_c.specs.Accepting.{fresh}
-use Rattle.krb_c.specs.Answer.{keytab_answer, plain}
-use Rattle.krb_c.specs.Codes.{out_of_memory}
 use Rattle.krb_c.specs.declared.answer.Answer.{Answer}
 use Rattle.krb_c.specs.declared.login.Login.{Login}
 
@@ -24,32 +20,29 @@ abbrev Succeeds : {X E : Type 0} → Result X E → Type 0
 Succeeds (Ok x) = Unit {0}
 Succeeds (Err e) = ⊥
 
-module _ where
-  abbrev X : Type 0
-  X = List KeytabEntry
-
+-- What an answer of `parse` tells, where the bytes have one. X is what is read, E why it isn't, and want its want of memory.
+module _ (X E : Type 0) (want : E) (told : E → Answer) where
   abbrev R : Type 0
-  R = Result X KeytabFault
+  R = Result X E
 
   abbrev Same : R → R → Type 0
   Same one other = one ≡ other
 
-  pub wanting : (f : KeytabFault) (x : X) → Same (Err f) (Ok x) ⊎ Same (Err f) (Err OutOfMemory) → f ≡ OutOfMemory
-  wanting f x (inl e) = ap (fault_or OutOfMemory) e
-  wanting f x (inr e) = ap (fault_or OutOfMemory) e
+  pub wanting : (a : Answer) (f : E) (x : X) → a ≡ told f → Same (Err f) (Ok x) ⊎ Same (Err f) (Err want) → a ≡ told want
+  wanting a f x is (inl e) = is ∙ ap (λ (r : R). told (fault_or want r)) e
+  wanting a f x is (inr e) = is ∙ ap (λ (r : R). told (fault_or want r)) e
 
-  pub same_fault : (a : Answer) (f g : KeytabFault) → a ≡ keytab_answer f → Same (Err f) (Err g) ⊎ Same (Err f) (Err OutOfMemory)
-      → (a ≡ keytab_answer g) ⊎ (a ≡ plain out_of_memory)
-  same_fault a f g told (inl e) = inl (told ∙ ap (λ (r : R). keytab_answer (fault_or f r)) e)
-  same_fault a f g told (inr e) = inr (told ∙ ap (λ (r : R). keytab_answer (fault_or f r)) e)
+  pub same_fault : (a : Answer) (f g : E) → a ≡ told f → Same (Err f) (Err g) ⊎ Same (Err f) (Err want) → (a ≡ told g) ⊎ (a ≡ told want)
+  same_fault a f g is (inl e) = inl (is ∙ ap (λ (r : R). told (fault_or f r)) e)
+  same_fault a f g is (inr e) = inr (is ∙ ap (λ (r : R). told (fault_or f r)) e)
 
-  pub same_value : (x y : X) (g : KeytabFault) → Same (Ok x) (Ok y) ⊎ Same (Ok x) (Err g) → x ≡ y
-  same_value x y g (inl e) = ap (value_or y) e
-  same_value x y g (inr e) = ap (value_or y) e
+  pub same_value : (x y : X) → Same (Ok x) (Ok y) ⊎ Same (Ok x) (Err want) → x ≡ y
+  same_value x y (inl e) = ap (value_or y) e
+  same_value x y (inr e) = ap (value_or y) e
 
-  pub no_fault : (x : X) (f g : KeytabFault) → Same (Ok x) (Err f) ⊎ Same (Ok x) (Err g) → ⊥
-  no_fault x f g (inl e) = subst Succeeds e tt
-  no_fault x f g (inr e) = subst Succeeds e tt
+  pub no_fault : (x : X) (f : E) → Same (Ok x) (Err f) ⊎ Same (Ok x) (Err want) → ⊥
+  no_fault x f (inl e) = subst Succeeds e tt
+  no_fault x f (inr e) = subst Succeeds e tt
 
 pub fresh_of : (a : Service Memory) (entries found : List KeytabEntry) (skew micros : ℕ) (memory : Memory)
     → a.setup ≡ record { entries = found; skew = skew; start = None } → a.memory ≡ memory → memory ≡ record { stamps = []; latest = None }

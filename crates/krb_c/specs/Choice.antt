@@ -1,12 +1,11 @@
 -- What a side chooses: a subkey, a sequence number, whether a reply is wanted; and which keys and confounders are none.
 use Rattle.std.specs.Prelude.{◌≡◌, ◌≢◌, ◌⊎◌, ℕ, ℤ, pos, Bool, true, false, List, length, Option, Some, None}
-use Rattle.krb_enc.specs.Key.{KeyValue, IsKnown, IsUsable, IsUsableKey, profile_of}
+use Rattle.krb_enc.specs.Key.{KeyValue, IsKnown, IsUsable, profile_of}
 use Rattle.krb_enc.specs.Opens.{HasTag, IsShort, Opens}
 use Rattle.krb_enc.specs.Sealed.{checksum_of, sealed}
 use Rattle.krb_ap.specs.Answer.{taken_of}
 use Rattle.krb_ap.specs.Reply.{IsReply}
 use Rattle.krb_ap.specs.declared.accepted.Accepted.{Accepted}
-use Rattle.krb_ap.specs.declared.reply.ReplyOptions.{ReplyOptions}
 use Rattle.krb_c.specs.Answer.{Delivers, plain}
 use Rattle.krb_c.specs.Codes.{bad_confounder, key_length, key_type, nothing_there, ok, out_of_memory, text_integrity, text_short}
 use Rattle.krb_c.specs.declared.answer.Answer.{Answer}

@@ -4,3 +4,5 @@ pub mod Answer
 pub mod Accepting
 pub mod Known
 pub mod Choice
+pub mod Asking
+pub mod Finishing

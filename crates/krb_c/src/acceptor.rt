@@ -22,7 +22,6 @@ use crate::known::Known;
 use crate::login::Login;
 use krb_ap::Acceptor;
 use krb_keytab::Keytab;
-use krb_msg::Moment;
 use krb_replay::{ReplayMemory, Skew, TimedMemory};
 use std::alloc::Global;
 
@@ -91,7 +90,7 @@ pub extern "C" fn fevstunik_acceptor_accept(
     ensures decided { IsMomentOf now.now → Turns handle.old.value handle.new.value (result ≡ plain empty_handle)
         (λ old new. Decides old new (arrival request.now (micros_of now.now.seconds now.now.micros)) result) }
 {
-    let now = match Moment::new(now.seconds, now.micros) {
+    let now = match now.moment() {
         Some(now) => now,
         None => return Answer::plain(code::BAD_MOMENT),
     };

@@ -1,12 +1,15 @@
 //! What each call answers.
 
-ghost use Rattle.std.specs.Prelude.{◌≡◌};
+ghost use Rattle.std.specs.Prelude.{◌≡◌, SomeIff};
+ghost use Rattle.krb_msg.specs.Moments.{micros_of};
 ghost use Rattle.krb_ap.specs.Causes.{place};
+ghost use Rattle.krb_c.specs.Accepting.{IsMomentOf};
 ghost use Rattle.krb_c.specs.Answer.{Hands, keytab_answer, plain, placed, refused, sized, told};
 
 use crate::code;
 use krb_ap::{Accepted, Refusal};
 use krb_keytab::KeytabFault;
+use krb_msg::Moment;
 
 /// What a call answers. The numbers that don't go with its code are 0.
 #[repr(C)]
@@ -30,6 +33,15 @@ pub struct Time {
     pub seconds: i64,
     /// Microseconds after them: 0 to 999,999.
     pub micros: u32,
+}
+
+impl Time {
+    /// The moment, where these are a second and microseconds of one.
+    pub(crate) fn moment(&self) -> Option<Moment>
+        ensures { SomeIff result (IsMomentOf self.now) (micros_of self.now.seconds self.now.micros) }
+    {
+        Moment::new(self.seconds, self.micros)
+    }
 }
 
 impl Answer {

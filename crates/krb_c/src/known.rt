@@ -86,7 +86,7 @@ pub(crate) fn tell(alloc: Global, accepted: &Accepted) -> Result<(Vec<u8>, Known
     Ok((bytes, known))
 }
 
-fn append(bytes: &mut Vec<u8>, more: &[u8]) -> Result<Span, AllocError>
+pub(crate) fn append(bytes: &mut Vec<u8>, more: &[u8]) -> Result<Span, AllocError>
     ensures bytes { IfOk result (λ span. bytes.new.items ≡ bytes.old.items ++ more.now) }
     ensures span { IfOk result (λ span. span ≡ record { at = length bytes.old.items; size = length more.now }) }
 {
@@ -98,7 +98,7 @@ fn append(bytes: &mut Vec<u8>, more: &[u8]) -> Result<Span, AllocError>
     })
 }
 
-fn bytes_of(key: &Option<RawKey>) -> &[u8]
+pub(crate) fn bytes_of(key: &Option<RawKey>) -> &[u8]
     ensures { result.now ≡ key_bytes key.now }
 {
     match key {
@@ -107,7 +107,7 @@ fn bytes_of(key: &Option<RawKey>) -> &[u8]
     }
 }
 
-fn type_of(key: &Option<RawKey>) -> i32
+pub(crate) fn type_of(key: &Option<RawKey>) -> i32
     ensures { result ≡ key_type key.now }
 {
     match key {
@@ -116,7 +116,7 @@ fn type_of(key: &Option<RawKey>) -> i32
     }
 }
 
-fn has_key(key: &Option<RawKey>) -> bool
+pub(crate) fn has_key(key: &Option<RawKey>) -> bool
     ensures { result ≡ is_there key.now }
 {
     match key {
@@ -125,7 +125,7 @@ fn has_key(key: &Option<RawKey>) -> bool
     }
 }
 
-fn number(number: Option<u32>) -> u32
+pub(crate) fn number(number: Option<u32>) -> u32
     ensures { result ≡ number_or_zero number }
 {
     match number {
@@ -134,7 +134,7 @@ fn number(number: Option<u32>) -> u32
     }
 }
 
-fn has_number(number: Option<u32>) -> bool
+pub(crate) fn has_number(number: Option<u32>) -> bool
     ensures { result ≡ is_there number }
 {
     match number {

@@ -1,19 +1,25 @@
-use Rattle.std.proofs.Common.{ap, ◌∙◌}
+use Rattle.std.proofs.Common.{List, ◌∙◌}
 use Rattle.std.specs.Prelude.{Ok, Err}
+use Rattle.krb_keytab.specs.Entry.{KeytabEntry}
+use Rattle.krb_keytab.specs.declared.fault.KeytabFault.{KeytabFault}
 use Rattle.krb_keytab.specs.declared.fault.KeytabFault.TheVariants.{OutOfMemory}
 use Rattle.krb_c.specs.Answer.{keytab_answer}
 use Rattle.krb_c.proofs.Making.{wanting, same_fault, same_value, no_fault, fresh_of}
 use Rattle.krb_c.proofs.acceptor.service.Goals as goal
 
 pub returns-in-Err-clause-made : goal.returns-in-Err-clause-made
-returns-in-Err-clause-made c = λ entries low keytab. c.keytab.ensures ∙ ap keytab_answer (wanting c.in-Err.fault entries (c.in-Err.ensures.only (Ok entries) keytab))
+returns-in-Err-clause-made c = λ entries low keytab.
+    wanting (List KeytabEntry) KeytabFault OutOfMemory keytab_answer c.keytab.result c.in-Err.fault entries c.keytab.ensures (c.in-Err.ensures.only (Ok entries) keytab)
 
 pub returns-in-Err-clause-fault : goal.returns-in-Err-clause-fault
-returns-in-Err-clause-fault c = λ fault low faulty. same_fault c.keytab.result c.in-Err.fault fault c.keytab.ensures (c.in-Err.ensures.only (Err fault) faulty)
+returns-in-Err-clause-fault c = λ fault low faulty.
+    same_fault (List KeytabEntry) KeytabFault OutOfMemory keytab_answer c.keytab.result c.in-Err.fault fault c.keytab.ensures (c.in-Err.ensures.only (Err fault) faulty)
 
 pub returns-in-Ok-new-clause-made : goal.returns-in-Ok-new-clause-made
 returns-in-Ok-new-clause-made c = λ entries low keytab. c.in-Ok-new.ensures.ok ∙ fresh_of c.new-acceptor.result entries c.in-Ok.keytab c.in-Some.skew _ c.new-2.result
-    c.new-acceptor.ensures.setup c.new-acceptor.ensures.memory c.new-2.ensures.value (same_value c.in-Ok.keytab entries OutOfMemory (c.in-Ok.ensures.only (Ok entries) keytab)) c.in-Some.ensures.1
+    c.new-acceptor.ensures.setup c.new-acceptor.ensures.memory c.new-2.ensures.value
+    (same_value (List KeytabEntry) KeytabFault OutOfMemory keytab_answer c.in-Ok.keytab entries (c.in-Ok.ensures.only (Ok entries) keytab)) c.in-Some.ensures.1
 
 pub returns-in-Ok-new-clause-fault : goal.returns-in-Ok-new-clause-fault
-returns-in-Ok-new-clause-fault c = λ fault low faulty. no_fault c.in-Ok.keytab fault OutOfMemory (c.in-Ok.ensures.only (Err fault) faulty)
+returns-in-Ok-new-clause-fault c = λ fault low faulty.
+    no_fault (List KeytabEntry) KeytabFault OutOfMemory keytab_answer c.in-Ok.keytab fault (c.in-Ok.ensures.only (Err fault) faulty)

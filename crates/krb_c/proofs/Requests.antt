@@ -1,0 +1,22 @@
+-- A request at another name of its moment and of its confounder.
+use Rattle.std.proofs.Common.{◌≡◌, ℤ, ℕ, List, subst}
+use Rattle.std.specs.Prelude.{◌≢◌}
+use Rattle.krb_name.specs.declared.principal.Principal.{Principal}
+use Rattle.krb_ccache.specs.Value.{Cache}
+use Rattle.krb_ap.specs.Request.{Awaited, IsRequest, Prevents}
+use Rattle.krb_ap.specs.declared.request.RequestOptions.{RequestOptions}
+use Rattle.krb_ap.specs.declared.request_fault.RequestFault.{RequestFault}
+use Rattle.krb_ap.specs.declared.request_fault.RequestFault.TheVariants.{OutOfMemory}
+
+module _ (cache : Cache) (service : Principal) (at other : ℤ) (block confounder : List ℕ) (options : RequestOptions) where
+  pub request_at : (bytes : List ℕ) (awaited : Awaited) → at ≡ other → block ≡ confounder → IsRequest cache service at block options bytes awaited
+      → IsRequest cache service other confounder options bytes awaited
+  request_at bytes awaited same alike request =
+      subst (λ (m : ℤ). IsRequest cache service m confounder options bytes awaited) same
+      (subst (λ (k : List ℕ). IsRequest cache service at k options bytes awaited) alike request)
+
+  pub prevents_at : (fault : RequestFault) → at ≡ other → block ≡ confounder
+      → (fault ≢ OutOfMemory → Prevents cache service at block options fault) → fault ≢ OutOfMemory → Prevents cache service other confounder options fault
+  prevents_at fault same alike prevents named =
+      subst (λ (m : ℤ). Prevents cache service m confounder options fault) same
+      (subst (λ (k : List ℕ). Prevents cache service at k options fault) alike (prevents named))

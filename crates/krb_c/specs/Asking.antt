@@ -1,0 +1,110 @@
+-- The client's side: a request for a cache's credential, and what is agreed on by the reply.
+use Rattle.std.specs.Prelude.{◌≡◌, ◌≢◌, ◌⊎◌, ℕ, ℤ, pos, List, length, Ok, Err}
+use Rattle.std.specs.Str.{IsUtf8}
+use Rattle.krb_name.specs.Reading.{IsReadAs}
+use Rattle.krb_name.specs.declared.principal.Principal.{Principal}
+use Rattle.krb_name.specs.declared.text_fault.TextFault.{TextFault}
+use Rattle.krb_name.specs.declared.text_fault.TextFault.TheVariants as text
+use Rattle.krb_msg.specs.Moments.{micros_of}
+use Rattle.krb_ccache.specs.Format.{IsCache, IsFaultOf}
+use Rattle.krb_ccache.specs.Value.{Cache}
+use Rattle.krb_ccache.specs.declared.fault.CacheFault.{CacheFault}
+use Rattle.krb_ccache.specs.declared.fault.CacheFault.TheVariants as file
+use Rattle.krb_ap.specs.Request.{Awaited, IsRequest, Prevents}
+use Rattle.krb_ap.specs.declared.request.RequestOptions.{RequestOptions}
+use Rattle.krb_ap.specs.declared.request_fault.RequestFault.{RequestFault}
+use Rattle.krb_ap.specs.declared.request_fault.RequestFault.TheVariants as request
+use Rattle.krb_c.specs.Accepting.{IsMomentOf}
+use Rattle.krb_c.specs.Answer.{plain, placed}
+use Rattle.krb_c.specs.Choice.{IsChosen, IsConfounderFault, IsKeyFault, seq_of}
+use Rattle.krb_c.specs.Codes.{bad_moment, bad_text, bad_ticket, credential_expired, file_bad_item, file_header, file_version, no_credential, no_realm, no_usable_key, not_read, not_utf8, out_of_memory, too_long}
+use Rattle.krb_c.specs.declared.answer.Answer.{Answer}
+use Rattle.krb_c.specs.declared.answer.Time.{Time}
+use Rattle.krb_c.specs.declared.choice.Choice.{Choice}
+
+-- ---- faults
+
+abbrev pub cache_answer : CacheFault → Answer
+cache_answer file.Version = plain file_version
+cache_answer file.Header = plain file_header
+cache_answer (file.BadItem at) = placed file_bad_item at
+cache_answer file.TooLong = plain too_long
+cache_answer file.Read = plain not_read
+cache_answer file.OutOfMemory = plain out_of_memory
+
+abbrev pub name_answer : TextFault → Answer
+name_answer (text.BadText at) = placed bad_text at
+name_answer text.NoRealm = plain no_realm
+name_answer text.OutOfMemory = plain out_of_memory
+
+abbrev pub request_answer : RequestFault → Answer
+request_answer request.NoCredential = plain no_credential
+request_answer request.NoUsableKey = plain no_usable_key
+request_answer request.Expired = plain credential_expired
+request_answer request.BadTicket = plain bad_ticket
+request_answer request.TooLong = plain too_long
+request_answer request.OutOfMemory = plain out_of_memory
+
+-- why bytes are no cache, memory aside
+pub record HasCacheFault (bytes : List ℕ) (answer : Answer) : Type 0 where
+  pub fault : CacheFault
+  pub holds : fault ≢ file.OutOfMemory → IsFaultOf bytes fault
+  pub answer_is : answer ≡ cache_answer fault
+
+-- why a text is no name
+pub record HasNameFault (bytes : List ℕ) (answer : Answer) : Type 0 where
+  pub fault : TextFault
+  pub holds : IsReadAs bytes (Err fault)
+  pub answer_is : answer ≡ name_answer fault
+
+abbrev pub IsNameFault : List ℕ → Answer → Type 0
+IsNameFault bytes answer = HasNameFault bytes answer ⊎ ((¬ IsUtf8 bytes) × (answer ≡ plain not_utf8))
+
+-- ---- what is handed in
+
+-- the file of a cache, the service's text, the moment, and what the client chooses
+pub record Ask : Type 0 where
+  pub file : List ℕ
+  pub service : List ℕ
+  pub at : Time
+  pub choice : Choice
+  pub subkey : List ℕ
+
+abbrev pub ask : List ℕ → List ℕ → Time → Choice → List ℕ → Ask
+ask file service at choice subkey = record { file = file; service = service; at = at; choice = choice; subkey = subkey }
+
+abbrev pub moment_of : Time → ℤ
+moment_of at = micros_of at.seconds at.micros
+
+-- what it is read as
+pub record IsAsked (a : Ask) (cache : Cache) (service : Principal) (options : RequestOptions) : Type 0 where
+  pub cache_is : IsCache a.file cache
+  pub service_is : IsReadAs a.service (Ok service)
+  pub at_is : IsMomentOf a.at
+  pub chosen : IsChosen a.choice.subkey_type a.subkey options.subkey
+  pub seq_is : options.seq ≡ seq_of a.choice
+  pub reply : options.«mutual» ≡ a.choice.wants_reply
+
+-- ---- the request
+
+pub record Asks (a : Ask) (confounder bytes : List ℕ) (awaited : Awaited) : Type 0 where
+  pub cache : Cache
+  pub service : Principal
+  pub options : RequestOptions
+  pub asked : IsAsked a cache service options
+  pub size : length confounder ≡ 16
+  pub request : IsRequest cache service (moment_of a.at) confounder options bytes awaited
+
+-- what is asked for has a fault
+pub record HasRequestFault (a : Ask) (confounder : List ℕ) (answer : Answer) : Type 0 where
+  pub cache : Cache
+  pub service : Principal
+  pub options : RequestOptions
+  pub asked : IsAsked a cache service options
+  pub fault : RequestFault
+  pub prevents : fault ≢ request.OutOfMemory → Prevents cache service (moment_of a.at) confounder options fault
+  pub answer_is : answer ≡ request_answer fault
+
+abbrev pub IsAskFault : Ask → List ℕ → Answer → Type 0
+IsAskFault a confounder answer = HasCacheFault a.file answer ⊎ (IsNameFault a.service answer ⊎ (((¬ IsMomentOf a.at) × (answer ≡ plain bad_moment))
+    ⊎ (IsConfounderFault confounder answer ⊎ (((a.choice.subkey_type ≢ pos 0) × IsKeyFault a.choice.subkey_type a.subkey answer) ⊎ HasRequestFault a confounder answer))))

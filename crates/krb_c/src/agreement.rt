@@ -1,0 +1,142 @@
+//! The client's side: what is agreed on by a reply.
+
+ghost use Rattle.std.specs.Prelude.{◌≡◌, IfErr, IfOk};
+ghost use Rattle.krb_c.specs.Asking.{ask};
+ghost use Rattle.krb_c.specs.Finishing.{Ends, Finishes, IsFinishFault, TellsAgreed, agreed_bytes, agreement_told, finish_answer};
+
+use crate::answer::{Answer, Time, hand_over};
+use crate::asking::asked;
+use crate::choice::Choice;
+use crate::code;
+use crate::known::{Span, append, bytes_of, has_key, has_number, number, type_of};
+use krb_ap::{Agreed, FinishFault};
+use std::alloc::{AllocError, Global};
+
+/// What a client and a service agreed on. Texts and keys stand in the buffer.
+#[repr(C)]
+#[derive(Clone, Copy)]
+pub struct Agreement {
+    /// The client, as text.
+    pub client: Span,
+    /// The key that client and service share.
+    pub session_key: Span,
+    /// The key that the service chose, if it did.
+    pub service_subkey: Span,
+    /// The service's first sequence number, if it told one.
+    pub service_seq: u32,
+    /// The type of the client's name.
+    pub name_type: i32,
+    /// The encryption type of the session key.
+    pub session_type: i32,
+    /// The encryption type of the service's subkey, if it chose one.
+    pub service_subkey_type: i32,
+    /// Whether the service chose a subkey.
+    pub has_service_subkey: bool,
+    /// Whether the service told a sequence number.
+    pub has_service_seq: bool,
+}
+
+/// Reads the reply to the request that `fevstunik_request` builds of the same cache, service, moment and choice, and tells what both sides
+/// agree on (`krb_ap::Pending::finish`).
+#[unsafe(no_mangle)]
+pub extern "C" fn fevstunik_finish(
+    alloc: Global,
+    cache: &[u8],
+    service: &[u8],
+    at: &Time,
+    choice: &Choice,
+    subkey: &[u8],
+    reply: &[u8],
+    agreement: &mut Agreement,
+    buffer: &mut [u8],
+) -> Answer
+    ensures { Ends (ask cache.now service.now at.now choice.now subkey.now) reply.now agreement.old agreement.new buffer.old buffer.new result }
+{
+    match finished(alloc, cache, service, at, choice, subkey, reply) {
+        Ok(agreed) => tell_agreed(alloc, &agreed, agreement, buffer),
+        Err(answer) => answer,
+    }
+}
+
+fn finished(
+    alloc: Global,
+    cache: &[u8],
+    service: &[u8],
+    at: &Time,
+    choice: &Choice,
+    subkey: &[u8],
+    reply: &[u8],
+) -> Result<Agreed, Answer>
+    ensures agreed { IfOk result (λ agreed. Finishes (ask cache.now service.now at.now choice.now subkey.now) reply.now agreed) }
+    ensures fault { IfErr result (λ answer. IsFinishFault (ask cache.now service.now at.now choice.now subkey.now) reply.now answer) }
+{
+    let made = match asked(alloc, cache, service, at, &[0; 16], choice, subkey) {
+        Ok(made) => made,
+        Err(answer) => return Err(answer),
+    };
+    match made.1.finish(alloc, reply) {
+        Ok(agreed) => Ok(agreed),
+        Err(fault) => Err(finish_told(fault)),
+    }
+}
+
+fn finish_told(fault: FinishFault) -> Answer
+    ensures { result ≡ finish_answer fault }
+{
+    match fault {
+        FinishFault::MessageType => Answer::plain(code::REPLY_TYPE),
+        FinishFault::Malformed(fault) => Answer::placed(code::REPLY_MALFORMED, fault.at),
+        FinishFault::Integrity => Answer::plain(code::REPLY_INTEGRITY),
+        FinishFault::Mismatch => Answer {
+            code: code::REPLY_MISMATCH,
+            kerberos: 46,
+            at: 0,
+            size: 0,
+        },
+        FinishFault::OutOfMemory => Answer::plain(code::OUT_OF_MEMORY),
+    }
+}
+
+fn tell_agreed(
+    alloc: Global,
+    agreed: &Agreed,
+    agreement: &mut Agreement,
+    buffer: &mut [u8],
+) -> Answer
+    ensures { TellsAgreed agreed.now agreement.old agreement.new buffer.old buffer.new result }
+{
+    match told(alloc, agreed) {
+        Ok((bytes, told)) => {
+            *agreement = told;
+            hand_over(bytes.as_slice(), buffer)
+        }
+        Err(_) => Answer::plain(code::OUT_OF_MEMORY),
+    }
+}
+
+// The bytes that are told, and where each part stands.
+fn told(alloc: Global, agreed: &Agreed) -> Result<(Vec<u8>, Agreement), AllocError>
+    ensures bytes { IfOk result (λ made. made.0.items ≡ agreed_bytes agreed.now) }
+    ensures told { IfOk result (λ made. made.1 ≡ agreement_told agreed.now) }
+{
+    let text = agreed.client.to_text(alloc)?;
+    let mut bytes = Vec::from_slice(alloc, text.as_bytes())?;
+    let client = Span {
+        at: 0,
+        size: bytes.len(),
+    };
+    let session_key = append(&mut bytes, agreed.session_key.bytes())?;
+    let service_subkey = append(&mut bytes, bytes_of(&agreed.service_subkey))?;
+    let told = Agreement {
+        client,
+        session_key,
+        service_subkey,
+        service_seq: number(agreed.service_seq),
+        name_type: agreed.client.name_type,
+        session_type: agreed.session_key.etype(),
+        service_subkey_type: type_of(&agreed.service_subkey),
+        has_service_subkey: has_key(&agreed.service_subkey),
+        has_service_seq: has_number(agreed.service_seq),
+    };
+    Ok((bytes, told))
+}

@@ -1,0 +1,142 @@
+//! The client's side: a request for a cache's credential.
+
+ghost use Rattle.std.specs.Prelude.{◌≡◌, IfErr, IfOk, Ok};
+ghost use Rattle.krb_ap.specs.Request.{Awaited};
+ghost use Rattle.krb_ccache.specs.Format.{IsCache};
+ghost use Rattle.krb_name.specs.Reading.{IsReadAs};
+ghost use Rattle.krb_c.specs.Answer.{Delivers};
+ghost use Rattle.krb_c.specs.Asking.{Asks, HasCacheFault, IsAskFault, IsNameFault, ask, cache_answer, name_answer, request_answer};
+
+use crate::answer::{Answer, Time, hand_over};
+use crate::choice::{Choice, block_of};
+use crate::code;
+use krb_ap::{Pending, RequestFault, RequestOptions, make_request};
+use krb_ccache::{CCache, CacheFault};
+use krb_name::{Principal, TextFault};
+use std::alloc::Global;
+
+/// Builds a request for a service with the first credential of a cache that fits (`krb_ap::make_request`).
+#[unsafe(no_mangle)]
+pub extern "C" fn fevstunik_request(
+    alloc: Global,
+    cache: &[u8],
+    service: &[u8],
+    at: &Time,
+    confounder: &[u8],
+    choice: &Choice,
+    subkey: &[u8],
+    buffer: &mut [u8],
+) -> Answer
+    ensures { Delivers (λ bytes. (awaited : Awaited) × Asks (ask cache.now service.now at.now choice.now subkey.now) confounder.now bytes awaited)
+        (λ answer. IsAskFault (ask cache.now service.now at.now choice.now subkey.now) confounder.now answer) buffer.old buffer.new result }
+{
+    match asked(alloc, cache, service, at, confounder, choice, subkey) {
+        Ok((bytes, _)) => hand_over(bytes.as_slice(), buffer),
+        Err(answer) => answer,
+    }
+}
+
+/// The request and what is kept of it.
+pub(crate) fn asked(
+    alloc: Global,
+    cache: &[u8],
+    service: &[u8],
+    at: &Time,
+    confounder: &[u8],
+    choice: &Choice,
+    subkey: &[u8],
+) -> Result<(Vec<u8>, Pending), Answer>
+    ensures asks { IfOk result (λ made. Asks (ask cache.now service.now at.now choice.now subkey.now) confounder.now made.0.items made.1) }
+    ensures fault { IfErr result (λ answer. IsAskFault (ask cache.now service.now at.now choice.now subkey.now) confounder.now answer) }
+{
+    let cache = match cache_of(alloc, cache) {
+        Ok(cache) => cache,
+        Err(answer) => return Err(answer),
+    };
+    let service = match name_of(alloc, service) {
+        Ok(service) => service,
+        Err(answer) => return Err(answer),
+    };
+    let now = match at.moment() {
+        Some(now) => now,
+        None => return Err(Answer::plain(code::BAD_MOMENT)),
+    };
+    let confounder = match block_of(confounder) {
+        Ok(confounder) => confounder,
+        Err(answer) => return Err(answer),
+    };
+    let subkey = match choice.subkey(subkey) {
+        Ok(subkey) => subkey,
+        Err(answer) => return Err(answer),
+    };
+    let options = RequestOptions {
+        mutual: choice.wants_reply,
+        subkey,
+        seq: choice.seq(),
+    };
+    match make_request(alloc, &cache, &service, now, &confounder, options) {
+        Ok(made) => Ok(made),
+        Err(fault) => Err(request_told(fault)),
+    }
+}
+
+fn cache_of(alloc: Global, bytes: &[u8]) -> Result<CCache, Answer>
+    ensures cache { IfOk result (λ cache. IsCache bytes.now cache) }
+    ensures fault { IfErr result (λ answer. HasCacheFault bytes.now answer) }
+{
+    match CCache::parse(alloc, bytes) {
+        Ok(cache) => Ok(cache),
+        Err(fault) => Err(cache_told(fault)),
+    }
+}
+
+/// Reads a principal off its text.
+fn name_of(alloc: Global, bytes: &[u8]) -> Result<Principal, Answer>
+    ensures name { IfOk result (λ name. IsReadAs bytes.now (Ok name)) }
+    ensures fault { IfErr result (λ answer. IsNameFault bytes.now answer) }
+{
+    let text = match str::from_utf8(bytes) {
+        Ok(text) => text,
+        Err(_) => return Err(Answer::plain(code::NOT_UTF8)),
+    };
+    match Principal::from_text(alloc, text, 0) {
+        Ok(name) => Ok(name),
+        Err(fault) => Err(name_told(fault)),
+    }
+}
+
+pub(crate) fn cache_told(fault: CacheFault) -> Answer
+    ensures { result ≡ cache_answer fault }
+{
+    match fault {
+        CacheFault::Version => Answer::plain(code::FILE_VERSION),
+        CacheFault::Header => Answer::plain(code::FILE_HEADER),
+        CacheFault::BadItem { at } => Answer::placed(code::FILE_BAD_ITEM, at),
+        CacheFault::TooLong => Answer::plain(code::TOO_LONG),
+        CacheFault::Read => Answer::plain(code::NOT_READ),
+        CacheFault::OutOfMemory => Answer::plain(code::OUT_OF_MEMORY),
+    }
+}
+
+fn name_told(fault: TextFault) -> Answer
+    ensures { result ≡ name_answer fault }
+{
+    match fault {
+        TextFault::BadText { at } => Answer::placed(code::BAD_TEXT, at),
+        TextFault::NoRealm => Answer::plain(code::NO_REALM),
+        TextFault::OutOfMemory => Answer::plain(code::OUT_OF_MEMORY),
+    }
+}
+
+fn request_told(fault: RequestFault) -> Answer
+    ensures { result ≡ request_answer fault }
+{
+    match fault {
+        RequestFault::NoCredential => Answer::plain(code::NO_CREDENTIAL),
+        RequestFault::NoUsableKey => Answer::plain(code::NO_USABLE_KEY),
+        RequestFault::Expired => Answer::plain(code::CREDENTIAL_EXPIRED),
+        RequestFault::BadTicket => Answer::plain(code::BAD_TICKET),
+        RequestFault::TooLong => Answer::plain(code::TOO_LONG),
+        RequestFault::OutOfMemory => Answer::plain(code::OUT_OF_MEMORY),
+    }
+}

@@ -1,0 +1,146 @@
+#!/usr/bin/env python3
+"""The service's side of the exchange from Python, by ctypes over the library for C.
+
+    cd crates/krb_c && rt lib && cd ../..
+    gcc -shared -o libfevstunik.so -Wl,--whole-archive crates/krb_c/out/libkrb_c.a -Wl,--no-whole-archive \\
+        "$(dirname "$(rt doc)")/c/liblibc_c.a"
+    examples/fevstunik.py libfevstunik.so examples/service.keytab < requests
+
+Each line of standard input is a request in hex. Each is answered by a line: `accepted CLIENT REPLY` with the reply in hex, where one is
+asked for, else `accepted CLIENT -`; or `refused CODE KERBEROS`, the library's code and that of RFC 4120. An option --at SECONDS takes that
+moment in place of the clock's.
+"""
+import argparse
+import ctypes
+import os
+import sys
+import time
+from ctypes import POINTER, byref, c_bool, c_char_p, c_int32, c_int64, c_size_t, c_uint32, c_void_p
+
+OK = 0
+SHORT_BUFFER = 19
+
+
+class Answer(ctypes.Structure):
+    _fields_ = [("code", c_uint32), ("kerberos", c_int32), ("at", c_size_t), ("size", c_size_t)]
+
+
+class Time(ctypes.Structure):
+    _fields_ = [("seconds", c_int64), ("micros", c_uint32)]
+
+
+class Span(ctypes.Structure):
+    _fields_ = [("at", c_size_t), ("size", c_size_t)]
+
+    def of(self, data):
+        return data[self.at:self.at + self.size]
+
+
+class Known(ctypes.Structure):
+    _fields_ = [("client", Span), ("session_key", Span), ("subkey", Span), ("authtime", c_int64), ("endtime", c_int64),
+                ("ctime", c_int64), ("cusec", c_uint32), ("flags", c_uint32), ("seq", c_uint32), ("name_type", c_int32),
+                ("session_type", c_int32), ("subkey_type", c_int32), ("has_subkey", c_bool), ("has_seq", c_bool), ("wants_reply", c_bool)]
+
+
+class Choice(ctypes.Structure):
+    _fields_ = [("subkey_type", c_int32), ("seq", c_uint32), ("has_seq", c_bool), ("wants_reply", c_bool)]
+
+
+class Handle(ctypes.Structure):
+    """Made zero, as the library asks. It is never copied."""
+    _fields_ = [("opaque", c_void_p)]
+
+
+class Refused(Exception):
+    """The library's code, and that of RFC 4120 (0 for none)."""
+
+    def __init__(self, answer):
+        super().__init__(f"code {answer.code} ({answer.kerberos})")
+        self.code, self.kerberos = answer.code, answer.kerberos
+
+
+def library(path):
+    lib = ctypes.CDLL(path)
+    handle, into = POINTER(Handle), (c_void_p, c_size_t)
+    for name, result, words in [
+            ("new", Answer, (handle, c_char_p, c_size_t, c_uint32)),
+            ("accept", Answer, (handle, c_char_p, c_size_t, POINTER(Time))),
+            ("accepted", Answer, (handle, POINTER(Known), *into)),
+            ("reply", Answer, (handle, c_char_p, c_size_t, POINTER(Choice), c_char_p, c_size_t, *into)),
+            ("count", c_size_t, (handle,)),
+            ("latest", Answer, (handle, POINTER(Time))),
+            ("free", None, (handle,))]:
+        function = getattr(lib, "fevstunik_acceptor_" + name)
+        function.restype, function.argtypes = result, words
+    return lib
+
+
+def filled(call):
+    """The bytes that a call with a buffer answers, with as much room as it asks for."""
+    room = 256
+    while True:
+        buffer = ctypes.create_string_buffer(room)
+        answer = call(buffer, room)
+        if answer.code == OK:
+            return buffer.raw[:answer.size]
+        if answer.code != SHORT_BUFFER:
+            raise Refused(answer)
+        room = answer.size
+
+
+class Acceptor:
+    """A service. One thread uses it at a time."""
+
+    def __init__(self, lib, keytab, skew=300):
+        self.lib, self.handle = lib, Handle()
+        self.done(lib.fevstunik_acceptor_new(byref(self.handle), keytab, len(keytab), skew))
+
+    @staticmethod
+    def done(answer):
+        if answer.code != OK:
+            raise Refused(answer)
+
+    def accept(self, request, seconds, micros=0):
+        """The client as text, the session key, the client's subkey, and the numbers."""
+        self.done(self.lib.fevstunik_acceptor_accept(byref(self.handle), request, len(request), byref(Time(seconds, micros))))
+        known = Known()
+        data = filled(lambda buffer, room: self.lib.fevstunik_acceptor_accepted(byref(self.handle), byref(known), buffer, room))
+        return known.client.of(data).decode(), known.session_key.of(data), known.subkey.of(data), known
+
+    def reply(self, confounder):
+        """The reply to what was accepted last."""
+        return filled(lambda buffer, room: self.lib.fevstunik_acceptor_reply(
+            byref(self.handle), confounder, len(confounder), byref(Choice()), b"", 0, buffer, room))
+
+    def __len__(self):
+        return self.lib.fevstunik_acceptor_count(byref(self.handle))
+
+    def close(self):
+        self.lib.fevstunik_acceptor_free(byref(self.handle))
+
+
+def answered(service, request, seconds, micros):
+    try:
+        client, _, _, known = service.accept(request, seconds, micros)
+    except Refused as refused:
+        return f"refused {refused.code} {refused.kerberos}"
+    return f"accepted {client} {service.reply(os.urandom(16)).hex() if known.wants_reply else '-'}"
+
+
+def main():
+    words = argparse.ArgumentParser()
+    words.add_argument("library")
+    words.add_argument("keytab")
+    words.add_argument("--at", type=int)
+    words = words.parse_args()
+    with open(words.keytab, "rb") as file:
+        service = Acceptor(library(os.path.abspath(words.library)), file.read())
+    for line in sys.stdin:
+        micros = time.time_ns() // 1000
+        seconds, micros = divmod(micros, 1_000_000) if words.at is None else (words.at, 0)
+        print(answered(service, bytes.fromhex(line), seconds, micros))
+    service.close()
+
+
+if __name__ == "__main__":
+    main()

@@ -1,0 +1,383 @@
+/* Runs the library on the exchange that tests share (tests/vectors/fixture.py), with exact answers. The arguments are the files of the
+ * keytab and of the cache, and in hex the request, the request with a subkey, the reply and the reply with a subkey. Each line of output
+ * that begins with `wrong` is one. */
+#include <stdio.h>
+#include <stdlib.h>
+#include <string.h>
+
+#include "fevstunik.h"
+
+static int passed = 0, failed = 0;
+
+static void is(const char *what, long long found, long long wanted)
+{
+    if (found == wanted) {
+        passed++;
+        return;
+    }
+    failed++;
+    printf("wrong: %s: %lld, not %lld\n", what, found, wanted);
+}
+
+static void is_answer(const char *what, fevstunik_answer found, unsigned code, int kerberos, size_t at, size_t size)
+{
+    if (found.code == code && found.kerberos == kerberos && found.at == at && found.size == size) {
+        passed++;
+        return;
+    }
+    failed++;
+    printf("wrong: %s: {%u, %d, %zu, %zu}, not {%u, %d, %zu, %zu}\n", what, found.code, found.kerberos, found.at, found.size, code,
+           kerberos, at, size);
+}
+
+static void is_bytes(const char *what, const uint8_t *found, const void *wanted, size_t size)
+{
+    is(what, memcmp(found, wanted, size), 0);
+}
+
+struct bytes {
+    uint8_t at[4096];
+    size_t size;
+};
+
+static void from_hex(struct bytes *bytes, const char *text)
+{
+    unsigned byte;
+
+    bytes->size = 0;
+    for (; sscanf(text, "%2x", &byte) == 1; text += 2)
+        bytes->at[bytes->size++] = (uint8_t)byte;
+}
+
+static void from_file(struct bytes *bytes, const char *name)
+{
+    FILE *file = fopen(name, "rb");
+
+    if (file == NULL)
+        exit(2);
+    bytes->size = fread(bytes->at, 1, sizeof bytes->at, file);
+    fclose(file);
+}
+
+/* Where the credential begins in the cache: behind the version, an empty header and the default principal. */
+#define CREDENTIAL_AT 27
+/* How many entries the keytab has. */
+#define ENTRIES 1
+
+static struct bytes keytab, cache, request, keyed, reply, keyed_reply;
+static uint8_t buffer[4096];
+static const fevstunik_choice nothing = {0, 0, false, false};
+
+static fevstunik_time moment(int64_t seconds, uint32_t micros)
+{
+    fevstunik_time time;
+
+    time.seconds = seconds;
+    time.micros = micros;
+    return time;
+}
+
+/* An empty handle answers that it is empty, and stays so. */
+static void empty_handles(void)
+{
+    fevstunik_acceptor service = {0};
+    fevstunik_time now = moment(1700000101, 0), bad = moment(0, 1000000);
+    fevstunik_known known;
+
+    is_answer("accept of none", fevstunik_acceptor_accept(&service, request.at, request.size, &now), FEVSTUNIK_EMPTY_HANDLE, 0, 0, 0);
+    is_answer("a moment of none", fevstunik_acceptor_accept(&service, request.at, request.size, &bad), FEVSTUNIK_BAD_MOMENT, 0, 0, 0);
+    is_answer("accepted of none", fevstunik_acceptor_accepted(&service, &known, buffer, sizeof buffer), FEVSTUNIK_EMPTY_HANDLE, 0, 0, 0);
+    is_answer("reply of none", fevstunik_acceptor_reply(&service, request.at, 16, &nothing, request.at, 0, buffer, sizeof buffer),
+              FEVSTUNIK_EMPTY_HANDLE, 0, 0, 0);
+    is_answer("latest of none", fevstunik_acceptor_latest(&service, &now), FEVSTUNIK_EMPTY_HANDLE, 0, 0, 0);
+    is("count of none", (long long)fevstunik_acceptor_count(&service), 0);
+    fevstunik_acceptor_free(&service);
+    is("empty", service.opaque == NULL, 1);
+}
+
+/* A service isn't made of what is no keytab, or with too great a skew, and one that was made stays. */
+static void faulty_keytabs(fevstunik_acceptor *service)
+{
+    void *held = service->opaque;
+
+    is_answer("skew", fevstunik_acceptor_new(service, keytab.at, keytab.size, 86401), FEVSTUNIK_BAD_SKEW, 0, 0, 0);
+    is_answer("version", fevstunik_acceptor_new(service, keytab.at + 1, keytab.size - 1, 300), FEVSTUNIK_FILE_VERSION, 0, 0, 0);
+    is_answer("no file", fevstunik_acceptor_new(service, keytab.at, 0, 300), FEVSTUNIK_FILE_VERSION, 0, 0, 0);
+    is_answer("cut off", fevstunik_acceptor_new(service, keytab.at, 10, 300), FEVSTUNIK_FILE_TRUNCATED, 0, 2, 0);
+    is("it stays", service->opaque == held, 1);
+}
+
+/* The fixture's request is accepted once, and everything that is known of it is told. */
+static void is_accepted(fevstunik_acceptor *service)
+{
+    static const uint8_t session_key[] = {0, 1, 2, 3, 4, 5, 6, 7, 8, 9, 10, 11, 12, 13, 14, 15};
+    fevstunik_time now = moment(1700000101, 7), latest = moment(0, 0);
+    fevstunik_known known;
+
+    is_answer("no moment", fevstunik_acceptor_latest(service, &latest), FEVSTUNIK_NOTHING_THERE, 0, 0, 0);
+    is_answer("none yet", fevstunik_acceptor_accepted(service, &known, buffer, sizeof buffer), FEVSTUNIK_NOTHING_THERE, 0, 0, 0);
+    is_answer("accept", fevstunik_acceptor_accept(service, request.at, request.size, &now), FEVSTUNIK_OK, 0, 0, 0);
+    is("count", (long long)fevstunik_acceptor_count(service), 1);
+    is_answer("latest", fevstunik_acceptor_latest(service, &latest), FEVSTUNIK_OK, 0, 0, 0);
+    is("latest second", latest.seconds, 1700000101);
+    is("latest micros", latest.micros, 7);
+    memset(buffer, 0xaa, sizeof buffer);
+    is_answer("short", fevstunik_acceptor_accepted(service, &known, buffer, 23), FEVSTUNIK_SHORT_BUFFER, 0, 0, 24);
+    is("not written", buffer[0], 0xaa);
+    is_answer("told", fevstunik_acceptor_accepted(service, &known, buffer, 24), FEVSTUNIK_OK, 0, 0, 24);
+    is("behind", buffer[24], 0xaa);
+    is("client at", (long long)known.client.at, 0);
+    is("client size", (long long)known.client.size, 8);
+    is_bytes("client", buffer, "alice@EX", 8);
+    is("key at", (long long)known.session_key.at, 8);
+    is("key size", (long long)known.session_key.size, 16);
+    is_bytes("key", buffer + 8, session_key, 16);
+    is("subkey at", (long long)known.subkey.at, 24);
+    is("subkey size", (long long)known.subkey.size, 0);
+    is("endtime", known.endtime, 1700036000);
+    is("ctime", known.ctime, 1700000100);
+    is("cusec", known.cusec, 5);
+    is("name type", known.name_type, 1);
+    is("session type", known.session_type, 19);
+    is("subkey type", known.subkey_type, 0);
+    is("has subkey", known.has_subkey, 0);
+    is("has seq", known.has_seq, 0);
+    is("wants reply", known.wants_reply, 0);
+}
+
+static fevstunik_answer reply_of(fevstunik_acceptor *service, size_t confounder_size, int32_t type, size_t subkey_size, size_t room)
+{
+    uint8_t confounder[17], subkey[32];
+    fevstunik_choice choice = nothing;
+    size_t i;
+
+    for (i = 0; i < sizeof confounder; i++)
+        confounder[i] = (uint8_t)(0x30 + i);
+    for (i = 0; i < sizeof subkey; i++)
+        subkey[i] = (uint8_t)(0x40 + i);
+    choice.subkey_type = type;
+    choice.has_seq = type != 0;
+    choice.seq = 128;
+    return fevstunik_acceptor_reply(service, confounder, confounder_size, &choice, subkey, subkey_size, buffer, room);
+}
+
+/* The replies are those of the fixture, to the byte; what isn't replied to says why. */
+static void replies(fevstunik_acceptor *service)
+{
+    is_answer("confounder", reply_of(service, 17, 0, 0, sizeof buffer), FEVSTUNIK_BAD_CONFOUNDER, 0, 0, 0);
+    is_answer("type", reply_of(service, 16, 18, 32, sizeof buffer), FEVSTUNIK_KEY_TYPE, 0, 0, 0);
+    is_answer("length", reply_of(service, 16, 20, 16, sizeof buffer), FEVSTUNIK_KEY_LENGTH, 0, 0, 0);
+    is_answer("short reply", reply_of(service, 16, 0, 0, reply.size - 1), FEVSTUNIK_SHORT_BUFFER, 0, 0, reply.size);
+    is_answer("reply", reply_of(service, 16, 0, 0, sizeof buffer), FEVSTUNIK_OK, 0, 0, reply.size);
+    is_bytes("reply", buffer, reply.at, reply.size);
+    is_answer("keyed reply", reply_of(service, 16, 19, 16, sizeof buffer), FEVSTUNIK_OK, 0, 0, keyed_reply.size);
+    is_bytes("keyed reply", buffer, keyed_reply.at, keyed_reply.size);
+}
+
+/* Repeats and broken requests are refused, with their codes and places, and let nothing of the last one stand. */
+static void is_refused(fevstunik_acceptor *service)
+{
+    fevstunik_time now = moment(1700000101, 0), late = moment(1700000400, 6);
+    fevstunik_known known;
+
+    is_answer("repeat", fevstunik_acceptor_accept(service, request.at, request.size, &now), FEVSTUNIK_REPEAT, 34, 0, 0);
+    is_answer("none then", fevstunik_acceptor_accepted(service, &known, buffer, sizeof buffer), FEVSTUNIK_NOTHING_THERE, 0, 0, 0);
+    is_answer("no reply then", reply_of(service, 16, 0, 0, sizeof buffer), FEVSTUNIK_NOTHING_THERE, 0, 0, 0);
+    is_answer("another message", fevstunik_acceptor_accept(service, reply.at, reply.size, &now), FEVSTUNIK_MESSAGE_TYPE, 40, 0, 0);
+    is_answer("no bytes", fevstunik_acceptor_accept(service, request.at, 0, &now), FEVSTUNIK_MALFORMED, 60, 0, 0);
+    is_answer("one byte", fevstunik_acceptor_accept(service, request.at, 1, &now), FEVSTUNIK_MALFORMED, 60, 1, 0);
+    request.at[request.size - 1] ^= 1;
+    is_answer("bent", fevstunik_acceptor_accept(service, request.at, request.size, &now), FEVSTUNIK_AUTHENTICATOR_INTEGRITY, 31, 0, 0);
+    request.at[request.size - 1] ^= 1;
+    is_answer("late", fevstunik_acceptor_accept(service, keyed.at, keyed.size, &late), FEVSTUNIK_SKEW, 37, 0, 0);
+    is("count then", (long long)fevstunik_acceptor_count(service), 0);
+}
+
+/* The client's subkey and number are told. */
+static void is_keyed(void)
+{
+    fevstunik_acceptor service = {0};
+    fevstunik_time now = moment(1700000100, 5);
+    fevstunik_known known;
+    size_t i;
+
+    is_answer("new", fevstunik_acceptor_new(&service, keytab.at, keytab.size, 0), FEVSTUNIK_OK, 0, 0, 0);
+    is_answer("keyed", fevstunik_acceptor_accept(&service, keyed.at, keyed.size, &now), FEVSTUNIK_OK, 0, 0, 0);
+    is_answer("told", fevstunik_acceptor_accepted(&service, &known, buffer, sizeof buffer), FEVSTUNIK_OK, 0, 0, 56);
+    is("type", known.subkey_type, 20);
+    is("there", known.has_subkey, 1);
+    is("at", (long long)known.subkey.at, 24);
+    is("size", (long long)known.subkey.size, 32);
+    for (i = 0; i < 32; i++)
+        is("byte", buffer[24 + i], (long long)(0x20 + i));
+    is("number", known.seq, 4294967295);
+    is("numbered", known.has_seq, 1);
+    is("wants reply", known.wants_reply, 1);
+    fevstunik_acceptor_free(&service);
+}
+
+/* A text of RFC 8009's profile: sealed, opened, and its tag (the values are of the fixture's key and of a confounder of zeros). */
+static void texts(void)
+{
+    static const uint8_t key[] = {0x37, 0x05, 0xd9, 0x60, 0x80, 0xc1, 0x77, 0x28, 0xa0, 0xe8, 0x00, 0xea, 0xb6, 0xe0, 0xd2, 0x3c};
+    static const uint8_t confounder[] = {0x7e, 0x58, 0x95, 0xea, 0xf2, 0x67, 0x24, 0x35, 0xba, 0xd8, 0x17, 0xf5, 0x45, 0xa3, 0x71, 0x48};
+    struct bytes empty;
+    uint8_t sealed[64], tag[24];
+
+    from_hex(&empty, "ef85fb890bb8472f4dab20394dca781dad877eda39d50c870c0d5a0a8e48c718");
+    is_answer("seal", fevstunik_seal(19, key, 16, 2, confounder, 16, key, 0, sealed, sizeof sealed), FEVSTUNIK_OK, 0, 0, 32);
+    is_bytes("sealed", sealed, empty.at, 32);
+    is_answer("seal short", fevstunik_seal(19, key, 16, 2, confounder, 16, key, 0, sealed, 31), FEVSTUNIK_SHORT_BUFFER, 0, 0, 32);
+    is_answer("seal type", fevstunik_seal(18, key, 16, 2, confounder, 16, key, 0, sealed, 64), FEVSTUNIK_KEY_TYPE, 0, 0, 0);
+    is_answer("seal length", fevstunik_seal(20, key, 16, 2, confounder, 16, key, 0, sealed, 64), FEVSTUNIK_KEY_LENGTH, 0, 0, 0);
+    is_answer("seal confounder", fevstunik_seal(19, key, 16, 2, confounder, 15, key, 0, sealed, 64), FEVSTUNIK_BAD_CONFOUNDER, 0, 0, 0);
+    is_answer("seal text", fevstunik_seal(19, key, 16, 2, confounder, 16, key, 5, sealed, sizeof sealed), FEVSTUNIK_OK, 0, 0, 37);
+    is_answer("open", fevstunik_open(19, key, 16, 2, sealed, 37, buffer, 5), FEVSTUNIK_OK, 0, 0, 5);
+    is_bytes("opened", buffer, key, 5);
+    is_answer("open short", fevstunik_open(19, key, 16, 2, sealed, 37, buffer, 4), FEVSTUNIK_SHORT_BUFFER, 0, 0, 5);
+    is_answer("another usage", fevstunik_open(19, key, 16, 3, sealed, 37, buffer, 5), FEVSTUNIK_TEXT_INTEGRITY, 0, 0, 0);
+    is_answer("short text", fevstunik_open(19, key, 16, 2, sealed, 31, buffer, 5), FEVSTUNIK_TEXT_SHORT, 0, 0, 0);
+    is_answer("open type", fevstunik_open(0, key, 16, 2, sealed, 37, buffer, 5), FEVSTUNIK_KEY_TYPE, 0, 0, 0);
+    is_answer("tag", fevstunik_checksum(19, key, 16, 6, key, 5, tag, sizeof tag), FEVSTUNIK_OK, 0, 0, 16);
+    is_answer("tag short", fevstunik_checksum(19, key, 16, 6, key, 5, tag, 15), FEVSTUNIK_SHORT_BUFFER, 0, 0, 16);
+    is_answer("tag type", fevstunik_checksum(21, key, 16, 6, key, 5, tag, sizeof tag), FEVSTUNIK_KEY_TYPE, 0, 0, 0);
+    is_answer("its tag", fevstunik_checksum_check(19, key, 16, 6, key, 5, tag, 16), FEVSTUNIK_OK, 0, 0, 0);
+    is_answer("less of it", fevstunik_checksum_check(19, key, 16, 6, key, 5, tag, 15), FEVSTUNIK_TEXT_INTEGRITY, 0, 0, 0);
+    is_answer("of another", fevstunik_checksum_check(19, key, 16, 6, key, 6, tag, 16), FEVSTUNIK_TEXT_INTEGRITY, 0, 0, 0);
+    is_answer("no key", fevstunik_checksum_check(19, key, 15, 6, key, 5, tag, 16), FEVSTUNIK_KEY_LENGTH, 0, 0, 0);
+}
+
+static fevstunik_answer asked(const char *service, fevstunik_time at, size_t confounder_size, int32_t type, size_t room)
+{
+    uint8_t confounder[17], subkey[32];
+    fevstunik_choice choice = nothing;
+    size_t i;
+
+    for (i = 0; i < sizeof confounder; i++)
+        confounder[i] = (uint8_t)(0x20 + i);
+    for (i = 0; i < sizeof subkey; i++)
+        subkey[i] = (uint8_t)(0x20 + i);
+    choice.subkey_type = type;
+    choice.wants_reply = choice.has_seq = type != 0;
+    choice.seq = 4294967295;
+    return fevstunik_request(cache.at, cache.size, (const uint8_t *)service, strlen(service), &at, confounder, confounder_size, &choice,
+                             subkey, sizeof subkey, buffer, room);
+}
+
+/* The requests are those of the fixture, to the byte; what isn't asked for says why. */
+static void requests(void)
+{
+    fevstunik_time at = moment(1700000100, 5);
+
+    is_answer("request", asked("host/web@EX", at, 16, 0, sizeof buffer), FEVSTUNIK_OK, 0, 0, request.size);
+    is_bytes("request", buffer, request.at, request.size);
+    is_answer("keyed request", asked("host/web@EX", at, 16, 20, sizeof buffer), FEVSTUNIK_OK, 0, 0, keyed.size);
+    is_bytes("keyed request", buffer, keyed.at, keyed.size);
+    is_answer("short request", asked("host/web@EX", at, 16, 0, request.size - 1), FEVSTUNIK_SHORT_BUFFER, 0, 0, request.size);
+    is_answer("another service", asked("host/web@EY", at, 16, 0, sizeof buffer), FEVSTUNIK_NO_CREDENTIAL, 0, 0, 0);
+    is_answer("no realm", asked("host/web", at, 16, 0, sizeof buffer), FEVSTUNIK_NO_REALM, 0, 0, 0);
+    is_answer("bad text", asked("a@b@c", at, 16, 0, sizeof buffer), FEVSTUNIK_BAD_TEXT, 0, 3, 0);
+    is_answer("not UTF-8", asked("\xff@EX", at, 16, 0, sizeof buffer), FEVSTUNIK_NOT_UTF8, 0, 0, 0);
+    is_answer("confounder", asked("host/web@EX", at, 15, 0, sizeof buffer), FEVSTUNIK_BAD_CONFOUNDER, 0, 0, 0);
+    is_answer("length", asked("host/web@EX", at, 16, 19, sizeof buffer), FEVSTUNIK_KEY_LENGTH, 0, 0, 0);
+    is_answer("type", asked("host/web@EX", at, 16, 1, sizeof buffer), FEVSTUNIK_KEY_TYPE, 0, 0, 0);
+    is_answer("expired", asked("host/web@EX", moment(1700036000, 0), 16, 0, sizeof buffer), FEVSTUNIK_CREDENTIAL_EXPIRED, 0, 0, 0);
+    is_answer("moment", asked("host/web@EX", moment(253402300800, 0), 16, 0, sizeof buffer), FEVSTUNIK_BAD_MOMENT, 0, 0, 0);
+    cache.size--;
+    is_answer("cut off", asked("host/web@EX", at, 16, 0, sizeof buffer), FEVSTUNIK_FILE_BAD_ITEM, 0, CREDENTIAL_AT, 0);
+    cache.size++;
+    cache.at[0]++;
+    is_answer("version", asked("host/web@EX", at, 16, 0, sizeof buffer), FEVSTUNIK_FILE_VERSION, 0, 0, 0);
+    cache.at[0]--;
+}
+
+static fevstunik_answer finished(const struct bytes *bytes, fevstunik_time at, fevstunik_agreement *agreement, size_t room)
+{
+    return fevstunik_finish(cache.at, cache.size, (const uint8_t *)"host/web@EX", 11, &at, &nothing, cache.at, 0, bytes->at, bytes->size,
+                            agreement, buffer, room);
+}
+
+/* What is agreed on by the fixture's replies, and why others are refused. */
+static void agreements(void)
+{
+    fevstunik_time at = moment(1700000100, 5);
+    fevstunik_agreement told;
+    struct bytes none;
+    size_t i;
+
+    is_answer("finish", finished(&reply, at, &told, sizeof buffer), FEVSTUNIK_OK, 0, 0, 24);
+    is_bytes("client", buffer + told.client.at, "alice@EX", told.client.size);
+    is("client size", (long long)told.client.size, 8);
+    is("key at", (long long)told.session_key.at, 8);
+    is("key size", (long long)told.session_key.size, 16);
+    for (i = 0; i < 16; i++)
+        is("key", buffer[8 + i], (long long)i);
+    is("name type", told.name_type, 1);
+    is("session type", told.session_type, 19);
+    is("no subkey", told.has_service_subkey, 0);
+    is("no number", told.has_service_seq, 0);
+    is_answer("finish short", finished(&keyed_reply, at, &told, 39), FEVSTUNIK_SHORT_BUFFER, 0, 0, 40);
+    is_answer("finish keyed", finished(&keyed_reply, at, &told, 40), FEVSTUNIK_OK, 0, 0, 40);
+    is("subkey", told.has_service_subkey, 1);
+    is("subkey type", told.service_subkey_type, 19);
+    is("subkey at", (long long)told.service_subkey.at, 24);
+    is("subkey size", (long long)told.service_subkey.size, 16);
+    for (i = 0; i < 16; i++)
+        is("subkey", buffer[24 + i], (long long)(0x40 + i));
+    is("number", told.service_seq, 128);
+    is("numbered", told.has_service_seq, 1);
+    is_answer("mismatch", finished(&reply, moment(1700000100, 6), &told, sizeof buffer), FEVSTUNIK_REPLY_MISMATCH, 46, 0, 0);
+    is_answer("a request", finished(&request, at, &told, sizeof buffer), FEVSTUNIK_REPLY_TYPE, 0, 0, 0);
+    none = reply;
+    none.size = 1;
+    is_answer("one byte", finished(&none, at, &told, sizeof buffer), FEVSTUNIK_REPLY_MALFORMED, 0, 1, 0);
+    none = reply;
+    none.at[none.size - 1] ^= 1;
+    is_answer("bent", finished(&none, at, &told, sizeof buffer), FEVSTUNIK_REPLY_INTEGRITY, 0, 0, 0);
+}
+
+/* Files are looked at, and their entries counted. */
+static void files(void)
+{
+    is_answer("keytab", fevstunik_keytab_check(keytab.at, keytab.size), FEVSTUNIK_OK, 0, 0, ENTRIES);
+    is_answer("keytab cut off", fevstunik_keytab_check(keytab.at, 10), FEVSTUNIK_FILE_TRUNCATED, 0, 2, 0);
+    is_answer("a cache as a keytab", fevstunik_keytab_check(cache.at, cache.size), FEVSTUNIK_FILE_VERSION, 0, 0, 0);
+    is_answer("no entries", fevstunik_keytab_check(keytab.at, 2), FEVSTUNIK_OK, 0, 0, 0);
+    is_answer("cache", fevstunik_cache_check(cache.at, cache.size), FEVSTUNIK_OK, 0, 0, 1);
+    is_answer("no credentials", fevstunik_cache_check(cache.at, CREDENTIAL_AT), FEVSTUNIK_OK, 0, 0, 0);
+    is_answer("cache cut off", fevstunik_cache_check(cache.at, cache.size - 1), FEVSTUNIK_FILE_BAD_ITEM, 0, CREDENTIAL_AT, 0);
+    is_answer("no header", fevstunik_cache_check(cache.at, 3), FEVSTUNIK_FILE_HEADER, 0, 0, 0);
+    is_answer("a keytab as a cache", fevstunik_cache_check(keytab.at, keytab.size), FEVSTUNIK_FILE_VERSION, 0, 0, 0);
+}
+
+int main(int count, char **words)
+{
+    fevstunik_acceptor service = {0};
+
+    if (count != 7)
+        return 2;
+    from_file(&keytab, words[1]);
+    from_file(&cache, words[2]);
+    from_hex(&request, words[3]);
+    from_hex(&keyed, words[4]);
+    from_hex(&reply, words[5]);
+    from_hex(&keyed_reply, words[6]);
+    empty_handles();
+    is_answer("new", fevstunik_acceptor_new(&service, keytab.at, keytab.size, 300), FEVSTUNIK_OK, 0, 0, 0);
+    faulty_keytabs(&service);
+    is_accepted(&service);
+    replies(&service);
+    is_refused(&service);
+    is_answer("new again", fevstunik_acceptor_new(&service, keytab.at, keytab.size, 300), FEVSTUNIK_OK, 0, 0, 0);
+    is("count anew", (long long)fevstunik_acceptor_count(&service), 0);
+    fevstunik_acceptor_free(&service);
+    fevstunik_acceptor_free(&service);
+    is("freed", service.opaque == NULL, 1);
+    is_keyed();
+    files();
+    requests();
+    agreements();
+    texts();
+    printf("%d passed, %d failed\n", passed, failed);
+    return failed != 0;
+}

@@ -1,0 +1,165 @@
+#!/usr/bin/env python3
+"""Builds the library for C (crates/krb_c) and runs it from C and from Python.
+
+The header is compiled alone, as C99 and as C++; its functions are exactly those of the archive, and its codes those of the crate. A C
+program (tests/c/library.c) runs the exchange that tests share, with exact answers, and so does examples/fevstunik.py over a shared
+object. tests/c/fuzz.c hands the library good and broken files and messages, some of them under valgrind.
+
+    tests/c_library.py [--inputs N]     so many inputs, 50,000 if left out
+
+The last line is 'N passed, M failed'.
+"""
+import argparse
+import pathlib
+import re
+import shutil
+import subprocess
+import sys
+import tempfile
+
+ROOT = pathlib.Path(__file__).resolve().parent.parent
+CRATE = ROOT / "crates/krb_c"
+ARCHIVE = CRATE / "out/libkrb_c.a"
+HEADER = ROOT / "include/fevstunik.h"
+# What is drawn for fuzzing, and how many inputs valgrind watches.
+SEED = 20_261_123
+WATCHED = 5_000
+STRICT = ["-Wall", "-Wextra", "-Werror", "-pedantic"]
+
+
+def run(*words, **more):
+    return subprocess.run([str(word) for word in words], capture_output=True, text=True, cwd=more.pop("cwd", ROOT), **more)
+
+
+def wrong(ran):
+    """What a command that ended ill said."""
+    return None if ran.returncode == 0 else f"status {ran.returncode}: {(ran.stdout + ran.stderr)[-2000:]}"
+
+
+def toolchain():
+    return pathlib.Path(run("rt", "doc").stdout.strip()).parent / "c/liblibc_c.a"
+
+
+def fixture(file, name):
+    """A message of the tests of krb_ap, in hex."""
+    text = (ROOT / "crates/krb_ap/src/tests" / file).read_text()
+    return re.sub(r"[\\\s]", "", re.search(rf'const {name}: &str =\s*"([0-9a-f\\\s]+)"', text)[1])
+
+
+def without_comments(text):
+    return re.sub(r"/\*.*?\*/", "", text, flags=re.S)
+
+
+def header_functions():
+    return set(re.findall(r"\b(fevstunik_\w+)\s*\(", without_comments(HEADER.read_text())))
+
+
+def archive_functions():
+    lines = run("nm", "--defined-only", "--extern-only", ARCHIVE).stdout.splitlines()
+    return {words[-1] for words in map(str.split, lines) if len(words) == 3}
+
+
+def header_codes():
+    return {name: int(value) for name, value in re.findall(r"\bFEVSTUNIK_(\w+) = (\d+)", without_comments(HEADER.read_text()))}
+
+
+def crate_codes():
+    return {name: int(value) for name, value in re.findall(r"const (\w+): u32 = (\d+);", (CRATE / "src/code.rt").read_text())}
+
+
+def differs(found, wanted):
+    return None if found == wanted else f"only here: {sorted(found - wanted)}, only there: {sorted(wanted - found)}"
+
+
+def codes():
+    header, crate = header_codes(), crate_codes()
+    other = {name: value for name, value in header.items() if crate.get(name) != value}
+    return f"not those of the crate: {other}" if other else None
+
+
+def headers(room):
+    for language, compiler, standard in [("c", "gcc", "-std=c99"), ("c++", "g++", "-std=c++11")]:
+        yield f"the header as {language}", wrong(run(compiler, standard, *STRICT, "-x", language, "-c", HEADER, "-o", room / "header.o"))
+
+
+def from_c(room):
+    program = room / "library"
+    built = run("gcc", "-std=c99", "-O1", *STRICT, "-static", f"-I{HEADER.parent}", ROOT / "tests/c/library.c", ARCHIVE, toolchain(), "-o", program)
+    yield "the C program is linked", wrong(built)
+    if built.returncode:
+        return
+    messages = [fixture("client.rt", "REQUEST"), fixture("client.rt", "KEYED"), fixture("replies.rt", "REPLY"), fixture("replies.rt", "KEYED")]
+    ran = run(program, ROOT / "examples/service.keytab", ROOT / "examples/client.ccache", *messages)
+    lines = ran.stdout.splitlines()
+    for line in lines[:-1]:
+        yield line, "in the C program"
+    last = re.fullmatch(r"(\d+) passed, \d+ failed", lines[-1]) if lines else None
+    yield "the C program ends", None if last and ran.returncode in (0, 1) else f"status {ran.returncode}: {ran.stdout[-500:]}"
+    for _ in range(int(last[1]) if last else 0):
+        yield "in the C program", None
+
+
+def from_python(room):
+    shared = room / "libfevstunik.so"
+    built = run("gcc", "-shared", "-o", shared, "-Wl,--whole-archive", ARCHIVE, "-Wl,--no-whole-archive", toolchain())
+    yield "the shared object is linked", wrong(built)
+    if built.returncode:
+        return
+    plain, keyed = fixture("client.rt", "REQUEST"), fixture("client.rt", "KEYED")
+    ran = run(sys.executable, ROOT / "examples/fevstunik.py", shared, ROOT / "examples/service.keytab", "--at", "1700000100",
+              input="\n".join([plain, plain, keyed, "30", ""]) + "\n")
+    lines = ran.stdout.splitlines()
+    wanted = ["accepted alice@EX -", "refused 13 34", "refused 13 34", "refused 1 40", "refused 2 60"]
+    yield "the Python service", None if lines == wanted else f"{lines} {ran.stderr[-1000:]}"
+    ran = run(sys.executable, ROOT / "examples/fevstunik.py", shared, ROOT / "examples/service.keytab", "--at", "1700000100", input=keyed + "\n")
+    yield "the Python service replies", None if re.fullmatch(r"accepted alice@EX 6f55[0-9a-f]{170}\n", ran.stdout) else ran.stdout + ran.stderr[-1000:]
+
+
+def fuzzed(room, inputs):
+    """The library is handed files and messages, good and broken; a few of them under valgrind, which looks for errors and for leaks."""
+    files = [ROOT / "examples/service.keytab", ROOT / "examples/client.ccache", fixture("client.rt", "REQUEST"), fixture("replies.rt", "REPLY")]
+    program = room / "fuzz"
+    built = run("gcc", "-std=c99", "-O1", "-g", *STRICT, f"-I{HEADER.parent}", ROOT / "tests/c/fuzz.c", ARCHIVE, toolchain(), "-o", program)
+    yield "the fuzzing program is linked", wrong(built)
+    if built.returncode:
+        return
+    yield f"{inputs} inputs", wrong(run(program, *files, inputs, SEED))
+    if shutil.which("valgrind") is None:
+        yield "inputs under valgrind", "there is no valgrind"
+        return
+    watched = run("valgrind", "-q", "--error-exitcode=9", "--leak-check=full", "--show-leak-kinds=all", "--errors-for-leak-kinds=all",
+                  program, *files, WATCHED, SEED)
+    yield "inputs under valgrind", wrong(watched)
+
+
+def checks(inputs):
+    built = run("rt", "lib", "--jobs", "1", cwd=CRATE)
+    yield "the archive is built", wrong(built)
+    if built.returncode:
+        return
+    yield "the header's functions are the archive's", differs(header_functions(), archive_functions())
+    yield "the header's codes are the crate's", codes()
+    with tempfile.TemporaryDirectory() as name:
+        room = pathlib.Path(name)
+        yield from headers(room)
+        yield from from_c(room)
+        yield from from_python(room)
+        yield from fuzzed(room, inputs)
+
+
+def main():
+    words = argparse.ArgumentParser()
+    words.add_argument("--inputs", type=int, default=50_000)
+    passed = failed = 0
+    for name, fault in checks(words.parse_args().inputs):
+        if fault is None:
+            passed += 1
+        else:
+            failed += 1
+            print(f"{name}: {fault}", flush=True)
+    print(f"{passed} passed, {failed} failed")
+    return failed != 0
+
+
+if __name__ == "__main__":
+    sys.exit(main())
