@@ -40,7 +40,11 @@ impl Write for Full {
 }
 
 // What a source gives where so many bytes are asked of it, and whether so many came.
-fn given<S: Source + Drop>(alloc: Global, source: S, count: u16) -> Result<(Vec<u8>, bool), ReadFault>
+fn given<S: Source + Drop>(
+    alloc: Global,
+    source: S,
+    count: u16,
+) -> Result<(Vec<u8>, bool), ReadFault>
     requires { S.failure_count source < 2 ^ 64 - 1 }
 {
     let mut window = Window::new(alloc, source);
@@ -60,13 +64,25 @@ fn reading(rt: HostRuntime) -> Result<(), Fail> {
     ];
     for (count, want, came) in table {
         let whole = given(rt.alloc(), SliceSource::new(&bytes), count)?;
-        assert_eq!(rt; (whole.0.as_slice(), whole.1), (want, came), "{count} bytes");
+        assert_eq!(rt;
+            (whole.0.as_slice(), whole.1),
+            (want, came),
+            "{count} bytes"
+        );
         for piece in 1..4 {
             let read = given(rt.alloc(), PieceSource::new(&bytes, piece, None), count)?;
-            assert_eq!(rt; (read.0.as_slice(), read.1), (want, came), "{count}, {piece} a read");
+            assert_eq!(rt;
+                (read.0.as_slice(), read.1),
+                (want, came),
+                "{count}, {piece} a read"
+            );
         }
         let read = given(rt.alloc(), ReadSource::new(bytes.as_slice()), count)?;
-        assert_eq!(rt; (read.0.as_slice(), read.1), (want, came), "{count}, by a reader");
+        assert_eq!(rt;
+            (read.0.as_slice(), read.1),
+            (want, came),
+            "{count}, by a reader"
+        );
     }
     Ok(())
 }

@@ -119,11 +119,7 @@ pub fn list_ccache<S: Source, T: Sink>(
     write_listing(alloc, &cache, sink)
 }
 
-fn write_listing<T: Sink>(
-    alloc: Global,
-    cache: &CCache,
-    sink: &mut T,
-) -> Result<(), EngineFault>
+fn write_listing<T: Sink>(alloc: Global, cache: &CCache, sink: &mut T) -> Result<(), EngineFault>
     requires { T.failure_count sink.old < 2 ^ 64 - 1 }
     ensures ok { OnOk result (Appends (T.taken sink.old) (T.taken sink.new) (cache_lines cache.now)) }
     ensures err { OnErr result
@@ -184,22 +180,14 @@ impl Line for Credential {
     }
 }
 
-fn write_config(
-    alloc: Global,
-    credential: &Credential,
-    text: &mut String,
-) -> Result<(), AllocError>
+fn write_config(alloc: Global, credential: &Credential, text: &mut String) -> Result<(), AllocError>
     ensures { OnOk result (string_bytes text.new ≡ string_bytes text.old ++ config_line credential.now) }
 {
     let server = credential.server.to_text(alloc)?;
     write!(text, "config {server}\n")
 }
 
-fn write_ticket(
-    alloc: Global,
-    credential: &Credential,
-    text: &mut String,
-) -> Result<(), AllocError>
+fn write_ticket(alloc: Global, credential: &Credential, text: &mut String) -> Result<(), AllocError>
     ensures { OnOk result (string_bytes text.new ≡ string_bytes text.old ++ ticket_line credential.now) }
 {
     let etype = credential.etype;
@@ -220,11 +208,7 @@ fn write_times(credential: &Credential, text: &mut String) -> Result<(), AllocEr
     write!(text, "{authtime} {starttime} {endtime} {renew_till}")
 }
 
-fn write_names(
-    alloc: Global,
-    credential: &Credential,
-    text: &mut String,
-) -> Result<(), AllocError>
+fn write_names(alloc: Global, credential: &Credential, text: &mut String) -> Result<(), AllocError>
     ensures { OnOk result (string_bytes text.new ≡ string_bytes text.old ++ (names_of credential.now ++ 10 ∷ [])) }
 {
     let client = credential.client.to_text(alloc)?;
