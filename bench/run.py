@@ -42,11 +42,15 @@ def said(command, **more):
     return done.stdout
 
 
-def build_ours(folder, name):
-    """Builds a program of ours, whose source has another ending here, since the gate wants each .rt file in a crate."""
+def lay_out(folder, name):
+    """Makes the crate of a program of ours, whose source has another ending here, since the gate wants each .rt file in a crate."""
     crate = folder / "crates" / name
     (crate / "src").mkdir(parents=True)
     shutil.copy(HERE / f"{name}.rt.in", crate / "src" / "main.rt")
+
+
+def build_ours(folder, name):
+    crate = folder / "crates" / name
     # without words it ends with 2
     built = subprocess.run(["rt", "run"], cwd=crate, capture_output=True, text=True)
     if not (crate / "out" / name).exists():
@@ -63,6 +67,8 @@ def built(folder):
     kept = [line for line in lines if line.split(":")[0] in CRATES]
     (folder / "crates.txt").write_text("\n".join([*kept, *(f"{name}: {below}" for name, below in PROGRAMS.items())]) + "\n")
     (folder / "HANDLES").write_text((TOP / "HANDLES").read_text())
+    for name in PROGRAMS:
+        lay_out(folder, name)
     flags = said(["pkg-config", "--cflags", "--libs", "krb5"]).split()
     for name in MIT_PROGRAMS:
         said(["cc", "-O2", "-o", str(folder / name), str(HERE / f"{name}.c"), *flags])

@@ -6,6 +6,7 @@ and nothing wrong is written.
 Each check is a pair: its name, and what is wrong, or None.
 """
 import resource
+import struct
 import subprocess
 import tempfile
 from pathlib import Path
@@ -14,7 +15,11 @@ import generated
 import preload
 from preload import Command, Found
 
+import fixture  # noqa: E402, I001  preload makes the folder of the vectors known
+
 STEP = 128 * 1024
+# How long the one record of a file is.
+LONG = 1024 * 1024
 SAID = ("krbtool: words: OutOfMemory\n", "error: out of memory\n", "krbtool: f: OutOfMemory\n")
 
 
@@ -42,14 +47,24 @@ def least(program, room):
     return limit
 
 
-def commands(program):
-    """Each command, with files that take some steps more than none."""
-    keytab = b"\x05\x02" + (generated.EXAMPLES / "service.keytab").read_bytes()[2:] * 20_000
+def file_of(word):
+    """A file that takes some steps more than none: of many records, or for a check, which has one at hand at a time, of a long one."""
+    record = (generated.EXAMPLES / "service.keytab").read_bytes()[6:]
     cache = (generated.EXAMPLES / "client.ccache").read_bytes()
-    cache = cache[:27] + cache[27:] * 3_000
+    if word == "check-keytab":
+        return b"\x05\x02" + struct.pack(">i", len(record) + LONG) + record + bytes(LONG)
+    if word == "check-ccache":
+        names = fixture.principal(1, b"EX", b"alice"), fixture.principal(3, b"EX", b"host", b"web")
+        return cache[:27] + fixture.credential(*names, 19, bytes(16), (0, 0, 0, 0), bytes(LONG))
+    if word.endswith("keytab"):
+        return b"\x05\x02" + (struct.pack(">i", len(record)) + record) * 20_000
+    return cache[:27] + cache[27:] * 3_000
+
+
+def commands(program):
     for word in generated.COMMANDS:
         words = [word, "f", "out"] if word.startswith("convert") else [word, "f"]
-        yield Command(words, keytab if word.endswith("keytab") else cache, b"", None, preload.OLD)
+        yield Command(words, file_of(word), b"", None, preload.OLD)
     yield preload.requested()
     yield preload.calls_with_tails(program)
 
