@@ -88,7 +88,8 @@ def from_c(room):
     yield "the C program is linked", wrong(built)
     if built.returncode:
         return
-    messages = [fixture("client.rt", "REQUEST"), fixture("client.rt", "KEYED"), fixture("replies.rt", "REPLY"), fixture("replies.rt", "KEYED")]
+    messages = [fixture("client.rt", "REQUEST"), fixture("client.rt", "KEYED"), fixture("replies.rt", "REPLY"), fixture("replies.rt", "KEYED"),
+                fixture("replies.rt", "ERROR")]
     ran = run(program, ROOT / "examples/service.keytab", ROOT / "examples/client.ccache", *messages)
     lines = ran.stdout.splitlines()
     for line in lines[:-1]:
