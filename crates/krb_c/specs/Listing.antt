@@ -18,7 +18,7 @@ use Rattle.krb_c.specs.declared.listing.CacheEntry.{CacheEntry}
 use Rattle.krb_c.specs.declared.listing.KeyEntry.{KeyEntry}
 use Rattle.krb_c.specs.declared.listing.Owner.{Owner}
 
--- bytes and what goes with them are told, or there was no room; or there is nothing to tell
+-- bytes and what goes with them are told, or there was no memory for it
 abbrev pub Tells : {Told : Type 0} → List ℕ → Told → Told → Told → List ℕ → List ℕ → Answer → Type 0
 Tells bytes told was is old new answer =
     (Hands bytes old new answer × (is ≡ told)) ⊎ ((answer ≡ plain out_of_memory) × ((is ≡ was) × (new ≡ old)))
