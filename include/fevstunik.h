@@ -60,7 +60,7 @@ enum {
     FEVSTUNIK_OUT_OF_MEMORY = 18,  /* malloc or realloc gave nothing */
     FEVSTUNIK_SHORT_BUFFER = 19,   /* `size` bytes are needed */
     FEVSTUNIK_EMPTY_HANDLE = 20,   /* the handle holds nothing */
-    FEVSTUNIK_NOTHING_THERE = 21,  /* nothing was accepted by the last call, or no moment was told so far */
+    FEVSTUNIK_NOTHING_THERE = 21,  /* nothing was accepted, or refused, by the last call, or no moment was told so far */
     FEVSTUNIK_BAD_SKEW = 22,       /* more than 86,400 seconds */
     FEVSTUNIK_BAD_MOMENT = 23,     /* outside the years 0000 to 9999, or 1,000,000 microseconds or more */
     FEVSTUNIK_BAD_CONFOUNDER = 24, /* not 16 bytes */
@@ -72,7 +72,9 @@ enum {
     FEVSTUNIK_FILE_HEADER = 28,    /* the header of a cache is malformed */
     FEVSTUNIK_FILE_TRUNCATED = 29, /* a keytab ends before the record at `at` does */
     FEVSTUNIK_FILE_BAD_ITEM = 30,  /* the record at `at` holds no entry, or no principal or credential is at `at` */
-    FEVSTUNIK_TOO_LONG = 31,       /* a file has more than 16,777,216 bytes, or a request would have more than 1,048,576 */
+    FEVSTUNIK_TOO_LONG = 31,       /* a file has more than 16,777,216 bytes, or a request or an error
+                                    * would have more than 1,048,576, or a name or a key doesn't fit into an entry of a keytab */
+    FEVSTUNIK_NO_SUCH_ENTRY = 32,  /* the file has no entry, or no credential, of this index */
 
     /* Why there is no request. */
     FEVSTUNIK_NO_CREDENTIAL = 34,      /* the cache has no ticket of its default principal for the service */
@@ -91,6 +93,7 @@ enum {
     FEVSTUNIK_TEXT_INTEGRITY = 43, /* the tag is wrong */
     FEVSTUNIK_BAD_TEXT = 44,       /* at `at` the text goes on as no name does */
     FEVSTUNIK_NO_REALM = 45,       /* no bare `@` stands in the text */
+    FEVSTUNIK_NO_CODE = 46,        /* the last request was refused for want of memory, of which no error tells */
     FEVSTUNIK_NOT_UTF8 = 47        /* the text isn't UTF-8 */
 };
 
@@ -156,6 +159,50 @@ typedef struct fevstunik_choice {
     bool wants_reply;    /* whether a client asks for a reply; not looked at by a service */
 } fevstunik_choice;
 
+/* An entry of a keytab. The spans are places in the buffer that was handed in beside it. */
+typedef struct fevstunik_key_entry {
+    fevstunik_span name; /* whose key it is, as text */
+    fevstunik_span key;  /* the key's bytes, up to 65,535 */
+    uint32_t timestamp;  /* when the entry was written, in seconds */
+    uint32_t kvno;       /* the key's version number */
+    int32_t name_type;   /* the type of the name */
+    int16_t key_type;    /* the encryption type of the key; any type */
+} fevstunik_key_entry;
+
+/* What goes with a name and a key in an entry that is added. */
+typedef struct fevstunik_key_parts {
+    uint32_t timestamp; /* when the entry is written, in seconds */
+    uint32_t kvno;      /* the key's version number */
+    int32_t name_type;  /* the type of the name */
+    int16_t key_type;   /* the encryption type of the key */
+} fevstunik_key_parts;
+
+/* A credential of a cache. The spans are places in the buffer that was handed in beside it. */
+typedef struct fevstunik_cache_entry {
+    fevstunik_span client; /* whose ticket it is, as text */
+    fevstunik_span server; /* for which service, as text; of realm X-CACHECONF: where it is a configuration entry */
+    fevstunik_span key;    /* the session key */
+    fevstunik_span ticket; /* the bytes of the ticket, or what a configuration entry tells */
+    uint32_t authtime;     /* when the client was authenticated, in seconds */
+    uint32_t starttime;    /* when the ticket begins, in seconds, or 0 */
+    uint32_t endtime;      /* when it ends, in seconds */
+    uint32_t renew_till;   /* until when it can be renewed, in seconds, or 0 */
+    uint32_t flags;        /* the ticket's flags; bit 0 of RFC 4120 is the most significant */
+    int32_t client_type;   /* the type of the client's name */
+    int32_t server_type;   /* the type of the service's name */
+    int16_t key_type;      /* the encryption type of the session key; any type */
+    bool is_skey;          /* whether the ticket is sealed under the session key of another */
+} fevstunik_cache_entry;
+
+/* Whose cache it is, and its KDC's clock. The span is a place in the buffer that was handed in beside it. */
+typedef struct fevstunik_owner {
+    fevstunik_span name;    /* the default principal, as text */
+    int32_t name_type;      /* the type of its name */
+    int32_t offset_seconds; /* the KDC's clock offset in seconds, or 0 */
+    int32_t offset_micros;  /* and the microseconds of it */
+    bool has_offset;        /* whether the cache tells an offset */
+} fevstunik_owner;
+
 /* A service that takes requests: opaque, and all zero before its first use. */
 typedef struct fevstunik_acceptor {
     void *opaque;
@@ -180,6 +227,85 @@ fevstunik_answer fevstunik_keytab_check(const uint8_t *keytab, size_t keytab_siz
  */
 fevstunik_answer fevstunik_cache_check(const uint8_t *cache, size_t cache_size);
 
+/* Tells the entry of an index, counted from 0, of a keytab: in the buffer its name's text and its key, one after another, and in `entry`
+ * where they stand, and the numbers. `entry` is written also where the buffer is too short. The whole file is read for each call.
+ *
+ * FEVSTUNIK_TOO_LONG, _FILE_VERSION, _FILE_TRUNCATED, _FILE_BAD_ITEM; FEVSTUNIK_NO_SUCH_ENTRY; FEVSTUNIK_OUT_OF_MEMORY; and nothing is
+ * written. FEVSTUNIK_OK; FEVSTUNIK_SHORT_BUFFER.
+ *
+ *     for (index = 0; fevstunik_keytab_entry(file, file_size, index, &entry, buffer, sizeof buffer).code == FEVSTUNIK_OK; index++) ...
+ */
+fevstunik_answer fevstunik_keytab_entry(const uint8_t *keytab, size_t keytab_size, size_t index, fevstunik_key_entry *entry,
+                                        uint8_t *buffer, size_t buffer_size);
+
+/* Tells the credential of an index, counted from 0, of a cache: in the buffer its client's and its service's text, its session key and its
+ * ticket, one after another, and in `credential` where they stand, and the numbers. `credential` is written also where the buffer is too
+ * short. Addresses, authorization data and a second ticket aren't told. The whole file is read for each call.
+ *
+ * FEVSTUNIK_TOO_LONG, _FILE_VERSION, _FILE_HEADER, _FILE_BAD_ITEM; FEVSTUNIK_NO_SUCH_ENTRY; FEVSTUNIK_OUT_OF_MEMORY; and nothing is
+ * written. FEVSTUNIK_OK; FEVSTUNIK_SHORT_BUFFER.
+ *
+ *     for (index = 0; fevstunik_cache_credential(file, file_size, index, &entry, buffer, sizeof buffer).code == FEVSTUNIK_OK; index++) ...
+ */
+fevstunik_answer fevstunik_cache_credential(const uint8_t *cache, size_t cache_size, size_t index, fevstunik_cache_entry *credential,
+                                            uint8_t *buffer, size_t buffer_size);
+
+/* Tells whose cache it is: in the buffer the default principal's text, and in `owner` the numbers, with the KDC's clock offset, if the cache
+ * tells one. `owner` is written also where the buffer is too short.
+ *
+ * FEVSTUNIK_TOO_LONG, _FILE_VERSION, _FILE_HEADER, _FILE_BAD_ITEM; FEVSTUNIK_OUT_OF_MEMORY; and nothing is written. FEVSTUNIK_OK;
+ * FEVSTUNIK_SHORT_BUFFER.
+ *
+ *     answer = fevstunik_cache_owner(file, file_size, &owner, buffer, sizeof buffer);
+ */
+fevstunik_answer fevstunik_cache_owner(const uint8_t *cache, size_t cache_size, fevstunik_owner *owner, uint8_t *buffer,
+                                       size_t buffer_size);
+
+/* Adds an entry to a keytab, and answers the bytes of the new file. `name` is the name's text, `key` the key's bytes, of any type. The first
+ * hole that is long enough takes the entry; where there is none the entry stands at the end. The bytes 05 02 are an empty keytab.
+ *
+ * FEVSTUNIK_NOT_UTF8, _BAD_TEXT and _NO_REALM for the name; FEVSTUNIK_TOO_LONG, also where the name has a part of more than 65,535 bytes or
+ * more parts than that, or the key more bytes; FEVSTUNIK_FILE_VERSION, _FILE_TRUNCATED, _FILE_BAD_ITEM; FEVSTUNIK_OUT_OF_MEMORY; and
+ * nothing is written. FEVSTUNIK_OK; FEVSTUNIK_SHORT_BUFFER.
+ *
+ *     fevstunik_key_parts parts = {1700000000, 3, 3, 19};
+ *     answer = fevstunik_keytab_add(file, file_size, (const uint8_t *)"host/web@EX", 11, key, 16, &parts, buffer, sizeof buffer);
+ */
+fevstunik_answer fevstunik_keytab_add(const uint8_t *keytab, size_t keytab_size, const uint8_t *name, size_t name_size, const uint8_t *key,
+                                      size_t key_size, const fevstunik_key_parts *parts, uint8_t *buffer, size_t buffer_size);
+
+/* Removes the entry of an index, counted from 0, and answers the bytes of the new file, which are as many: the entry's record has become a
+ * hole of zeros, and all else is as it was.
+ *
+ * FEVSTUNIK_TOO_LONG, _FILE_VERSION, _FILE_TRUNCATED, _FILE_BAD_ITEM; FEVSTUNIK_NO_SUCH_ENTRY; FEVSTUNIK_OUT_OF_MEMORY; and nothing is
+ * written. FEVSTUNIK_OK; FEVSTUNIK_SHORT_BUFFER.
+ *
+ *     answer = fevstunik_keytab_remove(file, file_size, 0, buffer, sizeof buffer);
+ */
+fevstunik_answer fevstunik_keytab_remove(const uint8_t *keytab, size_t keytab_size, size_t index, uint8_t *buffer, size_t buffer_size);
+
+/* Answers the bytes of a new file of a keytab's entries, in their order: without holes and what stands behind the end, and with the version
+ * number of 32 bits behind each key.
+ *
+ * FEVSTUNIK_TOO_LONG (also where the new file would be), _FILE_VERSION, _FILE_TRUNCATED, _FILE_BAD_ITEM; FEVSTUNIK_OUT_OF_MEMORY; and
+ * nothing is written. FEVSTUNIK_OK; FEVSTUNIK_SHORT_BUFFER.
+ *
+ *     answer = fevstunik_keytab_write(file, file_size, buffer, sizeof buffer);
+ */
+fevstunik_answer fevstunik_keytab_write(const uint8_t *keytab, size_t keytab_size, uint8_t *buffer, size_t buffer_size);
+
+/* ---- names ---- */
+
+/* Looks whether a text is that of a name, as host/web@EX: components with `/` between each two, `@` and a realm, where a backslash stands
+ * before each `/`, `@` and backslash of a part, and each byte that isn't printable is `\x` and two digits in lower case. `size` is how many
+ * components the name has. A name has one text only.
+ *
+ * FEVSTUNIK_OK; FEVSTUNIK_NOT_UTF8; FEVSTUNIK_BAD_TEXT, with the offset in `at`; FEVSTUNIK_NO_REALM; FEVSTUNIK_OUT_OF_MEMORY.
+ *
+ *     if (fevstunik_name_check((const uint8_t *)"host/web@EX", 11).code == FEVSTUNIK_OK) ...
+ */
+fevstunik_answer fevstunik_name_check(const uint8_t *name, size_t name_size);
+
 /* ---- the service's side ---- */
 
 /* Makes the handle hold a service that decides by the keys of a keytab (the bytes of a file of version 0x0502) and by a skew of so many
@@ -199,7 +325,7 @@ fevstunik_answer fevstunik_acceptor_new(fevstunik_acceptor *handle, const uint8_
  * remembered of it. Time doesn't go back: what counts is the latest moment that was handed in so far.
  *
  * What is accepted is kept until the next call of this function: fevstunik_acceptor_accepted tells it, and fevstunik_acceptor_reply
- * replies to it. After any other answer nothing is kept.
+ * replies to it. So is why a request is refused: fevstunik_acceptor_error tells it to the client. Only one of the two is there.
  *
  * FEVSTUNIK_BAD_MOMENT, and the handle is as before; FEVSTUNIK_EMPTY_HANDLE; FEVSTUNIK_OK; a cause from FEVSTUNIK_MESSAGE_TYPE to
  * FEVSTUNIK_AUTHORIZATION; FEVSTUNIK_OUT_OF_MEMORY, and then what is remembered and the latest moment are as before.
@@ -237,6 +363,20 @@ fevstunik_answer fevstunik_acceptor_accepted(fevstunik_acceptor *handle, fevstun
 fevstunik_answer fevstunik_acceptor_reply(fevstunik_acceptor *handle, const uint8_t *confounder, size_t confounder_size,
                                           const fevstunik_choice *choice, const uint8_t *subkey, size_t subkey_size, uint8_t *buffer,
                                           size_t buffer_size);
+
+/* Builds the error (the bytes of a KRB-ERROR) that tells why the last call of fevstunik_acceptor_accept refused a request. `service` has the
+ * service's name as text, as host/web@EX, `name_type` is the type of that name (RFC 4120, section 6.2; 3 for a service on a host), and
+ * `now` is the service's time. The error has these and the refusal's code, and nothing else. It isn't sealed: anyone could have written it.
+ *
+ * The first that holds: FEVSTUNIK_EMPTY_HANDLE, FEVSTUNIK_NOTHING_THERE; FEVSTUNIK_NOT_UTF8, _BAD_TEXT and _NO_REALM for the service;
+ * FEVSTUNIK_BAD_MOMENT; FEVSTUNIK_NO_CODE, FEVSTUNIK_TOO_LONG; or FEVSTUNIK_OUT_OF_MEMORY; and nothing is written. FEVSTUNIK_OK;
+ * FEVSTUNIK_SHORT_BUFFER.
+ *
+ *     if (fevstunik_acceptor_accept(&service, request, request_size, &now).code != FEVSTUNIK_OK)
+ *         answer = fevstunik_acceptor_error(&service, (const uint8_t *)"host/web@EX", 11, 3, &now, buffer, sizeof buffer);
+ */
+fevstunik_answer fevstunik_acceptor_error(fevstunik_acceptor *handle, const uint8_t *service, size_t service_size, int32_t name_type,
+                                          const fevstunik_time *now, uint8_t *buffer, size_t buffer_size);
 
 /* Counts the requests that are remembered; none where the handle is empty. */
 size_t fevstunik_acceptor_count(fevstunik_acceptor *handle);

@@ -3,7 +3,8 @@
 
 The header is compiled alone, as C99 and as C++; its functions are exactly those of the archive, and its codes those of the crate. A C
 program (tests/c/library.c) runs the exchange that tests share, with exact answers, and so does examples/fevstunik.py over a shared
-object. tests/c/fuzz.c hands the library good and broken files and messages, some of them under valgrind.
+object. tests/c/memory.c lets each allocation fail in turn, and a service and a client (examples/service) talk over TCP. tests/c/fuzz.c
+hands the library good and broken files and messages, some of them under valgrind.
 
     tests/c_library.py [--inputs N]     so many inputs, 50,000 if left out
 
@@ -13,11 +14,15 @@ import argparse
 import pathlib
 import re
 import shutil
+import struct
 import subprocess
 import sys
 import tempfile
+import time
 
 ROOT = pathlib.Path(__file__).resolve().parent.parent
+sys.path.insert(0, str(ROOT / "tests/vectors"))
+import fixture as shared
 CRATE = ROOT / "crates/krb_c"
 ARCHIVE = CRATE / "out/libkrb_c.a"
 HEADER = ROOT / "include/fevstunik.h"
@@ -82,21 +87,71 @@ def headers(room):
         yield f"the header as {language}", wrong(run(compiler, standard, *STRICT, "-x", language, "-c", HEADER, "-o", room / "header.o"))
 
 
+def counted(what, program, *words):
+    """What a C program found that prints each fault, and at its end how much it looked at."""
+    ran = run(program, *words)
+    lines = ran.stdout.splitlines()
+    for line in lines[:-1]:
+        yield line, f"in {what}"
+    last = re.fullmatch(r"(\d+) passed, \d+ failed", lines[-1]) if lines else None
+    yield f"{what} ends", None if last and ran.returncode in (0, 1) else f"status {ran.returncode}: {ran.stdout[-500:]}"
+    for _ in range(int(last[1]) if last else 0):
+        yield f"in {what}", None
+
+
+def linked(program, *words):
+    return run("gcc", "-std=c99", "-O1", *STRICT, f"-I{HEADER.parent}", *words, ARCHIVE, toolchain(), "-o", program)
+
+
 def from_c(room):
     program = room / "library"
-    built = run("gcc", "-std=c99", "-O1", *STRICT, "-static", f"-I{HEADER.parent}", ROOT / "tests/c/library.c", ARCHIVE, toolchain(), "-o", program)
+    built = linked(program, "-static", ROOT / "tests/c/library.c")
     yield "the C program is linked", wrong(built)
     if built.returncode:
         return
-    messages = [fixture("client.rt", "REQUEST"), fixture("client.rt", "KEYED"), fixture("replies.rt", "REPLY"), fixture("replies.rt", "KEYED")]
-    ran = run(program, ROOT / "examples/service.keytab", ROOT / "examples/client.ccache", *messages)
-    lines = ran.stdout.splitlines()
-    for line in lines[:-1]:
-        yield line, "in the C program"
-    last = re.fullmatch(r"(\d+) passed, \d+ failed", lines[-1]) if lines else None
-    yield "the C program ends", None if last and ran.returncode in (0, 1) else f"status {ran.returncode}: {ran.stdout[-500:]}"
-    for _ in range(int(last[1]) if last else 0):
-        yield "in the C program", None
+    messages = [fixture("client.rt", "REQUEST"), fixture("client.rt", "KEYED"), fixture("replies.rt", "REPLY"), fixture("replies.rt", "KEYED"),
+                fixture("replies.rt", "ERROR")]
+    yield from counted("the C program", program, ROOT / "examples/service.keytab", ROOT / "examples/client.ccache", *messages)
+
+
+def without_memory(room):
+    """Each allocation of each call fails in turn."""
+    program = room / "memory"
+    built = linked(program, ROOT / "tests/c/memory.c", "-Wl,--wrap=malloc", "-Wl,--wrap=realloc", "-Wl,--wrap=free")
+    yield "the program without memory is linked", wrong(built)
+    if built.returncode == 0:
+        yield from counted("the program without memory", program, ROOT / "examples/service.keytab", ROOT / "examples/client.ccache",
+                           fixture("client.rt", "KEYED"), fixture("replies.rt", "REPLY"))
+
+
+def current_cache(now):
+    """The fixture's cache with a ticket that is valid now, for ten hours."""
+    times = [time.strftime("%Y%m%d%H%M%SZ", time.gmtime(at)).encode() for at in (now, now + 36_000)]
+    part = shared.ticket_part().replace(b"20231114221320Z", times[0]).replace(b"20231115081320Z", times[1])
+    cache = shared.cache(shared.ticket(shared.sealed(19, shared.SERVICE_KEY, 2, bytes(16), part)))
+    return cache.replace(struct.pack(">4I", 1_700_000_000, 0, 1_700_036_000, 0), struct.pack(">4I", now, 0, now + 36_000, 0))
+
+
+def over_tcp(room):
+    """A service and a client in C: a request is accepted once, the same one is refused, and a second client is accepted."""
+    for name in ("service", "client"):
+        yield f"the {name} is linked", wrong(linked(room / name, "-D_DEFAULT_SOURCE", ROOT / f"examples/service/{name}.c"))
+    cache = room / "cache"
+    cache.write_bytes(current_cache(int(time.time()) - 60))
+    service = subprocess.Popen([str(room / "service"), str(ROOT / "examples/service.keytab"), "host/web@EX", "3"], stdout=subprocess.PIPE, text=True)
+    try:
+        port = service.stdout.readline().strip()
+        twice = run(room / "client", cache, "host/web@EX", port, "hello", "twice", timeout=60)
+        told = re.fullmatch(r"agreed as alice@EX\nrefused: 7[345] bytes of type 7e\n", twice.stdout)
+        yield "the client is accepted, and its repeat isn't", None if told else twice.stdout + twice.stderr
+        again = run(room / "client", cache, "host/web@EX", port, "hello again", timeout=60)
+        yield "another request is accepted", differs(set(again.stdout.splitlines()), {"agreed as alice@EX"})
+        lines = service.communicate(timeout=60)[0].splitlines()
+        wanted = ["alice@EX: hello", "refused 13", "alice@EX: hello again"]
+        yield "the service", None if lines == wanted and service.returncode == 0 else f"{lines}, status {service.returncode}"
+    finally:
+        service.kill()
+        service.wait()
 
 
 def from_python(room):
@@ -143,6 +198,8 @@ def checks(inputs):
         room = pathlib.Path(name)
         yield from headers(room)
         yield from from_c(room)
+        yield from without_memory(room)
+        yield from over_tcp(room)
         yield from from_python(room)
         yield from fuzzed(room, inputs)
 

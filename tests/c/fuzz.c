@@ -110,9 +110,13 @@ static void look(fevstunik_answer answer, size_t handed, size_t room, long at)
 static void one(fevstunik_acceptor *service, long at)
 {
     static const fevstunik_choice nothing = {0, 0, false, false};
+    static const fevstunik_key_parts parts = {1700000000, 3, 3, 19};
     fevstunik_time now = {1700000100, 5};
     fevstunik_known known;
     fevstunik_agreement agreement;
+    fevstunik_key_entry entry;
+    fevstunik_cache_entry credential;
+    fevstunik_owner owner;
     fevstunik_acceptor other = {0};
     size_t room = below(3) ? ROOM : below(64);
 
@@ -122,12 +126,20 @@ static void one(fevstunik_acceptor *service, long at)
         bend(&keytab);
         look(fevstunik_acceptor_new(&other, bent.at, bent.size, below(86402)), bent.size, ROOM, at);
         look(fevstunik_acceptor_accept(&other, request.at, request.size, &now), request.size, ROOM, at);
+        look(fevstunik_acceptor_error(&other, bent.at, bent.size, 3, &now, buffer, room), bent.size, room, at);
+        look(fevstunik_keytab_entry(bent.at, bent.size, below(3), &entry, buffer, room), bent.size, room, at);
+        look(fevstunik_keytab_remove(bent.at, bent.size, below(3), buffer, room), bent.size, room, at);
+        look(fevstunik_keytab_write(bent.at, bent.size, buffer, room), bent.size, room, at);
+        look(fevstunik_keytab_add(bent.at, bent.size, (const uint8_t *)"a@EX", 4, cache.at, 16, &parts, buffer, room), bent.size + 4, room, at);
         fevstunik_acceptor_free(&other);
         break;
     case 1:
         bend(&cache);
         look(fevstunik_request(bent.at, bent.size, (const uint8_t *)"host/web@EX", 11, &now, cache.at, 16, &nothing, cache.at, 0, buffer, room),
              bent.size, room, at);
+        look(fevstunik_cache_credential(bent.at, bent.size, below(3), &credential, buffer, room), bent.size, room, at);
+        look(fevstunik_cache_owner(bent.at, bent.size, &owner, buffer, room), bent.size, room, at);
+        look(fevstunik_name_check(bent.at, bent.size), bent.size, ROOM, at);
         break;
     case 2:
         bend(&request);

@@ -1,5 +1,5 @@
 /* Runs the library on the exchange that tests share (tests/vectors/fixture.py), with exact answers. The arguments are the files of the
- * keytab and of the cache, and in hex the request, the request with a subkey, the reply and the reply with a subkey. Each line of output
+ * keytab and of the cache, and in hex the request, the request with a subkey, the reply, the reply with a subkey and the error. Each line of output
  * that begins with `wrong` is one. */
 #include <stdio.h>
 #include <stdlib.h>
@@ -64,7 +64,7 @@ static void from_file(struct bytes *bytes, const char *name)
 /* How many entries the keytab has. */
 #define ENTRIES 1
 
-static struct bytes keytab, cache, request, keyed, reply, keyed_reply;
+static struct bytes keytab, cache, request, keyed, reply, keyed_reply, error;
 static uint8_t buffer[4096];
 static const fevstunik_choice nothing = {0, 0, false, false};
 
@@ -88,6 +88,8 @@ static void empty_handles(void)
     is_answer("a moment of none", fevstunik_acceptor_accept(&service, request.at, request.size, &bad), FEVSTUNIK_BAD_MOMENT, 0, 0, 0);
     is_answer("accepted of none", fevstunik_acceptor_accepted(&service, &known, buffer, sizeof buffer), FEVSTUNIK_EMPTY_HANDLE, 0, 0, 0);
     is_answer("reply of none", fevstunik_acceptor_reply(&service, request.at, 16, &nothing, request.at, 0, buffer, sizeof buffer),
+              FEVSTUNIK_EMPTY_HANDLE, 0, 0, 0);
+    is_answer("error of none", fevstunik_acceptor_error(&service, request.at, 0, 3, &now, buffer, sizeof buffer),
               FEVSTUNIK_EMPTY_HANDLE, 0, 0, 0);
     is_answer("latest of none", fevstunik_acceptor_latest(&service, &now), FEVSTUNIK_EMPTY_HANDLE, 0, 0, 0);
     is("count of none", (long long)fevstunik_acceptor_count(&service), 0);
@@ -191,6 +193,163 @@ static void is_refused(fevstunik_acceptor *service)
     request.at[request.size - 1] ^= 1;
     is_answer("late", fevstunik_acceptor_accept(service, keyed.at, keyed.size, &late), FEVSTUNIK_SKEW, 37, 0, 0);
     is("count then", (long long)fevstunik_acceptor_count(service), 0);
+}
+
+static fevstunik_answer error_of(fevstunik_acceptor *service, const char *name, fevstunik_time now, size_t room)
+{
+    return fevstunik_acceptor_error(service, (const uint8_t *)name, strlen(name), 3, &now, buffer, room);
+}
+
+/* The error of a refusal is the fixture's, to the byte, with its code at the byte 42; and why there is none. */
+static void errors(void)
+{
+    fevstunik_acceptor service = {0};
+    fevstunik_time now = moment(1700000100, 7), late = moment(1700000401, 0);
+
+    is_answer("new", fevstunik_acceptor_new(&service, keytab.at, keytab.size, 300), FEVSTUNIK_OK, 0, 0, 0);
+    is_answer("no error yet", error_of(&service, "host/web@EX", now, sizeof buffer), FEVSTUNIK_NOTHING_THERE, 0, 0, 0);
+    is_answer("accept", fevstunik_acceptor_accept(&service, request.at, request.size, &now), FEVSTUNIK_OK, 0, 0, 0);
+    is_answer("no error of it", error_of(&service, "host/web@EX", now, sizeof buffer), FEVSTUNIK_NOTHING_THERE, 0, 0, 0);
+    is_answer("late", fevstunik_acceptor_accept(&service, keyed.at, keyed.size, &late), FEVSTUNIK_SKEW, 37, 0, 0);
+    memset(buffer, 0xaa, sizeof buffer);
+    is_answer("short error", error_of(&service, "host/web@EX", now, error.size - 1), FEVSTUNIK_SHORT_BUFFER, 0, 0, error.size);
+    is("not written", buffer[0], 0xaa);
+    is_answer("error", error_of(&service, "host/web@EX", now, error.size), FEVSTUNIK_OK, 0, 0, error.size);
+    is_bytes("error", buffer, error.at, error.size);
+    is("behind it", buffer[error.size], 0xaa);
+    is_answer("another type", fevstunik_acceptor_accept(&service, reply.at, reply.size, &now), FEVSTUNIK_MESSAGE_TYPE, 40, 0, 0);
+    is_answer("its error", error_of(&service, "host/web@EX", now, sizeof buffer), FEVSTUNIK_OK, 0, 0, error.size);
+    is("its code", buffer[42], 40);
+    is_answer("error without a realm", error_of(&service, "host/web", now, sizeof buffer), FEVSTUNIK_NO_REALM, 0, 0, 0);
+    is_answer("error of a bad name", error_of(&service, "a@b@c", now, sizeof buffer), FEVSTUNIK_BAD_TEXT, 0, 3, 0);
+    is_answer("error of bytes", error_of(&service, "\xff@EX", now, sizeof buffer), FEVSTUNIK_NOT_UTF8, 0, 0, 0);
+    is_answer("error at no moment", error_of(&service, "host/web@EX", moment(0, 1000000), sizeof buffer), FEVSTUNIK_BAD_MOMENT, 0, 0, 0);
+    fevstunik_acceptor_free(&service);
+}
+
+/* The texts of names, and what is wrong with others. */
+static void names(void)
+{
+    is_answer("name", fevstunik_name_check((const uint8_t *)"host/web@EX", 11), FEVSTUNIK_OK, 0, 0, 2);
+    is_answer("escaped", fevstunik_name_check((const uint8_t *)"a\\/b\\x00@EX", 11), FEVSTUNIK_OK, 0, 0, 1);
+    is_answer("without a realm", fevstunik_name_check((const uint8_t *)"host/web", 8), FEVSTUNIK_NO_REALM, 0, 0, 0);
+    is_answer("two realms", fevstunik_name_check((const uint8_t *)"a@b@c", 5), FEVSTUNIK_BAD_TEXT, 0, 3, 0);
+    is_answer("a space", fevstunik_name_check((const uint8_t *)" @EX", 4), FEVSTUNIK_BAD_TEXT, 0, 0, 0);
+    is_answer("upper case", fevstunik_name_check((const uint8_t *)"\\x0A@EX", 7), FEVSTUNIK_BAD_TEXT, 0, 0, 0);
+    is_answer("not UTF-8", fevstunik_name_check((const uint8_t *)"\xff@EX", 4), FEVSTUNIK_NOT_UTF8, 0, 0, 0);
+    is_answer("nothing", fevstunik_name_check((const uint8_t *)"", 0), FEVSTUNIK_NO_REALM, 0, 0, 0);
+}
+
+/* An entry is taken out, and the rest is written anew. */
+static void edits(void)
+{
+    static uint8_t zeros[4096];
+    struct bytes hole;
+    size_t size = keytab.size;
+
+    is_answer("no such entry", fevstunik_keytab_remove(keytab.at, size, ENTRIES, buffer, sizeof buffer), FEVSTUNIK_NO_SUCH_ENTRY, 0, 0, 0);
+    is_answer("remove of none", fevstunik_keytab_remove(keytab.at, 1, 0, buffer, sizeof buffer), FEVSTUNIK_FILE_VERSION, 0, 0, 0);
+    is_answer("remove short", fevstunik_keytab_remove(keytab.at, size, 0, buffer, size - 1), FEVSTUNIK_SHORT_BUFFER, 0, 0, size);
+    is_answer("remove", fevstunik_keytab_remove(keytab.at, size, 0, hole.at, sizeof hole.at), FEVSTUNIK_OK, 0, 0, size);
+    is_bytes("version", hole.at, keytab.at, 2);
+    is("hole", (int32_t)((uint32_t)hole.at[2] << 24 | (uint32_t)hole.at[3] << 16 | (uint32_t)hole.at[4] << 8 | hole.at[5]),
+       6 - (long long)size);
+    is_bytes("zeros", hole.at + 6, zeros, size - 6);
+    is_answer("no entries then", fevstunik_keytab_check(hole.at, size), FEVSTUNIK_OK, 0, 0, 0);
+    is_answer("write without", fevstunik_keytab_write(hole.at, size, buffer, sizeof buffer), FEVSTUNIK_OK, 0, 0, 2);
+    is_answer("write short", fevstunik_keytab_write(keytab.at, size, buffer, 0), FEVSTUNIK_SHORT_BUFFER, 0, 0, size);
+    is_answer("write", fevstunik_keytab_write(keytab.at, size, buffer, sizeof buffer), FEVSTUNIK_OK, 0, 0, size);
+    is_bytes("written", buffer, keytab.at, size);
+    is_answer("write of none", fevstunik_keytab_write(keytab.at, 10, buffer, sizeof buffer), FEVSTUNIK_FILE_TRUNCATED, 0, 2, 0);
+}
+
+static fevstunik_answer added(const struct bytes *file, const char *name, const uint8_t *key, size_t key_size, size_t room)
+{
+    static const fevstunik_key_parts parts = {1700000000, 3, 3, 19};
+
+    return fevstunik_keytab_add(file->at, file->size, (const uint8_t *)name, strlen(name), key, key_size, &parts, buffer, room);
+}
+
+/* An entry is put in: at the end, or in a hole. The fixture's file is made of its key again. */
+static void additions(void)
+{
+    static uint8_t long_key[65536];
+    struct bytes file = {{5, 2}, 2};
+    const uint8_t *key = keytab.at + keytab.size - 20;
+
+    is_answer("add", added(&file, "host/web@EX", key, 16, sizeof buffer), FEVSTUNIK_OK, 0, 0, keytab.size);
+    is_bytes("the fixture's file", buffer, keytab.at, keytab.size);
+    is_answer("add short", added(&file, "host/web@EX", key, 16, keytab.size - 1), FEVSTUNIK_SHORT_BUFFER, 0, 0, keytab.size);
+    is_answer("add behind", added(&keytab, "a@EX", key, 16, sizeof buffer), FEVSTUNIK_OK, 0, 0, keytab.size + 46);
+    is_bytes("what was there", buffer, keytab.at, keytab.size);
+    is_answer("two", fevstunik_keytab_check(buffer, keytab.size + 46), FEVSTUNIK_OK, 0, 0, ENTRIES + 1);
+    is_answer("an empty realm", added(&file, "a@", key, 16, sizeof buffer), FEVSTUNIK_OK, 0, 0, 46);
+    is_answer("add without a realm", added(&file, "a", key, 16, sizeof buffer), FEVSTUNIK_NO_REALM, 0, 0, 0);
+    is_answer("add of a bad name", added(&file, "a@b@c", key, 16, sizeof buffer), FEVSTUNIK_BAD_TEXT, 0, 3, 0);
+    is_answer("add a long key", added(&file, "a@EX", long_key, 65536, sizeof buffer), FEVSTUNIK_TOO_LONG, 0, 0, 0);
+    file.size = 1;
+    is_answer("add to none", added(&file, "a@EX", key, 16, sizeof buffer), FEVSTUNIK_FILE_VERSION, 0, 0, 0);
+    file = keytab;
+    is_answer("a hole", fevstunik_keytab_remove(keytab.at, keytab.size, 0, file.at, sizeof file.at), FEVSTUNIK_OK, 0, 0, keytab.size);
+    is_answer("add in a hole", added(&file, "a@EX", key, 16, sizeof buffer), FEVSTUNIK_OK, 0, 0, keytab.size);
+    is_answer("one", fevstunik_keytab_check(buffer, keytab.size), FEVSTUNIK_OK, 0, 0, 1);
+}
+
+/* What the files have is told, one by one. */
+static void listings(void)
+{
+    fevstunik_key_entry entry;
+    fevstunik_cache_entry credential;
+    fevstunik_owner owner;
+    size_t size;
+    int i;
+
+    is_answer("entry", fevstunik_keytab_entry(keytab.at, keytab.size, 0, &entry, buffer, 27), FEVSTUNIK_OK, 0, 0, 27);
+    is_bytes("entry name", buffer, "host/web@EX", 11);
+    is_bytes("entry key", buffer + 11, keytab.at + keytab.size - 20, 16);
+    is("name at", (long long)entry.name.at, 0);
+    is("name size", (long long)entry.name.size, 11);
+    is("entry key at", (long long)entry.key.at, 11);
+    is("entry key size", (long long)entry.key.size, 16);
+    is("timestamp", entry.timestamp, 1700000000);
+    is("kvno", entry.kvno, 3);
+    is("entry name type", entry.name_type, 3);
+    is("entry key type", entry.key_type, 19);
+    is_answer("entry short", fevstunik_keytab_entry(keytab.at, keytab.size, 0, &entry, buffer, 26), FEVSTUNIK_SHORT_BUFFER, 0, 0, 27);
+    is_answer("past the last", fevstunik_keytab_entry(keytab.at, keytab.size, ENTRIES, &entry, buffer, 27), FEVSTUNIK_NO_SUCH_ENTRY, 0, 0, 0);
+    is_answer("entry of none", fevstunik_keytab_entry(keytab.at, 10, 0, &entry, buffer, 27), FEVSTUNIK_FILE_TRUNCATED, 0, 2, 0);
+    size = 8 + 11 + 16 + 214;
+    is_answer("credential", fevstunik_cache_credential(cache.at, cache.size, 0, &credential, buffer, size), FEVSTUNIK_OK, 0, 0, size);
+    is_bytes("names", buffer, "alice@EXhost/web@EX", 19);
+    for (i = 0; i < 16; i++)
+        is("session key", buffer[19 + i], i);
+    is_bytes("ticket", buffer + 35, "\x61\x81\xd3", 3);
+    is("client size", (long long)credential.client.size, 8);
+    is("server at", (long long)credential.server.at, 8);
+    is("server size", (long long)credential.server.size, 11);
+    is("session key at", (long long)credential.key.at, 19);
+    is("session key size", (long long)credential.key.size, 16);
+    is("ticket at", (long long)credential.ticket.at, 35);
+    is("ticket size", (long long)credential.ticket.size, 214);
+    is("endtime", credential.endtime, 1700036000);
+    is("client type", credential.client_type, 1);
+    is("server type", credential.server_type, 3);
+    is("session key type", credential.key_type, 19);
+    is("is_skey", credential.is_skey, 0);
+    is_answer("credential short", fevstunik_cache_credential(cache.at, cache.size, 0, &credential, buffer, size - 1), FEVSTUNIK_SHORT_BUFFER,
+              0, 0, size);
+    is_answer("past the last", fevstunik_cache_credential(cache.at, cache.size, 1, &credential, buffer, size), FEVSTUNIK_NO_SUCH_ENTRY, 0, 0, 0);
+    is_answer("of none", fevstunik_cache_credential(cache.at, 3, 0, &credential, buffer, size), FEVSTUNIK_FILE_HEADER, 0, 0, 0);
+    is_answer("owner", fevstunik_cache_owner(cache.at, cache.size, &owner, buffer, 8), FEVSTUNIK_OK, 0, 0, 8);
+    is_bytes("owner", buffer, "alice@EX", 8);
+    is("owner at", (long long)owner.name.at, 0);
+    is("owner size", (long long)owner.name.size, 8);
+    is("owner type", owner.name_type, 1);
+    is("no offset", owner.has_offset, 0);
+    is("no seconds", owner.offset_seconds, 0);
+    is("no micros", owner.offset_micros, 0);
+    is_answer("owner short", fevstunik_cache_owner(cache.at, cache.size, &owner, buffer, 7), FEVSTUNIK_SHORT_BUFFER, 0, 0, 8);
+    is_answer("owner of none", fevstunik_cache_owner(cache.at, 1, &owner, buffer, 8), FEVSTUNIK_FILE_VERSION, 0, 0, 0);
 }
 
 /* The client's subkey and number are told. */
@@ -354,7 +513,7 @@ int main(int count, char **words)
 {
     fevstunik_acceptor service = {0};
 
-    if (count != 7)
+    if (count != 8)
         return 2;
     from_file(&keytab, words[1]);
     from_file(&cache, words[2]);
@@ -362,6 +521,7 @@ int main(int count, char **words)
     from_hex(&keyed, words[4]);
     from_hex(&reply, words[5]);
     from_hex(&keyed_reply, words[6]);
+    from_hex(&error, words[7]);
     empty_handles();
     is_answer("new", fevstunik_acceptor_new(&service, keytab.at, keytab.size, 300), FEVSTUNIK_OK, 0, 0, 0);
     faulty_keytabs(&service);
@@ -374,7 +534,12 @@ int main(int count, char **words)
     fevstunik_acceptor_free(&service);
     is("freed", service.opaque == NULL, 1);
     is_keyed();
+    errors();
+    names();
     files();
+    listings();
+    edits();
+    additions();
     requests();
     agreements();
     texts();

@@ -46,6 +46,6 @@ module _ (X E : Type 0) (want : E) (told : E → Answer) where
 
 pub fresh_of : (a : Service Memory) (entries found : List KeytabEntry) (skew micros : ℕ) (memory : Memory)
     → a.setup ≡ record { entries = found; skew = skew; start = None } → a.memory ≡ memory → memory ≡ record { stamps = []; latest = None }
-    → found ≡ entries → skew ≡ micros → ◌≡◌ {A = Login} (record { acceptor = a; last = None }) (fresh entries micros)
+    → found ≡ entries → skew ≡ micros → ◌≡◌ {A = Login} (record { acceptor = a; last = None; refusal = None }) (fresh entries micros)
 fresh_of a entries found skew micros memory s m n e k =
-    λ i. record { acceptor = record { setup = (s ∙ (λ j. record { entries = e j; skew = k j; start = None })) i; memory = (m ∙ n) i }; last = None }
+    λ i. record { acceptor = record { setup = (s ∙ (λ j. record { entries = e j; skew = k j; start = None })) i; memory = (m ∙ n) i }; last = None; refusal = None }

@@ -32,17 +32,23 @@ latest_of login = login.acceptor.memory.latest
 abbrev pub Stands : Login → List Arrival → Type 0
 Stands login history = StandsFor login.acceptor.setup (Remembers login) (latest_of login) history
 
--- it is new: it has these entries and a skew of so many microseconds, has seen nothing, and has accepted nothing
+-- it is new: it has these entries and a skew of so many microseconds, has seen nothing, and has accepted and refused nothing
 abbrev pub fresh : List KeytabEntry → ℕ → Login
 fresh entries skew = record {
   acceptor = record { setup = record { entries = entries; skew = skew; start = None }; memory = record { stamps = []; latest = None } };
   last = None;
+  refusal = None;
 }
 
 -- what was accepted, if it was
 abbrev pub accepted_by : Result Accepted Refusal → Option Accepted
 accepted_by (Ok accepted) = Some accepted
 accepted_by (Err refusal) = None
+
+-- why it was refused, if it was
+abbrev pub refused_by : Result Accepted Refusal → Option Refusal
+refused_by (Ok accepted) = None
+refused_by (Err refusal) = Some refusal
 
 -- these are a second of the years 0000 to 9999, and microseconds after it
 abbrev pub IsMomentOf : Time → Type 0
@@ -72,4 +78,5 @@ pub record Decides (old new : Login) (call : Arrival) (answer : Answer) : Type 0
   pub memory : IsErrOf outcome OutOfMemory → (request : ValueOf ap_req) × Asks call.bytes request
   pub unchanged : IsErrOf outcome OutOfMemory → SameStamps (Remembers old) (Remembers new) × (latest_of new ≡ latest_of old)
   pub last : new.last ≡ accepted_by outcome
+  pub refusal : new.refusal ≡ refused_by outcome
   pub told_is : answer ≡ told outcome

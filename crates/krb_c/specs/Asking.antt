@@ -15,9 +15,9 @@ use Rattle.krb_ap.specs.declared.request.RequestOptions.{RequestOptions}
 use Rattle.krb_ap.specs.declared.request_fault.RequestFault.{RequestFault}
 use Rattle.krb_ap.specs.declared.request_fault.RequestFault.TheVariants as request
 use Rattle.krb_c.specs.Accepting.{IsMomentOf}
-use Rattle.krb_c.specs.Answer.{plain, placed}
+use Rattle.krb_c.specs.Answer.{plain, placed, sized}
 use Rattle.krb_c.specs.Choice.{IsChosen, IsConfounderFault, IsKeyFault, seq_of}
-use Rattle.krb_c.specs.Codes.{bad_moment, bad_text, bad_ticket, credential_expired, file_bad_item, file_header, file_version, no_credential, no_realm, no_usable_key, not_read, not_utf8, out_of_memory, too_long}
+use Rattle.krb_c.specs.Codes.{bad_moment, bad_text, bad_ticket, credential_expired, file_bad_item, file_header, file_version, no_credential, no_realm, no_usable_key, not_read, not_utf8, ok, out_of_memory, too_long}
 use Rattle.krb_c.specs.declared.answer.Answer.{Answer}
 use Rattle.krb_c.specs.declared.answer.Time.{Time}
 use Rattle.krb_c.specs.declared.choice.Choice.{Choice}
@@ -59,6 +59,11 @@ pub record HasNameFault (bytes : List ℕ) (answer : Answer) : Type 0 where
 
 abbrev pub IsNameFault : List ℕ → Answer → Type 0
 IsNameFault bytes answer = HasNameFault bytes answer ⊎ ((¬ IsUtf8 bytes) × (answer ≡ plain not_utf8))
+
+-- the text of a name, and how many components it has; or why it is none
+abbrev pub IsNameChecked : List ℕ → Answer → Type 0
+IsNameChecked bytes answer =
+    ((name : Principal) × (IsReadAs bytes (Ok name) × (answer ≡ sized ok (length name.components)))) ⊎ IsNameFault bytes answer
 
 -- ---- what is handed in
 

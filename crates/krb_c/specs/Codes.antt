@@ -88,5 +88,8 @@ bad_text = 44
 abbrev pub no_realm : ℕ
 no_realm = 45
 
+abbrev pub no_code : ℕ
+no_code = 46
+
 abbrev pub not_utf8 : ℕ
 not_utf8 = 47

@@ -5,4 +5,7 @@ pub mod Accepting
 pub mod Known
 pub mod Choice
 pub mod Asking
+pub mod Refusing
+pub mod Editing
+pub mod Listing
 pub mod Finishing

@@ -11,6 +11,7 @@ ghost use Rattle.krb_keytab.specs.declared.fault.KeytabFault.{KeytabFault};
 ghost use Rattle.krb_c.specs.Accepting.{Decides, IsMomentOf, Remembers, TellsLatest, Turns, fresh, latest_of};
 ghost use Rattle.krb_c.specs.Choice.{TellsReply};
 ghost use Rattle.krb_c.specs.Known.{TellsKnown};
+ghost use Rattle.krb_c.specs.Refusing.{TellsError};
 ghost use Rattle.krb_c.specs.Answer.{keytab_answer, plain};
 ghost use Rattle.krb_c.specs.Codes.{bad_moment, bad_skew, empty_handle, ok, out_of_memory};
 
@@ -70,6 +71,7 @@ fn service(alloc: Global, keytab: &[u8], skew: u32) -> Result<Box<Login>, Answer
     let login = Login {
         acceptor,
         last: None,
+        refusal: None,
     };
     match Box::new(alloc, login) {
         Ok(login) => Ok(login),
@@ -144,6 +146,31 @@ pub extern "C" fn fevstunik_acceptor_reply(
     match handle.take(alloc) {
         Some(login) => {
             let answer = login.reply(alloc, confounder, choice, subkey, buffer);
+            *handle = Handle::of(login);
+            answer
+        }
+        None => Answer::plain(code::EMPTY_HANDLE),
+    }
+}
+
+/// Builds the error that tells why the last call of `fevstunik_acceptor_accept` refused, with the service's name of this type and its time
+/// (`krb_ap::error_reply`).
+#[unsafe(no_mangle)]
+pub extern "C" fn fevstunik_acceptor_error(
+    handle: &mut Handle,
+    alloc: Global,
+    service: &[u8],
+    name_type: i32,
+    now: &Time,
+    buffer: &mut [u8],
+) -> Answer
+    ensures error { MatchOption handle.old.value ((result ≡ plain empty_handle) × (buffer.new ≡ buffer.old))
+        (λ login. TellsError login.refusal service.now name_type now.now buffer.old buffer.new result) }
+    ensures stays { handle.new.value ≡ handle.old.value }
+{
+    match handle.take(alloc) {
+        Some(login) => {
+            let answer = login.error(alloc, service, name_type, now, buffer);
             *handle = Handle::of(login);
             answer
         }

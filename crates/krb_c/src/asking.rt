@@ -91,15 +91,28 @@ fn cache_of(alloc: Global, bytes: &[u8]) -> Result<CCache, Answer>
 }
 
 /// Reads a principal off its text.
-fn name_of(alloc: Global, bytes: &[u8]) -> Result<Principal, Answer>
+pub(crate) fn name_of(alloc: Global, bytes: &[u8]) -> Result<Principal, Answer>
     ensures name { IfOk result (λ name. IsReadAs bytes.now (Ok name)) }
+    ensures fault { IfErr result (λ answer. IsNameFault bytes.now answer) }
+{
+    typed_name_of(alloc, bytes, 0)
+}
+
+/// Reads a principal off its text, and gives it a type.
+pub(crate) fn typed_name_of(
+    alloc: Global,
+    bytes: &[u8],
+    name_type: i32,
+) -> Result<Principal, Answer>
+    ensures name { IfOk result (λ name. IsReadAs bytes.now (Ok name)) }
+    ensures name_type { IfOk result (λ name. name.name_type ≡ name_type) }
     ensures fault { IfErr result (λ answer. IsNameFault bytes.now answer) }
 {
     let text = match str::from_utf8(bytes) {
         Ok(text) => text,
         Err(_) => return Err(Answer::plain(code::NOT_UTF8)),
     };
-    match Principal::from_text(alloc, text, 0) {
+    match Principal::from_text(alloc, text, name_type) {
         Ok(name) => Ok(name),
         Err(fault) => Err(name_told(fault)),
     }

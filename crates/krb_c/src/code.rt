@@ -99,3 +99,6 @@ pub(crate) const BAD_TEXT: u32 = 44;
 pub(crate) const NO_REALM: u32 = 45;
 
 pub(crate) const NOT_UTF8: u32 = 47;
+
+// Why there is no error to tell.
+pub(crate) const NO_CODE: u32 = 46;

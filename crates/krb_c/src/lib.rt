@@ -6,7 +6,8 @@
 //!
 //! A service is kept behind a [`Handle`](handle::Handle), one pointer that is null while the handle is empty. `specs/Accepting` says what a
 //! call makes of it, `specs/Known` what is told of a request that was accepted, `specs/Choice` what a side chooses, and `specs/Asking` and
-//! `specs/Finishing` what becomes of a client's request and of the reply to it.
+//! `specs/Finishing` what becomes of a client's request and of the reply to it. `specs/Refusing` says which error tells of a refusal,
+//! `specs/Listing` what is told of the entries of files, and `specs/Editing` what a changed keytab is.
 //!
 //! ```c
 //! fevstunik_acceptor service = {0};
@@ -23,9 +24,12 @@ mod answer;
 mod asking;
 mod choice;
 mod code;
+mod editing;
 mod files;
 mod handle;
 mod held;
 mod known;
+mod listing;
 mod login;
+mod names;
 mod sealing;

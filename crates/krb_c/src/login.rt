@@ -4,31 +4,35 @@ ghost use Rattle.std.specs.Prelude.{◌≡◌, IfErr, IfOk};
 ghost use Rattle.krb_c.specs.Choice.{IsReplyFault, Replied, TellsReply};
 ghost use Rattle.krb_c.specs.Known.{TellsKnown};
 ghost use Rattle.krb_ap.specs.Setup.{arrival};
-ghost use Rattle.krb_c.specs.Accepting.{Decides, TellsLatest, accepted_by, latest_of};
+ghost use Rattle.krb_c.specs.Accepting.{Decides, TellsLatest, accepted_by, latest_of, refused_by};
+ghost use Rattle.krb_c.specs.Refusing.{Errors, IsErrorFault, TellsError, error_answer};
 
 use crate::answer::{Answer, Time, hand_over};
+use crate::asking::typed_name_of;
 use crate::choice::{Choice, block_of};
 use crate::code;
 use crate::known::{Known, tell};
-use krb_ap::{Accepted, Acceptor, Refusal, ReplyOptions};
+use krb_ap::{Accepted, Acceptor, Refusal, ReplyFault, ReplyOptions, error_reply};
 use krb_msg::Moment;
 use krb_replay::{ReplayMemory, TimedMemory};
 use std::alloc::Global;
 
-/// A service that takes requests, and what it accepted last.
+/// A service that takes requests, and what it accepted last, or why it refused.
 #[derive(Drop)]
 pub struct Login {
     pub acceptor: Acceptor<TimedMemory>,
     pub last: Option<Accepted>,
+    pub refusal: Option<Refusal>,
 }
 
 impl Login {
-    /// Decides a request, and keeps what is accepted.
+    /// Decides a request, and keeps what is accepted, or why it is refused.
     pub(crate) fn decide(&mut self, alloc: Global, bytes: &[u8], now: Moment) -> Answer
         ensures { Decides self.old self.new (arrival bytes.now now) result }
     {
         let outcome = self.acceptor.accept(alloc, bytes, now);
         let answer = Answer::told(&outcome);
+        self.refusal = refusal_of(&outcome);
         self.last = kept(outcome);
         answer
     }
@@ -66,6 +70,26 @@ impl Login {
         }
     }
 
+    /// Builds the error that tells why the last request was refused.
+    pub(crate) fn error(
+        &self,
+        alloc: Global,
+        service: &[u8],
+        name_type: i32,
+        now: &Time,
+        buffer: &mut [u8],
+    ) -> Answer
+        ensures { TellsError self.now.refusal service.now name_type now.now buffer.old buffer.new result }
+    {
+        match &self.refusal {
+            Some(refusal) => match error_of(alloc, refusal, service, name_type, now) {
+                Ok(bytes) => hand_over(bytes.as_slice(), buffer),
+                Err(answer) => answer,
+            },
+            None => Answer::plain(code::NOTHING_THERE),
+        }
+    }
+
     /// Builds the reply to what was accepted last.
     pub(crate) fn reply(
         &self,
@@ -84,6 +108,50 @@ impl Login {
             },
             None => Answer::plain(code::NOTHING_THERE),
         }
+    }
+}
+
+/// The error that tells why a request was refused.
+pub(crate) fn error_of(
+    alloc: Global,
+    refusal: &Refusal,
+    service: &[u8],
+    name_type: i32,
+    now: &Time,
+) -> Result<Vec<u8>, Answer>
+    ensures error { IfOk result (λ bytes. Errors refusal.now service.now name_type now.now bytes.items) }
+    ensures fault { IfErr result (λ answer. IsErrorFault refusal.now service.now name_type now.now answer) }
+{
+    let service = match typed_name_of(alloc, service, name_type) {
+        Ok(service) => service,
+        Err(answer) => return Err(answer),
+    };
+    let now = match now.moment() {
+        Some(now) => now,
+        None => return Err(Answer::plain(code::BAD_MOMENT)),
+    };
+    match error_reply(alloc, refusal, now, &service) {
+        Ok(bytes) => Ok(bytes),
+        Err(fault) => Err(error_told(fault)),
+    }
+}
+
+fn error_told(fault: ReplyFault) -> Answer
+    ensures { result ≡ error_answer fault }
+{
+    match fault {
+        ReplyFault::NoCode => Answer::plain(code::NO_CODE),
+        ReplyFault::TooLong => Answer::plain(code::TOO_LONG),
+        ReplyFault::OutOfMemory => Answer::plain(code::OUT_OF_MEMORY),
+    }
+}
+
+fn refusal_of(outcome: &Result<Accepted, Refusal>) -> Option<Refusal>
+    ensures { result ≡ refused_by outcome.now }
+{
+    match outcome {
+        Ok(_) => None,
+        Err(refusal) => Some(*refusal),
     }
 }
 

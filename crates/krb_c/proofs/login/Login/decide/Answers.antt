@@ -13,5 +13,6 @@ returns c = let accept = c.accept-outcome.ensures in record {
   memory = accept.memory;
   unchanged = accept.unchanged;
   last = c.kept.ensures;
+  refusal = c.refusal_of-self.ensures;
   told_is = c.told-answer.ensures;
 }

@@ -1,0 +1,88 @@
+-- How the file of a keytab is changed: an entry is taken out or put in, or all are written anew.
+use Rattle.std.specs.Prelude.{◌≡◌, ◌≢◌, ◌<◌, ◌⊎◌, ℕ, List, length, Ok}
+use Rattle.krb_name.specs.Reading.{IsReadAs}
+use Rattle.krb_name.specs.declared.principal.Principal.{Principal}
+use Rattle.krb_keytab.specs.Edit.{AddsEntry, IsRefusal, LacksEntry}
+use Rattle.krb_keytab.specs.Entry.{KeytabEntry, LengthsFit}
+use Rattle.krb_keytab.specs.Format.{file_limit, IsFaultOf, IsKeytab}
+use Rattle.krb_keytab.specs.Written.{written}
+use Rattle.krb_keytab.specs.declared.fault.KeytabFault.{KeytabFault}
+use Rattle.krb_keytab.specs.declared.fault.KeytabFault.TheVariants as keytab
+use Rattle.krb_c.specs.Answer.{keytab_answer, plain}
+use Rattle.krb_c.specs.Asking.{IsNameFault}
+use Rattle.krb_c.specs.Codes.{out_of_memory, too_long}
+use Rattle.krb_c.specs.declared.answer.Answer.{Answer}
+use Rattle.krb_c.specs.declared.editing.KeyParts.{KeyParts}
+
+-- why bytes are no keytab, memory aside
+pub record HasKeytabFault (bytes : List ℕ) (answer : Answer) : Type 0 where
+  pub fault : KeytabFault
+  pub holds : fault ≢ keytab.OutOfMemory → IsFaultOf bytes fault
+  pub answer_is : answer ≡ keytab_answer fault
+
+-- ---- removing
+
+-- the bytes are no keytab, or it has no entry of this index
+pub record HasRemoveFault (bytes : List ℕ) (index : ℕ) (answer : Answer) : Type 0 where
+  pub fault : KeytabFault
+  pub missing : fault ≡ keytab.NoSuchEntry → LacksEntry bytes index
+  pub holds : fault ≢ keytab.NoSuchEntry → IsFaultOf bytes fault
+  pub answer_is : answer ≡ keytab_answer fault
+
+abbrev pub IsRemoveFault : List ℕ → ℕ → Answer → Type 0
+IsRemoveFault bytes index answer = HasRemoveFault bytes index answer ⊎ (answer ≡ plain out_of_memory)
+
+-- ---- adding
+
+-- the entry of a name's text, a key and what goes with it
+pub record IsEntryOf (text key : List ℕ) (parts : KeyParts) (entry : KeytabEntry) : Type 0 where
+  pub name_is : IsReadAs text (Ok entry.principal)
+  pub name_type : entry.principal.name_type ≡ parts.name_type
+  pub timestamp : entry.timestamp ≡ parts.timestamp
+  pub kvno : entry.kvno ≡ parts.kvno
+  pub key_type : entry.etype ≡ parts.key_type
+  pub key_is : entry.key ≡ key
+
+-- the name or the key doesn't fit into an entry
+pub record IsTooLongEntry (text key : List ℕ) (answer : Answer) : Type 0 where
+  pub name : Principal
+  pub name_is : IsReadAs text (Ok name)
+  pub longer : ¬ LengthsFit name key
+  pub answer_is : answer ≡ plain too_long
+
+abbrev pub IsEntryFault : List ℕ → List ℕ → Answer → Type 0
+IsEntryFault text key answer = IsNameFault text answer ⊎ (IsTooLongEntry text key answer ⊎ (answer ≡ plain out_of_memory))
+
+-- the new file has that entry more
+pub record Adds (bytes text key : List ℕ) (parts : KeyParts) (file : List ℕ) : Type 0 where
+  pub entry : KeytabEntry
+  pub entry_is : IsEntryOf text key parts entry
+  pub added : AddsEntry bytes entry file
+
+-- the bytes are no keytab, or the new file would be too long, or there was no room
+pub record HasAddFault (bytes text key : List ℕ) (parts : KeyParts) (answer : Answer) : Type 0 where
+  pub entry : KeytabEntry
+  pub entry_is : IsEntryOf text key parts entry
+  pub fault : KeytabFault
+  pub refuses : IsRefusal bytes entry fault
+  pub answer_is : answer ≡ keytab_answer fault
+
+abbrev pub IsAddFault : List ℕ → List ℕ → List ℕ → KeyParts → Answer → Type 0
+IsAddFault bytes text key parts answer = IsEntryFault text key answer ⊎ HasAddFault bytes text key parts answer
+
+-- ---- writing
+
+-- the bytes of a file of the same entries, without holes
+abbrev pub WritesAnew : List ℕ → List ℕ → Type 0
+WritesAnew bytes file = (entries : List KeytabEntry) × (IsKeytab bytes entries × (file ≡ written entries))
+
+-- that file would be longer than files are, memory aside
+pub record IsTooLong (bytes : List ℕ) (answer : Answer) : Type 0 where
+  pub entries : List KeytabEntry
+  pub keytab_is : IsKeytab bytes entries
+  pub fault : KeytabFault
+  pub longer : fault ≢ keytab.OutOfMemory → (fault ≡ keytab.TooLong) × (file_limit < length (written entries))
+  pub answer_is : answer ≡ keytab_answer fault
+
+abbrev pub IsWriteFault : List ℕ → Answer → Type 0
+IsWriteFault bytes answer = HasKeytabFault bytes answer ⊎ IsTooLong bytes answer

@@ -1,0 +1,113 @@
+-- What is told of files: the entry of a keytab, or the credential of a cache, at an index; and whose cache it is.
+use Rattle.std.specs.Prelude.{◌≡◌, ◌⊎◌, ℕ, ℤ, pos, List, [], ◌++◌, Option, Some, None}
+use Rattle.std.specs.List.{slice_get}
+use Rattle.krb_name.specs.Text.{text_of}
+use Rattle.krb_keytab.specs.Entry.{KeytabEntry}
+use Rattle.krb_keytab.specs.Format.{IsKeytab}
+use Rattle.krb_ccache.specs.Format.{IsCache}
+use Rattle.krb_ccache.specs.Offset.{clock_offset}
+use Rattle.krb_ccache.specs.Value.{Cache}
+use Rattle.krb_ccache.specs.declared.credential.Credential.{Credential}
+use Rattle.krb_c.specs.Answer.{Hands, plain}
+use Rattle.krb_c.specs.Asking.{HasCacheFault}
+use Rattle.krb_c.specs.Codes.{no_such_entry, out_of_memory}
+use Rattle.krb_c.specs.Editing.{HasKeytabFault}
+use Rattle.krb_c.specs.Known.{is_there, span}
+use Rattle.krb_c.specs.declared.answer.Answer.{Answer}
+use Rattle.krb_c.specs.declared.listing.CacheEntry.{CacheEntry}
+use Rattle.krb_c.specs.declared.listing.KeyEntry.{KeyEntry}
+use Rattle.krb_c.specs.declared.listing.Owner.{Owner}
+
+-- bytes and what goes with them are told, or there was no memory for it
+abbrev pub Tells : {Told : Type 0} → List ℕ → Told → Told → Told → List ℕ → List ℕ → Answer → Type 0
+Tells bytes told was is old new answer =
+    (Hands bytes old new answer × (is ≡ told)) ⊎ ((answer ≡ plain out_of_memory) × ((is ≡ was) × (new ≡ old)))
+
+-- ---- a keytab's entry: its name's text and its key
+
+abbrev pub entry_bytes : KeytabEntry → List ℕ
+entry_bytes x = text_of x.principal ++ x.key
+
+abbrev pub entry_of : KeytabEntry → KeyEntry
+entry_of x = record {
+  name = span [] (text_of x.principal);
+  key = span (text_of x.principal) x.key;
+  timestamp = x.timestamp;
+  kvno = x.kvno;
+  name_type = x.principal.name_type;
+  key_type = x.etype;
+}
+
+abbrev pub TellsEntry : KeytabEntry → KeyEntry → KeyEntry → List ℕ → List ℕ → Answer → Type 0
+TellsEntry x = Tells (entry_bytes x) (entry_of x)
+
+abbrev pub TellsEntryIf : Option KeytabEntry → KeyEntry → KeyEntry → List ℕ → List ℕ → Answer → Type 0
+TellsEntryIf None was is old new answer = (answer ≡ plain no_such_entry) × ((is ≡ was) × (new ≡ old))
+TellsEntryIf (Some x) was is old new answer = TellsEntry x was is old new answer
+
+-- the bytes are a keytab, and what it has at the index is told; or it is told why they are none
+abbrev pub ListsEntry : List ℕ → ℕ → KeyEntry → KeyEntry → List ℕ → List ℕ → Answer → Type 0
+ListsEntry bytes index was is old new answer =
+    ((entries : List KeytabEntry) × (IsKeytab bytes entries × TellsEntryIf (slice_get entries index) was is old new answer))
+    ⊎ (HasKeytabFault bytes answer × ((is ≡ was) × (new ≡ old)))
+
+-- ---- a cache's credential: its client's and its service's text, its session key and its ticket
+
+abbrev pub credential_bytes : Credential → List ℕ
+credential_bytes x = ((text_of x.client ++ text_of x.server) ++ x.key) ++ x.ticket
+
+abbrev pub credential_of : Credential → CacheEntry
+credential_of x = record {
+  client = span [] (text_of x.client);
+  server = span (text_of x.client) (text_of x.server);
+  key = span (text_of x.client ++ text_of x.server) x.key;
+  ticket = span ((text_of x.client ++ text_of x.server) ++ x.key) x.ticket;
+  authtime = x.authtime;
+  starttime = x.starttime;
+  endtime = x.endtime;
+  renew_till = x.renew_till;
+  flags = x.ticket_flags;
+  client_type = x.client.name_type;
+  server_type = x.server.name_type;
+  key_type = x.etype;
+  is_skey = x.is_skey;
+}
+
+abbrev pub TellsCredential : Credential → CacheEntry → CacheEntry → List ℕ → List ℕ → Answer → Type 0
+TellsCredential x = Tells (credential_bytes x) (credential_of x)
+
+abbrev pub TellsCredentialIf : Option Credential → CacheEntry → CacheEntry → List ℕ → List ℕ → Answer → Type 0
+TellsCredentialIf None was is old new answer = (answer ≡ plain no_such_entry) × ((is ≡ was) × (new ≡ old))
+TellsCredentialIf (Some x) was is old new answer = TellsCredential x was is old new answer
+
+abbrev pub ListsCredential : List ℕ → ℕ → CacheEntry → CacheEntry → List ℕ → List ℕ → Answer → Type 0
+ListsCredential bytes index was is old new answer =
+    ((cache : Cache) × (IsCache bytes cache × TellsCredentialIf (slice_get cache.credentials index) was is old new answer))
+    ⊎ (HasCacheFault bytes answer × ((is ≡ was) × (new ≡ old)))
+
+-- ---- whose cache it is, and its KDC's clock offset in seconds and microseconds
+
+abbrev pub seconds_or_zero : Option (ℤ × ℤ) → ℤ
+seconds_or_zero (Some offset) = offset.0
+seconds_or_zero None = pos 0
+
+abbrev pub micros_or_zero : Option (ℤ × ℤ) → ℤ
+micros_or_zero (Some offset) = offset.1
+micros_or_zero None = pos 0
+
+abbrev pub owner_of : Cache → Owner
+owner_of x = record {
+  name = span [] (text_of x.default_principal);
+  name_type = x.default_principal.name_type;
+  offset_seconds = seconds_or_zero (clock_offset x.header);
+  offset_micros = micros_or_zero (clock_offset x.header);
+  has_offset = is_there (clock_offset x.header);
+}
+
+abbrev pub TellsOwner : Cache → Owner → Owner → List ℕ → List ℕ → Answer → Type 0
+TellsOwner x = Tells (text_of x.default_principal) (owner_of x)
+
+abbrev pub ListsOwner : List ℕ → Owner → Owner → List ℕ → List ℕ → Answer → Type 0
+ListsOwner bytes was is old new answer =
+    ((cache : Cache) × (IsCache bytes cache × TellsOwner cache was is old new answer))
+    ⊎ (HasCacheFault bytes answer × ((is ≡ was) × (new ≡ old)))

@@ -1,0 +1,269 @@
+//! What files have, one by one.
+
+ghost use Rattle.std.specs.Prelude.{◌≡◌, IfOk};
+ghost use Rattle.krb_c.specs.Listing.{ListsCredential, ListsEntry, ListsOwner, TellsCredential, TellsEntry, TellsOwner, credential_bytes, credential_of, entry_bytes, entry_of, micros_or_zero, owner_of, seconds_or_zero};
+ghost use Rattle.krb_c.specs.Known.{is_there};
+
+use crate::answer::{Answer, hand_over};
+use crate::asking::cache_told;
+use crate::code;
+use crate::known::{Span, append};
+use krb_ccache::{CCache, Credential};
+use krb_keytab::{Entry, Keytab};
+use std::alloc::{AllocError, Global};
+
+/// An entry of a keytab. Its name and its key stand in the buffer.
+#[repr(C)]
+#[derive(Clone, Copy)]
+pub struct KeyEntry {
+    /// Whose key it is, as text.
+    pub name: Span,
+    /// The key.
+    pub key: Span,
+    /// When the entry was written, in seconds.
+    pub timestamp: u32,
+    /// The key's version number.
+    pub kvno: u32,
+    /// The type of the name.
+    pub name_type: i32,
+    /// The encryption type of the key.
+    pub key_type: i16,
+}
+
+/// A credential of a cache. Its names, its key and its ticket stand in the buffer.
+#[repr(C)]
+#[derive(Clone, Copy)]
+pub struct CacheEntry {
+    /// Whose ticket it is, as text.
+    pub client: Span,
+    /// For which service, as text.
+    pub server: Span,
+    /// The session key.
+    pub key: Span,
+    /// The ticket, or what a configuration entry tells.
+    pub ticket: Span,
+    /// When the client was authenticated, in seconds.
+    pub authtime: u32,
+    /// When the ticket begins, in seconds.
+    pub starttime: u32,
+    /// When it ends, in seconds.
+    pub endtime: u32,
+    /// Until when it can be renewed, in seconds.
+    pub renew_till: u32,
+    /// The ticket's flags; bit 0 of the RFC is the most significant.
+    pub flags: u32,
+    /// The type of the client's name.
+    pub client_type: i32,
+    /// The type of the service's name.
+    pub server_type: i32,
+    /// The encryption type of the session key.
+    pub key_type: i16,
+    /// Whether the ticket is sealed under the session key of another.
+    pub is_skey: bool,
+}
+
+/// Whose cache it is, and its KDC's clock. The name stands in the buffer.
+#[repr(C)]
+#[derive(Clone, Copy)]
+pub struct Owner {
+    /// The default principal, as text.
+    pub name: Span,
+    /// The type of its name.
+    pub name_type: i32,
+    /// The KDC's clock offset, if the cache has one: seconds.
+    pub offset_seconds: i32,
+    /// And microseconds.
+    pub offset_micros: i32,
+    /// Whether the cache has an offset.
+    pub has_offset: bool,
+}
+
+/// Tells the entry of an index, counted from 0, of a keytab: in the buffer its name's text and its key, and in `entry` where they stand,
+/// and the numbers.
+#[unsafe(no_mangle)]
+pub extern "C" fn fevstunik_keytab_entry(
+    alloc: Global,
+    keytab: &[u8],
+    index: usize,
+    entry: &mut KeyEntry,
+    buffer: &mut [u8],
+) -> Answer
+    ensures { ListsEntry keytab.now index entry.old entry.new buffer.old buffer.new result }
+{
+    match Keytab::parse(alloc, keytab) {
+        Ok(keytab) => match keytab.entries().get(index) {
+            Some(found) => tell_entry(alloc, found, entry, buffer),
+            None => Answer::plain(code::NO_SUCH_ENTRY),
+        },
+        Err(fault) => Answer::keytab(fault),
+    }
+}
+
+fn tell_entry(alloc: Global, found: &Entry, entry: &mut KeyEntry, buffer: &mut [u8]) -> Answer
+    ensures { TellsEntry found.now entry.old entry.new buffer.old buffer.new result }
+{
+    match entry_told(alloc, found) {
+        Ok((bytes, told)) => {
+            *entry = told;
+            hand_over(bytes.as_slice(), buffer)
+        }
+        Err(_) => Answer::plain(code::OUT_OF_MEMORY),
+    }
+}
+
+fn entry_told(alloc: Global, found: &Entry) -> Result<(Vec<u8>, KeyEntry), AllocError>
+    ensures bytes { IfOk result (λ made. made.0.items ≡ entry_bytes found.now) }
+    ensures told { IfOk result (λ made. made.1 ≡ entry_of found.now) }
+{
+    let text = found.principal().to_text(alloc)?;
+    let mut bytes = Vec::from_slice(alloc, text.as_bytes())?;
+    let name = Span {
+        at: 0,
+        size: bytes.len(),
+    };
+    let key = append(&mut bytes, found.key())?;
+    let told = KeyEntry {
+        name,
+        key,
+        timestamp: found.timestamp(),
+        kvno: found.kvno(),
+        name_type: found.principal().name_type,
+        key_type: found.etype(),
+    };
+    Ok((bytes, told))
+}
+
+/// Tells the credential of an index, counted from 0, of a cache: in the buffer its client's and its service's text, its session key and its
+/// ticket, and in `credential` where they stand, and the numbers.
+#[unsafe(no_mangle)]
+pub extern "C" fn fevstunik_cache_credential(
+    alloc: Global,
+    cache: &[u8],
+    index: usize,
+    credential: &mut CacheEntry,
+    buffer: &mut [u8],
+) -> Answer
+    ensures { ListsCredential cache.now index credential.old credential.new buffer.old buffer.new result }
+{
+    match CCache::parse(alloc, cache) {
+        Ok(cache) => match cache.credentials().get(index) {
+            Some(found) => tell_credential(alloc, found, credential, buffer),
+            None => Answer::plain(code::NO_SUCH_ENTRY),
+        },
+        Err(fault) => cache_told(fault),
+    }
+}
+
+fn tell_credential(
+    alloc: Global,
+    found: &Credential,
+    credential: &mut CacheEntry,
+    buffer: &mut [u8],
+) -> Answer
+    ensures { TellsCredential found.now credential.old credential.new buffer.old buffer.new result }
+{
+    match credential_told(alloc, found) {
+        Ok((bytes, told)) => {
+            *credential = told;
+            hand_over(bytes.as_slice(), buffer)
+        }
+        Err(_) => Answer::plain(code::OUT_OF_MEMORY),
+    }
+}
+
+fn credential_told(alloc: Global, found: &Credential) -> Result<(Vec<u8>, CacheEntry), AllocError>
+    ensures bytes { IfOk result (λ made. made.0.items ≡ credential_bytes found.now) }
+    ensures told { IfOk result (λ made. made.1 ≡ credential_of found.now) }
+{
+    let text = found.client.to_text(alloc)?;
+    let mut bytes = Vec::from_slice(alloc, text.as_bytes())?;
+    let client = Span {
+        at: 0,
+        size: bytes.len(),
+    };
+    let text = found.server.to_text(alloc)?;
+    let server = append(&mut bytes, text.as_bytes())?;
+    let key = append(&mut bytes, found.key.as_slice())?;
+    let ticket = append(&mut bytes, found.ticket.as_slice())?;
+    let told = CacheEntry {
+        client,
+        server,
+        key,
+        ticket,
+        authtime: found.authtime,
+        starttime: found.starttime,
+        endtime: found.endtime,
+        renew_till: found.renew_till,
+        flags: found.ticket_flags,
+        client_type: found.client.name_type,
+        server_type: found.server.name_type,
+        key_type: found.etype,
+        is_skey: found.is_skey,
+    };
+    Ok((bytes, told))
+}
+
+/// Tells whose cache it is: in the buffer the default principal's text, and in `owner` the numbers, with the KDC's clock offset, if the
+/// cache has one.
+#[unsafe(no_mangle)]
+pub extern "C" fn fevstunik_cache_owner(
+    alloc: Global,
+    cache: &[u8],
+    owner: &mut Owner,
+    buffer: &mut [u8],
+) -> Answer
+    ensures { ListsOwner cache.now owner.old owner.new buffer.old buffer.new result }
+{
+    match CCache::parse(alloc, cache) {
+        Ok(cache) => tell_owner(alloc, &cache, owner, buffer),
+        Err(fault) => cache_told(fault),
+    }
+}
+
+fn tell_owner(alloc: Global, cache: &CCache, owner: &mut Owner, buffer: &mut [u8]) -> Answer
+    ensures { TellsOwner cache.now owner.old owner.new buffer.old buffer.new result }
+{
+    let text = match cache.default_principal().to_text(alloc) {
+        Ok(text) => text,
+        Err(_) => return Answer::plain(code::OUT_OF_MEMORY),
+    };
+    let offset = cache.kdc_offset();
+    *owner = Owner {
+        name: Span {
+            at: 0,
+            size: text.len(),
+        },
+        name_type: cache.default_principal().name_type,
+        offset_seconds: seconds(offset),
+        offset_micros: micros(offset),
+        has_offset: is_known(offset),
+    };
+    hand_over(text.as_bytes(), buffer)
+}
+
+fn seconds(offset: Option<(i32, i32)>) -> i32
+    ensures { result ≡ seconds_or_zero offset }
+{
+    match offset {
+        Some((seconds, _)) => seconds,
+        None => 0,
+    }
+}
+
+fn micros(offset: Option<(i32, i32)>) -> i32
+    ensures { result ≡ micros_or_zero offset }
+{
+    match offset {
+        Some((_, micros)) => micros,
+        None => 0,
+    }
+}
+
+fn is_known(offset: Option<(i32, i32)>) -> bool
+    ensures { result ≡ is_there offset }
+{
+    match offset {
+        Some(_) => true,
+        None => false,
+    }
+}

@@ -1,0 +1,258 @@
+/* Lets each allocation of each call fail in turn, and looks whether the call answers FEVSTUNIK_OUT_OF_MEMORY and nothing else, and leaves all
+ * as it was: then the same call is made with memory, and does what it does. The arguments are the files of the keytab and of the cache, and
+ * in hex the request with a subkey and the reply to it. It is linked with --wrap=malloc, --wrap=realloc and --wrap=free. Each line of output
+ * that begins with `wrong` is one. */
+#include <stdio.h>
+#include <stdlib.h>
+#include <string.h>
+
+#include "fevstunik.h"
+
+void *__real_malloc(size_t size);
+void *__real_realloc(void *at, size_t size);
+void __real_free(void *at);
+void *__wrap_malloc(size_t size);
+void *__wrap_realloc(void *at, size_t size);
+void __wrap_free(void *at);
+
+/* How many allocations are left before one fails; none fails where it is negative. How many pieces are held. */
+static long left = -1, held = 0;
+static int passed = 0, failed = 0;
+
+static int fails(void)
+{
+    return left >= 0 && left-- == 0;
+}
+
+void *__wrap_malloc(size_t size)
+{
+    void *at = fails() ? NULL : __real_malloc(size);
+
+    held += at != NULL;
+    return at;
+}
+
+void *__wrap_realloc(void *at, size_t size)
+{
+    void *new = fails() ? NULL : __real_realloc(at, size);
+
+    held += at == NULL && new != NULL;
+    return new;
+}
+
+void __wrap_free(void *at)
+{
+    held -= at != NULL;
+    __real_free(at);
+}
+
+struct bytes {
+    uint8_t at[4096];
+    size_t size;
+};
+
+static void from_hex(struct bytes *bytes, const char *text)
+{
+    unsigned byte;
+
+    bytes->size = 0;
+    for (; sscanf(text, "%2x", &byte) == 1; text += 2)
+        bytes->at[bytes->size++] = (uint8_t)byte;
+}
+
+static void from_file(struct bytes *bytes, const char *name)
+{
+    FILE *file = fopen(name, "rb");
+
+    if (file == NULL)
+        exit(2);
+    bytes->size = fread(bytes->at, 1, sizeof bytes->at, file);
+    fclose(file);
+}
+
+static struct bytes keytab, cache, request, reply;
+static uint8_t buffer[4096];
+static const fevstunik_choice plain = {0, 0, false, true}, keyed = {19, 128, true, true};
+static const fevstunik_time now = {1700000100, 5};
+static const uint8_t *const service_name = (const uint8_t *)"host/web@EX";
+static fevstunik_acceptor service;
+
+static fevstunik_answer making(void)
+{
+    return fevstunik_acceptor_new(&service, keytab.at, keytab.size, 300);
+}
+
+static fevstunik_answer accepting(void)
+{
+    return fevstunik_acceptor_accept(&service, request.at, request.size, &now);
+}
+
+static fevstunik_answer telling(void)
+{
+    fevstunik_known known;
+
+    return fevstunik_acceptor_accepted(&service, &known, buffer, sizeof buffer);
+}
+
+static fevstunik_answer replying(void)
+{
+    return fevstunik_acceptor_reply(&service, cache.at, 16, &keyed, cache.at, 16, buffer, sizeof buffer);
+}
+
+static fevstunik_answer refusing(void)
+{
+    return fevstunik_acceptor_error(&service, service_name, 11, 3, &now, buffer, sizeof buffer);
+}
+
+static fevstunik_answer asking(void)
+{
+    return fevstunik_request(cache.at, cache.size, service_name, 11, &now, cache.at, 16, &keyed, cache.at, 16, buffer, sizeof buffer);
+}
+
+static fevstunik_answer finishing(void)
+{
+    fevstunik_agreement agreement;
+
+    return fevstunik_finish(cache.at, cache.size, service_name, 11, &now, &plain, cache.at, 0, reply.at, reply.size, &agreement, buffer,
+                            sizeof buffer);
+}
+
+static fevstunik_answer sealing(void)
+{
+    return fevstunik_seal(19, cache.at, 16, 2, cache.at, 16, cache.at, 5, buffer, sizeof buffer);
+}
+
+static fevstunik_answer opening(void)
+{
+    static uint8_t text[37];
+
+    if (left < 0)
+        (void)fevstunik_seal(19, cache.at, 16, 2, cache.at, 16, cache.at, 5, text, sizeof text);
+    return fevstunik_open(19, cache.at, 16, 2, text, sizeof text, buffer, sizeof buffer);
+}
+
+static fevstunik_answer checking(void)
+{
+    return fevstunik_keytab_check(keytab.at, keytab.size);
+}
+
+static fevstunik_answer checking_cache(void)
+{
+    return fevstunik_cache_check(cache.at, cache.size);
+}
+
+static fevstunik_answer listing(void)
+{
+    fevstunik_key_entry entry;
+
+    return fevstunik_keytab_entry(keytab.at, keytab.size, 0, &entry, buffer, sizeof buffer);
+}
+
+static fevstunik_answer listing_cache(void)
+{
+    fevstunik_cache_entry entry;
+
+    return fevstunik_cache_credential(cache.at, cache.size, 0, &entry, buffer, sizeof buffer);
+}
+
+static fevstunik_answer owning(void)
+{
+    fevstunik_owner owner;
+
+    return fevstunik_cache_owner(cache.at, cache.size, &owner, buffer, sizeof buffer);
+}
+
+static fevstunik_answer adding(void)
+{
+    static const fevstunik_key_parts parts = {1700000000, 3, 3, 19};
+
+    return fevstunik_keytab_add(keytab.at, keytab.size, service_name, 11, cache.at, 16, &parts, buffer, sizeof buffer);
+}
+
+static fevstunik_answer removing(void)
+{
+    return fevstunik_keytab_remove(keytab.at, keytab.size, 0, buffer, sizeof buffer);
+}
+
+static fevstunik_answer writing(void)
+{
+    return fevstunik_keytab_write(keytab.at, keytab.size, buffer, sizeof buffer);
+}
+
+static fevstunik_answer naming(void)
+{
+    return fevstunik_name_check(service_name, 11);
+}
+
+static void is(const char *what, long at, long long found, long long wanted)
+{
+    if (found == wanted) {
+        passed++;
+        return;
+    }
+    failed++;
+    printf("wrong: %s, %ld: %lld, not %lld\n", what, at, found, wanted);
+}
+
+/* The Nth allocation fails, for each N until there is none; then the call ends well. */
+static void is_told(const char *what, fevstunik_answer (*call)(void))
+{
+    long at, before = held;
+    size_t count = fevstunik_acceptor_count(&service), i;
+    void *opaque = service.opaque;
+    fevstunik_answer answer;
+
+    for (at = 0; at < 1000; at++) {
+        memset(buffer, 0xa5, sizeof buffer);
+        left = at;
+        answer = call();
+        if (left >= 0)
+            break;
+        is(what, at, answer.code, FEVSTUNIK_OUT_OF_MEMORY);
+        is("size", at, (long long)answer.size, 0);
+        is("pieces held", at, held, before);
+        is("the handle", at, service.opaque == opaque, 1);
+        is("what is remembered", at, (long long)fevstunik_acceptor_count(&service), (long long)count);
+        for (i = 0; i < sizeof buffer && buffer[i] == 0xa5; i++)
+            ;
+        is("the buffer", at, (long long)i, sizeof buffer);
+    }
+    left = -1;
+    is("allocations", at, at > 0 && at < 1000, 1);
+    is(what, at, answer.code, FEVSTUNIK_OK);
+}
+
+int main(int count, char **words)
+{
+    if (count != 5)
+        return 2;
+    from_file(&keytab, words[1]);
+    from_file(&cache, words[2]);
+    from_hex(&request, words[3]);
+    from_hex(&reply, words[4]);
+    is_told("new", making);
+    is_told("accept", accepting);
+    is_told("accepted", telling);
+    is_told("reply", replying);
+    is("a repeat", 0, accepting().code, FEVSTUNIK_REPEAT);
+    is_told("error", refusing);
+    fevstunik_acceptor_free(&service);
+    is("freed", 0, held, 0);
+    is_told("request", asking);
+    is_told("finish", finishing);
+    is_told("seal", sealing);
+    (void)opening();
+    is_told("open", opening);
+    is_told("keytab check", checking);
+    is_told("cache check", checking_cache);
+    is_told("keytab entry", listing);
+    is_told("cache credential", listing_cache);
+    is_told("cache owner", owning);
+    is_told("keytab add", adding);
+    is_told("keytab remove", removing);
+    is_told("keytab write", writing);
+    is_told("name check", naming);
+    is("freed", 1, held, 0);
+    printf("%d passed, %d failed\n", passed, failed);
+    return failed != 0;
+}
