@@ -215,5 +215,5 @@ record_met from mid to old between new at size answer first is handed =
         given = omega (arith, first.moves.given, behind.moves.given, ap length first.meets.piece_is, length-append word behind.piece);
       };
       peaks = peaks_on size behind.piece old.peak between.peak new.peak (subst (λ (t : List ℕ). Peaks (λ part. length part ≤ 4) t old.peak between.peak) first.meets.piece_is first.peaks) behind.peaks;
-      meets = subst (λ (n : ℕ). Meets to n (word ++ behind.piece) answer) is behind.meets;
+      meets = subst (λ (n : ℕ). Meets to n (word ++ behind.piece) new.bytes answer) is behind.meets;
     }

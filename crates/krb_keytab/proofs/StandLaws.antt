@@ -1,5 +1,5 @@
 -- Where a reader stands after what it met.
-use Rattle.std.proofs.Common.{◌≡◌, ℕ, ◌-◌, ◌≤◌, List, [], ◌∷◌, ◌++◌, length, take, Option, Some, None, Result, Ok, Err, refl, sym, ap, subst, ◌∙◌, append_assoc, append-nil, arith, inl, inr}
+use Rattle.std.proofs.Common.{◌≡◌, ℕ, ◌-◌, ◌≤◌, Bool, true, false, List, [], ◌∷◌, ◌++◌, length, take, Option, Some, None, Result, Ok, Err, refl, sym, ap, subst, ◌∙◌, append_assoc, append-nil, arith, inl, inr}
 use Rattle.std.specs.List.{flat_map}
 use Rattle.std.specs.Io.KnownBytes.{Consumes}
 use Rattle.std.proofs.KnownBytes.{Consumes-nil, Consumes-trans}
@@ -9,8 +9,9 @@ use Rattle.std.proofs.lemmas.List.Elements.{All-push}
 use Rattle.krb_name.specs.Window.{AtHand}
 use Rattle.krb_keytab.specs.Entry.{KeytabEntry}
 use Rattle.krb_keytab.specs.Format.{version, file_limit, record_bytes, FitsRecord, entries_of, IsReached}
-use Rattle.krb_keytab.specs.Items.{LacksVersion, LacksRecord, Stops, StopsSo, IsTooLong, Concludes, AreFirst, StandsTo, IsPartOfRecord, HasMet, HasRead, EntriesRead, stage_after, entries_after, GivesMore}
-use Rattle.krb_keytab.specs.Inner.Meeting.{Moves, Peaks, RanOut, OpensAt, MeetsVersion, IsWhole, IsLastAt, IsLongAt, Meets, MeetsOne, PassesHoles, MeetsNext, MeetsFirst, IsWithin}
+use Rattle.krb_keytab.specs.Items.{LacksVersion, LacksRecord, Stops, StopsSo, IsTooLong, Concludes, AreFirst, StandsTo, IsPartOfRecord, HasMet, HasRead, EntriesRead, passed, stage_after, stage_passed, entries_after, GivesMore}
+use Rattle.krb_keytab.specs.Inner.Entry.{entry_at}
+use Rattle.krb_keytab.specs.Inner.Meeting.{Moves, Peaks, RanOut, OpensAt, MeetsVersion, IsWhole, IsLastAt, IsLongAt, MeetsLast, MeetsOne, PassesHoles, MeetsNext, MeetsPast, MeetsFirst, IsAtHand, IsWithin}
 use Rattle.krb_keytab.specs.declared.fault.KeytabFault.{KeytabFault}
 use Rattle.krb_keytab.specs.declared.fault.KeytabFault.TheVariants.{Version, Truncated, BadEntry, TooLong, NoSuchEntry, Read, OutOfMemory}
 use Rattle.krb_keytab.specs.declared.found.Found.{Found}
@@ -75,7 +76,7 @@ module _ (bytes : List ℕ) (entries : List KeytabEntry) (reached : IsReached by
   first : (piece : List ℕ) → AreFirst (bytes ++ piece) entries
   first piece = inr (length bytes, piece, reach_piece piece)
 
-  pub failed_stands : (left : Option (List ℕ)) (piece : List ℕ) (fault : KeytabFault) → length bytes ≤ file_limit → Meets left (length bytes) piece (Err fault) → StandsTo left (stage_after (Err fault)) (bytes ++ piece) entries
+  pub failed_stands : (left : Option (List ℕ)) (piece : List ℕ) (fault : KeytabFault) → length bytes ≤ file_limit → MeetsLast left (length bytes) piece (Some fault) → StandsTo left (stage_after (Err fault)) (bytes ++ piece) entries
   failed_stands left piece Version within m = absurd m.lacks
   failed_stands left piece (Truncated at) within m = concludes left piece (Some (Truncated at)) m
   failed_stands left piece (BadEntry at) within m = concludes left piece (Some (BadEntry at)) m
@@ -84,10 +85,10 @@ module _ (bytes : List ℕ) (entries : List KeytabEntry) (reached : IsReached by
   failed_stands left piece Read within m = first piece
   failed_stands left piece OutOfMemory within m = first piece
 
-  pub end_stands : (left : Option (List ℕ)) (piece : List ℕ) → Meets left (length bytes) piece (Ok End) → StandsTo left (stage_after (Ok None)) (bytes ++ piece) entries
+  pub end_stands : (left : Option (List ℕ)) (piece : List ℕ) → MeetsLast left (length bytes) piece None → StandsTo left (stage_after (Ok None)) (bytes ++ piece) entries
   end_stands left piece m = concludes left piece None m
 
-  pub entry_stands : (left : Option (List ℕ)) (piece : List ℕ) (e : KeytabEntry) → Meets left (length bytes) piece (Ok (Entry e)) → StandsTo left (stage_after (Ok (Some e))) (bytes ++ piece) (entries ++ e ∷ [])
+  pub entry_stands : (left : Option (List ℕ)) (piece : List ℕ) (e : KeytabEntry) → IsWhole (length bytes) piece (e ∷ []) → StandsTo left (stage_after (Ok (Some e))) (bytes ++ piece) (entries ++ e ∷ [])
   entry_stands left piece e m = (omega (arith, m.limit, length-append bytes piece), reach_whole piece (e ∷ []) m)
 
 -- ---- what is at hand
@@ -172,11 +173,11 @@ passes_hole from mid to old between new h m = record {
       (met_record (bytes ++ h.piece) m.piece entries between.peak new.peak (h.reaches bytes entries given reached) m.peaks (h.met bytes entries given reached was));
 }
 
-next_by : {S : Type 0} (from mid to : Option (List ℕ)) (old between new : AtHand S) (found : Result Found KeytabFault) (answer : Result (Option KeytabEntry) KeytabFault) → PassesHoles from mid old between → (m : MeetsOne mid to between new found)
+next_by : {S : Type 0} (from mid to : Option (List ℕ)) (old between new : AtHand S) (found : Result Found KeytabFault) (answer : Result (Option KeytabEntry) KeytabFault) (P : ℕ → Type 0) → PassesHoles from mid old between → (m : MeetsOne mid to between new found) → P between.given
     → IsWithin (stage_after answer) new.given → GivesMore answer old.given new.given
-    → ((some : List ℕ) (entries : List KeytabEntry) → IsReached some (length some) entries [] → length some ≤ file_limit → Meets to (length some) m.piece found → StandsTo to (stage_after answer) (some ++ m.piece) (entries_after entries answer))
+    → ((some : List ℕ) (entries : List KeytabEntry) → IsReached some (length some) entries [] → length some ≤ file_limit → P (length some) → StandsTo to (stage_after answer) (some ++ m.piece) (entries_after entries answer))
     → MeetsNext from to old new answer
-next_by from mid to old between new found answer h m within more ends = record {
+next_by from mid to old between new found answer P h m meets within more ends = record {
   piece = h.piece ++ m.piece;
   moves = moves_on from mid to old between new h.piece m.piece h.moves m.moves;
   low = λ l. m.peaks.low (h.low l);
@@ -186,22 +187,64 @@ next_by from mid to old between new found answer h m within more ends = record {
       let some : List ℕ = bytes ++ h.piece in
       let here = come from mid old between bytes h.piece h.moves given in
       subst (λ (t : List ℕ). StandsTo to (stage_after answer) t (entries_after entries answer)) (append_assoc bytes h.piece m.piece)
-      (ends some entries (h.reaches bytes entries given reached) (omega (arith, here, h.limit)) (subst (λ (n : ℕ). Meets to n m.piece found) here m.meets));
+      (ends some entries (h.reaches bytes entries given reached) (omega (arith, here, h.limit)) (subst P here meets));
   met = λ bytes entries given reached was.
       subst (λ (t : List ℕ). HasMet t new.peak) (append_assoc bytes h.piece m.piece)
       (met_record (bytes ++ h.piece) m.piece entries between.peak new.peak (h.reaches bytes entries given reached) m.peaks (h.met bytes entries given reached was));
 }
 
 pub next_end : {S : Type 0} (from mid to : Option (List ℕ)) (old between new : AtHand S) → PassesHoles from mid old between → MeetsOne mid to between new (Ok End) → MeetsNext from to old new (Ok None)
-next_end from mid to old between new h m = next_by from mid to old between new (Ok End) (Ok None) h m tt tt (λ some entries reached limit meets. end_stands some entries reached to m.piece meets)
+next_end from mid to old between new h m = next_by from mid to old between new (Ok End) (Ok None) (λ (n : ℕ). MeetsLast to n m.piece None) h m m.meets tt tt (λ some entries reached limit meets. end_stands some entries reached to m.piece meets)
 
-pub next_entry : {S : Type 0} (from mid to : Option (List ℕ)) (old between new : AtHand S) (e : KeytabEntry) → PassesHoles from mid old between → MeetsOne mid to between new (Ok (Entry e)) → MeetsNext from to old new (Ok (Some e))
-next_entry from mid to old between new e h m =
-    next_by from mid to old between new (Ok (Entry e)) (Ok (Some e)) h m (omega (arith, m.meets.limit, m.moves.given)) (omega (arith, m.moves.given, h.moves.given, ap length m.meets.piece_is, record_first m.meets.one), omega (arith, m.meets.limit, m.moves.given)) (λ some entries reached limit meets. entry_stands some entries reached to m.piece e meets)
+pub next_entry : {S : Type 0} (from mid to : Option (List ℕ)) (old between new : AtHand S) → PassesHoles from mid old between → (m : MeetsOne mid to between new (Ok Entry)) → MeetsNext from to old new (Ok (Some m.meets.0))
+next_entry from mid to old between new h m =
+    let e = m.meets.0 in
+    let whole : IsWhole between.given m.piece (e ∷ []) = m.meets.2 in
+    next_by from mid to old between new (Ok Entry) (Ok (Some e)) (λ (n : ℕ). IsWhole n m.piece (e ∷ [])) h m whole (omega (arith, whole.limit, m.moves.given))
+    (omega (arith, m.moves.given, h.moves.given, ap length whole.piece_is, record_first whole.one), omega (arith, whole.limit, m.moves.given)) (λ some entries reached limit meets. entry_stands some entries reached to m.piece e meets)
 
 pub next_fault : {S : Type 0} (from mid to : Option (List ℕ)) (old between new : AtHand S) (fault : KeytabFault) → PassesHoles from mid old between → MeetsOne mid to between new (Err fault) → MeetsNext from to old new (Err fault)
 next_fault from mid to old between new fault h m =
-    next_by from mid to old between new (Err fault) (Err fault) h m tt tt (λ some entries reached limit meets. failed_stands some entries reached to m.piece fault limit meets)
+    next_by from mid to old between new (Err fault) (Err fault) (λ (n : ℕ). MeetsLast to n m.piece (Some fault)) h m m.meets tt tt (λ some entries reached limit meets. failed_stands some entries reached to m.piece fault limit meets)
+
+-- ---- an answer that says of an entry only that it was there
+
+module _ {S : Type 0} (from to : Option (List ℕ)) (old new : AtHand S) where
+  pub past_entry : MeetsPast from to old new (Ok true) → (e : KeytabEntry) × (entry_at new.bytes ≡ Some e) × MeetsNext from to old new (Ok (Some e))
+  past_entry p = by_answer p.answer p.said_is p.at_hand p.meets
+    where
+      by_answer : (answer : Result (Option KeytabEntry) KeytabFault) → Ok true ≡ passed answer → IsAtHand answer new.bytes → MeetsNext from to old new answer → (e : KeytabEntry) × (entry_at new.bytes ≡ Some e) × MeetsNext from to old new (Ok (Some e))
+      by_answer (Ok (Some e)) same at_hand m = (e, at_hand, m)
+      by_answer (Ok None) same at_hand m = absurd cc
+      by_answer (Err fault) same at_hand m = absurd cc
+
+  pub past_end : MeetsPast from to old new (Ok false) → MeetsNext from to old new (Ok None)
+  past_end p = by_answer p.answer p.said_is p.meets
+    where
+      by_answer : (answer : Result (Option KeytabEntry) KeytabFault) → Ok false ≡ passed answer → MeetsNext from to old new answer → MeetsNext from to old new (Ok None)
+      by_answer (Ok (Some e)) same m = absurd cc
+      by_answer (Ok None) same m = m
+      by_answer (Err fault) same m = absurd cc
+
+  pub past_fault : (fault : KeytabFault) → MeetsPast from to old new (Err fault) → MeetsNext from to old new (Err fault)
+  past_fault fault p = by_answer p.answer p.said_is p.meets
+    where
+      by_answer : (answer : Result (Option KeytabEntry) KeytabFault) → Err fault ≡ passed answer → MeetsNext from to old new answer → MeetsNext from to old new (Err fault)
+      by_answer (Ok (Some e)) same m = absurd cc
+      by_answer (Ok None) same m = absurd cc
+      by_answer (Err other) same m = let one : other ≡ fault = cc in subst (λ (f : KeytabFault). MeetsNext from to old new (Err f)) one m
+
+  -- there was no room for the entry
+  pub not_made : (e : KeytabEntry) → MeetsNext from to old new (Ok (Some e)) → MeetsNext from to old new (Err OutOfMemory)
+  not_made e m = record {
+    piece = m.piece;
+    moves = m.moves;
+    low = m.low;
+    within = tt;
+    more = tt;
+    stands = λ bytes entries given limit reached. inr (length bytes, m.piece, reach_piece bytes entries reached m.piece);
+    met = m.met;
+  }
 
 -- ---- the first answer
 
@@ -284,3 +327,19 @@ read_next from to reader old new answer stage held given m bytes entries r =
 -- the same answer, and no byte more
 pub read_again : {S : Type 0} (left : Option (List ℕ)) (reader : EntriesRead S) (bytes : List ℕ) (entries : List KeytabEntry) → HasRead left reader bytes entries → (piece : List ℕ) × Consumes left left piece × HasRead left reader (bytes ++ piece) entries
 read_again left reader bytes entries r = ([], Consumes-nil left, subst (λ (t : List ℕ). HasRead left reader t entries) (sym (append-nil bytes)) r)
+
+-- what is answered says only whether there is an entry
+pub read_past : {S : Type 0} (from to : Option (List ℕ)) (reader : EntriesRead S) (new : AtHand S) (said : Result Bool KeytabFault) (answer : Result (Option KeytabEntry) KeytabFault) → said ≡ passed answer
+    → ((bytes : List ℕ) (entries : List KeytabEntry) → HasRead from reader bytes entries
+    → (piece : List ℕ) × Consumes from to piece × HasRead to (record { source = new.source; held = new.peak; given = new.given; stage = stage_after answer }) (bytes ++ piece) (entries_after entries answer))
+    → (bytes : List ℕ) (entries : List KeytabEntry) → HasRead from reader bytes entries
+    → (as_next : Result (Option KeytabEntry) KeytabFault) × (said ≡ passed as_next) × (piece : List ℕ) × Consumes from to piece
+    × HasRead to (record { source = new.source; held = new.peak; given = new.given; stage = stage_passed said }) (bytes ++ piece) (entries_after entries as_next)
+read_past from to reader new said answer is reads bytes entries r =
+    let next = reads bytes entries r in (
+      answer,
+      is,
+      next.0,
+      next.1,
+      subst (λ (t : Result Bool KeytabFault). HasRead to (record { source = new.source; held = new.peak; given = new.given; stage = stage_passed t }) (bytes ++ next.0) (entries_after entries answer)) (sym is) next.2,
+    )

@@ -1,5 +1,5 @@
 -- Entries that are read one at a time: what a source has given so far, the entries that were given of it, and where their reader stands.
-use Rattle.std.specs.Prelude.{◌≡◌, ◌≢◌, ◌⊎◌, ⊤, ℕ, ◌+◌, ◌<◌, ◌≤◌, pos, List, [], ◌∷◌, ◌++◌, length, take, Option, Some, None, Result, Ok, Err}
+use Rattle.std.specs.Prelude.{◌≡◌, ◌≢◌, ◌⊎◌, ⊤, ℕ, ◌+◌, ◌<◌, ◌≤◌, pos, Bool, true, false, List, [], ◌∷◌, ◌++◌, length, take, Option, Some, None, Result, Ok, Err}
 use Rattle.std.specs.Int.{w32}
 use Rattle.std.specs.Io.KnownBytes.{IsAtEnd}
 use Rattle.krb_name.specs.Cursor.{signed_bytes}
@@ -92,10 +92,19 @@ pub record HasRead {S : Type 0} (left : Option (List ℕ)) (reader : EntriesRead
 
 -- ---- one answer more
 
+-- an answer that says of an entry only that it was there
+abbrev pub passed : Result (Option KeytabEntry) KeytabFault → Result Bool KeytabFault
+passed (Ok (Some entry)) = Ok true
+passed (Ok None) = Ok false
+passed (Err fault) = Err fault
+
+abbrev pub stage_passed : Result Bool KeytabFault → Stage
+stage_passed (Ok true) = Records
+stage_passed (Ok false) = End
+stage_passed (Err fault) = Failed fault
+
 abbrev pub stage_after : Result (Option KeytabEntry) KeytabFault → Stage
-stage_after (Ok (Some entry)) = Records
-stage_after (Ok None) = End
-stage_after (Err fault) = Failed fault
+stage_after answer = stage_passed (passed answer)
 
 abbrev pub entries_after : List KeytabEntry → Result (Option KeytabEntry) KeytabFault → List KeytabEntry
 entries_after entries (Ok (Some entry)) = entries ++ entry ∷ []

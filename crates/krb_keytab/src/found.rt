@@ -1,7 +1,5 @@
 //! What a reader meets where a record may begin.
 
-use crate::entry::Entry;
-
 /// What stands at a place where a record may begin.
 #[derive(Drop)]
 pub(crate) enum Found {
@@ -9,6 +7,6 @@ pub(crate) enum Found {
     End,
     /// A hole.
     Hole,
-    /// An entry.
-    Entry(Entry),
+    /// An entry, whose bytes behind the size of its record are at hand.
+    Entry,
 }

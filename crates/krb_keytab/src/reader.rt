@@ -1,17 +1,17 @@
 //! Entries, one at a time.
 
-ghost use Rattle.std.specs.Prelude.{◌≡◌, ◌+◌, ◌-◌, ◌^◌, ◌<◌, ◌≤◌, ℕ, List, [], ◌++◌, None, IfSome, if◌then◌else◌, is_some};
+ghost use Rattle.std.specs.Prelude.{◌≡◌, ◌+◌, ◌-◌, ◌^◌, ◌<◌, ◌≤◌, ℕ, true, List, [], ◌++◌, Option, None, Result, Ok, IfSome, if◌then◌else◌, is_some};
 ghost use Rattle.std.specs.Io.KnownBytes.{Consumes};
 ghost use Rattle.krb_keytab.specs.Entry.{KeytabEntry};
 ghost use Rattle.krb_keytab.specs.Fault.{failed_reads};
 ghost use Rattle.krb_keytab.specs.Format.{file_limit};
-ghost use Rattle.krb_keytab.specs.Items.{HasRead, stage_after, entries_after, last_answer, GivesMore};
+ghost use Rattle.krb_keytab.specs.Items.{HasRead, passed, stage_after, stage_passed, entries_after, last_answer, GivesMore};
 ghost use Rattle.krb_keytab.specs.Inner.Meeting.{MeetsFirst};
 
 use crate::entry::Entry;
 use crate::fault::KeytabFault;
 use crate::stage::Stage;
-use crate::step::{read_entry, read_version};
+use crate::step::{pass_entry, read_entry, read_version};
 use krb_name::{Source, Window};
 use std::alloc::Global;
 use std::marker::Model;
@@ -139,6 +139,49 @@ impl<S: Source> EntryReader<S> {
         self.stage = Stage::after(&answer);
         answer
     }
+
+    /// Reads on to the next entry as `next` does, and answers whether there is one; the entry isn't
+    /// made, and no memory is taken but for the bytes of its record.
+    ///
+    /// Behind an entry, at the end and at a fault the reader stands as after `next`, and the two calls
+    /// can be mixed.
+    ///
+    /// Condition: fewer than 18,446,744,073,709,551,615 reads of the source have failed so far.
+    ///
+    /// # Errors
+    /// Those of `next`; `OutOfMemory` only where there was no room for a record.
+    ///
+    /// Source: MIT krb5, "Keytab file format".
+    pub fn pass(&mut self) -> Result<bool, KeytabFault>
+        requires { S.failure_count self.old.source < 2 ^ 64 - 1 }
+
+        // It is as if `next` had answered, and only whether there is an entry is said of it.
+        ensures reads { (bytes : List ℕ) (entries : List KeytabEntry)
+            → HasRead (S.remaining self.old.source) self.old bytes entries
+            → (answer : Result (Option KeytabEntry) KeytabFault) × (result ≡ passed answer)
+            × (piece : List ℕ) × Consumes (S.remaining self.old.source) (S.remaining self.new.source) piece
+            × HasRead (S.remaining self.new.source) self.new (bytes ++ piece) (entries_after entries answer) }
+        ensures stage { self.new.stage ≡ stage_passed result }
+
+        ensures more { result ≡ Ok true
+            → (self.old.given < self.new.given) × (self.new.given ≤ file_limit) }
+
+        // What was answered last is answered again, and nothing is read.
+        ensures again { IfSome (last_answer self.old.stage) (λ answer.
+            (result ≡ passed answer) × (self.new ≡ self.old)) }
+        ensures failed { S.failure_count self.new.source ≡ S.failure_count self.old.source
+            + (if is_some (last_answer self.old.stage) then 0 else failed_reads result) }
+        ensures lent { S.lender self.new.source ≡ S.lender self.old.source }
+    {
+        let answer = match self.stage {
+            Stage::End => return Ok(false),
+            Stage::Failed(fault) => return Err(fault),
+            Stage::Start => pass_first(&mut self.window),
+            Stage::Records => pass_entry(&mut self.window),
+        };
+        self.stage = Stage::after_pass(&answer);
+        answer
+    }
 }
 
 // Reads the version, and then on to the first entry.
@@ -156,4 +199,19 @@ fn read_first<S: Source>(
 {
     read_version(window)?;
     read_entry(alloc, window)
+}
+
+// Reads the version, and then on to the first entry, of which it answers only whether there is one.
+fn pass_first<S: Source>(window: &mut Window<S>) -> Result<bool, KeytabFault>
+    requires reads { S.failure_count window.old.source < 2 ^ 64 - 1 }
+    requires start { window.old.given ≡ 0 }
+    ensures meets { (answer : Result (Option KeytabEntry) KeytabFault) × (result ≡ passed answer)
+        × MeetsFirst (S.remaining window.old.source) (S.remaining window.new.source)
+        window.old window.new answer }
+    ensures failed { S.failure_count window.new.source
+        ≡ S.failure_count window.old.source + failed_reads result }
+    ensures lent { S.lender window.new.source ≡ S.lender window.old.source }
+{
+    read_version(window)?;
+    pass_entry(window)
 }

@@ -19,7 +19,7 @@ pub(crate) enum Stage {
 }
 
 impl Stage {
-    ghost use Rattle.krb_keytab.specs.Items.{stage_after};
+    ghost use Rattle.krb_keytab.specs.Items.{stage_after, stage_passed};
 
     /// Where a reader stands once it has given this answer.
     pub(crate) fn after(answer: &Result<Option<Entry>, KeytabFault>) -> Stage
@@ -28,6 +28,17 @@ impl Stage {
         match answer {
             Ok(Some(_)) => Stage::Records,
             Ok(None) => Stage::End,
+            Err(fault) => Stage::Failed(*fault),
+        }
+    }
+
+    /// Where a reader stands once it has answered so whether it passed an entry.
+    pub(crate) fn after_pass(answer: &Result<bool, KeytabFault>) -> Stage
+        ensures { result ≡ stage_passed answer.now }
+    {
+        match answer {
+            Ok(true) => Stage::Records,
+            Ok(false) => Stage::End,
             Err(fault) => Stage::Failed(*fault),
         }
     }

@@ -1,14 +1,15 @@
 //! Reading a keytab record by record, with one record at hand.
 
-ghost use Rattle.std.specs.Prelude.{◌≡◌, ◌+◌, ◌-◌, ◌^◌, ◌<◌, ◌≤◌, pos, int_lt, true, false, FitsSigned, unsigned_abs, length, IfOk, IfErr, OnErr};
+ghost use Rattle.std.specs.Prelude.{◌≡◌, ◌+◌, ◌-◌, ◌^◌, ◌<◌, ◌≤◌, pos, int_lt, true, false, FitsSigned, unsigned_abs, length, IfOk, IfErr, OnOk, OnErr, None, Some};
 ghost use Rattle.std.specs.Int.{w32};
 ghost use Rattle.krb_name.specs.Cursor.{signed_bytes};
 ghost use Rattle.krb_name.specs.Field.{IsBytes};
+ghost use Rattle.krb_keytab.specs.Entry.{KeytabEntry};
 ghost use Rattle.krb_keytab.specs.Inner.Entry.{entry_at};
 ghost use Rattle.krb_keytab.specs.Items.{LacksVersion};
 ghost use Rattle.krb_keytab.specs.Fault.{failed_reads};
 ghost use Rattle.krb_keytab.specs.Format.{file_limit, version};
-ghost use Rattle.krb_keytab.specs.Inner.Meeting.{MeetsOne, MeetsSizeAt, MeetsNext, OpensAt, RunsOutTo, MeetsBody, IsFewAt, IsFound, IsFaulty};
+ghost use Rattle.krb_keytab.specs.Inner.Meeting.{MeetsOne, MeetsSizeAt, MeetsNext, MeetsPast, OpensAt, RunsOutTo, MeetsBody, IsFewAt, IsFound, IsFaulty};
 
 use crate::entry::Entry;
 use crate::fault::KeytabFault;
@@ -80,16 +81,34 @@ pub(crate) fn read_entry<S: Source>(
         ≡ S.failure_count window.old.source + failed_reads result }
     ensures lent { S.lender window.new.source ≡ S.lender window.old.source }
 {
+    if pass_entry(window)? {
+        Ok(entry_of(alloc, window.bytes())?)
+    } else {
+        Ok(None)
+    }
+}
+
+/// Reads records up to the next entry, and answers whether there is one, whose bytes are then at hand
+/// behind the size of its record; there is none, where the records have ended.
+pub(crate) fn pass_entry<S: Source>(window: &mut Window<S>) -> Result<bool, KeytabFault>
+    requires reads { S.failure_count window.old.source < 2 ^ 64 - 1 }
+    requires limit { window.old.given ≤ file_limit }
+    ensures meets { MeetsPast (S.remaining window.old.source) (S.remaining window.new.source)
+        window.old window.new result }
+    ensures failed { S.failure_count window.new.source
+        ≡ S.failure_count window.old.source + failed_reads result }
+    ensures lent { S.lender window.new.source ≡ S.lender window.old.source }
+{
     loop {
-        match read_record(alloc, window)? {
-            Found::End => return Ok(None),
+        match read_record(window)? {
+            Found::End => return Ok(false),
             Found::Hole => {}
-            Found::Entry(entry) => return Ok(Some(entry)),
+            Found::Entry => return Ok(true),
         }
     }
 }
 
-fn read_record<S: Source>(alloc: Global, window: &mut Window<S>) -> Result<Found, KeytabFault>
+fn read_record<S: Source>(window: &mut Window<S>) -> Result<Found, KeytabFault>
     requires reads { S.failure_count window.old.source < 2 ^ 64 - 1 }
     requires limit { window.old.given ≤ file_limit }
     ensures meets { MeetsOne (S.remaining window.old.source) (S.remaining window.new.source)
@@ -102,7 +121,7 @@ fn read_record<S: Source>(alloc: Global, window: &mut Window<S>) -> Result<Found
     match read_size(window)? {
         None => Ok(Found::End),
         Some(size) if size < 0 => pass_hole(window, at, size),
-        Some(size) => read_body(alloc, window, at, size),
+        Some(size) => read_body(window, at, size),
     }
 }
 
@@ -185,13 +204,8 @@ fn pass_hole<S: Source>(window: &mut Window<S>, at: usize, size: i32) -> Result<
     Ok(Found::Hole)
 }
 
-// Reads the bytes of an entry, behind their size, and the entry in them.
-fn read_body<S: Source>(
-    alloc: Global,
-    window: &mut Window<S>,
-    at: usize,
-    size: i32,
-) -> Result<Found, KeytabFault>
+// Reads the bytes of an entry, behind their size.
+fn read_body<S: Source>(window: &mut Window<S>, at: usize, size: i32) -> Result<Found, KeytabFault>
     requires reads { S.failure_count window.old.source < 2 ^ 64 - 1 }
     requires limit { window.old.given ≤ file_limit }
     requires at { window.old.given ≡ at + 4 }
@@ -212,16 +226,25 @@ fn read_body<S: Source>(
     if !window.fill(count)? {
         return Err(KeytabFault::Truncated { at });
     }
-    match entry_of(alloc, window.bytes())? {
-        Some(entry) => Ok(Found::Entry(entry)),
-        None => conclude(window, Err(KeytabFault::BadEntry { at })),
+    match has_entry(window.bytes()) {
+        Ok(()) => Ok(Found::Entry),
+        Err(Short) => conclude(window, Err(KeytabFault::BadEntry { at })),
     }
+}
+
+// Whether an entry is at the front of the bytes of a record.
+fn has_entry(body: &[u8]) -> Result<(), Short>
+    ensures bytes { IsBytes body.now }
+    ensures found { OnOk result ((entry : KeytabEntry) × (entry_at body.now ≡ Some entry)) }
+    ensures short { OnErr result (entry_at body.now ≡ None) }
+{
+    EntryView::read(body)?;
+    Ok(())
 }
 
 // The entry at the front of the bytes of a record.
 fn entry_of(alloc: Global, body: &[u8]) -> Result<Option<Entry>, AllocError>
-    ensures bytes { IsBytes body.now }
-    ensures read { IfOk result (λ entry. entry_at body.now ≡ entry) }
+    ensures { IfOk result (λ entry. entry_at body.now ≡ entry) }
 {
     match EntryView::read(body) {
         Ok(view) => Ok(Some(view.to_entry(alloc)?)),

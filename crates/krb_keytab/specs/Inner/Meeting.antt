@@ -1,13 +1,14 @@
 -- What a reader meets where whole records end, of the bytes that its source gives from there on.
-use Rattle.std.specs.Prelude.{◌≡◌, ◌≢◌, ◌⊎◌, ℕ, ◌+◌, ◌-◌, ◌<◌, ◌≤◌, ℤ, pos, negsuc, max, List, [], ◌∷◌, ◌++◌, length, take, Option, Some, None, Result, Ok, Err, ⊤, FitsSigned, unsigned_abs}
+use Rattle.std.specs.Prelude.{◌≡◌, ◌≢◌, ◌⊎◌, ℕ, ◌+◌, ◌-◌, ◌<◌, ◌≤◌, ℤ, pos, negsuc, max, Bool, List, [], ◌∷◌, ◌++◌, length, take, Option, Some, None, Result, Ok, Err, ⊤, FitsSigned, unsigned_abs}
 use Rattle.std.specs.Int.{w32}
 use Rattle.std.specs.Io.KnownBytes.{Consumes, IsAtEnd}
 use Rattle.krb_name.specs.Cursor.{signed_bytes}
 use Rattle.krb_name.specs.Window.{AtHand}
 use Rattle.krb_keytab.specs.Entry.{KeytabEntry}
 use Rattle.krb_keytab.specs.Format.{version, file_limit, KeytabRecord, record_bytes, FitsRecord, entries_of, IsReached, IsKeytab, IsFaultOf}
+use Rattle.krb_keytab.specs.Inner.Entry.{entry_at}
 use Rattle.krb_keytab.specs.Source.{IsGiven}
-use Rattle.krb_keytab.specs.Items.{LacksRecord, LacksVersion, IsPartOfRecord, HasMet, StandsTo, stage_after, entries_after, GivesMore}
+use Rattle.krb_keytab.specs.Items.{LacksRecord, LacksVersion, IsPartOfRecord, HasMet, StandsTo, passed, stage_after, entries_after, GivesMore}
 use Rattle.krb_keytab.specs.declared.fault.KeytabFault.{KeytabFault}
 use Rattle.krb_keytab.specs.declared.fault.KeytabFault.TheVariants.{Version, Truncated, TooLong, Read, OutOfMemory}
 use Rattle.krb_keytab.specs.declared.found.Found.{Found}
@@ -89,17 +90,18 @@ MeetsLast left at piece (Some Read) = ⊤
 MeetsLast left at piece (Some OutOfMemory) = ⊤
 MeetsLast left at piece last = IsLastAt left at piece last
 
-abbrev pub Meets : Option (List ℕ) → ℕ → List ℕ → Result Found KeytabFault → Type 0
-Meets left at piece (Ok End) = MeetsLast left at piece None
-Meets left at piece (Ok Hole) = IsWhole at piece []
-Meets left at piece (Ok (Entry e)) = IsWhole at piece (e ∷ [])
-Meets left at piece (Err fault) = MeetsLast left at piece (Some fault)
+-- a record that begins there; the bytes of an entry, behind its size, are at hand
+abbrev pub Meets : Option (List ℕ) → ℕ → List ℕ → List ℕ → Result Found KeytabFault → Type 0
+Meets left at piece at_hand (Ok End) = MeetsLast left at piece None
+Meets left at piece at_hand (Ok Hole) = IsWhole at piece []
+Meets left at piece at_hand (Ok Entry) = (e : KeytabEntry) × (entry_at at_hand ≡ Some e) × IsWhole at piece (e ∷ [])
+Meets left at piece at_hand (Err fault) = MeetsLast left at piece (Some fault)
 
 pub record MeetsOne {S : Type 0} (from to : Option (List ℕ)) (old new : AtHand S) (answer : Result Found KeytabFault) : Type 0 where
   pub piece : List ℕ
   pub moves : Moves from to old new piece
   pub peaks : Peaks IsPartOfRecord piece old.peak new.peak
-  pub meets : Meets to old.given piece answer
+  pub meets : Meets to old.given piece new.bytes answer
 
 -- ---- its size
 
@@ -137,7 +139,7 @@ pub record MeetsBody {S : Type 0} (from to : Option (List ℕ)) (old new : AtHan
   pub piece : List ℕ
   pub moves : Moves from to old new piece
   pub peaks : Peaks (λ part. length part ≤ kept_of size) piece old.peak new.peak
-  pub meets : Meets to at (signed_bytes w32 size ++ piece) answer
+  pub meets : Meets to at (signed_bytes w32 size ++ piece) new.bytes answer
 
 -- ---- records up to an entry
 
@@ -157,6 +159,19 @@ pub record MeetsNext {S : Type 0} (from to : Option (List ℕ)) (old new : AtHan
   pub more : GivesMore answer old.given new.given
   pub stands : (bytes : List ℕ) (entries : List KeytabEntry) → old.given ≡ length bytes → length bytes ≤ file_limit → IsReached bytes (length bytes) entries [] → StandsTo to (stage_after answer) (bytes ++ piece) (entries_after entries answer)
   pub met : (bytes : List ℕ) (entries : List KeytabEntry) → old.given ≡ length bytes → IsReached bytes (length bytes) entries [] → HasMet bytes old.peak → HasMet (bytes ++ piece) new.peak
+
+-- the bytes of the entry in an answer are at hand
+abbrev pub IsAtHand : Result (Option KeytabEntry) KeytabFault → List ℕ → Type 0
+IsAtHand (Ok (Some e)) at_hand = entry_at at_hand ≡ Some e
+IsAtHand (Ok None) at_hand = ⊤
+IsAtHand (Err fault) at_hand = ⊤
+
+-- it was only said whether there is an entry
+pub record MeetsPast {S : Type 0} (from to : Option (List ℕ)) (old new : AtHand S) (said : Result Bool KeytabFault) : Type 0 where
+  pub answer : Result (Option KeytabEntry) KeytabFault
+  pub said_is : said ≡ passed answer
+  pub at_hand : IsAtHand answer new.bytes
+  pub meets : MeetsNext from to old new answer
 
 -- ---- the version and records up to an entry
 

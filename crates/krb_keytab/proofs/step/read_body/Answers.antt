@@ -20,30 +20,35 @@ returns-then-count-given-clause-meets g c =
       piece = ran_out.piece;
       moves = ran_out.moves;
       peaks = peaks_kept _ ran_out.piece _ _ (omega arith) ran_out.peak;
-      meets = ran (Meets _ at (word ++ ran_out.piece)) (Err (Truncated at)) c.conclude.result _ at _ word ran_out.piece (Some (Truncated at)) ran_out.ran
+      meets = ran (Meets _ at (word ++ ran_out.piece) _) (Err (Truncated at)) c.conclude.result _ at _ word ran_out.piece (Some (Truncated at)) ran_out.ran
           (omega (arith, c.requires.at, c.requires.limit)) (omega (arith, ran_out.moves.given, c.requires.at, length-append word ran_out.piece))
           (λ more within. cut_off at c.args.size more c.requires.fits (omega (arith, within, length-append word more, c.if-count-given.true, c.given.ensures, c.requires.at, count)))
           (λ h. h) (λ h. h) tt;
     }
 
-pub returns-in-Some-clause-meets : goal.returns-in-Some-clause-meets
-returns-in-Some-clause-meets g c =
+pub returns-in-Ok-clause-meets : goal.returns-in-Ok-clause-meets
+returns-in-Ok-clause-meets g c =
     let fills = rw c.clear.ensures at c.in_ok-fill.ensures.fills in
     let count = count_is c.args.size _ c.requires.fits c.unsigned_abs-count.ensures.value in
     let came = rw c.if-not-branch.false at fills.came in
     let body_is = c.bytes.ensures ∙ fills.keeps.bytes in
     let word = signed_bytes w32 c.args.size in
     let room = c.if-count-given.false in
+    let found = c.in-Ok.ensures.found in
     record {
       piece = fills.piece;
       moves = record { consumed = fills.keeps.consumed; given = fills.keeps.given };
       peaks = peaks_at _ fills.piece fills.piece [] _ _ c.fill.new.self.bytes (sym (append-nil fills.piece)) (omega (arith, came, count, kept_is c.args.size c.requires.entry)) fills.keeps.bytes (omega (arith, came, room)) fills.keeps.peak;
-      meets = entry_whole c.args.at c.args.size fills.piece c.in-Some.entry c.requires.fits c.requires.entry (subst IsBytes body_is c.entry_of.ensures.bytes) (came ∙ count) (ap entry_at (sym body_is) ∙ c.in_ok-entry.ensures.read ∙ c.in-Some.is)
-          (omega (arith, came, length-append word fills.piece, room, c.given.ensures, c.requires.at, c.requires.limit));
+      meets = (
+        found.0,
+        ap entry_at (sym c.bytes.ensures) ∙ found.1,
+        entry_whole c.args.at c.args.size fills.piece found.0 c.requires.fits c.requires.entry (subst IsBytes body_is c.has_entry.ensures.bytes) (came ∙ count) (ap entry_at (sym body_is) ∙ found.1)
+            (omega (arith, came, length-append word fills.piece, room, c.given.ensures, c.requires.at, c.requires.limit)),
+      );
     }
 
-pub returns-in-None-clause-meets : goal.returns-in-None-clause-meets
-returns-in-None-clause-meets g c =
+pub returns-in-Err-clause-meets : goal.returns-in-Err-clause-meets
+returns-in-Err-clause-meets g c =
     let fills = rw c.clear.ensures at c.in_ok-fill.ensures.fills in
     let count = count_is c.args.size _ c.requires.fits c.unsigned_abs-count.ensures.value in
     let came = rw c.if-not-branch.false at fills.came in
@@ -51,11 +56,11 @@ returns-in-None-clause-meets g c =
     let word = signed_bytes w32 c.args.size in
     let room = c.if-count-given.false in
     let at = c.args.at in
-    let ran_out = c.conclude-in-None.ensures.runs_out in
-    let read = ap entry_at (sym body_is) ∙ c.in_ok-entry.ensures.read ∙ c.in-None.is in
+    let ran_out = c.conclude-in-Err.ensures.runs_out in
+    let read = ap entry_at (sym body_is) ∙ c.in-Err.ensures.short in
     let first : List ℕ = word ++ fills.piece in
     let size : length first ≡ 4 + length fills.piece = length-append word fills.piece in
-    let left = g.S.Source.remaining c.conclude-in-None.new.window.source in
+    let left = g.S.Source.remaining c.conclude-in-Err.new.window.source in
     record {
       piece = fills.piece ++ ran_out.piece;
       moves = record {
@@ -63,8 +68,8 @@ returns-in-None-clause-meets g c =
         given = omega (arith, fills.keeps.given, ran_out.moves.given, length-append fills.piece ran_out.piece);
       };
       peaks = peaks_at _ (fills.piece ++ ran_out.piece) fills.piece ran_out.piece _ _ c.fill.new.self.bytes refl (omega (arith, came, count, kept_is c.args.size c.requires.entry)) fills.keeps.bytes (omega (arith, came, room)) (ran_out.peak ∙ fills.keeps.peak);
-      meets = subst (λ (t : List ℕ). Meets left at t c.conclude-in-None.result) (append_assoc word fills.piece ran_out.piece)
-          (ran (Meets left at (first ++ ran_out.piece)) (Err (BadEntry at)) c.conclude-in-None.result _ at _ first ran_out.piece (Some (BadEntry at)) ran_out.ran
+      meets = subst (λ (t : List ℕ). Meets left at t c.conclude-in-Err.new.window.bytes c.conclude-in-Err.result) (append_assoc word fills.piece ran_out.piece)
+          (ran (Meets left at (first ++ ran_out.piece) c.conclude-in-Err.new.window.bytes) (Err (BadEntry at)) c.conclude-in-Err.result _ at _ first ran_out.piece (Some (BadEntry at)) ran_out.ran
           (omega (arith, size, came, room, c.given.ensures, c.requires.at, c.requires.limit)) (omega (arith, ran_out.moves.given, fills.keeps.given, c.requires.at, size, length-append first ran_out.piece))
           (λ more within. no_entry at c.args.size fills.piece more c.requires.fits c.requires.entry c.requires.some (came ∙ count) read)
           (λ h. h) (λ h. h) tt);
