@@ -1,5 +1,5 @@
 -- What a reader has taken of a file, step by step.
-use Rattle.std.proofs.Common.{◌≡◌, ℕ, ◌+◌, ◌-◌, ◌≤◌, take, drop, ap₂, List, [], ◌∷◌, ◌++◌, length, Option, Some, None, Result, Ok, Err, refl, sym, ap, subst, ◌∙◌, append_assoc, append-nil, arith, inl, inr}
+use Rattle.std.proofs.Common.{◌≡◌, ℕ, ◌+◌, ◌-◌, ◌≤◌, Bool, true, false, take, drop, ap₂, List, [], ◌∷◌, ◌++◌, length, Option, Some, None, Result, Ok, Err, refl, sym, ap, subst, ◌∙◌, append_assoc, append-nil, arith, inl, inr}
 use Rattle.std.specs.Prelude.{◌≢◌, IfOk, IfErr, IfSome}
 use Rattle.std.specs.List.{flat_map}
 use Rattle.std.specs.Io.KnownBytes.{Consumes, IsAtEnd}
@@ -15,7 +15,7 @@ use Rattle.krb_ccache.specs.Spelling.{header_bytes, name_bytes, credential_bytes
 use Rattle.krb_ccache.specs.Value.{Cache, cache_of, FitsHeader, FitsName, FitsCredential, Fits}
 use Rattle.krb_ccache.specs.Format.{version, file_limit, start_bytes, written, Layout, version_4, version_of, IsReached, IsCache, IsFaultOf}
 use Rattle.krb_ccache.specs.Source.{IsGiven}
-use Rattle.krb_ccache.specs.Reader.{Reading, ended_by, HasTaken, HasRead, GaveOne, GoesTo, with_credential}
+use Rattle.krb_ccache.specs.Reader.{Reading, ended_by, ended_passed, passed, HasTaken, HasRead, GaveOne, PassedOne, GoesTo, with_credential}
 use Rattle.krb_ccache.specs.declared.fault.CacheFault.{CacheFault}
 use Rattle.krb_ccache.specs.declared.fault.CacheFault.TheVariants.{Version, Header, BadItem, TooLong, Read, OutOfMemory}
 use Rattle.krb_ccache.specs.Inner.Version4.{IsFaultOf4}
@@ -263,6 +263,33 @@ module _ {S : Type 0} (left : S → Option (List ℕ)) where
   next_more old new (Ok (Some credential)) step = record { given = step.given; some = omega (arith, step.given, credential_some credential); limit = step.within }
   next_more old new (Ok None) step = tt
   next_more old new (Err fault) step = tt
+
+  -- of a credential it is only said that it was there
+  pub passed_end : (answer : Result (Option Credential) CacheFault) (said : Result Bool CacheFault) → said ≡ passed answer → said ≡ Ok false → answer ≡ Ok None
+  passed_end (Ok (Some credential)) said is end = absurd cc
+  passed_end (Ok None) said is end = refl
+  passed_end (Err fault) said is end = absurd cc
+
+  pub passed_err : (answer : Result (Option Credential) CacheFault) (said : Result Bool CacheFault) (P : CacheFault → Type 0) → said ≡ passed answer → IfErr answer P → IfErr said P
+  passed_err (Ok (Some credential)) said P is h = subst (λ (s : Result Bool CacheFault). IfErr s P) (sym is) tt
+  passed_err (Ok None) said P is h = subst (λ (s : Result Bool CacheFault). IfErr s P) (sym is) tt
+  passed_err (Err fault) said P is h = subst (λ (s : Result Bool CacheFault). IfErr s P) (sym is) h
+
+  pub passed_one : (was now : Reading S) (old new : AtHand S) (answer : Result (Option Credential) CacheFault) (said : Result Bool CacheFault) → IsStep left old new answer → said ≡ passed answer → said ≡ Ok true
+      → was.source ≡ old.source → was.given ≡ old.given → was.held ≡ old.peak → now.source ≡ new.source → now.given ≡ new.given → now.held ≡ new.peak → now.ended ≡ ended_passed said
+      → (credential : Credential) × PassedOne left was now credential
+  passed_one was now old new (Ok None) said step is there s g h source given held ended = absurd cc
+  passed_one was now old new (Err fault) said step is there s g h source given held ended = absurd cc
+  passed_one was now old new (Ok (Some credential)) said step is there s g h source given held ended = (
+    credential,
+    record {
+      gave = record { given = omega (arith, step.given, g, given); some = omega (arith, step.given, credential_some credential, g, given); limit = omega (arith, step.within, given) };
+      held = omega (arith, step.peak, h, held);
+      read = λ from cache read.
+          let taken = subst (λ (n : ℕ). HasTaken from (left old.source) n cache) g (subst (λ (t : S). HasTaken from (left t) was.given cache) s read.taken) in
+          next_item from old new now cache (Ok (Some credential)) step taken source given (ended ∙ ap ended_passed is);
+    },
+  )
 
   pub next_end : (from : Option (List ℕ)) (old new : AtHand S) (cache : Cache) (result : Result (Option Credential) CacheFault) → IsStep left old new result → HasTaken from (left old.source) old.given cache → result ≡ Ok None
       → (bytes : List ℕ) × IsGiven from (left new.source) bytes × IsCache bytes cache

@@ -1,5 +1,5 @@
 -- What one step of a reader takes of its source.
-use Rattle.std.proofs.Common.{◌≡◌, ℕ, ◌+◌, ◌≤◌, List, [], ◌++◌, length, Option, Some, None, refl, sym, ap, subst, ◌∙◌, append_assoc, append-nil, arith, inl, inr}
+use Rattle.std.proofs.Common.{◌≡◌, ℕ, ◌+◌, ◌≤◌, List, [], ◌++◌, length, Option, Some, None, Ok, Err, refl, sym, ap, subst, ◌∙◌, append_assoc, append-nil, arith, inl, inr}
 use Rattle.std.specs.Io.KnownBytes.{Consumes}
 use Rattle.std.proofs.KnownBytes.{Consumes-trans}
 use Rattle.std.proofs.lemmas.List.{length-append, nil_from_length}
@@ -16,7 +16,10 @@ use Rattle.krb_ccache.specs.Value.{FitsCredential}
 use Rattle.krb_ccache.specs.declared.credential.Credential.{Credential}
 use Rattle.krb_ccache.specs.Inner.Standing.{IsMissing}
 use Rattle.krb_ccache.specs.Inner.Walking.{Walks, Halts, FitsMarked, whole}
-use Rattle.krb_ccache.specs.Inner.Stepping.{item_stop, Stands, cleared, Comes, Gives, Runs, IsTold, Lacks, Misses}
+use Rattle.krb_ccache.specs.Inner.Stepping.{item_stop, Stands, cleared, Comes, Gives, Runs, IsTold, Lacks, Misses, IsStep}
+use Rattle.std.specs.Prelude.{◌≢◌}
+use Rattle.krb_ccache.specs.Spelling.{credential_bytes}
+use Rattle.krb_ccache.specs.declared.fault.CacheFault.TheVariants.{BadItem}
 use Rattle.krb_ccache.specs.Format.{version, Layout, version_4, version_of}
 use Rattle.krb_ccache.specs.Inner.Stepping.{Any}
 use Rattle.krb_name.specs.Field.{IsBytes, IsField}
@@ -124,6 +127,19 @@ module _ {X S : Type 0} (s : X → List ℕ) (P : X → Type 0) (left : S → Op
     lacks = λ read memory. absurd (memory t.0);
     tells = λ memory. absurd (memory t.0);
   })
+
+-- ---- no credential came
+
+module _ {S : Type 0} (left : S → Option (List ℕ)) (old middle new : AtHand S) (stop : Stop) (at : ℕ) (told : CacheFault) (here : at ≡ old.given) (halts : Halts credential_bytes FitsCredential left (cleared old) middle stop)
+    (is_told : IsTold left middle new stop (BadItem at) told) where
+  none_came : Misses credential_bytes FitsCredential left old new (BadItem old.given) told
+  none_came = subst (λ (f : CacheFault). Misses credential_bytes FitsCredential left old new f told) (ap BadItem here) (misses credential_bytes FitsCredential left old middle new stop (BadItem at) told halts is_told)
+
+  pub fault_step : (told ≡ BadItem at → new.given ≢ at) → IsStep left old new (Err told)
+  fault_step more = (none_came, subst (λ (n : ℕ). told ≡ BadItem n → new.given ≢ n) here more)
+
+  pub end_step : told ≡ BadItem at → new.given ≡ at → IsStep left old new (Ok None)
+  end_step is same = (subst (Misses credential_bytes FitsCredential left old new (BadItem old.given)) (is ∙ ap BadItem here) none_came, same ∙ here)
 
 -- ---- a field
 

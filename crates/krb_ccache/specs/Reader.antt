@@ -1,5 +1,5 @@
 -- Reading a cache one credential at a time: what a reader has taken of its source, and how it ended.
-use Rattle.std.specs.Prelude.{◌≡◌, ◌≢◌, ℕ, ◌+◌, ◌<◌, ◌≤◌, max, List, [], ◌∷◌, ◌++◌, length, Option, Some, None, Result, Ok, Err}
+use Rattle.std.specs.Prelude.{◌≡◌, ◌≢◌, ℕ, ◌+◌, ◌<◌, ◌≤◌, max, Bool, true, false, List, [], ◌∷◌, ◌++◌, length, Option, Some, None, Result, Ok, Err}
 use Rattle.std.specs.Int.{w8}
 use Rattle.std.specs.Io.KnownBytes.{Consumes}
 use Rattle.krb_name.specs.Cursor.{number_bytes}
@@ -21,11 +21,20 @@ pub record Reading (S : Type 0) : Type 0 where
   pub held : ℕ
   pub ended : Option (Result (Unit {0}) CacheFault)
 
+-- an answer that says of a credential only that it was there
+abbrev pub passed : Result (Option Credential) CacheFault → Result Bool CacheFault
+passed (Ok (Some credential)) = Ok true
+passed (Ok None) = Ok false
+passed (Err fault) = Err fault
+
 -- the last answer that is in an answer
+abbrev pub ended_passed : Result Bool CacheFault → Option (Result (Unit {0}) CacheFault)
+ended_passed (Ok true) = None
+ended_passed (Ok false) = Some (Ok tt)
+ended_passed (Err fault) = Some (Err fault)
+
 abbrev pub ended_by : Result (Option Credential) CacheFault → Option (Result (Unit {0}) CacheFault)
-ended_by (Ok (Some credential)) = None
-ended_by (Ok None) = Some (Ok tt)
-ended_by (Err fault) = Some (Err fault)
+ended_by answer = ended_passed (passed answer)
 
 -- the last answer, given again
 abbrev pub last_answer : Result (Unit {0}) CacheFault → Result (Option Credential) CacheFault
@@ -71,6 +80,12 @@ pub record GaveOne (old new : ℕ) (credential : Credential) : Type 0 where
   pub given : new ≡ old + length (credential_bytes credential)
   pub some : old < new
   pub limit : new ≤ file_limit
+
+-- a credential was passed: its bytes were given and were at hand, and it is read behind those before
+pub record PassedOne {S : Type 0} (left : S → Option (List ℕ)) (old new : Reading S) (credential : Credential) : Type 0 where
+  pub gave : GaveOne old.given new.given credential
+  pub held : new.held ≡ max old.held (length (credential_bytes credential))
+  pub read : (from : Option (List ℕ)) (cache : Cache) → HasRead left from old cache → HasRead left from new (with_credential cache credential)
 
 -- the bytes are a start, a default principal and whole credentials, of this cache; and behind them stands none that ends within
 -- the limit

@@ -85,7 +85,7 @@ fn check_credentials(cursor: &mut FileCursor<'_>) -> Result<(), CacheFault>
 // Each call stands behind the part that begins here. Where it doesn't stand here the place is no matter.
 
 #[tactic(auto, unfolding(crate::specs::Inner::Reading::credential_at))]
-fn skip_credential(cursor: &mut FileCursor<'_>) -> Result<(), Short>
+pub(crate) fn skip_credential(cursor: &mut FileCursor<'_>) -> Result<(), Short>
     ensures ok { OnOk result (IsBehind (credential_at cursor.old) cursor.new) }
     ensures short { OnErr result (credential_at cursor.old ≡ None) }
 {

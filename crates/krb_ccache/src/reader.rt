@@ -1,19 +1,20 @@
 //! A reader that gives the credentials of a cache one at a time.
 
-ghost use Rattle.std.specs.Prelude.{◌≡◌, ◌≢◌, ◌+◌, ◌-◌, ◌^◌, ◌<◌, ◌≤◌, ◌↔◌, ℕ, List, [], max, length, All, IsTrue, IfOk, IfErr, IfSome, IfNone, OnErr, Option, Ok, Err, None};
+ghost use Rattle.std.specs.Prelude.{◌≡◌, ◌≢◌, ◌+◌, ◌-◌, ◌^◌, ◌<◌, ◌≤◌, ◌↔◌, ℕ, true, false, List, [], max, length, All, IsTrue, IfOk, IfErr, IfSome, IfNone, OnErr, Option, Ok, Err, None};
 ghost use Rattle.krb_ccache.specs.Configuration.{HoldsOffset, IsConfiguration};
 ghost use Rattle.krb_ccache.specs.Fault.{failed_reads};
 ghost use Rattle.krb_ccache.specs.Format.{file_limit, IsCache, IsFaultOf};
 ghost use Rattle.krb_ccache.specs.Offset.{clock_offset};
-ghost use Rattle.krb_ccache.specs.Reader.{ended_by as ended_by_answer, last_answer, with_credential, HasRead, Gave, GaveOne, HeldPart, GoesTo};
+ghost use Rattle.krb_ccache.specs.Reader.{ended_by as ended_by_answer, ended_passed, passed, last_answer, with_credential, HasRead, Gave, GaveOne, PassedOne, HeldPart, GoesTo};
 ghost use Rattle.krb_ccache.specs.Source.{IsGiven};
 ghost use Rattle.krb_ccache.specs.Spelling.{header_bytes, name_bytes, credential_bytes};
 ghost use Rattle.krb_ccache.specs.Value.{Cache, cache_of};
+ghost use Rattle.krb_ccache.specs.declared.credential.Credential.{Credential as CredentialValue};
 
 use crate::configuration::{first_offset, is_entry};
 use crate::credential::{Credential, HeaderField};
 use crate::fault::CacheFault;
-use crate::stepping::{begin, step};
+use crate::stepping::{begin, step, step_past};
 use krb_name::{Principal, Source, Window};
 use std::alloc::Global;
 use std::marker::Model;
@@ -157,6 +158,61 @@ impl<S: Source> CredentialReader<S> {
         answer
     }
 
+    /// Reads the next credential as `next` does, and not a byte more, and answers whether there is one;
+    /// the credential isn't made, and no memory is taken but for its bytes.
+    ///
+    /// Behind a credential, at the end and at a fault the reader stands as after `next`, and the two
+    /// calls can be mixed.
+    ///
+    /// Condition: fewer than 18,446,744,073,709,551,615 reads of the source have failed so far.
+    ///
+    /// # Errors
+    /// Those of `next`; `OutOfMemory` only where there was no room for the bytes.
+    ///
+    /// Source: MIT krb5, "Credential cache file format", version 4.
+    pub fn pass(&mut self) -> Result<bool, CacheFault>
+        requires { S.failure_count self.old.source < 2 ^ 64 - 1 }
+
+        // The end and every fault are answered again, and the reader stays as it was.
+        ensures again { IfSome self.old.ended
+            (λ ended. (result ≡ passed (last_answer ended)) × (self.new ≡ self.old)) }
+        ensures ended { self.old.ended ≡ None → self.new.ended ≡ ended_passed result }
+
+        // Each other clause is one of `next`, but that the credential isn't told.
+        ensures item { self.old.ended ≡ None → result ≡ Ok true → (credential : CredentialValue)
+            × PassedOne S.remaining self.old self.new credential }
+        ensures end { (from : Option (List ℕ)) (cache : Cache)
+            → HasRead S.remaining from self.old cache → result ≡ Ok false
+            → (bytes : List ℕ) × IsGiven from (S.remaining self.new.source) bytes × IsCache bytes cache }
+        ensures fault { (from : Option (List ℕ)) (cache : Cache)
+            → HasRead S.remaining from self.old cache
+            → IfErr result (λ fault. fault ≢ CacheFault.OutOfMemory → fault ≢ CacheFault.Read
+            → (bytes : List ℕ) × IsGiven from (S.remaining self.new.source) bytes
+            × IsFaultOf bytes fault) }
+        ensures stops { (from : Option (List ℕ)) (cache : Cache)
+            → HasRead S.remaining from self.old cache
+            → IfErr result (λ fault. fault ≢ CacheFault.OutOfMemory → fault ≢ CacheFault.Read
+            → IfSome from (λ bytes. GoesTo bytes cache)) }
+        ensures given { Gave (S.remaining self.old.source) (S.remaining self.new.source) self.old self.new }
+        ensures header { self.new.header ≡ self.old.header }
+        ensures default { self.new.default_principal ≡ self.old.default_principal }
+        ensures part { self.old.ended ≡ None → OnErr result (HeldPart (S.remaining self.old.source)
+            (S.remaining self.new.source) self.old.held self.new.held) }
+        ensures failed { self.old.ended ≡ None → S.failure_count self.new.source
+            ≡ S.failure_count self.old.source + failed_reads result }
+        ensures lent { S.lender self.new.source ≡ S.lender self.old.source }
+    {
+        if let Some(ended) = self.ended {
+            return match ended {
+                Ok(()) => Ok(false),
+                Err(fault) => Err(fault),
+            };
+        }
+        let answer = step_past(&mut self.window);
+        self.ended = ended_by_pass(&answer);
+        answer
+    }
+
     /// Answers how many bytes were at hand at once, at most. It is never more than the header, the
     /// default principal or the longest credential so far has, at a fault as many of its bytes as
     /// there were, nor than 16,777,216.
@@ -219,6 +275,16 @@ fn ended_by(answer: &Result<Option<Credential>, CacheFault>) -> Option<Result<()
     match answer {
         Ok(Some(_)) => None,
         Ok(None) => Some(Ok(())),
+        Err(fault) => Some(Err(*fault)),
+    }
+}
+
+fn ended_by_pass(answer: &Result<bool, CacheFault>) -> Option<Result<(), CacheFault>>
+    ensures { result ≡ ended_passed answer.now }
+{
+    match answer {
+        Ok(true) => None,
+        Ok(false) => Some(Ok(())),
         Err(fault) => Some(Err(*fault)),
     }
 }

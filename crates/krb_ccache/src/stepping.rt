@@ -1,26 +1,28 @@
 //! Reading the parts of a cache off a source, one at a time.
 
-ghost use Rattle.std.specs.Prelude.{All, Option, ℕ, List, [], length, max, ◌≡◌, ◌≢◌, ◌+◌, ◌-◌, ◌≤◌, ◌<◌, ◌^◌, IfOk, IfErr, OnOk, OnErr, Err};
+ghost use Rattle.std.specs.Prelude.{All, Option, ℕ, List, [], length, max, ◌≡◌, ◌≢◌, ◌+◌, ◌-◌, ◌≤◌, ◌<◌, ◌^◌, IfOk, IfErr, OnOk, OnErr, Result, Err};
 ghost use Rattle.krb_ccache.specs.Fault.{failed_reads};
 ghost use Rattle.krb_ccache.specs.Format.{file_limit, version_of, version_4, IsCache, IsFaultOf};
-ghost use Rattle.krb_ccache.specs.Reader.{HasTaken, HeldPart};
+ghost use Rattle.krb_ccache.specs.Reader.{HasTaken, HeldPart, passed};
 ghost use Rattle.krb_ccache.specs.Source.{IsGiven};
 ghost use Rattle.krb_ccache.specs.Spelling.{header_bytes, name_bytes, credential_bytes};
 ghost use Rattle.krb_ccache.specs.Value.{cache_of, FitsHeader, FitsName, FitsCredential};
 ghost use Rattle.krb_name.specs.declared.principal.Principal.{Principal as PrincipalValue};
+ghost use Rattle.krb_ccache.specs.declared.credential.Credential.{Credential as CredentialValue};
 ghost use Rattle.krb_ccache.specs.declared.credential.HeaderField.{HeaderField as HeaderFieldValue};
 ghost use Rattle.krb_ccache.specs.declared.fault.CacheFault.TheVariants.{Version, Header, BadItem};
 ghost use Rattle.krb_ccache.specs.Inner.Standing.{IsMissing};
 ghost use Rattle.krb_ccache.specs.Inner.Walking.{Halts, stop_reads, stopped_reads};
 ghost use Rattle.krb_ccache.specs.Inner.Stepping.{Stands, cleared, Any, Comes, IsTold, Misses, IsStep};
 
+use crate::checking::skip_credential;
 use crate::credential::{Credential, HeaderField};
 use crate::fault::CacheFault;
 use crate::header::{FILE_LIMIT, read_header};
 use crate::item_fault::ItemFault;
 use crate::items::{read_credential, read_name};
 use crate::walking::{Stop, take, take_credential, take_header, take_name};
-use krb_name::{FileCursor, Principal, Source, Window};
+use krb_name::{FileCursor, Principal, Short, Source, Window};
 use std::alloc::Global;
 
 const VERSION_BYTES: &[u8] = &[0x05, 0x04];
@@ -64,6 +66,16 @@ fn credential_of(alloc: Global, bytes: &[u8]) -> Result<Credential, ItemFault>
 {
     let mut cursor = FileCursor::new(bytes);
     read_credential(alloc, &mut cursor)
+}
+
+// Whether a credential is at the front of the bytes.
+fn has_credential(bytes: &[u8]) -> Result<(), Short>
+    ensures found { OnOk result ((credential : CredentialValue)
+        × Stands credential_bytes FitsCredential bytes.now credential) }
+    ensures missing { OnErr result (IsMissing credential_bytes FitsCredential bytes.now) }
+{
+    let mut cursor = FileCursor::new(bytes);
+    skip_credential(&mut cursor)
 }
 
 // Each call takes the bytes of a part, and no more, and reads it off them.
@@ -140,6 +152,28 @@ fn come_credential<S: Source>(alloc: Global, window: &mut Window<S>) -> Result<C
     match credential_of(alloc, window.bytes()) {
         Ok(credential) => Ok(credential),
         Err(fault) => Err(Stop::from(fault)),
+    }
+}
+
+// Takes the bytes of a credential, and no more, and answers only whether they are one.
+fn come_past<S: Source>(window: &mut Window<S>) -> Result<(), Stop>
+    requires reads { S.failure_count window.old.source < 2 ^ 64 - 1 }
+    requires within { window.old.given ≤ file_limit }
+    ensures comes { OnOk result ((credential : CredentialValue)
+        × Comes credential_bytes FitsCredential S.remaining window.old window.new credential) }
+    ensures halts { IfErr result
+        (Halts credential_bytes FitsCredential S.remaining (cleared window.old) window.new) }
+    ensures part { OnErr result (HeldPart (S.remaining window.old.source) (S.remaining window.new.source)
+        window.old.peak window.new.peak) }
+    ensures failed { S.failure_count window.new.source
+        ≡ S.failure_count window.old.source + stopped_reads result }
+    ensures lent { S.lender window.new.source ≡ S.lender window.old.source }
+{
+    window.clear();
+    take_credential(window)?;
+    match has_credential(window.bytes()) {
+        Ok(()) => Ok(()),
+        Err(Short) => Err(Stop::Long),
     }
 }
 
@@ -268,14 +302,44 @@ pub(crate) fn step<S: Source>(
         Ok(credential) => Ok(Some(credential)),
         Err(stop) => {
             let fault = told(window, stop, CacheFault::BadItem { at });
-            if fault != (CacheFault::BadItem { at }) {
-                return Err(fault);
-            }
-            if window.given() == at {
-                return Ok(None);
-            }
-            Err(fault)
+            end_or(fault, at, window.given())?;
+            Ok(None)
         }
+    }
+}
+
+/// Takes the next credential, and answers only whether there was one, or whether the source is at its end.
+pub(crate) fn step_past<S: Source>(window: &mut Window<S>) -> Result<bool, CacheFault>
+    requires reads { S.failure_count window.old.source < 2 ^ 64 - 1 }
+    requires within { window.old.given ≤ file_limit }
+    ensures step { (answer : Result (Option CredentialValue) CacheFault) × (result ≡ passed answer)
+        × IsStep S.remaining window.old window.new answer }
+    ensures part { OnErr result (HeldPart (S.remaining window.old.source) (S.remaining window.new.source)
+        window.old.peak window.new.peak) }
+    ensures failed { S.failure_count window.new.source
+        ≡ S.failure_count window.old.source + failed_reads result }
+    ensures lent { S.lender window.new.source ≡ S.lender window.old.source }
+{
+    let at = window.given();
+    match come_past(window) {
+        Ok(()) => Ok(true),
+        Err(stop) => {
+            let fault = told(window, stop, CacheFault::BadItem { at });
+            end_or(fault, at, window.given())?;
+            Ok(false)
+        }
+    }
+}
+
+// Whether the credentials have ended, where none came at an offset: no byte stands there. Else a fault.
+fn end_or(fault: CacheFault, at: usize, given: usize) -> Result<(), CacheFault>
+    ensures end { OnOk result ((fault ≡ BadItem at) × (given ≡ at)) }
+    ensures fault { IfErr result (λ answer. (answer ≡ fault) × (fault ≡ BadItem at → given ≢ at)) }
+{
+    if fault == (CacheFault::BadItem { at }) && given == at {
+        Ok(())
+    } else {
+        Err(fault)
     }
 }
 

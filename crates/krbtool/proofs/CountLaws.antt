@@ -1,5 +1,5 @@
 -- What is counted of a file, one item at a time, is what the file has.
-use Rattle.std.proofs.Common.{◌≡◌, ◌⊎◌, ℕ, ◌+◌, List, [], ◌∷◌, ◌++◌, length, Option, Some, None, Result, Ok, Err, refl, ap, subst, arith, inl, inr}
+use Rattle.std.proofs.Common.{◌≡◌, ◌⊎◌, ℕ, ◌+◌, Bool, true, false, List, [], ◌∷◌, ◌++◌, length, Option, Some, None, Result, Ok, Err, refl, sym, ap, subst, ◌∙◌, arith, inl, inr}
 use Rattle.std.specs.Prelude.{◌≢◌, IfOk, IfErr, IfSome}
 use Rattle.std.specs.Io.KnownBytes.{Consumes}
 use Rattle.std.proofs.KnownBytes.{Consumes-trans, Consumes-nil}
@@ -7,7 +7,7 @@ use Rattle.std.proofs.lemmas.List.{length-append}
 use Rattle.krb_keytab.specs.Entry.{KeytabEntry}
 use Rattle.krb_keytab.specs.Format.{IsKeytab}
 use Rattle.krb_keytab.specs.Format as keytab
-use Rattle.krb_keytab.specs.Items.{EntriesRead, HasRead, StandsTo, entries_after}
+use Rattle.krb_keytab.specs.Items.{EntriesRead, HasRead, StandsTo, passed, entries_after}
 use Rattle.krb_keytab.specs.declared.fault.KeytabFault.{KeytabFault}
 use Rattle.krb_keytab.specs.declared.fault.KeytabFault.TheVariants as of_keytab
 use Rattle.krb_keytab.specs.declared.stage.Stage.{Stage}
@@ -68,9 +68,21 @@ pub keytab_fault_alone : ((bytes : List ℕ) (answer other : Result (List Keytab
 keytab_fault_alone one from result found failed =
     fault_alone IsKeytab keytab.IsFaultOf of_keytab.OutOfMemory of_keytab.Read keytab_kind keytab.IsAnswerOf (λ bytes value is. is) (λ bytes fault is. is) one from (λ count entries. count ≡ length entries) result found failed
 
--- what a reader answers
-abbrev pub Reads : {S : Type 0} → Option (List ℕ) → Option (List ℕ) → EntriesRead S → EntriesRead S → Result (Option KeytabEntry) KeytabFault → Type 0
-Reads mid to old new result = (bytes : List ℕ) (entries : List KeytabEntry) → HasRead mid old bytes entries → (piece : List ℕ) × Consumes mid to piece × HasRead to new (bytes ++ piece) (entries_after entries result)
+-- what a reader answers that passes the entries
+abbrev pub Reads : {S : Type 0} → Option (List ℕ) → Option (List ℕ) → EntriesRead S → EntriesRead S → Result Bool KeytabFault → Type 0
+Reads mid to old new result = (bytes : List ℕ) (entries : List KeytabEntry) → HasRead mid old bytes entries
+    → (answer : Result (Option KeytabEntry) KeytabFault) × (result ≡ passed answer) × (piece : List ℕ) × Consumes mid to piece × HasRead to new (bytes ++ piece) (entries_after entries answer)
+
+-- the entry that was passed
+entry_passed : (answer : Result (Option KeytabEntry) KeytabFault) → Ok true ≡ passed answer → (entry : KeytabEntry) × ((entries : List KeytabEntry) → entries_after entries answer ≡ entries ++ entry ∷ [])
+entry_passed (Ok (Some entry)) is = (entry, λ entries. refl)
+entry_passed (Ok None) is = absurd cc
+entry_passed (Err fault) is = absurd cc
+
+none_passed : (answer : Result (Option KeytabEntry) KeytabFault) (entries : List KeytabEntry) → (Ok true ≡ passed answer → ⊥) → entries_after entries answer ≡ entries
+none_passed (Ok (Some entry)) entries no = absurd (no refl)
+none_passed (Ok None) entries no = refl
+none_passed (Err fault) entries no = refl
 
 -- what its last answers say of the file
 abbrev pub EndTells : Type 0
@@ -84,32 +96,43 @@ module _ {S : Type 0} where
   pub none_counted : (from : Option (List ℕ)) (reader : EntriesRead S) → HasRead from reader [] [] → EntriesCounted from from reader 0
   none_counted from reader read = record { bytes = []; entries = []; taken = Consumes-nil from; read = read; counted = refl }
 
-  pub one_counted : (from mid to : Option (List ℕ)) (old new : EntriesRead S) (count : ℕ) (entry : KeytabEntry) → EntriesCounted from mid old count → Reads mid to old new (Ok (Some entry)) → EntriesCounted from to new (count + 1)
-  one_counted from mid to old new count entry c reads =
+  pub one_counted : (from mid to : Option (List ℕ)) (old new : EntriesRead S) (count : ℕ) → EntriesCounted from mid old count → Reads mid to old new (Ok true) → EntriesCounted from to new (count + 1)
+  one_counted from mid to old new count c reads =
       let r = reads c.bytes c.entries c.read in
+      let one = entry_passed r.0 r.1 in
       record {
-        bytes = c.bytes ++ r.0;
-        entries = c.entries ++ entry ∷ [];
-        taken = Consumes-trans from mid to c.bytes r.0 c.taken r.1;
-        read = r.2;
-        counted = omega (arith, c.counted, length-append c.entries (entry ∷ []));
+        bytes = c.bytes ++ r.2;
+        entries = c.entries ++ one.0 ∷ [];
+        taken = Consumes-trans from mid to c.bytes r.2 c.taken r.3;
+        read = subst (HasRead to new (c.bytes ++ r.2)) (one.1 c.entries) r.4;
+        counted = omega (arith, c.counted, length-append c.entries (one.0 ∷ []));
       }
 
-  pub all_counted : (from mid to : Option (List ℕ)) (old new : EntriesRead S) (count : ℕ) → EndTells → EntriesCounted from mid old count → Reads mid to old new (Ok None) → new.stage ≡ End
+  -- no entry was passed
+  none_more : (from mid to : Option (List ℕ)) (old new : EntriesRead S) (count : ℕ) (result : Result Bool KeytabFault) → EntriesCounted from mid old count → Reads mid to old new result → (result ≡ Ok true → ⊥) → EntriesCounted from to new count
+  none_more from mid to old new count result c reads no =
+      let r = reads c.bytes c.entries c.read in
+      record {
+        bytes = c.bytes ++ r.2;
+        entries = c.entries;
+        taken = Consumes-trans from mid to c.bytes r.2 c.taken r.3;
+        read = subst (HasRead to new (c.bytes ++ r.2)) (none_passed r.0 c.entries (λ e. no (r.1 ∙ sym e))) r.4;
+        counted = c.counted;
+      }
+
+  pub all_counted : (from mid to : Option (List ℕ)) (old new : EntriesRead S) (count : ℕ) → EndTells → EntriesCounted from mid old count → Reads mid to old new (Ok false) → new.stage ≡ End
       → OfFile IsKeytab from (λ entries. count ≡ length entries)
   all_counted None mid to old new count law c reads stage = tt
   all_counted (Some whole) mid to old new count law c reads stage =
-      let r = reads c.bytes c.entries c.read in
-      let stands = subst (λ (s : Stage). StandsTo to s (c.bytes ++ r.0) c.entries) stage r.2.stands in
-      (c.entries, (law whole (c.bytes ++ r.0) to c.entries (Consumes-trans (Some whole) mid to c.bytes r.0 c.taken r.1) stands, c.counted))
+      let last = none_more (Some whole) mid to old new count (Ok false) c reads (λ e. cc) in
+      (last.entries, (law whole last.bytes to last.entries last.taken (subst (λ (s : Stage). StandsTo to s last.bytes last.entries) stage last.read.stands), last.counted))
 
   pub fault_counted : (from mid to : Option (List ℕ)) (old new : EntriesRead S) (count : ℕ) (fault : KeytabFault) → FaultTells → EntriesCounted from mid old count → Reads mid to old new (Err fault) → new.stage ≡ Failed fault
       → fault ≢ of_keytab.OutOfMemory → fault ≢ of_keytab.Read → IfSome from (λ bytes. keytab.IsFaultOf bytes fault)
   fault_counted None mid to old new count fault law c reads stage memory read = tt
   fault_counted (Some whole) mid to old new count fault law c reads stage memory read =
-      let r = reads c.bytes c.entries c.read in
-      let stands = subst (λ (s : Stage). StandsTo to s (c.bytes ++ r.0) c.entries) stage r.2.stands in
-      law whole (c.bytes ++ r.0) to c.entries fault read memory (Consumes-trans (Some whole) mid to c.bytes r.0 c.taken r.1) stands
+      let last = none_more (Some whole) mid to old new count (Err fault) c reads (λ e. cc) in
+      law whole last.bytes to last.entries fault read memory last.taken (subst (λ (s : Stage). StandsTo to s last.bytes last.entries) stage last.read.stands)
 
 -- ---- a cache
 

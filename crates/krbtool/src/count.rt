@@ -1,4 +1,4 @@
-//! Counting the entries of a keytab and the credentials of a cache, with one at hand at a time.
+//! Counting the entries of a keytab and the credentials of a cache, with the bytes of one at hand at a time.
 
 ghost use Rattle.std.specs.Prelude.{◌≡◌, ◌≢◌, ◌⊎◌, ◌+◌, ◌-◌, ◌^◌, ◌<◌, ℕ, List, [], Option, None, Some, Err, IfOk, IfErr, IfSome, length};
 ghost use Rattle.krb_ccache.specs.Fault as of_cache;
@@ -36,16 +36,13 @@ pub(crate) fn count_keytab<S: Source>(alloc: Global, source: &mut S) -> Result<u
 {
     krb_keytab::laws::each_file_has_one_answer();
     let mut reader = EntryReader::new(alloc, source);
-    let counted = count_entries(alloc, &mut reader);
+    let counted = count_entries(&mut reader);
     let _source = reader.into_source();
     counted
 }
 
 // Counts the entries to come, of a reader that has given none.
-fn count_entries<S: Source>(
-    alloc: Global,
-    reader: &mut EntryReader<S>,
-) -> Result<usize, KeytabFault>
+fn count_entries<S: Source>(reader: &mut EntryReader<S>) -> Result<usize, KeytabFault>
     requires reads { S.failure_count reader.old.source < 2 ^ 64 - 1 }
     requires start { HasRead (S.remaining reader.old.source) reader.old [] [] }
     requires open { last_answer reader.old.stage ≡ None }
@@ -60,7 +57,7 @@ fn count_entries<S: Source>(
 {
     krb_keytab::laws::a_reader_tells_the_file();
     let mut count = 0;
-    while let Some(_) = reader.next(alloc)? {
+    while reader.pass()? {
         count += 1;
     }
     Ok(count)
@@ -88,7 +85,7 @@ pub(crate) fn count_ccache<S: Source>(alloc: Global, source: &mut S) -> Result<u
     match CredentialReader::open(alloc, &mut *source) {
         Ok(reader) => {
             let mut reader = reader;
-            let counted = count_credentials(alloc, &mut reader);
+            let counted = count_credentials(&mut reader);
             let _source = reader.into_source();
             counted
         }
@@ -97,10 +94,7 @@ pub(crate) fn count_ccache<S: Source>(alloc: Global, source: &mut S) -> Result<u
 }
 
 // Counts the credentials to come, of a reader that has given none.
-fn count_credentials<S: Source>(
-    alloc: Global,
-    reader: &mut CredentialReader<S>,
-) -> Result<usize, CacheFault>
+fn count_credentials<S: Source>(reader: &mut CredentialReader<S>) -> Result<usize, CacheFault>
     requires reads { S.failure_count reader.old.source < 2 ^ 64 - 1 }
     requires going { reader.old.ended ≡ None }
     ensures found { IfOk result (λ count. (from : Option (List ℕ))
@@ -117,7 +111,7 @@ fn count_credentials<S: Source>(
 {
     krb_ccache::laws::a_source_tells_its_file();
     let mut count = 0;
-    while let Some(_) = reader.next(alloc)? {
+    while reader.pass()? {
         count += 1;
     }
     Ok(count)

@@ -1,26 +1,17 @@
-use Rattle.std.proofs.Common.{ap, subst, sym, ◌∙◌, arith}
-use Rattle.krb_ccache.specs.Spelling.{credential_bytes}
-use Rattle.krb_ccache.specs.Value.{FitsCredential}
-use Rattle.krb_ccache.specs.Inner.Stepping.{Misses}
-use Rattle.krb_ccache.specs.declared.fault.CacheFault.{CacheFault}
+use Rattle.std.proofs.Common.{◌∙◌}
+use Rattle.std.proofs.lemmas.Result.{err_from_is_err_and}
 use Rattle.krb_ccache.specs.declared.fault.CacheFault.TheVariants.{BadItem}
-use Rattle.krb_ccache.proofs.StepLaws.{misses, part_told}
+use Rattle.krb_ccache.proofs.StepLaws.{fault_step, part_told}
 use Rattle.krb_ccache.proofs.stepping.step.Goals as goal
 
-pub returns-then-ne-clause-step : goal.returns-then-ne-clause-step
-returns-then-ne-clause-step g c =
-    let m = subst (λ (f : CacheFault). Misses credential_bytes FitsCredential g.S.Source.remaining c.args.window.now c.told-fault.new.window f c.told-fault.result) (ap BadItem c.given-at.ensures)
-    (misses credential_bytes FitsCredential g.S.Source.remaining c.args.window.now c.come_credential.new.window c.told-fault.new.window c.in-Err.stop (BadItem c.given-at.result) c.told-fault.result c.in-Err.ensures.halts c.told-fault.ensures.told) in
-    (m, λ e. absurd (grind (arith, e, c.if-ne.ensures, c.given-at.ensures)))
+pub returns-in_err-end_or-in-Err-clause-step : goal.returns-in_err-end_or-in-Err-clause-step
+returns-in_err-end_or-in-Err-clause-step g c =
+    let p = err_from_is_err_and c.from_residual.result c.from_residual.ensures.1 in
+    let fault = c.in_err-end_or-in-Err.ensures.fault in
+    rw (p.1, p.2, fault.0)
+    (fault_step g.S.Source.remaining c.args.window.now c.come_credential.new.window c.told-fault.new.window c.in-Err.stop c.given-at.result c.told-fault.result c.given-at.ensures c.in-Err.ensures.halts c.told-fault.ensures.told (λ same given. fault.1 same (c.given.ensures ∙ given)))
 
-pub returns-else-given-at-clause-step : goal.returns-else-given-at-clause-step
-returns-else-given-at-clause-step g c =
-    let m = subst (λ (f : CacheFault). Misses credential_bytes FitsCredential g.S.Source.remaining c.args.window.now c.told-fault.new.window f c.told-fault.result) (ap BadItem c.given-at.ensures)
-    (misses credential_bytes FitsCredential g.S.Source.remaining c.args.window.now c.come_credential.new.window c.told-fault.new.window c.in-Err.stop (BadItem c.given-at.result) c.told-fault.result c.in-Err.ensures.halts c.told-fault.ensures.told) in
-    (m, λ e same. c.if-given-at.false (c.given.ensures ∙ same ∙ sym c.given-at.ensures))
-
-pub returns-then-ne-clause-part : goal.returns-then-ne-clause-part
-returns-then-ne-clause-part g c = part_told g.S.Source.remaining c.args.window.now c.come_credential.new.window c.told-fault.new.window c.in-Err.stop (BadItem c.given-at.result) c.told-fault.result c.in-Err.ensures.part c.told-fault.ensures.told
-
-pub returns-else-given-at-clause-part : goal.returns-else-given-at-clause-part
-returns-else-given-at-clause-part g c = part_told g.S.Source.remaining c.args.window.now c.come_credential.new.window c.told-fault.new.window c.in-Err.stop (BadItem c.given-at.result) c.told-fault.result c.in-Err.ensures.part c.told-fault.ensures.told
+pub returns-in_err-end_or-in-Err-clause-part : goal.returns-in_err-end_or-in-Err-clause-part
+returns-in_err-end_or-in-Err-clause-part g c =
+    let p = err_from_is_err_and c.from_residual.result c.from_residual.ensures.1 in
+    rw p.1 (part_told g.S.Source.remaining c.args.window.now c.come_credential.new.window c.told-fault.new.window c.in-Err.stop (BadItem c.given-at.result) c.told-fault.result c.in-Err.ensures.part c.told-fault.ensures.told)
