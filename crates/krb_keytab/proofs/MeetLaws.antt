@@ -127,20 +127,20 @@ peaks_at IsPart piece part after old new bytes parts p e fits peak = record {
 }
 
 -- the size and no more of a hole, or the size and more of a record
-is_part : (size : ℤ) (part : List ℕ) → length part ≤ kept_of size → IsPartOfRecord (signed_bytes w32 size ++ part)
-is_part (pos n) part few = inr (n, part, refl, few)
-is_part (negsuc n) part few = inl (omega (arith, few, length-append (signed_bytes w32 (negsuc n)) part))
+is_part : (size : ℤ) (part : List ℕ) → FitsSigned w32 size → length part ≤ kept_of size → IsPartOfRecord (signed_bytes w32 size ++ part)
+is_part (pos n) part fits few = inr (n, fits.sfits, part, refl, few)
+is_part (negsuc n) part fits few = inl (omega (arith, few, length-append (signed_bytes w32 (negsuc n)) part))
 
 pub kept_is : (size : ℤ) → int_lt size (pos 0) ≡ false → kept_of size ≡ unsigned_abs size
 kept_is (pos n) positive = refl
 kept_is (negsuc n) positive = absurd cc
 
-pub peaks_on : (size : ℤ) (later : List ℕ) (old mid new : ℕ) → Peaks (λ part. length part ≤ 4) (signed_bytes w32 size) old mid → Peaks (λ part. length part ≤ kept_of size) later mid new → Peaks IsPartOfRecord (signed_bytes w32 size ++ later) old new
-peaks_on size later old mid new p q = record {
+pub peaks_on : (size : ℤ) (later : List ℕ) (old mid new : ℕ) → FitsSigned w32 size → Peaks (λ part. length part ≤ 4) (signed_bytes w32 size) old mid → Peaks (λ part. length part ≤ kept_of size) later mid new → Peaks IsPartOfRecord (signed_bytes w32 size ++ later) old new
+peaks_on size later old mid new fits p q = record {
   part = signed_bytes w32 size ++ q.part;
   after = q.after;
   piece_is = ap (λ (t : List ℕ). signed_bytes w32 size ++ t) q.piece_is ∙ sym (append_assoc (signed_bytes w32 size) q.part q.after);
-  is_part = is_part size q.part q.is_part;
+  is_part = is_part size q.part fits q.is_part;
   peak = omega (arith, p.peak, q.peak, p.is_part, length-append (signed_bytes w32 size) q.part);
   low = λ l. q.low (p.low l);
 }
@@ -214,6 +214,6 @@ record_met from mid to old between new at size answer first is handed =
         consumed = subst (λ (t : List ℕ). Consumes from to (t ++ behind.piece)) first.meets.piece_is whole;
         given = omega (arith, first.moves.given, behind.moves.given, ap length first.meets.piece_is, length-append word behind.piece);
       };
-      peaks = peaks_on size behind.piece old.peak between.peak new.peak (subst (λ (t : List ℕ). Peaks (λ part. length part ≤ 4) t old.peak between.peak) first.meets.piece_is first.peaks) behind.peaks;
+      peaks = peaks_on size behind.piece old.peak between.peak new.peak first.meets.fits (subst (λ (t : List ℕ). Peaks (λ part. length part ≤ 4) t old.peak between.peak) first.meets.piece_is first.peaks) behind.peaks;
       meets = subst (λ (n : ℕ). Meets to n (word ++ behind.piece) new.bytes answer) is behind.meets;
     }

@@ -1,5 +1,5 @@
 -- Entries that are read one at a time: what a source has given so far, the entries that were given of it, and where their reader stands.
-use Rattle.std.specs.Prelude.{◌≡◌, ◌≢◌, ◌⊎◌, ⊤, ℕ, ◌+◌, ◌<◌, ◌≤◌, pos, Bool, true, false, List, [], ◌∷◌, ◌++◌, length, take, Option, Some, None, Result, Ok, Err}
+use Rattle.std.specs.Prelude.{◌≡◌, ◌≢◌, ◌⊎◌, ⊤, ℕ, ◌+◌, ◌<◌, ◌≤◌, ◌^◌, pos, Bool, true, false, List, [], ◌∷◌, ◌++◌, length, take, Option, Some, None, Result, Ok, Err}
 use Rattle.std.specs.Int.{w32}
 use Rattle.std.specs.Io.KnownBytes.{IsAtEnd}
 use Rattle.krb_name.specs.Cursor.{signed_bytes}
@@ -73,7 +73,7 @@ StandsTo left (Failed fault) bytes entries = Concludes left bytes entries (Some 
 
 -- no more than the record of an entry: its size, and as many bytes as that says; of a hole the size alone
 abbrev pub IsPartOfRecord : List ℕ → Type 0
-IsPartOfRecord part = (length part ≤ 4) ⊎ ((size : ℕ) × (body : List ℕ) × (part ≡ signed_bytes w32 (pos size) ++ body) × (length body ≤ size))
+IsPartOfRecord part = (length part ≤ 4) ⊎ ((size : ℕ) × (size < 2 ^ 31) × (body : List ℕ) × (part ≡ signed_bytes w32 (pos size) ++ body) × (length body ≤ size))
 
 -- there are so many bytes of the version, or of one record behind whole records
 pub record HasMet (bytes : List ℕ) (count : ℕ) : Type 0 where
