@@ -60,7 +60,10 @@ fn other_bytes_are_passed(rt: HostRuntime) -> Result<(), Fail> {
 fn failed_reads_are_told(rt: HostRuntime) -> Result<(), Fail> {
     let alloc = rt.alloc();
     for failing in 1..30 {
-        assert!(rt; goes_as_next(alloc, &HOLES, 50, Some(failing)), "read {failing}");
+        assert!(rt;
+            goes_as_next(alloc, &HOLES, 50, Some(failing)),
+            "read {failing}"
+        );
     }
     Ok(())
 }
