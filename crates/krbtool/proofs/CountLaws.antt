@@ -80,9 +80,9 @@ entry_passed (Ok None) is = absurd cc
 entry_passed (Err fault) is = absurd cc
 
 none_passed : (answer : Result (Option KeytabEntry) KeytabFault) (entries : List KeytabEntry) → (Ok true ≡ passed answer → ⊥) → entries_after entries answer ≡ entries
-none_passed (Ok (Some entry)) entries no = absurd (no refl)
-none_passed (Ok None) entries no = refl
-none_passed (Err fault) entries no = refl
+none_passed (Ok (Some entry)) entries differs = absurd (differs refl)
+none_passed (Ok None) entries differs = refl
+none_passed (Err fault) entries differs = refl
 
 -- what its last answers say of the file
 abbrev pub EndTells : Type 0
@@ -110,13 +110,13 @@ module _ {S : Type 0} where
 
   -- no entry was passed
   none_more : (from mid to : Option (List ℕ)) (old new : EntriesRead S) (count : ℕ) (result : Result Bool KeytabFault) → EntriesCounted from mid old count → Reads mid to old new result → (result ≡ Ok true → ⊥) → EntriesCounted from to new count
-  none_more from mid to old new count result c reads no =
+  none_more from mid to old new count result c reads differs =
       let r = reads c.bytes c.entries c.read in
       record {
         bytes = c.bytes ++ r.2;
         entries = c.entries;
         taken = Consumes-trans from mid to c.bytes r.2 c.taken r.3;
-        read = subst (HasRead to new (c.bytes ++ r.2)) (none_passed r.0 c.entries (λ e. no (r.1 ∙ sym e))) r.4;
+        read = subst (HasRead to new (c.bytes ++ r.2)) (none_passed r.0 c.entries (λ e. differs (r.1 ∙ sym e))) r.4;
         counted = c.counted;
       }
 

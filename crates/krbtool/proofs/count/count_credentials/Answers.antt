@@ -14,10 +14,10 @@ returns-in_err-pass-clause-fault g c =
 pub loop-count-preserved : goal.loop-count-preserved
 loop-count-preserved g c =
     let going = c.loop-count.invariant.going in
-    let one = c.in_ok-pass.ensures.item going (ap (λ (b : Bool). Ok b) c.loop-count-test.true) in
+    let one = c.in_ok-pass.ensures.item going (ap (λ (b : Bool). Ok b) c.if-branch.true) in
     record {
       counted = λ from start. credential_counted g.S.Source.remaining from c.loop-count.reader c.pass.new.self c.loop-count.count one.0 (c.loop-count.invariant.counted from start) (one.1.read from);
-      going = rw c.loop-count-test.true at c.in_ok-pass.ensures.ended going;
+      going = rw c.if-branch.true at c.in_ok-pass.ensures.ended going;
       few = omega (arith, one.1.gave.some, c.loop-count.invariant.few);
       limit = omega (arith, one.1.gave.some, one.1.gave.limit, c.loop-count.invariant.few);
       failures = rw add-zero at c.in_ok-pass.ensures.failed going ∙ c.loop-count.invariant.failures;
@@ -28,4 +28,4 @@ pub returns-clause-found : goal.returns-clause-found
 returns-clause-found g c = λ from start.
     let counted = c.loop-count.invariant.counted from start in
     cache_told from (g.S.Source.remaining c.pass.new.self.source) c.loop-count.count counted.cache_read c.a_source_tells_its_file.ensures
-    (c.in_ok-pass.ensures.end from counted.cache_read counted.read (ap (λ (b : Bool). Ok b) c.loop-count-test.false)) counted.counted
+    (c.in_ok-pass.ensures.end from counted.cache_read counted.read (ap (λ (b : Bool). Ok b) c.if-branch.false)) counted.counted

@@ -10,10 +10,10 @@ returns-in_err-pass-clause-fault g c =
 
 pub loop-count-preserved : goal.loop-count-preserved
 loop-count-preserved g c =
-    let more = c.in_ok-pass.ensures.more (ap (λ (b : Bool). Ok b) c.loop-count-test.true) in
+    let more = c.in_ok-pass.ensures.more (ap (λ (b : Bool). Ok b) c.if-branch.true) in
     record {
-      counted = one_counted _ _ _ c.loop-count.reader c.pass.new.self c.loop-count.count c.loop-count.invariant.counted (rw c.loop-count-test.true at c.in_ok-pass.ensures.reads);
-      going = rw (c.in_ok-pass.ensures.stage, c.loop-count-test.true) refl;
+      counted = one_counted _ _ _ c.loop-count.reader c.pass.new.self c.loop-count.count c.loop-count.invariant.counted (rw c.if-branch.true at c.in_ok-pass.ensures.reads);
+      going = rw (c.in_ok-pass.ensures.stage, c.if-branch.true) refl;
       few = omega (arith, more.0, c.loop-count.invariant.few);
       limit = omega (arith, more.0, more.1, c.loop-count.invariant.few);
       failures = rw (c.loop-count.invariant.going, add-zero) at c.in_ok-pass.ensures.failed ∙ c.loop-count.invariant.failures;
