@@ -44,6 +44,8 @@ pub use reader::CredentialReader;
 pub use typed::{TypedBytes, TypedList};
 
 #[cfg(test)]
+mod pass_tests;
+#[cfg(test)]
 mod reader_tests;
 #[cfg(test)]
 mod samples;

@@ -42,6 +42,8 @@ pub use reader::EntryReader;
 #[cfg(test)]
 mod edit_tests;
 #[cfg(test)]
+mod pass_tests;
+#[cfg(test)]
 mod reader_tests;
 #[cfg(test)]
 mod real_files;
