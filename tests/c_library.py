@@ -50,7 +50,7 @@ def toolchain():
 
 def fixture(file, name):
     """A message of the tests of krb_ap, in hex."""
-    text = (ROOT / "crates/krb_ap/src/tests" / file).read_text()
+    text = (ROOT / "crates/krb_ap_tests/src/tests" / file).read_text()
     return re.sub(r"[\\\s]", "", re.search(rf'const {name}: &str =\s*"([0-9a-f\\\s]+)"', text)[1])
 
 

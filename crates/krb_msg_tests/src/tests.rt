@@ -8,7 +8,7 @@ mod values;
 
 ghost use Rattle.std.specs.Prelude.{◌≡◌, ◌↔◌, ◌/◌, ◌%◌, ◌^◌, IsTrue};
 
-use super::*;
+use krb_msg::*;
 use std::test::Fail;
 use values::*;
 

@@ -1,7 +1,7 @@
 //! Messages are read, copied, and written back to the same bytes; and made by hand.
 
 use super::values::*;
-use crate::*;
+use krb_msg::*;
 use std::alloc::Global;
 use std::test::Fail;
 

@@ -2,7 +2,7 @@
 
 use super::client::{own_key, sent, size_of_key};
 use super::*;
-use crate::{Agreed, FinishFault, ReplyFault, ReplyOptions, error_reply};
+use krb_ap::{Agreed, FinishFault, ReplyFault, ReplyOptions, error_reply};
 use krb_msg::Bytes;
 
 // The replies and the error of the fixture, made by tests/vectors/fixture.py.

@@ -1,7 +1,7 @@
 //! The client's side: which credential is used, and the request that is built with it.
 
 use super::*;
-use crate::{Pending, RequestFault, RequestOptions, make_request};
+use krb_ap::{Pending, RequestFault, RequestOptions, make_request};
 use krb_ccache::{CCache, Credential, TypedList};
 use krb_msg::Bytes;
 

@@ -11,7 +11,7 @@ mod seen;
 mod service;
 mod texts;
 
-use crate::{Accepted, Acceptor, Call, Outcome, Refusal};
+use krb_ap::{Accepted, Acceptor, Call, Outcome, Refusal};
 use fixture::{
     FIXTURE, Made, SERVICE_KEY, SESSION_KEY, key, moment, name, request, request_with,
     sealed_authenticator, sealed_part, seconds, size_of, stretched, ticket_of,

@@ -1,7 +1,7 @@
 //! Written by tests/der_rules.py, from the rules; not edited by hand.
 
 use super::table::Kind;
-use crate::FaultKind;
+use krb_der::FaultKind;
 
 /// The kind that is read, the bytes, and the number that the value is, or the fault and its offset.
 pub type Case = (Kind, &'static [u8], Result<i64, (FaultKind, usize)>);

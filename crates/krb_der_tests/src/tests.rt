@@ -9,7 +9,7 @@ ghost use Rattle.std.specs.Prelude.{◌≡◌, refl};
 ghost use Rattle.std.specs.Option.{option_map};
 ghost use Rattle.krb_der.specs.Kind.{leaf, sequence, must, may, ends, field, application, int32, uint32, microseconds, constant, octets, string, flags, time};
 
-use super::*;
+use krb_der::*;
 use std::test::Fail;
 
 /// A message of eleven fields, with the kinds of all of them.

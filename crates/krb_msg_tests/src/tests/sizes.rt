@@ -5,7 +5,7 @@ ghost use Rattle.krb_msg.specs.Fields.{reply_subkey};
 ghost use Rattle.krb_msg.specs.Owned.{owned_enc_ap_rep_part_of};
 
 use super::faults::Type;
-use crate::*;
+use krb_msg::*;
 use std::alloc::Global;
 use std::process::Abort;
 use std::test::Fail;

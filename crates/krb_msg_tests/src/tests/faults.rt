@@ -3,7 +3,7 @@
 use super::fault_of;
 use super::flipped::{self, Lacking, Run};
 use super::values::*;
-use crate::*;
+use krb_msg::*;
 use std::alloc::Global;
 use std::process::Abort;
 use std::test::Fail;

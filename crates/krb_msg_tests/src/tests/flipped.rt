@@ -1,6 +1,6 @@
 //! Written by tests/msg_rules.py, from the rules; not edited by hand.
 
-use crate::FaultKind;
+use krb_msg::FaultKind;
 
 /// The first and the last of some bytes, and the answer to the message with any one of them changed by xor 01: `None` where it is
 /// a message still, else the fault and its offset.

@@ -1,6 +1,6 @@
 //! Elements and lists of all sizes are written and read back: none is refused for want of memory, which no contract can say.
 
-use crate::*;
+use krb_der::*;
 use std::test::Fail;
 
 /// The bytes of contents at the edges of the forms of a length, and the longest that a message has room for.

@@ -1,7 +1,7 @@
 //! The table that tests/der_rules.py works out from the rules.
 
 use super::cases::{self, Case};
-use crate::{Constant, Cursor, Fault, Field, Flags, Maybe, Octets, Seconds, Text};
+use krb_der::{Constant, Cursor, Fault, Field, Flags, Maybe, Octets, Seconds, Text};
 use std::process::Abort;
 
 /// What a row of the table reads.

@@ -4,7 +4,7 @@ ghost use Rattle.std.specs.Prelude.{◌≡◌, ◌∷◌, [], refl, IfNone, IfSo
 ghost use Rattle.krb_der.specs.Kind.{leaf, sequence, must, each, ends, field, int32, string};
 
 use super::ALICE;
-use crate::{Cursor, Element, Fault, FaultKind, Field, Message, Text, parse};
+use krb_der::{Cursor, Element, Fault, FaultKind, Field, Message, Text, parse};
 use std::marker::Model;
 use std::test::Fail;
 

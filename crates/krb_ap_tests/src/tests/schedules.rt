@@ -2,7 +2,7 @@
 
 use super::client::sent_with;
 use super::*;
-use crate::{Agreed, FinishFault, Pending, ReplyOptions};
+use krb_ap::{Agreed, FinishFault, Pending, ReplyOptions};
 
 // What one side chooses: the type of a subkey, each byte of it, and a sequence number.
 #[derive(Clone, Copy, Debug, PartialEq, Eq)]

@@ -1,7 +1,7 @@
 //! The texts of what is refused.
 
 use super::*;
-use crate::{FinishFault, ReplyFault, RequestFault};
+use krb_ap::{FinishFault, ReplyFault, RequestFault};
 use std::fmt::Display;
 
 const CUT: Fault = Fault {

@@ -2,7 +2,7 @@
 
 use super::client::sent;
 use super::*;
-use crate::{FinishFault, Pending, ReplyOptions};
+use krb_ap::{FinishFault, Pending, ReplyOptions};
 use krb_msg::ApRepRef;
 
 const AT: (i64, u32) = (1_700_000_100, 5);
