@@ -26,12 +26,12 @@ ROOT = pathlib.Path(__file__).resolve().parent.parent
 sys.path += [str(ROOT / "tests"), str(ROOT / "tests/vectors")]
 import c_cases  # noqa: E402
 import c_peers  # noqa: E402
+from c_header import HEADER, differs, documented, header_checks, header_codes, header_functions, kerberos_codes  # noqa: E402
 import edits  # noqa: E402
 import fixture as shared  # noqa: E402
 
 CRATE = ROOT / "crates/krb_c"
 ARCHIVE = CRATE / "out/libkrb_c.a"
-HEADER = ROOT / "include/fevstunik.h"
 # What is drawn for fuzzing, and how many inputs valgrind watches.
 SEED = 20_261_123
 WATCHED = 5_000
@@ -57,55 +57,9 @@ def fixture(file, name):
     return re.sub(r"[\\\s]", "", re.search(rf'const {name}: &str =\s*"([0-9a-f\\\s]+)"', text)[1])
 
 
-def without_comments(text):
-    return re.sub(r"/\*.*?\*/", "", text, flags=re.S)
-
-
-def header_functions():
-    return set(re.findall(r"\b(fevstunik_\w+)\s*\(", without_comments(HEADER.read_text())))
-
-
 def archive_functions():
     lines = run("nm", "--defined-only", "--extern-only", ARCHIVE).stdout.splitlines()
     return {words[-1] for words in map(str.split, lines) if len(words) == 3}
-
-
-def header_codes():
-    return {name: int(value) for name, value in re.findall(r"\bFEVSTUNIK_(\w+) = (\d+)", without_comments(HEADER.read_text()))}
-
-
-def crate_codes():
-    return {name: int(value) for name, value in re.findall(r"const (\w+): u32 = (\d+);", (CRATE / "src/code.rt").read_text())}
-
-
-def comments():
-    """The header's comment at each function, with what the function answers."""
-    form = r"/\*((?:(?!\*/).)*)\*/\n(fevstunik_answer|size_t|void) (fevstunik_\w+)\("
-    return {function: (kind, text) for text, kind, function in re.findall(form, HEADER.read_text(), re.S)}
-
-
-def documented():
-    """The names of the codes that the header names at each function that answers one; a range stands for all of it."""
-    numbers = header_codes()
-    found = {}
-    for function, (kind, text) in comments().items():
-        named = set(re.findall(r"\b(?:FEVSTUNIK)?_([A-Z][A-Z0-9_]*)\b", text))
-        for first, last in re.findall(r"from FEVSTUNIK_(\w+) to[\s*]+FEVSTUNIK_(\w+)", text):
-            named |= {name for name, number in numbers.items() if numbers[first] <= number <= numbers[last]}
-        if kind == "fevstunik_answer":
-            found[function] = named
-    return found
-
-
-def examples():
-    """Each function's comment ends with code that calls it."""
-    told = {function for function, (_, text) in comments().items() if re.search(rf"\n \*     .*\b{function}\(", text)}
-    return differs(told, header_functions())
-
-
-def kerberos_codes():
-    """The codes of RFC 4120 that the header tells beside its own."""
-    return {name: int(code) for name, code in re.findall(r"\bFEVSTUNIK_(\w+) = \d+,\s*/\* (\d+): ", HEADER.read_text())}
 
 
 def watch(room):
@@ -153,16 +107,6 @@ class Answered:
     def checks(self):
         for function, codes in sorted(documented().items()):
             yield f"what {function} answers (here) and what the header says (there)", differs(self.codes.get(function, set()), codes)
-
-
-def differs(found, wanted):
-    return None if found == wanted else f"only here: {sorted(found - wanted)}, only there: {sorted(wanted - found)}"
-
-
-def codes():
-    header, crate = header_codes(), crate_codes()
-    other = {name: value for name, value in header.items() if crate.get(name) != value}
-    return f"not those of the crate: {other}" if other else None
 
 
 def headers(room):
@@ -301,9 +245,7 @@ def checks(inputs):
     if built.returncode:
         return
     yield "the header's functions are the archive's", differs(header_functions(), archive_functions())
-    yield "the header's codes are the crate's", codes()
-    yield "each function has an example in the header", examples()
-    yield "each code is one that a function answers", differs(set().union(*documented().values()), set(header_codes()))
+    yield from header_checks()
     with tempfile.TemporaryDirectory() as name:
         room = pathlib.Path(name)
         yield from headers(room)
