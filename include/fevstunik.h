@@ -18,9 +18,9 @@
  * The library keeps no state but in handles, reads no clock and no random numbers, and writes nothing anywhere. Keys aren't wiped from
  * memory that is let go of, and nothing is promised of how long a call takes.
  *
- * Whatever is handed in stays the caller's: no function keeps a pointer to it, or frees it. Nothing that the caller has to free is answered,
- * but that what a handle holds is freed by fevstunik_acceptor_free. Files have at most 16,777,216 bytes and messages at most 1,048,576, and
- * what is longer is answered as a fault; texts and keys are as long as fits into these, where nothing else is said.
+ * Whatever is handed in stays the caller's: no function keeps a pointer to it, or frees it. What a handle holds the library has allocated,
+ * and fevstunik_acceptor_free frees it; nothing else is there for the caller to free. Files have at most 16,777,216 bytes, and requests,
+ * replies and errors at most 1,048,576: what is longer is answered as a fault. Other sizes have no limit but memory's, where none is named.
  *
  * Bytes that a function answers stand at the front of the caller's buffer, and the rest of the buffer stays as it is. Where the buffer is
  * too short the code is FEVSTUNIK_SHORT_BUFFER, `size` says how many bytes are needed, and the buffer stays: the call may be made again

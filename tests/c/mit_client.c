@@ -42,7 +42,8 @@ static void read_error(const krb5_data *message)
 }
 
 /* Takes the reply, and goes on as the service of the example awaits. */
-static void agree(int peer, krb5_auth_context state, const krb5_data *reply, const krb5_creds *credential, const char *text, const krb5_keyblock *ours)
+static void agree(int peer, krb5_auth_context state, const krb5_data *reply, const krb5_creds *credential, const char *text,
+                  const krb5_keyblock *ours)
 {
     krb5_ap_rep_enc_part *part;
     char *name;
