@@ -1,6 +1,6 @@
 #!/usr/bin/env python3
-"""Times this repository's cipher, sealing, messages, memory of what was seen, requests and listings in one run, most of them beside
-OpenSSL and MIT krb5, and prints tables of ratios.
+"""Times this repository's cipher, sealing, messages, memory of what was seen, requests (also from C) and listings in one run, most of them
+beside OpenSSL and MIT krb5, and prints tables of ratios.
 
     bench/run.py
 
@@ -16,13 +16,14 @@ from pathlib import Path
 
 import exchange
 import files
+import from_c
 
 HERE = Path(__file__).resolve().parent
 TOP = HERE.parent
 sys.path.append(str(TOP / "tests"))
 import msg_values as der
 
-CRATES = """krb_aes krb_cts krb_kdf krb_enc krb_der krb_name krb_msg krb_keytab krb_ccache krb_replay krb_ap""".split()
+CRATES = """krb_aes krb_cts krb_kdf krb_enc krb_der krb_name krb_msg krb_keytab krb_ccache krb_replay krb_ap krb_c""".split()
 # Our programs, and the crates that each stands on.
 PROGRAMS = {
     "krb_bench": "krb_aes krb_enc krb_msg krb_replay hex",
@@ -64,7 +65,7 @@ def built(folder):
     for name in CRATES:
         shutil.copytree(TOP / "crates" / name, folder / "crates" / name)
     lines = (TOP / "crates.txt").read_text().splitlines()
-    kept = [line for line in lines if line.split(":")[0] in CRATES]
+    kept = [line for line in lines if line.split(":")[0].removesuffix(" staticlib") in CRATES]
     (folder / "crates.txt").write_text("\n".join([*kept, *(f"{name}: {below}" for name, below in PROGRAMS.items())]) + "\n")
     (folder / "HANDLES").write_text((TOP / "HANDLES").read_text())
     for name in PROGRAMS:
@@ -109,8 +110,11 @@ def sealing_table(ours, mit):
         for way in ("seal", "open"):
             for size, name in SIZES:
                 count = str(max(20, 20_000_000 // (size + 2_000)))
-                here, there = best([ours, way, etype, str(size), count]), best([mit, way, etype, str(size), count])
+                here, there = best_in_turn([[ours, way, etype, str(size), count], [mit, way, etype, str(size), count]])
                 print(f"| {way}, type {etype}, {name} | {here / 1000:,.1f} µs | {there / 1000:,.1f} µs | {there / here:.2f} |")
+            size, name = SIZES[0]
+            here, there = best_in_turn([[ours, f"{way}-ready", etype, str(size), "10000"], [mit, way, etype, str(size), "10000"]])
+            print(f"| {way}, type {etype}, {name}, the key made ready | {here / 1000:,.1f} µs | {there / 1000:,.1f} µs | {there / here:.2f} |")
 
 
 def messages():
@@ -166,6 +170,7 @@ def main():
         message_table(ours, programs["mit_messages"])
         memory_table(ours)
         exchange.table(Path(name), programs["krb_exchange"], programs["mit_exchange"], best_in_turn)
+        from_c.table(Path(name), from_c.built(Path(name), Path(name) / "crates/krb_c"))
         said([str(TOP / "krbtool"), "--help"])
         exchange.lines_row(Path(name), programs["krb_exchange"], KRBTOOL, programs["mit_exchange"])
     print()

@@ -5,7 +5,9 @@
  *
  * What is proved of a call holds where its caller keeps to this, and nothing is promised otherwise:
  *  - A handle is all zero before its first use, as `fevstunik_acceptor handle = {0};` makes it. That is the empty handle.
- *  - A handle is never copied and never written but by these functions. It may be moved in memory between calls, not during one.
+ *  - A handle is never copied and never written but by these functions. It may be moved in memory between calls, not during one, and is not
+ *    used again where it was. What a program gets that uses a copy, or that lets a handle overlap a buffer, isn't promised: it may free what is
+ *    still in use.
  *  - A handle is used by one thread, by one call at a time. Different handles have nothing to do with each other.
  *  - Pointers are valid and never NULL, also those to no bytes: hand in any valid pointer with size 0.
  *  - What a call writes (its handle, its buffer, its other results) overlaps nothing else that is handed to that call.
@@ -15,6 +17,10 @@
  *
  * The library keeps no state but in handles, reads no clock and no random numbers, and writes nothing anywhere. Keys aren't wiped from
  * memory that is let go of, and nothing is promised of how long a call takes.
+ *
+ * Whatever is handed in stays the caller's: no function keeps a pointer to it, or frees it. What a handle holds the library has allocated,
+ * and fevstunik_acceptor_free frees it; nothing else is there for the caller to free. Files have at most 16,777,216 bytes, and requests,
+ * replies and errors at most 1,048,576: what is longer is answered as a fault. Other sizes have no limit but memory's, where none is named.
  *
  * Bytes that a function answers stand at the front of the caller's buffer, and the rest of the buffer stays as it is. Where the buffer is
  * too short the code is FEVSTUNIK_SHORT_BUFFER, `size` says how many bytes are needed, and the buffer stays: the call may be made again
@@ -378,15 +384,25 @@ fevstunik_answer fevstunik_acceptor_reply(fevstunik_acceptor *handle, const uint
 fevstunik_answer fevstunik_acceptor_error(fevstunik_acceptor *handle, const uint8_t *service, size_t service_size, int32_t name_type,
                                           const fevstunik_time *now, uint8_t *buffer, size_t buffer_size);
 
-/* Counts the requests that are remembered; none where the handle is empty. */
+/* Counts the requests that are remembered; none where the handle is empty. The handle stays as it is. It has no error.
+ *
+ *     printf("%zu remembered\n", fevstunik_acceptor_count(&service));
+ */
 size_t fevstunik_acceptor_count(fevstunik_acceptor *handle);
 
-/* Tells the latest moment that was handed in.
+/* Tells the latest moment that was handed in, by which the service decides. The handle stays as it is.
  *
- * FEVSTUNIK_EMPTY_HANDLE and FEVSTUNIK_NOTHING_THERE, and nothing is written; FEVSTUNIK_OK. */
+ * FEVSTUNIK_EMPTY_HANDLE and FEVSTUNIK_NOTHING_THERE, and nothing is written; FEVSTUNIK_OK.
+ *
+ *     fevstunik_time latest;
+ *     if (fevstunik_acceptor_latest(&service, &latest).code == FEVSTUNIK_OK) ...
+ */
 fevstunik_answer fevstunik_acceptor_latest(fevstunik_acceptor *handle, fevstunik_time *latest);
 
-/* Frees what the handle holds, which is empty then. An empty handle stays so. */
+/* Frees what the handle holds, which is empty then, and may be used again. An empty handle stays so. It has no error.
+ *
+ *     fevstunik_acceptor_free(&service);
+ */
 void fevstunik_acceptor_free(fevstunik_acceptor *handle);
 
 /* ---- the client's side ---- */
@@ -416,8 +432,10 @@ fevstunik_answer fevstunik_request(const uint8_t *cache, size_t cache_size, cons
  * tells what both sides agree on: in the buffer the client's text, the session key and the service's subkey, one after another, and in
  * `agreement` where they stand, and the numbers. `agreement` is written also where the buffer is too short.
  *
- * The first that holds: what fevstunik_request answers; FEVSTUNIK_REPLY_TYPE, _REPLY_MALFORMED, _REPLY_INTEGRITY, _REPLY_MISMATCH; or
- * FEVSTUNIK_OUT_OF_MEMORY; and nothing is written. FEVSTUNIK_OK; FEVSTUNIK_SHORT_BUFFER.
+ * The first that holds: FEVSTUNIK_FILE_VERSION, _FILE_HEADER, _FILE_BAD_ITEM and _TOO_LONG for the cache; FEVSTUNIK_NOT_UTF8, _BAD_TEXT and
+ * _NO_REALM for the service; FEVSTUNIK_BAD_MOMENT; FEVSTUNIK_KEY_TYPE and _KEY_LENGTH; FEVSTUNIK_NO_CREDENTIAL, _NO_USABLE_KEY,
+ * _CREDENTIAL_EXPIRED, _BAD_TICKET and _TOO_LONG, where there is no such request; FEVSTUNIK_REPLY_TYPE, _REPLY_MALFORMED, _REPLY_INTEGRITY,
+ * _REPLY_MISMATCH; or FEVSTUNIK_OUT_OF_MEMORY; and nothing is written. FEVSTUNIK_OK; FEVSTUNIK_SHORT_BUFFER.
  *
  *     fevstunik_agreement agreement;
  *     answer = fevstunik_finish(file, file_size, (const uint8_t *)"host/web@EX", 11, &now, &choice, random, 0, reply, reply_size,

@@ -3,8 +3,9 @@
 
 The header is compiled alone, as C99 and as C++; its functions are exactly those of the archive, and its codes those of the crate. A C
 program (tests/c/library.c) runs the exchange that tests share, with exact answers, and so does examples/fevstunik.py over a shared
-object. tests/c/memory.c lets each allocation fail in turn, and a service and a client (examples/service) talk over TCP. tests/c/fuzz.c
-hands the library good and broken files and messages, some of them under valgrind.
+object. tests/c/faults.c asks for each fault, and tests/c/memory.c lets each allocation fail in turn: together they see just the codes that
+the header names at each function. A service and a client (examples/service) talk over TCP, to each other and to a client and a service over
+MIT krb5 (tests/c_peers.py). tests/c/fuzz.c hands the library good and broken files and messages, some of them under valgrind.
 
     tests/c_library.py [--inputs N]     so many inputs, 50,000 if left out
 
@@ -23,12 +24,14 @@ import time
 
 ROOT = pathlib.Path(__file__).resolve().parent.parent
 sys.path += [str(ROOT / "tests"), str(ROOT / "tests/vectors")]
+import c_cases  # noqa: E402
+import c_peers  # noqa: E402
+from c_header import HEADER, differs, documented, header_checks, header_codes, header_functions, kerberos_codes  # noqa: E402
 import edits  # noqa: E402
 import fixture as shared  # noqa: E402
 
 CRATE = ROOT / "crates/krb_c"
 ARCHIVE = CRATE / "out/libkrb_c.a"
-HEADER = ROOT / "include/fevstunik.h"
 # What is drawn for fuzzing, and how many inputs valgrind watches.
 SEED = 20_261_123
 WATCHED = 5_000
@@ -50,16 +53,8 @@ def toolchain():
 
 def fixture(file, name):
     """A message of the tests of krb_ap, in hex."""
-    text = (ROOT / "crates/krb_ap/src/tests" / file).read_text()
+    text = (ROOT / "crates/krb_ap_tests/src/tests" / file).read_text()
     return re.sub(r"[\\\s]", "", re.search(rf'const {name}: &str =\s*"([0-9a-f\\\s]+)"', text)[1])
-
-
-def without_comments(text):
-    return re.sub(r"/\*.*?\*/", "", text, flags=re.S)
-
-
-def header_functions():
-    return set(re.findall(r"\b(fevstunik_\w+)\s*\(", without_comments(HEADER.read_text())))
 
 
 def archive_functions():
@@ -67,22 +62,51 @@ def archive_functions():
     return {words[-1] for words in map(str.split, lines) if len(words) == 3}
 
 
-def header_codes():
-    return {name: int(value) for name, value in re.findall(r"\bFEVSTUNIK_(\w+) = (\d+)", without_comments(HEADER.read_text()))}
+def watch(room):
+    """A header that notes what each function answers, and lets the program tell it at its end: lines `answered FUNCTION CODE`."""
+    names = sorted(documented())
+    listed = ", ".join(f'"{name}"' for name in names)
+    calls = "".join(f"#define {name}(...) noted({index}, {name}(__VA_ARGS__))\n" for index, name in enumerate(names))
+    (room / "watch.h").write_text(f"""#include <stdio.h>
+#include <stdlib.h>
+#include "fevstunik.h"
+static const char *const watched[] = {{{listed}}};
+static unsigned char answers[{len(names)}][256];
+static void tell_answers(void)
+{{
+    for (int function = 0; function < {len(names)}; function++)
+        for (int code = 0; code < 256; code++)
+            if (answers[function][code])
+                printf("answered %s %d\\n", watched[function], code);
+}}
+static inline fevstunik_answer noted(int function, fevstunik_answer answer)
+{{
+    static int is_first = 1;
+    if (is_first)
+        atexit(tell_answers);
+    is_first = 0;
+    answers[function][answer.code & 255] = 1;
+    return answer;
+}}
+{calls}""")
 
 
-def crate_codes():
-    return {name: int(value) for name, value in re.findall(r"const (\w+): u32 = (\d+);", (CRATE / "src/code.rt").read_text())}
+class Answered:
+    """The codes that each function was seen to answer."""
 
+    def __init__(self):
+        self.codes = {}
 
-def differs(found, wanted):
-    return None if found == wanted else f"only here: {sorted(found - wanted)}, only there: {sorted(wanted - found)}"
+    def read(self, output):
+        """The other lines of a program's output."""
+        names = {number: name for name, number in header_codes().items()}
+        for function, code in re.findall(r"^answered (\w+) (\d+)$", output, re.M):
+            self.codes.setdefault(function, set()).add(names.get(int(code), code))
+        return re.sub(r"^answered .*\n", "", output, flags=re.M).splitlines()
 
-
-def codes():
-    header, crate = header_codes(), crate_codes()
-    other = {name: value for name, value in header.items() if crate.get(name) != value}
-    return f"not those of the crate: {other}" if other else None
+    def checks(self):
+        for function, codes in sorted(documented().items()):
+            yield f"what {function} answers (here) and what the header says (there)", differs(self.codes.get(function, set()), codes)
 
 
 def headers(room):
@@ -90,10 +114,10 @@ def headers(room):
         yield f"the header as {language}", wrong(run(compiler, standard, *STRICT, "-x", language, "-c", HEADER, "-o", room / "header.o"))
 
 
-def counted(what, program, *words):
+def counted(what, answered, program, *words, **more):
     """What a C program found that prints each fault, and at its end how much it looked at."""
-    ran = run(program, *words)
-    lines = ran.stdout.splitlines()
+    ran = run(program, *words, **more)
+    lines = answered.read(ran.stdout)
     for line in lines[:-1]:
         yield line, f"in {what}"
     last = re.fullmatch(r"(\d+) passed, \d+ failed", lines[-1]) if lines else None
@@ -106,25 +130,32 @@ def linked(program, *words):
     return run("gcc", "-std=c99", "-O1", *STRICT, f"-I{HEADER.parent}", *words, ARCHIVE, toolchain(), "-o", program)
 
 
-def from_c(room):
-    program = room / "library"
-    built = linked(program, "-static", ROOT / "tests/c/library.c")
+def watched(room, name, *words):
+    """Builds a program of tests/c that notes what each function answers."""
+    program = room / name
+    return program, linked(program, "-include", room / "watch.h", ROOT / f"tests/c/{name}.c", *words)
+
+
+def from_c(room, answered):
+    files = [ROOT / "examples/service.keytab", ROOT / "examples/client.ccache"]
+    watch(room)
+    program, built = watched(room, "library", "-static")
     yield "the C program is linked", wrong(built)
-    if built.returncode:
-        return
-    messages = [fixture("client.rt", "REQUEST"), fixture("client.rt", "KEYED"), fixture("replies.rt", "REPLY"), fixture("replies.rt", "KEYED"),
-                fixture("replies.rt", "ERROR")]
-    yield from counted("the C program", program, ROOT / "examples/service.keytab", ROOT / "examples/client.ccache", *messages)
-
-
-def without_memory(room):
-    """Each allocation of each call fails in turn."""
-    program = room / "memory"
-    built = linked(program, ROOT / "tests/c/memory.c", "-Wl,--wrap=malloc", "-Wl,--wrap=realloc", "-Wl,--wrap=free")
+    if built.returncode == 0:
+        messages = [fixture("client.rt", "REQUEST"), fixture("client.rt", "KEYED"), fixture("replies.rt", "REPLY"), fixture("replies.rt", "KEYED"),
+                    fixture("replies.rt", "ERROR"), c_cases.two_credentials().hex()]
+        yield from counted("the C program", answered, program, *files, *messages)
+    program, built = watched(room, "faults")
+    yield "the program of faults is linked", wrong(built)
+    if built.returncode == 0:
+        yield from counted("the program of faults", answered, program, *files, fixture("replies.rt", "REPLY"),
+                           input=c_cases.lines(header_codes(), kerberos_codes()))
+    # each allocation of each call fails in turn
+    program, built = watched(room, "memory", "-Wl,--wrap=malloc", "-Wl,--wrap=realloc", "-Wl,--wrap=free")
     yield "the program without memory is linked", wrong(built)
     if built.returncode == 0:
-        yield from counted("the program without memory", program, ROOT / "examples/service.keytab", ROOT / "examples/client.ccache",
-                           fixture("client.rt", "KEYED"), fixture("replies.rt", "REPLY"))
+        yield from counted("the program without memory", answered, program, *files, fixture("client.rt", "KEYED"), fixture("replies.rt", "REPLY"))
+    yield from answered.checks()
 
 
 def current_cache(now):
@@ -214,13 +245,13 @@ def checks(inputs):
     if built.returncode:
         return
     yield "the header's functions are the archive's", differs(header_functions(), archive_functions())
-    yield "the header's codes are the crate's", codes()
+    yield from header_checks()
     with tempfile.TemporaryDirectory() as name:
         room = pathlib.Path(name)
         yield from headers(room)
-        yield from from_c(room)
-        yield from without_memory(room)
+        yield from from_c(room, Answered())
         yield from over_tcp(room)
+        yield from c_peers.checks(room)
         yield from from_python(room)
         yield from fuzzed(room, inputs)
 

@@ -16,7 +16,7 @@ The rules (X.690, sections 8.1, 8.3, 8.6, 8.7 and 10.1; RFC 4120, section 5.2):
   Flags or Time at the element; bytes behind the last element: Trailing at the first of them; a message above 1,048,576
   bytes: TooLong at 0, before all else.
 
-This script writes src/tests/cases.rt of krb_der: `tests/der_rules.py > crates/krb_der/src/tests/cases.rt`, which `rt fmt` then
+This script writes src/tests/cases.rt of krb_der_tests: `tests/der_rules.py > crates/krb_der_tests/src/tests/cases.rt`, which `rt fmt` then
 lays out. `tests/der_rules.py --check FILE` says whether the file is the table, layout aside.
 """
 import re
@@ -273,7 +273,7 @@ def nested_cases():
 
 def table():
     """The text of the file, before it is laid out."""
-    lines = ["//! Written by tests/der_rules.py, from the rules; not edited by hand.\n", "use super::table::Kind;\nuse crate::FaultKind;\n"]
+    lines = ["//! Written by tests/der_rules.py, from the rules; not edited by hand.\n", "use super::table::Kind;\nuse krb_der::FaultKind;\n"]
     lines.append("/// The kind that is read, the bytes, and the number that the value is, or the fault and its offset.")
     lines.append("pub type Case = (Kind, &'static [u8], Result<i64, (FaultKind, usize)>);")
     tables = {}

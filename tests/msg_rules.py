@@ -12,7 +12,7 @@ of RFC 4120 (sections 5.2, 5.3, 5.5.1, 5.5.2 and 5.9.1), written out from that d
 
 The first three are worked out here too, and this script fails where they do not hold.
 
-It writes src/tests/flipped.rt of krb_msg: `tests/msg_rules.py > crates/krb_msg/src/tests/flipped.rt`, which `rt fmt` then lays
+It writes src/tests/flipped.rt of krb_msg_tests: `tests/msg_rules.py > crates/krb_msg_tests/src/tests/flipped.rt`, which `rt fmt` then lays
 out. `tests/msg_rules.py --check FILE` says whether the file is the table, layout aside.
 """
 import sys
@@ -209,7 +209,7 @@ def static(word, kind, rows):
 
 HEAD = """//! Written by tests/msg_rules.py, from the rules; not edited by hand.
 
-use crate::FaultKind;
+use krb_msg::FaultKind;
 
 /// The first and the last of some bytes, and the answer to the message with any one of them changed by xor 01: `None` where it is
 /// a message still, else the fault and its offset.

@@ -1,5 +1,5 @@
 #!/usr/bin/env python3
-"""The messages of crates/krb_msg/src/tests/values.rt that no document shows: put together from RFC 4120's tables, by hand-written
+"""The messages of crates/krb_msg_tests/src/tests/values.rt that no document shows: put together from RFC 4120's tables, by hand-written
 DER, without the project's code. Prints that file."""
 
 

@@ -127,8 +127,8 @@ def joined(path):
 
 
 def exchange():
-    """The requests, replies and errors of the fixture stand in krb_ap's tests."""
-    text = joined("krb_ap/src/tests/client.rt") + joined("krb_ap/src/tests/replies.rt")
+    """The requests, replies and errors of the fixture stand in krb_ap_tests."""
+    text = joined("krb_ap_tests/src/tests/client.rt") + joined("krb_ap_tests/src/tests/replies.rt")
     names = ["ticket", "configured cache", "request", "mutual request with a subkey and a number", "reply", "reply with a subkey and a number", "error"]
     missing = [name for name in names if f'"{fixture.made()[name].hex()}"' not in text]
     return f"not there: {missing}" if missing else None
@@ -148,9 +148,9 @@ def sides():
 
 
 TABLES = {
-    "DER by the rules": lambda: same_text("krb_der/src/tests/cases.rt", der_rules.table()),
-    "messages by the rules": lambda: same_text("krb_msg/src/tests/flipped.rt", msg_rules.table()),
-    "messages": lambda: same_text("krb_msg/src/tests/values.rt", printed("tests/msg_values.py")),
+    "DER by the rules": lambda: same_text("krb_der_tests/src/tests/cases.rt", der_rules.table()),
+    "messages by the rules": lambda: same_text("krb_msg_tests/src/tests/flipped.rt", msg_rules.table()),
+    "messages": lambda: same_text("krb_msg_tests/src/tests/values.rt", printed("tests/msg_values.py")),
     "the fixture's messages": messages_of_fixture,
     "the fixture's caches": caches,
     "the fixture's requests and replies": exchange,

@@ -1,48 +1,36 @@
-/* A client over TCP on the loopback: it asks for mutual authentication with a subkey of its own, reads the reply, and sends a text under the
- * key that the service chose.
+/* A client over TCP on the loopback: it asks for mutual authentication with a subkey of its own, reads the reply, sends a text under the
+ * key that the service chose, and looks at the receipt under its own.
  *
- *     client CACHE NAME PORT TEXT [twice]      NAME as host/web@EX; with `twice` it sends the same request again, and prints the answer
+ *     client CACHE NAME PORT TEXT [twice]      NAME as host/web@EX; with `twice` it sends the same request again
  *
- * It prints `agreed as CLIENT`, or `refused`, where the service answers something else than a reply. */
-#include <arpa/inet.h>
-#include <netinet/in.h>
-#include <string.h>
-#include <sys/socket.h>
+ * It prints `agreed as CLIENT` for each request, or `no receipt`, or `refused`, where the service answers something else than a reply. */
+#include "sources.h"
 
-#include "wire.h"
+/* Its subkey's encryption type, and how many bytes such a key has. */
+#define SUBKEY_TYPE 20
+#define SUBKEY_SIZE 32
 
-static int connect_to(int port)
+/* Sends a text under the key that the service chose; answers whether the receipt is the text's under ours. */
+static int say(int peer, const char *text, const fevstunik_agreement *agreement, const uint8_t *bytes, const uint8_t *subkey)
 {
-    struct sockaddr_in address;
-    int peer = socket(AF_INET, SOCK_STREAM, 0);
-
-    memset(&address, 0, sizeof address);
-    address.sin_family = AF_INET;
-    address.sin_addr.s_addr = htonl(INADDR_LOOPBACK);
-    address.sin_port = htons((uint16_t)port);
-    if (peer < 0 || connect(peer, (struct sockaddr *)&address, sizeof address) != 0)
-        give_up("connect");
-    return peer;
-}
-
-/* Sends a text under the key that was agreed on. */
-static void say(int peer, const char *text, const fevstunik_agreement *agreement, const uint8_t *bytes)
-{
+    static struct bytes receipt;
     uint8_t confounder[16], sealed[4096];
     fevstunik_answer answer;
 
     draw(confounder, sizeof confounder);
-    answer = fevstunik_seal(agreement->service_subkey_type, bytes + agreement->service_subkey.at, agreement->service_subkey.size, USAGE,
+    answer = fevstunik_seal(agreement->service_subkey_type, bytes + agreement->service_subkey.at, agreement->service_subkey.size, TEXT_USAGE,
                             confounder, sizeof confounder, (const uint8_t *)text, strlen(text), sealed, sizeof sealed);
-    if (answer.code == FEVSTUNIK_OK && transmit(peer, sealed, answer.size))
-        printf("agreed as %.*s\n", (int)agreement->client.size, (const char *)bytes + agreement->client.at);
+    if (answer.code != FEVSTUNIK_OK || !transmit(peer, sealed, answer.size) || !receive(peer, &receipt))
+        return 0;
+    return fevstunik_checksum_check(SUBKEY_TYPE, subkey, SUBKEY_SIZE, RECEIPT_USAGE, (const uint8_t *)text, strlen(text), receipt.at,
+                                    receipt.size).code == FEVSTUNIK_OK;
 }
 
 int main(int count, char **words)
 {
     static struct bytes cache, request, reply;
-    uint8_t confounder[16], subkey[16], bytes[4096];
-    fevstunik_choice choice = {19, 0, false, true};
+    uint8_t confounder[16], subkey[SUBKEY_SIZE], bytes[4096];
+    fevstunik_choice choice = {SUBKEY_TYPE, 0, false, true};
     fevstunik_agreement agreement;
     fevstunik_answer answer;
     fevstunik_time at;
@@ -63,10 +51,12 @@ int main(int count, char **words)
         if (!transmit(peer, request.at, answer.size) || !receive(peer, &reply))
             return 2;
         if (fevstunik_finish(cache.at, cache.size, (const uint8_t *)words[2], strlen(words[2]), &at, &choice, subkey, sizeof subkey, reply.at,
-                             reply.size, &agreement, bytes, sizeof bytes).code == FEVSTUNIK_OK)
-            say(peer, words[4], &agreement, bytes);
-        else
+                             reply.size, &agreement, bytes, sizeof bytes).code != FEVSTUNIK_OK)
             printf("refused: %zu bytes of type %02x\n", reply.size, (unsigned)reply.at[0]);
+        else if (say(peer, words[4], &agreement, bytes, subkey))
+            printf("agreed as %.*s\n", (int)agreement.client.size, (const char *)bytes + agreement.client.at);
+        else
+            printf("no receipt\n");
         close(peer);
     }
     return 0;

@@ -1,29 +1,10 @@
-/* A service over TCP on the loopback. It takes requests for mutual authentication, replies with a subkey of its own, and opens the text that
- * the client sends under that key.
+/* A service over TCP on the loopback. It takes requests for mutual authentication, replies with a subkey of its own, opens the text that
+ * the client sends under that key, and sends a receipt under the client's.
  *
  *     service KEYTAB NAME COUNT      NAME as host/web@EX; it ends after so many connections
  *
  * It prints its port first, and then a line for each connection: `CLIENT: TEXT`, or `refused CODE`. */
-#include <arpa/inet.h>
-#include <netinet/in.h>
-#include <string.h>
-#include <sys/socket.h>
-
-#include "wire.h"
-
-static int listen_on(struct sockaddr_in *address)
-{
-    socklen_t size = sizeof *address;
-    int listener = socket(AF_INET, SOCK_STREAM, 0);
-
-    memset(address, 0, sizeof *address);
-    address->sin_family = AF_INET;
-    address->sin_addr.s_addr = htonl(INADDR_LOOPBACK);
-    if (listener < 0 || bind(listener, (struct sockaddr *)address, size) != 0 || listen(listener, 8) != 0
-        || getsockname(listener, (struct sockaddr *)address, &size) != 0)
-        give_up("listen");
-    return listener;
-}
+#include "sources.h"
 
 /* Tells the client why it is refused. */
 static void refuse(fevstunik_acceptor *service, const char *name, int to, fevstunik_answer why)
@@ -37,24 +18,37 @@ static void refuse(fevstunik_acceptor *service, const char *name, int to, fevstu
         transmit(to, error, answer.size);
 }
 
-/* Replies to what was accepted, and reads a text under the key that the reply tells. */
+/* Sends the text's checksum under the client's subkey, or under the session key, if it chose none. */
+static int confirm(int to, const fevstunik_known *known, const uint8_t *bytes, const uint8_t *text, size_t size)
+{
+    int32_t type = known->has_subkey ? known->subkey_type : known->session_type;
+    fevstunik_span key = known->has_subkey ? known->subkey : known->session_key;
+    uint8_t tag[24];
+    fevstunik_answer answer = fevstunik_checksum(type, bytes + key.at, key.size, RECEIPT_USAGE, text, size, tag, sizeof tag);
+
+    return answer.code == FEVSTUNIK_OK && transmit(to, tag, answer.size);
+}
+
+/* Replies to what was accepted, with a subkey of the session key's type, and reads a text under it. */
 static void converse(fevstunik_acceptor *service, int peer)
 {
     static struct bytes text;
-    uint8_t confounder[16], subkey[32], known_bytes[4096], reply[256], plain[MOST];
-    fevstunik_choice choice = {20, 0, false, false};
+    uint8_t confounder[16], subkey[32], bytes[4096], reply[256], plain[MOST];
+    fevstunik_choice choice = {0, 0, false, false};
     fevstunik_known known;
-    fevstunik_answer told, answer;
+    fevstunik_answer answer;
 
-    told = fevstunik_acceptor_accepted(service, &known, known_bytes, sizeof known_bytes);
+    if (fevstunik_acceptor_accepted(service, &known, bytes, sizeof bytes).code != FEVSTUNIK_OK)
+        return;
+    choice.subkey_type = known.session_type;
     draw(confounder, sizeof confounder);
     draw(subkey, sizeof subkey);
-    answer = fevstunik_acceptor_reply(service, confounder, sizeof confounder, &choice, subkey, sizeof subkey, reply, sizeof reply);
-    if (told.code != FEVSTUNIK_OK || answer.code != FEVSTUNIK_OK || !transmit(peer, reply, answer.size) || !receive(peer, &text))
+    answer = fevstunik_acceptor_reply(service, confounder, sizeof confounder, &choice, subkey, known.session_key.size, reply, sizeof reply);
+    if (answer.code != FEVSTUNIK_OK || !transmit(peer, reply, answer.size) || !receive(peer, &text))
         return;
-    answer = fevstunik_open(20, subkey, sizeof subkey, USAGE, text.at, text.size, plain, sizeof plain);
-    if (answer.code == FEVSTUNIK_OK)
-        printf("%.*s: %.*s\n", (int)known.client.size, (const char *)known_bytes + known.client.at, (int)answer.size, (const char *)plain);
+    answer = fevstunik_open(choice.subkey_type, subkey, known.session_key.size, TEXT_USAGE, text.at, text.size, plain, sizeof plain);
+    if (answer.code == FEVSTUNIK_OK && confirm(peer, &known, bytes, plain, answer.size))
+        printf("%.*s: %.*s\n", (int)known.client.size, (const char *)bytes + known.client.at, (int)answer.size, (const char *)plain);
     else
         printf("a bent text\n");
 }
@@ -79,7 +73,6 @@ int main(int count, char **words)
 {
     static struct bytes keytab;
     fevstunik_acceptor service = {0};
-    struct sockaddr_in address;
     int listener, peer, left;
 
     if (count != 4)
@@ -87,13 +80,9 @@ int main(int count, char **words)
     read_file(words[1], &keytab);
     if (fevstunik_acceptor_new(&service, keytab.at, keytab.size, 300).code != FEVSTUNIK_OK)
         return 2;
-    listener = listen_on(&address);
-    printf("%d\n", ntohs(address.sin_port));
-    fflush(stdout);
+    listener = listen_on_any();
     for (left = atoi(words[3]); left > 0; left--) {
-        peer = accept(listener, NULL, NULL);
-        if (peer < 0)
-            give_up("accept");
+        peer = accept_from(listener);
         serve(&service, words[2], peer);
         fflush(stdout);
         close(peer);

@@ -1,18 +1,21 @@
-/* What both sides of the example need: messages behind their length in four bytes, the clock, and random bytes. */
+/* What both sides of the example say on the wire: messages behind their length in four bytes, over TCP on the loopback. First the client's
+ * request and the service's reply, or its error, which ends it. Then a text that the client seals under the key that the service chose, and
+ * the service's receipt for it: the text's checksum under the key that the client chose. */
 #ifndef WIRE_H
 #define WIRE_H
 
+#include <arpa/inet.h>
+#include <netinet/in.h>
 #include <stdint.h>
 #include <stdio.h>
 #include <stdlib.h>
-#include <sys/random.h>
-#include <time.h>
+#include <string.h>
+#include <sys/socket.h>
 #include <unistd.h>
 
-#include "fevstunik.h"
-
-/* The usage of the text that the client sends sealed; an application chooses from 1024 on (RFC 4120, section 7.5.1). */
-#define USAGE 1024
+/* The usages of the text and of its receipt; an application chooses from 1024 on (RFC 4120, section 7.5.1). */
+#define TEXT_USAGE 1024
+#define RECEIPT_USAGE 1025
 #define MOST 65536
 
 struct bytes {
@@ -20,23 +23,58 @@ struct bytes {
     size_t size;
 };
 
-static void give_up(const char *why)
+static inline void give_up(const char *why)
 {
     perror(why);
     exit(2);
 }
 
-static void read_file(const char *name, struct bytes *bytes)
+static inline struct sockaddr_in loopback(int port)
 {
-    FILE *file = fopen(name, "rb");
+    struct sockaddr_in address;
 
-    if (file == NULL)
-        give_up(name);
-    bytes->size = fread(bytes->at, 1, MOST, file);
-    fclose(file);
+    memset(&address, 0, sizeof address);
+    address.sin_family = AF_INET;
+    address.sin_addr.s_addr = htonl(INADDR_LOOPBACK);
+    address.sin_port = htons((uint16_t)port);
+    return address;
 }
 
-static int receive_all(int from, uint8_t *at, size_t size)
+static inline int connect_to(int port)
+{
+    struct sockaddr_in address = loopback(port);
+    int peer = socket(AF_INET, SOCK_STREAM, 0);
+
+    if (peer < 0 || connect(peer, (struct sockaddr *)&address, sizeof address) != 0)
+        give_up("connect");
+    return peer;
+}
+
+/* Listens on a free port, and prints it. */
+static inline int listen_on_any(void)
+{
+    struct sockaddr_in address = loopback(0);
+    socklen_t size = sizeof address;
+    int listener = socket(AF_INET, SOCK_STREAM, 0);
+
+    if (listener < 0 || bind(listener, (struct sockaddr *)&address, size) != 0 || listen(listener, 8) != 0
+        || getsockname(listener, (struct sockaddr *)&address, &size) != 0)
+        give_up("listen");
+    printf("%d\n", ntohs(address.sin_port));
+    fflush(stdout);
+    return listener;
+}
+
+static inline int accept_from(int listener)
+{
+    int peer = accept(listener, NULL, NULL);
+
+    if (peer < 0)
+        give_up("accept");
+    return peer;
+}
+
+static inline int receive_all(int from, uint8_t *at, size_t size)
 {
     while (size > 0) {
         ssize_t count = read(from, at, size);
@@ -50,7 +88,7 @@ static int receive_all(int from, uint8_t *at, size_t size)
 }
 
 /* Receives a message; answers 0 where there is none. */
-static int receive(int from, struct bytes *bytes)
+static inline int receive(int from, struct bytes *bytes)
 {
     uint8_t head[4];
 
@@ -60,7 +98,7 @@ static int receive(int from, struct bytes *bytes)
     return bytes->size <= MOST && receive_all(from, bytes->at, bytes->size);
 }
 
-static int send_all(int to, const uint8_t *at, size_t size)
+static inline int send_all(int to, const uint8_t *at, size_t size)
 {
     while (size > 0) {
         ssize_t count = write(to, at, size);
@@ -73,29 +111,11 @@ static int send_all(int to, const uint8_t *at, size_t size)
     return 1;
 }
 
-static int transmit(int to, const uint8_t *at, size_t size)
+static inline int transmit(int to, const uint8_t *at, size_t size)
 {
     uint8_t head[4] = {(uint8_t)(size >> 24), (uint8_t)(size >> 16), (uint8_t)(size >> 8), (uint8_t)size};
 
     return send_all(to, head, sizeof head) && send_all(to, at, size);
-}
-
-static fevstunik_time clock_now(void)
-{
-    struct timespec time;
-    fevstunik_time now;
-
-    if (clock_gettime(CLOCK_REALTIME, &time) != 0)
-        give_up("clock");
-    now.seconds = time.tv_sec;
-    now.micros = (uint32_t)(time.tv_nsec / 1000);
-    return now;
-}
-
-static void draw(uint8_t *at, size_t size)
-{
-    if (getrandom(at, size, 0) != (ssize_t)size)
-        give_up("getrandom");
 }
 
 #endif

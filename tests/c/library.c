@@ -1,81 +1,16 @@
 /* Runs the library on the exchange that tests share (tests/vectors/fixture.py), with exact answers. The arguments are the files of the
- * keytab and of the cache, and in hex the request, the request with a subkey, the reply, the reply with a subkey and the error. Each line of output
- * that begins with `wrong` is one. */
-#include <stdio.h>
-#include <stdlib.h>
-#include <string.h>
-
-#include "fevstunik.h"
-
-static int passed = 0, failed = 0;
-
-static void is(const char *what, long long found, long long wanted)
-{
-    if (found == wanted) {
-        passed++;
-        return;
-    }
-    failed++;
-    printf("wrong: %s: %lld, not %lld\n", what, found, wanted);
-}
-
-static void is_answer(const char *what, fevstunik_answer found, unsigned code, int kerberos, size_t at, size_t size)
-{
-    if (found.code == code && found.kerberos == kerberos && found.at == at && found.size == size) {
-        passed++;
-        return;
-    }
-    failed++;
-    printf("wrong: %s: {%u, %d, %zu, %zu}, not {%u, %d, %zu, %zu}\n", what, found.code, found.kerberos, found.at, found.size, code,
-           kerberos, at, size);
-}
-
-static void is_bytes(const char *what, const uint8_t *found, const void *wanted, size_t size)
-{
-    is(what, memcmp(found, wanted, size), 0);
-}
-
-struct bytes {
-    uint8_t at[4096];
-    size_t size;
-};
-
-static void from_hex(struct bytes *bytes, const char *text)
-{
-    unsigned byte;
-
-    bytes->size = 0;
-    for (; sscanf(text, "%2x", &byte) == 1; text += 2)
-        bytes->at[bytes->size++] = (uint8_t)byte;
-}
-
-static void from_file(struct bytes *bytes, const char *name)
-{
-    FILE *file = fopen(name, "rb");
-
-    if (file == NULL)
-        exit(2);
-    bytes->size = fread(bytes->at, 1, sizeof bytes->at, file);
-    fclose(file);
-}
+ * keytab and of the cache, and in hex the request, the request with a subkey, the reply, the reply with a subkey, the error, and a cache of
+ * two credentials with an offset (tests/c_cases.py). */
+#include "checks.h"
 
 /* Where the credential begins in the cache: behind the version, an empty header and the default principal. */
 #define CREDENTIAL_AT 27
 /* How many entries the keytab has. */
 #define ENTRIES 1
 
-static struct bytes keytab, cache, request, keyed, reply, keyed_reply, error;
+static struct bytes keytab, cache, request, keyed, reply, keyed_reply, error, two;
 static uint8_t buffer[4096];
 static const fevstunik_choice nothing = {0, 0, false, false};
-
-static fevstunik_time moment(int64_t seconds, uint32_t micros)
-{
-    fevstunik_time time;
-
-    time.seconds = seconds;
-    time.micros = micros;
-    return time;
-}
 
 /* An empty handle answers that it is empty, and stays so. */
 static void empty_handles(void)
@@ -285,6 +220,7 @@ static void additions(void)
     is_answer("two", fevstunik_keytab_check(buffer, keytab.size + 46), FEVSTUNIK_OK, 0, 0, ENTRIES + 1);
     is_answer("an empty realm", added(&file, "a@", key, 16, sizeof buffer), FEVSTUNIK_OK, 0, 0, 46);
     is_answer("add without a realm", added(&file, "a", key, 16, sizeof buffer), FEVSTUNIK_NO_REALM, 0, 0, 0);
+    is_answer("add of bytes", added(&file, "\xff@EX", key, 16, sizeof buffer), FEVSTUNIK_NOT_UTF8, 0, 0, 0);
     is_answer("add of a bad name", added(&file, "a@b@c", key, 16, sizeof buffer), FEVSTUNIK_BAD_TEXT, 0, 3, 0);
     is_answer("add a long key", added(&file, "a@EX", long_key, 65536, sizeof buffer), FEVSTUNIK_TOO_LONG, 0, 0, 0);
     file.size = 1;
@@ -350,6 +286,68 @@ static void listings(void)
     is("no micros", owner.offset_micros, 0);
     is_answer("owner short", fevstunik_cache_owner(cache.at, cache.size, &owner, buffer, 7), FEVSTUNIK_SHORT_BUFFER, 0, 0, 8);
     is_answer("owner of none", fevstunik_cache_owner(cache.at, 1, &owner, buffer, 8), FEVSTUNIK_FILE_VERSION, 0, 0, 0);
+}
+
+/* The second entry of a keytab is told, and taken out, and not the first. */
+static void second_entry(void)
+{
+    static const uint8_t zeros[42];
+    struct bytes file;
+    fevstunik_key_entry entry;
+    const uint8_t *key = keytab.at + keytab.size - 20;
+    uint8_t made[4096];
+
+    file.size = keytab.size + 46;
+    is_answer("two entries", added(&keytab, "a@EX", key, 16, sizeof buffer), FEVSTUNIK_OK, 0, 0, file.size);
+    memcpy(file.at, buffer, file.size);
+    is_answer("the second", fevstunik_keytab_entry(file.at, file.size, 1, &entry, buffer, sizeof buffer), FEVSTUNIK_OK, 0, 0, 20);
+    is_bytes("its name", buffer, "a@EX", 4);
+    is_bytes("its key", buffer + 4, key, 16);
+    is("its name at", (long long)entry.name.at, 0);
+    is("its name's size", (long long)entry.name.size, 4);
+    is("its key at", (long long)entry.key.at, 4);
+    is("its key's size", (long long)entry.key.size, 16);
+    is_answer("no third", fevstunik_keytab_entry(file.at, file.size, 2, &entry, buffer, sizeof buffer), FEVSTUNIK_NO_SUCH_ENTRY, 0, 0, 0);
+    is_answer("remove it", fevstunik_keytab_remove(file.at, file.size, 1, made, sizeof made), FEVSTUNIK_OK, 0, 0, file.size);
+    is_bytes("the first stays", made, file.at, keytab.size);
+    is_bytes("the second's hole", made + keytab.size, "\xff\xff\xff\xd6", 4);
+    is_bytes("its zeros", made + keytab.size + 4, zeros, sizeof zeros);
+    is_answer("write without it", fevstunik_keytab_write(made, file.size, buffer, sizeof buffer), FEVSTUNIK_OK, 0, 0, keytab.size);
+    is_bytes("the first alone", buffer, keytab.at, keytab.size);
+}
+
+/* A cache of two credentials, whose first is a configuration entry, with the KDC's offset. */
+static void second_credential(void)
+{
+    static const char names[] = "alice@EXkrb5_ccache_conf_data/fast_avail@X-CACHECONF:yes";
+    fevstunik_cache_entry credential;
+    fevstunik_owner owner;
+    size_t size = 8 + 11 + 16 + 214;
+
+    is_answer("two credentials", fevstunik_cache_check(two.at, two.size), FEVSTUNIK_OK, 0, 0, 2);
+    is_answer("the owner", fevstunik_cache_owner(two.at, two.size, &owner, buffer, sizeof buffer), FEVSTUNIK_OK, 0, 0, 8);
+    is_bytes("its name", buffer, "alice@EX", 8);
+    is("an offset", owner.has_offset, 1);
+    is("its seconds", owner.offset_seconds, -2);
+    is("its micros", owner.offset_micros, 7);
+    is_answer("the first", fevstunik_cache_credential(two.at, two.size, 0, &credential, buffer, sizeof buffer), FEVSTUNIK_OK, 0, 0,
+              sizeof names - 1);
+    is_bytes("what it tells", buffer, names, sizeof names - 1);
+    is("no key", (long long)credential.key.size, 0);
+    is("where it tells", (long long)credential.ticket.at, sizeof names - 4);
+    is("no type", credential.key_type, 0);
+    is("not under a session key", credential.is_skey, 0);
+    is_answer("the second", fevstunik_cache_credential(two.at, two.size, 1, &credential, buffer, sizeof buffer), FEVSTUNIK_OK, 0, 0, size);
+    is_bytes("its names", buffer, "alice@EXhost/web@EX", 19);
+    is_bytes("its ticket", buffer + 35, "\x61\x81\xd3", 3);
+    is("its type", credential.key_type, 19);
+    is("authtime", credential.authtime, 1700000000);
+    is("starttime", credential.starttime, 1700000001);
+    is("endtime", credential.endtime, 1700036000);
+    is("renew_till", credential.renew_till, 1700600000);
+    is("flags", credential.flags, 0x40610000);
+    is("under a session key", credential.is_skey, 1);
+    is_answer("no third", fevstunik_cache_credential(two.at, two.size, 2, &credential, buffer, sizeof buffer), FEVSTUNIK_NO_SUCH_ENTRY, 0, 0, 0);
 }
 
 /* The client's subkey and number are told. */
@@ -513,7 +511,7 @@ int main(int count, char **words)
 {
     fevstunik_acceptor service = {0};
 
-    if (count != 8)
+    if (count != 9)
         return 2;
     from_file(&keytab, words[1]);
     from_file(&cache, words[2]);
@@ -522,6 +520,7 @@ int main(int count, char **words)
     from_hex(&reply, words[5]);
     from_hex(&keyed_reply, words[6]);
     from_hex(&error, words[7]);
+    from_hex(&two, words[8]);
     empty_handles();
     is_answer("new", fevstunik_acceptor_new(&service, keytab.at, keytab.size, 300), FEVSTUNIK_OK, 0, 0, 0);
     faulty_keytabs(&service);
@@ -538,8 +537,10 @@ int main(int count, char **words)
     names();
     files();
     listings();
+    second_credential();
     edits();
     additions();
+    second_entry();
     requests();
     agreements();
     texts();

@@ -2,11 +2,7 @@
  * as it was: then the same call is made with memory, and does what it does. The arguments are the files of the keytab and of the cache, and
  * in hex the request with a subkey and the reply to it. It is linked with --wrap=malloc, --wrap=realloc and --wrap=free. Each line of output
  * that begins with `wrong` is one. */
-#include <stdio.h>
-#include <stdlib.h>
-#include <string.h>
-
-#include "fevstunik.h"
+#include "checks.h"
 
 void *__real_malloc(size_t size);
 void *__real_realloc(void *at, size_t size);
@@ -17,7 +13,6 @@ void __wrap_free(void *at);
 
 /* How many allocations are left before one fails; none fails where it is negative. How many pieces are held. */
 static long left = -1, held = 0;
-static int passed = 0, failed = 0;
 
 static int fails(void)
 {
@@ -44,30 +39,6 @@ void __wrap_free(void *at)
 {
     held -= at != NULL;
     __real_free(at);
-}
-
-struct bytes {
-    uint8_t at[4096];
-    size_t size;
-};
-
-static void from_hex(struct bytes *bytes, const char *text)
-{
-    unsigned byte;
-
-    bytes->size = 0;
-    for (; sscanf(text, "%2x", &byte) == 1; text += 2)
-        bytes->at[bytes->size++] = (uint8_t)byte;
-}
-
-static void from_file(struct bytes *bytes, const char *name)
-{
-    FILE *file = fopen(name, "rb");
-
-    if (file == NULL)
-        exit(2);
-    bytes->size = fread(bytes->at, 1, sizeof bytes->at, file);
-    fclose(file);
 }
 
 static struct bytes keytab, cache, request, reply;
@@ -184,14 +155,12 @@ static fevstunik_answer naming(void)
     return fevstunik_name_check(service_name, 11);
 }
 
-static void is(const char *what, long at, long long found, long long wanted)
+static void is_at(const char *what, long at, long long found, long long wanted)
 {
-    if (found == wanted) {
-        passed++;
-        return;
-    }
-    failed++;
-    printf("wrong: %s, %ld: %lld, not %lld\n", what, at, found, wanted);
+    char name[80];
+
+    snprintf(name, sizeof name, "%s, %ld", what, at);
+    is(name, found, wanted);
 }
 
 /* The Nth allocation fails, for each N until there is none; then the call ends well. */
@@ -208,18 +177,27 @@ static void is_told(const char *what, fevstunik_answer (*call)(void))
         answer = call();
         if (left >= 0)
             break;
-        is(what, at, answer.code, FEVSTUNIK_OUT_OF_MEMORY);
-        is("size", at, (long long)answer.size, 0);
-        is("pieces held", at, held, before);
-        is("the handle", at, service.opaque == opaque, 1);
-        is("what is remembered", at, (long long)fevstunik_acceptor_count(&service), (long long)count);
+        is_at(what, at, answer.code, FEVSTUNIK_OUT_OF_MEMORY);
+        is_at("size", at, (long long)answer.size, 0);
+        is_at("pieces held", at, held, before);
+        is_at("the handle", at, service.opaque == opaque, 1);
+        is_at("what is remembered", at, (long long)fevstunik_acceptor_count(&service), (long long)count);
         for (i = 0; i < sizeof buffer && buffer[i] == 0xa5; i++)
             ;
-        is("the buffer", at, (long long)i, sizeof buffer);
+        is_at("the buffer", at, (long long)i, sizeof buffer);
     }
     left = -1;
-    is("allocations", at, at > 0 && at < 1000, 1);
-    is(what, at, answer.code, FEVSTUNIK_OK);
+    is_at("allocations", at, at > 0 && at < 1000, 1);
+    is_at(what, at, answer.code, FEVSTUNIK_OK);
+}
+
+/* Of a request for which there was no memory no error tells. */
+static void is_untold(void)
+{
+    left = 0;
+    is_at("a request without memory", 0, accepting().code, FEVSTUNIK_OUT_OF_MEMORY);
+    left = -1;
+    is_at("its error", 0, refusing().code, FEVSTUNIK_NO_CODE);
 }
 
 int main(int count, char **words)
@@ -231,13 +209,14 @@ int main(int count, char **words)
     from_hex(&request, words[3]);
     from_hex(&reply, words[4]);
     is_told("new", making);
+    is_untold();
     is_told("accept", accepting);
     is_told("accepted", telling);
     is_told("reply", replying);
-    is("a repeat", 0, accepting().code, FEVSTUNIK_REPEAT);
+    is_at("a repeat", 0, accepting().code, FEVSTUNIK_REPEAT);
     is_told("error", refusing);
     fevstunik_acceptor_free(&service);
-    is("freed", 0, held, 0);
+    is_at("freed", 0, held, 0);
     is_told("request", asking);
     is_told("finish", finishing);
     is_told("seal", sealing);
@@ -252,7 +231,7 @@ int main(int count, char **words)
     is_told("keytab remove", removing);
     is_told("keytab write", writing);
     is_told("name check", naming);
-    is("freed", 1, held, 0);
+    is_at("freed", 1, held, 0);
     printf("%d passed, %d failed\n", passed, failed);
     return failed != 0;
 }

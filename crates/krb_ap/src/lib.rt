@@ -54,6 +54,3 @@ pub use refusal::Refusal;
 pub use reply::ReplyOptions;
 pub use request::{RequestOptions, make_request};
 pub use request_fault::RequestFault;
-
-#[cfg(test)]
-mod tests;

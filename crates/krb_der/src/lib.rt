@@ -17,6 +17,12 @@
 //!
 //! What `Element::read` and `Row::read_row` answer is `specs::Computed`'s reading from left to right, of which [`laws`] says that
 //! it gives exactly what `specs::Spells` and `specs::Fault` say.
+//! A private call whose name ends in `_here` has the body of the public call of that name, and says of it what `specs::Computed` gives;
+//! the public one says what the bytes spell.
+//!
+//! Its files by what they do. Reading: `head`, `length` and `tag` (an element's first bytes), `cursor`, `contents`, `leaf` and `whole`
+//! (elements without parts), `element`, `parts` and `row` (those with parts), `message`, `fault`. Writing: `writer`, `encoding`,
+//! `encoding_rows`. Both: `list`, `value`, `time`.
 //!
 //! `specs::Size` says how many bytes the spelling of a value has, and so which values are too long for a message; `specs::Flags`
 //! which bit of flags is which.
@@ -55,6 +61,3 @@ pub use row::{Field, Maybe, MaybeRef, Row};
 pub use time::Seconds;
 pub use value::{Constant, Flags, Microseconds, Octets, Text};
 pub use writer::Writer;
-
-#[cfg(test)]
-mod tests;

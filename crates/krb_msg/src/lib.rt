@@ -63,6 +63,3 @@ pub use request::{ApReq, ApReqRef};
 pub use texts::{Texts, TextsIter};
 pub use ticket::{Encrypted, EncryptedRef, Ticket, TicketRef};
 pub use typed::{Typed, TypedIter, TypedListRef, TypedRef};
-
-#[cfg(test)]
-mod tests;

@@ -1,0 +1,99 @@
+"""Requests and caches that differ from the fixture's in one thing, for tests/c/faults.c and tests/c/library.c: by the standards' rules alone
+(tests/vectors/fixture.py)."""
+import struct
+import sys
+from pathlib import Path
+
+sys.path.append(str(Path(__file__).resolve().parent / "vectors"))
+import fixture as der  # noqa: E402
+
+USE_SESSION_KEY = 1 << 30
+LIMIT = 1_048_576
+
+
+def replaced(data, old, new):
+    """The data with a part that stands in it once replaced by one of the same size."""
+    assert data.count(old) == 1 and len(old) == len(new), (old, new)
+    return data.replace(old, new)
+
+
+def ticket(part=None, etype=19, kvno=3, service=(b"host", b"web")):
+    cipher = der.sealed(19, der.SERVICE_KEY, 2, bytes(range(0x10, 0x20)), part or der.ticket_part())
+    return der.element(0x61, der.sequence(
+        der.field(0, der.integer(5)), der.field(1, der.string(b"EX")), der.field(2, der.name(3, *service)),
+        der.field(3, der.encrypted(etype, cipher, kvno)),
+    ))
+
+
+def changed(old, new):
+    """A ticket with one thing changed in its sealed part."""
+    return ticket(replaced(der.ticket_part(), old, new))
+
+
+def with_data(ad_type):
+    """A ticket with an element of authorization data."""
+    element = der.sequence(der.field(0, der.integer(ad_type)), der.field(1, der.octets(b"data")))
+    return ticket(der.element(0x63, der.element(0x30, der.ticket_part()[4:] + der.field(10, der.sequence(element)))))
+
+
+def request(of, authenticator=None):
+    cipher = der.sealed(19, der.SESSION_KEY, 11, bytes(range(0x20, 0x30)), authenticator or der.authenticator())
+    return der.element(0x6E, der.sequence(
+        der.field(0, der.integer(5)), der.field(1, der.integer(14)), der.field(2, der.element(3, bytes(5))),
+        der.field(3, of), der.field(4, der.encrypted(19, cipher)),
+    ))
+
+
+def refused():
+    """Requests to the fixture's service, each with the name of its answer."""
+    other_realm = b"\x1b\x02EX", b"\x1b\x02EY"
+    bent = ticket()[:-1] + bytes([ticket()[-1] ^ 1])
+    return [
+        ("MESSAGE_TYPE", der.reply()),
+        ("USER_TO_USER", der.request(USE_SESSION_KEY)),
+        ("TICKET_ETYPE", request(ticket(etype=18))),
+        ("NOT_US", request(ticket(service=(b"host", b"mail")))),
+        ("NO_KEY", request(ticket(etype=20))),
+        ("BAD_KEY_VERSION", request(ticket(kvno=4))),
+        ("TICKET_INTEGRITY", request(bent)),
+        ("SESSION_KEY", request(changed(b"\xa0\x03\x02\x01\x13", b"\xa0\x03\x02\x01\x12"))),
+        ("AUTHENTICATOR_INTEGRITY", der.request()[:-1] + bytes([der.request()[-1] ^ 1])),
+        ("BAD_MATCH", request(ticket(), replaced(der.authenticator(), b"alice", b"malic"))),
+        ("SKEW", request(ticket(), replaced(der.authenticator(), b"20231114221500Z", b"20231114222100Z"))),
+        ("NOT_YET_VALID", request(changed(b"\x03\x05\x00\x00\x00\x00\x00", b"\x03\x05\x00\x01\x00\x00\x00"))),
+        ("EXPIRED", request(changed(b"20231115081320Z", b"20231114220000Z"))),
+        ("TRANSITED", request(changed(*other_realm), replaced(der.authenticator(), *other_realm))),
+        ("AUTHORIZATION", request(with_data(4))),
+    ]
+
+
+def client_and_server():
+    return der.principal(1, b"EX", b"alice"), der.principal(3, b"EX", b"host", b"web")
+
+
+def of_type_18():
+    client, server = client_and_server()
+    return b"\x05\x04\x00\x00" + client + der.credential(client, server, 18, bytes(32), (0, 0, 1_700_036_000, 0), der.ticket())
+
+
+def prevented():
+    """Caches with which there is no request, each with the name of the answer."""
+    return [
+        ("NO_USABLE_KEY", of_type_18()),
+        ("BAD_TICKET", der.cache(b"no ticket")),
+        ("TOO_LONG", der.cache(der.ticket(bytes(LIMIT - 100)))),
+    ]
+
+
+def two_credentials():
+    """A cache with an offset, whose second credential has other numbers in each field."""
+    client, server = client_and_server()
+    times = (1_700_000_000, 1_700_000_001, 1_700_036_000, 1_700_600_000)
+    plain = der.credential(client, server, 19, der.SESSION_KEY, times, der.ticket())
+    return der.configured_cache() + replaced(plain, struct.pack(">4IBI", *times, 0, 0), struct.pack(">4IBI", *times, 1, 0x4061_0000))
+
+
+def lines(code_of, kerberos_of):
+    """What tests/c/faults.c reads, with the numbers of the answers' names."""
+    cases = [("request", *it) for it in refused()] + [("cache", *it) for it in prevented()]
+    return "".join(f"{what} {code_of[name]} {kerberos_of.get(name, 0)} {data.hex()}\n" for what, name, data in cases)

@@ -1,0 +1,115 @@
+"""The header of the library for C beside the crate that it is of: codes, structs, prototypes, and what its comments name.
+
+Each check is a pair: its name, and what is wrong, or None.
+"""
+import re
+from pathlib import Path
+
+TOP = Path(__file__).resolve().parent.parent
+CRATE = TOP / "crates/krb_c"
+HEADER = TOP / "include/fevstunik.h"
+TYPES = {"u32": "uint32_t", "i16": "int16_t", "i32": "int32_t", "i64": "int64_t", "usize": "size_t", "bool": "bool", "Handle": "fevstunik_acceptor"}
+
+
+def without_comments(text):
+    return re.sub(r"/\*.*?\*/", "", text, flags=re.S)
+
+
+def header_functions():
+    return set(re.findall(r"\b(fevstunik_\w+)\s*\(", without_comments(HEADER.read_text())))
+
+
+def header_codes():
+    return {name: int(value) for name, value in re.findall(r"\bFEVSTUNIK_(\w+) = (\d+)", without_comments(HEADER.read_text()))}
+
+
+def crate_codes():
+    return {name: int(value) for name, value in re.findall(r"const (\w+): u32 = (\d+);", (CRATE / "src/code.rt").read_text())}
+
+
+def comments():
+    """The header's comment at each function, with what the function answers."""
+    form = r"/\*((?:(?!\*/).)*)\*/\n(fevstunik_answer|size_t|void) (fevstunik_\w+)\("
+    return {function: (kind, text) for text, kind, function in re.findall(form, HEADER.read_text(), re.S)}
+
+
+def documented():
+    """The names of the codes that the header names at each function that answers one; a range stands for all of it."""
+    numbers = header_codes()
+    found = {}
+    for function, (kind, text) in comments().items():
+        named = set(re.findall(r"\b(?:FEVSTUNIK)?_([A-Z][A-Z0-9_]*)\b", text))
+        for first, last in re.findall(r"from FEVSTUNIK_(\w+) to[\s*]+FEVSTUNIK_(\w+)", text):
+            named |= {name for name, number in numbers.items() if numbers[first] <= number <= numbers[last]}
+        if kind == "fevstunik_answer":
+            found[function] = named
+    return found
+
+
+def examples():
+    """Each function's comment ends with code that calls it."""
+    told = {function for function, (_, text) in comments().items() if re.search(rf"\n \*     .*\b{function}\(", text)}
+    return differs(told, header_functions())
+
+
+def kerberos_codes():
+    """The codes of RFC 4120 that the header tells beside its own."""
+    return {name: int(code) for name, code in re.findall(r"\bFEVSTUNIK_(\w+) = \d+,\s*/\* (\d+): ", HEADER.read_text())}
+
+
+def differs(found, wanted):
+    return None if found == wanted else f"only here: {sorted(found - wanted)}, only there: {sorted(wanted - found)}"
+
+
+def codes():
+    header, crate = header_codes(), crate_codes()
+    other = {name: value for name, value in header.items() if crate.get(name) != value}
+    return f"not those of the crate: {other}" if other else None
+
+
+def c_type(name):
+    """The header's name of a type of the crate: fevstunik_key_entry for KeyEntry."""
+    return TYPES.get(name) or "fevstunik" + re.sub(r"[A-Z]", lambda it: "_" + it[0].lower(), name)
+
+
+def crate_text():
+    return "\n".join(path.read_text() for path in sorted((CRATE / "src").glob("*.rt")))
+
+
+def structs():
+    """The header's structs have the crate's fields, in their order. (The handle is opaque.)"""
+    form = r"#\[repr\(C\)\]\n#\[derive\(Clone, Copy\)\]\npub struct (\w+) \{\n(.*?)\n\}"
+    crate = {(c_type(name), tuple((c_type(of), field) for field, of in re.findall(r"^    pub (\w+): (\w+),$", body, re.M)))
+             for name, body in re.findall(form, crate_text(), re.S)}
+    form = r"typedef struct (\w+) \{\n(.*?)\n\}"
+    header = {(name, tuple(re.findall(r"^    (\w+) (\w+);", body, re.M)))
+              for name, body in re.findall(form, without_comments(HEADER.read_text()), re.S) if name != "fevstunik_acceptor"}
+    return differs(header, crate)
+
+
+def c_parameters(name, of):
+    """How C hands in a parameter: a slice as a pointer and a size, a reference as a pointer, and no allocator."""
+    if of == "Global":
+        return []
+    const, at = ("" if of.startswith("&mut ") else "const "), re.sub(r"^&(mut )?", "", of)
+    if at == "[u8]":
+        return [f"{const}uint8_t *{name}", f"size_t {name}_size"]
+    return [f"{const}{c_type(at)} *{name}"] if of.startswith("&") else [f"{c_type(of)} {name}"]
+
+
+def prototypes():
+    """The header's prototypes are those of the crate's exports."""
+    crate = set()
+    for name, words, answer in re.findall(r'pub extern "C" fn (\w+)\((.*?)\)(?: -> (\w+))?\n', crate_text(), re.S):
+        parameters = [it for word in re.findall(r"(\w+): ([^,]+?)(?:,|\s*$)", words) for it in c_parameters(*word)]
+        crate.add(f"{c_type(answer) if answer else 'void'} {name}({', '.join(parameters)})")
+    header = re.findall(r"^((?:fevstunik_answer|size_t|void) fevstunik_\w+\([^;]*\));", without_comments(HEADER.read_text()), re.M)
+    return differs({" ".join(it.split()) for it in header}, crate)
+
+
+def header_checks():
+    yield "the header's codes are the crate's", codes()
+    yield "the header's structs are the crate's", structs()
+    yield "the header's prototypes are the crate's", prototypes()
+    yield "each function has an example in the header", examples()
+    yield "each code is one that a function answers", differs(set().union(*documented().values()), set(header_codes()))
