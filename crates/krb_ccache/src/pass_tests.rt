@@ -155,3 +155,16 @@ fn a_large_credential_is_passed(rt: HostRuntime) -> Result<(), Fail> {
     }
     Ok(())
 }
+
+// Looks for want of memory in a credential of very many components, which is given.
+#[test]
+fn a_large_credential_is_given(rt: HostRuntime) -> Result<(), Fail> {
+    let alloc = rt.alloc();
+    let whole = wide(alloc, 262_000, 1)?;
+    let mut reader = CredentialReader::open(alloc, SliceSource::new(&whole)).map_err(
+        |back| back.1,
+    )?;
+    let credential = reader.next(alloc)?.ok_or("there is one")?;
+    is(&rt, credential.server.components.len(), 262_000);
+    Ok(())
+}

@@ -117,3 +117,14 @@ fn a_large_record_is_passed(rt: HostRuntime) -> Result<(), Fail> {
     is(&rt, reader.pass(), Err(KeytabFault::BadEntry { at: 2 }));
     Ok(())
 }
+
+// Looks for want of memory in an entry of very many components, which is given.
+#[test]
+fn a_large_record_is_given(rt: HostRuntime) -> Result<(), Fail> {
+    let alloc = rt.alloc();
+    let whole = wide(alloc, 65_535, 0)?;
+    let mut reader = EntryReader::new(alloc, SliceSource::new(&whole));
+    let entry = reader.next(alloc)?.ok_or("there is one")?;
+    is(&rt, entry.principal().components.len(), 65_535);
+    Ok(())
+}
