@@ -64,6 +64,8 @@ def checks(_program):
         yield holds("through a link", called(room, "./links/one", room), [])
         yield holds("through a link to a link, from another folder", called(room, "./krbtool", room / "links/more"), [])
         yield holds("by its whole path", called(room, str(room / "krbtool"), "/"), [])
+        written(room / "crates/hello/src/main.rt", "", age=-60)
+        yield holds("doesn't build where another crate is newer", called(room, "./krbtool", room), [])
         written(room / "crates/krb_name/specs/Lib.antt", "", age=-60)
         yield holds("builds where a definition is newer", called(room, "./links/one", room), BUILT)
         os.utime(room / "crates/krb_name/specs/Lib.antt", (1, 1))
