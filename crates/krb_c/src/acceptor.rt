@@ -82,7 +82,7 @@ fn service(alloc: Global, keytab: &[u8], skew: u32) -> Result<Box<Login>, Answer
 }
 
 /// Decides whether a request is accepted at a moment of the service's clock, and remembers what has to be remembered of it. What is
-/// accepted is kept until the next call, and is told by `fevstunik_acceptor_accepted`.
+/// accepted is kept until the next call, also one with a moment that is none, and is told by `fevstunik_acceptor_accepted`.
 #[unsafe(no_mangle)]
 pub extern "C" fn fevstunik_acceptor_accept(
     handle: &mut Handle,
@@ -212,7 +212,8 @@ pub extern "C" fn fevstunik_acceptor_count(handle: &mut Handle, alloc: Global) -
     }
 }
 
-/// Tells the latest moment that was handed in, where there is one.
+/// Tells the greatest moment that was handed in, where there is one. Calls that were answered by want of memory or by a moment that is
+/// none don't count.
 #[unsafe(no_mangle)]
 pub extern "C" fn fevstunik_acceptor_latest(
     handle: &mut Handle,
