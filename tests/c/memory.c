@@ -222,6 +222,52 @@ static void is_told(const char *what, fevstunik_answer (*call)(void))
     is(what, at, answer.code, FEVSTUNIK_OK);
 }
 
+/* No error tells of want of memory. */
+static void without_a_code(void)
+{
+    is("new", 0, making().code, FEVSTUNIK_OK);
+    left = 0;
+    is("accept", 0, accepting().code, FEVSTUNIK_OUT_OF_MEMORY);
+    left = -1;
+    is("no code", 0, refusing().code, FEVSTUNIK_NO_CODE);
+    is("none accepted", 0, telling().code, FEVSTUNIK_NOTHING_THERE);
+    is("accept then", 0, accepting().code, FEVSTUNIK_OK);
+    is("nothing refused", 0, refusing().code, FEVSTUNIK_NOTHING_THERE);
+    fevstunik_acceptor_free(&service);
+}
+
+/* These faults are told without memory: those of caches, keys and confounders. Each next allocation would fail. */
+static void faults_without_memory(void)
+{
+    static const fevstunik_choice other = {17, 0, false, false};
+    fevstunik_cache_entry entry;
+    fevstunik_owner owner;
+
+    is("new", 1, making().code, FEVSTUNIK_OK);
+    is("accept", 1, accepting().code, FEVSTUNIK_OK);
+    left = 0;
+    is("version", 0, fevstunik_cache_check(cache.at, 1).code, FEVSTUNIK_FILE_VERSION);
+    is("cut off", 0, fevstunik_cache_check(cache.at, cache.size - 1).code, FEVSTUNIK_FILE_BAD_ITEM);
+    is("credential", 0, fevstunik_cache_credential(cache.at, cache.size - 1, 0, &entry, buffer, sizeof buffer).code, FEVSTUNIK_FILE_BAD_ITEM);
+    is("owner", 0, fevstunik_cache_owner(cache.at, 3, &owner, buffer, sizeof buffer).code, FEVSTUNIK_FILE_HEADER);
+    is("request", 0,
+       fevstunik_request(cache.at, 1, service_name, 11, &now, cache.at, 16, &plain, cache.at, 0, buffer, sizeof buffer).code,
+       FEVSTUNIK_FILE_VERSION);
+    is("seal type", 0, fevstunik_seal(17, cache.at, 16, 2, cache.at, 16, cache.at, 5, buffer, sizeof buffer).code, FEVSTUNIK_KEY_TYPE);
+    is("seal confounder", 0, fevstunik_seal(19, cache.at, 16, 2, cache.at, 15, cache.at, 5, buffer, sizeof buffer).code,
+       FEVSTUNIK_BAD_CONFOUNDER);
+    is("open length", 0, fevstunik_open(20, cache.at, 16, 2, cache.at, 64, buffer, sizeof buffer).code, FEVSTUNIK_KEY_LENGTH);
+    is("open short", 0, fevstunik_open(19, cache.at, 16, 2, cache.at, 31, buffer, sizeof buffer).code, FEVSTUNIK_TEXT_SHORT);
+    is("open tag", 0, fevstunik_open(19, cache.at, 16, 2, cache.at, 64, buffer, sizeof buffer).code, FEVSTUNIK_TEXT_INTEGRITY);
+    is("reply confounder", 0, fevstunik_acceptor_reply(&service, cache.at, 15, &plain, cache.at, 0, buffer, sizeof buffer).code,
+       FEVSTUNIK_BAD_CONFOUNDER);
+    is("reply type", 0, fevstunik_acceptor_reply(&service, cache.at, 16, &other, cache.at, 16, buffer, sizeof buffer).code,
+       FEVSTUNIK_KEY_TYPE);
+    is("none was asked for", 0, left, 0);
+    left = -1;
+    fevstunik_acceptor_free(&service);
+}
+
 int main(int count, char **words)
 {
     if (count != 5)
@@ -252,6 +298,8 @@ int main(int count, char **words)
     is_told("keytab remove", removing);
     is_told("keytab write", writing);
     is_told("name check", naming);
+    without_a_code();
+    faults_without_memory();
     is("freed", 1, held, 0);
     printf("%d passed, %d failed\n", passed, failed);
     return failed != 0;
