@@ -387,8 +387,8 @@ fevstunik_answer fevstunik_acceptor_error(fevstunik_acceptor *handle, const uint
 /* Counts the requests that are remembered; none where the handle is empty. */
 size_t fevstunik_acceptor_count(fevstunik_acceptor *handle);
 
-/* Tells the greatest moment that was handed in to fevstunik_acceptor_accept so far, without the calls that answered
- * FEVSTUNIK_OUT_OF_MEMORY or FEVSTUNIK_BAD_MOMENT.
+/* Tells the greatest moment that was handed in to fevstunik_acceptor_accept so far, by which the service decides. Calls that were answered
+ * by want of memory, or by a moment that is none, don't count.
  *
  * FEVSTUNIK_EMPTY_HANDLE and FEVSTUNIK_NOTHING_THERE, and nothing is written; FEVSTUNIK_OK. */
 fevstunik_answer fevstunik_acceptor_latest(fevstunik_acceptor *handle, fevstunik_time *latest);
