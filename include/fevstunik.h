@@ -268,11 +268,13 @@ fevstunik_answer fevstunik_cache_owner(const uint8_t *cache, size_t cache_size, 
                                        size_t buffer_size);
 
 /* Adds an entry to a keytab, and answers the bytes of the new file. `name` is the name's text, `key` the key's bytes, of any type. The first
- * hole that is long enough takes the entry; where there is none the entry stands at the end. The bytes 05 02 are an empty keytab.
+ * hole that is long enough takes the entry; where there is none the entry stands behind the last record, in place of the end word (a
+ * record's size of 0), and the bytes behind an end word are lost. The bytes 05 02 are an empty keytab.
  *
- * FEVSTUNIK_NOT_UTF8, _BAD_TEXT and _NO_REALM for the name; FEVSTUNIK_TOO_LONG, also where the name has a part of more than 65,535 bytes or
- * more parts than that, or the key more bytes; FEVSTUNIK_FILE_VERSION, _FILE_TRUNCATED, _FILE_BAD_ITEM; FEVSTUNIK_OUT_OF_MEMORY; and
- * nothing is written. FEVSTUNIK_OK; FEVSTUNIK_SHORT_BUFFER.
+ * The first that holds: FEVSTUNIK_NOT_UTF8, _BAD_TEXT and _NO_REALM for the name; FEVSTUNIK_TOO_LONG where the name has a part of more
+ * than 65,535 bytes or more parts than that, or the key more bytes; FEVSTUNIK_TOO_LONG, _FILE_VERSION, _FILE_TRUNCATED, _FILE_BAD_ITEM
+ * for the keytab; FEVSTUNIK_TOO_LONG for the new file; or FEVSTUNIK_OUT_OF_MEMORY; and nothing is written. FEVSTUNIK_OK;
+ * FEVSTUNIK_SHORT_BUFFER.
  *
  *     fevstunik_key_parts parts = {1700000000, 3, 3, 19};
  *     answer = fevstunik_keytab_add(file, file_size, (const uint8_t *)"host/web@EX", 11, key, 16, &parts, buffer, sizeof buffer);
@@ -333,8 +335,9 @@ fevstunik_answer fevstunik_acceptor_new(fevstunik_acceptor *handle, const uint8_
  * What is accepted is kept until the next call of this function: fevstunik_acceptor_accepted tells it, and fevstunik_acceptor_reply
  * replies to it. So is why a request is refused: fevstunik_acceptor_error tells it to the client. Only one of the two is there.
  *
- * FEVSTUNIK_BAD_MOMENT, and the handle is as before; FEVSTUNIK_EMPTY_HANDLE; FEVSTUNIK_OK; a cause from FEVSTUNIK_MESSAGE_TYPE to
- * FEVSTUNIK_AUTHORIZATION; FEVSTUNIK_OUT_OF_MEMORY, and then what is remembered and the latest moment are as before.
+ * FEVSTUNIK_BAD_MOMENT; FEVSTUNIK_EMPTY_HANDLE; FEVSTUNIK_OK; a cause from FEVSTUNIK_MESSAGE_TYPE to FEVSTUNIK_AUTHORIZATION;
+ * FEVSTUNIK_OUT_OF_MEMORY. With FEVSTUNIK_BAD_MOMENT nothing is told as accepted or refused any more, and with it and with
+ * FEVSTUNIK_OUT_OF_MEMORY what is remembered and the latest moment are as before.
  *
  *     fevstunik_time now = {1700000101, 0};
  *     if (fevstunik_acceptor_accept(&service, request, request_size, &now).code == FEVSTUNIK_OK) ...
@@ -344,6 +347,9 @@ fevstunik_answer fevstunik_acceptor_accept(fevstunik_acceptor *handle, const uin
 
 /* Tells what the last call of fevstunik_acceptor_accept accepted: in the buffer the client's text, the session key and the client's
  * subkey, one after another, and in `known` where they stand, and the numbers. `known` is written also where the buffer is too short.
+ *
+ * The ticket's addresses were compared with nothing; they, authorization data and the checksum aren't told, nor which service's name
+ * was asked for.
  *
  * FEVSTUNIK_EMPTY_HANDLE, FEVSTUNIK_NOTHING_THERE and FEVSTUNIK_OUT_OF_MEMORY, and nothing is written; FEVSTUNIK_OK;
  * FEVSTUNIK_SHORT_BUFFER.
@@ -359,8 +365,8 @@ fevstunik_answer fevstunik_acceptor_accepted(fevstunik_acceptor *handle, fevstun
  * `wants_reply` is true, at which it doesn't look. `confounder` is 16 random bytes, new for each call. `subkey` has the bytes of the
  * subkey whose type `choice` tells; where that is 0 they aren't looked at.
  *
- * FEVSTUNIK_EMPTY_HANDLE, FEVSTUNIK_NOTHING_THERE, FEVSTUNIK_BAD_CONFOUNDER, FEVSTUNIK_KEY_TYPE, FEVSTUNIK_KEY_LENGTH and
- * FEVSTUNIK_OUT_OF_MEMORY, and nothing is written; FEVSTUNIK_OK; FEVSTUNIK_SHORT_BUFFER. A reply has fewer than 256 bytes.
+ * The first that holds: FEVSTUNIK_EMPTY_HANDLE, FEVSTUNIK_NOTHING_THERE; FEVSTUNIK_BAD_CONFOUNDER; FEVSTUNIK_KEY_TYPE and _KEY_LENGTH for
+ * the subkey; or FEVSTUNIK_OUT_OF_MEMORY; and nothing is written. FEVSTUNIK_OK; FEVSTUNIK_SHORT_BUFFER. A reply has fewer than 256 bytes.
  *
  *     fevstunik_choice choice = {0, 0, false, false};
  *     uint8_t reply[256];
@@ -390,7 +396,8 @@ fevstunik_answer fevstunik_acceptor_error(fevstunik_acceptor *handle, const uint
  */
 size_t fevstunik_acceptor_count(fevstunik_acceptor *handle);
 
-/* Tells the latest moment that was handed in, by which the service decides. The handle stays as it is.
+/* Tells the greatest moment that was handed in to fevstunik_acceptor_accept so far, by which the service decides. Calls that were answered
+ * by want of memory, or by a moment that is none, don't count. The handle stays as it is.
  *
  * FEVSTUNIK_EMPTY_HANDLE and FEVSTUNIK_NOTHING_THERE, and nothing is written; FEVSTUNIK_OK.
  *
@@ -451,8 +458,8 @@ fevstunik_answer fevstunik_finish(const uint8_t *cache, size_t cache_size, const
 /* Seals a plain text under a key (16 bytes for type 19, 32 for type 20) for a usage (RFC 4120, section 7.5.1). `confounder` is 16 random
  * bytes, new for each call. The sealed text has 16 bytes and the plain text's, and 16 (type 19) or 24 (type 20).
  *
- * FEVSTUNIK_KEY_TYPE, FEVSTUNIK_KEY_LENGTH, FEVSTUNIK_BAD_CONFOUNDER and FEVSTUNIK_OUT_OF_MEMORY, and nothing is written;
- * FEVSTUNIK_OK; FEVSTUNIK_SHORT_BUFFER.
+ * The first that holds: FEVSTUNIK_KEY_TYPE, FEVSTUNIK_KEY_LENGTH; FEVSTUNIK_BAD_CONFOUNDER; or FEVSTUNIK_OUT_OF_MEMORY; and nothing is
+ * written. FEVSTUNIK_OK; FEVSTUNIK_SHORT_BUFFER.
  *
  *     answer = fevstunik_seal(19, key, 16, 1024, random, 16, text, text_size, buffer, sizeof buffer);
  */
@@ -461,8 +468,8 @@ fevstunik_answer fevstunik_seal(int32_t key_type, const uint8_t *key, size_t key
 
 /* Opens a text that was sealed under a key for a usage, and answers the plain text.
  *
- * FEVSTUNIK_KEY_TYPE, FEVSTUNIK_KEY_LENGTH, FEVSTUNIK_TEXT_SHORT, FEVSTUNIK_TEXT_INTEGRITY and FEVSTUNIK_OUT_OF_MEMORY, and nothing is
- * written; FEVSTUNIK_OK; FEVSTUNIK_SHORT_BUFFER.
+ * The first that holds: FEVSTUNIK_KEY_TYPE, FEVSTUNIK_KEY_LENGTH; FEVSTUNIK_TEXT_SHORT, FEVSTUNIK_TEXT_INTEGRITY; or
+ * FEVSTUNIK_OUT_OF_MEMORY; and nothing is written. FEVSTUNIK_OK; FEVSTUNIK_SHORT_BUFFER.
  *
  *     answer = fevstunik_open(19, key, 16, 1024, sealed, sealed_size, buffer, sizeof buffer);
  */

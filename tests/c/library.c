@@ -507,6 +507,84 @@ static void files(void)
     is_answer("a keytab as a cache", fevstunik_cache_check(keytab.at, keytab.size), FEVSTUNIK_FILE_VERSION, 0, 0, 0);
 }
 
+/* Of two faults at once the first in the order of the header is told. */
+static void two_faults_of_requests(void)
+{
+    fevstunik_time at = moment(1700000100, 5), bad = moment(253402300800, 0), late = moment(1700036000, 0);
+
+    cache.at[0]++;
+    is_answer("cache and name", asked("host/web", at, 16, 0, sizeof buffer), FEVSTUNIK_FILE_VERSION, 0, 0, 0);
+    is_answer("cache and moment", asked("host/web@EX", bad, 16, 0, sizeof buffer), FEVSTUNIK_FILE_VERSION, 0, 0, 0);
+    is_answer("cache and confounder", asked("host/web@EX", at, 15, 0, sizeof buffer), FEVSTUNIK_FILE_VERSION, 0, 0, 0);
+    cache.at[0]--;
+    is_answer("name and moment", asked("a@b@c", bad, 16, 0, sizeof buffer), FEVSTUNIK_BAD_TEXT, 0, 3, 0);
+    is_answer("bytes and moment", asked("\xff@b@c", bad, 16, 0, sizeof buffer), FEVSTUNIK_NOT_UTF8, 0, 0, 0);
+    is_answer("name and confounder", asked("host/web", at, 15, 0, sizeof buffer), FEVSTUNIK_NO_REALM, 0, 0, 0);
+    is_answer("moment and confounder", asked("host/web@EX", bad, 15, 0, sizeof buffer), FEVSTUNIK_BAD_MOMENT, 0, 0, 0);
+    is_answer("moment and type", asked("host/web@EX", bad, 16, 1, sizeof buffer), FEVSTUNIK_BAD_MOMENT, 0, 0, 0);
+    is_answer("confounder and type", asked("host/web@EX", at, 15, 1, sizeof buffer), FEVSTUNIK_BAD_CONFOUNDER, 0, 0, 0);
+    is_answer("confounder and service", asked("host/web@EY", at, 15, 0, sizeof buffer), FEVSTUNIK_BAD_CONFOUNDER, 0, 0, 0);
+    is_answer("type and service", asked("host/web@EY", at, 16, 1, sizeof buffer), FEVSTUNIK_KEY_TYPE, 0, 0, 0);
+    is_answer("length and end", asked("host/web@EX", late, 16, 19, sizeof buffer), FEVSTUNIK_KEY_LENGTH, 0, 0, 0);
+    is_answer("service and end", asked("host/web@EY", late, 16, 0, sizeof buffer), FEVSTUNIK_NO_CREDENTIAL, 0, 0, 0);
+}
+
+/* So are those of texts that are sealed and opened, of replies and errors, and of keytabs. */
+static void two_faults(void)
+{
+    static const uint8_t key[17] = {0};
+    static uint8_t long_key[65536];
+    struct bytes none = {{0}, 1};
+    fevstunik_acceptor service = {0};
+    fevstunik_agreement agreement;
+    fevstunik_time now = moment(1700000100, 7), bad = moment(0, 1000000);
+
+    is_answer("seal type and confounder", fevstunik_seal(17, key, 16, 2, key, 15, key, 0, buffer, 64), FEVSTUNIK_KEY_TYPE, 0, 0, 0);
+    is_answer("seal length and confounder", fevstunik_seal(19, key, 17, 2, key, 15, key, 0, buffer, 64), FEVSTUNIK_KEY_LENGTH, 0, 0, 0);
+    is_answer("open type and short", fevstunik_open(17, key, 16, 2, key, 3, buffer, 64), FEVSTUNIK_KEY_TYPE, 0, 0, 0);
+    is_answer("open length and tag", fevstunik_open(20, key, 16, 2, long_key, 64, buffer, 64), FEVSTUNIK_KEY_LENGTH, 0, 0, 0);
+    is_answer("open short and tag", fevstunik_open(19, key, 16, 2, key, 16, buffer, 64), FEVSTUNIK_TEXT_SHORT, 0, 0, 0);
+    is_answer("tag type and tag", fevstunik_checksum_check(17, key, 16, 2, key, 3, key, 16), FEVSTUNIK_KEY_TYPE, 0, 0, 0);
+    is_answer("tag length and tag", fevstunik_checksum_check(20, key, 16, 2, key, 3, key, 16), FEVSTUNIK_KEY_LENGTH, 0, 0, 0);
+    is_answer("skew and keytab", fevstunik_acceptor_new(&service, none.at, none.size, 86401), FEVSTUNIK_BAD_SKEW, 0, 0, 0);
+    is_answer("new", fevstunik_acceptor_new(&service, keytab.at, keytab.size, 300), FEVSTUNIK_OK, 0, 0, 0);
+    is_answer("nothing and name", error_of(&service, "host/web", now, sizeof buffer), FEVSTUNIK_NOTHING_THERE, 0, 0, 0);
+    is_answer("accept", fevstunik_acceptor_accept(&service, request.at, request.size, &now), FEVSTUNIK_OK, 0, 0, 0);
+    is_answer("reply confounder and type", reply_of(&service, 17, 17, 32, sizeof buffer), FEVSTUNIK_BAD_CONFOUNDER, 0, 0, 0);
+    is_answer("reply confounder and length", reply_of(&service, 15, 20, 16, sizeof buffer), FEVSTUNIK_BAD_CONFOUNDER, 0, 0, 0);
+    is_answer("repeat", fevstunik_acceptor_accept(&service, request.at, request.size, &now), FEVSTUNIK_REPEAT, 34, 0, 0);
+    is_answer("error name and moment", error_of(&service, "host/web", bad, sizeof buffer), FEVSTUNIK_NO_REALM, 0, 0, 0);
+    is_answer("error bytes and moment", error_of(&service, "\xff@EX", bad, sizeof buffer), FEVSTUNIK_NOT_UTF8, 0, 0, 0);
+    fevstunik_acceptor_free(&service);
+    is_answer("add name and key", added(&none, "a", long_key, 65536, sizeof buffer), FEVSTUNIK_NO_REALM, 0, 0, 0);
+    is_answer("add key and keytab", added(&none, "a@EX", long_key, 65536, sizeof buffer), FEVSTUNIK_TOO_LONG, 0, 0, 0);
+    is_answer("name that is no text", fevstunik_name_check((const uint8_t *)" \xff@b@c", 6), FEVSTUNIK_NOT_UTF8, 0, 0, 0);
+    is_answer("finish moment and reply", finished(&none, bad, &agreement, sizeof buffer), FEVSTUNIK_BAD_MOMENT, 0, 0, 0);
+}
+
+/* A moment that is none lets go of what was accepted, and of why it was refused; what is remembered and the latest moment stay. */
+static void bad_moments(void)
+{
+    fevstunik_acceptor service = {0};
+    fevstunik_time now = moment(1700000101, 7), bad = moment(0, 1000000), latest = moment(0, 0);
+    fevstunik_known known;
+
+    is_answer("new", fevstunik_acceptor_new(&service, keytab.at, keytab.size, 300), FEVSTUNIK_OK, 0, 0, 0);
+    is_answer("accept", fevstunik_acceptor_accept(&service, request.at, request.size, &now), FEVSTUNIK_OK, 0, 0, 0);
+    is_answer("no moment", fevstunik_acceptor_accept(&service, request.at, request.size, &bad), FEVSTUNIK_BAD_MOMENT, 0, 0, 0);
+    is_answer("none told", fevstunik_acceptor_accepted(&service, &known, buffer, sizeof buffer), FEVSTUNIK_NOTHING_THERE, 0, 0, 0);
+    is_answer("no reply", reply_of(&service, 16, 0, 0, sizeof buffer), FEVSTUNIK_NOTHING_THERE, 0, 0, 0);
+    is_answer("no error", error_of(&service, "host/web@EX", now, sizeof buffer), FEVSTUNIK_NOTHING_THERE, 0, 0, 0);
+    is("count", (long long)fevstunik_acceptor_count(&service), 1);
+    is_answer("latest", fevstunik_acceptor_latest(&service, &latest), FEVSTUNIK_OK, 0, 0, 0);
+    is("latest second", latest.seconds, 1700000101);
+    is("latest micros", latest.micros, 7);
+    is_answer("repeat", fevstunik_acceptor_accept(&service, request.at, request.size, &now), FEVSTUNIK_REPEAT, 34, 0, 0);
+    is_answer("no moment again", fevstunik_acceptor_accept(&service, request.at, request.size, &bad), FEVSTUNIK_BAD_MOMENT, 0, 0, 0);
+    is_answer("no error of it", error_of(&service, "host/web@EX", now, sizeof buffer), FEVSTUNIK_NOTHING_THERE, 0, 0, 0);
+    fevstunik_acceptor_free(&service);
+}
+
 int main(int count, char **words)
 {
     fevstunik_acceptor service = {0};
@@ -544,6 +622,9 @@ int main(int count, char **words)
     requests();
     agreements();
     texts();
+    two_faults_of_requests();
+    two_faults();
+    bad_moments();
     printf("%d passed, %d failed\n", passed, failed);
     return failed != 0;
 }

@@ -191,13 +191,50 @@ static void is_told(const char *what, fevstunik_answer (*call)(void))
     is_at(what, at, answer.code, FEVSTUNIK_OK);
 }
 
-/* Of a request for which there was no memory no error tells. */
-static void is_untold(void)
+/* No error tells of want of memory. */
+static void without_a_code(void)
 {
+    is_at("new", 0, making().code, FEVSTUNIK_OK);
     left = 0;
-    is_at("a request without memory", 0, accepting().code, FEVSTUNIK_OUT_OF_MEMORY);
+    is_at("accept", 0, accepting().code, FEVSTUNIK_OUT_OF_MEMORY);
     left = -1;
-    is_at("its error", 0, refusing().code, FEVSTUNIK_NO_CODE);
+    is_at("no code", 0, refusing().code, FEVSTUNIK_NO_CODE);
+    is_at("none accepted", 0, telling().code, FEVSTUNIK_NOTHING_THERE);
+    is_at("accept then", 0, accepting().code, FEVSTUNIK_OK);
+    is_at("nothing refused", 0, refusing().code, FEVSTUNIK_NOTHING_THERE);
+    fevstunik_acceptor_free(&service);
+}
+
+/* These faults are told without memory: those of caches, keys and confounders. Each next allocation would fail. */
+static void faults_without_memory(void)
+{
+    static const fevstunik_choice other = {17, 0, false, false};
+    fevstunik_cache_entry entry;
+    fevstunik_owner owner;
+
+    is_at("new", 1, making().code, FEVSTUNIK_OK);
+    is_at("accept", 1, accepting().code, FEVSTUNIK_OK);
+    left = 0;
+    is_at("version", 0, fevstunik_cache_check(cache.at, 1).code, FEVSTUNIK_FILE_VERSION);
+    is_at("cut off", 0, fevstunik_cache_check(cache.at, cache.size - 1).code, FEVSTUNIK_FILE_BAD_ITEM);
+    is_at("credential", 0, fevstunik_cache_credential(cache.at, cache.size - 1, 0, &entry, buffer, sizeof buffer).code, FEVSTUNIK_FILE_BAD_ITEM);
+    is_at("owner", 0, fevstunik_cache_owner(cache.at, 3, &owner, buffer, sizeof buffer).code, FEVSTUNIK_FILE_HEADER);
+    is_at("request", 0,
+       fevstunik_request(cache.at, 1, service_name, 11, &now, cache.at, 16, &plain, cache.at, 0, buffer, sizeof buffer).code,
+       FEVSTUNIK_FILE_VERSION);
+    is_at("seal type", 0, fevstunik_seal(17, cache.at, 16, 2, cache.at, 16, cache.at, 5, buffer, sizeof buffer).code, FEVSTUNIK_KEY_TYPE);
+    is_at("seal confounder", 0, fevstunik_seal(19, cache.at, 16, 2, cache.at, 15, cache.at, 5, buffer, sizeof buffer).code,
+       FEVSTUNIK_BAD_CONFOUNDER);
+    is_at("open length", 0, fevstunik_open(20, cache.at, 16, 2, cache.at, 64, buffer, sizeof buffer).code, FEVSTUNIK_KEY_LENGTH);
+    is_at("open short", 0, fevstunik_open(19, cache.at, 16, 2, cache.at, 31, buffer, sizeof buffer).code, FEVSTUNIK_TEXT_SHORT);
+    is_at("open tag", 0, fevstunik_open(19, cache.at, 16, 2, cache.at, 64, buffer, sizeof buffer).code, FEVSTUNIK_TEXT_INTEGRITY);
+    is_at("reply confounder", 0, fevstunik_acceptor_reply(&service, cache.at, 15, &plain, cache.at, 0, buffer, sizeof buffer).code,
+       FEVSTUNIK_BAD_CONFOUNDER);
+    is_at("reply type", 0, fevstunik_acceptor_reply(&service, cache.at, 16, &other, cache.at, 16, buffer, sizeof buffer).code,
+       FEVSTUNIK_KEY_TYPE);
+    is_at("none was asked for", 0, left, 0);
+    left = -1;
+    fevstunik_acceptor_free(&service);
 }
 
 int main(int count, char **words)
@@ -209,7 +246,6 @@ int main(int count, char **words)
     from_hex(&request, words[3]);
     from_hex(&reply, words[4]);
     is_told("new", making);
-    is_untold();
     is_told("accept", accepting);
     is_told("accepted", telling);
     is_told("reply", replying);
@@ -231,6 +267,8 @@ int main(int count, char **words)
     is_told("keytab remove", removing);
     is_told("keytab write", writing);
     is_told("name check", naming);
+    without_a_code();
+    faults_without_memory();
     is_at("freed", 1, held, 0);
     printf("%d passed, %d failed\n", passed, failed);
     return failed != 0;

@@ -1,10 +1,15 @@
 -- How files are read as the answers that they have, and how a keytab and a skew make a service.
-use Rattle.std.proofs.Common.{◌≡◌, ◌⊎◌, inl, inr, ℕ, List, [], ap, subst, ◌∙◌}
+use Rattle.std.proofs.Common.{◌≡◌, ◌⊎◌, inl, inr, ℕ, List, [], ap, subst, sym, ◌∙◌}
 use Rattle.std.specs.Prelude.{Result, Ok, Err, None}
 use Rattle.krb_keytab.specs.Entry.{KeytabEntry}
+use Rattle.krb_ccache.specs.Format.{IsAnswerOf, IsFaultOf}
+use Rattle.krb_ccache.specs.Value.{Cache}
+use Rattle.krb_ccache.specs.declared.fault.CacheFault.{CacheFault}
+use Rattle.krb_ccache.specs.declared.fault.CacheFault.TheVariants.{OutOfMemory}
 use Rattle.krb_replay.specs.Memory.{Memory}
 use Rattle.krb_ap.specs.Service.{Service}
 use Rattle.krb_c.specs.Accepting.{fresh}
+use Rattle.krb_c.specs.Asking.{HasCache}
 use Rattle.krb_c.specs.declared.answer.Answer.{Answer}
 use Rattle.krb_c.specs.declared.login.Login.{Login}
 
@@ -43,6 +48,12 @@ module _ (X E : Type 0) (want : E) (told : E → Answer) where
   pub no_fault : (x : X) (f : E) → Same (Ok x) (Err f) ⊎ Same (Ok x) (Err want) → ⊥
   no_fault x f (inl e) = subst Succeeds e tt
   no_fault x f (inr e) = subst Succeeds e tt
+
+-- want of memory is answered of a cache alone, since it is never answered in place of a fault
+pub cache_there : (bytes : List ℕ) (f : CacheFault) (answer : Result Cache CacheFault) → IsAnswerOf bytes answer
+    → ((fault : CacheFault) → IsFaultOf bytes fault → ◌≡◌ {A = Result Cache CacheFault} (Err f) (Err fault)) → f ≡ OutOfMemory → HasCache bytes
+cache_there bytes f (Ok cache) is faulty want = (cache, is)
+cache_there bytes f (Err fault) is faulty want = absurd (subst (IsFaultOf bytes) (sym (ap (fault_or f) (faulty fault is)) ∙ want) is)
 
 pub fresh_of : (a : Service Memory) (entries found : List KeytabEntry) (skew micros : ℕ) (memory : Memory)
     → a.setup ≡ record { entries = found; skew = skew; start = None } → a.memory ≡ memory → memory ≡ record { stamps = []; latest = None }

@@ -50,6 +50,10 @@ abbrev pub refused_by : Result Accepted Refusal → Option Refusal
 refused_by (Ok accepted) = None
 refused_by (Err refusal) = Some refusal
 
+-- it accepted nothing last, and refused nothing, and is else as before
+abbrev pub cleared : Login → Login
+cleared login = record { acceptor = login.acceptor; last = None; refusal = None }
+
 -- these are a second of the years 0000 to 9999, and microseconds after it
 abbrev pub IsMomentOf : Time → Type 0
 IsMomentOf time = IsSeconds time.seconds × (time.micros < 1_000_000)

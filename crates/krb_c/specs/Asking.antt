@@ -1,5 +1,5 @@
 -- The client's side: a request for a cache's credential, and what is agreed on by the reply.
-use Rattle.std.specs.Prelude.{◌≡◌, ◌≢◌, ◌⊎◌, ℕ, ℤ, pos, List, length, Ok, Err}
+use Rattle.std.specs.Prelude.{◌≡◌, ◌≢◌, ◌⊎◌, ℕ, ℤ, List, length, Ok, Err}
 use Rattle.std.specs.Str.{IsUtf8}
 use Rattle.krb_name.specs.Reading.{IsReadAs}
 use Rattle.krb_name.specs.declared.principal.Principal.{Principal}
@@ -16,7 +16,7 @@ use Rattle.krb_ap.specs.declared.request_fault.RequestFault.{RequestFault}
 use Rattle.krb_ap.specs.declared.request_fault.RequestFault.TheVariants as request
 use Rattle.krb_c.specs.Accepting.{IsMomentOf}
 use Rattle.krb_c.specs.Answer.{plain, placed, sized}
-use Rattle.krb_c.specs.Choice.{IsChosen, IsConfounderFault, IsKeyFault, seq_of}
+use Rattle.krb_c.specs.Choice.{IsChosen, IsConfounderFault, IsSubkeyFault, seq_of}
 use Rattle.krb_c.specs.Codes.{bad_moment, bad_text, bad_ticket, credential_expired, file_bad_item, file_header, file_version, no_credential, no_realm, no_usable_key, not_read, not_utf8, ok, out_of_memory, too_long}
 use Rattle.krb_c.specs.declared.answer.Answer.{Answer}
 use Rattle.krb_c.specs.declared.answer.Time.{Time}
@@ -45,15 +45,23 @@ request_answer request.BadTicket = plain bad_ticket
 request_answer request.TooLong = plain too_long
 request_answer request.OutOfMemory = plain out_of_memory
 
--- why bytes are no cache, memory aside
+abbrev pub HasCache : List ℕ → Type 0
+HasCache bytes = (cache : Cache) × IsCache bytes cache
+
+abbrev pub HasName : List ℕ → Type 0
+HasName bytes = (name : Principal) × IsReadAs bytes (Ok name)
+
+-- why bytes are no cache; memory is wanted of a cache alone
 pub record HasCacheFault (bytes : List ℕ) (answer : Answer) : Type 0 where
   pub fault : CacheFault
   pub holds : fault ≢ file.OutOfMemory → IsFaultOf bytes fault
+  pub memory : fault ≡ file.OutOfMemory → HasCache bytes
   pub answer_is : answer ≡ cache_answer fault
 
 -- why a text is no name
 pub record HasNameFault (bytes : List ℕ) (answer : Answer) : Type 0 where
   pub fault : TextFault
+  pub utf8 : IsUtf8 bytes
   pub holds : IsReadAs bytes (Err fault)
   pub answer_is : answer ≡ name_answer fault
 
@@ -110,6 +118,15 @@ pub record HasRequestFault (a : Ask) (confounder : List ℕ) (answer : Answer) :
   pub prevents : fault ≢ request.OutOfMemory → Prevents cache service (moment_of a.at) confounder options fault
   pub answer_is : answer ≡ request_answer fault
 
+abbrev pub IsMomentFault : Time → Answer → Type 0
+IsMomentFault at answer = (¬ IsMomentOf at) × (answer ≡ plain bad_moment)
+
+-- there is no request: the first fault that holds
 abbrev pub IsAskFault : Ask → List ℕ → Answer → Type 0
-IsAskFault a confounder answer = HasCacheFault a.file answer ⊎ (IsNameFault a.service answer ⊎ (((¬ IsMomentOf a.at) × (answer ≡ plain bad_moment))
-    ⊎ (IsConfounderFault confounder answer ⊎ (((a.choice.subkey_type ≢ pos 0) × IsKeyFault a.choice.subkey_type a.subkey answer) ⊎ HasRequestFault a confounder answer))))
+IsAskFault a confounder answer =
+    HasCacheFault a.file answer
+    ⊎ (HasCache a.file × (IsNameFault a.service answer
+    ⊎ (HasName a.service × (IsMomentFault a.at answer
+    ⊎ (IsMomentOf a.at × (IsConfounderFault confounder answer
+    ⊎ ((length confounder ≡ 16) × (IsSubkeyFault a.choice a.subkey answer
+    ⊎ HasRequestFault a confounder answer))))))))

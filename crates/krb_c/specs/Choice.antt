@@ -24,7 +24,14 @@ IsConfounderFault confounder answer = (length confounder ≢ 16) × (answer ≡ 
 -- type 0 asks for no subkey
 abbrev pub IsChosen : ℤ → List ℕ → Option KeyValue → Type 0
 IsChosen etype bytes None = etype ≡ pos 0
-IsChosen etype bytes (Some key) = (etype ≢ pos 0) × (key ≡ key_value etype bytes)
+IsChosen etype bytes (Some key) = (etype ≢ pos 0) × ((key ≡ key_value etype bytes) × IsUsable key)
+
+-- a subkey is asked for, and its type and bytes are no key
+abbrev pub IsSubkeyFault : Choice → List ℕ → Answer → Type 0
+IsSubkeyFault choice subkey answer = (choice.subkey_type ≢ pos 0) × IsKeyFault choice.subkey_type subkey answer
+
+abbrev pub HasSubkey : Choice → List ℕ → Type 0
+HasSubkey choice subkey = (key : Option KeyValue) × IsChosen choice.subkey_type subkey key
 
 abbrev pub seq_if : Bool → ℕ → Option ℕ
 seq_if true seq = Some seq
@@ -40,9 +47,11 @@ pub record Replied (accepted : Accepted) (confounder : List ℕ) (choice : Choic
   pub size : length confounder ≡ 16
   pub reply : IsReply (taken_of accepted) confounder (record { subkey = key; seq = seq_of choice }) bytes
 
+-- why there is none: the first that holds
 abbrev pub IsReplyFault : List ℕ → Choice → List ℕ → Answer → Type 0
 IsReplyFault confounder choice subkey answer =
-    IsConfounderFault confounder answer ⊎ (((choice.subkey_type ≢ pos 0) × IsKeyFault choice.subkey_type subkey answer) ⊎ (answer ≡ plain out_of_memory))
+    IsConfounderFault confounder answer
+    ⊎ ((length confounder ≡ 16) × (IsSubkeyFault choice subkey answer ⊎ (HasSubkey choice subkey × (answer ≡ plain out_of_memory))))
 
 -- a text that is sealed
 pub record SealsTo (key : KeyValue) (usage : ℕ) (confounder plain_text text : List ℕ) : Type 0 where
@@ -50,24 +59,27 @@ pub record SealsTo (key : KeyValue) (usage : ℕ) (confounder plain_text text : 
   pub size : length confounder ≡ 16
   pub text_is : text ≡ sealed (profile_of key) key.bytes usage confounder plain_text
 
+-- why none is: the first that holds
 abbrev pub IsSealFault : KeyValue → List ℕ → Answer → Type 0
 IsSealFault key confounder answer =
-    IsKeyFault key.etype key.bytes answer ⊎ (IsConfounderFault confounder answer ⊎ (answer ≡ plain out_of_memory))
+    IsKeyFault key.etype key.bytes answer
+    ⊎ (IsUsable key × (IsConfounderFault confounder answer ⊎ ((length confounder ≡ 16) × (answer ≡ plain out_of_memory))))
 
--- a text that is opened, and why it isn't
+-- a text that is opened, and why it isn't: the first that holds
 abbrev pub OpensTo : KeyValue → ℕ → List ℕ → List ℕ → Type 0
 OpensTo key usage text plain_text = IsUsable key × Opens (profile_of key) key.bytes usage text plain_text
 
 abbrev pub IsOpenFault : KeyValue → ℕ → List ℕ → Answer → Type 0
 IsOpenFault key usage text answer =
-    IsKeyFault key.etype key.bytes answer ⊎ ((IsShort (profile_of key) text × (answer ≡ plain text_short))
-    ⊎ (((¬ HasTag (profile_of key) key.bytes usage text) × (answer ≡ plain text_integrity)) ⊎ (answer ≡ plain out_of_memory)))
+    IsKeyFault key.etype key.bytes answer ⊎ (IsUsable key × ((IsShort (profile_of key) text × (answer ≡ plain text_short))
+    ⊎ ((¬ IsShort (profile_of key) text) × (((¬ HasTag (profile_of key) key.bytes usage text) × (answer ≡ plain text_integrity))
+    ⊎ (HasTag (profile_of key) key.bytes usage text × (answer ≡ plain out_of_memory))))))
 
 -- a tag is the checksum of a text, or isn't
 abbrev pub IsChecked : KeyValue → ℕ → List ℕ → List ℕ → Answer → Type 0
 IsChecked key usage text tag answer =
-    IsKeyFault key.etype key.bytes answer ⊎ (((tag ≡ checksum_of (profile_of key) key.bytes usage text) × (answer ≡ plain ok))
-    ⊎ ((tag ≢ checksum_of (profile_of key) key.bytes usage text) × (answer ≡ plain text_integrity)))
+    IsKeyFault key.etype key.bytes answer ⊎ (IsUsable key × (((tag ≡ checksum_of (profile_of key) key.bytes usage text) × (answer ≡ plain ok))
+    ⊎ ((tag ≢ checksum_of (profile_of key) key.bytes usage text) × (answer ≡ plain text_integrity))))
 
 -- the reply to what was accepted is handed over, or it is told why not
 abbrev pub TellsReply : Option Accepted → List ℕ → Choice → List ℕ → List ℕ → List ℕ → Answer → Type 0

@@ -9,7 +9,7 @@ use Rattle.krb_keytab.specs.Written.{written}
 use Rattle.krb_keytab.specs.declared.fault.KeytabFault.{KeytabFault}
 use Rattle.krb_keytab.specs.declared.fault.KeytabFault.TheVariants as keytab
 use Rattle.krb_c.specs.Answer.{keytab_answer, plain}
-use Rattle.krb_c.specs.Asking.{IsNameFault}
+use Rattle.krb_c.specs.Asking.{HasName, IsNameFault}
 use Rattle.krb_c.specs.Codes.{out_of_memory, too_long}
 use Rattle.krb_c.specs.declared.answer.Answer.{Answer}
 use Rattle.krb_c.specs.declared.editing.KeyParts.{KeyParts}
@@ -34,7 +34,7 @@ IsRemoveFault bytes index answer = HasRemoveFault bytes index answer ⊎ (answer
 
 -- ---- adding
 
--- the entry of a name's text, a key and what goes with it
+-- the entry of a name's text, a key and what goes with it, and these fit into one
 pub record IsEntryOf (text key : List ℕ) (parts : KeyParts) (entry : KeytabEntry) : Type 0 where
   pub name_is : IsReadAs text (Ok entry.principal)
   pub name_type : entry.principal.name_type ≡ parts.name_type
@@ -42,6 +42,7 @@ pub record IsEntryOf (text key : List ℕ) (parts : KeyParts) (entry : KeytabEnt
   pub kvno : entry.kvno ≡ parts.kvno
   pub key_type : entry.etype ≡ parts.key_type
   pub key_is : entry.key ≡ key
+  pub fits : LengthsFit entry.principal entry.key
 
 -- the name or the key doesn't fit into an entry
 pub record IsTooLongEntry (text key : List ℕ) (answer : Answer) : Type 0 where
@@ -51,7 +52,7 @@ pub record IsTooLongEntry (text key : List ℕ) (answer : Answer) : Type 0 where
   pub answer_is : answer ≡ plain too_long
 
 abbrev pub IsEntryFault : List ℕ → List ℕ → Answer → Type 0
-IsEntryFault text key answer = IsNameFault text answer ⊎ (IsTooLongEntry text key answer ⊎ (answer ≡ plain out_of_memory))
+IsEntryFault text key answer = IsNameFault text answer ⊎ (IsTooLongEntry text key answer ⊎ (HasName text × (answer ≡ plain out_of_memory)))
 
 -- the new file has that entry more
 pub record Adds (bytes text key : List ℕ) (parts : KeyParts) (file : List ℕ) : Type 0 where

@@ -1,7 +1,7 @@
 -- The client's side: what is agreed on by the reply to a request.
-use Rattle.std.specs.Prelude.{◌≡◌, ◌≢◌, ◌⊎◌, ℕ, pos, List, [], ◌++◌, length}
+use Rattle.std.specs.Prelude.{◌≡◌, ◌≢◌, ◌≤◌, ◌⊎◌, ℕ, pos, List, [], ◌++◌, length, IfSome}
 use Rattle.krb_name.specs.Text.{text_of}
-use Rattle.krb_ap.specs.Finish.{FinishCause, IsAgreed, agreement_of}
+use Rattle.krb_ap.specs.Finish.{FinishCause, IsAgreed, agreement_of, finish_offset_of}
 use Rattle.krb_ap.specs.Request.{Awaited}
 use Rattle.krb_ap.specs.World.{IsHeldInEachWorld}
 use Rattle.krb_ap.specs.declared.finish.Agreed.{Agreed}
@@ -39,6 +39,7 @@ pub record HasReplyFault (a : Ask) (bytes : List ℕ) (answer : Answer) : Type 0
   pub asks : Asks a confounder request awaited
   pub fault : FinishFault
   pub cause : fault ≢ reply.OutOfMemory → FinishCause awaited bytes fault
+  pub offset : IfSome (finish_offset_of fault) (λ at. at ≤ length bytes)
   pub answer_is : answer ≡ finish_answer fault
 
 pub record HasAskFault (a : Ask) (answer : Answer) : Type 0 where

@@ -1,5 +1,5 @@
 -- The error that tells why a request was refused.
-use Rattle.std.specs.Prelude.{◌≡◌, ◌⊎◌, ℕ, ℤ, List, Option, Some, None, Ok}
+use Rattle.std.specs.Prelude.{◌≡◌, ◌≢◌, ◌⊎◌, ℕ, ℤ, List, Option, Some, None, Ok}
 use Rattle.krb_name.specs.Reading.{IsReadAs}
 use Rattle.krb_name.specs.declared.principal.Principal.{Principal}
 use Rattle.krb_ap.specs.Causes.{code_of}
@@ -9,8 +9,8 @@ use Rattle.krb_ap.specs.declared.errors.ReplyFault.TheVariants as error
 use Rattle.krb_ap.specs.declared.refusal.Refusal.{Refusal}
 use Rattle.krb_c.specs.Accepting.{IsMomentOf}
 use Rattle.krb_c.specs.Answer.{Delivers, plain}
-use Rattle.krb_c.specs.Asking.{IsNameFault, moment_of}
-use Rattle.krb_c.specs.Codes.{bad_moment, no_code, nothing_there, out_of_memory, too_long}
+use Rattle.krb_c.specs.Asking.{HasName, IsMomentFault, IsNameFault, moment_of}
+use Rattle.krb_c.specs.Codes.{no_code, nothing_there, out_of_memory, too_long}
 use Rattle.krb_c.specs.declared.answer.Answer.{Answer}
 use Rattle.krb_c.specs.declared.answer.Time.{Time}
 
@@ -27,11 +27,11 @@ pub record Errors (refusal : Refusal) (text : List ℕ) (name_type : ℤ) (now :
   pub now_is : IsMomentOf now
   pub error : IsErrorReply refusal (moment_of now) service bytes
 
--- why there is none, memory aside
+-- why there is none: want of memory is told of no refusal that has no code
 abbrev pub PreventsError : Refusal → ℤ → Principal → ReplyFault → Type 0
 PreventsError refusal now service error.NoCode = code_of refusal ≡ None
 PreventsError refusal now service error.TooLong = IsErrorTooLong refusal now service
-PreventsError refusal now service error.OutOfMemory = Unit {0}
+PreventsError refusal now service error.OutOfMemory = code_of refusal ≢ None
 
 pub record LacksError (refusal : Refusal) (text : List ℕ) (name_type : ℤ) (now : Time) (answer : Answer) : Type 0 where
   pub service : Principal
@@ -42,9 +42,10 @@ pub record LacksError (refusal : Refusal) (text : List ℕ) (name_type : ℤ) (n
   pub prevents : PreventsError refusal (moment_of now) service fault
   pub answer_is : answer ≡ error_answer fault
 
+-- the first that holds
 abbrev pub IsErrorFault : Refusal → List ℕ → ℤ → Time → Answer → Type 0
 IsErrorFault refusal text name_type now answer =
-    IsNameFault text answer ⊎ (((¬ IsMomentOf now) × (answer ≡ plain bad_moment)) ⊎ LacksError refusal text name_type now answer)
+    IsNameFault text answer ⊎ (HasName text × (IsMomentFault now answer ⊎ LacksError refusal text name_type now answer))
 
 -- the error of what was refused is handed over, or it is told why not
 abbrev pub TellsError : Option Refusal → List ℕ → ℤ → Time → List ℕ → List ℕ → Answer → Type 0

@@ -1,14 +1,14 @@
 //! The service's side: a handle over a service that takes requests.
 
-ghost use Rattle.std.specs.Prelude.{◌≡◌, ◌≢◌, ◌<◌, ◌≤◌, ◌*◌, ◌↔◌, ◌⊎◌, List, None, Some, IfErr, IsErrAnd, IsErrOf, MatchResult};
-ghost use Rattle.std.specs.Option.{MatchOption};
+ghost use Rattle.std.specs.Prelude.{◌≡◌, ◌≢◌, ◌<◌, ◌≤◌, ◌*◌, ◌↔◌, ◌⊎◌, List, [], None, Some, IfErr, IfOk, IsErrAnd, IsErrOf, IsSomeAnd, MatchResult};
+ghost use Rattle.std.specs.Option.{MatchOption, option_map};
 ghost use Rattle.krb_msg.specs.Moments.{micros_of};
 ghost use Rattle.krb_replay.specs.Memory.{IsSizeOf};
 ghost use Rattle.krb_ap.specs.Setup.{arrival};
 ghost use Rattle.krb_keytab.specs.Entry.{KeytabEntry};
 ghost use Rattle.krb_keytab.specs.Format.{IsFaultOf, IsKeytab};
 ghost use Rattle.krb_keytab.specs.declared.fault.KeytabFault.{KeytabFault};
-ghost use Rattle.krb_c.specs.Accepting.{Decides, IsMomentOf, Remembers, TellsLatest, Turns, fresh, latest_of};
+ghost use Rattle.krb_c.specs.Accepting.{Decides, IsMomentOf, Remembers, Stands, TellsLatest, Turns, cleared, fresh, latest_of};
 ghost use Rattle.krb_c.specs.Choice.{TellsReply};
 ghost use Rattle.krb_c.specs.Known.{TellsKnown};
 ghost use Rattle.krb_c.specs.Refusing.{TellsError};
@@ -38,6 +38,7 @@ pub extern "C" fn fevstunik_acceptor_new(
     ensures skew { (result ≡ plain bad_skew) ↔ (86_400 < skew) }
     ensures made { (entries : List KeytabEntry) → skew ≤ 86_400 → IsKeytab keytab.now entries
         → ((result ≡ plain ok) × (handle.new.value ≡ Some (fresh entries (1_000_000 * skew)))) ⊎ (result ≡ plain out_of_memory) }
+    ensures stands { result ≡ plain ok → IsSomeAnd handle.new.value (λ login. Stands login []) }
     ensures fault { (fault : KeytabFault) → skew ≤ 86_400 → IsFaultOf keytab.now fault
         → (result ≡ keytab_answer fault) ⊎ (result ≡ plain out_of_memory) }
     ensures unchanged { result ≢ plain ok → handle.new.value ≡ handle.old.value }
@@ -57,6 +58,7 @@ fn service(alloc: Global, keytab: &[u8], skew: u32) -> Result<Box<Login>, Answer
         → MatchResult result (λ login. login.value ≡ fresh entries (1_000_000 * skew)) (λ answer. answer ≡ plain out_of_memory) }
     ensures fault { (fault : KeytabFault) → skew ≤ 86_400 → IsFaultOf keytab.now fault
         → IsErrAnd result (λ answer. (answer ≡ keytab_answer fault) ⊎ (answer ≡ plain out_of_memory)) }
+    ensures stands { IfOk result (λ login. Stands login.value []) }
     ensures refused { IfErr result (λ answer. answer ≢ plain ok) }
 {
     let skew = match Skew::new(skew) {
@@ -80,7 +82,7 @@ fn service(alloc: Global, keytab: &[u8], skew: u32) -> Result<Box<Login>, Answer
 }
 
 /// Decides whether a request is accepted at a moment of the service's clock, and remembers what has to be remembered of it. What is
-/// accepted is kept until the next call, and is told by `fevstunik_acceptor_accepted`.
+/// accepted is kept until the next call, also one with a moment that is none, and is told by `fevstunik_acceptor_accepted`.
 #[unsafe(no_mangle)]
 pub extern "C" fn fevstunik_acceptor_accept(
     handle: &mut Handle,
@@ -88,13 +90,16 @@ pub extern "C" fn fevstunik_acceptor_accept(
     request: &[u8],
     now: &Time,
 ) -> Answer
-    ensures moment { ¬ IsMomentOf now.now → (result ≡ plain bad_moment) × (handle.new.value ≡ handle.old.value) }
+    ensures moment { ¬ IsMomentOf now.now → (result ≡ plain bad_moment) × (handle.new.value ≡ option_map cleared handle.old.value) }
     ensures decided { IsMomentOf now.now → Turns handle.old.value handle.new.value (result ≡ plain empty_handle)
         (λ old new. Decides old new (arrival request.now (micros_of now.now.seconds now.now.micros)) result) }
 {
     let now = match now.moment() {
         Some(now) => now,
-        None => return Answer::plain(code::BAD_MOMENT),
+        None => {
+            clear(handle, alloc);
+            return Answer::plain(code::BAD_MOMENT);
+        }
     };
     match handle.take(alloc) {
         Some(mut login) => {
@@ -103,6 +108,19 @@ pub extern "C" fn fevstunik_acceptor_accept(
             answer
         }
         None => Answer::plain(code::EMPTY_HANDLE),
+    }
+}
+
+// Nothing is told as accepted or refused afterwards.
+fn clear(handle: &mut Handle, alloc: Global)
+    ensures { handle.new.value ≡ option_map cleared handle.old.value }
+{
+    match handle.take(alloc) {
+        Some(mut login) => {
+            login.clear();
+            *handle = Handle::of(login);
+        }
+        None => {}
     }
 }
 
@@ -194,7 +212,8 @@ pub extern "C" fn fevstunik_acceptor_count(handle: &mut Handle, alloc: Global) -
     }
 }
 
-/// Tells the latest moment that was handed in, where there is one.
+/// Tells the greatest moment that was handed in, where there is one. Calls that were answered by want of memory or by a moment that is
+/// none don't count.
 #[unsafe(no_mangle)]
 pub extern "C" fn fevstunik_acceptor_latest(
     handle: &mut Handle,

@@ -11,6 +11,7 @@ use crate::answer::{Answer, Time, hand_over};
 use crate::choice::{Choice, block_of};
 use crate::code;
 use krb_ap::{Pending, RequestFault, RequestOptions, make_request};
+use krb_ccache::laws::each_file_has_one_answer;
 use krb_ccache::{CCache, CacheFault};
 use krb_name::{Principal, TextFault};
 use std::alloc::Global;
@@ -80,10 +81,12 @@ pub(crate) fn asked(
     }
 }
 
-fn cache_of(alloc: Global, bytes: &[u8]) -> Result<CCache, Answer>
+/// Reads a cache off the bytes of its file.
+pub(crate) fn cache_of(alloc: Global, bytes: &[u8]) -> Result<CCache, Answer>
     ensures cache { IfOk result (λ cache. IsCache bytes.now cache) }
     ensures fault { IfErr result (λ answer. HasCacheFault bytes.now answer) }
 {
+    each_file_has_one_answer();
     match CCache::parse(alloc, bytes) {
         Ok(cache) => Ok(cache),
         Err(fault) => Err(cache_told(fault)),

@@ -37,8 +37,7 @@ pub extern "C" fn fevstunik_keytab_check(alloc: Global, keytab: &[u8]) -> Answer
 pub extern "C" fn fevstunik_cache_check(alloc: Global, cache: &[u8]) -> Answer
     ensures credentials { (value : Cache) → IsCache cache.now value
         → (result ≡ sized ok (length value.credentials)) ⊎ (result ≡ plain out_of_memory) }
-    ensures fault { (fault : CacheFaultValue) → IsCacheFaultOf cache.now fault
-        → (result ≡ cache_answer fault) ⊎ (result ≡ plain out_of_memory) }
+    ensures fault { (fault : CacheFaultValue) → IsCacheFaultOf cache.now fault → result ≡ cache_answer fault }
 {
     match CCache::parse(alloc, cache) {
         Ok(cache) => Answer::sized(code::OK, cache.credentials().len()),

@@ -5,7 +5,7 @@ ghost use Rattle.krb_c.specs.Listing.{ListsCredential, ListsEntry, ListsOwner, T
 ghost use Rattle.krb_c.specs.Known.{is_there};
 
 use crate::answer::{Answer, hand_over};
-use crate::asking::cache_told;
+use crate::asking::cache_of;
 use crate::code;
 use crate::known::{Span, append};
 use krb_ccache::{CCache, Credential};
@@ -145,12 +145,12 @@ pub extern "C" fn fevstunik_cache_credential(
 ) -> Answer
     ensures { ListsCredential cache.now index credential.old credential.new buffer.old buffer.new result }
 {
-    match CCache::parse(alloc, cache) {
+    match cache_of(alloc, cache) {
         Ok(cache) => match cache.credentials().get(index) {
             Some(found) => tell_credential(alloc, found, credential, buffer),
             None => Answer::plain(code::NO_SUCH_ENTRY),
         },
-        Err(fault) => cache_told(fault),
+        Err(answer) => answer,
     }
 }
 
@@ -214,9 +214,9 @@ pub extern "C" fn fevstunik_cache_owner(
 ) -> Answer
     ensures { ListsOwner cache.now owner.old owner.new buffer.old buffer.new result }
 {
-    match CCache::parse(alloc, cache) {
+    match cache_of(alloc, cache) {
         Ok(cache) => tell_owner(alloc, &cache, owner, buffer),
-        Err(fault) => cache_told(fault),
+        Err(answer) => answer,
     }
 }
 

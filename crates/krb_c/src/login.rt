@@ -4,7 +4,7 @@ ghost use Rattle.std.specs.Prelude.{◌≡◌, IfErr, IfOk};
 ghost use Rattle.krb_c.specs.Choice.{IsReplyFault, Replied, TellsReply};
 ghost use Rattle.krb_c.specs.Known.{TellsKnown};
 ghost use Rattle.krb_ap.specs.Setup.{arrival};
-ghost use Rattle.krb_c.specs.Accepting.{Decides, TellsLatest, accepted_by, latest_of, refused_by};
+ghost use Rattle.krb_c.specs.Accepting.{Decides, TellsLatest, accepted_by, cleared, latest_of, refused_by};
 ghost use Rattle.krb_c.specs.Refusing.{Errors, IsErrorFault, TellsError, error_answer};
 
 use crate::answer::{Answer, Time, hand_over};
@@ -35,6 +35,14 @@ impl Login {
         self.refusal = refusal_of(&outcome);
         self.last = kept(outcome);
         answer
+    }
+
+    /// Lets go of what was accepted last, or why it was refused.
+    pub(crate) fn clear(&mut self)
+        ensures { self.new ≡ cleared self.old }
+    {
+        self.last = None;
+        self.refusal = None;
     }
 
     /// Tells the latest moment, where there is one.

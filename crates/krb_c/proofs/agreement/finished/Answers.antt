@@ -9,5 +9,6 @@ returns-clause-fault c = inr (record {
   asks = c.in-Ok.ensures.asks;
   fault = c.in-Err-finish.fault;
   cause = c.in-Err-finish.ensures.fault;
+  offset = c.in-Err-finish.ensures.offset;
   answer_is = c.finish_told.ensures;
 })
