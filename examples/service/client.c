@@ -44,8 +44,10 @@ int main(int count, char **words)
     draw(subkey, sizeof subkey);
     answer = fevstunik_request(cache.at, cache.size, (const uint8_t *)words[2], strlen(words[2]), &at, confounder, sizeof confounder, &choice,
                                subkey, sizeof subkey, request.at, sizeof request.at);
-    if (answer.code != FEVSTUNIK_OK)
+    if (answer.code != FEVSTUNIK_OK) {
+        fprintf(stderr, "client: no request: code %u of fevstunik.h\n", (unsigned)answer.code);
         return 2;
+    }
     for (times = count - 4; times > 0; times--) {
         peer = connect_to(atoi(words[3]));
         if (!transmit(peer, request.at, answer.size) || !receive(peer, &reply))

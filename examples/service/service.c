@@ -38,7 +38,7 @@ static void converse(fevstunik_acceptor *service, int peer)
     fevstunik_known known;
     fevstunik_answer answer;
 
-    if (fevstunik_acceptor_accepted(service, &known, bytes, sizeof bytes).code != FEVSTUNIK_OK)
+    if (fevstunik_acceptor_accepted(service, &known, bytes, sizeof bytes).code != FEVSTUNIK_OK || !known.wants_reply)
         return;
     choice.subkey_type = known.session_type;
     draw(confounder, sizeof confounder);
@@ -73,13 +73,17 @@ int main(int count, char **words)
 {
     static struct bytes keytab;
     fevstunik_acceptor service = {0};
+    fevstunik_answer made;
     int listener, peer, left;
 
     if (count != 4)
         return 2;
     read_file(words[1], &keytab);
-    if (fevstunik_acceptor_new(&service, keytab.at, keytab.size, 300).code != FEVSTUNIK_OK)
+    made = fevstunik_acceptor_new(&service, keytab.at, keytab.size, 300);
+    if (made.code != FEVSTUNIK_OK) {
+        fprintf(stderr, "service: no acceptor: code %u of fevstunik.h\n", (unsigned)made.code);
         return 2;
+    }
     listener = listen_on_any();
     for (left = atoi(words[3]); left > 0; left--) {
         peer = accept_from(listener);
