@@ -34,6 +34,7 @@ KRBTOOL = str(TOP / "crates" / "krbtool" / "out" / "krbtool")
 NO_AES_NI = {"OPENSSL_ia32cap": "~0x200000200000000"}
 SIZES = [(60, "60 bytes"), (1024, "1 KiB"), (65_536, "64 KiB"), (1_048_576, "1 MiB")]
 RUNS = 5
+SHORT_RUNS = 25
 
 
 def said(command, **more):
@@ -87,9 +88,9 @@ def best(command, env=None):
     return min(once(command, env) for _ in range(RUNS))
 
 
-def best_in_turn(commands):
+def best_in_turn(commands, count=RUNS):
     """The least of some runs of each command. They run in turn, so that other work on the machine slows down all of them."""
-    return [min(runs) for runs in zip(*([once(command) for command in commands] for _ in range(RUNS)))]
+    return [min(runs) for runs in zip(*([once(command) for command in commands] for _ in range(count)))]
 
 
 def block_table(ours, blocks):
@@ -104,17 +105,22 @@ def block_table(ours, blocks):
                   f"| {by_bytes / lanes:.1f} | {lanes / slow:.1f} |")
 
 
+def sealing_row(ours, mit, way, etype, size, name, ready=False):
+    """Many short runs, since the machine's pace changes from second to second."""
+    count = str(max(4, 4_000_000 // (size + 2_000)))
+    word = f"{way}-ready" if ready else way
+    here, there = best_in_turn([[ours, word, etype, str(size), count], [mit, way, etype, str(size), count]], SHORT_RUNS)
+    more = ", the key made ready" if ready else ""
+    print(f"| {way}, type {etype}, {name}{more} | {here / 1000:,.1f} µs | {there / 1000:,.1f} µs | {there / here:.2f} |", flush=True)
+
+
 def sealing_table(ours, mit):
     print("\n| | ours | MIT krb5 | MIT's time / ours |\n|---|---|---|---|")
     for etype in ("19", "20"):
         for way in ("seal", "open"):
             for size, name in SIZES:
-                count = str(max(20, 20_000_000 // (size + 2_000)))
-                here, there = best_in_turn([[ours, way, etype, str(size), count], [mit, way, etype, str(size), count]])
-                print(f"| {way}, type {etype}, {name} | {here / 1000:,.1f} µs | {there / 1000:,.1f} µs | {there / here:.2f} |")
-            size, name = SIZES[0]
-            here, there = best_in_turn([[ours, f"{way}-ready", etype, str(size), "10000"], [mit, way, etype, str(size), "10000"]])
-            print(f"| {way}, type {etype}, {name}, the key made ready | {here / 1000:,.1f} µs | {there / 1000:,.1f} µs | {there / here:.2f} |")
+                sealing_row(ours, mit, way, etype, size, name)
+            sealing_row(ours, mit, way, etype, *SIZES[0], ready=True)
 
 
 def messages():
