@@ -11,11 +11,11 @@ mod seen;
 mod service;
 mod texts;
 
-use krb_ap::{Accepted, Acceptor, Call, Outcome, Refusal};
 use fixture::{
     FIXTURE, Made, SERVICE_KEY, SESSION_KEY, key, moment, name, request, request_with,
     sealed_authenticator, sealed_part, seconds, size_of, stretched, ticket_of,
 };
+use krb_ap::{Accepted, Acceptor, Call, Outcome, Refusal};
 use krb_enc::Key;
 use krb_keytab::{Entry, Keytab};
 use krb_msg::{
