@@ -83,8 +83,8 @@ impl<S: Source> EntryReader<S> {
     }
 
     /// Answers how many bytes of the source were at hand at most: no more than the version has, or the
-    /// longest record of an entry so far, and no more than 16,777,216. The end of the records and a
-    /// hole count as records of 4 bytes.
+    /// longest record of an entry so far, at a fault as many of its bytes as there were, and no more
+    /// than 16,777,216. The end of the records and a hole count as records of 4 bytes.
     pub fn held(&self) -> usize
         ensures held { result ≡ self.now.held }
         ensures limit { result ≤ file_limit }
