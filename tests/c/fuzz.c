@@ -88,6 +88,121 @@ static void bend(const struct bytes *from)
     }
 }
 
+/* Writes a tag and a length: the shortest form of it, or one or two bytes more than that needs. */
+static size_t write_head(uint8_t *to, uint8_t tag, size_t size, int more)
+{
+    int bytes = (size < 128 ? 0 : size < 256 ? 1 : 2) + more;
+    size_t made = 0;
+
+    to[made++] = tag;
+    if (bytes > 0)
+        to[made++] = (uint8_t)(0x80 | bytes);
+    for (; bytes > 2; bytes--)
+        to[made++] = 0;
+    if (bytes == 2)
+        to[made++] = (uint8_t)(size >> 8);
+    to[made++] = (uint8_t)size;
+    return made;
+}
+
+/* How many bytes the tag and the length of an element of DER have, and its content; 0 where there is none. */
+static size_t head_of(const uint8_t *from, size_t size, size_t *content)
+{
+    size_t head = 2, more;
+
+    if (size < 2)
+        return 0;
+    *content = from[1];
+    if (from[1] & 0x80) {
+        more = from[1] & 0x7f;
+        if (more > 2 || size < 2 + more)
+            return 0;
+        for (*content = 0; more > 0; more--)
+            *content = *content << 8 | from[head++];
+    }
+    return *content <= size - head ? head : 0;
+}
+
+/* Changes an element whose content has been written: another tag, another length of the content, or a length that isn't the shortest. */
+static size_t write_bent(uint8_t *to, uint8_t tag, uint8_t *content, size_t size)
+{
+    int more = 0;
+
+    switch (below(6)) {
+    case 0:
+        tag ^= (uint8_t)(1u << below(8));
+        break;
+    case 1:
+        size = 0;
+        break;
+    case 2:
+        size -= size > 0;
+        break;
+    case 3:
+        content[size++] = (uint8_t)below(256);
+        break;
+    case 4:
+        if (size > 0)
+            content[below((uint32_t)size)] = (uint8_t)below(256);
+        break;
+    default:
+        more = 1 + (int)below(2);
+    }
+    more = write_head(to, tag, size, more);
+    memcpy(to + more, content, size);
+    return (size_t)more + size;
+}
+
+/* Writes elements of DER anew, with lengths that fit; of these the one of this number, counted down, is left out, put in twice or changed. */
+static size_t rewrite(const uint8_t *from, size_t size, uint8_t *to, long *number)
+{
+    uint8_t content[ROOM];
+    size_t head, inside, made = 0, start, twice;
+
+    for (; (head = head_of(from, size, &inside)) > 0; from += head + inside, size -= head + inside, head = 0) {
+        uint32_t how = (*number)-- == 0 ? below(4) : 4;
+        size_t within = from[0] & 0x20 ? rewrite(from + head, inside, content, number) : inside;
+
+        if (!(from[0] & 0x20))
+            memcpy(content, from + head, inside);
+        start = made;
+        if (how == 0)
+            continue;
+        if (how == 1 || how == 2) {
+            made += write_bent(to + made, from[0], content, within);
+            continue;
+        }
+        made += write_head(to + made, from[0], within, 0);
+        memcpy(to + made, content, within);
+        made += within;
+        twice = how == 3 ? made - start : 0;
+        memcpy(to + made, to + start, twice);
+        made += twice;
+    }
+    memcpy(to + made, from, size);
+    return made + size;
+}
+
+/* A message with one element of its DER left out, put in twice or changed, and lengths around it that fit; then perhaps bent further. */
+static void bend_message(const struct bytes *from)
+{
+    static struct bytes made;
+    long number = 1 << 20, elements;
+
+    if (from->size > ROOM / 4 || below(2)) {
+        bend(from);
+        return;
+    }
+    rewrite(from->at, from->size, made.at, &number);
+    elements = (1 << 20) - number;
+    number = below((uint32_t)elements);
+    made.size = rewrite(from->at, from->size, made.at, &number);
+    if (below(4) == 0)
+        bend(&made);
+    else
+        memcpy(&bent, &made, sizeof bent);
+}
+
 /* The answer is one of the header's, and its numbers are within what was handed in. */
 static void look(fevstunik_answer answer, size_t handed, size_t room, long at)
 {
@@ -142,7 +257,7 @@ static void one(fevstunik_acceptor *service, long at)
         look(fevstunik_name_check(bent.at, bent.size), bent.size, ROOM, at);
         break;
     case 2:
-        bend(&request);
+        bend_message(&request);
         look(fevstunik_acceptor_accept(service, bent.at, bent.size, &now), bent.size, ROOM, at);
         look(fevstunik_acceptor_accepted(service, &known, buffer, room), 0, room, at);
         look(fevstunik_acceptor_reply(service, cache.at, 16, &nothing, cache.at, 0, buffer, room), 0, room, at);
@@ -150,7 +265,7 @@ static void one(fevstunik_acceptor *service, long at)
             wrong("what is remembered", at);
         break;
     default:
-        bend(&reply);
+        bend_message(&reply);
         look(fevstunik_finish(cache.at, cache.size, (const uint8_t *)"host/web@EX", 11, &now, &nothing, cache.at, 0, bent.at, bent.size,
                               &agreement, buffer, room),
              bent.size > cache.size ? bent.size : cache.size, room, at);
