@@ -77,14 +77,14 @@ def tower_tables():
 
 def sealed_of_rfc_8009():
     sealing.check()
-    text = value_of("krb_enc/src/tests/rfc_8009.rt", "SEALED")
+    text = value_of("krb_enc_tests/src/tests/rfc_8009.rt", "SEALED")
     found = re.findall(r'\(\s*(\d+),\s*(\d+),\s*"(\w*)",\s*"(\w*)",?\s*\)', text)
-    checksums = [it for _, it in sealing.CHECKSUMS if it not in texts(source("krb_enc/src/tests.rt"))]
+    checksums = [it for _, it in sealing.CHECKSUMS if it not in texts(source("krb_enc_tests/src/tests.rt"))]
     return same([(int(etype), int(size), *rest) for etype, size, *rest in found], sealing.SEALED) or same(checksums, [])
 
 
 def digests():
-    missing = [it for it in sealing.digests() if it not in texts(source("krb_enc/src/tests.rt"))]
+    missing = [it for it in sealing.digests() if it not in texts(source("krb_enc_tests/src/tests.rt"))]
     return f"digests that aren't there: {missing}" if missing else None
 
 
@@ -93,15 +93,15 @@ def codes_of(key, text=b"Hi There"):
 
 
 def key_lengths():
-    text = value_of("krb_kdf/src/hmac/tests.rt", "KEY_LENGTHS")
+    text = value_of("krb_kdf_tests/src/hmac.rt", "KEY_LENGTHS")
     found = re.findall(r'\(\s*(\d+),\s*"(\w+)",\s*"(\w+)",?\s*\)', text)
     wanted = [(str(size), *codes_of(bytes(range(size)))) for size in (0, 63, 64, 65, 127, 128, 129)]
-    missing = [it for it in codes_of(b"", b"") if it not in texts(source("krb_kdf/src/hmac/tests.rt"))]
+    missing = [it for it in codes_of(b"", b"") if it not in texts(source("krb_kdf_tests/src/hmac.rt"))]
     return same(found, wanted) or same(missing, [])
 
 
 def derived_keys():
-    text = value_of("krb_kdf/src/derive/tests.rt", "KEYS")
+    text = value_of("krb_kdf_tests/src/derive.rt", "KEYS")
     usages = [numbers(it)[0] for it in re.findall(r"usage: (\w+)", text)]
     wanted = [
         sealing.derived(etype, sealing.BASE[etype], usage, purpose).hex()
@@ -156,10 +156,10 @@ TABLES = {
     "the fixture's requests and replies": exchange,
     "the example's keytab, cache and request": example,
     "the cache and the request of the program of replies": sides,
-    "random blocks under keys of 16 bytes": lambda: random_blocks("krb_aes/src/tests/random_128.rt", "RANDOM_128", 3),
-    "random blocks under keys of 32 bytes": lambda: random_blocks("krb_aes/src/tests/random_256.rt", "RANDOM_256", 4),
+    "random blocks under keys of 16 bytes": lambda: random_blocks("krb_aes_tests/src/tests/random_128.rt", "RANDOM_128", 3),
+    "random blocks under keys of 32 bytes": lambda: random_blocks("krb_aes_tests/src/tests/random_256.rt", "RANDOM_256", 4),
     "the tables of the S-box on lanes": tower_tables,
-    "stealing at each length": lambda: same(texts(source("krb_cts/src/tests/lengths.rt")), list(stealing.rows())),
+    "stealing at each length": lambda: same(texts(source("krb_cts_tests/src/tests/lengths.rt")), list(stealing.rows())),
     "sealed texts of RFC 8009": sealed_of_rfc_8009,
     "digests of sealed texts": digests,
     "codes under keys about a block": key_lengths,

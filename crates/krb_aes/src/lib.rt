@@ -24,8 +24,6 @@ pub mod laws;
 pub mod plain;
 mod schedule;
 mod tables;
-#[cfg(test)]
-mod tests;
 mod tower;
 
 pub use schedule::KeySchedule;

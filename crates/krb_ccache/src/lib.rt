@@ -42,14 +42,3 @@ pub use credential::{Credential, HeaderField};
 pub use fault::CacheFault;
 pub use reader::CredentialReader;
 pub use typed::{TypedBytes, TypedList};
-
-#[cfg(test)]
-mod pass_tests;
-#[cfg(test)]
-mod reader_tests;
-#[cfg(test)]
-mod samples;
-#[cfg(test)]
-mod size_tests;
-#[cfg(test)]
-mod tests;

@@ -20,6 +20,3 @@ pub mod laws;
 mod stealing;
 
 pub use stealing::{decrypt, encrypt};
-
-#[cfg(test)]
-mod tests;

@@ -34,6 +34,3 @@ pub use key::Key;
 pub use profiles::{Sha256Aes128, Sha384Aes256};
 pub use tag::Tag;
 pub use usage_key::UsageKey;
-
-#[cfg(test)]
-mod tests;

@@ -91,6 +91,3 @@ fn first_bytes<const N: usize, const M: usize>(digest: &[u8; M]) -> [u8; N]
     bytes.copy_from_slice(&digest[..N]);
     bytes
 }
-
-#[cfg(test)]
-mod tests;

@@ -211,6 +211,3 @@ fn masked<const B: usize>(block: &[u8; B], pad: u8) -> [u8; B]
     }
     bytes
 }
-
-#[cfg(test)]
-mod tests;

@@ -38,16 +38,3 @@ pub use fault::KeytabFault;
 pub use keytab::Keytab;
 pub use pick::Picked;
 pub use reader::EntryReader;
-
-#[cfg(test)]
-mod edit_tests;
-#[cfg(test)]
-mod pass_tests;
-#[cfg(test)]
-mod reader_tests;
-#[cfg(test)]
-mod real_files;
-#[cfg(test)]
-mod size_tests;
-#[cfg(test)]
-mod tests;

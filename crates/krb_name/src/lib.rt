@@ -49,10 +49,3 @@ pub use source::{ReadSource, Source, SourceFailed};
 pub use text_fault::TextFault;
 pub use window::Window;
 pub use writing::write_all;
-
-#[cfg(test)]
-mod flow_tests;
-#[cfg(test)]
-mod tests;
-#[cfg(test)]
-mod window_tests;

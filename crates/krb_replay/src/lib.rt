@@ -27,6 +27,3 @@ pub use memory::ReplayMemory;
 pub use skew::Skew;
 pub use timed::TimedMemory;
 pub use tuple::Tuple;
-
-#[cfg(test)]
-mod tests;

@@ -1,8 +1,8 @@
 //! Entries that are passed, beside the same that are given.
 
-use super::*;
 use crate::real_files::HOLES;
 use crate::tests::{ALICE, is};
+use krb_keytab::*;
 use krb_name::{PieceSource, SliceSource, Source};
 use std::alloc::Global;
 use std::test::*;

@@ -1,4 +1,4 @@
-use super::*;
+use krb_name::*;
 use std::alloc::Global;
 use std::fmt::Debug;
 use std::process::Abort;

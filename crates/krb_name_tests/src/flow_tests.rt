@@ -1,7 +1,7 @@
 ghost use Rattle.std.specs.Prelude.{◌<◌, ◌^◌, ◌-◌};
 
-use super::*;
 use crate::tests::is;
+use krb_name::*;
 use std::alloc::Global;
 use std::io;
 use std::io::{ErrorKind, Read, Write};

@@ -1,8 +1,8 @@
 //! Credentials that are passed, beside the same that are given.
 
-use super::*;
 use crate::samples::{configured, fixture, full};
 use crate::tests::is;
+use krb_ccache::*;
 use krb_name::{PieceSource, SliceSource, Source};
 use std::alloc::Global;
 use std::test::*;

@@ -1,8 +1,8 @@
 //! Caches read one credential at a time, off sources of any pieces.
 
-use super::*;
 use crate::samples::{configured, empty, fixture, full};
 use crate::tests::{is, line_of};
+use krb_ccache::*;
 use krb_name::{PieceSource, Source};
 use std::alloc::Global;
 use std::test::*;

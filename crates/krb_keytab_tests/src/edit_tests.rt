@@ -1,5 +1,5 @@
-use super::*;
 use crate::tests::{ALICE, is, name_of};
+use krb_keytab::*;
 use std::alloc::Global;
 use std::process::Abort;
 use std::test::*;

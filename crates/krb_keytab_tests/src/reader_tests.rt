@@ -2,9 +2,9 @@
 
 ghost use Rattle.std.specs.Prelude.{◌+◌, ◌<◌, ◌≤◌, IfOk};
 
-use super::*;
 use crate::real_files::HOLES;
 use crate::tests::{ALICE, is};
+use krb_keytab::*;
 use krb_name::{PieceSource, SliceSource, Source};
 use std::alloc::Global;
 use std::test::*;

@@ -1,4 +1,4 @@
-use crate::{HmacSha256, HmacSha384, hmac_sha256, hmac_sha384};
+use krb_kdf::{HmacSha256, HmacSha384, hmac_sha256, hmac_sha384};
 use std::process::Abort;
 use std::test::Fail;
 

@@ -2,8 +2,8 @@
 
 ghost use Rattle.std.specs.Prelude.{◌≡◌, ◌+◌, ◌<◌, ◌≤◌};
 
-use super::*;
 use crate::tests::is;
+use krb_name::*;
 use std::alloc::Global;
 use std::test::*;
 

@@ -1,5 +1,5 @@
-use super::*;
 use crate::samples::{configured, empty, fixture, full};
+use krb_ccache::*;
 use krb_name::{Bytes, Components, PieceSource, Principal, ReadSource};
 use std::alloc::Global;
 use std::fmt::Debug;

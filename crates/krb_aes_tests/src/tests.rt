@@ -1,7 +1,7 @@
 mod random_128;
 mod random_256;
 
-use crate::{KeySchedule, plain};
+use krb_aes::{KeySchedule, plain};
 use random_128::RANDOM_128;
 use random_256::RANDOM_256;
 use std::process::Abort;

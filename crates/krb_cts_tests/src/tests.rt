@@ -1,7 +1,7 @@
 mod lengths;
 
-use crate::{decrypt, encrypt};
 use krb_aes::KeySchedule;
+use krb_cts::{decrypt, encrypt};
 use lengths::{CHAINED, ENDS};
 use std::process::Abort;
 use std::test::Fail;

@@ -1,6 +1,6 @@
 mod rfc_8009;
 
-use crate::{Enctype, Key, KeyFault, OpenFault, Sha256Aes128, Sha384Aes256};
+use krb_enc::{Enctype, Key, KeyFault, OpenFault, Sha256Aes128, Sha384Aes256};
 use rfc_8009::SEALED;
 use sha2::{Digest, Sha256};
 use std::alloc::Global;

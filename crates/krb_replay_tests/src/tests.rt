@@ -1,5 +1,5 @@
-use super::*;
 use krb_msg::{Bytes, Components, Microseconds, Moment, Principal, Seconds};
+use krb_replay::*;
 use std::alloc::Global;
 use std::process::Abort;
 use std::test::*;

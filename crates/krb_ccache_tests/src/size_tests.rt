@@ -1,7 +1,7 @@
 //! Sizes at which memory is taken: none of them may be answered by the want of it, where there is enough.
 
-use super::*;
 use crate::tests::is;
+use krb_ccache::*;
 use krb_name::{Bytes, Components, PieceSource, Principal};
 use std::alloc::Global;
 use std::test::*;

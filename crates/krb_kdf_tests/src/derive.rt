@@ -1,4 +1,4 @@
-use crate::{HmacSha256, HmacSha384, MacPurpose, Purpose, derive_19, derive_20, derive_20_ke};
+use krb_kdf::{HmacSha256, HmacSha384, MacPurpose, Purpose, derive_19, derive_20, derive_20_ke};
 use std::process::Abort;
 use std::test::Fail;
 

@@ -1,5 +1,5 @@
-use super::*;
 use crate::real_files::{HOLES, KTUTIL};
+use krb_keytab::*;
 use krb_name::{Bytes, Components, Principal, ReadSource};
 use std::alloc::Global;
 use std::fmt::Debug;
