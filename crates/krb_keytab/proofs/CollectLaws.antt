@@ -13,7 +13,7 @@ use Rattle.krb_keytab.specs.declared.fault.KeytabFault.{KeytabFault}
 use Rattle.krb_keytab.specs.declared.fault.KeytabFault.TheVariants.{Version, Truncated, BadEntry, TooLong, NoSuchEntry, Read, OutOfMemory}
 use Rattle.krb_keytab.specs.declared.stage.Stage.TheVariants.{Failed}
 use Rattle.krb_keytab.proofs.FileLaws.{reach_start}
-use Rattle.krb_keytab.proofs.StandLaws.{first_fault}
+use Rattle.krb_keytab.proofs.StandLaws.{ends_reached, first_fault}
 
 pub version_taken : {S : Type 0} (from to : Option (List ℕ)) (old new : AtHand S) (opened : Unit) → OpensAt from to old new (Ok opened) → old.given ≡ 0 → HasTaken from to new.given []
 version_taken from to old new opened o start = record {
@@ -27,11 +27,12 @@ pub entry_taken : {S : Type 0} (from mid to : Option (List ℕ)) (old new : AtHa
     → HasTaken from to new.given more
 entry_taken from mid to old new entries more e t limit m pushed =
     let all : List ℕ = t.bytes ++ m.piece in
+    let stands = m.stands t.bytes entries t.given_is (omega (arith, limit, t.given_is)) t.reached in
     record {
       bytes = all;
       taken = Consumes-trans from mid to t.bytes m.piece t.taken m.moves.consumed;
       given_is = omega (arith, m.moves.given, t.given_is, length-append t.bytes m.piece);
-      reached = subst (λ (k : List KeytabEntry). IsReached all (length all) k []) (sym pushed) (m.stands t.bytes entries t.given_is (omega (arith, limit, t.given_is)) t.reached).1;
+      reached = subst (λ (k : List KeytabEntry). IsReached all (length all) k []) (sym pushed) (ends_reached new.peak all (entries ++ e ∷ []) stands.0 stands.1);
     }
 
 pub end_taken : {S : Type 0} (from mid to : Option (List ℕ)) (old new : AtHand S) (entries : List KeytabEntry) → HasTaken from mid old.given entries → old.given ≤ file_limit → MeetsNext mid to old new (Ok None) → IsFound from to entries
@@ -50,18 +51,18 @@ ended from to bytes c limit end = record { given = c; limit = omega (arith, limi
 there : (bytes : List ℕ) (entries : List KeytabEntry) (place at : ℕ) (behind : List ℕ) (IsFault : List ℕ → Type 0) → length bytes ≤ file_limit → IsReached bytes at entries behind → place ≡ at → IsFault behind → StandsAt bytes place IsFault
 there bytes entries place at behind IsFault limit reached e faulty = record { limit = limit; entries = entries; behind = behind; reached = subst (λ (n : ℕ). IsReached bytes n entries behind) (sym e) reached; faulty = faulty }
 
-fault_of : (from to : Option (List ℕ)) (bytes : List ℕ) (entries : List KeytabEntry) (fault : KeytabFault) → Consumes from to bytes → StandsTo to (Failed fault) bytes entries → IsFaulty from to fault
-fault_of from to bytes entries Version c s = λ memory read. (bytes, ended from to bytes c s.limit s.all, (s.limit, s.stops.1))
-fault_of from to bytes entries (Truncated place) c s = λ memory read. (bytes, ended from to bytes c s.limit s.all, there bytes entries place s.stops.at s.stops.behind IsCutOff s.limit s.stops.reached s.stops.lacks.0 s.stops.lacks.1)
-fault_of from to bytes entries (BadEntry place) c s = λ memory read. (bytes, ended from to bytes c s.limit s.all, there bytes entries place s.stops.at s.stops.behind HoldsNoEntry s.limit s.stops.reached s.stops.lacks.0 s.stops.lacks.1)
-fault_of from to bytes entries TooLong c s = λ memory read. (bytes, record { given = c; limit = omega (arith, s.long); end = λ within. absurd (omega (arith, s.long, within)) }, omega (arith, s.long))
-fault_of from to bytes entries NoSuchEntry c s = absurd s.stops.lacks
-fault_of from to bytes entries Read c s = λ memory read. absurd (read refl)
-fault_of from to bytes entries OutOfMemory c s = λ memory read. absurd (memory refl)
+fault_of : (from to : Option (List ℕ)) (held : ℕ) (bytes : List ℕ) (entries : List KeytabEntry) (fault : KeytabFault) → Consumes from to bytes → StandsTo to held (Failed fault) bytes entries → IsFaulty from to fault
+fault_of from to held bytes entries Version c s = λ memory read. (bytes, ended from to bytes c s.limit s.all, (s.limit, s.stops.1))
+fault_of from to held bytes entries (Truncated place) c s = λ memory read. (bytes, ended from to bytes c s.limit s.all, there bytes entries place s.stops.at s.stops.behind IsCutOff s.limit s.stops.reached s.stops.lacks.0 s.stops.lacks.1)
+fault_of from to held bytes entries (BadEntry place) c s = λ memory read. (bytes, ended from to bytes c s.limit s.all, there bytes entries place s.stops.at s.stops.behind HoldsNoEntry s.limit s.stops.reached s.stops.lacks.0 s.stops.lacks.1)
+fault_of from to held bytes entries TooLong c s = λ memory read. (bytes, record { given = c; limit = omega (arith, s.long); end = λ within. absurd (omega (arith, s.long, within)) }, omega (arith, s.long))
+fault_of from to held bytes entries NoSuchEntry c s = absurd s.stops.lacks
+fault_of from to held bytes entries Read c s = λ memory read. absurd (read refl)
+fault_of from to held bytes entries OutOfMemory c s = λ memory read. absurd (memory refl)
 
 pub version_faulty : {S : Type 0} (from to : Option (List ℕ)) (old new : AtHand S) (fault : KeytabFault) → OpensAt from to old new (Err fault) → IsFaulty from to fault
-version_faulty from to old new fault o = let m = first_fault from to old new fault o in fault_of from to m.piece [] fault m.moves.consumed m.stands
+version_faulty from to old new fault o = let m = first_fault from to old new fault o in fault_of from to new.peak m.piece [] fault m.moves.consumed m.stands
 
 pub next_faulty : {S : Type 0} (from mid to : Option (List ℕ)) (old new : AtHand S) (entries : List KeytabEntry) (fault : KeytabFault) → HasTaken from mid old.given entries → old.given ≤ file_limit → MeetsNext mid to old new (Err fault) → IsFaulty from to fault
 next_faulty from mid to old new entries fault t limit m =
-    fault_of from to (t.bytes ++ m.piece) entries fault (Consumes-trans from mid to t.bytes m.piece t.taken m.moves.consumed) (m.stands t.bytes entries t.given_is (omega (arith, limit, t.given_is)) t.reached)
+    fault_of from to new.peak (t.bytes ++ m.piece) entries fault (Consumes-trans from mid to t.bytes m.piece t.taken m.moves.consumed) (m.stands t.bytes entries t.given_is (omega (arith, limit, t.given_is)) t.reached)

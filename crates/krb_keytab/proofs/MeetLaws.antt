@@ -123,6 +123,7 @@ peaks_at IsPart piece part after old new bytes parts p e fits peak = record {
   piece_is = parts;
   is_part = p;
   peak = omega (arith, peak, ap length e);
+  grows = omega (arith, peak);
   low = λ l. omega (arith, peak, ap length e, fits, l);
 }
 
@@ -142,11 +143,12 @@ peaks_on size later old mid new fits p q = record {
   piece_is = ap (λ (t : List ℕ). signed_bytes w32 size ++ t) q.piece_is ∙ sym (append_assoc (signed_bytes w32 size) q.part q.after);
   is_part = is_part size q.part fits q.is_part;
   peak = omega (arith, p.peak, q.peak, p.is_part, length-append (signed_bytes w32 size) q.part);
+  grows = omega (arith, p.grows, q.grows);
   low = λ l. q.low (p.low l);
 }
 
 pub peaks_kept : (IsPart : List ℕ → Type 0) (piece : List ℕ) (old new : ℕ) → IsPart [] → new ≡ old → Peaks IsPart piece old new
-peaks_kept IsPart piece old new p e = record { part = []; after = piece; piece_is = refl; is_part = p; peak = omega (arith, e); low = λ l. omega (arith, e, l) }
+peaks_kept IsPart piece old new p e = record { part = []; after = piece; piece_is = refl; is_part = p; peak = omega (arith, e); grows = omega (arith, e); low = λ l. omega (arith, e, l) }
 
 -- ---- fewer bytes than a size has
 
@@ -215,5 +217,5 @@ record_met from mid to old between new at size answer first is handed =
         given = omega (arith, first.moves.given, behind.moves.given, ap length first.meets.piece_is, length-append word behind.piece);
       };
       peaks = peaks_on size behind.piece old.peak between.peak new.peak first.meets.fits (subst (λ (t : List ℕ). Peaks (λ part. length part ≤ 4) t old.peak between.peak) first.meets.piece_is first.peaks) behind.peaks;
-      meets = subst (λ (n : ℕ). Meets to n (word ++ behind.piece) new.bytes answer) is behind.meets;
+      meets = subst (λ (n : ℕ). Meets to n (word ++ behind.piece) new.peak new.bytes answer) is behind.meets;
     }

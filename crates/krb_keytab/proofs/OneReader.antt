@@ -60,16 +60,16 @@ long whole bytes None entries c s = absurd c
 long whole bytes (Some rest) entries c s =
     subst (λ (t : List ℕ). Kind t entries) (sym (ap (take file_limit) c ∙ take-append-le file_limit bytes rest (omega (arith, s.long)))) (kind (take file_limit bytes) entries s.last s.stops)
 
-of_fault : (whole bytes : List ℕ) (left : Option (List ℕ)) (entries : List KeytabEntry) (fault : KeytabFault) → fault ≢ Read → fault ≢ OutOfMemory → Consumes (Some whole) left bytes → StandsTo left (Failed fault) bytes entries → Kind (take file_limit whole) entries
-of_fault whole bytes left entries Version p q c s = concluded whole bytes left entries (Some Version) c s
-of_fault whole bytes left entries (Truncated at) p q c s = concluded whole bytes left entries (Some (Truncated at)) c s
-of_fault whole bytes left entries (BadEntry at) p q c s = concluded whole bytes left entries (Some (BadEntry at)) c s
-of_fault whole bytes left entries NoSuchEntry p q c s = absurd s.stops.lacks
-of_fault whole bytes left entries TooLong p q c s = long whole bytes left entries c s
-of_fault whole bytes left entries Read p q c s = absurd (p refl)
-of_fault whole bytes left entries OutOfMemory p q c s = absurd (q refl)
+of_fault : (whole bytes : List ℕ) (left : Option (List ℕ)) (held : ℕ) (entries : List KeytabEntry) (fault : KeytabFault) → fault ≢ Read → fault ≢ OutOfMemory → Consumes (Some whole) left bytes → StandsTo left held (Failed fault) bytes entries → Kind (take file_limit whole) entries
+of_fault whole bytes left held entries Version p q c s = concluded whole bytes left entries (Some Version) c s
+of_fault whole bytes left held entries (Truncated at) p q c s = concluded whole bytes left entries (Some (Truncated at)) c s
+of_fault whole bytes left held entries (BadEntry at) p q c s = concluded whole bytes left entries (Some (BadEntry at)) c s
+of_fault whole bytes left held entries NoSuchEntry p q c s = absurd s.stops.lacks
+of_fault whole bytes left held entries TooLong p q c s = long whole bytes left entries c s
+of_fault whole bytes left held entries Read p q c s = absurd (p refl)
+of_fault whole bytes left held entries OutOfMemory p q c s = absurd (q refl)
 
-pub same_before : (whole bytes others : List ℕ) (left right : Option (List ℕ)) (entries more : List KeytabEntry) (fault other : KeytabFault) → fault ≢ Read → fault ≢ OutOfMemory → other ≢ Read → other ≢ OutOfMemory
-    → Consumes (Some whole) left bytes → StandsTo left (Failed fault) bytes entries → Consumes (Some whole) right others → StandsTo right (Failed other) others more → entries ≡ more
-same_before whole bytes others left right entries more fault other p q r s c a d b =
-    same_kind (take file_limit whole) entries more (of_fault whole bytes left entries fault p q c a) (of_fault whole others right more other r s d b)
+pub same_before : (whole bytes others : List ℕ) (left right : Option (List ℕ)) (held peak : ℕ) (entries more : List KeytabEntry) (fault other : KeytabFault) → fault ≢ Read → fault ≢ OutOfMemory → other ≢ Read → other ≢ OutOfMemory
+    → Consumes (Some whole) left bytes → StandsTo left held (Failed fault) bytes entries → Consumes (Some whole) right others → StandsTo right peak (Failed other) others more → entries ≡ more
+same_before whole bytes others left right held peak entries more fault other p q r s c a d b =
+    same_kind (take file_limit whole) entries more (of_fault whole bytes left held entries fault p q c a) (of_fault whole others right peak more other r s d b)

@@ -1,15 +1,17 @@
 -- Where a reader stands after what it met.
-use Rattle.std.proofs.Common.{◌≡◌, ℕ, ◌-◌, ◌≤◌, Bool, true, false, List, [], ◌∷◌, ◌++◌, length, take, Option, Some, None, Result, Ok, Err, refl, sym, ap, subst, ◌∙◌, append_assoc, append-nil, arith, inl, inr}
+use Rattle.std.proofs.Common.{◌≡◌, ℕ, pos, ◌+◌, ◌-◌, ◌≤◌, Bool, true, false, List, [], ◌∷◌, ◌++◌, length, take, Option, Some, None, Result, Ok, Err, refl, sym, ap, subst, ◌∙◌, append_assoc, append-nil, arith, inl, inr}
+use Rattle.std.specs.Int.{w32}
 use Rattle.std.specs.List.{flat_map}
 use Rattle.std.specs.Io.KnownBytes.{Consumes}
 use Rattle.std.proofs.KnownBytes.{Consumes-nil, Consumes-trans}
 use Rattle.std.proofs.lemmas.Bool.{cases_lt}
 use Rattle.std.proofs.lemmas.List.{length-append, take_at}
 use Rattle.std.proofs.lemmas.List.Elements.{All-push}
+use Rattle.krb_name.specs.Cursor.{signed_bytes}
 use Rattle.krb_name.specs.Window.{AtHand}
 use Rattle.krb_keytab.specs.Entry.{KeytabEntry}
-use Rattle.krb_keytab.specs.Format.{version, file_limit, record_bytes, FitsRecord, entries_of, IsReached}
-use Rattle.krb_keytab.specs.Items.{LacksVersion, LacksRecord, Stops, StopsSo, IsTooLong, Concludes, AreFirst, StandsTo, IsPartOfRecord, HasMet, HasRead, EntriesRead, passed, stage_after, stage_passed, entries_after, GivesMore}
+use Rattle.krb_keytab.specs.Format.{version, file_limit, KeytabRecord, hole, entry, entry_bytes, record_bytes, FitsRecord, entries_of, IsReached}
+use Rattle.krb_keytab.specs.Items.{LacksVersion, LacksRecord, Stops, StopsSo, IsTooLong, Concludes, AreFirst, EndsWithEntry, StandsTo, IsPartOfRecord, HasMet, HasRead, EntriesRead, passed, stage_after, stage_passed, entries_after, GivesMore}
 use Rattle.krb_keytab.specs.Inner.Entry.{entry_at}
 use Rattle.krb_keytab.specs.Inner.Meeting.{Moves, Peaks, RanOut, OpensAt, MeetsVersion, IsWhole, IsLastAt, IsLongAt, MeetsLast, MeetsOne, PassesHoles, MeetsNext, MeetsPast, MeetsFirst, IsAtHand, IsWithin}
 use Rattle.krb_keytab.specs.declared.fault.KeytabFault.{KeytabFault}
@@ -76,20 +78,47 @@ module _ (bytes : List ℕ) (entries : List KeytabEntry) (reached : IsReached by
   first : (piece : List ℕ) → AreFirst (bytes ++ piece) entries
   first piece = inr (length bytes, piece, reach_piece piece)
 
-  pub failed_stands : (left : Option (List ℕ)) (piece : List ℕ) (fault : KeytabFault) → length bytes ≤ file_limit → MeetsLast left (length bytes) piece (Some fault) → StandsTo left (stage_after (Err fault)) (bytes ++ piece) entries
-  failed_stands left piece Version within m = absurd m.lacks
-  failed_stands left piece (Truncated at) within m = concludes left piece (Some (Truncated at)) m
-  failed_stands left piece (BadEntry at) within m = concludes left piece (Some (BadEntry at)) m
-  failed_stands left piece TooLong within m = too_long piece within m
-  failed_stands left piece NoSuchEntry within m = absurd m.lacks
-  failed_stands left piece Read within m = first piece
-  failed_stands left piece OutOfMemory within m = first piece
+  pub failed_stands : (left : Option (List ℕ)) (held : ℕ) (piece : List ℕ) (fault : KeytabFault) → length bytes ≤ file_limit → MeetsLast left (length bytes) piece (Some fault) → StandsTo left held (stage_after (Err fault)) (bytes ++ piece) entries
+  failed_stands left held piece Version within m = absurd m.lacks
+  failed_stands left held piece (Truncated at) within m = concludes left piece (Some (Truncated at)) m
+  failed_stands left held piece (BadEntry at) within m = concludes left piece (Some (BadEntry at)) m
+  failed_stands left held piece TooLong within m = too_long piece within m
+  failed_stands left held piece NoSuchEntry within m = absurd m.lacks
+  failed_stands left held piece Read within m = first piece
+  failed_stands left held piece OutOfMemory within m = first piece
 
-  pub end_stands : (left : Option (List ℕ)) (piece : List ℕ) → MeetsLast left (length bytes) piece None → StandsTo left (stage_after (Ok None)) (bytes ++ piece) entries
-  end_stands left piece m = concludes left piece None m
+  pub end_stands : (left : Option (List ℕ)) (held : ℕ) (piece : List ℕ) → MeetsLast left (length bytes) piece None → StandsTo left held (stage_after (Ok None)) (bytes ++ piece) entries
+  end_stands left held piece m = concludes left piece None m
 
-  pub entry_stands : (left : Option (List ℕ)) (piece : List ℕ) (e : KeytabEntry) → IsWhole (length bytes) piece (e ∷ []) → StandsTo left (stage_after (Ok (Some e))) (bytes ++ piece) (entries ++ e ∷ [])
-  entry_stands left piece e m = (omega (arith, m.limit, length-append bytes piece), reach_whole piece (e ∷ []) m)
+  ends_with : (held : ℕ) (piece : List ℕ) (e : KeytabEntry) (one : KeytabRecord) → FitsRecord one → piece ≡ record_bytes one → e ∷ [] ≡ entries_of one → length piece ≤ 4 + held → EndsWithEntry held (bytes ++ piece) (entries ++ e ∷ [])
+  ends_with held piece e (hole ignored) fits is are room = absurd cc
+  ends_with held piece e (entry last short_kvno rest) fits is are room =
+      let body : List ℕ = entry_bytes last short_kvno rest in
+      record {
+        before = bytes;
+        earlier = entries;
+        reached = reached;
+        last = last;
+        short_kvno = short_kvno;
+        rest = rest;
+        fits = fits;
+        bytes_are = ap (λ (t : List ℕ). bytes ++ t) is;
+        entries_are = ap (λ (t : List KeytabEntry). entries ++ t) are;
+        room = omega (arith, room, ap length is, length-append (signed_bytes w32 (pos (length body))) body);
+      }
+
+  pub entry_stands : (left : Option (List ℕ)) (held : ℕ) (piece : List ℕ) (e : KeytabEntry) → length piece ≤ 4 + held → IsWhole (length bytes) piece (e ∷ []) → StandsTo left held (stage_after (Ok (Some e))) (bytes ++ piece) (entries ++ e ∷ [])
+  entry_stands left held piece e room m = (omega (arith, m.limit, length-append bytes piece), ends_with held piece e m.one m.fits m.piece_is m.entries_are room)
+
+-- an entry's record is a whole one
+pub ends_reached : (held : ℕ) (bytes : List ℕ) (entries : List KeytabEntry) → length bytes ≤ file_limit → EndsWithEntry held bytes entries → IsReached bytes (length bytes) entries []
+ends_reached held bytes entries limit w =
+    let one : KeytabRecord = entry w.last w.short_kvno w.rest in
+    let piece : List ℕ = record_bytes one in
+    let more : List KeytabEntry = w.last ∷ [] in
+    let whole : IsWhole (length w.before) piece more = record { one = one; fits = w.fits; piece_is = refl; entries_are = refl; limit = omega (arith, limit, ap length w.bytes_are, length-append w.before piece) } in
+    subst (λ (t : List ℕ). IsReached t (length t) entries []) (sym w.bytes_are)
+    (subst (λ (k : List KeytabEntry). IsReached (w.before ++ piece) (length (w.before ++ piece)) k []) (sym w.entries_are) (reach_whole w.before w.earlier w.reached piece more whole))
 
 -- ---- what is at hand
 
@@ -146,6 +175,7 @@ passes_none from window limit = record {
   piece = [];
   moves = record { consumed = Consumes-nil from; given = omega arith };
   limit = limit;
+  grows = omega arith;
   low = λ l. l;
   reaches = λ bytes entries given reached. subst (λ (t : List ℕ). IsReached t (length t) entries []) (sym (append-nil bytes)) reached;
   met = λ bytes entries given reached m. subst (λ (t : List ℕ). HasMet t window.peak) (sym (append-nil bytes)) m;
@@ -162,6 +192,7 @@ passes_hole from mid to old between new h m = record {
   piece = h.piece ++ m.piece;
   moves = moves_on from mid to old between new h.piece m.piece h.moves m.moves;
   limit = omega (arith, m.meets.limit, m.moves.given);
+  grows = omega (arith, h.grows, m.peaks.grows);
   low = λ l. m.peaks.low (h.low l);
   reaches = λ bytes entries given reached.
       let some : List ℕ = bytes ++ h.piece in
@@ -175,18 +206,19 @@ passes_hole from mid to old between new h m = record {
 
 next_by : {S : Type 0} (from mid to : Option (List ℕ)) (old between new : AtHand S) (found : Result Found KeytabFault) (answer : Result (Option KeytabEntry) KeytabFault) (P : ℕ → Type 0) → PassesHoles from mid old between → (m : MeetsOne mid to between new found) → P between.given
     → IsWithin (stage_after answer) new.given → GivesMore answer old.given new.given
-    → ((some : List ℕ) (entries : List KeytabEntry) → IsReached some (length some) entries [] → length some ≤ file_limit → P (length some) → StandsTo to (stage_after answer) (some ++ m.piece) (entries_after entries answer))
+    → ((some : List ℕ) (entries : List KeytabEntry) → IsReached some (length some) entries [] → length some ≤ file_limit → P (length some) → StandsTo to new.peak (stage_after answer) (some ++ m.piece) (entries_after entries answer))
     → MeetsNext from to old new answer
 next_by from mid to old between new found answer P h m meets within more ends = record {
   piece = h.piece ++ m.piece;
   moves = moves_on from mid to old between new h.piece m.piece h.moves m.moves;
+  grows = omega (arith, h.grows, m.peaks.grows);
   low = λ l. m.peaks.low (h.low l);
   within = within;
   more = more;
   stands = λ bytes entries given limit reached.
       let some : List ℕ = bytes ++ h.piece in
       let here = come from mid old between bytes h.piece h.moves given in
-      subst (λ (t : List ℕ). StandsTo to (stage_after answer) t (entries_after entries answer)) (append_assoc bytes h.piece m.piece)
+      subst (λ (t : List ℕ). StandsTo to new.peak (stage_after answer) t (entries_after entries answer)) (append_assoc bytes h.piece m.piece)
       (ends some entries (h.reaches bytes entries given reached) (omega (arith, here, h.limit)) (subst P here meets));
   met = λ bytes entries given reached was.
       subst (λ (t : List ℕ). HasMet t new.peak) (append_assoc bytes h.piece m.piece)
@@ -194,18 +226,19 @@ next_by from mid to old between new found answer P h m meets within more ends = 
 }
 
 pub next_end : {S : Type 0} (from mid to : Option (List ℕ)) (old between new : AtHand S) → PassesHoles from mid old between → MeetsOne mid to between new (Ok End) → MeetsNext from to old new (Ok None)
-next_end from mid to old between new h m = next_by from mid to old between new (Ok End) (Ok None) (λ (n : ℕ). MeetsLast to n m.piece None) h m m.meets tt tt (λ some entries reached limit meets. end_stands some entries reached to m.piece meets)
+next_end from mid to old between new h m = next_by from mid to old between new (Ok End) (Ok None) (λ (n : ℕ). MeetsLast to n m.piece None) h m m.meets tt tt (λ some entries reached limit meets. end_stands some entries reached to new.peak m.piece meets)
 
 pub next_entry : {S : Type 0} (from mid to : Option (List ℕ)) (old between new : AtHand S) → PassesHoles from mid old between → (m : MeetsOne mid to between new (Ok Entry)) → MeetsNext from to old new (Ok (Some m.meets.0))
 next_entry from mid to old between new h m =
     let e = m.meets.0 in
-    let whole : IsWhole between.given m.piece (e ∷ []) = m.meets.2 in
+    let room : length m.piece ≤ 4 + new.peak = m.meets.2 in
+    let whole : IsWhole between.given m.piece (e ∷ []) = m.meets.3 in
     next_by from mid to old between new (Ok Entry) (Ok (Some e)) (λ (n : ℕ). IsWhole n m.piece (e ∷ [])) h m whole (omega (arith, whole.limit, m.moves.given))
-    (omega (arith, m.moves.given, h.moves.given, ap length whole.piece_is, record_first whole.one), omega (arith, whole.limit, m.moves.given)) (λ some entries reached limit meets. entry_stands some entries reached to m.piece e meets)
+    (omega (arith, m.moves.given, h.moves.given, ap length whole.piece_is, record_first whole.one), omega (arith, whole.limit, m.moves.given)) (λ some entries reached limit meets. entry_stands some entries reached to new.peak m.piece e room meets)
 
 pub next_fault : {S : Type 0} (from mid to : Option (List ℕ)) (old between new : AtHand S) (fault : KeytabFault) → PassesHoles from mid old between → MeetsOne mid to between new (Err fault) → MeetsNext from to old new (Err fault)
 next_fault from mid to old between new fault h m =
-    next_by from mid to old between new (Err fault) (Err fault) (λ (n : ℕ). MeetsLast to n m.piece (Some fault)) h m m.meets tt tt (λ some entries reached limit meets. failed_stands some entries reached to m.piece fault limit meets)
+    next_by from mid to old between new (Err fault) (Err fault) (λ (n : ℕ). MeetsLast to n m.piece (Some fault)) h m m.meets tt tt (λ some entries reached limit meets. failed_stands some entries reached to new.peak m.piece fault limit meets)
 
 -- ---- an answer that says of an entry only that it was there
 
@@ -239,6 +272,7 @@ module _ {S : Type 0} (from to : Option (List ℕ)) (old new : AtHand S) where
   not_made e m = record {
     piece = m.piece;
     moves = m.moves;
+    grows = m.grows;
     low = m.low;
     within = tt;
     more = tt;
@@ -262,6 +296,7 @@ first_next from mid to old between new opened answer o start n =
     record {
       piece = o.piece ++ n.piece;
       moves = moves_on from mid to old between new o.piece n.piece o.moves n.moves;
+      grows = omega (arith, o.peaks.grows, n.grows);
       low = λ l. n.low (o.peaks.low l);
       within = n.within;
       more = more_after old.given between.given new.given answer (omega (arith, start)) n.more;
@@ -269,23 +304,24 @@ first_next from mid to old between new opened answer o start n =
       met = λ m. n.met o.piece [] here reached (met_version o.piece old.peak between.peak o.peaks m);
     }
 
-version_stands : (left : Option (List ℕ)) (piece : List ℕ) (fault : KeytabFault) → MeetsVersion left piece (Err fault) → StandsTo left (stage_after (Err fault)) piece []
-version_stands left piece Version m = record { limit = m.0; all = m.1; stops = (refl, m.2) }
-version_stands left piece (Truncated at) m = absurd m
-version_stands left piece (BadEntry at) m = absurd m
-version_stands left piece TooLong m = record { long = m.0; last = Some Version; stops = (refl, m.1) }
-version_stands left piece NoSuchEntry m = absurd m
-version_stands left piece Read m = inl refl
-version_stands left piece OutOfMemory m = inl refl
+version_stands : (left : Option (List ℕ)) (held : ℕ) (piece : List ℕ) (fault : KeytabFault) → MeetsVersion left piece (Err fault) → StandsTo left held (stage_after (Err fault)) piece []
+version_stands left held piece Version m = record { limit = m.0; all = m.1; stops = (refl, m.2) }
+version_stands left held piece (Truncated at) m = absurd m
+version_stands left held piece (BadEntry at) m = absurd m
+version_stands left held piece TooLong m = record { long = m.0; last = Some Version; stops = (refl, m.1) }
+version_stands left held piece NoSuchEntry m = absurd m
+version_stands left held piece Read m = inl refl
+version_stands left held piece OutOfMemory m = inl refl
 
 pub first_fault : {S : Type 0} (from to : Option (List ℕ)) (old new : AtHand S) (fault : KeytabFault) → OpensAt from to old new (Err fault) → MeetsFirst from to old new (Err fault)
 first_fault from to old new fault o = record {
   piece = o.piece;
   moves = o.moves;
+  grows = o.peaks.grows;
   low = o.peaks.low;
   within = tt;
   more = tt;
-  stands = version_stands to o.piece fault o.meets;
+  stands = version_stands to new.peak o.piece fault o.meets;
   met = λ m. met_version o.piece old.peak new.peak o.peaks m;
 }
 
@@ -298,13 +334,13 @@ pub read_first : {S : Type 0} (from to : Option (List ℕ)) (reader : EntriesRea
     → (bytes : List ℕ) (entries : List KeytabEntry) → HasRead from reader bytes entries
     → (piece : List ℕ) × Consumes from to piece × HasRead to (record { source = new.source; held = new.peak; given = new.given; stage = stage_after answer }) (bytes ++ piece) (entries_after entries answer)
 read_first from to reader old new answer stage held m start bytes entries r =
-    let none = subst (λ (s : Stage). StandsTo from s bytes entries) stage r.stands in
+    let none = subst (λ (s : Stage). StandsTo from reader.held s bytes entries) stage r.stands in
     let empty : bytes ++ m.piece ≡ m.piece = ap (λ (t : List ℕ). t ++ m.piece) none.0 in (
       m.piece,
       m.moves.consumed,
       record {
         given = omega (arith, m.moves.given, start, ap length empty);
-        stands = subst (λ (t : List ℕ). StandsTo to (stage_after answer) t (entries_after entries answer)) (sym empty) (subst (λ (e : List KeytabEntry). StandsTo to (stage_after answer) m.piece (entries_after e answer)) (sym none.1) m.stands);
+        stands = subst (λ (t : List ℕ). StandsTo to new.peak (stage_after answer) t (entries_after entries answer)) (sym empty) (subst (λ (e : List KeytabEntry). StandsTo to new.peak (stage_after answer) m.piece (entries_after e answer)) (sym none.1) m.stands);
         held = subst (λ (t : List ℕ). HasMet t new.peak) (sym empty) (m.met (subst (λ (n : ℕ). HasMet [] n) held (subst (λ (t : List ℕ). HasMet t reader.held) none.0 r.held)));
       },
     )
@@ -313,14 +349,15 @@ pub read_next : {S : Type 0} (from to : Option (List ℕ)) (reader : EntriesRead
     → (bytes : List ℕ) (entries : List KeytabEntry) → HasRead from reader bytes entries
     → (piece : List ℕ) × Consumes from to piece × HasRead to (record { source = new.source; held = new.peak; given = new.given; stage = stage_after answer }) (bytes ++ piece) (entries_after entries answer)
 read_next from to reader old new answer stage held given m bytes entries r =
-    let stands = subst (λ (s : Stage). StandsTo from s bytes entries) stage r.stands in
+    let stands = subst (λ (s : Stage). StandsTo from reader.held s bytes entries) stage r.stands in
+    let reached : IsReached bytes (length bytes) entries [] = ends_reached reader.held bytes entries stands.0 stands.1 in
     let here : old.given ≡ length bytes = sym given ∙ r.given in (
       m.piece,
       m.moves.consumed,
       record {
         given = omega (arith, m.moves.given, here, length-append bytes m.piece);
-        stands = m.stands bytes entries here stands.0 stands.1;
-        held = m.met bytes entries here stands.1 (subst (HasMet bytes) held r.held);
+        stands = m.stands bytes entries here stands.0 reached;
+        held = m.met bytes entries here reached (subst (HasMet bytes) held r.held);
       },
     )
 

@@ -14,14 +14,15 @@ use Rattle.krb_keytab.specs.declared.fault.KeytabFault.TheVariants.{Version, Tru
 use Rattle.krb_keytab.specs.declared.stage.Stage.{Stage}
 use Rattle.krb_keytab.specs.declared.stage.Stage.TheVariants.{Start, Records, End, Failed}
 use Rattle.krb_keytab.proofs.OneSplit.{first_records}
+use Rattle.krb_keytab.proofs.StandLaws.{ends_reached}
 
 -- the bytes that came are all, where none is left
 pub all_came : (whole bytes : List ℕ) (left : Option (List ℕ)) → Consumes (Some whole) left bytes → IsAtEnd left → bytes ≡ whole
 all_came whole bytes None c end = absurd c
 all_came whole bytes (Some rest) c end = sym (c ∙ ap (λ (t : List ℕ). bytes ++ t) end ∙ append-nil bytes)
 
-pub end_told : (whole bytes : List ℕ) (left : Option (List ℕ)) (entries : List KeytabEntry) → Consumes (Some whole) left bytes → StandsTo left End bytes entries → IsKeytab whole entries
-end_told whole bytes left entries c s =
+pub end_told : (whole bytes : List ℕ) (left : Option (List ℕ)) (held : ℕ) (entries : List KeytabEntry) → Consumes (Some whole) left bytes → StandsTo left held End bytes entries → IsKeytab whole entries
+end_told whole bytes left held entries c s =
     subst (λ (t : List ℕ). IsKeytab t entries) (all_came whole bytes left c s.all) (record { limit = s.limit; at = s.stops.at; behind = s.stops.behind; reached = s.stops.reached; end = s.stops.lacks })
 
 stands_there : (whole bytes : List ℕ) (entries : List KeytabEntry) (place at : ℕ) (behind : List ℕ) (IsFaulty : List ℕ → Type 0) → bytes ≡ whole → length bytes ≤ file_limit → IsReached bytes at entries behind → place ≡ at → IsFaulty behind → StandsAt whole place IsFaulty
@@ -32,14 +33,14 @@ long_told : (whole bytes : List ℕ) (left : Option (List ℕ)) → Consumes (So
 long_told whole bytes None c long = absurd c
 long_told whole bytes (Some rest) c long = omega (arith, ap length c, length-append bytes rest, long)
 
-pub fault_told : (whole bytes : List ℕ) (left : Option (List ℕ)) (entries : List KeytabEntry) (fault : KeytabFault) → fault ≢ Read → fault ≢ OutOfMemory → Consumes (Some whole) left bytes → StandsTo left (Failed fault) bytes entries → IsFaultOf whole fault
-fault_told whole bytes left entries Version p q c s = subst (λ (t : List ℕ). IsFaultOf t Version) (all_came whole bytes left c s.all) (s.limit, s.stops.1)
-fault_told whole bytes left entries (Truncated place) p q c s = stands_there whole bytes entries place s.stops.at s.stops.behind IsCutOff (all_came whole bytes left c s.all) s.limit s.stops.reached s.stops.lacks.0 s.stops.lacks.1
-fault_told whole bytes left entries (BadEntry place) p q c s = stands_there whole bytes entries place s.stops.at s.stops.behind HoldsNoEntry (all_came whole bytes left c s.all) s.limit s.stops.reached s.stops.lacks.0 s.stops.lacks.1
-fault_told whole bytes left entries TooLong p q c s = long_told whole bytes left c (omega (arith, s.long))
-fault_told whole bytes left entries NoSuchEntry p q c s = absurd s.stops.lacks
-fault_told whole bytes left entries Read p q c s = absurd (p refl)
-fault_told whole bytes left entries OutOfMemory p q c s = absurd (q refl)
+pub fault_told : (whole bytes : List ℕ) (left : Option (List ℕ)) (held : ℕ) (entries : List KeytabEntry) (fault : KeytabFault) → fault ≢ Read → fault ≢ OutOfMemory → Consumes (Some whole) left bytes → StandsTo left held (Failed fault) bytes entries → IsFaultOf whole fault
+fault_told whole bytes left held entries Version p q c s = subst (λ (t : List ℕ). IsFaultOf t Version) (all_came whole bytes left c s.all) (s.limit, s.stops.1)
+fault_told whole bytes left held entries (Truncated place) p q c s = stands_there whole bytes entries place s.stops.at s.stops.behind IsCutOff (all_came whole bytes left c s.all) s.limit s.stops.reached s.stops.lacks.0 s.stops.lacks.1
+fault_told whole bytes left held entries (BadEntry place) p q c s = stands_there whole bytes entries place s.stops.at s.stops.behind HoldsNoEntry (all_came whole bytes left c s.all) s.limit s.stops.reached s.stops.lacks.0 s.stops.lacks.1
+fault_told whole bytes left held entries TooLong p q c s = long_told whole bytes left c (omega (arith, s.long))
+fault_told whole bytes left held entries NoSuchEntry p q c s = absurd s.stops.lacks
+fault_told whole bytes left held entries Read p q c s = absurd (p refl)
+fault_told whole bytes left held entries OutOfMemory p q c s = absurd (q refl)
 
 -- ---- the first entries of a file
 
@@ -79,14 +80,14 @@ begins_first whole bytes left all entries c k f =
       | inr reached ↦ begins whole bytes left all entries reached.0 reached.1 c k reached.2
     ]
 
-pub first_told : (whole bytes : List ℕ) (left : Option (List ℕ)) (stage : Stage) (all entries : List KeytabEntry) → Consumes (Some whole) left bytes → StandsTo left stage bytes entries → IsKeytab whole all → Begins all entries
-first_told whole bytes left Start all entries c s k = none_begins all entries s.1
-first_told whole bytes left Records all entries c s k = begins whole bytes left all entries (length bytes) [] c k s.1
-first_told whole bytes left End all entries c s k = begins_stop whole bytes left all entries None c k s.stops
-first_told whole bytes left (Failed Version) all entries c s k = none_begins all entries s.stops.0
-first_told whole bytes left (Failed (Truncated at)) all entries c s k = begins_stop whole bytes left all entries (Some (Truncated at)) c k s.stops
-first_told whole bytes left (Failed (BadEntry at)) all entries c s k = begins_stop whole bytes left all entries (Some (BadEntry at)) c k s.stops
-first_told whole bytes left (Failed TooLong) all entries c s k = let l = k.limit in let m = long_told whole bytes left c (omega (arith, s.long)) in absurd (omega arith)
-first_told whole bytes left (Failed NoSuchEntry) all entries c s k = absurd s.stops.lacks
-first_told whole bytes left (Failed Read) all entries c s k = begins_first whole bytes left all entries c k s
-first_told whole bytes left (Failed OutOfMemory) all entries c s k = begins_first whole bytes left all entries c k s
+pub first_told : (whole bytes : List ℕ) (left : Option (List ℕ)) (held : ℕ) (stage : Stage) (all entries : List KeytabEntry) → Consumes (Some whole) left bytes → StandsTo left held stage bytes entries → IsKeytab whole all → Begins all entries
+first_told whole bytes left held Start all entries c s k = none_begins all entries s.1
+first_told whole bytes left held Records all entries c s k = begins whole bytes left all entries (length bytes) [] c k (ends_reached held bytes entries s.0 s.1)
+first_told whole bytes left held End all entries c s k = begins_stop whole bytes left all entries None c k s.stops
+first_told whole bytes left held (Failed Version) all entries c s k = none_begins all entries s.stops.0
+first_told whole bytes left held (Failed (Truncated at)) all entries c s k = begins_stop whole bytes left all entries (Some (Truncated at)) c k s.stops
+first_told whole bytes left held (Failed (BadEntry at)) all entries c s k = begins_stop whole bytes left all entries (Some (BadEntry at)) c k s.stops
+first_told whole bytes left held (Failed TooLong) all entries c s k = let l = k.limit in let m = long_told whole bytes left c (omega (arith, s.long)) in absurd (omega arith)
+first_told whole bytes left held (Failed NoSuchEntry) all entries c s k = absurd s.stops.lacks
+first_told whole bytes left held (Failed Read) all entries c s k = begins_first whole bytes left all entries c k s
+first_told whole bytes left held (Failed OutOfMemory) all entries c s k = begins_first whole bytes left all entries c k s

@@ -4,7 +4,7 @@ use Rattle.std.specs.Int.{w32}
 use Rattle.std.specs.Io.KnownBytes.{IsAtEnd}
 use Rattle.krb_name.specs.Cursor.{signed_bytes}
 use Rattle.krb_keytab.specs.Entry.{KeytabEntry}
-use Rattle.krb_keytab.specs.Format.{version, file_limit, IsReached, IsEnd, IsCutOff, HoldsNoEntry}
+use Rattle.krb_keytab.specs.Format.{version, file_limit, entry, entry_bytes, record_bytes, FitsRecord, IsReached, IsEnd, IsCutOff, HoldsNoEntry}
 use Rattle.krb_keytab.specs.declared.fault.KeytabFault.{KeytabFault}
 use Rattle.krb_keytab.specs.declared.fault.KeytabFault.TheVariants.{Version, Truncated, BadEntry, TooLong, Read, OutOfMemory}
 use Rattle.krb_keytab.specs.declared.stage.Stage.{Stage}
@@ -59,15 +59,28 @@ pub record Concludes (left : Option (List ℕ)) (bytes : List ℕ) (entries : Li
 abbrev pub AreFirst : List ℕ → List KeytabEntry → Type 0
 AreFirst bytes entries = (entries ≡ []) ⊎ ((at : ℕ) × (behind : List ℕ) × IsReached bytes at entries behind)
 
--- how it stands to the bytes that are left of its source, to those that the source gave, and to the entries that it gave
-abbrev pub StandsTo : Option (List ℕ) → Stage → List ℕ → List KeytabEntry → Type 0
-StandsTo left Start bytes entries = (bytes ≡ []) × (entries ≡ [])
-StandsTo left Records bytes entries = (length bytes ≤ file_limit) × IsReached bytes (length bytes) entries []
-StandsTo left End bytes entries = Concludes left bytes entries None
-StandsTo left (Failed TooLong) bytes entries = IsTooLong bytes entries
-StandsTo left (Failed Read) bytes entries = AreFirst bytes entries
-StandsTo left (Failed OutOfMemory) bytes entries = AreFirst bytes entries
-StandsTo left (Failed fault) bytes entries = Concludes left bytes entries (Some fault)
+-- whole records, the last of which is that of the last entry: nothing lies behind it, and there was room at hand for its bytes behind the size
+pub record EndsWithEntry (held : ℕ) (bytes : List ℕ) (entries : List KeytabEntry) : Type 0 where
+  pub before : List ℕ
+  pub earlier : List KeytabEntry
+  pub reached : IsReached before (length before) earlier []
+  pub last : KeytabEntry
+  pub short_kvno : ℕ
+  pub rest : List ℕ
+  pub fits : FitsRecord (entry last short_kvno rest)
+  pub bytes_are : bytes ≡ before ++ record_bytes (entry last short_kvno rest)
+  pub entries_are : entries ≡ earlier ++ last ∷ []
+  pub room : length (entry_bytes last short_kvno rest) ≤ held
+
+-- how it stands to the bytes that are left of its source, to the most that it had at hand, to those that the source gave, and to the entries that it gave
+abbrev pub StandsTo : Option (List ℕ) → ℕ → Stage → List ℕ → List KeytabEntry → Type 0
+StandsTo left held Start bytes entries = (bytes ≡ []) × (entries ≡ [])
+StandsTo left held Records bytes entries = (length bytes ≤ file_limit) × EndsWithEntry held bytes entries
+StandsTo left held End bytes entries = Concludes left bytes entries None
+StandsTo left held (Failed TooLong) bytes entries = IsTooLong bytes entries
+StandsTo left held (Failed Read) bytes entries = AreFirst bytes entries
+StandsTo left held (Failed OutOfMemory) bytes entries = AreFirst bytes entries
+StandsTo left held (Failed fault) bytes entries = Concludes left bytes entries (Some fault)
 
 -- ---- what it has at hand
 
@@ -87,14 +100,14 @@ pub record HasMet (bytes : List ℕ) (count : ℕ) : Type 0 where
 -- a reader whose source gave these bytes, and which gave these entries
 pub record HasRead {S : Type 0} (left : Option (List ℕ)) (reader : EntriesRead S) (bytes : List ℕ) (entries : List KeytabEntry) : Type 0 where
   pub given : reader.given ≡ length bytes
-  pub stands : StandsTo left reader.stage bytes entries
+  pub stands : StandsTo left reader.held reader.stage bytes entries
   pub held : HasMet bytes reader.held
 
 -- ---- one answer more
 
 -- an answer that says of an entry only that it was there
 abbrev pub passed : Result (Option KeytabEntry) KeytabFault → Result Bool KeytabFault
-passed (Ok (Some entry)) = Ok true
+passed (Ok (Some e)) = Ok true
 passed (Ok None) = Ok false
 passed (Err fault) = Err fault
 
@@ -107,13 +120,13 @@ abbrev pub stage_after : Result (Option KeytabEntry) KeytabFault → Stage
 stage_after answer = stage_passed (passed answer)
 
 abbrev pub entries_after : List KeytabEntry → Result (Option KeytabEntry) KeytabFault → List KeytabEntry
-entries_after entries (Ok (Some entry)) = entries ++ entry ∷ []
+entries_after entries (Ok (Some e)) = entries ++ e ∷ []
 entries_after entries (Ok None) = entries
 entries_after entries (Err fault) = entries
 
 -- the source gave a byte at least before an entry, and no more than a file has
 abbrev pub GivesMore : Result (Option KeytabEntry) KeytabFault → ℕ → ℕ → Type 0
-GivesMore (Ok (Some entry)) old new = (old < new) × (new ≤ file_limit)
+GivesMore (Ok (Some e)) old new = (old < new) × (new ≤ file_limit)
 GivesMore (Ok None) old new = ⊤
 GivesMore (Err fault) old new = ⊤
 

@@ -63,30 +63,30 @@ pub fn each_fault_lies_within()
 /// source: where it is the end, they are a keytab of the entries that it gave; where it is a fault of
 /// the content, they have this fault.
 pub fn a_reader_tells_the_file()
-    ensures end { (whole bytes : List ℕ) (left : Option (List ℕ)) (entries : List KeytabEntry)
-        → Consumes (Some whole) left bytes → StandsTo left End bytes entries → IsKeytab whole entries }
-    ensures fault { (whole bytes : List ℕ) (left : Option (List ℕ)) (entries : List KeytabEntry)
+    ensures end { (whole bytes : List ℕ) (left : Option (List ℕ)) (held : ℕ) (entries : List KeytabEntry)
+        → Consumes (Some whole) left bytes → StandsTo left held End bytes entries → IsKeytab whole entries }
+    ensures fault { (whole bytes : List ℕ) (left : Option (List ℕ)) (held : ℕ) (entries : List KeytabEntry)
         (fault : KeytabFault) → fault ≢ KeytabFault.Read → fault ≢ KeytabFault.OutOfMemory
-        → Consumes (Some whole) left bytes → StandsTo left (Failed fault) bytes entries
+        → Consumes (Some whole) left bytes → StandsTo left held (Failed fault) bytes entries
         → IsFaultOf whole fault }
 {}
 
 /// Says that the entries that a reader gives of a keytab are its first ones, wherever the reader stands:
 /// none is skipped.
 pub fn a_reader_gives_the_first_entries()
-    ensures { (whole bytes : List ℕ) (left : Option (List ℕ)) (stage : Stage)
+    ensures { (whole bytes : List ℕ) (left : Option (List ℕ)) (held : ℕ) (stage : Stage)
         (all entries : List KeytabEntry) → Consumes (Some whole) left bytes
-        → StandsTo left stage bytes entries → IsKeytab whole all
+        → StandsTo left held stage bytes entries → IsKeytab whole all
         → (others : List KeytabEntry) × (all ≡ entries ++ others) }
 {}
 
 /// Says that two readers of one file gave the same entries before a fault of the content.
 pub fn each_reader_gives_the_same_entries()
-    ensures { (whole bytes others : List ℕ) (left right : Option (List ℕ))
+    ensures { (whole bytes others : List ℕ) (left right : Option (List ℕ)) (held peak : ℕ)
         (entries more : List KeytabEntry) (fault other : KeytabFault)
         → fault ≢ KeytabFault.Read → fault ≢ KeytabFault.OutOfMemory
         → other ≢ KeytabFault.Read → other ≢ KeytabFault.OutOfMemory
-        → Consumes (Some whole) left bytes → StandsTo left (Failed fault) bytes entries
-        → Consumes (Some whole) right others → StandsTo right (Failed other) others more
+        → Consumes (Some whole) left bytes → StandsTo left held (Failed fault) bytes entries
+        → Consumes (Some whole) right others → StandsTo right peak (Failed other) others more
         → entries ≡ more }
 {}

@@ -84,7 +84,8 @@ impl<S: Source> EntryReader<S> {
 
     /// Answers how many bytes of the source were at hand at most: no more than the version has, or the
     /// longest record of an entry so far, at a fault as many of its bytes as there were, and no more
-    /// than 16,777,216. The end of the records and a hole count as records of 4 bytes.
+    /// than 16,777,216. The end of the records and a hole count as records of 4 bytes. Behind an entry
+    /// it is no less than its record has behind the size, and it never falls.
     pub fn held(&self) -> usize
         ensures held { result ≡ self.now.held }
         ensures limit { result ≤ file_limit }
@@ -94,11 +95,12 @@ impl<S: Source> EntryReader<S> {
 
     /// Reads on to the next entry, and answers it; or `None`, where the entries have ended.
     ///
-    /// Behind an entry the source has given exactly the bytes up to the end of its record. Before the
-    /// end or a fault of the content is answered, the source is read to its end or to one byte past
-    /// 16,777,216, and nothing of this is kept; so the last answer is that of `Keytab::parse` for all
-    /// the bytes. The end and each fault, also `Read` and `OutOfMemory`, are answered again by each
-    /// later call, which reads nothing.
+    /// Behind an entry the source has given exactly the bytes up to the end of its record, and none of a
+    /// hole that follows; those behind the record's size were at hand together. Before the end or a fault
+    /// of the content is answered, the source is read to its end or to one byte past 16,777,216, and
+    /// nothing of this is kept; so the last answer is that of `Keytab::parse` for all the bytes. The end
+    /// and each fault, also `Read` and `OutOfMemory`, are answered again by each later call, which reads
+    /// nothing.
     ///
     /// Condition: fewer than 18,446,744,073,709,551,615 reads of the source have failed so far.
     ///
@@ -122,6 +124,7 @@ impl<S: Source> EntryReader<S> {
         ensures stage { self.new.stage ≡ stage_after result }
 
         ensures more { GivesMore result self.old.given self.new.given }
+        ensures grows { self.old.held ≤ self.new.held }
 
         // What was answered last is answered again, and nothing is read.
         ensures again { IfSome (last_answer self.old.stage) (λ answer.
@@ -143,8 +146,8 @@ impl<S: Source> EntryReader<S> {
     /// Reads on to the next entry as `next` does, and answers whether there is one; the entry isn't
     /// made, and no memory is taken but for the bytes of its record.
     ///
-    /// Behind an entry, at the end and at a fault the reader stands as after `next`, and the two calls
-    /// can be mixed.
+    /// Behind an entry, at the end and at a fault the reader stands as after `next`: the source has given
+    /// the same bytes, and as many were at hand. The two calls can be mixed.
     ///
     /// Condition: fewer than 18,446,744,073,709,551,615 reads of the source have failed so far.
     ///
@@ -165,6 +168,7 @@ impl<S: Source> EntryReader<S> {
 
         ensures more { result ≡ Ok true
             → (self.old.given < self.new.given) × (self.new.given ≤ file_limit) }
+        ensures grows { self.old.held ≤ self.new.held }
 
         // What was answered last is answered again, and nothing is read.
         ensures again { IfSome (last_answer self.old.stage) (λ answer.

@@ -3,7 +3,7 @@
 use crate::real_files::HOLES;
 use crate::tests::{ALICE, is};
 use krb_keytab::*;
-use krb_name::{PieceSource, SliceSource, Source};
+use krb_name::{PieceSource, SliceSource, Source, SourceFailed};
 use std::alloc::Global;
 use std::test::*;
 
@@ -82,6 +82,36 @@ fn the_calls_are_mixed(rt: HostRuntime) -> Result<(), Fail> {
     is(&rt, reader.pass(), Ok(false));
     is(&rt, reader.pass(), Ok(false));
     is(&rt, numbers.as_slice(), [(2, 19), (4, 19)].as_slice());
+    Ok(())
+}
+
+// How many bytes the source of a reader still has, where they are no more than 100.
+fn left(reader: EntryReader<SliceSource<'_>>) -> Result<usize, SourceFailed> {
+    let mut bytes = [0u8; 100];
+    reader.into_source().read(&mut bytes)
+}
+
+// Looks for an entry that is answered behind the holes that follow it, and for a peak that doesn't know
+// its record, or that sinks with a shorter one.
+#[test]
+fn holes_behind_an_entry_are_left(rt: HostRuntime) -> Result<(), Fail> {
+    let alloc = rt.alloc();
+    let holes = [0xff, 0xff, 0xff, 0xfd, 7, 7, 7, 0xff, 0xff, 0xff, 0xff, 7];
+    let mut file = Vec::from_slice(alloc, &ALICE)?;
+    file.extend_from_slice(&holes)?;
+    file.extend_from_slice(&ALICE[2..])?;
+    file.extend_from_slice(&holes)?;
+    for (passed, behind) in [(0, 74), (1, 12)] {
+        let mut giving = EntryReader::new(alloc, SliceSource::new(&file));
+        let mut passing = EntryReader::new(alloc, SliceSource::new(&file));
+        for _ in 0..=passed {
+            is(&rt, giving.next(alloc)?.is_some(), true);
+            is(&rt, passing.pass(), Ok(true));
+            is(&rt, (giving.held(), passing.held()), (46, 46));
+        }
+        is(&rt, left(giving), Ok(behind));
+        is(&rt, left(passing), Ok(behind));
+    }
     Ok(())
 }
 

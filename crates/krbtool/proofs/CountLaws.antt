@@ -86,11 +86,11 @@ none_passed (Err fault) entries differs = refl
 
 -- what its last answers say of the file
 abbrev pub EndTells : Type 0
-EndTells = (whole bytes : List ℕ) (left : Option (List ℕ)) (entries : List KeytabEntry) → Consumes (Some whole) left bytes → StandsTo left End bytes entries → IsKeytab whole entries
+EndTells = (whole bytes : List ℕ) (left : Option (List ℕ)) (held : ℕ) (entries : List KeytabEntry) → Consumes (Some whole) left bytes → StandsTo left held End bytes entries → IsKeytab whole entries
 
 abbrev pub FaultTells : Type 0
-FaultTells = (whole bytes : List ℕ) (left : Option (List ℕ)) (entries : List KeytabEntry) (fault : KeytabFault) → fault ≢ of_keytab.Read → fault ≢ of_keytab.OutOfMemory → Consumes (Some whole) left bytes
-    → StandsTo left (Failed fault) bytes entries → keytab.IsFaultOf whole fault
+FaultTells = (whole bytes : List ℕ) (left : Option (List ℕ)) (held : ℕ) (entries : List KeytabEntry) (fault : KeytabFault) → fault ≢ of_keytab.Read → fault ≢ of_keytab.OutOfMemory → Consumes (Some whole) left bytes
+    → StandsTo left held (Failed fault) bytes entries → keytab.IsFaultOf whole fault
 
 module _ {S : Type 0} where
   pub none_counted : (from : Option (List ℕ)) (reader : EntriesRead S) → HasRead from reader [] [] → EntriesCounted from from reader 0
@@ -125,14 +125,14 @@ module _ {S : Type 0} where
   all_counted None mid to old new count law c reads stage = tt
   all_counted (Some whole) mid to old new count law c reads stage =
       let last = none_more (Some whole) mid to old new count (Ok false) c reads (λ e. cc) in
-      (last.entries, (law whole last.bytes to last.entries last.taken (subst (λ (s : Stage). StandsTo to s last.bytes last.entries) stage last.read.stands), last.counted))
+      (last.entries, (law whole last.bytes to new.held last.entries last.taken (subst (λ (s : Stage). StandsTo to new.held s last.bytes last.entries) stage last.read.stands), last.counted))
 
   pub fault_counted : (from mid to : Option (List ℕ)) (old new : EntriesRead S) (count : ℕ) (fault : KeytabFault) → FaultTells → EntriesCounted from mid old count → Reads mid to old new (Err fault) → new.stage ≡ Failed fault
       → fault ≢ of_keytab.OutOfMemory → fault ≢ of_keytab.Read → IfSome from (λ bytes. keytab.IsFaultOf bytes fault)
   fault_counted None mid to old new count fault law c reads stage memory read = tt
   fault_counted (Some whole) mid to old new count fault law c reads stage memory read =
       let last = none_more (Some whole) mid to old new count (Err fault) c reads (λ e. cc) in
-      law whole last.bytes to last.entries fault read memory last.taken (subst (λ (s : Stage). StandsTo to s last.bytes last.entries) stage last.read.stands)
+      law whole last.bytes to new.held last.entries fault read memory last.taken (subst (λ (s : Stage). StandsTo to new.held s last.bytes last.entries) stage last.read.stands)
 
 -- ---- a cache
 

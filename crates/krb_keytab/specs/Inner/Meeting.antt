@@ -28,13 +28,14 @@ pub record Moves {S : Type 0} (from to : Option (List ℕ)) (old new : AtHand S)
   pub consumed : Consumes from to piece
   pub given : new.given ≡ old.given + length piece
 
--- the peak is no higher than it was, or than a part at their front
+-- the peak is no lower than it was, and no higher than that, or than a part at their front
 pub record Peaks (IsPart : List ℕ → Type 0) (piece : List ℕ) (old new : ℕ) : Type 0 where
   pub part : List ℕ
   pub after : List ℕ
   pub piece_is : piece ≡ part ++ after
   pub is_part : IsPart part
   pub peak : new ≤ max old (length part)
+  pub grows : old ≤ new
   pub low : old ≤ file_limit → new ≤ file_limit
 
 -- the source was read to its end, or past the limit, behind what the last answer rests on; or a read failed
@@ -90,18 +91,18 @@ MeetsLast left at piece (Some Read) = ⊤
 MeetsLast left at piece (Some OutOfMemory) = ⊤
 MeetsLast left at piece last = IsLastAt left at piece last
 
--- a record that begins there; the bytes of an entry, behind its size, are at hand
-abbrev pub Meets : Option (List ℕ) → ℕ → List ℕ → List ℕ → Result Found KeytabFault → Type 0
-Meets left at piece at_hand (Ok End) = MeetsLast left at piece None
-Meets left at piece at_hand (Ok Hole) = IsWhole at piece []
-Meets left at piece at_hand (Ok Entry) = (e : KeytabEntry) × (entry_at at_hand ≡ Some e) × IsWhole at piece (e ∷ [])
-Meets left at piece at_hand (Err fault) = MeetsLast left at piece (Some fault)
+-- a record that begins there; the bytes of an entry, behind its size, are at hand, and the peak is no lower than these
+abbrev pub Meets : Option (List ℕ) → ℕ → List ℕ → ℕ → List ℕ → Result Found KeytabFault → Type 0
+Meets left at piece peak at_hand (Ok End) = MeetsLast left at piece None
+Meets left at piece peak at_hand (Ok Hole) = IsWhole at piece []
+Meets left at piece peak at_hand (Ok Entry) = (e : KeytabEntry) × (entry_at at_hand ≡ Some e) × (length piece ≤ 4 + peak) × IsWhole at piece (e ∷ [])
+Meets left at piece peak at_hand (Err fault) = MeetsLast left at piece (Some fault)
 
 pub record MeetsOne {S : Type 0} (from to : Option (List ℕ)) (old new : AtHand S) (answer : Result Found KeytabFault) : Type 0 where
   pub piece : List ℕ
   pub moves : Moves from to old new piece
   pub peaks : Peaks IsPartOfRecord piece old.peak new.peak
-  pub meets : Meets to old.given piece new.bytes answer
+  pub meets : Meets to old.given piece new.peak new.bytes answer
 
 -- ---- its size
 
@@ -139,7 +140,7 @@ pub record MeetsBody {S : Type 0} (from to : Option (List ℕ)) (old new : AtHan
   pub piece : List ℕ
   pub moves : Moves from to old new piece
   pub peaks : Peaks (λ part. length part ≤ kept_of size) piece old.peak new.peak
-  pub meets : Meets to at (signed_bytes w32 size ++ piece) new.bytes answer
+  pub meets : Meets to at (signed_bytes w32 size ++ piece) new.peak new.bytes answer
 
 -- ---- records up to an entry
 
@@ -147,6 +148,7 @@ pub record PassesHoles {S : Type 0} (from to : Option (List ℕ)) (old new : AtH
   pub piece : List ℕ
   pub moves : Moves from to old new piece
   pub limit : new.given ≤ file_limit
+  pub grows : old.peak ≤ new.peak
   pub low : old.peak ≤ file_limit → new.peak ≤ file_limit
   pub reaches : (bytes : List ℕ) (entries : List KeytabEntry) → old.given ≡ length bytes → IsReached bytes (length bytes) entries [] → IsReached (bytes ++ piece) (length (bytes ++ piece)) entries []
   pub met : (bytes : List ℕ) (entries : List KeytabEntry) → old.given ≡ length bytes → IsReached bytes (length bytes) entries [] → HasMet bytes old.peak → HasMet (bytes ++ piece) new.peak
@@ -154,10 +156,11 @@ pub record PassesHoles {S : Type 0} (from to : Option (List ℕ)) (old new : AtH
 pub record MeetsNext {S : Type 0} (from to : Option (List ℕ)) (old new : AtHand S) (answer : Result (Option KeytabEntry) KeytabFault) : Type 0 where
   pub piece : List ℕ
   pub moves : Moves from to old new piece
+  pub grows : old.peak ≤ new.peak
   pub low : old.peak ≤ file_limit → new.peak ≤ file_limit
   pub within : IsWithin (stage_after answer) new.given
   pub more : GivesMore answer old.given new.given
-  pub stands : (bytes : List ℕ) (entries : List KeytabEntry) → old.given ≡ length bytes → length bytes ≤ file_limit → IsReached bytes (length bytes) entries [] → StandsTo to (stage_after answer) (bytes ++ piece) (entries_after entries answer)
+  pub stands : (bytes : List ℕ) (entries : List KeytabEntry) → old.given ≡ length bytes → length bytes ≤ file_limit → IsReached bytes (length bytes) entries [] → StandsTo to new.peak (stage_after answer) (bytes ++ piece) (entries_after entries answer)
   pub met : (bytes : List ℕ) (entries : List KeytabEntry) → old.given ≡ length bytes → IsReached bytes (length bytes) entries [] → HasMet bytes old.peak → HasMet (bytes ++ piece) new.peak
 
 -- the bytes of the entry in an answer are at hand
@@ -178,10 +181,11 @@ pub record MeetsPast {S : Type 0} (from to : Option (List ℕ)) (old new : AtHan
 pub record MeetsFirst {S : Type 0} (from to : Option (List ℕ)) (old new : AtHand S) (answer : Result (Option KeytabEntry) KeytabFault) : Type 0 where
   pub piece : List ℕ
   pub moves : Moves from to old new piece
+  pub grows : old.peak ≤ new.peak
   pub low : old.peak ≤ file_limit → new.peak ≤ file_limit
   pub within : IsWithin (stage_after answer) new.given
   pub more : GivesMore answer old.given new.given
-  pub stands : StandsTo to (stage_after answer) piece (entries_after [] answer)
+  pub stands : StandsTo to new.peak (stage_after answer) piece (entries_after [] answer)
   pub met : HasMet [] old.peak → HasMet piece new.peak
 
 -- ---- the version and all records

@@ -17,7 +17,7 @@ returns-then-count-given-clause-meets g c =
       piece = ran_out.piece;
       moves = ran_out.moves;
       peaks = peaks_kept _ ran_out.piece _ _ (omega arith) ran_out.peak;
-      meets = ran (Meets _ at (word ++ ran_out.piece) _) (Err (Truncated at)) c.conclude.result _ at _ word ran_out.piece (Some (Truncated at)) ran_out.ran
+      meets = ran (Meets _ at (word ++ ran_out.piece) _ _) (Err (Truncated at)) c.conclude.result _ at _ word ran_out.piece (Some (Truncated at)) ran_out.ran
           (omega (arith, c.requires.at, c.requires.limit)) (omega (arith, ran_out.moves.given, c.requires.at, length-append word ran_out.piece))
           (λ more within. cut_off at c.args.size more c.requires.fits (omega (arith, within, length-append word more, c.if-count-given.true, c.given.ensures, c.requires.at, count)))
           (λ h. h) (λ h. h) tt;

@@ -20,7 +20,7 @@ returns-then-count-given-clause-meets g c =
       piece = ran_out.piece;
       moves = ran_out.moves;
       peaks = peaks_kept _ ran_out.piece _ _ (omega arith) ran_out.peak;
-      meets = ran (Meets _ at (word ++ ran_out.piece) _) (Err (Truncated at)) c.conclude.result _ at _ word ran_out.piece (Some (Truncated at)) ran_out.ran
+      meets = ran (Meets _ at (word ++ ran_out.piece) _ _) (Err (Truncated at)) c.conclude.result _ at _ word ran_out.piece (Some (Truncated at)) ran_out.ran
           (omega (arith, c.requires.at, c.requires.limit)) (omega (arith, ran_out.moves.given, c.requires.at, length-append word ran_out.piece))
           (λ more within. cut_off at c.args.size more c.requires.fits (omega (arith, within, length-append word more, c.if-count-given.true, c.given.ensures, c.requires.at, count)))
           (λ h. h) (λ h. h) tt;
@@ -42,6 +42,7 @@ returns-in-Ok-clause-meets g c =
       meets = (
         found.0,
         ap entry_at (sym c.bytes.ensures) ∙ found.1,
+        omega (arith, length-append word fills.piece, fills.keeps.peak, ap length fills.keeps.bytes),
         entry_whole c.args.at c.args.size fills.piece found.0 c.requires.fits c.requires.entry (subst IsBytes body_is c.has_entry.ensures.bytes) (came ∙ count) (ap entry_at (sym body_is) ∙ found.1)
             (omega (arith, came, length-append word fills.piece, room, c.given.ensures, c.requires.at, c.requires.limit)),
       );
@@ -68,8 +69,8 @@ returns-in-Err-clause-meets g c =
         given = omega (arith, fills.keeps.given, ran_out.moves.given, length-append fills.piece ran_out.piece);
       };
       peaks = peaks_at _ (fills.piece ++ ran_out.piece) fills.piece ran_out.piece _ _ c.fill.new.self.bytes refl (omega (arith, came, count, kept_is c.args.size c.requires.entry)) fills.keeps.bytes (omega (arith, came, room)) (ran_out.peak ∙ fills.keeps.peak);
-      meets = subst (λ (t : List ℕ). Meets left at t c.conclude-in-Err.new.window.bytes c.conclude-in-Err.result) (append_assoc word fills.piece ran_out.piece)
-          (ran (Meets left at (first ++ ran_out.piece) c.conclude-in-Err.new.window.bytes) (Err (BadEntry at)) c.conclude-in-Err.result _ at _ first ran_out.piece (Some (BadEntry at)) ran_out.ran
+      meets = subst (λ (t : List ℕ). Meets left at t c.conclude-in-Err.new.window.peak c.conclude-in-Err.new.window.bytes c.conclude-in-Err.result) (append_assoc word fills.piece ran_out.piece)
+          (ran (Meets left at (first ++ ran_out.piece) c.conclude-in-Err.new.window.peak c.conclude-in-Err.new.window.bytes) (Err (BadEntry at)) c.conclude-in-Err.result _ at _ first ran_out.piece (Some (BadEntry at)) ran_out.ran
           (omega (arith, size, came, room, c.given.ensures, c.requires.at, c.requires.limit)) (omega (arith, ran_out.moves.given, fills.keeps.given, c.requires.at, size, length-append first ran_out.piece))
           (λ more within. no_entry at c.args.size fills.piece more c.requires.fits c.requires.entry c.requires.some (came ∙ count) read)
           (λ h. h) (λ h. h) tt);

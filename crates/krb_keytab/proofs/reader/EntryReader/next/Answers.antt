@@ -1,7 +1,13 @@
 use Rattle.std.proofs.Common.{refl}
-use Rattle.krb_keytab.proofs.StandLaws.{read_first, read_next}
+use Rattle.krb_keytab.proofs.StandLaws.{read_first, read_next, read_again}
 use Rattle.krb_keytab.proofs.reader.EntryReader.next.Goals as goal
 use Rattle.krb_keytab.proofs.reader.EntryReader.next.Goals.{in-Start, in-Records}
+
+pub returns-in-End-clause-reads : goal.returns-in-End-clause-reads
+returns-in-End-clause-reads g c = λ bytes entries read. read_again _ _ bytes entries read
+
+pub returns-in-Failed-clause-reads : goal.returns-in-Failed-clause-reads
+returns-in-Failed-clause-reads g c = λ bytes entries read. read_again _ _ bytes entries read
 
 pub returns-clause-reads : goal.returns-clause-reads
 returns-clause-reads g c =
