@@ -1,11 +1,12 @@
 -- What one step of a reader takes of its source.
-use Rattle.std.proofs.Common.{◌≡◌, ℕ, ◌+◌, ◌≤◌, List, [], ◌++◌, length, Option, Some, None, Ok, Err, refl, sym, ap, subst, ◌∙◌, append_assoc, append-nil, arith, inl, inr}
+use Rattle.std.proofs.Common.{◌≡◌, ℕ, ◌+◌, ◌≤◌, List, [], ◌++◌, length, Option, Some, None, Result, Ok, Err, refl, sym, ap, subst, ◌∙◌, append_assoc, append-nil, arith, inl, inr}
 use Rattle.std.specs.Io.KnownBytes.{Consumes}
 use Rattle.std.proofs.KnownBytes.{Consumes-trans}
 use Rattle.std.proofs.lemmas.List.{length-append, nil_from_length}
 use Rattle.krb_name.specs.Cursor.{Place}
 use Rattle.krb_name.specs.Window.{AtHand, Keeps}
 use Rattle.krb_ccache.specs.Format.{file_limit}
+use Rattle.krb_ccache.specs.Source.{LeavesTail}
 use Rattle.krb_ccache.specs.declared.fault.CacheFault.{CacheFault}
 use Rattle.krb_ccache.specs.declared.item_fault.ItemFault.{ItemFault}
 use Rattle.krb_ccache.specs.declared.item_fault.ItemFault.TheVariants as item
@@ -24,6 +25,7 @@ use Rattle.krb_ccache.specs.Format.{version, Layout, version_4, version_of}
 use Rattle.krb_ccache.specs.Inner.Stepping.{Any}
 use Rattle.krb_name.specs.Field.{IsBytes, IsField}
 use Rattle.krb_ccache.proofs.Repeats.{missing_where}
+use Rattle.krb_ccache.proofs.SourceLaws.{tail_then}
 use Rattle.krb_ccache.proofs.WalkLaws.{front_same, part_walks}
 
 module _ {X S : Type 0} (s : X → List ℕ) (P : X → Type 0) (left : S → Option (List ℕ)) where
@@ -128,6 +130,13 @@ module _ {X S : Type 0} (s : X → List ℕ) (P : X → Type 0) (left : S → Op
     tells = λ memory. absurd (memory t.0);
   })
 
+  -- what is left is a tail, whether a thing came or not
+  pub comes_tail : (old new : AtHand S) (x : X) → Comes s P left old new x → LeavesTail (left old.source) (left new.source)
+  comes_tail old new x c = (s x, c.consumed)
+
+  pub misses_tail : (old new : AtHand S) (fault told : CacheFault) → Misses s P left old new fault told → LeavesTail (left old.source) (left new.source)
+  misses_tail old new fault told m = (m.some.0, m.some.1.consumed)
+
 -- ---- no credential came
 
 module _ {S : Type 0} (left : S → Option (List ℕ)) (old middle new : AtHand S) (stop : Stop) (at : ℕ) (told : CacheFault) (here : at ≡ old.given) (halts : Halts credential_bytes FitsCredential left (cleared old) middle stop)
@@ -140,6 +149,17 @@ module _ {S : Type 0} (left : S → Option (List ℕ)) (old middle new : AtHand 
 
   pub end_step : told ≡ BadItem at → new.given ≡ at → IsStep left old new (Ok None)
   end_step is same = (subst (Misses credential_bytes FitsCredential left old new (BadItem old.given)) (is ∙ ap BadItem here) none_came, same ∙ here)
+
+-- ---- what a step leaves
+
+module _ {S : Type 0} (left : S → Option (List ℕ)) (old new : AtHand S) where
+  tail_of : (answer : Result (Option Credential) CacheFault) → IsStep left old new answer → LeavesTail (left old.source) (left new.source)
+  tail_of (Ok (Some credential)) step = comes_tail credential_bytes FitsCredential left old new credential step
+  tail_of (Ok None) step = misses_tail credential_bytes FitsCredential left old new (BadItem old.given) (BadItem old.given) step.0
+  tail_of (Err fault) step = misses_tail credential_bytes FitsCredential left old new (BadItem old.given) fault step.0
+
+  pub step_tail : (from : Option (List ℕ)) (answer : Result (Option Credential) CacheFault) → LeavesTail from (left old.source) → IsStep left old new answer → LeavesTail from (left new.source)
+  step_tail from answer tail step = tail_then from (left old.source) (left new.source) tail (tail_of answer step)
 
 -- ---- a field
 

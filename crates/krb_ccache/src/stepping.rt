@@ -4,7 +4,7 @@ ghost use Rattle.std.specs.Prelude.{All, Option, ℕ, List, [], length, max, ◌
 ghost use Rattle.krb_ccache.specs.Fault.{failed_reads};
 ghost use Rattle.krb_ccache.specs.Format.{file_limit, version_of, version_4, IsCache, IsFaultOf};
 ghost use Rattle.krb_ccache.specs.Reader.{HasTaken, HeldPart, passed};
-ghost use Rattle.krb_ccache.specs.Source.{IsGiven};
+ghost use Rattle.krb_ccache.specs.Source.{IsGiven, LeavesTail};
 ghost use Rattle.krb_ccache.specs.Spelling.{header_bytes, name_bytes, credential_bytes};
 ghost use Rattle.krb_ccache.specs.Value.{cache_of, FitsHeader, FitsName, FitsCredential};
 ghost use Rattle.krb_name.specs.declared.principal.Principal.{Principal as PrincipalValue};
@@ -273,6 +273,7 @@ pub(crate) fn begin<S: Source>(
         fault ≢ CacheFault.OutOfMemory → fault ≢ CacheFault.Read
         → (bytes : List ℕ) × IsGiven (S.remaining window.old.source) (S.remaining window.new.source) bytes
         × IsFaultOf bytes fault) }
+    ensures tail { LeavesTail (S.remaining window.old.source) (S.remaining window.new.source) }
     ensures failed { S.failure_count window.new.source
         ≡ S.failure_count window.old.source + failed_reads result }
     ensures lent { S.lender window.new.source ≡ S.lender window.old.source }
@@ -362,6 +363,7 @@ pub(crate) fn steps<S: Source>(
         → HasTaken from (S.remaining window.old.source) window.old.given (cache_of header name [])
         → (bytes : List ℕ) × IsGiven from (S.remaining window.new.source) bytes
         × IsFaultOf bytes fault) }
+    ensures tail { LeavesTail (S.remaining window.old.source) (S.remaining window.new.source) }
     ensures failed { S.failure_count window.new.source
         ≡ S.failure_count window.old.source + failed_reads result }
     ensures lent { S.lender window.new.source ≡ S.lender window.old.source }
