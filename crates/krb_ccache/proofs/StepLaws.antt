@@ -1,5 +1,5 @@
 -- What one step of a reader takes of its source.
-use Rattle.std.proofs.Common.{◌≡◌, ℕ, ◌+◌, ◌≤◌, List, [], ◌++◌, length, Option, Some, None, Result, Ok, Err, refl, sym, ap, subst, ◌∙◌, append_assoc, append-nil, arith, inl, inr}
+use Rattle.std.proofs.Common.{◌≡◌, ℕ, ◌+◌, ◌≤◌, true, List, [], ◌++◌, length, Option, Some, None, Result, Ok, Err, refl, sym, ap, subst, ◌∙◌, append_assoc, append-nil, arith, inl, inr}
 use Rattle.std.specs.Io.KnownBytes.{Consumes}
 use Rattle.std.proofs.KnownBytes.{Consumes-trans}
 use Rattle.std.proofs.lemmas.List.{length-append, nil_from_length}
@@ -12,7 +12,7 @@ use Rattle.krb_ccache.specs.declared.item_fault.ItemFault.{ItemFault}
 use Rattle.krb_ccache.specs.declared.item_fault.ItemFault.TheVariants as item
 use Rattle.krb_ccache.specs.declared.walking.Stop.{Stop}
 use Rattle.krb_ccache.specs.declared.walking.Stop.TheVariants as stop
-use Rattle.krb_ccache.specs.Reader.{HeldPart}
+use Rattle.krb_ccache.specs.Reader.{HeldPart, passed}
 use Rattle.krb_ccache.specs.Value.{FitsCredential}
 use Rattle.krb_ccache.specs.declared.credential.Credential.{Credential}
 use Rattle.krb_ccache.specs.Inner.Standing.{IsMissing}
@@ -20,10 +20,11 @@ use Rattle.krb_ccache.specs.Inner.Walking.{Walks, Halts, FitsMarked, whole}
 use Rattle.krb_ccache.specs.Inner.Stepping.{item_stop, Stands, cleared, Comes, Gives, Runs, IsTold, Lacks, Misses, IsStep}
 use Rattle.std.specs.Prelude.{◌≢◌}
 use Rattle.krb_ccache.specs.Spelling.{credential_bytes}
-use Rattle.krb_ccache.specs.declared.fault.CacheFault.TheVariants.{BadItem}
+use Rattle.krb_ccache.specs.declared.fault.CacheFault.TheVariants.{BadItem, OutOfMemory}
 use Rattle.krb_ccache.specs.Format.{version, Layout, version_4, version_of}
 use Rattle.krb_ccache.specs.Inner.Stepping.{Any}
 use Rattle.krb_name.specs.Field.{IsBytes, IsField}
+use Rattle.krb_name.proofs.CursorLaws.{some_is}
 use Rattle.krb_ccache.proofs.Repeats.{missing_where}
 use Rattle.krb_ccache.proofs.SourceLaws.{tail_then}
 use Rattle.krb_ccache.proofs.WalkLaws.{front_same, part_walks}
@@ -161,6 +162,30 @@ module _ {S : Type 0} (left : S → Option (List ℕ)) (old new : AtHand S) wher
   pub step_tail : (from : Option (List ℕ)) (answer : Result (Option Credential) CacheFault) → LeavesTail from (left old.source) → IsStep left old new answer → LeavesTail from (left new.source)
   step_tail from answer tail step = tail_then from (left old.source) (left new.source) tail (tail_of answer step)
 
+-- ---- a credential that was passed
+
+-- there was no room for it
+pub not_made : {S : Type 0} (left : S → Option (List ℕ)) (old new : AtHand S) (answer : Result (Option Credential) CacheFault) → Ok true ≡ passed answer → IsStep left old new answer → IsStep left old new (Err OutOfMemory)
+not_made left old new (Ok None) there step = absurd cc
+not_made left old new (Err fault) there step = absurd cc
+not_made left old new (Ok (Some credential)) there step = (
+  record {
+    some = (
+      credential_bytes credential,
+      record {
+        consumed = step.consumed;
+        given = step.given;
+        grows = omega (arith, step.peak);
+        peak = omega (arith, step.peak);
+        limit = λ old_limit. omega (arith, step.peak, step.given, step.within, old_limit);
+      },
+    );
+    lacks = λ read memory. absurd (memory refl);
+    tells = λ memory. absurd (memory refl);
+  },
+  λ e. absurd cc,
+)
+
 -- ---- a field
 
 module _ {X : Type 0} (r : Place → Option (X × Place)) (s : X → List ℕ) (P : X → Type 0) (f : IsField r s P) where
@@ -168,6 +193,11 @@ module _ {X : Type 0} (r : Place → Option (X × Place)) (s : X → List ℕ) (
   field_stands bytes place x behind e fits read =
       let t = f.takes (record { at = 0; rest = bytes }) x behind fits (subst (λ (p : Place). r p ≡ Some (x, behind)) e read) in
       record { fits = t.1; others = behind.rest; bytes_are = t.0.parts }
+
+  pub field_same : (bytes : List ℕ) (place : Place) (x y : X) (behind : Place) → place ≡ record { at = 0; rest = bytes } → Stands s P bytes x → r place ≡ Some (y, behind) → y ≡ x
+  field_same bytes place x y behind e stands read =
+      ap (λ (found : X × Place). found.0) (some_is (y, behind) (x, record { at = 0 + length (s x); rest = stands.others })
+      (sym read ∙ ap r (e ∙ ap (λ (rest : List ℕ). record { at = 0; rest = rest }) stands.bytes_are) ∙ f.again 0 x stands.others stands.fits))
 
   pub field_missing : (bytes : List ℕ) (place : Place) → place ≡ record { at = 0; rest = bytes } → r place ≡ None → IsMissing s P bytes
   field_missing bytes place e none = missing_where r s P f (record { at = 0; rest = bytes }) (subst (λ (p : Place). r p ≡ None) e none)
