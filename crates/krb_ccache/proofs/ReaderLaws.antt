@@ -1,6 +1,6 @@
 -- What a reader has taken of a file, step by step.
 use Rattle.std.proofs.Common.{◌≡◌, ℕ, ◌+◌, ◌-◌, ◌≤◌, Bool, true, false, take, drop, ap₂, List, [], ◌∷◌, ◌++◌, length, Option, Some, None, Result, Ok, Err, refl, sym, ap, subst, ◌∙◌, append_assoc, append-nil, arith, inl, inr}
-use Rattle.std.specs.Prelude.{◌≢◌, IfOk, IfErr, IfSome}
+use Rattle.std.specs.Prelude.{◌≢◌, IfOk, IfErr, IfSome, OnErr}
 use Rattle.std.specs.List.{flat_map}
 use Rattle.std.specs.Io.KnownBytes.{Consumes, IsAtEnd}
 use Rattle.std.proofs.KnownBytes.{Consumes-trans, Consumes-nil}
@@ -274,6 +274,10 @@ module _ {S : Type 0} (left : S → Option (List ℕ)) where
   passed_err (Ok (Some credential)) said P is h = subst (λ (s : Result Bool CacheFault). IfErr s P) (sym is) tt
   passed_err (Ok None) said P is h = subst (λ (s : Result Bool CacheFault). IfErr s P) (sym is) tt
   passed_err (Err fault) said P is h = subst (λ (s : Result Bool CacheFault). IfErr s P) (sym is) h
+
+  pub on_err : (said : Result Bool CacheFault) (P : Type 0) → P → OnErr said P
+  on_err (Ok there) P h = tt
+  on_err (Err fault) P h = h
 
   pub passed_one : (was now : Reading S) (old new : AtHand S) (answer : Result (Option Credential) CacheFault) (said : Result Bool CacheFault) → IsStep left old new answer → said ≡ passed answer → said ≡ Ok true
       → was.source ≡ old.source → was.given ≡ old.given → was.held ≡ old.peak → now.source ≡ new.source → now.given ≡ new.given → now.held ≡ new.peak → now.ended ≡ ended_passed said

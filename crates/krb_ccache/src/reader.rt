@@ -156,13 +156,10 @@ impl<S: Source> CredentialReader<S> {
         ensures lent { S.lender self.new.source ≡ S.lender self.old.source }
     {
         if let Some(ended) = self.ended {
-            return match ended {
-                Ok(()) => Ok(None),
-                Err(fault) => Err(fault),
-            };
+            return ended.map(|()| None);
         }
         let answer = step(alloc, &mut self.window);
-        self.ended = ended_by(&answer);
+        self.ended = ended_by(is_there(&answer));
         answer
     }
 
@@ -213,13 +210,10 @@ impl<S: Source> CredentialReader<S> {
         ensures lent { S.lender self.new.source ≡ S.lender self.old.source }
     {
         if let Some(ended) = self.ended {
-            return match ended {
-                Ok(()) => Ok(false),
-                Err(fault) => Err(fault),
-            };
+            return ended.map(|()| false);
         }
         let answer = step_past(&mut self.window);
-        self.ended = ended_by_pass(&answer);
+        self.ended = ended_by(answer);
         answer
     }
 
@@ -278,23 +272,23 @@ impl<S: Source> CredentialReader<S> {
     }
 }
 
-// The end or the fault that an answer is.
-fn ended_by(answer: &Result<Option<Credential>, CacheFault>) -> Option<Result<(), CacheFault>>
-    ensures { result ≡ ended_by_answer answer.now }
+// Whether a credential was answered.
+fn is_there(answer: &Result<Option<Credential>, CacheFault>) -> Result<bool, CacheFault>
+    ensures { result ≡ passed answer.now }
 {
     match answer {
-        Ok(Some(_)) => None,
-        Ok(None) => Some(Ok(())),
-        Err(fault) => Some(Err(*fault)),
+        Ok(next) => Ok(next.is_some()),
+        Err(fault) => Err(*fault),
     }
 }
 
-fn ended_by_pass(answer: &Result<bool, CacheFault>) -> Option<Result<(), CacheFault>>
-    ensures { result ≡ ended_passed answer.now }
+// The end or the fault that an answer is.
+fn ended_by(answer: Result<bool, CacheFault>) -> Option<Result<(), CacheFault>>
+    ensures { result ≡ ended_passed answer }
 {
     match answer {
         Ok(true) => None,
         Ok(false) => Some(Ok(())),
-        Err(fault) => Some(Err(*fault)),
+        Err(fault) => Some(Err(fault)),
     }
 }

@@ -291,8 +291,8 @@ pub(crate) fn step<S: Source>(
     }
 }
 
-/// Takes the bytes of the next credential, and answers whether there is one, which they are then at hand of; there is none
-/// where the source is at its end.
+/// Takes the bytes of the next credential, which are then at hand, and answers whether there is one; there is
+/// none where the source is at its end.
 pub(crate) fn step_past<S: Source>(window: &mut Window<S>) -> Result<bool, CacheFault>
     requires reads { S.failure_count window.old.source < 2 ^ 64 - 1 }
     requires within { window.old.given ≤ file_limit }

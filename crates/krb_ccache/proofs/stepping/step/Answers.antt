@@ -1,7 +1,4 @@
-use Rattle.std.proofs.Common.{Bool, Result, Ok, sym, subst}
 use Rattle.std.proofs.lemmas.Result.{err_from_is_err_and}
-use Rattle.krb_ccache.specs.Reader.{passed}
-use Rattle.krb_ccache.specs.declared.fault.CacheFault.{CacheFault}
 use Rattle.krb_ccache.proofs.StepLaws.{not_made}
 use Rattle.krb_ccache.proofs.stepping.step.Goals as goal
 

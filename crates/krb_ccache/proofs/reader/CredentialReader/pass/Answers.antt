@@ -1,12 +1,12 @@
 use Rattle.std.proofs.Common.{refl, sym, subst}
 use Rattle.krb_ccache.specs.Reader.{Reading, HasRead}
-use Rattle.krb_ccache.proofs.ReaderLaws.{passed_one, passed_end, passed_err, next_end, next_fault, next_stops, stays}
+use Rattle.krb_ccache.proofs.ReaderLaws.{passed_one, passed_end, passed_err, next_end, next_fault, next_stops, stays, on_err}
 use Rattle.krb_ccache.proofs.reader.CredentialReader.pass.Goals as goal
 
 pub returns-clause-item : goal.returns-clause-item
 returns-clause-item g c = λ going there.
     let step = c.step_past-answer.ensures.step in
-    rw (← c.self.view_is) (passed_one g.S.Source.remaining _ _ c.self.inside.window c.step_past-answer.new.window step.0 c.step_past-answer.result step.2 step.1 there refl refl refl refl refl refl c.ended_by_pass-self-inside.ensures)
+    rw (← c.self.view_is) (passed_one g.S.Source.remaining _ _ c.self.inside.window c.step_past-answer.new.window step.0 c.step_past-answer.result step.2 step.1 there refl refl refl refl refl refl c.ended_by-self-inside.ensures)
 
 pub returns-clause-end : goal.returns-clause-end
 returns-clause-end g c = λ from cache h end.
@@ -33,4 +33,4 @@ returns-clause-stops g c = λ from cache h.
     (next_stops g.S.Source.remaining from c.self.inside.window c.step_past-answer.new.window cache step.0 step.2 started.taken (c.self.invariant.2 started.going))
 
 pub returns-clause-part : goal.returns-clause-part
-returns-clause-part g c = λ going. rw (← c.self.view_is) c.step_past-answer.ensures.part
+returns-clause-part g c = λ going. rw (← c.self.view_is) (on_err g.S.Source.remaining c.step_past-answer.result _ c.step_past-answer.ensures.part)
