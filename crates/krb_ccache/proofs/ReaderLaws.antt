@@ -1,6 +1,6 @@
 -- What a reader has taken of a file, step by step.
 use Rattle.std.proofs.Common.{◌≡◌, ℕ, ◌+◌, ◌-◌, ◌≤◌, Bool, true, false, take, drop, ap₂, List, [], ◌∷◌, ◌++◌, length, Option, Some, None, Result, Ok, Err, refl, sym, ap, subst, ◌∙◌, append_assoc, append-nil, arith, inl, inr}
-use Rattle.std.specs.Prelude.{◌≢◌, IfOk, IfErr, IfSome}
+use Rattle.std.specs.Prelude.{◌≢◌, IfOk, IfErr, IfSome, OnErr}
 use Rattle.std.specs.List.{flat_map}
 use Rattle.std.specs.Io.KnownBytes.{Consumes, IsAtEnd}
 use Rattle.std.proofs.KnownBytes.{Consumes-trans, Consumes-nil}
@@ -15,7 +15,7 @@ use Rattle.krb_ccache.specs.Spelling.{header_bytes, name_bytes, credential_bytes
 use Rattle.krb_ccache.specs.Value.{Cache, cache_of, FitsHeader, FitsName, FitsCredential, Fits}
 use Rattle.krb_ccache.specs.Format.{version, file_limit, start_bytes, written, Layout, version_4, version_of, IsReached, IsCache, IsFaultOf}
 use Rattle.krb_ccache.specs.Source.{IsGiven}
-use Rattle.krb_ccache.specs.Reader.{Reading, ended_by, ended_passed, passed, HasTaken, HasRead, GaveOne, PassedOne, GoesTo, with_credential}
+use Rattle.krb_ccache.specs.Reader.{Reading, ended_by, ended_passed, passed, HasTaken, HasRead, GaveOne, PassedOne, StaysAtEnd, GoesTo, with_credential}
 use Rattle.krb_ccache.specs.declared.fault.CacheFault.{CacheFault}
 use Rattle.krb_ccache.specs.declared.fault.CacheFault.TheVariants.{Version, Header, BadItem, TooLong, Read, OutOfMemory}
 use Rattle.krb_ccache.specs.Inner.Version4.{IsFaultOf4}
@@ -275,6 +275,10 @@ module _ {S : Type 0} (left : S → Option (List ℕ)) where
   passed_err (Ok None) said P is h = subst (λ (s : Result Bool CacheFault). IfErr s P) (sym is) tt
   passed_err (Err fault) said P is h = subst (λ (s : Result Bool CacheFault). IfErr s P) (sym is) h
 
+  pub on_err : (said : Result Bool CacheFault) (P : Type 0) → P → OnErr said P
+  on_err (Ok there) P h = tt
+  on_err (Err fault) P h = h
+
   pub passed_one : (was now : Reading S) (old new : AtHand S) (answer : Result (Option Credential) CacheFault) (said : Result Bool CacheFault) → IsStep left old new answer → said ≡ passed answer → said ≡ Ok true
       → was.source ≡ old.source → was.given ≡ old.given → was.held ≡ old.peak → now.source ≡ new.source → now.given ≡ new.given → now.held ≡ new.peak → now.ended ≡ ended_passed said
       → (credential : Credential) × PassedOne left was now credential
@@ -296,6 +300,27 @@ module _ {S : Type 0} (left : S → Option (List ℕ)) where
   next_end from old new cache (Ok None) step h e = end_taken from old new cache h step.0 step.1
   next_end from old new cache (Ok (Some credential)) step h e = absurd cc
   next_end from old new cache (Err fault) step h e = absurd cc
+
+  -- at the end nothing more came
+  pub stays : (was now : Reading S) (old new : AtHand S) (answer : Result (Option Credential) CacheFault) → IsStep left old new answer → answer ≡ Ok None → was.given ≡ old.given → was.held ≡ old.peak
+      → now.source ≡ new.source → now.given ≡ new.given → now.held ≡ new.peak → StaysAtEnd (left now.source) was now
+  stays was now old new (Ok (Some credential)) step end g h source given held = absurd cc
+  stays was now old new (Err fault) step end g h source given held = absurd cc
+  stays was now old new (Ok None) step end g h source given held =
+      let some = step.0.some.1 in
+      record {
+        end = subst (λ (s : S). IsAtEnd (left s)) (sym source) (at_end (step.0.tells (bad_item old.given)));
+        given = omega (arith, step.1, g, given);
+        held = omega (arith, step.1, some.given, some.grows, some.peak, h, held);
+      }
+    where
+      at_end : Tells left new (BadItem old.given) (BadItem old.given) → IsAtEnd (left new.source)
+      at_end tells =
+          elim tells [
+            | inl failed ↦ absurd (bad_read old.given failed)
+            | inr (inl long) ↦ absurd (bad_long old.given long.0)
+            | inr (inr within) ↦ within.1.0
+          ]
 
   pub next_fault : (from : Option (List ℕ)) (old new : AtHand S) (cache : Cache) (result : Result (Option Credential) CacheFault) → IsStep left old new result → HasTaken from (left old.source) old.given cache
       → IfErr result (λ fault. fault ≢ OutOfMemory → fault ≢ Read → (bytes : List ℕ) × IsGiven from (left new.source) bytes × IsFaultOf bytes fault)

@@ -6,7 +6,8 @@ use Rattle.std.proofs.lemmas.List.{length-append}
 use Rattle.krb_ccache.specs.Value.{Cache}
 use Rattle.krb_ccache.specs.Format.{file_limit, IsCache, IsAnswerOf, IsFaultOf}
 use Rattle.std.specs.Io.KnownBytes.{IsAtEnd}
-use Rattle.krb_ccache.specs.Source.{IsGiven}
+use Rattle.std.proofs.KnownBytes.{Consumes-trans}
+use Rattle.krb_ccache.specs.Source.{IsGiven, LeavesTail}
 use Rattle.krb_ccache.proofs.LayoutLaws.{the_answer}
 use Rattle.krb_ccache.specs.declared.fault.CacheFault.{CacheFault}
 use Rattle.krb_ccache.specs.declared.fault.CacheFault.TheVariants.{Version, Header, BadItem, TooLong, Read, OutOfMemory}
@@ -80,3 +81,8 @@ only_whole from to (Err Version) f e whole answer known a = let g = e (λ x. abs
 only_whole from to (Err Header) f e whole answer known a = let g = e (λ x. absurd cc) (λ x. absurd cc) in inl (only_given to g.0 whole (Err Header) answer (subst (λ (o : Option (List ℕ)). IsGiven o to g.0) known g.1) g.2 a)
 only_whole from to (Err TooLong) f e whole answer known a = let g = e (λ x. absurd cc) (λ x. absurd cc) in inl (only_given to g.0 whole (Err TooLong) answer (subst (λ (o : Option (List ℕ)). IsGiven o to g.0) known g.1) g.2 a)
 only_whole from to (Err (BadItem at)) f e whole answer known a = let g = e (λ x. absurd cc) (λ x. absurd cc) in inl (only_given to g.0 whole (Err (BadItem at)) answer (subst (λ (o : Option (List ℕ)). IsGiven o to g.0) known g.1) g.2 a)
+
+-- ---- what is left
+
+pub tail_then : (from middle to : Option (List ℕ)) → LeavesTail from middle → LeavesTail middle to → LeavesTail from to
+tail_then from middle to p q = (p.0 ++ q.0, Consumes-trans from middle to p.0 q.0 p.1 q.1)

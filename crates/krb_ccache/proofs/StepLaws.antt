@@ -1,17 +1,18 @@
 -- What one step of a reader takes of its source.
-use Rattle.std.proofs.Common.{◌≡◌, ℕ, ◌+◌, ◌≤◌, List, [], ◌++◌, length, Option, Some, None, Ok, Err, refl, sym, ap, subst, ◌∙◌, append_assoc, append-nil, arith, inl, inr}
+use Rattle.std.proofs.Common.{◌≡◌, ℕ, ◌+◌, ◌≤◌, true, List, [], ◌++◌, length, Option, Some, None, Result, Ok, Err, refl, sym, ap, subst, ◌∙◌, append_assoc, append-nil, arith, inl, inr}
 use Rattle.std.specs.Io.KnownBytes.{Consumes}
 use Rattle.std.proofs.KnownBytes.{Consumes-trans}
 use Rattle.std.proofs.lemmas.List.{length-append, nil_from_length}
 use Rattle.krb_name.specs.Cursor.{Place}
 use Rattle.krb_name.specs.Window.{AtHand, Keeps}
 use Rattle.krb_ccache.specs.Format.{file_limit}
+use Rattle.krb_ccache.specs.Source.{LeavesTail}
 use Rattle.krb_ccache.specs.declared.fault.CacheFault.{CacheFault}
 use Rattle.krb_ccache.specs.declared.item_fault.ItemFault.{ItemFault}
 use Rattle.krb_ccache.specs.declared.item_fault.ItemFault.TheVariants as item
 use Rattle.krb_ccache.specs.declared.walking.Stop.{Stop}
 use Rattle.krb_ccache.specs.declared.walking.Stop.TheVariants as stop
-use Rattle.krb_ccache.specs.Reader.{HeldPart}
+use Rattle.krb_ccache.specs.Reader.{HeldPart, passed}
 use Rattle.krb_ccache.specs.Value.{FitsCredential}
 use Rattle.krb_ccache.specs.declared.credential.Credential.{Credential}
 use Rattle.krb_ccache.specs.Inner.Standing.{IsMissing}
@@ -19,11 +20,13 @@ use Rattle.krb_ccache.specs.Inner.Walking.{Walks, Halts, FitsMarked, whole}
 use Rattle.krb_ccache.specs.Inner.Stepping.{item_stop, Stands, cleared, Comes, Gives, Runs, IsTold, Lacks, Misses, IsStep}
 use Rattle.std.specs.Prelude.{◌≢◌}
 use Rattle.krb_ccache.specs.Spelling.{credential_bytes}
-use Rattle.krb_ccache.specs.declared.fault.CacheFault.TheVariants.{BadItem}
+use Rattle.krb_ccache.specs.declared.fault.CacheFault.TheVariants.{BadItem, OutOfMemory}
 use Rattle.krb_ccache.specs.Format.{version, Layout, version_4, version_of}
 use Rattle.krb_ccache.specs.Inner.Stepping.{Any}
 use Rattle.krb_name.specs.Field.{IsBytes, IsField}
+use Rattle.krb_name.proofs.CursorLaws.{some_is}
 use Rattle.krb_ccache.proofs.Repeats.{missing_where}
+use Rattle.krb_ccache.proofs.SourceLaws.{tail_then}
 use Rattle.krb_ccache.proofs.WalkLaws.{front_same, part_walks}
 
 module _ {X S : Type 0} (s : X → List ℕ) (P : X → Type 0) (left : S → Option (List ℕ)) where
@@ -128,6 +131,13 @@ module _ {X S : Type 0} (s : X → List ℕ) (P : X → Type 0) (left : S → Op
     tells = λ memory. absurd (memory t.0);
   })
 
+  -- what is left is a tail, whether a thing came or not
+  pub comes_tail : (old new : AtHand S) (x : X) → Comes s P left old new x → LeavesTail (left old.source) (left new.source)
+  comes_tail old new x c = (s x, c.consumed)
+
+  pub misses_tail : (old new : AtHand S) (fault told : CacheFault) → Misses s P left old new fault told → LeavesTail (left old.source) (left new.source)
+  misses_tail old new fault told m = (m.some.0, m.some.1.consumed)
+
 -- ---- no credential came
 
 module _ {S : Type 0} (left : S → Option (List ℕ)) (old middle new : AtHand S) (stop : Stop) (at : ℕ) (told : CacheFault) (here : at ≡ old.given) (halts : Halts credential_bytes FitsCredential left (cleared old) middle stop)
@@ -141,6 +151,41 @@ module _ {S : Type 0} (left : S → Option (List ℕ)) (old middle new : AtHand 
   pub end_step : told ≡ BadItem at → new.given ≡ at → IsStep left old new (Ok None)
   end_step is same = (subst (Misses credential_bytes FitsCredential left old new (BadItem old.given)) (is ∙ ap BadItem here) none_came, same ∙ here)
 
+-- ---- what a step leaves
+
+module _ {S : Type 0} (left : S → Option (List ℕ)) (old new : AtHand S) where
+  tail_of : (answer : Result (Option Credential) CacheFault) → IsStep left old new answer → LeavesTail (left old.source) (left new.source)
+  tail_of (Ok (Some credential)) step = comes_tail credential_bytes FitsCredential left old new credential step
+  tail_of (Ok None) step = misses_tail credential_bytes FitsCredential left old new (BadItem old.given) (BadItem old.given) step.0
+  tail_of (Err fault) step = misses_tail credential_bytes FitsCredential left old new (BadItem old.given) fault step.0
+
+  pub step_tail : (from : Option (List ℕ)) (answer : Result (Option Credential) CacheFault) → LeavesTail from (left old.source) → IsStep left old new answer → LeavesTail from (left new.source)
+  step_tail from answer tail step = tail_then from (left old.source) (left new.source) tail (tail_of answer step)
+
+-- ---- a credential that was passed
+
+-- there was no room for it
+pub not_made : {S : Type 0} (left : S → Option (List ℕ)) (old new : AtHand S) (answer : Result (Option Credential) CacheFault) → Ok true ≡ passed answer → IsStep left old new answer → IsStep left old new (Err OutOfMemory)
+not_made left old new (Ok None) there step = absurd cc
+not_made left old new (Err fault) there step = absurd cc
+not_made left old new (Ok (Some credential)) there step = (
+  record {
+    some = (
+      credential_bytes credential,
+      record {
+        consumed = step.consumed;
+        given = step.given;
+        grows = omega (arith, step.peak);
+        peak = omega (arith, step.peak);
+        limit = λ old_limit. omega (arith, step.peak, step.given, step.within, old_limit);
+      },
+    );
+    lacks = λ read memory. absurd (memory refl);
+    tells = λ memory. absurd (memory refl);
+  },
+  λ e. absurd cc,
+)
+
 -- ---- a field
 
 module _ {X : Type 0} (r : Place → Option (X × Place)) (s : X → List ℕ) (P : X → Type 0) (f : IsField r s P) where
@@ -148,6 +193,11 @@ module _ {X : Type 0} (r : Place → Option (X × Place)) (s : X → List ℕ) (
   field_stands bytes place x behind e fits read =
       let t = f.takes (record { at = 0; rest = bytes }) x behind fits (subst (λ (p : Place). r p ≡ Some (x, behind)) e read) in
       record { fits = t.1; others = behind.rest; bytes_are = t.0.parts }
+
+  pub field_same : (bytes : List ℕ) (place : Place) (x y : X) (behind : Place) → place ≡ record { at = 0; rest = bytes } → Stands s P bytes x → r place ≡ Some (y, behind) → y ≡ x
+  field_same bytes place x y behind e stands read =
+      ap (λ (found : X × Place). found.0) (some_is (y, behind) (x, record { at = 0 + length (s x); rest = stands.others })
+      (sym read ∙ ap r (e ∙ ap (λ (rest : List ℕ). record { at = 0; rest = rest }) stands.bytes_are) ∙ f.again 0 x stands.others stands.fits))
 
   pub field_missing : (bytes : List ℕ) (place : Place) → place ≡ record { at = 0; rest = bytes } → r place ≡ None → IsMissing s P bytes
   field_missing bytes place e none = missing_where r s P f (record { at = 0; rest = bytes }) (subst (λ (p : Place). r p ≡ None) e none)

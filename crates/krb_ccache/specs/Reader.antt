@@ -1,7 +1,7 @@
 -- Reading a cache one credential at a time: what a reader has taken of its source, and how it ended.
 use Rattle.std.specs.Prelude.{◌≡◌, ◌≢◌, ℕ, ◌+◌, ◌<◌, ◌≤◌, max, Bool, true, false, List, [], ◌∷◌, ◌++◌, length, Option, Some, None, Result, Ok, Err}
 use Rattle.std.specs.Int.{w8}
-use Rattle.std.specs.Io.KnownBytes.{Consumes}
+use Rattle.std.specs.Io.KnownBytes.{Consumes, IsAtEnd}
 use Rattle.krb_name.specs.Cursor.{number_bytes}
 use Rattle.krb_name.specs.declared.principal.Principal.{Principal}
 use Rattle.krb_ccache.specs.declared.credential.HeaderField.{HeaderField}
@@ -64,6 +64,12 @@ pub record Gave {S : Type 0} (from to : Option (List ℕ)) (old new : Reading S)
   pub given : new.given ≡ old.given + length bytes
   pub grows : old.held ≤ new.held
   pub held : new.held ≤ max old.held (length bytes)
+
+-- the source is at its end: it gave no more, and no more was at hand
+pub record StaysAtEnd {S : Type 0} (to : Option (List ℕ)) (old new : Reading S) : Type 0 where
+  pub end : IsAtEnd to
+  pub given : new.given ≡ old.given
+  pub held : new.held ≡ old.held
 
 -- a beginning of what the source gave was at hand; it is no longer than any credential that begins with it, whichever byte is
 -- its `is_skey`

@@ -11,7 +11,7 @@ ghost use Rattle.krb_ccache.specs.Configuration.{HoldsOffset, IsConfiguration};
 ghost use Rattle.krb_ccache.specs.Fault.{offset_of, failed_reads};
 ghost use Rattle.krb_ccache.specs.Format.{file_limit, written, IsCache, IsFaultOf, IsAnswerOf};
 ghost use Rattle.krb_ccache.specs.Offset.{clock_offset};
-ghost use Rattle.krb_ccache.specs.Source.{IsGiven};
+ghost use Rattle.krb_ccache.specs.Source.{IsGiven, LeavesTail};
 ghost use Rattle.krb_ccache.specs.Inner.Reading.{credential_at};
 ghost use Rattle.krb_ccache.specs.Inner.Room.{Leaves};
 ghost use Rattle.krb_ccache.specs.Inner.Version4.{IsCache4, IsFaultOf4};
@@ -145,6 +145,9 @@ impl CCache {
             fault ≢ CacheFault.OutOfMemory → fault ≢ CacheFault.Read
             → (bytes : List ℕ) × IsGiven (S.remaining source.old) (S.remaining source.new) bytes
             × IsFaultOf bytes fault) }
+
+        // Whatever the answer is, what is left of the source is a tail of what was to come.
+        ensures tail { LeavesTail (S.remaining source.old) (S.remaining source.new) }
         ensures failed { S.failure_count source.new
             ≡ S.failure_count source.old + failed_reads result }
     {
@@ -164,6 +167,7 @@ impl CCache {
             fault ≢ CacheFault.OutOfMemory → fault ≢ CacheFault.Read → (bytes : List ℕ)
             × IsGiven (S.remaining window.old.source) (S.remaining window.new.source) bytes
             × IsFaultOf bytes fault) }
+        ensures tail { LeavesTail (S.remaining window.old.source) (S.remaining window.new.source) }
         ensures failed { S.failure_count window.new.source
             ≡ S.failure_count window.old.source + failed_reads result }
         ensures lent { S.lender window.new.source ≡ S.lender window.old.source }

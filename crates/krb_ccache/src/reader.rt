@@ -1,12 +1,12 @@
 //! A reader that gives the credentials of a cache one at a time.
 
-ghost use Rattle.std.specs.Prelude.{◌≡◌, ◌≢◌, ◌+◌, ◌-◌, ◌^◌, ◌<◌, ◌≤◌, ◌↔◌, ℕ, true, false, List, [], max, length, All, IsTrue, IfOk, IfErr, IfSome, IfNone, OnErr, Option, Ok, Err, None};
+ghost use Rattle.std.specs.Prelude.{◌≡◌, ◌≢◌, ◌+◌, ◌-◌, ◌^◌, ◌<◌, ◌≤◌, ◌↔◌, ℕ, true, false, List, [], max, length, All, IsTrue, IfOk, IfErr, IfSome, IfNone, MatchResult, OnErr, Option, Ok, Err, None};
 ghost use Rattle.krb_ccache.specs.Configuration.{HoldsOffset, IsConfiguration};
 ghost use Rattle.krb_ccache.specs.Fault.{failed_reads};
 ghost use Rattle.krb_ccache.specs.Format.{file_limit, IsCache, IsFaultOf};
 ghost use Rattle.krb_ccache.specs.Offset.{clock_offset};
-ghost use Rattle.krb_ccache.specs.Reader.{ended_by as ended_by_answer, ended_passed, passed, last_answer, with_credential, HasRead, Gave, GaveOne, PassedOne, HeldPart, GoesTo};
-ghost use Rattle.krb_ccache.specs.Source.{IsGiven};
+ghost use Rattle.krb_ccache.specs.Reader.{ended_by as ended_by_answer, ended_passed, passed, last_answer, with_credential, HasRead, Gave, GaveOne, PassedOne, HeldPart, StaysAtEnd, GoesTo};
+ghost use Rattle.krb_ccache.specs.Source.{IsGiven, LeavesTail};
 ghost use Rattle.krb_ccache.specs.Spelling.{header_bytes, name_bytes, credential_bytes};
 ghost use Rattle.krb_ccache.specs.Value.{Cache, cache_of};
 ghost use Rattle.krb_ccache.specs.declared.credential.Credential.{Credential as CredentialValue};
@@ -75,6 +75,12 @@ impl<S: Source> CredentialReader<S> {
             back.1 ≢ CacheFault.OutOfMemory → back.1 ≢ CacheFault.Read
             → (bytes : List ℕ) × IsGiven (S.remaining source) (S.remaining back.0) bytes
             × IsFaultOf bytes back.1) }
+
+        // Whatever the answer is, what is left of the source is a tail of what was to come.
+        ensures tail { MatchResult result
+            (λ reader. LeavesTail (S.remaining source) (S.remaining reader.source))
+            (λ back. LeavesTail (S.remaining source) (S.remaining back.0)) }
+
         ensures none_failed { IfOk result (λ reader.
             S.failure_count reader.source ≡ S.failure_count source) }
         ensures failed { IfErr result (λ back. S.failure_count back.0
@@ -122,6 +128,8 @@ impl<S: Source> CredentialReader<S> {
         ensures end { (from : Option (List ℕ)) (cache : Cache)
             → HasRead S.remaining from self.old cache → result ≡ Ok None
             → (bytes : List ℕ) × IsGiven from (S.remaining self.new.source) bytes × IsCache bytes cache }
+        ensures stays { self.old.ended ≡ None → result ≡ Ok None
+            → StaysAtEnd (S.remaining self.new.source) self.old self.new }
         ensures fault { (from : Option (List ℕ)) (cache : Cache)
             → HasRead S.remaining from self.old cache
             → IfErr result (λ fault. fault ≢ CacheFault.OutOfMemory → fault ≢ CacheFault.Read
@@ -148,13 +156,10 @@ impl<S: Source> CredentialReader<S> {
         ensures lent { S.lender self.new.source ≡ S.lender self.old.source }
     {
         if let Some(ended) = self.ended {
-            return match ended {
-                Ok(()) => Ok(None),
-                Err(fault) => Err(fault),
-            };
+            return ended.map(|()| None);
         }
         let answer = step(alloc, &mut self.window);
-        self.ended = ended_by(&answer);
+        self.ended = ended_by(is_there(&answer));
         answer
     }
 
@@ -184,6 +189,8 @@ impl<S: Source> CredentialReader<S> {
         ensures end { (from : Option (List ℕ)) (cache : Cache)
             → HasRead S.remaining from self.old cache → result ≡ Ok false
             → (bytes : List ℕ) × IsGiven from (S.remaining self.new.source) bytes × IsCache bytes cache }
+        ensures stays { self.old.ended ≡ None → result ≡ Ok false
+            → StaysAtEnd (S.remaining self.new.source) self.old self.new }
         ensures fault { (from : Option (List ℕ)) (cache : Cache)
             → HasRead S.remaining from self.old cache
             → IfErr result (λ fault. fault ≢ CacheFault.OutOfMemory → fault ≢ CacheFault.Read
@@ -203,13 +210,10 @@ impl<S: Source> CredentialReader<S> {
         ensures lent { S.lender self.new.source ≡ S.lender self.old.source }
     {
         if let Some(ended) = self.ended {
-            return match ended {
-                Ok(()) => Ok(false),
-                Err(fault) => Err(fault),
-            };
+            return ended.map(|()| false);
         }
         let answer = step_past(&mut self.window);
-        self.ended = ended_by_pass(&answer);
+        self.ended = ended_by(answer);
         answer
     }
 
@@ -268,23 +272,23 @@ impl<S: Source> CredentialReader<S> {
     }
 }
 
-// The end or the fault that an answer is.
-fn ended_by(answer: &Result<Option<Credential>, CacheFault>) -> Option<Result<(), CacheFault>>
-    ensures { result ≡ ended_by_answer answer.now }
+// Whether a credential was answered.
+fn is_there(answer: &Result<Option<Credential>, CacheFault>) -> Result<bool, CacheFault>
+    ensures { result ≡ passed answer.now }
 {
     match answer {
-        Ok(Some(_)) => None,
-        Ok(None) => Some(Ok(())),
-        Err(fault) => Some(Err(*fault)),
+        Ok(next) => Ok(next.is_some()),
+        Err(fault) => Err(*fault),
     }
 }
 
-fn ended_by_pass(answer: &Result<bool, CacheFault>) -> Option<Result<(), CacheFault>>
-    ensures { result ≡ ended_passed answer.now }
+// The end or the fault that an answer is.
+fn ended_by(answer: Result<bool, CacheFault>) -> Option<Result<(), CacheFault>>
+    ensures { result ≡ ended_passed answer }
 {
     match answer {
         Ok(true) => None,
         Ok(false) => Some(Ok(())),
-        Err(fault) => Some(Err(*fault)),
+        Err(fault) => Some(Err(fault)),
     }
 }

@@ -4,7 +4,7 @@ ghost use Rattle.std.specs.Prelude.{All, Option, ℕ, List, [], length, max, ◌
 ghost use Rattle.krb_ccache.specs.Fault.{failed_reads};
 ghost use Rattle.krb_ccache.specs.Format.{file_limit, version_of, version_4, IsCache, IsFaultOf};
 ghost use Rattle.krb_ccache.specs.Reader.{HasTaken, HeldPart, passed};
-ghost use Rattle.krb_ccache.specs.Source.{IsGiven};
+ghost use Rattle.krb_ccache.specs.Source.{IsGiven, LeavesTail};
 ghost use Rattle.krb_ccache.specs.Spelling.{header_bytes, name_bytes, credential_bytes};
 ghost use Rattle.krb_ccache.specs.Value.{cache_of, FitsHeader, FitsName, FitsCredential};
 ghost use Rattle.krb_name.specs.declared.principal.Principal.{Principal as PrincipalValue};
@@ -13,7 +13,7 @@ ghost use Rattle.krb_ccache.specs.declared.credential.HeaderField.{HeaderField a
 ghost use Rattle.krb_ccache.specs.declared.fault.CacheFault.TheVariants.{Version, Header, BadItem};
 ghost use Rattle.krb_ccache.specs.Inner.Standing.{IsMissing};
 ghost use Rattle.krb_ccache.specs.Inner.Walking.{Halts, stop_reads, stopped_reads};
-ghost use Rattle.krb_ccache.specs.Inner.Stepping.{Stands, cleared, Any, Comes, IsTold, Misses, IsStep};
+ghost use Rattle.krb_ccache.specs.Inner.Stepping.{Stands, cleared, Any, Comes, IsTold, Misses, IsStep, IsAtHand};
 
 use crate::checking::skip_credential;
 use crate::credential::{Credential, HeaderField};
@@ -23,7 +23,7 @@ use crate::item_fault::ItemFault;
 use crate::items::{read_credential, read_name};
 use crate::walking::{Stop, take, take_credential, take_header, take_name};
 use krb_name::{FileCursor, Principal, Short, Source, Window};
-use std::alloc::Global;
+use std::alloc::{AllocError, Global};
 
 const VERSION_BYTES: &[u8] = &[0x05, 0x04];
 
@@ -59,15 +59,6 @@ fn name_of(alloc: Global, bytes: &[u8]) -> Result<Principal, ItemFault>
     read_name(alloc, &mut cursor)
 }
 
-fn credential_of(alloc: Global, bytes: &[u8]) -> Result<Credential, ItemFault>
-    ensures read { IfOk result (Stands credential_bytes FitsCredential bytes.now) }
-    ensures missing { result ≡ Err ItemFault.Missing
-        → IsMissing credential_bytes FitsCredential bytes.now }
-{
-    let mut cursor = FileCursor::new(bytes);
-    read_credential(alloc, &mut cursor)
-}
-
 // Whether a credential is at the front of the bytes.
 fn has_credential(bytes: &[u8]) -> Result<(), Short>
     ensures found { OnOk result ((credential : CredentialValue)
@@ -76,6 +67,21 @@ fn has_credential(bytes: &[u8]) -> Result<(), Short>
 {
     let mut cursor = FileCursor::new(bytes);
     skip_credential(&mut cursor)
+}
+
+// Makes the credential that is at the front of the bytes.
+fn credential_of(alloc: Global, bytes: &[u8]) -> Result<Credential, AllocError>
+    requires { (credential : CredentialValue)
+        × Stands credential_bytes FitsCredential bytes.now credential }
+    ensures { (credential : CredentialValue) → Stands credential_bytes FitsCredential bytes.now credential
+        → IfOk result (λ made. made ≡ credential) }
+{
+    let mut cursor = FileCursor::new(bytes);
+    match read_credential(alloc, &mut cursor) {
+        Ok(credential) => Ok(credential),
+        Err(ItemFault::Missing) => unreachable!(),
+        Err(ItemFault::OutOfMemory) => Err(AllocError),
+    }
 }
 
 // Each call takes the bytes of a part, and no more, and reads it off them.
@@ -134,37 +140,17 @@ fn come_name<S: Source>(alloc: Global, window: &mut Window<S>) -> Result<Princip
     }
 }
 
-fn come_credential<S: Source>(alloc: Global, window: &mut Window<S>) -> Result<Credential, Stop>
-    requires reads { S.failure_count window.old.source < 2 ^ 64 - 1 }
-    requires within { window.old.given ≤ file_limit }
-    ensures comes { IfOk result
-        (Comes credential_bytes FitsCredential S.remaining window.old window.new) }
-    ensures halts { IfErr result
-        (Halts credential_bytes FitsCredential S.remaining (cleared window.old) window.new) }
-    ensures part { OnErr result (HeldPart (S.remaining window.old.source) (S.remaining window.new.source)
-        window.old.peak window.new.peak) }
-    ensures failed { S.failure_count window.new.source
-        ≡ S.failure_count window.old.source + stopped_reads result }
-    ensures lent { S.lender window.new.source ≡ S.lender window.old.source }
-{
-    window.clear();
-    take_credential(window)?;
-    match credential_of(alloc, window.bytes()) {
-        Ok(credential) => Ok(credential),
-        Err(fault) => Err(Stop::from(fault)),
-    }
-}
-
 // Takes the bytes of a credential, and no more, and answers only whether they are one.
 fn come_past<S: Source>(window: &mut Window<S>) -> Result<(), Stop>
     requires reads { S.failure_count window.old.source < 2 ^ 64 - 1 }
     requires within { window.old.given ≤ file_limit }
     ensures comes { OnOk result ((credential : CredentialValue)
-        × Comes credential_bytes FitsCredential S.remaining window.old window.new credential) }
+        × Comes credential_bytes FitsCredential S.remaining window.old window.new credential
+        × Stands credential_bytes FitsCredential window.new.bytes credential) }
     ensures halts { IfErr result
         (Halts credential_bytes FitsCredential S.remaining (cleared window.old) window.new) }
-    ensures part { OnErr result (HeldPart (S.remaining window.old.source) (S.remaining window.new.source)
-        window.old.peak window.new.peak) }
+    ensures part { HeldPart (S.remaining window.old.source) (S.remaining window.new.source)
+        window.old.peak window.new.peak }
     ensures failed { S.failure_count window.new.source
         ≡ S.failure_count window.old.source + stopped_reads result }
     ensures lent { S.lender window.new.source ≡ S.lender window.old.source }
@@ -273,6 +259,7 @@ pub(crate) fn begin<S: Source>(
         fault ≢ CacheFault.OutOfMemory → fault ≢ CacheFault.Read
         → (bytes : List ℕ) × IsGiven (S.remaining window.old.source) (S.remaining window.new.source) bytes
         × IsFaultOf bytes fault) }
+    ensures tail { LeavesTail (S.remaining window.old.source) (S.remaining window.new.source) }
     ensures failed { S.failure_count window.new.source
         ≡ S.failure_count window.old.source + failed_reads result }
     ensures lent { S.lender window.new.source ≡ S.lender window.old.source }
@@ -297,25 +284,22 @@ pub(crate) fn step<S: Source>(
         ≡ S.failure_count window.old.source + failed_reads result }
     ensures lent { S.lender window.new.source ≡ S.lender window.old.source }
 {
-    let at = window.given();
-    match come_credential(alloc, window) {
-        Ok(credential) => Ok(Some(credential)),
-        Err(stop) => {
-            let fault = told(window, stop, CacheFault::BadItem { at });
-            end_or(fault, at, window.given())?;
-            Ok(None)
-        }
+    if step_past(window)? {
+        Ok(Some(credential_of(alloc, window.bytes())?))
+    } else {
+        Ok(None)
     }
 }
 
-/// Takes the next credential, and answers only whether there was one, or whether the source is at its end.
+/// Takes the bytes of the next credential, which are then at hand, and answers whether there is one; there is
+/// none where the source is at its end.
 pub(crate) fn step_past<S: Source>(window: &mut Window<S>) -> Result<bool, CacheFault>
     requires reads { S.failure_count window.old.source < 2 ^ 64 - 1 }
     requires within { window.old.given ≤ file_limit }
     ensures step { (answer : Result (Option CredentialValue) CacheFault) × (result ≡ passed answer)
-        × IsStep S.remaining window.old window.new answer }
-    ensures part { OnErr result (HeldPart (S.remaining window.old.source) (S.remaining window.new.source)
-        window.old.peak window.new.peak) }
+        × IsStep S.remaining window.old window.new answer × IsAtHand window.new.bytes answer }
+    ensures part { HeldPart (S.remaining window.old.source) (S.remaining window.new.source)
+        window.old.peak window.new.peak }
     ensures failed { S.failure_count window.new.source
         ≡ S.failure_count window.old.source + failed_reads result }
     ensures lent { S.lender window.new.source ≡ S.lender window.old.source }
@@ -362,6 +346,7 @@ pub(crate) fn steps<S: Source>(
         → HasTaken from (S.remaining window.old.source) window.old.given (cache_of header name [])
         → (bytes : List ℕ) × IsGiven from (S.remaining window.new.source) bytes
         × IsFaultOf bytes fault) }
+    ensures tail { LeavesTail (S.remaining window.old.source) (S.remaining window.new.source) }
     ensures failed { S.failure_count window.new.source
         ≡ S.failure_count window.old.source + failed_reads result }
     ensures lent { S.lender window.new.source ≡ S.lender window.old.source }

@@ -84,3 +84,8 @@ abbrev pub IsStep : {S : Type 0} → (S → Option (List ℕ)) → AtHand S → 
 IsStep left old new (Ok (Some credential)) = Comes credential_bytes FitsCredential left old new credential
 IsStep left old new (Ok None) = Misses credential_bytes FitsCredential left old new (BadItem old.given) (BadItem old.given) × (new.given ≡ old.given)
 IsStep left old new (Err fault) = Misses credential_bytes FitsCredential left old new (BadItem old.given) fault × (fault ≡ BadItem old.given → new.given ≢ old.given)
+
+-- the credential of an answer is spelled at the front of the bytes at hand
+abbrev pub IsAtHand : List ℕ → Result (Option Credential) CacheFault → Type 0
+IsAtHand bytes (Ok (Some credential)) = Stands credential_bytes FitsCredential bytes credential
+IsAtHand bytes _ = Unit {0}

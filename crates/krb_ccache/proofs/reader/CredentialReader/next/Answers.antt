@@ -1,15 +1,19 @@
-use Rattle.std.proofs.Common.{refl, sym, subst}
-use Rattle.krb_ccache.specs.Reader.{Reading, HasRead}
-use Rattle.krb_ccache.proofs.ReaderLaws.{next_item, next_more, next_end, next_fault, next_stops}
+use Rattle.std.proofs.Common.{refl, sym, ap, subst, ◌∙◌}
+use Rattle.krb_ccache.specs.Reader.{Reading, HasRead, ended_passed}
+use Rattle.krb_ccache.proofs.ReaderLaws.{next_item, next_more, next_end, next_fault, next_stops, stays}
 use Rattle.krb_ccache.proofs.reader.CredentialReader.next.Goals as goal
 
 pub returns-clause-item : goal.returns-clause-item
 returns-clause-item g c = λ from cache h.
-    next_item g.S.Source.remaining from c.self.inside.window c.step-answer.new.window _ cache c.step-answer.result c.step-answer.ensures.step (subst (λ (reader : Reading g.row.S.Denot). HasRead g.S.Source.remaining from reader cache) (sym c.self.view_is) h).taken refl refl c.ended_by-self-inside.ensures
+    next_item g.S.Source.remaining from c.self.inside.window c.step-answer.new.window _ cache c.step-answer.result c.step-answer.ensures.step (subst (λ (reader : Reading g.row.S.Denot). HasRead g.S.Source.remaining from reader cache) (sym c.self.view_is) h).taken refl refl (c.ended_by-self-inside.ensures ∙ ap ended_passed c.is_there.ensures)
 
 pub returns-clause-end : goal.returns-clause-end
 returns-clause-end g c = λ from cache h e.
     next_end g.S.Source.remaining from c.self.inside.window c.step-answer.new.window cache c.step-answer.result c.step-answer.ensures.step (subst (λ (reader : Reading g.row.S.Denot). HasRead g.S.Source.remaining from reader cache) (sym c.self.view_is) h).taken e
+
+pub returns-clause-stays : goal.returns-clause-stays
+returns-clause-stays g c = λ going end.
+    rw (← c.self.view_is) (stays g.S.Source.remaining _ _ c.self.inside.window c.step-answer.new.window c.step-answer.result c.step-answer.ensures.step end refl refl refl refl refl)
 
 pub returns-clause-fault : goal.returns-clause-fault
 returns-clause-fault g c = λ from cache h.
