@@ -10,7 +10,8 @@ use Rattle.krb_ccache.specs.declared.credential.HeaderField.{HeaderField}
 use Rattle.krb_ccache.specs.declared.credential.Credential.{Credential}
 use Rattle.krb_ccache.specs.Spelling.{header_bytes, name_bytes, credential_bytes}
 use Rattle.krb_ccache.specs.Value.{Cache, FitsName, FitsCredential, Fits}
-use Rattle.krb_ccache.specs.Format.{version, file_limit, start_bytes, written, Layout, version_4, version_of, Starts, SpellsCredential, Spelled, IsReached, IsCache, LacksVersion, LacksHeader, LacksDefault, LacksCredential, IsFaultOf, IsAnswerOf}
+use Rattle.krb_name.specs.File.{file_limit}
+use Rattle.krb_ccache.specs.Format.{version, start_bytes, written, Layout, version_4, version_of, Starts, SpellsCredential, Spelled, IsReached, IsCache, LacksVersion, LacksHeader, LacksDefault, LacksCredential, IsFaultOf, IsAnswerOf}
 use Rattle.krb_ccache.specs.Inner.Version4.{IsCache4, LacksVersion4, LacksHeader4, LacksDefault4, LacksCredential4, IsFaultOf4, IsAnswerOf4}
 use Rattle.krb_ccache.specs.declared.fault.CacheFault.{CacheFault}
 use Rattle.krb_ccache.specs.declared.fault.CacheFault.TheVariants.{Version, Header, BadItem, TooLong, Read, OutOfMemory}

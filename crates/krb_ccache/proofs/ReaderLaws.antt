@@ -13,8 +13,8 @@ use Rattle.krb_ccache.specs.declared.credential.HeaderField.{HeaderField}
 use Rattle.krb_ccache.specs.declared.credential.Credential.{Credential}
 use Rattle.krb_ccache.specs.Spelling.{header_bytes, name_bytes, credential_bytes}
 use Rattle.krb_ccache.specs.Value.{Cache, cache_of, FitsHeader, FitsName, FitsCredential, Fits}
-use Rattle.krb_ccache.specs.Format.{version, file_limit, start_bytes, written, Layout, version_4, version_of, IsReached, IsCache, IsFaultOf}
-use Rattle.krb_ccache.specs.Source.{IsGiven}
+use Rattle.krb_name.specs.File.{file_limit, IsGiven}
+use Rattle.krb_ccache.specs.Format.{version, start_bytes, written, Layout, version_4, version_of, IsReached, IsCache, IsFaultOf}
 use Rattle.krb_ccache.specs.Reader.{Reading, ended_by, ended_passed, passed, HasTaken, HasRead, GaveOne, PassedOne, StaysAtEnd, GoesTo, with_credential}
 use Rattle.krb_ccache.specs.declared.fault.CacheFault.{CacheFault}
 use Rattle.krb_ccache.specs.declared.fault.CacheFault.TheVariants.{Version, Header, BadItem, TooLong, Read, OutOfMemory}

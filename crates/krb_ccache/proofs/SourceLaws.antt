@@ -4,10 +4,10 @@ use Rattle.std.specs.Prelude.{◌≢◌, IfSome, IfOk, IfErr}
 use Rattle.std.proofs.lemmas.Bool.{cases_lt}
 use Rattle.std.proofs.lemmas.List.{length-append}
 use Rattle.krb_ccache.specs.Value.{Cache}
-use Rattle.krb_ccache.specs.Format.{file_limit, IsCache, IsAnswerOf, IsFaultOf}
+use Rattle.krb_name.specs.File.{file_limit, IsGiven, LeavesTail, ReadsFile}
+use Rattle.krb_ccache.specs.Format.{IsCache, IsAnswerOf, IsFaultOf}
 use Rattle.std.specs.Io.KnownBytes.{IsAtEnd}
 use Rattle.std.proofs.KnownBytes.{Consumes-trans}
-use Rattle.krb_ccache.specs.Source.{IsGiven, LeavesTail}
 use Rattle.krb_ccache.proofs.LayoutLaws.{the_answer}
 use Rattle.krb_ccache.specs.declared.fault.CacheFault.{CacheFault}
 use Rattle.krb_ccache.specs.declared.fault.CacheFault.TheVariants.{Version, Header, BadItem, TooLong, Read, OutOfMemory}
@@ -86,3 +86,9 @@ only_whole from to (Err (BadItem at)) f e whole answer known a = let g = e (λ x
 
 pub tail_then : (from middle to : Option (List ℕ)) → LeavesTail from middle → LeavesTail middle to → LeavesTail from to
 tail_then from middle to p q = (p.0 ++ q.0, Consumes-trans from middle to p.0 q.0 p.1 q.1)
+
+-- ---- what reading answers
+
+pub reads_whole : (from to : Option (List ℕ)) (result : Result Cache CacheFault) → IfOk result (Found from to) → IfErr result (Faulty from to) → LeavesTail from to → ReadsFile IsAnswerOf OutOfMemory Read from to result
+reads_whole from to (Ok cache) f e tail = record { found = found_whole from to cache f; end = found_end from to cache f; fault = tt; only = only_whole from to (Ok cache) f e; given = tt; tail = tail }
+reads_whole from to (Err fault) f e tail = record { found = tt; end = tt; fault = λ memory read. fault_whole from to fault e memory read; only = only_whole from to (Err fault) f e; given = e; tail = tail }

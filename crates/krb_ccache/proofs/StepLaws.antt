@@ -5,8 +5,7 @@ use Rattle.std.proofs.KnownBytes.{Consumes-trans}
 use Rattle.std.proofs.lemmas.List.{length-append, nil_from_length}
 use Rattle.krb_name.specs.Cursor.{Place}
 use Rattle.krb_name.specs.Window.{AtHand, Keeps}
-use Rattle.krb_ccache.specs.Format.{file_limit}
-use Rattle.krb_ccache.specs.Source.{LeavesTail}
+use Rattle.krb_name.specs.File.{file_limit, LeavesTail}
 use Rattle.krb_ccache.specs.declared.fault.CacheFault.{CacheFault}
 use Rattle.krb_ccache.specs.declared.item_fault.ItemFault.{ItemFault}
 use Rattle.krb_ccache.specs.declared.item_fault.ItemFault.TheVariants as item

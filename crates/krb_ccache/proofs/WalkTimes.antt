@@ -4,7 +4,7 @@ use Rattle.std.specs.List.{flat_map}
 use Rattle.std.proofs.KnownBytes.{Consumes-nil}
 use Rattle.krb_name.specs.Window.{AtHand, Keeps}
 use Rattle.krb_ccache.specs.declared.walking.Stop.{Stop}
-use Rattle.krb_ccache.specs.Format.{file_limit}
+use Rattle.krb_name.specs.File.{file_limit}
 use Rattle.krb_ccache.specs.Inner.Walking.{Spans, Wants, Counted, Walks, Halts}
 use Rattle.krb_ccache.proofs.WalkLaws.{joined, spans_then, wants_first, wants_then}
 

@@ -2,6 +2,7 @@
 use Rattle.std.specs.Prelude.{◌≡◌, ◌≢◌, ◌⊎◌, ℕ, ◌<◌, ◌≤◌, ◌+◌, List, [], ◌∷◌, ◌++◌, length, map, All, Result, Ok, Err}
 use Rattle.std.specs.List.{flat_map}
 use Rattle.krb_name.specs.declared.principal.Principal.{Principal}
+use Rattle.krb_name.specs.File.{file_limit}
 use Rattle.krb_ccache.specs.declared.credential.HeaderField.{HeaderField}
 use Rattle.krb_ccache.specs.declared.credential.Credential.{Credential}
 use Rattle.krb_ccache.specs.Spelling.{header_bytes, name_bytes, credential_bytes}
@@ -12,10 +13,6 @@ use Rattle.krb_ccache.specs.declared.fault.CacheFault.TheVariants.{Version, Head
 -- what a cache begins with
 abbrev pub version : List ℕ
 version = 0x05 ∷ 0x04 ∷ []
-
--- how many bytes a file has at most
-abbrev pub file_limit : ℕ
-file_limit = 16777216
 
 -- what stands before the default principal
 abbrev pub start_bytes : List HeaderField → List ℕ

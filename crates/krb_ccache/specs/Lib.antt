@@ -4,6 +4,5 @@ pub mod Format
 pub mod Configuration
 pub mod Offset
 pub mod Fault
-pub mod Source
 pub mod Reader
 pub mod Inner

@@ -8,7 +8,8 @@ use Rattle.krb_ccache.specs.declared.credential.HeaderField.{HeaderField}
 use Rattle.krb_ccache.specs.declared.credential.Credential.{Credential}
 use Rattle.krb_ccache.specs.Spelling.{credential_bytes, marked_bytes}
 use Rattle.krb_ccache.specs.Value.{Cache, cache_of, FitsCredential}
-use Rattle.krb_ccache.specs.Format.{file_limit, Layout, IsReached}
+use Rattle.krb_name.specs.File.{file_limit}
+use Rattle.krb_ccache.specs.Format.{Layout, IsReached}
 use Rattle.krb_ccache.specs.declared.fault.CacheFault.{CacheFault}
 
 -- a reader: its source; the header and the default principal; how many bytes the source has given; how many were at hand at

@@ -9,9 +9,9 @@ ghost use Rattle.krb_ccache.specs.Value.{Cache, cache_of, HasLengths, Fits, Fits
 ghost use Rattle.krb_ccache.specs.declared.fault.CacheFault.{CacheFault as CacheFaultValue};
 ghost use Rattle.krb_ccache.specs.Configuration.{HoldsOffset, IsConfiguration};
 ghost use Rattle.krb_ccache.specs.Fault.{offset_of, failed_reads};
-ghost use Rattle.krb_ccache.specs.Format.{file_limit, written, IsCache, IsFaultOf, IsAnswerOf};
+ghost use Rattle.krb_name.specs.File.{file_limit, IsGiven, LeavesTail, ReadsFile};
+ghost use Rattle.krb_ccache.specs.Format.{written, IsCache, IsFaultOf, IsAnswerOf};
 ghost use Rattle.krb_ccache.specs.Offset.{clock_offset};
-ghost use Rattle.krb_ccache.specs.Source.{IsGiven, LeavesTail};
 ghost use Rattle.krb_ccache.specs.Inner.Reading.{credential_at};
 ghost use Rattle.krb_ccache.specs.Inner.Room.{Leaves};
 ghost use Rattle.krb_ccache.specs.Inner.Version4.{IsCache4, IsFaultOf4};
@@ -22,13 +22,13 @@ use crate::configuration::{first_offset, is_entry};
 use crate::credential::{Credential, HeaderField};
 use crate::fault::CacheFault;
 use crate::fits::{all_fit, header_fits, name_fits};
-use crate::header::{FILE_LIMIT, VERSION, open, read_header};
+use crate::header::{VERSION, open, read_header};
 use crate::item_fault::ItemFault;
 use crate::items::{read_credential, read_name};
 use crate::room::{behind_credentials, behind_header, behind_name};
 use crate::stepping::{begin, steps};
 use crate::writing::{write_credentials, write_header, write_name, write_u16};
-use krb_name::{FileCursor, Principal, Source, Window};
+use krb_name::{FILE_LIMIT, FileCursor, Principal, Source, Window};
 use std::alloc::{AllocError, Global};
 use std::marker::Model;
 
@@ -130,24 +130,8 @@ impl CCache {
     /// Source: MIT krb5, "Credential cache file format", version 4.
     pub fn read<S: Source>(alloc: Global, source: &mut S) -> Result<CCache, CacheFault>
         requires { S.failure_count source.old < 2 ^ 64 - 1 }
-        ensures found { IfOk result (λ cache.
-            IfSome (S.remaining source.old) (λ bytes. IsCache bytes cache)) }
-        ensures end { OnOk result (IsAtEnd (S.remaining source.new)) }
-        ensures fault { IfErr result (λ fault.
-            fault ≢ CacheFault.OutOfMemory → fault ≢ CacheFault.Read
-            → IfSome (S.remaining source.old) (λ bytes. IsFaultOf bytes fault)) }
-
-        // Where the bytes to come are a cache, and where they have a fault, that is the answer.
-        ensures only { (bytes : List ℕ) (answer : Result Cache CacheFault)
-            → S.remaining source.old ≡ Some bytes → IsAnswerOf bytes answer
-            → (result ≡ answer) ⊎ ((result ≡ Err CacheFault.OutOfMemory) ⊎ (result ≡ Err CacheFault.Read)) }
-        ensures given { IfErr result (λ fault.
-            fault ≢ CacheFault.OutOfMemory → fault ≢ CacheFault.Read
-            → (bytes : List ℕ) × IsGiven (S.remaining source.old) (S.remaining source.new) bytes
-            × IsFaultOf bytes fault) }
-
-        // Whatever the answer is, what is left of the source is a tail of what was to come.
-        ensures tail { LeavesTail (S.remaining source.old) (S.remaining source.new) }
+        ensures reads { ReadsFile IsAnswerOf CacheFault.OutOfMemory CacheFault.Read
+            (S.remaining source.old) (S.remaining source.new) result }
         ensures failed { S.failure_count source.new
             ≡ S.failure_count source.old + failed_reads result }
     {
@@ -158,6 +142,18 @@ impl CCache {
     }
 
     fn read_window<S: Source>(alloc: Global, window: &mut Window<S>) -> Result<CCache, CacheFault>
+        requires reads { S.failure_count window.old.source < 2 ^ 64 - 1 }
+        requires start { window.old.given ≡ 0 }
+        ensures reads { ReadsFile IsAnswerOf CacheFault.OutOfMemory CacheFault.Read
+            (S.remaining window.old.source) (S.remaining window.new.source) result }
+        ensures failed { S.failure_count window.new.source
+            ≡ S.failure_count window.old.source + failed_reads result }
+        ensures lent { S.lender window.new.source ≡ S.lender window.old.source }
+    {
+        CCache::read_parts(alloc, window)
+    }
+
+    fn read_parts<S: Source>(alloc: Global, window: &mut Window<S>) -> Result<CCache, CacheFault>
         requires reads { S.failure_count window.old.source < 2 ^ 64 - 1 }
         requires start { window.old.given ≡ 0 }
         ensures found { IfOk result (λ cache. (bytes : List ℕ)

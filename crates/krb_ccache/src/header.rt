@@ -5,7 +5,8 @@ ghost use Rattle.krb_name.specs.Field.{IsBytes};
 ghost use Rattle.krb_ccache.specs.declared.credential.HeaderField.{HeaderField as HeaderFieldValue};
 ghost use Rattle.krb_ccache.specs.Spelling.{header_bytes};
 ghost use Rattle.krb_ccache.specs.Value.{FitsHeader};
-ghost use Rattle.krb_ccache.specs.Format.{version, file_limit};
+ghost use Rattle.krb_name.specs.File.{file_limit};
+ghost use Rattle.krb_ccache.specs.Format.{version};
 ghost use Rattle.krb_ccache.specs.Inner.Version4.{IsFaultOf4};
 ghost use Rattle.krb_ccache.specs.Inner.Reading.{field_at};
 ghost use Rattle.krb_ccache.specs.Inner.Standing.{Lies, IsMissing, Fills};
@@ -13,12 +14,9 @@ ghost use Rattle.krb_ccache.specs.Inner.Standing.{Lies, IsMissing, Fills};
 use crate::credential::HeaderField;
 use crate::fault::CacheFault;
 use crate::item_fault::ItemFault;
-use krb_name::{Bytes, FileCursor, Short};
+use krb_name::{Bytes, FILE_LIMIT, FileCursor, Short};
 use std::alloc::{AllocError, Global};
 use std::marker::Model;
-
-/// How many bytes a cache has at most.
-pub(crate) const FILE_LIMIT: usize = 16_777_216;
 
 /// The version of the format.
 pub(crate) const VERSION: u16 = 0x0504;

@@ -5,11 +5,11 @@ ghost use Rattle.krb_name.specs.Field.{IsBytes};
 ghost use Rattle.krb_ccache.specs.declared.credential.HeaderField.{HeaderField};
 ghost use Rattle.krb_ccache.specs.declared.fault.CacheFault.{CacheFault};
 ghost use Rattle.krb_ccache.specs.Configuration.{HoldsOffset};
-ghost use Rattle.krb_ccache.specs.Format.{file_limit, written, IsCache, IsAnswerOf, IsFaultOf};
+ghost use Rattle.krb_name.specs.File.{file_limit, IsGiven};
+ghost use Rattle.krb_ccache.specs.Format.{written, IsCache, IsAnswerOf, IsFaultOf};
 ghost use Rattle.krb_ccache.specs.Fault.{offset_of};
 ghost use Rattle.krb_ccache.specs.Offset.{clock_offset};
 ghost use Rattle.krb_ccache.specs.Reader.{GoesTo};
-ghost use Rattle.krb_ccache.specs.Source.{IsGiven};
 ghost use Rattle.krb_ccache.specs.Value.{Cache, Fits};
 
 /// Says that bytes are a cache or have a fault; and that they are a cache of one value only, or

@@ -3,10 +3,10 @@
 ghost use Rattle.std.specs.Prelude.{◌≡◌, ◌≢◌, ◌+◌, ◌-◌, ◌^◌, ◌<◌, ◌≤◌, ◌↔◌, ℕ, true, false, List, [], max, length, All, IsTrue, IfOk, IfErr, IfSome, IfNone, MatchResult, OnErr, Option, Ok, Err, None};
 ghost use Rattle.krb_ccache.specs.Configuration.{HoldsOffset, IsConfiguration};
 ghost use Rattle.krb_ccache.specs.Fault.{failed_reads};
-ghost use Rattle.krb_ccache.specs.Format.{file_limit, IsCache, IsFaultOf};
+ghost use Rattle.krb_name.specs.File.{file_limit, IsGiven, LeavesTail};
+ghost use Rattle.krb_ccache.specs.Format.{IsCache, IsFaultOf};
 ghost use Rattle.krb_ccache.specs.Offset.{clock_offset};
 ghost use Rattle.krb_ccache.specs.Reader.{ended_by as ended_by_answer, ended_passed, passed, last_answer, with_credential, HasRead, Gave, GaveOne, PassedOne, HeldPart, StaysAtEnd, GoesTo};
-ghost use Rattle.krb_ccache.specs.Source.{IsGiven, LeavesTail};
 ghost use Rattle.krb_ccache.specs.Spelling.{header_bytes, name_bytes, credential_bytes};
 ghost use Rattle.krb_ccache.specs.Value.{Cache, cache_of};
 ghost use Rattle.krb_ccache.specs.declared.credential.Credential.{Credential as CredentialValue};
@@ -33,7 +33,7 @@ pub struct CredentialReader<S> {
 
 impl<S> Model for CredentialReader<S> {
     ghost use Rattle.std.specs.Prelude.{◌≡◌, ◌≤◌, None};
-    ghost use Rattle.krb_ccache.specs.Format.{file_limit};
+    ghost use Rattle.krb_name.specs.File.{file_limit};
     ghost use Rattle.krb_ccache.specs.Reader.{Reading};
     ghost use Rattle.krb_ccache.specs.Value.{FitsHeader};
 

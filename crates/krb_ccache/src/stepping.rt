@@ -2,9 +2,9 @@
 
 ghost use Rattle.std.specs.Prelude.{All, Option, ℕ, List, [], length, max, ◌≡◌, ◌≢◌, ◌+◌, ◌-◌, ◌≤◌, ◌<◌, ◌^◌, IfOk, IfErr, OnOk, OnErr, Result, Err};
 ghost use Rattle.krb_ccache.specs.Fault.{failed_reads};
-ghost use Rattle.krb_ccache.specs.Format.{file_limit, version_of, version_4, IsCache, IsFaultOf};
+ghost use Rattle.krb_name.specs.File.{file_limit, IsGiven, LeavesTail};
+ghost use Rattle.krb_ccache.specs.Format.{version_of, version_4, IsCache, IsFaultOf};
 ghost use Rattle.krb_ccache.specs.Reader.{HasTaken, HeldPart, passed};
-ghost use Rattle.krb_ccache.specs.Source.{IsGiven, LeavesTail};
 ghost use Rattle.krb_ccache.specs.Spelling.{header_bytes, name_bytes, credential_bytes};
 ghost use Rattle.krb_ccache.specs.Value.{cache_of, FitsHeader, FitsName, FitsCredential};
 ghost use Rattle.krb_name.specs.declared.principal.Principal.{Principal as PrincipalValue};
@@ -18,11 +18,11 @@ ghost use Rattle.krb_ccache.specs.Inner.Stepping.{Stands, cleared, Any, Comes, I
 use crate::checking::skip_credential;
 use crate::credential::{Credential, HeaderField};
 use crate::fault::CacheFault;
-use crate::header::{FILE_LIMIT, read_header};
+use crate::header::read_header;
 use crate::item_fault::ItemFault;
 use crate::items::{read_credential, read_name};
 use crate::walking::{Stop, take, take_credential, take_header, take_name};
-use krb_name::{FileCursor, Principal, Short, Source, Window};
+use krb_name::{FILE_LIMIT, FileCursor, Principal, Short, Source, Window};
 use std::alloc::{AllocError, Global};
 
 const VERSION_BYTES: &[u8] = &[0x05, 0x04];

@@ -5,13 +5,12 @@ ghost use Rattle.std.specs.Prelude.{◌≡◌, ◌+◌, ◌-◌, ◌≤◌, ◌<
 ghost use Rattle.std.specs.Int.{w16, w32, from_be_bytes};
 ghost use Rattle.std.specs.List.{flat_map};
 ghost use Rattle.krb_name.specs.Cursor.{data_bytes};
-ghost use Rattle.krb_ccache.specs.Format.{file_limit};
+ghost use Rattle.krb_name.specs.File.{file_limit};
 ghost use Rattle.krb_ccache.specs.Spelling.{header_bytes, name_bytes, typed_bytes, list_bytes};
 ghost use Rattle.krb_ccache.specs.Value.{FitsHeader, FitsName, FitsList};
 ghost use Rattle.krb_ccache.specs.Inner.Walking.{IsWalk, Counted, last_number, stopped_reads, FitsMarked, whole, from_key, from_times, from_ticket};
 
-use crate::header::FILE_LIMIT;
-use krb_name::{ReadFault, Source, Window};
+use krb_name::{FILE_LIMIT, ReadFault, Source, Window};
 
 // How many bytes the times of a credential have, with `is_skey` and the flags.
 const TIMES: usize = 4 * 4 + 1 + 4;

@@ -6,7 +6,8 @@ use Rattle.std.proofs.lemmas.List.{length-append, take_at}
 use Rattle.std.proofs.lemmas.List.Elements.{recursion_from_All, All-push}
 use Rattle.krb_name.specs.Field.{IsBytes}
 use Rattle.krb_keytab.specs.Entry.{KeytabEntry, FitsEntry}
-use Rattle.krb_keytab.specs.Format.{version, file_limit, KeytabRecord, hole, record_bytes, FitsRecord, entries_of, IsKeytab, IsFaultOf}
+use Rattle.krb_name.specs.File.{file_limit}
+use Rattle.krb_keytab.specs.Format.{version, KeytabRecord, hole, record_bytes, FitsRecord, entries_of, IsKeytab, IsFaultOf}
 use Rattle.krb_keytab.specs.Written.{padded_record, written_record, record_length}
 use Rattle.krb_keytab.specs.Edit.{LacksRoom, FillsHole, Appends, GainsEntry, WouldGrow, WouldPass}
 use Rattle.krb_keytab.specs.Inner.Finding.{HasRoom, HasNone}

@@ -4,7 +4,8 @@ use Rattle.std.proofs.lemmas.Bool.{cases_lt, eqb-true, eqb-false}
 use Rattle.krb_name.specs.Cursor.{Place}
 use Rattle.krb_name.specs.Field.{IsBytes}
 use Rattle.krb_keytab.specs.Entry.{KeytabEntry}
-use Rattle.krb_keytab.specs.Format.{version, file_limit, IsReached, IsAnswerOf}
+use Rattle.krb_name.specs.File.{file_limit}
+use Rattle.krb_keytab.specs.Format.{version, IsReached, IsAnswerOf}
 use Rattle.krb_keytab.specs.declared.fault.KeytabFault.{KeytabFault}
 use Rattle.krb_keytab.specs.declared.fault.KeytabFault.TheVariants.{Version, TooLong}
 use Rattle.krb_keytab.specs.declared.record.Record.{Record}

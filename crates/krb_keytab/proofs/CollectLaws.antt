@@ -1,12 +1,12 @@
 -- What a keytab is, that is read record by record to its end.
-use Rattle.std.proofs.Common.{◌≡◌, ℕ, ◌≤◌, List, [], ◌∷◌, ◌++◌, length, Option, Some, None, Ok, Err, refl, sym, subst, arith}
+use Rattle.std.proofs.Common.{◌≡◌, ℕ, ◌≤◌, List, [], ◌∷◌, ◌++◌, length, Option, Some, None, Result, Ok, Err, refl, sym, subst, arith}
 use Rattle.std.specs.Io.KnownBytes.{Consumes, IsAtEnd}
 use Rattle.std.proofs.KnownBytes.{Consumes-trans}
 use Rattle.std.proofs.lemmas.List.{length-append}
 use Rattle.krb_name.specs.Window.{AtHand}
 use Rattle.krb_keytab.specs.Entry.{KeytabEntry}
-use Rattle.krb_keytab.specs.Format.{version, file_limit, IsReached, IsCutOff, HoldsNoEntry, StandsAt}
-use Rattle.krb_keytab.specs.Source.{IsGiven}
+use Rattle.krb_name.specs.File.{file_limit, IsGiven, LeavesTail}
+use Rattle.krb_keytab.specs.Format.{version, IsReached, IsCutOff, HoldsNoEntry, StandsAt}
 use Rattle.krb_keytab.specs.Items.{StandsTo}
 use Rattle.krb_keytab.specs.Inner.Meeting.{OpensAt, MeetsNext, HasTaken, IsFound, IsFaulty}
 use Rattle.krb_keytab.specs.declared.fault.KeytabFault.{KeytabFault}
@@ -66,3 +66,8 @@ version_faulty from to old new fault o = let m = first_fault from to old new fau
 pub next_faulty : {S : Type 0} (from mid to : Option (List ℕ)) (old new : AtHand S) (entries : List KeytabEntry) (fault : KeytabFault) → HasTaken from mid old.given entries → old.given ≤ file_limit → MeetsNext mid to old new (Err fault) → IsFaulty from to fault
 next_faulty from mid to old new entries fault t limit m =
     fault_of from to new.peak (t.bytes ++ m.piece) entries fault (Consumes-trans from mid to t.bytes m.piece t.taken m.moves.consumed) (m.stands t.bytes entries t.given_is (omega (arith, limit, t.given_is)) t.reached)
+
+-- ---- what is left
+
+pub tail_taken : {S : Type 0} (from mid to : Option (List ℕ)) (old new : AtHand S) (entries : List KeytabEntry) (answer : Result (Option KeytabEntry) KeytabFault) → HasTaken from mid old.given entries → MeetsNext mid to old new answer → LeavesTail from to
+tail_taken from mid to old new entries answer t m = (t.bytes ++ m.piece, Consumes-trans from mid to t.bytes m.piece t.taken m.moves.consumed)

@@ -9,7 +9,8 @@ use Rattle.krb_name.specs.Cursor.{Place, signed_bytes}
 use Rattle.krb_name.specs.Field.{IsBytes}
 use Rattle.krb_name.proofs.CursorLaws.{IsBytes-drop}
 use Rattle.krb_keytab.specs.Entry.{KeytabEntry}
-use Rattle.krb_keytab.specs.Format.{version, file_limit, KeytabRecord, hole, entry, entry_bytes, record_bytes, FitsRecord, entries_of, IsReached, IsKeytab, IsCutOff, HoldsNoEntry, StandsAt, IsFaultOf}
+use Rattle.krb_name.specs.File.{file_limit}
+use Rattle.krb_keytab.specs.Format.{version, KeytabRecord, hole, entry, entry_bytes, record_bytes, FitsRecord, entries_of, IsReached, IsKeytab, IsCutOff, HoldsNoEntry, StandsAt, IsFaultOf}
 use Rattle.krb_keytab.specs.declared.fault.KeytabFault.{KeytabFault}
 use Rattle.krb_keytab.specs.declared.fault.KeytabFault.TheVariants.{Version, Truncated, BadEntry, TooLong, NoSuchEntry, Read, OutOfMemory}
 use Rattle.krb_keytab.specs.declared.record.Record.{Record}

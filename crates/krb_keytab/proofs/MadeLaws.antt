@@ -10,7 +10,8 @@ use Rattle.std.proofs.lemmas.List.{length-append}
 use Rattle.std.proofs.lemmas.List.Elements.{All-from_recursion, recursion_from_All}
 use Rattle.krb_name.specs.Cursor.{number_bytes}
 use Rattle.krb_keytab.specs.Entry.{KeytabEntry, FitsEntry}
-use Rattle.krb_keytab.specs.Format.{version, file_limit, full_kvno, KeytabRecord, record_bytes, FitsRecord, entries_of, IsKeytab}
+use Rattle.krb_name.specs.File.{file_limit}
+use Rattle.krb_keytab.specs.Format.{version, full_kvno, KeytabRecord, record_bytes, FitsRecord, entries_of, IsKeytab}
 use Rattle.krb_keytab.specs.Written.{padded_record, written_record, record_length, written}
 use Rattle.krb_keytab.specs.Edit.{IsMadeOf}
 

@@ -14,7 +14,8 @@ use Rattle.krb_name.specs.Window.{AtHand, CameOf, Fills}
 use Rattle.krb_name.specs.declared.reading.ReadFault.{ReadFault}
 use Rattle.krb_name.proofs.CursorLaws.{IsField-i32}
 use Rattle.krb_keytab.specs.Entry.{KeytabEntry}
-use Rattle.krb_keytab.specs.Format.{file_limit, hole, entry, entry_bytes}
+use Rattle.krb_name.specs.File.{file_limit}
+use Rattle.krb_keytab.specs.Format.{hole, entry, entry_bytes}
 use Rattle.krb_keytab.specs.Items.{LacksRecord, IsPartOfRecord}
 use Rattle.krb_keytab.specs.Inner.Entry.{entry_at}
 use Rattle.krb_keytab.specs.Inner.Meeting.{Peaks, RanOut, IsWhole, IsLastAt, IsLongAt, IsFewAt, kept_of, MeetsSize, MeetsSizeAt, MeetsBody, MeetsOne, Meets}

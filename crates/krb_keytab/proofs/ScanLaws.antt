@@ -8,7 +8,8 @@ use Rattle.std.proofs.lemmas.List.Elements.{All-nil, All-push}
 use Rattle.krb_name.specs.Cursor.{Place}
 use Rattle.krb_name.specs.Field.{IsBytes, Takes}
 use Rattle.krb_keytab.specs.Entry.{KeytabEntry}
-use Rattle.krb_keytab.specs.Format.{version, file_limit, KeytabRecord, hole, entry, record_bytes, FitsRecord, entries_of, IsFaultOf}
+use Rattle.krb_name.specs.File.{file_limit}
+use Rattle.krb_keytab.specs.Format.{version, KeytabRecord, hole, entry, record_bytes, FitsRecord, entries_of, IsFaultOf}
 use Rattle.krb_keytab.specs.Edit.{IsMadeOf, LacksRoom}
 use Rattle.krb_keytab.specs.Inner.Finding.{LiesAt, IsFoundEntry, HasRoom}
 use Rattle.krb_keytab.specs.Inner.Reading.{record_at}

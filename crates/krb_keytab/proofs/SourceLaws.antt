@@ -1,12 +1,12 @@
 -- The answer for what a source gave is the answer for all the bytes that were to come of it.
 use Rattle.std.proofs.Common.{◌≡◌, ◌⊎◌, ℕ, ◌<◌, List, ◌++◌, length, Option, Some, None, Result, Ok, Err, refl, sym, ap, subst, ◌∙◌, append-nil, arith, inl, inr}
-use Rattle.std.specs.Prelude.{◌≢◌, IfSome}
+use Rattle.std.specs.Prelude.{◌≢◌, IfSome, IfOk, IfErr}
 use Rattle.std.proofs.lemmas.Bool.{cases_lt}
 use Rattle.std.proofs.lemmas.List.{length-append}
 use Rattle.krb_keytab.specs.Entry.{KeytabEntry}
-use Rattle.krb_keytab.specs.Format.{file_limit, IsKeytab, IsAnswerOf, IsFaultOf}
+use Rattle.krb_name.specs.File.{file_limit, IsGiven, LeavesTail, ReadsFile}
+use Rattle.krb_keytab.specs.Format.{IsKeytab, IsAnswerOf, IsFaultOf}
 use Rattle.std.specs.Io.KnownBytes.{IsAtEnd}
-use Rattle.krb_keytab.specs.Source.{IsGiven}
 use Rattle.krb_keytab.specs.Inner.Meeting.{IsFound, IsFaulty}
 use Rattle.krb_keytab.proofs.OneEnd.{same_answers}
 use Rattle.krb_keytab.specs.declared.fault.KeytabFault.{KeytabFault}
@@ -93,3 +93,9 @@ only_fault from to fault f whole answer known a =
         | inr read ↦ inr (inr (ap (λ (e : KeytabFault). result_of (Err e)) read))
       ]
     ]
+
+-- ---- what reading answers
+
+pub reads_whole : (from to : Option (List ℕ)) (result : Result (List KeytabEntry) KeytabFault) → IfOk result (IsFound from to) → IfErr result (IsFaulty from to) → LeavesTail from to → ReadsFile IsAnswerOf OutOfMemory Read from to result
+reads_whole from to (Ok entries) f e tail = record { found = found_whole from to entries f; end = found_end from to entries f; fault = tt; only = only_found from to entries f; given = tt; tail = tail }
+reads_whole from to (Err fault) f e tail = record { found = tt; end = tt; fault = λ memory read. fault_whole from to fault e memory read; only = only_fault from to fault e; given = e; tail = tail }

@@ -10,7 +10,8 @@ use Rattle.std.proofs.lemmas.List.Elements.{All-push}
 use Rattle.krb_name.specs.Cursor.{signed_bytes}
 use Rattle.krb_name.specs.Window.{AtHand}
 use Rattle.krb_keytab.specs.Entry.{KeytabEntry}
-use Rattle.krb_keytab.specs.Format.{version, file_limit, KeytabRecord, hole, entry, entry_bytes, record_bytes, FitsRecord, entries_of, IsReached}
+use Rattle.krb_name.specs.File.{file_limit}
+use Rattle.krb_keytab.specs.Format.{version, KeytabRecord, hole, entry, entry_bytes, record_bytes, FitsRecord, entries_of, IsReached}
 use Rattle.krb_keytab.specs.Items.{LacksVersion, LacksRecord, Stops, StopsSo, IsTooLong, Concludes, AreFirst, EndsWithEntry, StandsTo, IsPartOfRecord, HasMet, HasRead, EntriesRead, passed, stage_after, stage_passed, entries_after, GivesMore}
 use Rattle.krb_keytab.specs.Inner.Entry.{entry_at}
 use Rattle.krb_keytab.specs.Inner.Meeting.{Moves, Peaks, RanOut, OpensAt, MeetsVersion, IsWhole, IsLastAt, IsLongAt, MeetsLast, MeetsOne, PassesHoles, MeetsNext, MeetsPast, MeetsFirst, IsAtHand, IsWithin}

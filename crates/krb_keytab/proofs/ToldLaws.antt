@@ -7,7 +7,8 @@ use Rattle.std.proofs.lemmas.List.{length-append, append_cancel_left}
 use Rattle.std.proofs.lemmas.List.Concat.{flat_map-append}
 use Rattle.std.proofs.lemmas.List.Elements.{recursion_from_All}
 use Rattle.krb_keytab.specs.Entry.{KeytabEntry}
-use Rattle.krb_keytab.specs.Format.{version, file_limit, record_bytes, FitsRecord, entries_of, IsReached, IsKeytab, IsCutOff, HoldsNoEntry, StandsAt, IsFaultOf}
+use Rattle.krb_name.specs.File.{file_limit}
+use Rattle.krb_keytab.specs.Format.{version, record_bytes, FitsRecord, entries_of, IsReached, IsKeytab, IsCutOff, HoldsNoEntry, StandsAt, IsFaultOf}
 use Rattle.krb_keytab.specs.Items.{Stops, AreFirst, StandsTo}
 use Rattle.krb_keytab.specs.declared.fault.KeytabFault.{KeytabFault}
 use Rattle.krb_keytab.specs.declared.fault.KeytabFault.TheVariants.{Version, Truncated, BadEntry, TooLong, NoSuchEntry, Read, OutOfMemory}

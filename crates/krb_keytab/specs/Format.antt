@@ -3,6 +3,7 @@ use Rattle.std.specs.Prelude.{◌≡◌, ◌≢◌, ◌⊎◌, ℕ, ◌+◌, ◌
 use Rattle.std.specs.Int.{w8, w16, w32, from_be_bytes}
 use Rattle.std.specs.List.{flat_map}
 use Rattle.krb_name.specs.Cursor.{number_bytes, signed_bytes, data_bytes}
+use Rattle.krb_name.specs.File.{file_limit}
 use Rattle.krb_keytab.specs.Entry.{KeytabEntry, FitsEntry}
 use Rattle.krb_keytab.specs.declared.fault.KeytabFault.{KeytabFault}
 use Rattle.krb_keytab.specs.declared.fault.KeytabFault.TheVariants.{Version, Truncated, BadEntry, TooLong}
@@ -10,10 +11,6 @@ use Rattle.krb_keytab.specs.declared.fault.KeytabFault.TheVariants.{Version, Tru
 -- what a keytab begins with
 abbrev pub version : List ℕ
 version = 0x05 ∷ 0x02 ∷ []
-
--- how many bytes a file has at most
-abbrev pub file_limit : ℕ
-file_limit = 16777216
 
 -- ---- an entry
 

@@ -4,7 +4,6 @@ pub mod Fault
 pub mod Format
 pub mod Items
 pub mod Pick
-pub mod Source
 pub mod Usable
 pub mod Written
 pub mod Inner

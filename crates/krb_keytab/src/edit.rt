@@ -10,8 +10,8 @@ use crate::entry::Entry;
 use crate::fault::KeytabFault;
 use crate::finding::{Room, find_entry, find_room};
 use crate::keytab::Keytab;
-use crate::opening::FILE_LIMIT;
 use crate::writing::{clear_in, fill_in, put_record};
+use krb_name::FILE_LIMIT;
 
 impl Keytab {
     /// Removes the entry `index`, counted from 0 among the entries, from the bytes of a file: its

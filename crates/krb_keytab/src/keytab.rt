@@ -5,19 +5,19 @@ ghost use Rattle.std.specs.Io.KnownBytes.{IsAtEnd};
 ghost use Rattle.krb_keytab.specs.Entry.{KeytabEntry};
 ghost use Rattle.krb_keytab.specs.Fault.{offset_of, failed_reads};
 ghost use Rattle.krb_keytab.specs.Pick.{IsPicked};
-ghost use Rattle.krb_keytab.specs.Format.{file_limit, IsKeytab, IsFaultOf, IsAnswerOf};
+ghost use Rattle.krb_name.specs.File.{file_limit, ReadsFile};
+ghost use Rattle.krb_keytab.specs.Format.{IsKeytab, IsFaultOf, IsAnswerOf};
 ghost use Rattle.krb_keytab.specs.Written.{written};
-ghost use Rattle.krb_keytab.specs.Source.{IsGiven};
 
 use crate::entry::Entry;
 use crate::fault::KeytabFault;
 use crate::next::next_record;
-use crate::opening::{FILE_LIMIT, VERSION, open};
+use crate::opening::{VERSION, open};
 use crate::pick::Picked;
 use crate::record::Record;
 use crate::step::read_entries;
 use crate::writing::put_record;
-use krb_name::{Principal, Source, Window};
+use krb_name::{FILE_LIMIT, Principal, Source, Window};
 use std::alloc::Global;
 use std::marker::Model;
 
@@ -75,28 +75,27 @@ impl Keytab {
     /// Source: MIT krb5, "Keytab file format".
     pub fn read<S: Source>(alloc: Global, source: &mut S) -> Result<Keytab, KeytabFault>
         requires { S.failure_count source.old < 2 ^ 64 - 1 }
-        ensures found { IfOk result (λ keytab.
-            IfSome (S.remaining source.old) (λ bytes. IsKeytab bytes keytab)) }
-        ensures end { OnOk result (IsAtEnd (S.remaining source.new)) }
-        ensures fault { IfErr result (λ fault.
-            fault ≢ KeytabFault.OutOfMemory → fault ≢ KeytabFault.Read
-            → IfSome (S.remaining source.old) (λ bytes. IsFaultOf bytes fault)) }
-
-        // Where the bytes to come are a keytab, and where they have a fault, that is the answer.
-        ensures only { (bytes : List ℕ) (answer : Result (List KeytabEntry) KeytabFault)
-            → S.remaining source.old ≡ Some bytes → IsAnswerOf bytes answer
-            → (result ≡ answer) ⊎ ((result ≡ Err KeytabFault.OutOfMemory) ⊎ (result ≡ Err KeytabFault.Read)) }
-        ensures given { IfErr result (λ fault.
-            fault ≢ KeytabFault.OutOfMemory → fault ≢ KeytabFault.Read
-            → (bytes : List ℕ) × IsGiven (S.remaining source.old) (S.remaining source.new) bytes
-            × IsFaultOf bytes fault) }
+        ensures reads { ReadsFile IsAnswerOf KeytabFault.OutOfMemory KeytabFault.Read
+            (S.remaining source.old) (S.remaining source.new) result }
         ensures failed { S.failure_count source.new
             ≡ S.failure_count source.old + failed_reads result }
     {
         let mut window = Window::new(alloc, source);
-        let answer = read_entries(alloc, &mut window);
+        let answer = Keytab::read_window(alloc, &mut window);
         let _source = window.into_source();
-        match answer {
+        answer
+    }
+
+    fn read_window<S: Source>(alloc: Global, window: &mut Window<S>) -> Result<Keytab, KeytabFault>
+        requires reads { S.failure_count window.old.source < 2 ^ 64 - 1 }
+        requires start { window.old.given ≡ 0 }
+        ensures reads { ReadsFile IsAnswerOf KeytabFault.OutOfMemory KeytabFault.Read
+            (S.remaining window.old.source) (S.remaining window.new.source) result }
+        ensures failed { S.failure_count window.new.source
+            ≡ S.failure_count window.old.source + failed_reads result }
+        ensures lent { S.lender window.new.source ≡ S.lender window.old.source }
+    {
+        match read_entries(alloc, window) {
             Ok(entries) => Ok(Keytab { entries }),
             Err(fault) => Err(fault),
         }

@@ -1,13 +1,11 @@
 //! What a keytab begins with.
 
 ghost use Rattle.std.specs.Prelude.{◌≡◌, ◌≤◌, ◌++◌, IfOk, IfErr, length};
-ghost use Rattle.krb_keytab.specs.Format.{version, file_limit, IsFaultOf};
+ghost use Rattle.krb_name.specs.File.{file_limit};
+ghost use Rattle.krb_keytab.specs.Format.{version, IsFaultOf};
 
 use crate::fault::KeytabFault;
-use krb_name::FileCursor;
-
-/// How many bytes a keytab has at most.
-pub(crate) const FILE_LIMIT: usize = 16_777_216;
+use krb_name::{FILE_LIMIT, FileCursor};
 
 /// The version of the format that is read and written, which a keytab begins with.
 pub(crate) const VERSION: u16 = 0x0502;

@@ -4,7 +4,7 @@ ghost use Rattle.std.specs.Prelude.{◌≡◌, ◌+◌, ◌-◌, ◌^◌, ◌<�
 ghost use Rattle.std.specs.Io.KnownBytes.{Consumes};
 ghost use Rattle.krb_keytab.specs.Entry.{KeytabEntry};
 ghost use Rattle.krb_keytab.specs.Fault.{failed_reads};
-ghost use Rattle.krb_keytab.specs.Format.{file_limit};
+ghost use Rattle.krb_name.specs.File.{file_limit};
 ghost use Rattle.krb_keytab.specs.Items.{HasRead, passed, stage_after, stage_passed, entries_after, last_answer, GivesMore};
 ghost use Rattle.krb_keytab.specs.Inner.Meeting.{MeetsFirst};
 
@@ -38,7 +38,7 @@ pub struct EntryReader<S> {
 
 impl<S> Model for EntryReader<S> {
     ghost use Rattle.std.specs.Prelude.{◌≤◌};
-    ghost use Rattle.krb_keytab.specs.Format.{file_limit};
+    ghost use Rattle.krb_name.specs.File.{file_limit};
     ghost use Rattle.krb_keytab.specs.Items.{EntriesRead};
     ghost use Rattle.krb_keytab.specs.Inner.Meeting.{IsWithin};
 

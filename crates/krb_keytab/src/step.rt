@@ -8,15 +8,16 @@ ghost use Rattle.krb_keytab.specs.Entry.{KeytabEntry};
 ghost use Rattle.krb_keytab.specs.Inner.Entry.{entry_at};
 ghost use Rattle.krb_keytab.specs.Items.{LacksVersion};
 ghost use Rattle.krb_keytab.specs.Fault.{failed_reads};
-ghost use Rattle.krb_keytab.specs.Format.{file_limit, version};
+ghost use Rattle.krb_name.specs.File.{file_limit, LeavesTail};
+ghost use Rattle.krb_keytab.specs.Format.{version};
 ghost use Rattle.krb_keytab.specs.Inner.Meeting.{MeetsOne, MeetsSizeAt, MeetsNext, MeetsPast, OpensAt, RunsOutTo, MeetsBody, IsFewAt, IsFound, IsFaulty};
 
 use crate::entry::Entry;
 use crate::fault::KeytabFault;
 use crate::found::Found;
-use crate::opening::{FILE_LIMIT, VERSION};
+use crate::opening::VERSION;
 use crate::view::EntryView;
-use krb_name::{FileCursor, Short, Source, SourceFailed, Window};
+use krb_name::{FILE_LIMIT, FileCursor, Short, Source, SourceFailed, Window};
 use std::alloc::{AllocError, Global};
 
 // How many bytes the version and the size of a record have.
@@ -56,6 +57,7 @@ pub(crate) fn read_entries<S: Source>(
         (S.remaining window.old.source) (S.remaining window.new.source) entries.items) }
     ensures fault { IfErr result
         (IsFaulty (S.remaining window.old.source) (S.remaining window.new.source)) }
+    ensures tail { LeavesTail (S.remaining window.old.source) (S.remaining window.new.source) }
     ensures failed { S.failure_count window.new.source
         ≡ S.failure_count window.old.source + failed_reads result }
     ensures lent { S.lender window.new.source ≡ S.lender window.old.source }

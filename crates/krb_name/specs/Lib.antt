@@ -6,4 +6,5 @@ pub mod Text
 pub mod Reading
 pub mod Pieces
 pub mod Window
+pub mod File
 pub mod Inner

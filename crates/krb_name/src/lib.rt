@@ -24,6 +24,7 @@
 mod bytes;
 mod components;
 mod cursor;
+mod file;
 pub mod laws;
 mod pieces;
 mod principal;
@@ -40,6 +41,7 @@ mod writing;
 pub use bytes::Bytes;
 pub use components::Components;
 pub use cursor::{FileCursor, Short};
+pub use file::FILE_LIMIT;
 pub use pieces::{PieceSink, PieceSource};
 pub use principal::Principal;
 pub use reading::ReadFault;

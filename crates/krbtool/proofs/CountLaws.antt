@@ -14,7 +14,7 @@ use Rattle.krb_keytab.specs.declared.stage.Stage.{Stage}
 use Rattle.krb_keytab.specs.declared.stage.Stage.TheVariants.{End, Failed}
 use Rattle.krb_ccache.specs.Format as cache
 use Rattle.krb_ccache.specs.Reader as reads
-use Rattle.krb_ccache.specs.Source.{IsGiven}
+use Rattle.krb_name.specs.File.{IsGiven}
 use Rattle.krb_ccache.specs.Value.{Cache}
 use Rattle.krb_ccache.specs.declared.credential.Credential.{Credential}
 use Rattle.krb_ccache.specs.declared.fault.CacheFault.{CacheFault}

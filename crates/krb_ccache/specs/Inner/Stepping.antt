@@ -5,7 +5,7 @@ use Rattle.krb_name.specs.Window.{AtHand, Skips}
 use Rattle.krb_ccache.specs.declared.credential.Credential.{Credential}
 use Rattle.krb_ccache.specs.Spelling.{credential_bytes}
 use Rattle.krb_ccache.specs.Value.{FitsCredential}
-use Rattle.krb_ccache.specs.Format.{file_limit}
+use Rattle.krb_name.specs.File.{file_limit}
 use Rattle.krb_ccache.specs.declared.fault.CacheFault.{CacheFault}
 use Rattle.krb_ccache.specs.declared.fault.CacheFault.TheVariants.{BadItem, TooLong, Read, OutOfMemory}
 use Rattle.krb_ccache.specs.declared.item_fault.ItemFault.{ItemFault}

@@ -5,7 +5,8 @@ use Rattle.krb_ccache.specs.declared.credential.HeaderField.{HeaderField}
 use Rattle.krb_ccache.specs.declared.credential.Credential.{Credential}
 use Rattle.krb_ccache.specs.Spelling.{header_bytes, name_bytes, credential_bytes}
 use Rattle.krb_ccache.specs.Value.{Cache, FitsHeader, FitsName, FitsCredential, Fits}
-use Rattle.krb_ccache.specs.Format.{version, file_limit, start_bytes, written}
+use Rattle.krb_name.specs.File.{file_limit}
+use Rattle.krb_ccache.specs.Format.{version, start_bytes, written}
 use Rattle.krb_ccache.specs.declared.fault.CacheFault.{CacheFault}
 use Rattle.krb_ccache.specs.declared.fault.CacheFault.TheVariants.{Version, Header, BadItem, TooLong}
 

@@ -10,7 +10,7 @@ use Rattle.krb_name.specs.Cursor.{number_bytes, signed_bytes, data_bytes}
 use Rattle.krb_ccache.specs.declared.credential.Credential.{Credential}
 use Rattle.krb_ccache.specs.Spelling.{list_bytes, marked_bytes}
 use Rattle.krb_ccache.specs.Value.{FitsCredential}
-use Rattle.krb_ccache.specs.Format.{file_limit}
+use Rattle.krb_name.specs.File.{file_limit}
 use Rattle.krb_ccache.specs.declared.walking.Stop.{Stop}
 use Rattle.krb_ccache.specs.declared.walking.Stop.TheVariants.{End, Long, Read, OutOfMemory}
 

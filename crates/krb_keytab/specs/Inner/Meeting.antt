@@ -5,9 +5,9 @@ use Rattle.std.specs.Io.KnownBytes.{Consumes, IsAtEnd}
 use Rattle.krb_name.specs.Cursor.{signed_bytes}
 use Rattle.krb_name.specs.Window.{AtHand}
 use Rattle.krb_keytab.specs.Entry.{KeytabEntry}
-use Rattle.krb_keytab.specs.Format.{version, file_limit, KeytabRecord, record_bytes, FitsRecord, entries_of, IsReached, IsKeytab, IsFaultOf}
+use Rattle.krb_name.specs.File.{file_limit, IsGiven}
+use Rattle.krb_keytab.specs.Format.{version, KeytabRecord, record_bytes, FitsRecord, entries_of, IsReached, IsKeytab, IsFaultOf}
 use Rattle.krb_keytab.specs.Inner.Entry.{entry_at}
-use Rattle.krb_keytab.specs.Source.{IsGiven}
 use Rattle.krb_keytab.specs.Items.{LacksRecord, LacksVersion, IsPartOfRecord, HasMet, StandsTo, passed, stage_after, entries_after, GivesMore}
 use Rattle.krb_keytab.specs.declared.fault.KeytabFault.{KeytabFault}
 use Rattle.krb_keytab.specs.declared.fault.KeytabFault.TheVariants.{Version, Truncated, TooLong, Read, OutOfMemory}

@@ -2,9 +2,8 @@ use Rattle.std.proofs.Common.{◌≡◌, ◌≤◌, ◌-◌, Option, List, ℕ, 
 use Rattle.std.specs.Prelude.{All}
 use Rattle.krb_name.specs.declared.principal.Principal.{Principal}
 use Rattle.krb_ccache.specs.declared.credential.HeaderField.{HeaderField}
-use Rattle.krb_ccache.specs.Format.{file_limit}
+use Rattle.krb_name.specs.File.{file_limit, LeavesTail}
 use Rattle.krb_ccache.specs.Reader.{HasTaken}
-use Rattle.krb_ccache.specs.Source.{LeavesTail}
 use Rattle.krb_ccache.specs.Value.{cache_of, FitsCredential}
 use Rattle.krb_ccache.proofs.stepping.steps.Given as goal
 

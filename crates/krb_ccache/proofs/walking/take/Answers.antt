@@ -1,5 +1,5 @@
 use Rattle.std.proofs.Common.{arith, ◌<◌, ◌-◌}
-use Rattle.krb_ccache.specs.Format.{file_limit}
+use Rattle.krb_name.specs.File.{file_limit}
 use Rattle.krb_ccache.proofs.WalkLaws.{nothing_comes}
 use Rattle.krb_ccache.proofs.walking.take.Goals as goal
 

@@ -1,5 +1,5 @@
 use Rattle.std.proofs.Common.{◌≡◌, ◌-◌, ◌≤◌}
-use Rattle.krb_keytab.specs.Format.{file_limit}
+use Rattle.krb_name.specs.File.{file_limit}
 use Rattle.krb_keytab.specs.Inner.Meeting.{PassesHoles}
 use Rattle.krb_keytab.proofs.step.pass_entry.Given as goal
 

@@ -2,7 +2,7 @@ use Rattle.std.proofs.Common.{◌∙◌, add-zero, Option, Ok, subst}
 use Rattle.std.proofs.lemmas.Result.{err_from_is_err_and}
 use Rattle.krb_keytab.specs.Entry.{KeytabEntry}
 use Rattle.krb_keytab.specs.Inner.Meeting.{MeetsNext}
-use Rattle.krb_keytab.proofs.CollectLaws.{entry_taken, end_taken, next_faulty}
+use Rattle.krb_keytab.proofs.CollectLaws.{entry_taken, end_taken, next_faulty, tail_taken}
 use Rattle.krb_keytab.proofs.step.read_entries.Goals as goal
 
 pub returns-in_err-entry-clause-fault : goal.returns-in_err-entry-clause-fault
@@ -30,3 +30,12 @@ returns-clause-found g c =
     let to = g.S.Source.remaining c.read_entry.new.window.source in
     let meets = subst (λ (next : Option KeytabEntry). MeetsNext mid to c.loop-entries.window c.read_entry.new.window (Ok next)) c.in_default.is c.in_ok-entry.ensures.meets in
     end_taken from mid to c.loop-entries.window c.read_entry.new.window c.loop-entries.entries.items c.loop-entries.invariant.taken c.loop-entries.invariant.limit meets
+
+pub returns-clause-tail : goal.returns-clause-tail
+returns-clause-tail g c = tail_taken _ _ _ _ _ c.loop-entries.entries.items _ c.loop-entries.invariant.taken c.in_ok-entry.ensures.meets
+
+pub returns-in_err-entry-clause-tail : goal.returns-in_err-entry-clause-tail
+returns-in_err-entry-clause-tail g c = tail_taken _ _ _ _ _ c.loop-entries.entries.items _ c.loop-entries.invariant.taken c.in_err-entry.ensures.meets
+
+pub returns-in_err-push-clause-tail : goal.returns-in_err-push-clause-tail
+returns-in_err-push-clause-tail g c = tail_taken _ _ _ _ _ c.loop-entries.entries.items _ c.loop-entries.invariant.taken c.in_ok-entry.ensures.meets

@@ -2,7 +2,7 @@ use Rattle.std.proofs.Common.{◌≡◌, ℕ, ◌+◌, ◌<◌, ◌≤◌, List,
 use Rattle.std.proofs.KnownBytes.{Consumes-trans}
 use Rattle.std.proofs.lemmas.List.{length-append}
 use Rattle.std.specs.Int.{w32, to_be_bytes}
-use Rattle.krb_keytab.specs.Format.{file_limit}
+use Rattle.krb_name.specs.File.{file_limit}
 use Rattle.krb_keytab.specs.Inner.Meeting.{IsFewAt, MeetsSize}
 use Rattle.krb_keytab.proofs.MeetLaws.{ran, few_ran, peaks_at, fills_within}
 use Rattle.krb_keytab.proofs.step.read_size.Goals as goal

@@ -1,5 +1,5 @@
 use Rattle.std.proofs.Common.{◌≡◌, ◌-◌, ◌≤◌, List, [], ℕ, Option, None}
-use Rattle.krb_ccache.specs.Format.{file_limit}
+use Rattle.krb_name.specs.File.{file_limit}
 use Rattle.krb_ccache.specs.Reader.{HasRead}
 use Rattle.krb_ccache.specs.Value.{cache_of}
 use Rattle.krbtool.specs.Inner.Counting.{CredentialsCounted}

@@ -1,5 +1,5 @@
 use Rattle.std.proofs.Common.{◌≡◌, ◌-◌, ◌≤◌, Option, None}
-use Rattle.krb_keytab.specs.Format.{file_limit}
+use Rattle.krb_name.specs.File.{file_limit}
 use Rattle.krb_keytab.specs.Items.{last_answer}
 use Rattle.krbtool.specs.Inner.Counting.{EntriesCounted}
 use Rattle.krbtool.proofs.count.count_entries.Given as goal

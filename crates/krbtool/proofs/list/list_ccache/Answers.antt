@@ -9,8 +9,8 @@ pub returns-in_err-cache-clause-faulty : goal.returns-in_err-cache-clause-faulty
 returns-in_err-cache-clause-faulty g c =
     let p = err_from_is_err_and c.from_residual.result c.from_residual.ensures.1 in
     λ bytes fault tells is. passed_on Cache OutOfMemory Read c.read.result c.from_residual.result c.in_err-cache.field-0.0 fault
-    c.in_err-cache.was (p.1 ∙ ap (λ e. Err e) p.2) (c.read.ensures.only bytes (Err fault) tells is)
+    c.in_err-cache.was (p.1 ∙ ap (λ e. Err e) p.2) (c.read.ensures.reads.only bytes (Err fault) tells is)
 
 pub returns-clause-faulty : goal.returns-clause-faulty
 returns-clause-faulty g c = λ bytes fault tells is.
-    absurd (none_met OutOfMemory Read c.read.result c.in_ok-cache.cache fault c.in_ok-cache.was (c.read.ensures.only bytes (Err fault) tells is))
+    absurd (none_met OutOfMemory Read c.read.result c.in_ok-cache.cache fault c.in_ok-cache.was (c.read.ensures.reads.only bytes (Err fault) tells is))

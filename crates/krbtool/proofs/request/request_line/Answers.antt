@@ -15,27 +15,27 @@ pub returns-in_err-cache-clause-faulty : goal.returns-in_err-cache-clause-faulty
 returns-in_err-cache-clause-faulty g c =
     let p = err_from_is_err_and c.from_residual.result c.from_residual.ensures.1 in
     λ bytes fault tells is. passed_on OfCache OutOfMemory Read c.read.result c.from_residual.result c.in_err-cache.field-0.0 fault
-    c.in_err-cache.was (p.1 ∙ ap (λ e. Err e) p.2) (c.read.ensures.only bytes (Err fault) tells is)
+    c.in_err-cache.was (p.1 ∙ ap (λ e. Err e) p.2) (c.read.ensures.reads.only bytes (Err fault) tells is)
 
 pub returns-clause-requested : goal.returns-clause-requested
 returns-clause-requested g c =
     ok_of_file c.write_request.result IsCache (g.S.Source.remaining c.args.source.now) c.in_ok-cache.cache
     (λ (cache : Cache). (bytes : List ℕ) × (IsRequested cache c.args.service.now c.args.at c.args.confounder.now c.args.wants_reply bytes
     × Appends (g.T.Sink.taken c.args.sink.now) (g.T.Sink.taken c.write_request.new.sink) (request_line bytes)))
-    c.in_ok-cache.ensures.found c.write_request.ensures.requested
+    c.in_ok-cache.ensures.reads.found c.write_request.ensures.requested
 
 pub returns-clause-faulty : goal.returns-clause-faulty
 returns-clause-faulty g c = λ bytes fault tells is.
-    absurd (none_met OutOfMemory Read c.read.result c.in_ok-cache.cache fault c.in_ok-cache.was (c.read.ensures.only bytes (Err fault) tells is))
+    absurd (none_met OutOfMemory Read c.read.result c.in_ok-cache.cache fault c.in_ok-cache.was (c.read.ensures.reads.only bytes (Err fault) tells is))
 
 pub returns-clause-begun : goal.returns-clause-begun
 returns-clause-begun g c = λ which.
     of_file IsCache (g.S.Source.remaining c.args.source.now) c.in_ok-cache.cache
     (λ (cache : Cache). (bytes : List ℕ) × (IsRequested cache c.args.service.now c.args.at c.args.confounder.now c.args.wants_reply bytes
     × AppendsBeginning (g.T.Sink.taken c.args.sink.now) (g.T.Sink.taken c.write_request.new.sink) (request_line bytes)))
-    c.in_ok-cache.ensures.found (c.write_request.ensures.begun which)
+    c.in_ok-cache.ensures.reads.found (c.write_request.ensures.begun which)
 
 pub returns-clause-none : goal.returns-clause-none
 returns-clause-none g c = λ bytes cache fault tells is prevents.
-    let same = value_met OutOfMemory Read c.read.result c.in_ok-cache.cache cache c.in_ok-cache.was (c.read.ensures.only bytes (Ok cache) tells is) in
+    let same = value_met OutOfMemory Read c.read.result c.in_ok-cache.cache cache c.in_ok-cache.was (c.read.ensures.reads.only bytes (Ok cache) tells is) in
     c.write_request.ensures.none fault (rw same prevents)

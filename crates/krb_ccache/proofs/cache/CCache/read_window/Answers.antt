@@ -1,7 +1,5 @@
-use Rattle.krb_ccache.proofs.SourceLaws.{tail_then}
+use Rattle.krb_ccache.proofs.SourceLaws.{reads_whole}
 use Rattle.krb_ccache.proofs.cache.CCache.read_window.Goals as goal
 
-pub returns-in_err-credentials-clause-tail : goal.returns-in_err-credentials-clause-tail
-returns-in_err-credentials-clause-tail g c =
-    let left = g.S.Source.remaining in
-    tail_then (left c.args.window.now.source) (left c.begin.new.window.source) (left c.steps.new.window.source) c.in_ok-header.ensures.tail c.in_err-credentials.ensures.tail
+pub returns-clause-reads : goal.returns-clause-reads
+returns-clause-reads g c = reads_whole (g.S.Source.remaining c.args.window.now.source) (g.S.Source.remaining c.read_parts.new.window.source) c.read_parts.result c.read_parts.ensures.found c.read_parts.ensures.fault c.read_parts.ensures.tail

@@ -1,5 +1,6 @@
 use Rattle.std.proofs.Common.{◌≤◌, length, ap, arith}
-use Rattle.krb_ccache.specs.Format.{file_limit, written}
+use Rattle.krb_name.specs.File.{file_limit}
+use Rattle.krb_ccache.specs.Format.{written}
 use Rattle.krb_ccache.proofs.LayoutLaws.{cache_is}
 use Rattle.krb_ccache.proofs.cache.CCache.to_bytes.Goals as goal
 

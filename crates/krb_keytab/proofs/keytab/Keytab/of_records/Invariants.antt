@@ -1,6 +1,7 @@
 use Rattle.std.proofs.Common.{◌≤◌, length}
 use Rattle.krb_name.specs.Field.{IsBytes}
-use Rattle.krb_keytab.specs.Format.{file_limit, IsReached}
+use Rattle.krb_name.specs.File.{file_limit}
+use Rattle.krb_keytab.specs.Format.{IsReached}
 use Rattle.krb_keytab.proofs.keytab.Keytab.of_records.Given as goal
 
 abbrev pub invariant-loop-entries : goal.invariant-loop-entries
