@@ -22,3 +22,4 @@ pub mod ToldLaws
 pub mod OneEnd
 pub mod CollectLaws
 pub mod OneReader
+pub mod OnePlace

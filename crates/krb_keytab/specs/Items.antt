@@ -60,7 +60,7 @@ pub record Concludes (left : Option (List ℕ)) (bytes : List ℕ) (entries : Li
 abbrev pub AreFirst : List ℕ → List KeytabEntry → Type 0
 AreFirst bytes entries = (entries ≡ []) ⊎ ((at : ℕ) × (behind : List ℕ) × IsReached bytes at entries behind)
 
--- whole records, the last of which is that of the last entry: nothing lies behind it, and there was room at hand for its bytes behind the size
+-- the bytes end with the record of the last of the entries, and as many were at hand at once as it has behind its size
 pub record EndsWithEntry (held : ℕ) (bytes : List ℕ) (entries : List KeytabEntry) : Type 0 where
   pub before : List ℕ
   pub earlier : List KeytabEntry

@@ -13,7 +13,7 @@ ghost use Rattle.krb_keytab.specs.Items.{StandsTo};
 ghost use Rattle.krb_keytab.specs.Pick.{Choice, IsChoice};
 ghost use Rattle.krb_keytab.specs.declared.fault.KeytabFault.{KeytabFault};
 ghost use Rattle.krb_keytab.specs.declared.stage.Stage.{Stage};
-ghost use Rattle.krb_keytab.specs.declared.stage.Stage.TheVariants.{End, Failed};
+ghost use Rattle.krb_keytab.specs.declared.stage.Stage.TheVariants.{End, Failed, Records};
 
 /// Says that bytes are a keytab or have a fault; and that they are a keytab of one list of entries
 /// only, or have one fault only, and not both.
@@ -78,6 +78,16 @@ pub fn a_reader_gives_the_first_entries()
         (all entries : List KeytabEntry) → Consumes (Some whole) left bytes
         → StandsTo left held stage bytes entries → IsKeytab whole all
         → (others : List KeytabEntry) × (all ≡ entries ++ others) }
+{}
+
+/// Says that two readers of one file that stand behind an entry, and have met as many in all, met the same
+/// ones, and their sources gave the same bytes: those up to the end of this entry's record.
+pub fn each_entry_ends_at_one_place()
+    ensures { (whole bytes others : List ℕ) (left right : Option (List ℕ)) (held peak : ℕ)
+        (entries more : List KeytabEntry)
+        → Consumes (Some whole) left bytes → StandsTo left held Records bytes entries
+        → Consumes (Some whole) right others → StandsTo right peak Records others more
+        → length entries ≡ length more → (bytes ≡ others) × (entries ≡ more) }
 {}
 
 /// Says that two readers of one file gave the same entries before a fault of the content.

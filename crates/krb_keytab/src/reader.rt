@@ -146,8 +146,9 @@ impl<S: Source> EntryReader<S> {
     /// Reads on to the next entry as `next` does, and answers whether there is one; the entry isn't
     /// made, and no memory is taken but for the bytes of its record.
     ///
-    /// Behind an entry, at the end and at a fault the reader stands as after `next`: the source has given
-    /// the same bytes, and as many were at hand. The two calls can be mixed.
+    /// Behind an entry, at the end and at a fault the reader stands as after `next`: behind an entry the
+    /// source has given exactly the bytes up to the end of its record, and those behind the record's size
+    /// were at hand together. The two calls can be mixed.
     ///
     /// Condition: fewer than 18,446,744,073,709,551,615 reads of the source have failed so far.
     ///

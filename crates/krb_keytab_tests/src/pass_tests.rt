@@ -91,8 +91,7 @@ fn left(reader: EntryReader<SliceSource<'_>>) -> Result<usize, SourceFailed> {
     reader.into_source().read(&mut bytes)
 }
 
-// Looks for an entry that is answered behind the holes that follow it, and for a peak that doesn't know
-// its record, or that sinks with a shorter one.
+// Looks for an entry that is answered behind the holes that follow it, and for a peak that holes change.
 #[test]
 fn holes_behind_an_entry_are_left(rt: HostRuntime) -> Result<(), Fail> {
     let alloc = rt.alloc();

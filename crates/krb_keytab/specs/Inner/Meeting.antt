@@ -91,7 +91,7 @@ MeetsLast left at piece (Some Read) = ⊤
 MeetsLast left at piece (Some OutOfMemory) = ⊤
 MeetsLast left at piece last = IsLastAt left at piece last
 
--- a record that begins there; the bytes of an entry, behind its size, are at hand, and the peak is no lower than these
+-- a record that begins there; the bytes of an entry, behind its size, are at hand, and the peak counts them
 abbrev pub Meets : Option (List ℕ) → ℕ → List ℕ → ℕ → List ℕ → Result Found KeytabFault → Type 0
 Meets left at piece peak at_hand (Ok End) = MeetsLast left at piece None
 Meets left at piece peak at_hand (Ok Hole) = IsWhole at piece []
