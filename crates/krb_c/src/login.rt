@@ -30,7 +30,7 @@ pub struct Login {
 
 impl Login {
     /// Decides a request, and keeps what is accepted, or why it is refused. The service's name is copied first: where there is no room for
-    /// it, nothing has changed.
+    /// it, the service has seen nothing.
     pub(crate) fn decide(&mut self, alloc: Global, bytes: &[u8], now: Moment) -> Answer
         ensures { Decides self.old self.new (arrival bytes.now now) result }
     {
