@@ -37,9 +37,10 @@ class Span(ctypes.Structure):
 
 
 class Known(ctypes.Structure):
-    _fields_ = [("client", Span), ("session_key", Span), ("subkey", Span), ("authtime", c_int64), ("endtime", c_int64),
-                ("ctime", c_int64), ("cusec", c_uint32), ("flags", c_uint32), ("seq", c_uint32), ("name_type", c_int32),
-                ("session_type", c_int32), ("subkey_type", c_int32), ("has_subkey", c_bool), ("has_seq", c_bool), ("wants_reply", c_bool)]
+    _fields_ = [("client", Span), ("session_key", Span), ("subkey", Span), ("service", Span), ("authtime", c_int64),
+                ("endtime", c_int64), ("ctime", c_int64), ("cusec", c_uint32), ("flags", c_uint32), ("seq", c_uint32),
+                ("name_type", c_int32), ("service_type", c_int32), ("session_type", c_int32), ("subkey_type", c_int32),
+                ("has_subkey", c_bool), ("has_seq", c_bool), ("wants_reply", c_bool)]
 
 
 class Choice(ctypes.Structure):
@@ -101,11 +102,12 @@ class Acceptor:
             raise Refused(answer)
 
     def accept(self, request, seconds, micros=0):
-        """The client as text, the session key, the client's subkey, and the numbers."""
+        """The client and the service as text, the session key, the client's subkey, and the numbers."""
         self.done(self.lib.fevstunik_acceptor_accept(byref(self.handle), request, len(request), byref(Time(seconds, micros))))
         known = Known()
         data = filled(lambda buffer, room: self.lib.fevstunik_acceptor_accepted(byref(self.handle), byref(known), buffer, room))
-        return known.client.of(data).decode(), known.session_key.of(data), known.subkey.of(data), known
+        client, service = known.client.of(data).decode(), known.service.of(data).decode()
+        return client, service, known.session_key.of(data), known.subkey.of(data), known
 
     def reply(self, confounder):
         """The reply to what was accepted last."""
@@ -121,7 +123,7 @@ class Acceptor:
 
 def answered(service, request, seconds, micros):
     try:
-        client, _, _, known = service.accept(request, seconds, micros)
+        client, _, _, _, known = service.accept(request, seconds, micros)
     except Refused as refused:
         return f"refused {refused.code} {refused.kerberos}"
     return f"accepted {client} {service.reply(os.urandom(16)).hex() if known.wants_reply else '-'}"

@@ -130,6 +130,7 @@ typedef struct fevstunik_known {
     fevstunik_span client;      /* the client as text, as alice@EX; no zero byte ends it */
     fevstunik_span session_key; /* the key that client and service share: 16 or 32 bytes */
     fevstunik_span subkey;      /* the key that the client chose, if it did; of any length */
+    fevstunik_span service;     /* the service that was asked for, as text, as host/web@EX */
     int64_t authtime;           /* when the client was authenticated, in seconds */
     int64_t endtime;            /* until when the ticket is valid, in seconds */
     int64_t ctime;              /* the client's time, in seconds */
@@ -137,6 +138,7 @@ typedef struct fevstunik_known {
     uint32_t flags;             /* the ticket's flags; bit 0 of RFC 4120 is the most significant */
     uint32_t seq;               /* the client's first sequence number, or 0 */
     int32_t name_type;          /* the type of the client's name */
+    int32_t service_type;       /* the type of the service's name, as the ticket has it */
     int32_t session_type;       /* the encryption type of the session key: 19 or 20 */
     int32_t subkey_type;        /* the encryption type of the client's subkey, or 0; any type */
     bool has_subkey;            /* whether the client chose a subkey */
@@ -345,11 +347,12 @@ fevstunik_answer fevstunik_acceptor_new(fevstunik_acceptor *handle, const uint8_
 fevstunik_answer fevstunik_acceptor_accept(fevstunik_acceptor *handle, const uint8_t *request, size_t request_size,
                                            const fevstunik_time *now);
 
-/* Tells what the last call of fevstunik_acceptor_accept accepted: in the buffer the client's text, the session key and the client's
- * subkey, one after another, and in `known` where they stand, and the numbers. `known` is written also where the buffer is too short.
+/* Tells what the last call of fevstunik_acceptor_accept accepted: in the buffer the client's text, the session key, the client's subkey
+ * and the service's text, one after another, and in `known` where they stand, and the numbers. `known` is written also where the buffer
+ * is too short.
  *
- * The ticket's addresses were compared with nothing; they, authorization data and the checksum aren't told, nor which service's name
- * was asked for.
+ * `service`, `client`, `ctime` and `cusec` are what the request is remembered by (the types of names don't count). The ticket's addresses
+ * were compared with nothing; they, authorization data and the checksum aren't told.
  *
  * FEVSTUNIK_EMPTY_HANDLE, FEVSTUNIK_NOTHING_THERE and FEVSTUNIK_OUT_OF_MEMORY, and nothing is written; FEVSTUNIK_OK;
  * FEVSTUNIK_SHORT_BUFFER.

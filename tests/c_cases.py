@@ -17,10 +17,10 @@ def replaced(data, old, new):
     return data.replace(old, new)
 
 
-def ticket(part=None, etype=19, kvno=3, service=(b"host", b"web")):
+def ticket(part=None, etype=19, kvno=3, service=(b"host", b"web"), name_type=3):
     cipher = der.sealed(19, der.SERVICE_KEY, 2, bytes(range(0x10, 0x20)), part or der.ticket_part())
     return der.element(0x61, der.sequence(
-        der.field(0, der.integer(5)), der.field(1, der.string(b"EX")), der.field(2, der.name(3, *service)),
+        der.field(0, der.integer(5)), der.field(1, der.string(b"EX")), der.field(2, der.name(name_type, *service)),
         der.field(3, der.encrypted(etype, cipher, kvno)),
     ))
 
@@ -42,6 +42,11 @@ def request(of, authenticator=None):
         der.field(0, der.integer(5)), der.field(1, der.integer(14)), der.field(2, der.element(3, bytes(5))),
         der.field(3, of), der.field(4, der.encrypted(19, cipher)),
     ))
+
+
+def for_another_service():
+    """A request to a service of one part, in which there is a slash, under a name of another type."""
+    return request(ticket(service=(b"a/b",), name_type=1))
 
 
 def refused():

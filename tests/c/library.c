@@ -1,6 +1,6 @@
 /* Runs the library on the exchange that tests share (tests/vectors/fixture.py), with exact answers. The arguments are the files of the
- * keytab and of the cache, and in hex the request, the request with a subkey, the reply, the reply with a subkey, the error, and a cache of
- * two credentials with an offset (tests/c_cases.py). */
+ * keytab and of the cache, and in hex the request, the request with a subkey, the reply, the reply with a subkey, the error, a cache of
+ * two credentials with an offset, and a request for another service (tests/c_cases.py). */
 #include "checks.h"
 
 /* Where the credential begins in the cache: behind the version, an empty header and the default principal. */
@@ -8,7 +8,7 @@
 /* How many entries the keytab has. */
 #define ENTRIES 1
 
-static struct bytes keytab, cache, request, keyed, reply, keyed_reply, error, two;
+static struct bytes keytab, cache, request, keyed, reply, keyed_reply, error, two, other;
 static uint8_t buffer[4096];
 static const fevstunik_choice nothing = {0, 0, false, false};
 
@@ -59,10 +59,10 @@ static void is_accepted(fevstunik_acceptor *service)
     is("latest second", latest.seconds, 1700000101);
     is("latest micros", latest.micros, 7);
     memset(buffer, 0xaa, sizeof buffer);
-    is_answer("short", fevstunik_acceptor_accepted(service, &known, buffer, 23), FEVSTUNIK_SHORT_BUFFER, 0, 0, 24);
+    is_answer("short", fevstunik_acceptor_accepted(service, &known, buffer, 34), FEVSTUNIK_SHORT_BUFFER, 0, 0, 35);
     is("not written", buffer[0], 0xaa);
-    is_answer("told", fevstunik_acceptor_accepted(service, &known, buffer, 24), FEVSTUNIK_OK, 0, 0, 24);
-    is("behind", buffer[24], 0xaa);
+    is_answer("told", fevstunik_acceptor_accepted(service, &known, buffer, 35), FEVSTUNIK_OK, 0, 0, 35);
+    is("behind", buffer[35], 0xaa);
     is("client at", (long long)known.client.at, 0);
     is("client size", (long long)known.client.size, 8);
     is_bytes("client", buffer, "alice@EX", 8);
@@ -71,10 +71,14 @@ static void is_accepted(fevstunik_acceptor *service)
     is_bytes("key", buffer + 8, session_key, 16);
     is("subkey at", (long long)known.subkey.at, 24);
     is("subkey size", (long long)known.subkey.size, 0);
+    is("service at", (long long)known.service.at, 24);
+    is("service size", (long long)known.service.size, 11);
+    is_bytes("service", buffer + 24, "host/web@EX", 11);
     is("endtime", known.endtime, 1700036000);
     is("ctime", known.ctime, 1700000100);
     is("cusec", known.cusec, 5);
     is("name type", known.name_type, 1);
+    is("service type", known.service_type, 3);
     is("session type", known.session_type, 19);
     is("subkey type", known.subkey_type, 0);
     is("has subkey", known.has_subkey, 0);
@@ -360,16 +364,42 @@ static void is_keyed(void)
 
     is_answer("new", fevstunik_acceptor_new(&service, keytab.at, keytab.size, 0), FEVSTUNIK_OK, 0, 0, 0);
     is_answer("keyed", fevstunik_acceptor_accept(&service, keyed.at, keyed.size, &now), FEVSTUNIK_OK, 0, 0, 0);
-    is_answer("told", fevstunik_acceptor_accepted(&service, &known, buffer, sizeof buffer), FEVSTUNIK_OK, 0, 0, 56);
+    is_answer("told", fevstunik_acceptor_accepted(&service, &known, buffer, sizeof buffer), FEVSTUNIK_OK, 0, 0, 67);
     is("type", known.subkey_type, 20);
     is("there", known.has_subkey, 1);
     is("at", (long long)known.subkey.at, 24);
     is("size", (long long)known.subkey.size, 32);
     for (i = 0; i < 32; i++)
         is("byte", buffer[24 + i], (long long)(0x20 + i));
+    is("service at", (long long)known.service.at, 56);
+    is("service size", (long long)known.service.size, 11);
+    is_bytes("service", buffer + 56, "host/web@EX", 11);
     is("number", known.seq, 4294967295);
     is("numbered", known.has_seq, 1);
     is("wants reply", known.wants_reply, 1);
+    fevstunik_acceptor_free(&service);
+}
+
+/* The service is told as the ticket names it: one that the keytab has beside the fixture's, of another name type, and with a slash in a part. */
+static void another_service(void)
+{
+    fevstunik_acceptor service = {0};
+    fevstunik_time now = moment(1700000100, 5);
+    fevstunik_answer both = added(&keytab, "a\\/b@EX", keytab.at + keytab.size - 20, 16, sizeof buffer);
+    fevstunik_known known;
+
+    is("two keys", both.code, FEVSTUNIK_OK);
+    is_answer("new", fevstunik_acceptor_new(&service, buffer, both.size, 300), FEVSTUNIK_OK, 0, 0, 0);
+    is_answer("accept", fevstunik_acceptor_accept(&service, other.at, other.size, &now), FEVSTUNIK_OK, 0, 0, 0);
+    is_answer("told", fevstunik_acceptor_accepted(&service, &known, buffer, sizeof buffer), FEVSTUNIK_OK, 0, 0, 31);
+    is("at", (long long)known.service.at, 24);
+    is("size", (long long)known.service.size, 7);
+    is_bytes("service", buffer + 24, "a\\/b@EX", 7);
+    is("type", known.service_type, 1);
+    is_answer("the fixture's", fevstunik_acceptor_accept(&service, request.at, request.size, &now), FEVSTUNIK_OK, 0, 0, 0);
+    is_answer("told then", fevstunik_acceptor_accepted(&service, &known, buffer, sizeof buffer), FEVSTUNIK_OK, 0, 0, 35);
+    is_bytes("its service", buffer + known.service.at, "host/web@EX", 11);
+    is("its type", known.service_type, 3);
     fevstunik_acceptor_free(&service);
 }
 
@@ -589,7 +619,7 @@ int main(int count, char **words)
 {
     fevstunik_acceptor service = {0};
 
-    if (count != 9)
+    if (count != 10)
         return 2;
     from_file(&keytab, words[1]);
     from_file(&cache, words[2]);
@@ -599,6 +629,7 @@ int main(int count, char **words)
     from_hex(&keyed_reply, words[6]);
     from_hex(&error, words[7]);
     from_hex(&two, words[8]);
+    from_hex(&other, words[9]);
     empty_handles();
     is_answer("new", fevstunik_acceptor_new(&service, keytab.at, keytab.size, 300), FEVSTUNIK_OK, 0, 0, 0);
     faulty_keytabs(&service);
@@ -611,6 +642,7 @@ int main(int count, char **words)
     fevstunik_acceptor_free(&service);
     is("freed", service.opaque == NULL, 1);
     is_keyed();
+    another_service();
     errors();
     names();
     files();

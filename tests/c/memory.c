@@ -4,6 +4,10 @@
  * that begins with `wrong` is one. */
 #include "checks.h"
 
+/* Where the request has its options, and the encryption type of its ticket. */
+#define OPTIONS_AT 23
+#define ETYPE_AT 81
+
 void *__real_malloc(size_t size);
 void *__real_realloc(void *at, size_t size);
 void __real_free(void *at);
@@ -155,6 +159,15 @@ static fevstunik_answer naming(void)
     return fevstunik_name_check(service_name, 11);
 }
 
+/* The latest moment, or a second that no service here is told. */
+static fevstunik_time latest(void)
+{
+    fevstunik_time at = moment(-1, 0);
+
+    (void)fevstunik_acceptor_latest(&service, &at);
+    return at;
+}
+
 static void is_at(const char *what, long at, long long found, long long wanted)
 {
     char name[80];
@@ -169,6 +182,7 @@ static void is_told(const char *what, fevstunik_answer (*call)(void))
     long at, before = held;
     size_t count = fevstunik_acceptor_count(&service), i;
     void *opaque = service.opaque;
+    fevstunik_time moment_before = latest();
     fevstunik_answer answer;
 
     for (at = 0; at < 1000; at++) {
@@ -182,6 +196,8 @@ static void is_told(const char *what, fevstunik_answer (*call)(void))
         is_at("pieces held", at, held, before);
         is_at("the handle", at, service.opaque == opaque, 1);
         is_at("what is remembered", at, (long long)fevstunik_acceptor_count(&service), (long long)count);
+        is_at("the latest second", at, latest().seconds, moment_before.seconds);
+        is_at("the latest microsecond", at, latest().micros, moment_before.micros);
         for (i = 0; i < sizeof buffer && buffer[i] == 0xa5; i++)
             ;
         is_at("the buffer", at, (long long)i, sizeof buffer);
@@ -202,6 +218,25 @@ static void without_a_code(void)
     is_at("none accepted", 0, telling().code, FEVSTUNIK_NOTHING_THERE);
     is_at("accept then", 0, accepting().code, FEVSTUNIK_OK);
     is_at("nothing refused", 0, refusing().code, FEVSTUNIK_NOTHING_THERE);
+    fevstunik_acceptor_free(&service);
+}
+
+/* What isn't a request of the ordinary kind is refused without memory: not even the service's name is copied. */
+static void refusals_without_memory(void)
+{
+    is_at("new", 2, making().code, FEVSTUNIK_OK);
+    left = 0;
+    is_at("another message", 0, fevstunik_acceptor_accept(&service, reply.at, reply.size, &now).code, FEVSTUNIK_MESSAGE_TYPE);
+    is_at("half a request", 0, fevstunik_acceptor_accept(&service, request.at, request.size / 2, &now).code, FEVSTUNIK_MALFORMED);
+    request.at[OPTIONS_AT] ^= 0x40;
+    is_at("user to user", 0, accepting().code, FEVSTUNIK_USER_TO_USER);
+    request.at[OPTIONS_AT] ^= 0x40;
+    request.at[ETYPE_AT] ^= 1;
+    is_at("another type", 0, accepting().code, FEVSTUNIK_TICKET_ETYPE);
+    request.at[ETYPE_AT] ^= 1;
+    is_at("none was asked for", 1, left, 0);
+    is_at("accept", 2, accepting().code, FEVSTUNIK_OUT_OF_MEMORY);
+    is_at("accept then", 2, accepting().code, FEVSTUNIK_OK);
     fevstunik_acceptor_free(&service);
 }
 
@@ -268,6 +303,7 @@ int main(int count, char **words)
     is_told("keytab write", writing);
     is_told("name check", naming);
     without_a_code();
+    refusals_without_memory();
     faults_without_memory();
     is_at("freed", 1, held, 0);
     printf("%d passed, %d failed\n", passed, failed);

@@ -2,3 +2,5 @@ mod Values
 mod Handles
 mod Making
 mod Requests
+mod Truth
+mod Asked

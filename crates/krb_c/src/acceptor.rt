@@ -124,8 +124,9 @@ fn clear(handle: &mut Handle, alloc: Global)
     }
 }
 
-/// Tells what the last call of `fevstunik_acceptor_accept` accepted: in the buffer the client's text, the session key and the client's
-/// subkey, and in `known` where they stand, and the numbers. The places are told also where the buffer is too short.
+/// Tells what the last call of `fevstunik_acceptor_accept` accepted: in the buffer the client's text, the session key, the client's
+/// subkey and the text of the service that was asked for, and in `known` where they stand, and the numbers. The places are told also
+/// where the buffer is too short.
 #[unsafe(no_mangle)]
 pub extern "C" fn fevstunik_acceptor_accepted(
     handle: &mut Handle,

@@ -4,10 +4,10 @@ ghost use Rattle.std.specs.Prelude.{◌≡◌, SomeIff};
 ghost use Rattle.krb_msg.specs.Moments.{micros_of};
 ghost use Rattle.krb_ap.specs.Causes.{place};
 ghost use Rattle.krb_c.specs.Accepting.{IsMomentOf};
-ghost use Rattle.krb_c.specs.Answer.{Hands, keytab_answer, plain, placed, refused, sized, told};
+ghost use Rattle.krb_c.specs.Answer.{Hands, keytab_answer, plain, placed, refused, sized};
 
 use crate::code;
-use krb_ap::{Accepted, Refusal};
+use krb_ap::Refusal;
 use krb_keytab::KeytabFault;
 use krb_msg::Moment;
 
@@ -85,15 +85,6 @@ impl Answer {
             kerberos: refusal.code().unwrap_or(0),
             at,
             size: 0,
-        }
-    }
-
-    pub(crate) fn told(outcome: &Result<Accepted, Refusal>) -> Answer
-        ensures { result ≡ told outcome.now }
-    {
-        match outcome {
-            Ok(_) => Answer::plain(code::OK),
-            Err(refusal) => Answer::refused(refusal),
         }
     }
 

@@ -3,7 +3,7 @@
 ghost use Rattle.std.specs.Prelude.{◌≡◌, ◌++◌, IfOk, length};
 ghost use Rattle.krb_c.specs.Known.{is_there, key_bytes, key_type, known_of, number_or_zero, told_bytes};
 
-use krb_ap::Accepted;
+use crate::admitted::Admitted;
 use krb_msg::RawKey;
 use std::alloc::{AllocError, Global};
 
@@ -27,6 +27,8 @@ pub struct Known {
     pub session_key: Span,
     /// The key that the client chose, if it did.
     pub subkey: Span,
+    /// The service that was asked for, as text.
+    pub service: Span,
     /// When the client was authenticated, in seconds.
     pub authtime: i64,
     /// Until when the ticket is valid, in seconds.
@@ -41,6 +43,8 @@ pub struct Known {
     pub seq: u32,
     /// The type of the client's name.
     pub name_type: i32,
+    /// The type of the service's name.
+    pub service_type: i32,
     /// The encryption type of the session key.
     pub session_type: i32,
     /// The encryption type of the client's subkey, if it chose one.
@@ -54,10 +58,11 @@ pub struct Known {
 }
 
 /// The bytes that are told, and where each part stands.
-pub(crate) fn tell(alloc: Global, accepted: &Accepted) -> Result<(Vec<u8>, Known), AllocError>
-    ensures bytes { IfOk result (λ made. made.0.items ≡ told_bytes accepted.now) }
-    ensures known { IfOk result (λ made. made.1 ≡ known_of accepted.now) }
+pub(crate) fn tell(alloc: Global, admitted: &Admitted) -> Result<(Vec<u8>, Known), AllocError>
+    ensures bytes { IfOk result (λ made. made.0.items ≡ told_bytes admitted.now) }
+    ensures known { IfOk result (λ made. made.1 ≡ known_of admitted.now) }
 {
+    let accepted = &admitted.accepted;
     let text = accepted.client.to_text(alloc)?;
     let mut bytes = Vec::from_slice(alloc, text.as_bytes())?;
     let client = Span {
@@ -66,10 +71,13 @@ pub(crate) fn tell(alloc: Global, accepted: &Accepted) -> Result<(Vec<u8>, Known
     };
     let session_key = append(&mut bytes, accepted.session_key.bytes())?;
     let subkey = append(&mut bytes, bytes_of(&accepted.subkey))?;
+    let text = admitted.service.to_text(alloc)?;
+    let service = append(&mut bytes, text.as_bytes())?;
     let known = Known {
         client,
         session_key,
         subkey,
+        service,
         authtime: accepted.authtime.get(),
         endtime: accepted.endtime.get(),
         ctime: accepted.ctime.get(),
@@ -77,6 +85,7 @@ pub(crate) fn tell(alloc: Global, accepted: &Accepted) -> Result<(Vec<u8>, Known
         flags: accepted.flags.0,
         seq: number(accepted.seq),
         name_type: accepted.client.name_type,
+        service_type: admitted.service.name_type,
         session_type: accepted.session_key.etype(),
         subkey_type: type_of(&accepted.subkey),
         has_subkey: has_key(&accepted.subkey),

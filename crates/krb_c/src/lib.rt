@@ -19,6 +19,7 @@
 #![tactic(auto)]
 
 mod acceptor;
+mod admitted;
 mod agreement;
 mod answer;
 mod asking;

@@ -1,12 +1,15 @@
 //! What a filled handle holds.
 
-ghost use Rattle.std.specs.Prelude.{◌≡◌, IfErr, IfOk};
+ghost use Rattle.std.specs.Prelude.{◌≡◌, IfErr, IfOk, None, Some};
 ghost use Rattle.krb_c.specs.Choice.{IsReplyFault, Replied, TellsReply};
 ghost use Rattle.krb_c.specs.Known.{TellsKnown};
 ghost use Rattle.krb_ap.specs.Setup.{arrival};
-ghost use Rattle.krb_c.specs.Accepting.{Decides, TellsLatest, accepted_by, cleared, latest_of, refused_by};
+ghost use Rattle.krb_c.specs.Accepting.{Decides, TellsLatest, cleared, latest_of};
+ghost use Rattle.krb_c.specs.Answer.{plain, refused};
+ghost use Rattle.krb_c.specs.Codes.{ok};
 ghost use Rattle.krb_c.specs.Refusing.{Errors, IsErrorFault, TellsError, error_answer};
 
+use crate::admitted::{Admitted, asked_service};
 use crate::answer::{Answer, Time, hand_over};
 use crate::asking::typed_name_of;
 use crate::choice::{Choice, block_of};
@@ -21,20 +24,46 @@ use std::alloc::Global;
 #[derive(Drop)]
 pub struct Login {
     pub acceptor: Acceptor<TimedMemory>,
-    pub last: Option<Accepted>,
+    pub last: Option<Admitted>,
     pub refusal: Option<Refusal>,
 }
 
 impl Login {
-    /// Decides a request, and keeps what is accepted, or why it is refused.
+    /// Decides a request, and keeps what is accepted, or why it is refused. The service's name is copied first: where there is no room for
+    /// it, the service has seen nothing.
     pub(crate) fn decide(&mut self, alloc: Global, bytes: &[u8], now: Moment) -> Answer
         ensures { Decides self.old self.new (arrival bytes.now now) result }
     {
-        let outcome = self.acceptor.accept(alloc, bytes, now);
-        let answer = Answer::told(&outcome);
-        self.refusal = refusal_of(&outcome);
-        self.last = kept(outcome);
-        answer
+        let service = match asked_service(alloc, bytes) {
+            Ok(service) => service,
+            Err(_) => return self.refuse(Refusal::OutOfMemory),
+        };
+        match self.acceptor.accept(alloc, bytes, now) {
+            Ok(accepted) => match service {
+                Some(service) => self.keep(Admitted { accepted, service }),
+                // This doesn't happen: after no history is a request accepted that asks for no service.
+                None => self.refuse(Refusal::UserToUser),
+            },
+            Err(refusal) => self.refuse(refusal),
+        }
+    }
+
+    fn keep(&mut self, admitted: Admitted) -> Answer
+        ensures kept { self.new ≡ record { acceptor = self.old.acceptor; last = Some admitted; refusal = None } }
+        ensures answer { result ≡ plain ok }
+    {
+        self.last = Some(admitted);
+        self.refusal = None;
+        Answer::plain(code::OK)
+    }
+
+    fn refuse(&mut self, refusal: Refusal) -> Answer
+        ensures kept { self.new ≡ record { acceptor = self.old.acceptor; last = None; refusal = Some refusal } }
+        ensures answer { result ≡ refused refusal }
+    {
+        self.last = None;
+        self.refusal = Some(refusal);
+        Answer::refused(&refusal)
     }
 
     /// Lets go of what was accepted last, or why it was refused.
@@ -67,7 +96,7 @@ impl Login {
         ensures { TellsKnown self.now.last known.old known.new buffer.old buffer.new result }
     {
         match &self.last {
-            Some(accepted) => match tell(alloc, accepted) {
+            Some(admitted) => match tell(alloc, admitted) {
                 Ok((bytes, told)) => {
                     *known = told;
                     hand_over(bytes.as_slice(), buffer)
@@ -110,7 +139,7 @@ impl Login {
         ensures { TellsReply self.now.last confounder.now choice.now subkey.now buffer.old buffer.new result }
     {
         match &self.last {
-            Some(accepted) => match replied(alloc, accepted, confounder, choice, subkey) {
+            Some(admitted) => match replied(alloc, &admitted.accepted, confounder, choice, subkey) {
                 Ok(bytes) => hand_over(bytes.as_slice(), buffer),
                 Err(answer) => answer,
             },
@@ -154,15 +183,6 @@ fn error_told(fault: ReplyFault) -> Answer
     }
 }
 
-fn refusal_of(outcome: &Result<Accepted, Refusal>) -> Option<Refusal>
-    ensures { result ≡ refused_by outcome.now }
-{
-    match outcome {
-        Ok(_) => None,
-        Err(refusal) => Some(*refusal),
-    }
-}
-
 /// The reply to what was accepted.
 pub(crate) fn replied(
     alloc: Global,
@@ -189,14 +209,5 @@ pub(crate) fn replied(
     match accepted.reply(alloc, &confounder, options) {
         Ok(bytes) => Ok(bytes),
         Err(_) => Err(Answer::plain(code::OUT_OF_MEMORY)),
-    }
-}
-
-fn kept(outcome: Result<Accepted, Refusal>) -> Option<Accepted>
-    ensures { result ≡ accepted_by outcome }
-{
-    match outcome {
-        Ok(accepted) => Some(accepted),
-        Err(_) => None,
     }
 }
