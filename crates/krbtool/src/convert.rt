@@ -115,11 +115,11 @@ pub fn convert_ccache<S: Source, T: Sink>(
     // answered wherever it is there.
     ensures fault { IfErr result (λ e. IfSome (cache_fault e) (λ fault.
         IfSome (S.remaining source.old) (λ bytes. in_cache.IsFaultOf bytes fault ⊎ ((fault ≡ CacheFault.TooLong)
-        × ((cache : Cache) × (IsCache bytes cache × (in_cache.file_limit < length (cache_bytes cache)))))))) }
+        × ((cache : Cache) × (IsCache bytes cache × (file_limit < length (cache_bytes cache)))))))) }
     ensures faulty { (bytes : List ℕ) (fault : CacheFault)
         → S.remaining source.old ≡ Some bytes → in_cache.IsFaultOf bytes fault → FailsWithCache result fault }
     ensures grown { (bytes : List ℕ) (cache : Cache)
-        → S.remaining source.old ≡ Some bytes → IsCache bytes cache → in_cache.file_limit < length (cache_bytes cache)
+        → S.remaining source.old ≡ Some bytes → IsCache bytes cache → file_limit < length (cache_bytes cache)
         → FailsWithCache result CacheFault.TooLong }
 
     // Where there is nothing to write, the sink is as it was; where it fails, it took a beginning.
@@ -145,8 +145,8 @@ fn write_ccache<T: Sink>(alloc: Global, cache: &CCache, sink: &mut T) -> Result<
     ensures ok { IfOk result (λ count. Appends (T.taken sink.old) (T.taken sink.new) (cache_bytes cache.now)
         × (count ≡ length (cache_bytes cache.now))) }
     ensures fault { IfErr result (λ e. IfSome (cache_fault e) (λ fault.
-        (fault ≡ CacheFault.TooLong) × (in_cache.file_limit < length (cache_bytes cache.now)))) }
-    ensures grown { in_cache.file_limit < length (cache_bytes cache.now) → FailsWithCache result CacheFault.TooLong }
+        (fault ≡ CacheFault.TooLong) × (file_limit < length (cache_bytes cache.now)))) }
+    ensures grown { file_limit < length (cache_bytes cache.now) → FailsWithCache result CacheFault.TooLong }
     ensures unread { (fault : CacheFault) → result ≡ Err (EngineFault.Cache fault)
         → Keeps (T.taken sink.old) (T.taken sink.new) }
     ensures begun { result ≡ Err EngineFault.Write
