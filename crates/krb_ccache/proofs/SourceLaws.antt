@@ -89,6 +89,9 @@ tail_then from middle to p q = (p.0 ++ q.0, Consumes-trans from middle to p.0 q.
 
 -- ---- what reading answers
 
+abbrev err_of : CacheFault → Result Cache CacheFault
+err_of fault = Err fault
+
 pub reads_whole : (from to : Option (List ℕ)) (result : Result Cache CacheFault) → IfOk result (Found from to) → IfErr result (Faulty from to) → LeavesTail from to → ReadsFile IsAnswerOf OutOfMemory Read from to result
-reads_whole from to (Ok cache) f e tail = record { found = found_whole from to cache f; end = found_end from to cache f; fault = tt; only = only_whole from to (Ok cache) f e; given = tt; tail = tail }
-reads_whole from to (Err fault) f e tail = record { found = tt; end = tt; fault = λ memory read. fault_whole from to fault e memory read; only = only_whole from to (Err fault) f e; given = e; tail = tail }
+reads_whole from to (Ok cache) f e tail = record { found = found_whole from to cache f; end = found_end from to cache f; fault = tt; only = only_whole from to (Ok cache) f e; given = λ memory read. f; tail = tail }
+reads_whole from to (Err fault) f e tail = record { found = tt; end = tt; fault = λ memory read. fault_whole from to fault e memory read; only = only_whole from to (Err fault) f e; given = λ memory read. e (λ is. memory (ap (λ (x : CacheFault). err_of x) is)) (λ is. read (ap (λ (x : CacheFault). err_of x) is)); tail = tail }

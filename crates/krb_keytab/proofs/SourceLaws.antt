@@ -97,5 +97,5 @@ only_fault from to fault f whole answer known a =
 -- ---- what reading answers
 
 pub reads_whole : (from to : Option (List ℕ)) (result : Result (List KeytabEntry) KeytabFault) → IfOk result (IsFound from to) → IfErr result (IsFaulty from to) → LeavesTail from to → ReadsFile IsAnswerOf OutOfMemory Read from to result
-reads_whole from to (Ok entries) f e tail = record { found = found_whole from to entries f; end = found_end from to entries f; fault = tt; only = only_found from to entries f; given = tt; tail = tail }
-reads_whole from to (Err fault) f e tail = record { found = tt; end = tt; fault = λ memory read. fault_whole from to fault e memory read; only = only_fault from to fault e; given = e; tail = tail }
+reads_whole from to (Ok entries) f e tail = record { found = found_whole from to entries f; end = found_end from to entries f; fault = tt; only = only_found from to entries f; given = λ memory read. f; tail = tail }
+reads_whole from to (Err fault) f e tail = record { found = tt; end = tt; fault = λ memory read. fault_whole from to fault e memory read; only = only_fault from to fault e; given = λ memory read. e (λ is. memory (ap (λ (x : KeytabFault). result_of (Err x)) is)) (λ is. read (ap (λ (x : KeytabFault). result_of (Err x)) is)); tail = tail }

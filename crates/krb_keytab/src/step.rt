@@ -192,6 +192,7 @@ fn pass_hole<S: Source>(window: &mut Window<S>, at: usize, size: i32) -> Result<
     requires hole { int_lt size (pos 0) ≡ true }
     ensures meets { MeetsBody (S.remaining window.old.source) (S.remaining window.new.source)
         window.old window.new at size result }
+    ensures kept { window.new.bytes ≡ window.old.bytes }
     ensures failed { S.failure_count window.new.source
         ≡ S.failure_count window.old.source + failed_reads result }
     ensures lent { S.lender window.new.source ≡ S.lender window.old.source }

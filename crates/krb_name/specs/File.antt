@@ -24,5 +24,5 @@ pub record ReadsFile {T F : Type 0} (IsAnswerOf : List ℕ → Result T F → Ty
   pub fault : IfErr result (λ fault. fault ≢ memory → fault ≢ failed → IfSome from (λ bytes. IsAnswerOf bytes (Err fault)))
   pub only : (bytes : List ℕ) (answer : Result T F) → from ≡ Some bytes → IsAnswerOf bytes answer
       → (result ≡ answer) ⊎ ((result ≡ Err memory) ⊎ (result ≡ Err failed))
-  pub given : IfErr result (λ fault. fault ≢ memory → fault ≢ failed → (bytes : List ℕ) × IsGiven from to bytes × IsAnswerOf bytes (Err fault))
+  pub given : result ≢ Err memory → result ≢ Err failed → (bytes : List ℕ) × IsGiven from to bytes × IsAnswerOf bytes result
   pub tail : LeavesTail from to
