@@ -351,8 +351,9 @@ fevstunik_answer fevstunik_acceptor_accept(fevstunik_acceptor *handle, const uin
  * and the service's text, one after another, and in `known` where they stand, and the numbers. `known` is written also where the buffer
  * is too short.
  *
- * `service`, `client`, `ctime` and `cusec` are what the request is remembered by (the types of names don't count). The ticket's addresses
- * were compared with nothing; they, authorization data and the checksum aren't told.
+ * `service`, `client`, `ctime` and `cusec` are what the request is remembered by. (The types of names don't count; and a name without
+ * components has the same text as one with a single empty component, though they are two names.) The ticket's addresses were compared
+ * with nothing; they, authorization data and the checksum aren't told.
  *
  * FEVSTUNIK_EMPTY_HANDLE, FEVSTUNIK_NOTHING_THERE and FEVSTUNIK_OUT_OF_MEMORY, and nothing is written; FEVSTUNIK_OK;
  * FEVSTUNIK_SHORT_BUFFER.

@@ -10,7 +10,7 @@ use Rattle.krb_keytab.specs.Entry.{KeytabEntry}
 use Rattle.krb_replay.specs.Memory.{later_of, SameStamps}
 use Rattle.krb_replay.specs.Stamp.{Stamp}
 use Rattle.krb_ap.specs.Setup.{Arrival}
-use Rattle.krb_ap.specs.Opened.{Asks, service_of}
+use Rattle.krb_ap.specs.Opened.{Asks, service_of, stamp_at}
 use Rattle.krb_ap.specs.History.{IsShownLately, StandsFor}
 use Rattle.krb_ap.specs.Causes.{offset_of}
 use Rattle.krb_ap.specs.Answer.{Answers, after}
@@ -19,6 +19,7 @@ use Rattle.krb_ap.specs.declared.refusal.Refusal.{Refusal}
 use Rattle.krb_ap.specs.declared.refusal.Refusal.TheVariants.{OutOfMemory}
 use Rattle.krb_c.specs.Answer.{plain, told}
 use Rattle.krb_c.specs.Codes.{nothing_there, ok}
+use Rattle.krb_c.specs.declared.admitted.Admitted.{Admitted}
 use Rattle.krb_c.specs.declared.answer.Answer.{Answer}
 use Rattle.krb_c.specs.declared.answer.Time.{Time}
 use Rattle.krb_c.specs.declared.login.Login.{Login}
@@ -45,6 +46,10 @@ fresh entries skew = record {
 -- the bytes are a request of the ordinary kind, with a ticket for this service
 abbrev pub AsksFor : List ℕ → Principal → Type 0
 AsksFor bytes service = (request : ValueOf ap_req) × (Asks bytes request × (service ≡ service_of request))
+
+-- what a request that was accepted is remembered by
+abbrev pub stamp_told : Admitted → Stamp
+stamp_told admitted = stamp_at admitted.service admitted.accepted.client (micros_of admitted.accepted.ctime admitted.accepted.cusec)
 
 -- what was accepted, if it was
 abbrev pub accepted_by : Result Accepted Refusal → Option Accepted
@@ -89,5 +94,6 @@ pub record Decides (old new : Login) (call : Arrival) (answer : Answer) : Type 0
   pub unchanged : IsErrOf outcome OutOfMemory → SameStamps (Remembers old) (Remembers new) × (latest_of new ≡ latest_of old)
   pub last : option_map (λ admitted. admitted.accepted) new.last ≡ accepted_by outcome
   pub service : IfSome new.last (λ admitted. AsksFor call.bytes admitted.service)
+  pub remembered : (history : List Arrival) → Stands old history → IfSome new.last (λ admitted. Remembers new (stamp_told admitted))
   pub refusal : new.refusal ≡ refused_by outcome
   pub told_is : answer ≡ told outcome

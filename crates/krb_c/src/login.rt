@@ -17,6 +17,7 @@ use crate::code;
 use crate::known::{Known, tell};
 use krb_ap::{Accepted, Acceptor, Refusal, ReplyFault, ReplyOptions, error_reply};
 use krb_msg::Moment;
+use krb_msg::laws::one_value;
 use krb_replay::{ReplayMemory, TimedMemory};
 use std::alloc::Global;
 
@@ -34,6 +35,7 @@ impl Login {
     pub(crate) fn decide(&mut self, alloc: Global, bytes: &[u8], now: Moment) -> Answer
         ensures { Decides self.old self.new (arrival bytes.now now) result }
     {
+        one_value();
         let service = match asked_service(alloc, bytes) {
             Ok(service) => service,
             Err(_) => return self.refuse(Refusal::OutOfMemory),

@@ -18,8 +18,8 @@ use std::marker::Model;
 
 /// Reads the entries of a keytab from a source, one at a time.
 ///
-/// The bytes of one record are at hand at a time, in one buffer, whose room grows as they come: nothing
-/// is reserved by a length that the source hasn't borne out, and a hole's bytes aren't kept. A contract
+/// The bytes of one record are at hand at a time, in one buffer, whose room grows as they come, by at most
+/// 65,536 bytes before they are there, whatever length a record tells; a hole's bytes aren't kept. A contract
 /// sees the source, how many bytes of it were at hand at most, how many it gave, and where the reader
 /// stands.
 ///

@@ -9,7 +9,7 @@ use Rattle.krb_ap.specs.Opened.{Asks}
 use Rattle.krb_ap.specs.declared.refusal.Refusal.TheVariants.{OutOfMemory, UserToUser}
 use Rattle.krb_c.specs.Accepting.{AsksFor, Decides}
 use Rattle.krb_c.specs.declared.login.Login.{Login}
-use Rattle.krb_c.proofs.Asked.{asks_for_none}
+use Rattle.krb_c.proofs.Asked.{asks_for_none, is_remembered}
 use Rattle.krb_c.proofs.login.Login.decide.Goals as goal
 
 -- there was no room for the service's name
@@ -26,6 +26,7 @@ returns-in-Err c = subst (λ (new : Login). Decides c.args.self.now new (arrival
   unchanged = λ want. (λ stamp. ((λ has. has), (λ has. has)), refl);
   last = refl;
   service = tt;
+  remembered = λ history stands. tt;
   refusal = refl;
   told_is = c.refuse.ensures.answer;
 })
@@ -45,6 +46,9 @@ returns-in-Some c = let accept = c.in-Ok-accept.ensures in
       last = refl;
       service = subst (λ (service : Option Principal). MatchOption service ((request : ValueOf ap_req) → ¬ Asks c.args.bytes.now request) (AsksFor c.args.bytes.now))
           c.in-Some.is c.in-Ok.ensures.asked;
+      remembered = λ history stands. is_remembered _ _ _ _ history (arrival c.args.bytes.now c.args.now) (record { accepted = c.in-Ok-accept.accepted; service = c.in-Some.service }) c.one_value.ensures
+          (subst (λ (service : Option Principal). MatchOption service ((request : ValueOf ap_req) → ¬ Asks c.args.bytes.now request) (AsksFor c.args.bytes.now)) c.in-Some.is c.in-Ok.ensures.asked)
+          (accept.answer history stands) accept.setup (accept.goes_on history stands);
       refusal = refl;
       told_is = c.keep.ensures.answer;
     })
@@ -67,6 +71,7 @@ returns-in-None c =
       unchanged = λ want. cc;
       last = refl;
       service = tt;
+      remembered = λ history stands. tt;
       refusal = refl;
       told_is = c.refuse-in-None.ensures.answer;
     })
@@ -85,6 +90,7 @@ returns-in-Err-accept c = let accept = c.in-Err-accept.ensures in
       unchanged = accept.unchanged;
       last = refl;
       service = tt;
+      remembered = λ history stands. tt;
       refusal = refl;
       told_is = c.refuse-in-Err-accept.ensures.answer;
     })
