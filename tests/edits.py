@@ -5,7 +5,7 @@
       --jobs N                  so many checks side by side (as many as processors and memory allow, if left out)
       --at FOLDER               the repository (the one that this file stands in, if left out)
       --edit WORD               only edits whose name has this word
-      --after-ci                `rt ci` has just proved all crates as they are: what it left is taken (see proved_by_ci)
+      --after-ci                `rt ci` has just proved all crates as they are: what it left is taken (see kept_of_ci)
       --kept FOLDER             with that: what tests/keep.py kept of its work
       --log FOLDER              keeps what each check said there
 
@@ -616,9 +616,13 @@ class Runner:
         found = [self.together(crate, edits[:half]), self.together(crate, edits[half:])]
         return [it for later, _ in found for it in later], [it for _, lone in found for it in lone]
 
-    def work(self, crate, pool, report):
-        """Tries all edits of a crate. Rounds go on while each refuses some."""
+    def work(self, crate, pool, report, is_proved):
+        """Tries all edits of a crate, once it is proved as it is. Rounds go on while each refuses some."""
         ready = [it for it in crate.edits if not it.fault]
+        if not is_proved and not pool.submit(self.proves, crate).result():
+            for it in ready:
+                it.end("wasn't tried, since the crate isn't proved as it is")
+            return report(crate)
         is_lone = lambda it: it.is_outside or it.is_seen or not it.changed
         lone, left = [it for it in ready if is_lone(it)], [it for it in ready if not is_lone(it)]
         tried = []
@@ -676,10 +680,11 @@ def proved_first(top, crates, all_of_them, jobs):
     return True, seconds
 
 
-def proved_by_ci(runner, known, crates, kept, room, pool):
-    """Proves the crates as they are over the libraries that `rt ci` built, and over what was kept of its work. Returns whether that was done.
+def kept_of_ci(known, crates, kept, room):
+    """Takes the libraries that `rt ci` built, and what was kept of its work. Returns whether they are there.
 
     `rt ci` proves everything from nothing and leaves each library's statements in out/rlib, where an author's own checks had left nothing.
+    Each crate is proved as it is over that before its edits are tried, while other crates' edits go on.
     """
     for name in {it for crate in crates for it in crate.below}:
         folder = f"{known[name].folder}/out/rlib"
@@ -689,7 +694,7 @@ def proved_by_ci(runner, known, crates, kept, room, pool):
         it.kept = f"{room}/{it.name}"
         linked(f"{kept}/{it.name}", it.kept)
         os.makedirs(it.kept, exist_ok=True)
-    return all(it.result() for it in [pool.submit(runner.proves, crate) for crate in crates])
+    return True
 
 
 def main():
@@ -733,19 +738,19 @@ def main():
 
     # (a leader for each crate waits for the checks that it hands to the pool)
     with tempfile.TemporaryDirectory(prefix="edits-kept-") as room, ThreadPoolExecutor(4 * jobs) as pool, ThreadPoolExecutor(max(len(crates), 1)) as leaders:
-        well = given.after_ci and proved_by_ci(runner, known, crates, given.kept, room, pool)
-        if not well:
+        is_proved = not (given.after_ci and kept_of_ci(known, crates, given.kept, room))
+        if is_proved:
             for it in crates:
                 it.kept = f"{it.folder}/out/incremental"
-            well, seconds = proved_first(top, crates, not given.names, jobs)
-            runner.seconds += seconds
-        if not well:
-            print("edits: the crates aren't proved as they are, so no edit was tried")
-            print(f"0 passed, {max(total, 1)} failed")
-            return 1
-        print(f"edits: the crates are proved as they are ({time.monotonic() - began:.0f} s, {runner.seconds:.0f} s of processor time)", flush=True)
-        order = sorted(crates, key=lambda it: -sum(map(len, it.texts.values())) * len(it.edits))
-        for it in [leaders.submit(runner.work, crate, pool, report) for crate in order]:
+            well, runner.seconds = proved_first(top, crates, not given.names, jobs)
+            if not well:
+                print("edits: the crates aren't proved as they are, so no edit was tried")
+                print(f"0 passed, {max(total, 1)} failed")
+                return 1
+            print(f"edits: the crates are proved as they are ({time.monotonic() - began:.0f} s, {runner.seconds:.0f} s of processor time)", flush=True)
+        # (first those of which nothing was kept: they take longest)
+        order = sorted(crates, key=lambda it: (os.path.isdir(f"{given.kept}/{it.name}"), -sum(map(len, it.texts.values())) * len(it.edits)))
+        for it in [leaders.submit(runner.work, crate, pool, report, is_proved) for crate in order]:
             it.result()
     passed = sum(it.outcome == "refused" for crate in crates for it in crate.edits)
     seconds = runner.seconds + sum(it.seconds for it in crates)

@@ -95,10 +95,10 @@ def made(room, edits):
             it.write(text)
 
 
-def run_of(room, edits):
+def run_of(room, edits, *more):
     for it in edits:
         made(room, [it])
-    words = [sys.executable, f"{os.path.dirname(os.path.abspath(__file__))}/edits.py", "--at", room]
+    words = [sys.executable, f"{os.path.dirname(os.path.abspath(__file__))}/edits.py", "--at", room, *more]
     ran = subprocess.run(words, stdout=subprocess.PIPE, stderr=subprocess.STDOUT, text=True, stdin=subprocess.DEVNULL)
     return ran.returncode, ran.stdout
 
@@ -121,6 +121,15 @@ def main():
         # one check for most: each edit alone would be a check of its own
         checks = re.search(r"refused, by (\d+) checks", said)
         hold("few checks", checks and int(checks[1]) < len(EDITS))
+        # after rt ci, of which nothing was kept
+        after = run_of(room, EDITS, "--after-ci", "--kept", f"{room}/nothing")[1]
+        told = lambda text: sorted(it for it in text.split("\n") if it.startswith("edits: sample/"))
+        hold("the same after rt ci", told(after) == told(said) and after.split("\n")[-2] == said.split("\n")[-2])
+        with open(f"{room}/crates/sample/src/lib.rt", "w", encoding="utf-8") as it:
+            it.write(SOURCE.replace("    n + 1", "    n"))
+        status, unproved = run_of(room, [], "--after-ci", "--kept", f"{room}/nothing")
+        tried = [it for it in told(unproved) if " wasn't tried" not in it and " doesn't apply" not in it]
+        hold("nothing where the crate isn't proved", status == 1 and not tried and f"\n0 passed, {len(EDITS)} failed\n" in unproved)
     if failed:
         print(said)
         print(f"edits' own test: FAILED: {', '.join(failed)}")
