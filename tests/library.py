@@ -1,0 +1,171 @@
+#!/usr/bin/env python3
+"""Makes each public call of the libraries on the cases of tests/calls, and on those that Python models draw.
+
+    tests/library.py [WORD]        the cases whose names hold WORD, or all; by the programs as they are built
+    tests/library.py --lay-out     writes crates/PROGRAM/stdin and stdout of the stored cases, on which `rt ci` runs each
+                                   program as both compilers build it
+
+A program (crates/krb_calls_*) reads one call a line and answers one line for each; README of its crate's lib says which calls. The
+cases of a file tests/calls/*.toml:
+
+    program = "krb_calls_wire"     the program that makes the calls
+    [[case]]
+    name    what it shows; where its values come from, if not said once for the file
+    lines   a call, or a list of calls; what an earlier line of the case made is there for the later ones
+    answers what is answered: a text, or a list
+
+A case begins with nothing made: the line `new` goes before it, and is answered `new`. Bytes are hexadecimal digits, `-` where there are
+none, `HEX*N` for HEX N times, several such joined by `+`; `@PATH` is a file of the repository. In an answer, a word of bytes of more than
+1,024 bytes stands as `#LENGTH:SHA256` (in a case it is written like the bytes of a call).
+
+The last line is 'N passed, M failed'.
+"""
+import hashlib
+import importlib
+import re
+import subprocess
+import sys
+import tomllib
+from collections import defaultdict
+from pathlib import Path
+
+HERE = Path(__file__).resolve().parent
+TOP = HERE.parent
+sys.path.insert(0, str(HERE))
+sys.path.insert(0, str(HERE / "vectors"))
+sys.dont_write_bytecode = True
+
+# The modules with a function drawn(), which gives (program, name, lines, answers) of further cases.
+MODELS = ()
+# A longer text is told by its length and its hash.
+SHOWN = 1024
+SECONDS = 120
+
+PIECE = re.compile(r"(?:[0-9a-f]{2})+(?:\*[0-9]+)?")
+
+
+def bytes_of(word):
+    """The bytes that a word stands for, or None where it is no word of bytes."""
+    if word == "-":
+        return b""
+    pieces = word.split("+")
+    if not all(PIECE.fullmatch(it) for it in pieces):
+        return None
+    found = b""
+    for it in pieces:
+        digits, _, count = it.partition("*")
+        found += bytes.fromhex(digits) * int(count or 1)
+    return found
+
+
+def shown(text):
+    """Bytes, as a program shows them."""
+    if len(text) > SHOWN:
+        return f"#{len(text)}:{hashlib.sha256(text).hexdigest()}"
+    return text.hex() or "-"
+
+
+def given(line):
+    """A call's line as the program reads it."""
+    return " ".join((TOP / it[1:]).read_bytes().hex() if it.startswith("@") else it for it in line.split(" "))
+
+
+def wanted(line):
+    """An answer as the program gives it."""
+
+    def word(it):
+        if it.startswith("@"):
+            return shown((TOP / it[1:]).read_bytes())
+        is_long = ("*" in it or len(it) > 2 * SHOWN) and bytes_of(it) is not None
+        return shown(bytes_of(it)) if is_long else it
+
+    return " ".join(map(word, line.split(" ")))
+
+
+def listed(it):
+    return [it] if isinstance(it, str) else it
+
+
+def stored():
+    """The cases of the files: program, name, lines, answers."""
+    for path in sorted((HERE / "calls").glob("*.toml")):
+        with open(path, "rb") as file:
+            table = tomllib.load(file)
+        for case in table["case"]:
+            unknown = set(case) - {"name", "lines", "answers"}
+            if unknown:
+                raise ValueError(f"{path.name}: {case.get('name')}: unknown keys {sorted(unknown)}")
+            yield table["program"], f"{path.stem}: {case['name']}", listed(case["lines"]), listed(case["answers"])
+
+
+def drawn():
+    for name in MODELS:
+        yield from importlib.import_module(name).drawn()
+
+
+def by_program(cases):
+    """The cases of each program, each as a name, the lines that are given and those that are wanted."""
+    found = defaultdict(list)
+    for program, name, lines, answers in cases:
+        if len(lines) != len(answers):
+            raise ValueError(f"{name}: {len(lines)} lines, {len(answers)} answers")
+        found[program].append((name, ["new", *map(given, lines)], ["new", *map(wanted, answers)]))
+    return found
+
+
+def joined(lists):
+    return "".join(f"{line}\n" for lines in lists for line in lines)
+
+
+def compared(program, cases):
+    """The name of each case, and what is wrong with what the program answers, or None."""
+    built = TOP / f"crates/{program}/out/{program}"
+    try:
+        text = joined(lines for _, lines, _ in cases)
+        ran = subprocess.run([built], input=text.encode(), capture_output=True, timeout=SECONDS)
+    except (OSError, subprocess.TimeoutExpired) as error:
+        yield program, str(error)
+        return
+    answers, at = ran.stdout.decode(errors="replace").splitlines(), 0
+    for name, lines, right in cases:
+        found = answers[at : at + len(right)]
+        at += len(right)
+        wrong = next((it for it in zip(lines, found, right) if it[1] != it[2]), None)
+        if wrong:
+            yield name, f"{wrong[0][:300]}: {wrong[1][:600]}, not {wrong[2][:600]}"
+        else:
+            yield name, None if len(found) == len(right) else f"the program ended before its answers, with status {ran.returncode}"
+    ended_well = ran.returncode == 0 and not ran.stderr and at == len(answers)
+    yield f"{program} ends well", None if ended_well else f"status {ran.returncode}, {ran.stderr[:300]!r}, {len(answers) - at} lines too many"
+
+
+def checks(word=""):
+    for program, cases in by_program([*stored(), *drawn()]).items():
+        chosen = [it for it in cases if word in it[0]]
+        if chosen:
+            yield from compared(program, chosen)
+
+
+def lay_out():
+    for program, cases in by_program(stored()).items():
+        (TOP / f"crates/{program}/stdin").write_text(joined(lines for _, lines, _ in cases))
+        (TOP / f"crates/{program}/stdout").write_text(joined(right for _, _, right in cases))
+
+
+def main():
+    if sys.argv[1:] == ["--lay-out"]:
+        lay_out()
+        return 0
+    passed = failed = 0
+    for name, wrong in checks(*sys.argv[1:2]):
+        if wrong:
+            failed += 1
+            print(f"FAILED {name}: {wrong}")
+        else:
+            passed += 1
+    print(f"{passed} passed, {failed} failed")
+    return 1 if failed or not passed else 0
+
+
+if __name__ == "__main__":
+    sys.exit(main())
