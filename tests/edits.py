@@ -1,12 +1,14 @@
 #!/usr/bin/env python3
 """Tries the edits of each crate, many at a time: the checker has to refuse each, by a goal of a function that it changes.
 
-    tests/edits.py [NAME..]     the edits of these crates, or of all
+    tests/edits.py [NAME..]     the edits of these crates; if none is named, of those that tests/edits.lock doesn't hold for, and of one
+                                more, drawn by the commit's hash, to see that the lock says what is so (tests/edits_lock.py)
+      --all                     the edits of all crates
+      --plan                    says whose edits would be tried, and tries none
       --jobs N                  so many checks side by side (as many as processors and memory allow, if left out)
       --at FOLDER               the repository (the one that this file stands in, if left out)
       --edit WORD               only edits whose name has this word
-      --after-ci                `rt ci` has just proved all crates as they are: what it left is taken (see kept_of_ci)
-      --kept FOLDER             with that: what tests/keep.py kept of its work
+      --after-ci                `rt ci` has just proved all crates as they are: what it left is taken (see libraries_of_ci)
       --log FOLDER              keeps what each check said there
 
 An edit is a file crates/NAME/edits/WHAT.edit, in the form that `rt must-fail` reads: a line 'file: src/x.rt', then pairs of
@@ -21,7 +23,8 @@ goal open in a function which none of them changes; and from the start an edit o
 see of one (its head, or a const fn), since its group could be refused for it.
 
 An edit fails, by name, where it doesn't apply, doesn't compile or can't be read, where its crate stays proved, and where only
-a proof file is refused, for a name that the edit took away. The last line is 'N passed, M failed'.
+a proof file is refused, for a name that the edit took away. Once all edits of a crate are refused, its line is written to the lock; if one
+isn't, its line goes. The last line is 'N passed, M failed', of the edits that were tried.
 """
 import argparse
 import os
@@ -35,6 +38,12 @@ import time
 from collections import defaultdict
 from concurrent.futures import ThreadPoolExecutor
 
+sys.path.insert(0, os.path.dirname(os.path.abspath(__file__)))
+sys.dont_write_bytecode = True
+
+import edits_lock  # noqa: E402
+from source_text import blanked, functions_of, names_of  # noqa: E402
+
 PARTS = ("src", "specs", "proofs")
 # A check that has gone on for so long won't end.
 LIMIT = 3600
@@ -42,129 +51,6 @@ LIMIT = 3600
 MOST = 16
 # The toolchain.
 KIT = os.path.dirname(os.path.dirname(os.path.realpath(shutil.which("rt") or "/opt/rattle/bin/rt")))
-
-# ---------------------------------------------------------------- functions of a source file
-
-TEXT_OR_COMMENT = re.compile(
-    r"""//[^\n]*|/\*.*?\*/|[bc]?r(#*)".*?"\1|[bc]?"(?:[^"\\]|\\.)*"|'(?:\\[^\n']+|[^\\\n'])'""", re.S
-)
-CLAUSE = re.compile(r"(?:\b(?:requires|ensures)\s*\*?\s*\w*|\bghost(?:\s+\w+)?\s*:?|\bdecreases(?:\s+\w+)?)\s*\Z")
-
-
-def blanked(text):
-    """Returns the text with comments, strings and characters made blank, so that each brace left is one of code."""
-    return TEXT_OR_COMMENT.sub(lambda it: re.sub(r"[^\n]", " ", it[0]), text)
-
-
-def end_of(text, at):
-    """Returns where the bracket that opens at this place has closed."""
-    depth = 0
-    for i in range(at, len(text)):
-        if text[i] in "([{":
-            depth += 1
-        elif text[i] in ")]}":
-            depth -= 1
-            if not depth:
-                return i + 1
-    return len(text)
-
-
-def block_of(text, at):
-    """Returns where the first block at or after this place opens that is no clause's, and where it closes, or None before a ';'."""
-    i, since = at, at
-    while i < len(text):
-        if text[i] in "([":
-            i = end_of(text, i)
-        elif text[i] == "{":
-            end = end_of(text, i)
-            if not CLAUSE.search(text, since, i):
-                return i, end
-            i = since = end
-        elif text[i] in ";}":
-            return None
-        else:
-            i += 1
-    return None
-
-
-class Function:
-    """A function of a source file: its place, its name, and the block (impl, trait or module) that it stands in."""
-
-    def __init__(self, name, start, opens, ends, owner, is_const):
-        self.name, self.start, self.opens, self.ends = name, start, opens, ends
-        self.owner, self.is_const = owner, is_const
-
-    def key(self):
-        return self.owner, self.name
-
-
-def functions_of(text):
-    """Returns the functions of a source text, those inside other functions left out."""
-    code = blanked(text)
-    found = []
-
-    def walk(at, end, owner):
-        head = re.compile(r"\b(fn|impl|trait|mod)\b(?!\s*!)")
-        while True:
-            it = head.search(code, at, end)
-            if not it:
-                return
-            block = block_of(code, it.end())
-            if not block:
-                at = it.end()
-                continue
-            opens, ends = block
-            name = re.match(r"\s*(\w+)", code[it.end() :])
-            if it[1] == "fn":
-                before = code.rfind("\n", 0, it.start()) + 1
-                is_const = bool(re.search(r"\bconst\b", code[before : it.start()]))
-                found.append(Function(name[1] if name else "", before, opens, ends, owner, is_const))
-            elif it[1] == "mod":
-                walk(opens + 1, ends - 1, owner + (("mod", name[1] if name else ""),))
-            else:
-                words = " ".join(code[it.end() : opens].split())
-                walk(opens + 1, ends - 1, owner + ((it[1], words),))
-            at = ends
-
-    walk(0, len(code), ())
-    return found
-
-
-def parameters_left_out(words):
-    """Returns an impl's head without its parameters, and the names of those."""
-    depth = 0
-    for at, it in enumerate(words if words.startswith("<") else ""):
-        depth += (it == "<") - (it == ">" and words[at - 1] not in "-=")
-        if not depth:
-            return words[at + 1 :], {*re.findall(r"(?:^<|,)\s*(?:const\s+)?(\w+)", words[: at + 1])}
-    return words, set()
-
-
-def names_of(crate, path, function, known):
-    """Returns the checker's names that the function can have, of those that are known: mostly one."""
-    module = [it for it in re.sub(r"^src/|\.rt$", "", path).split("/") if it not in ("lib", "main", "mod")]
-    module += [name for kind, name in function.owner if kind == "mod"]
-    above = "::".join([crate, *module])
-    owners = [it for it in function.owner if it[0] != "mod"]
-    if not owners:
-        return {f"{above}::{function.name}"} & known
-    kind, words = owners[-1]
-    words, parameters = parameters_left_out(words)
-    words = words.partition(" where ")[0]
-    if kind == "trait" or " for " not in words:
-        # (an impl of a type's own methods can stand in another module than the type)
-        owner = re.match(r"\s*(?:\w+::)*(\w*)", words)[1]
-        own = {it for it in known if it.endswith(f"::{owner}::{function.name}")}
-        return {f"{above}::{owner}::{function.name}"} & own or own
-    # the name of an impl is made of the names in its head
-    parts = {*re.findall(r"\b[A-Z]\w*", words)} - parameters
-    found = {}
-    for it in known:
-        inner, _, name = it[len(above) + 2 :].rpartition("::")
-        if name == function.name and it.startswith(f"{above}::") and "::" not in inner and all(p in inner for p in parts):
-            found[it] = len(inner)
-    return {it for it, length in found.items() if length == min(found.values())}
-
 
 # ---------------------------------------------------------------- edits
 
@@ -680,11 +566,11 @@ def proved_first(top, crates, all_of_them, jobs):
     return True, seconds
 
 
-def kept_of_ci(known, crates, kept, room):
-    """Takes the libraries that `rt ci` built, and what was kept of its work. Returns whether they are there.
+def libraries_of_ci(known, crates, room):
+    """Takes the libraries that `rt ci` built. Returns whether they are there.
 
     `rt ci` proves everything from nothing and leaves each library's statements in out/rlib, where an author's own checks had left nothing.
-    Each crate is proved as it is over that before its edits are tried, while other crates' edits go on.
+    Each crate is proved as it is, once, before its edits are tried, while other crates' edits go on.
     """
     for name in {it for crate in crates for it in crate.below}:
         folder = f"{known[name].folder}/out/rlib"
@@ -692,68 +578,105 @@ def kept_of_ci(known, crates, kept, room):
             return False
     for it in crates:
         it.kept = f"{room}/{it.name}"
-        linked(f"{kept}/{it.name}", it.kept)
         os.makedirs(it.kept, exist_ok=True)
     return True
 
 
-def main():
+def read_words():
     parser = argparse.ArgumentParser(description=__doc__, formatter_class=argparse.RawDescriptionHelpFormatter)
     parser.add_argument("names", nargs="*", metavar="NAME")
+    parser.add_argument("--all", action="store_true")
+    parser.add_argument("--plan", action="store_true")
     parser.add_argument("--jobs", type=int, default=0)
     parser.add_argument("--at", default=os.path.dirname(os.path.dirname(os.path.abspath(__file__))))
     parser.add_argument("--edit", default="")
     parser.add_argument("--log")
     parser.add_argument("--after-ci", action="store_true")
-    parser.add_argument("--kept", default="")
-    given = parser.parse_args()
+    return parser.parse_args()
+
+
+def reported(crate):
+    """What came of the edits of a crate, a line each."""
+    refused = sum(it.outcome == "refused" for it in crate.edits)
+    cost = f"{crate.checks} checks, {crate.seconds:.0f} s of processor time, {crate.memory / 1e9:.1f} GB"
+    yield f"{crate.name}: {refused} of {len(crate.edits)} refused, by {cost}"
+    for it in crate.edits:
+        if it.outcome != "refused":
+            told = f": {it.told[:300]}" if it.told else ""
+            yield f"{it.name} {it.fault or it.outcome}{told}"
+    for it in crate.strays:
+        yield f"{it} is no edit: a file there ends in .edit (or in .md, where it is only to be read)"
+
+
+def said_of_lock(lock, crates, chosen):
+    """Says whose edits are tried, and whose are not."""
+    held = [it for it in crates if it not in chosen]
+    count = sum(len(it.edits) for it in held)
+    if held:
+        yield f"{count} edits of {', '.join(it.name for it in held)}: refused before, and nothing that decides it has changed (tests/edits.lock)"
+    for it in chosen:
+        why = "drawn, to see that the lock says what is so" if it.name == lock.drawn else "changed since they were refused, or new"
+        yield f"{it.name}: {len(it.edits)} edits are tried: {why}"
+
+
+def try_all(given, top, known, crates, runner, report):
+    """Proves the crates as they are and tries their edits. Returns whether the crates were proved."""
+    jobs = runner.lanes.number
+    # (a leader for each crate waits for the checks that it hands to the pool)
+    with tempfile.TemporaryDirectory(prefix="edits-kept-") as room, ThreadPoolExecutor(4 * jobs) as pool, ThreadPoolExecutor(max(len(crates), 1)) as leaders:
+        is_proved = not (given.after_ci and libraries_of_ci(known, crates, room))
+        if is_proved:
+            for it in crates:
+                it.kept = f"{it.folder}/out/incremental"
+            well, runner.seconds = proved_first(top, crates, given.all, jobs)
+            if not well:
+                return False
+        order = sorted(crates, key=lambda it: -sum(map(len, it.texts.values())) * len(it.edits))
+        for it in [leaders.submit(runner.work, crate, pool, report, is_proved) for crate in order]:
+            it.result()
+    return True
+
+
+def main():
+    given = read_words()
     top = os.path.abspath(given.at)
     known = crates_of(top)
     unknown = [it for it in given.names if it not in known]
     if unknown:
         print(f"edits: crates.txt names no crate {' '.join(unknown)}", file=sys.stderr)
         return 2
-    crates = [it for it in known.values() if not given.names or it.name in given.names]
-    for it in crates:
-        it.load(given.edit)
-    crates = [it for it in crates if it.edits or it.strays]
-    jobs = given.jobs or processors()
+    for it in known.values():
+        it.load(given.edit if not given.names or it.name in given.names else "")
+    crates = [it for it in known.values() if it.edits or it.strays]
+    lock = edits_lock.Lock(top, known, crates)
+    named = [it for it in crates if it.name in given.names]
+    chosen = named if given.names else crates if given.all or given.edit else lock.to_try(crates)
+    if not (given.names or given.all or given.edit):
+        for line in said_of_lock(lock, crates, chosen):
+            print(f"edits: {line}", flush=True)
+    if given.plan:
+        return 0
     if given.log:
         os.makedirs(given.log, exist_ok=True)
-    began = time.monotonic()
-    runner = Runner(top, Lanes(jobs), given.log)
-    total = sum(len(it.edits) + len(it.strays) for it in crates)
-    printing = threading.Lock()
+    began, printing = time.monotonic(), threading.Lock()
+    runner = Runner(top, Lanes(given.jobs or processors()), given.log)
+    total = sum(len(it.edits) + len(it.strays) for it in chosen)
 
     def report(crate):
         with printing:
-            refused = sum(it.outcome == "refused" for it in crate.edits)
-            print(f"edits: {crate.name}: {refused} of {len(crate.edits)} refused, by {crate.checks} checks, {crate.seconds:.0f} s of processor time, {crate.memory / 1e9:.1f} GB", flush=True)
-            for it in crate.edits:
-                if it.outcome != "refused":
-                    told = f": {it.told[:300]}" if it.told else ""
-                    print(f"edits: {it.name} {it.fault or it.outcome}{told}", flush=True)
-            for it in crate.strays:
-                print(f"edits: {it} is no edit: a file there ends in .edit (or in .md, where it is only to be read)", flush=True)
+            for line in reported(crate):
+                print(f"edits: {line}", flush=True)
 
-    # (a leader for each crate waits for the checks that it hands to the pool)
-    with tempfile.TemporaryDirectory(prefix="edits-kept-") as room, ThreadPoolExecutor(4 * jobs) as pool, ThreadPoolExecutor(max(len(crates), 1)) as leaders:
-        is_proved = not (given.after_ci and kept_of_ci(known, crates, given.kept, room))
-        if is_proved:
-            for it in crates:
-                it.kept = f"{it.folder}/out/incremental"
-            well, runner.seconds = proved_first(top, crates, not given.names, jobs)
-            if not well:
-                print("edits: the crates aren't proved as they are, so no edit was tried")
-                print(f"0 passed, {max(total, 1)} failed")
-                return 1
-            print(f"edits: the crates are proved as they are ({time.monotonic() - began:.0f} s, {runner.seconds:.0f} s of processor time)", flush=True)
-        # (first those of which nothing was kept: they take longest)
-        order = sorted(crates, key=lambda it: (os.path.isdir(f"{given.kept}/{it.name}"), -sum(map(len, it.texts.values())) * len(it.edits)))
-        for it in [leaders.submit(runner.work, crate, pool, report, is_proved) for crate in order]:
-            it.result()
-    passed = sum(it.outcome == "refused" for crate in crates for it in crate.edits)
-    seconds = runner.seconds + sum(it.seconds for it in crates)
+    if not try_all(given, top, known, chosen, runner, report):
+        print("edits: the crates aren't proved as they are, so no edit was tried")
+        print(f"0 passed, {max(total, 1)} failed")
+        return 1
+    is_whole = lambda it: not it.strays and all(edit.outcome == "refused" for edit in it.edits)
+    lock.forget([it for it in chosen if not is_whole(it)])
+    if not given.edit:
+        lock.keep([it for it in chosen if is_whole(it)])
+    passed = sum(it.outcome == "refused" for crate in chosen for it in crate.edits)
+    seconds = runner.seconds + sum(it.seconds for it in chosen)
     print(f"edits: {runner.count} checks, {seconds:.0f} s of processor time, in {time.monotonic() - began:.0f} s")
     print(f"{passed} passed, {total - passed} failed")
     return 0 if total and passed == total else 1

@@ -1,10 +1,17 @@
 #!/usr/bin/env python3
-"""Tests tests/edits.py on a small crate: it has to tell an edit that is refused from each kind that isn't. The last line is 'N passed, M failed'."""
+"""Tests tests/edits.py on a small crate: it has to tell an edit that is refused from each kind that isn't, and to try again what a change
+may have turned. The last line is 'N passed, M failed'."""
 import os
 import re
 import subprocess
 import sys
 import tempfile
+
+sys.path.insert(0, os.path.dirname(os.path.abspath(__file__)))
+sys.dont_write_bytecode = True
+
+import edits_lock  # noqa: E402
+from edits import crates_of  # noqa: E402
 
 SOURCE = """// Functions whose edits show what the runner of edits tells apart.
 #![tactic(auto)]
@@ -103,6 +110,84 @@ def run_of(room, edits, *more):
     return ran.returncode, ran.stdout
 
 
+# A crate below, of which the other uses nothing: it is there to be changed.
+LOW = """//! A crate below.
+#![tactic(auto)]
+
+ghost use Rattle.std.specs.Prelude.{◌≡◌, ◌≤◌};
+
+// A number.
+pub fn one() -> u32
+    ensures { result ≡ 1 }
+{
+    1
+}
+"""
+
+# What is changed (file, old text, new text), and whether the edits are then tried again.
+CHANGES = [
+    ("a comment of the crate below", "low/src/lib.rt", "// A number.", "// One.", False),
+    ("a body of the crate below", "low/src/lib.rt", "    1\n", "    2 - 1\n", False),
+    ("a contract of the crate below", "low/src/lib.rt", "result ≡ 1", "result ≤ 1", True),
+    ("a definition of the crate below", "low/specs/Lib.antt", "", "pub mod More\n", True),
+    ("a body", "sample/src/lib.rt", "    n / 2", "    n / 4", True),
+    ("a contract", "sample/src/lib.rt", "ensures { result ≤ n }", "ensures { n ≤ n }", True),
+    ("a definition", "sample/specs/Lib.antt", "", "pub mod More\n", True),
+    ("a proof", "sample/proofs/six_times/Answers.antt", "search rules", "search  rules", True),
+    ("an edit", "sample/edits/twice_and_one.edit", "n + n + 1", "n + n + 2", True),
+]
+CHANGED, HELD = "edits: sample: 1 edits are tried: changed since", "edits: sample: 1 edits are tried: drawn"
+
+
+def write(path, text):
+    os.makedirs(os.path.dirname(path), exist_ok=True)
+    with open(path, "w", encoding="utf-8") as it:
+        it.write(text)
+
+
+def read(path):
+    if not os.path.isfile(path):
+        return ""
+    with open(path, encoding="utf-8") as it:
+        return it.read()
+
+
+def check_lock(hold):
+    """What makes the runner try edits again, and what it says of a lock that lies."""
+    with tempfile.TemporaryDirectory(prefix="edits-test-") as room:
+        made(room, EDITS[:1])
+        write(f"{room}/crates.txt", "low:\nsample: low\n")
+        write(f"{room}/crates/low/src/lib.rt", LOW)
+        plan = lambda: run_of(room, [], "--plan")[1]
+        hold("without a lock all is tried", CHANGED in plan())
+        status, said = run_of(room, [])
+        hold("a lock is written once all are refused", status == 0 and said.endswith("\n1 passed, 0 failed\n") and HELD in plan())
+        lock = read(f"{room}/{edits_lock.FILE}")
+        for what, file, old, new, again in CHANGES:
+            path = f"{room}/crates/{file}"
+            text = read(path)
+            write(path, text.replace(old, new, 1) if old else new)
+            hold(f"{what} is changed", (CHANGED in plan()) == again and (HELD in plan()) != again)
+            if text:
+                write(path, text)
+            else:
+                os.remove(path)
+        hold("all is as it was", HELD in plan())
+        write(f"{room}/tools/rt", "#!/bin/sh\necho another version\n")
+        os.chmod(f"{room}/tools/rt", 0o755)
+        words = [sys.executable, f"{os.path.dirname(os.path.abspath(__file__))}/edits.py", "--at", room, "--plan"]
+        ran = subprocess.run(words, capture_output=True, text=True, env={**os.environ, "PATH": f"{room}/tools:{os.environ['PATH']}"})
+        hold("another toolchain", CHANGED in ran.stdout)
+        made(room, [EDITS[4]])
+        write(f"{room}/crates.txt", "low:\nsample: low\n")
+        known = crates_of(room)
+        made_up = edits_lock.hash_of(known["sample"], known, edits_lock.toolchain())
+        write(f"{room}/{edits_lock.FILE}", f"sample 2 {made_up}\n")
+        status, said = run_of(room, [])
+        found = "drawn" in said and "part_is_a_third.edit isn't refused" in said and "\n1 passed, 1 failed\n" in said
+        hold("a lock that lies is found", status == 1 and found and lock != read(f"{room}/{edits_lock.FILE}") == "")
+
+
 def main():
     passed, failed = 0, []
 
@@ -121,15 +206,16 @@ def main():
         # one check for most: each edit alone would be a check of its own
         checks = re.search(r"refused, by (\d+) checks", said)
         hold("few checks", checks and int(checks[1]) < len(EDITS))
-        # after rt ci, of which nothing was kept
-        after = run_of(room, EDITS, "--after-ci", "--kept", f"{room}/nothing")[1]
+        # after rt ci
+        after = run_of(room, EDITS, "--after-ci")[1]
         told = lambda text: sorted(it for it in text.split("\n") if it.startswith("edits: sample/"))
         hold("the same after rt ci", told(after) == told(said) and after.split("\n")[-2] == said.split("\n")[-2])
         with open(f"{room}/crates/sample/src/lib.rt", "w", encoding="utf-8") as it:
             it.write(SOURCE.replace("    n + 1", "    n"))
-        status, unproved = run_of(room, [], "--after-ci", "--kept", f"{room}/nothing")
+        status, unproved = run_of(room, [], "--after-ci")
         tried = [it for it in told(unproved) if " wasn't tried" not in it and " doesn't apply" not in it]
         hold("nothing where the crate isn't proved", status == 1 and not tried and f"\n0 passed, {len(EDITS)} failed\n" in unproved)
+    check_lock(hold)
     if failed:
         print(said)
         print(f"edits' own test: FAILED: {', '.join(failed)}")

@@ -1,0 +1,121 @@
+"""Says of which crates all edits were refused, and of which texts that was so, by tests/edits.lock: one line for each crate.
+
+    NAME COUNT HASH      all COUNT edits of the crate were refused
+
+Whether an edit is refused depends on the edit, on the sources, definitions and proofs of its crate, on what the crates below state, and on
+the toolchain. The hash is of all that. A crate below states its definitions and its sources without the bodies of functions (a const fn
+keeps its own, since others may see it); comments there count for nothing.
+"""
+import hashlib
+import os
+import re
+import subprocess
+
+from source_text import functions_of, without_comments
+
+FILE = "tests/edits.lock"
+COMMENT_OF_ANTT = re.compile(r"(?m)(?:^|(?<=\s))--(?=\s|$).*$")
+
+
+def files_below(folder):
+    for at, folders, names in os.walk(folder):
+        folders.sort()
+        for name in sorted(names):
+            yield f"{at}/{name}"
+
+
+def read(path):
+    with open(path, encoding="utf-8", errors="surrogateescape") as it:
+        return it.read()
+
+
+def stated(text):
+    """A source without its comments and the bodies of its functions, with single spaces."""
+    kept, at = [], 0
+    for it in functions_of(text):
+        if not it.is_const:
+            kept += [text[at : it.opens], "{}"]
+            at = it.ends
+    return " ".join(without_comments("".join([*kept, text[at:]])).split())
+
+
+def stated_by(folder):
+    """What a crate states, by file."""
+    for path in files_below(f"{folder}/src"):
+        yield os.path.relpath(path, folder), stated(read(path))
+    for path in files_below(f"{folder}/specs"):
+        yield os.path.relpath(path, folder), " ".join(COMMENT_OF_ANTT.sub("", read(path)).split())
+
+
+def toolchain():
+    ran = subprocess.run(["rt", "version"], capture_output=True, text=True)
+    return ran.stdout.strip()
+
+
+def hash_of(crate, known, version):
+    """The hash of all that decides whether the edits of a crate are refused."""
+    made = hashlib.sha256()
+
+    def add(*parts):
+        for it in parts:
+            text = it.encode("utf-8", "surrogateescape")
+            made.update(b"%d:" % len(text) + text)
+
+    add(version, crate.name, *sorted(crate.deps))
+    for part in ("src", "specs", "proofs", "edits"):
+        for path in files_below(f"{crate.folder}/{part}"):
+            add(os.path.relpath(path, crate.folder), read(path))
+    for name in sorted(crate.below):
+        add(name, *sorted(known[name].deps))
+        for path, text in stated_by(known[name].folder):
+            add(path, text)
+    return made.hexdigest()
+
+
+def read_lock(top):
+    """The number of edits and the hash of each crate in the lock."""
+    path = f"{top}/{FILE}"
+    rows = [it.split() for it in read(path).splitlines()] if os.path.isfile(path) else []
+    return {it[0]: (int(it[1]), it[2]) for it in rows if len(it) == 3 and it[1].isdigit()}
+
+
+def write_lock(top, rows):
+    os.makedirs(os.path.dirname(f"{top}/{FILE}"), exist_ok=True)
+    with open(f"{top}/{FILE}.new", "w", encoding="utf-8") as it:
+        it.writelines(f"{name} {count} {made}\n" for name, (count, made) in sorted(rows.items()))
+    os.replace(f"{top}/{FILE}.new", f"{top}/{FILE}")
+
+
+def drawn(top, names):
+    """One of these crates, drawn by the hash of the commit (of the lock, outside of git)."""
+    ran = subprocess.run(["git", "-C", top, "rev-parse", "HEAD"], capture_output=True, text=True)
+    word = ran.stdout.strip() if ran.returncode == 0 else str(sorted(read_lock(top).items()))
+    number = int(hashlib.sha256(word.encode()).hexdigest(), 16)
+    return sorted(names)[number % len(names)] if names else None
+
+
+class Lock:
+    """The lock of a repository, and what it says of the crates that have edits."""
+
+    def __init__(self, top, known, crates):
+        version = toolchain()
+        self.top, self.rows = top, read_lock(top)
+        self.hashes = {it.name: hash_of(it, known, version) for it in crates}
+        wanted = {it.name: (len(it.edits), self.hashes[it.name]) for it in crates}
+        self.holds = {name for name, row in wanted.items() if self.rows.get(name) == row}
+        self.drawn = drawn(top, self.holds)
+
+    def to_try(self, crates):
+        """The crates of which the lock has no line or another one, and the one that is drawn."""
+        return [it for it in crates if it.name not in self.holds or it.name == self.drawn]
+
+    def keep(self, crates):
+        """Writes the lines of these crates, all of whose edits were just refused, and drops the lines of those that have no edits."""
+        rows = {name: row for name, row in read_lock(self.top).items() if name in self.hashes}
+        rows |= {it.name: (len(it.edits), self.hashes[it.name]) for it in crates}
+        write_lock(self.top, rows)
+
+    def forget(self, crates):
+        """Drops the lines of crates of which an edit wasn't refused."""
+        names = {it.name for it in crates}
+        write_lock(self.top, {name: row for name, row in read_lock(self.top).items() if name not in names})
