@@ -12,8 +12,13 @@ TOP = Path(__file__).resolve().parent.parent
 PROGRAM = "#!/bin/sh\necho \"the program got $*\"\n"
 # Builds the program, as `rt run` does, and notes each call.
 RT = f"""#!/bin/sh
-echo "$PWD $*" | sed 's|.*/crates/||' >>"$CALLS"
+echo "$PWD $*" | sed 's|.*/crates/||; s|.*/.build-[0-9]*|together|; s| --jobs [0-9]*$||' >>"$CALLS"
 [ "$1" = lib ] && exit
+if [ "$1" = all ]; then
+  cat crates.txt >>"$CALLS"
+  for it in crates/*; do [ -d "$it/src" ] && mkdir -p "$it/out" && touch "$it/out/proved" && echo "== ${{it#crates/}}"; done
+  exit
+fi
 mkdir -p out && printf '%s' '{PROGRAM}' >out/krbtool && chmod +x out/krbtool
 """
 
@@ -72,3 +77,19 @@ def checks(_program):
         os.utime(room / "crates/krb_name/specs", (1, 1))
         (room / "crates/krbtool/src/main.rt").unlink()
         yield holds("builds where a source is gone", called(room, "./krbtool", room), BUILT)
+        yield from together(room, holds)
+
+
+def together(room, holds):
+    """Two crates that don't stand on each other are proved at one time, over what was kept of them, and a third that stands on both after them."""
+    names = {"krb_name": "", "krb_aes": "", "krb_ap": "krb_name krb_aes", "krbtool": "krb_ap krb_name"}
+    (room / "crates.txt").write_text("".join(f"{name}: {below}\n" for name, below in names.items()))
+    for name in names:
+        written(room / f"crates/{name}/src/lib.rt", "", age=-120)
+    written(room / "crates/krb_aes/out/kept", "")
+    wanted = ["together all check", "krb_name: ", "krb_aes: ", "krb_name lib", "krb_aes lib", "krb_ap lib", "krbtool run -- --help"]
+    yield holds("proves crates side by side", called(room, "./krbtool", room), wanted)
+    left = [it.name for it in room.glob(".build-*")]
+    there = sorted(str(it.relative_to(room / "crates")) for it in room.glob("crates/*/out/*") if it.name != "krbtool")
+    wanted = ["krb_aes/out/kept", "krb_aes/out/proved", "krb_name/out/proved"]
+    yield "the script krbtool: what was proved is kept", None if (left, there) == ([], wanted) else f"{left} {there}"
