@@ -1,5 +1,5 @@
 -- The line that is being read, and what is kept of it.
-use Rattle.std.specs.Prelude.{◌≡◌, ◌⊎◌, ◌<◌, ◌≤◌, ℕ, List, length, true, false}
+use Rattle.std.specs.Prelude.{◌≡◌, ◌⊎◌, ◌<◌, ◌≤◌, ℕ, List, [], length, true, false}
 use Rattle.krbtool.specs.CallLine.{line_limit}
 use Rattle.krbtool.specs.declared.part_line.PartLine.{PartLine}
 
@@ -12,6 +12,7 @@ pub record HoldsAll (part : PartLine) (line : List ℕ) : Type 0 where
 -- nothing of a line that is too long
 pub record HoldsNothing (part : PartLine) (line : List ℕ) : Type 0 where
   pub long : part.too_long ≡ true
+  pub bytes_are : part.bytes.items ≡ []
   pub limit : line_limit < length line
 
 abbrev pub Holds : PartLine → List ℕ → Type 0

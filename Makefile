@@ -1,0 +1,70 @@
+# Builds, checks, installs and packs krbtool, the library for C and the Python package.
+#
+#   make                  krbtool, libfevstunik.a and libfevstunik.so, in build/
+#   make check            all proofs and tests, as ./test runs them
+#   make install          below DESTDIR and PREFIX (/usr/local), libraries in LIBDIR
+#   make uninstall        removes what install put there
+#   make dist             a tarball of what was built, with checksums, for people without the toolchain
+
+VERSION := $(shell packaging/version)
+PREFIX ?= /usr/local
+LIBDIR ?= $(PREFIX)/lib
+BINDIR = $(DESTDIR)$(PREFIX)/bin
+INCLUDEDIR = $(DESTDIR)$(PREFIX)/include
+MANDIR = $(DESTDIR)$(PREFIX)/share/man
+TO_LIB = $(DESTDIR)$(LIBDIR)
+BUILD := build
+# The library for every x86-64, and those for newer processors, which the loader takes by itself.
+NEWER := x86-64-v2
+SOURCES := $(shell find crates -path '*/out' -prune -o -type f \( -name '*.rt' -o -name '*.antt' \) -print) crates.txt
+LIBRARIES := $(BUILD)/x86-64/libfevstunik.a $(NEWER:%=$(BUILD)/%/libfevstunik.a)
+MANUALS := $(wildcard docs/man/*.[1-8])
+
+.PHONY: all check install uninstall dist clean
+all: $(BUILD)/krbtool $(LIBRARIES) $(BUILD)/fevstunik.pc
+
+# (each build leaves its archive in the crate's out/, so they are made one after another)
+.NOTPARALLEL:
+
+$(BUILD)/krbtool: $(SOURCES)
+	./krbtool --version >/dev/null
+	install -D -m 755 crates/krbtool/out/krbtool $@
+
+$(BUILD)/%/libfevstunik.a: $(SOURCES) packaging/build-library packaging/fevstunik.map
+	packaging/build-library $* $(BUILD)/$* $(VERSION)
+
+$(BUILD)/fevstunik.pc: packaging/fevstunik.pc.in Makefile include/fevstunik.h
+	mkdir -p $(BUILD)
+	sed 's|@PREFIX@|$(PREFIX)|; s|@LIBDIR@|$(LIBDIR)|; s|@VERSION@|$(VERSION)|' $< >$@
+
+check:
+	./test
+
+install: all
+	install -D -m 755 $(BUILD)/krbtool $(BINDIR)/krbtool
+	install -D -m 644 include/fevstunik.h $(INCLUDEDIR)/fevstunik.h
+	sed 's|@PREFIX@|$(PREFIX)|; s|@LIBDIR@|$(LIBDIR)|; s|@VERSION@|$(VERSION)|' packaging/fevstunik.pc.in >$(BUILD)/fevstunik.pc
+	install -D -m 644 $(BUILD)/fevstunik.pc $(TO_LIB)/pkgconfig/fevstunik.pc
+	install -D -m 644 $(BUILD)/x86-64/libfevstunik.a $(TO_LIB)/libfevstunik.a
+	install -D -m 644 $(BUILD)/x86-64/libfevstunik.so.$(VERSION) $(TO_LIB)/libfevstunik.so.$(VERSION)
+	ln -sf libfevstunik.so.$(VERSION) $(TO_LIB)/libfevstunik.so.0
+	ln -sf libfevstunik.so.0 $(TO_LIB)/libfevstunik.so
+	for cpu in $(NEWER); do \
+	  install -D -m 644 $(BUILD)/$$cpu/libfevstunik.so.$(VERSION) $(TO_LIB)/glibc-hwcaps/$$cpu/libfevstunik.so.$(VERSION) && \
+	  ln -sf libfevstunik.so.$(VERSION) $(TO_LIB)/glibc-hwcaps/$$cpu/libfevstunik.so.0 || exit; \
+	done
+	for page in $(MANUALS); do \
+	  install -D -m 644 $$page $(MANDIR)/man$${page##*.}/$${page##*/} || exit; \
+	done
+
+uninstall:
+	rm -f $(BINDIR)/krbtool $(INCLUDEDIR)/fevstunik.h $(TO_LIB)/pkgconfig/fevstunik.pc $(TO_LIB)/libfevstunik.a
+	rm -f $(TO_LIB)/libfevstunik.so $(TO_LIB)/libfevstunik.so.0 $(TO_LIB)/libfevstunik.so.$(VERSION)
+	rm -f $(NEWER:%=$(TO_LIB)/glibc-hwcaps/%/libfevstunik.so.0) $(NEWER:%=$(TO_LIB)/glibc-hwcaps/%/libfevstunik.so.$(VERSION))
+	for page in $(MANUALS); do rm -f $(MANDIR)/man$${page##*.}/$${page##*/}; done
+
+dist: all
+	packaging/dist $(VERSION) $(BUILD)
+
+clean:
+	rm -rf $(BUILD)
