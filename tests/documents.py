@@ -1,0 +1,118 @@
+"""Holds the documents to what is there: their code is a program's, their commands are run, what they name as proved has these names, and
+their files exist.
+
+Each check is a pair: its name, and what is wrong, or None.
+"""
+import re
+import subprocess
+import tempfile
+from pathlib import Path
+
+import reflow
+
+TOP = Path(__file__).resolve().parent.parent
+EXAMPLE = TOP / "crates/krb_example"
+
+
+# How long the README may be, and how wide a line of a document.
+LINES, WIDTH = 200, 100
+# Those whose lines are laid out, and whose commands are run.
+LAID_OUT = ("README.md", "docs/KRBTOOL.md", "docs/LIBRARY.md", "docs/PROOFS.md")
+OF_THE_EXAMPLE = ("README.md", "docs/LIBRARY.md")
+OF_THE_PROGRAM = ("README.md", "docs/KRBTOOL.md")
+
+
+def text_of(name):
+    return (TOP / name).read_text()
+
+
+def blocks(name, language):
+    return re.findall(rf"^```{language}\n(.*?)^```$", text_of(name), re.S | re.M)
+
+
+def code(name):
+    """Each block of code stands in the example."""
+    program = (EXAMPLE / "src/main.rt").read_text()
+    strange = [it for it in blocks(name, "rust") if it not in program]
+    return f"not of the example: {strange}" if strange or not blocks(name, "rust") else None
+
+
+def example_output():
+    """What the example prints stands in the document of the library."""
+    wrote = (EXAMPLE / "stdout").read_text()
+    return None if wrote in blocks("docs/LIBRARY.md", "text") else "the example's output isn't there"
+
+
+def links(path):
+    """The files that a document links to are there."""
+    found = re.findall(r"\]\(([^)#]+)(?:#[^)]*)?\)", path.read_text())
+    gone = [it for it in found if "://" not in it and not (path.parent / it).exists()]
+    return f"no file {gone}" if gone else None
+
+
+def layout(name):
+    """No paragraph has lines that are too long, and none could be laid out otherwise."""
+    return None if reflow.laid_out(text_of(name)) == text_of(name) else f"lay it out by tests/reflow.py {name}"
+
+
+def told(block):
+    """The commands of a block, each with what it says. A line that ends in a backslash or a pipe goes on in the next."""
+    for part in re.split(r"^\$ ", block, flags=re.M)[1:]:
+        command, _, said = part.partition("\n")
+        while command.endswith(("\\", "|")):
+            more, _, said = said.partition("\n")
+            command += "\n" + more
+        yield command, said
+
+
+def commands(program):
+    """Each command says what stands below it."""
+    with tempfile.TemporaryDirectory(prefix="krbtool-readme-") as folder:
+        (Path(folder) / "krbtool").symlink_to(program)
+        (Path(folder) / "examples").symlink_to(TOP / "examples")
+        for name in OF_THE_PROGRAM:
+            for command, wanted in (it for block in blocks(name, "console") for it in told(block)):
+                ran = subprocess.run(["sh", "-c", command], cwd=folder, stdout=subprocess.PIPE, stderr=subprocess.STDOUT, timeout=60, text=True)
+                yield f"{name}: {command}", None if ran.stdout == wanted else f"it says {ran.stdout!r}"
+
+
+def names_of(crate):
+    """The names of a crate's calls, clauses, types, variants and fields, and of the files of its definitions that a reader has to know."""
+    folder = TOP / "crates" / crate
+    specs = [it for it in (folder / "specs").rglob("*.antt") if "Inner" not in it.parts]
+    sources = [it for it in (folder / "src").rglob("*.rt") if "test" not in it.name]
+    text = "\n".join(it.read_text() for it in [*sources, *specs])
+    forms = [
+        r"\b(?:fn|mod|struct|enum|trait|const|ensures|record|data|abbrev pub) (\w+)",
+        r"^  pub (\w+) :",
+        r"^    ([A-Z]\w*)[,(]",
+    ]
+    return {name for form in forms for name in re.findall(form, text, re.M)} | {it.stem for it in specs} | {crate}
+
+
+def unknown_names(part):
+    """The words in backticks that name nothing of the crates of a heading."""
+    heading, _, body = part.partition("\n")
+    known = set().union(*(names_of(it) for it in re.findall(r"`(krb\w+)`", heading)))
+    words = [" ".join(it.split()) for it in re.findall(r"`([^`]*)`", re.sub(r"<!--.*?-->", "", body))]
+    return [word for word in words if word.rstrip(":").split("::")[-1] not in known]
+
+
+def names():
+    parts = re.split(r"^## ", text_of("docs/PROOFS.md"), flags=re.M)
+    unknown = {part.partition("\n")[0]: unknown_names(part) for part in parts if part.startswith("`krb")}
+    unknown = {heading: words for heading, words in unknown.items() if words}
+    return f"names that aren't there: {unknown}" if unknown or len(parts) < 9 else None
+
+
+def checks(program):
+    for name in OF_THE_EXAMPLE:
+        yield f"{name}: its code is the example's", code(name)
+    yield "docs/LIBRARY.md: what the example prints", example_output()
+    yield "docs/PROOFS.md: what is proved has these names", names()
+    yield "README.md: its length", None if len(text_of("README.md").splitlines()) <= LINES else f"more than {LINES} lines"
+    for name in LAID_OUT:
+        yield f"{name}: its layout", layout(name)
+    for path in [TOP / "README.md", TOP / "tests/README.md", TOP / "bench/README.md", *sorted((TOP / "docs").glob("*.md"))]:
+        yield f"{path.relative_to(TOP)}: its links", links(path)
+    yield from commands(program)
