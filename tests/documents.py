@@ -17,7 +17,7 @@ EXAMPLE = TOP / "crates/krb_example"
 # How long the README may be, and how wide a line of a document.
 LINES, WIDTH = 200, 100
 # Those whose lines are laid out, and whose commands are run.
-LAID_OUT = ("README.md", "docs/KRBTOOL.md", "docs/LIBRARY.md", "docs/PROOFS.md")
+LAID_OUT = ("README.md", "docs/KRBTOOL.md", "docs/LIBRARY.md", "docs/OPERATING.md", "docs/PROOFS.md")
 OF_THE_EXAMPLE = ("README.md", "docs/LIBRARY.md")
 OF_THE_PROGRAM = ("README.md", "docs/KRBTOOL.md")
 
