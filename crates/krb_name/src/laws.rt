@@ -8,6 +8,8 @@ ghost use Rattle.krb_name.specs.Text.{text_of};
 ghost use Rattle.krb_name.specs.Reading.{AreComponents, IsReadAs, SameAnswer};
 ghost use Rattle.krb_name.specs.Cursor.{times_at, bytes_at, number_at, signed_at, data_at, number_bytes, signed_bytes, data_bytes};
 ghost use Rattle.krb_name.specs.Field.{IsBytes, IsField, AreDataOf};
+ghost use Rattle.krb_name.specs.File.{file_limit};
+ghost use Rattle.krb_name.specs.declared.file.TheConstants.{FILE_LIMIT};
 
 use crate::principal::Principal;
 use crate::text_fault::TextFault;
@@ -61,4 +63,9 @@ pub fn a_text_has_one_name()
     ensures empty { (principal : Principal)
         → text_of (record principal { components = [] })
         ≡ text_of (record principal { components = [] ∷ [] }) }
+{}
+
+/// Says that `FILE_LIMIT` is the limit that the definitions of files name.
+pub fn the_limit_is_one()
+    ensures { FILE_LIMIT ≡ file_limit }
 {}
