@@ -2,6 +2,7 @@
 
 ghost use Rattle.std.specs.Prelude.{◌≡◌, ◌⊎◌, ◌+◌, ◌-◌, ◌^◌, ◌<◌, ℕ, List, Some, Err, IfOk, IfErr, IfSome, OnOk, OnErr, length, string_bytes};
 ghost use Rattle.std.specs.Io.KnownBytes.{Appends, Keeps};
+ghost use Rattle.krb_name.specs.File.{LeavesTail};
 ghost use Rattle.krb_name.specs.Flow.{AppendsBeginning};
 ghost use Rattle.krb_ccache.specs.Format.{IsCache};
 ghost use Rattle.krb_ccache.specs.Format as in_cache;
@@ -52,6 +53,7 @@ pub fn check_keytab<S: Source, T: Sink>(
         AppendsBeginning (T.taken sink.old) (T.taken sink.new) (ok_line (length entries))) }
     ensures kind { IfErr result IsOfKeytab }
     ensures reads { S.failure_count source.new ≡ S.failure_count source.old + failed_reads result }
+    ensures left { LeavesTail (S.remaining source.old) (S.remaining source.new) }
     ensures writes { T.failure_count sink.new ≡ T.failure_count sink.old + failed_writes result }
 {
     let count = count_keytab(alloc, source)?;
@@ -95,6 +97,7 @@ pub fn check_ccache<S: Source, T: Sink>(
         AppendsBeginning (T.taken sink.old) (T.taken sink.new) (ok_line (length cache.credentials))) }
     ensures kind { IfErr result IsOfCache }
     ensures reads { S.failure_count source.new ≡ S.failure_count source.old + failed_reads result }
+    ensures left { LeavesTail (S.remaining source.old) (S.remaining source.new) }
     ensures writes { T.failure_count sink.new ≡ T.failure_count sink.old + failed_writes result }
 {
     let count = count_ccache(alloc, source)?;

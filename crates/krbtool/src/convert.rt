@@ -8,7 +8,7 @@ ghost use Rattle.krb_ccache.specs.Format as in_cache;
 ghost use Rattle.krb_ccache.specs.Value.{Cache};
 ghost use Rattle.krb_ccache.specs.declared.fault.CacheFault.{CacheFault};
 ghost use Rattle.krb_keytab.specs.Entry.{KeytabEntry};
-ghost use Rattle.krb_name.specs.File.{file_limit};
+ghost use Rattle.krb_name.specs.File.{LeavesTail, file_limit};
 ghost use Rattle.krb_keytab.specs.Format.{IsKeytab, IsFaultOf};
 ghost use Rattle.krb_keytab.specs.Written.{written};
 ghost use Rattle.krb_keytab.specs.declared.fault.KeytabFault.{KeytabFault};
@@ -62,6 +62,7 @@ pub fn convert_keytab<S: Source, T: Sink>(
     ensures memory { result ≡ Err EngineFault.OutOfMemory → ⊥ }
     ensures kind { IfErr result IsOfKeytab }
     ensures reads { S.failure_count source.new ≡ S.failure_count source.old + failed_reads result }
+    ensures left { LeavesTail (S.remaining source.old) (S.remaining source.new) }
     ensures writes { T.failure_count sink.new ≡ T.failure_count sink.old + failed_writes result }
 {
     let keytab = Keytab::read(alloc, source)?;
@@ -131,6 +132,7 @@ pub fn convert_ccache<S: Source, T: Sink>(
     ensures memory { result ≡ Err EngineFault.OutOfMemory → ⊥ }
     ensures kind { IfErr result IsOfCache }
     ensures reads { S.failure_count source.new ≡ S.failure_count source.old + failed_reads result }
+    ensures left { LeavesTail (S.remaining source.old) (S.remaining source.new) }
     ensures writes { T.failure_count sink.new ≡ T.failure_count sink.old + failed_writes result }
 {
     let cache = CCache::read(alloc, source)?;

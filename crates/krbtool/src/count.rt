@@ -31,6 +31,7 @@ pub(crate) fn count_keytab<S: Source>(alloc: Global, source: &mut S) -> Result<u
     ensures only { (bytes : List ℕ) (fault : KeytabFault)
         → S.remaining source.old ≡ Some bytes → IsFaultOf bytes fault
         → (result ≡ Err fault) ⊎ ((result ≡ Err KeytabFault.OutOfMemory) ⊎ (result ≡ Err KeytabFault.Read)) }
+    ensures left { LeavesTail (S.remaining source.old) (S.remaining source.new) }
     ensures failed { S.failure_count source.new
         ≡ S.failure_count source.old + of_keytab.failed_reads result }
 {
@@ -77,6 +78,7 @@ pub(crate) fn count_ccache<S: Source>(alloc: Global, source: &mut S) -> Result<u
     ensures only { (bytes : List ℕ) (fault : CacheFault)
         → S.remaining source.old ≡ Some bytes → in_cache.IsFaultOf bytes fault
         → (result ≡ Err fault) ⊎ ((result ≡ Err CacheFault.OutOfMemory) ⊎ (result ≡ Err CacheFault.Read)) }
+    ensures left { LeavesTail (S.remaining source.old) (S.remaining source.new) }
     ensures failed { S.failure_count source.new
         ≡ S.failure_count source.old + of_cache.failed_reads result }
 {

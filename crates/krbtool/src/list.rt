@@ -2,6 +2,7 @@
 
 ghost use Rattle.std.specs.Prelude.{◌≡◌, ◌⊎◌, ◌+◌, ◌-◌, ◌^◌, ◌<◌, ◌++◌, ◌∷◌, [], ℕ, List, Some, Err, IfOk, IfErr, IfSome, OnOk, OnErr, string_bytes};
 ghost use Rattle.std.specs.Io.KnownBytes.{Appends, Keeps};
+ghost use Rattle.krb_name.specs.File.{LeavesTail};
 ghost use Rattle.krb_name.specs.Flow.{AppendsBeginning};
 ghost use Rattle.krb_ccache.specs.Format.{IsCache};
 ghost use Rattle.krb_ccache.specs.Format as in_cache;
@@ -56,6 +57,7 @@ pub fn list_keytab<S: Source, T: Sink>(
         AppendsBeginning (T.taken sink.old) (T.taken sink.new) (keytab_lines entries)) }
     ensures kind { IfErr result IsOfKeytab }
     ensures reads { S.failure_count source.new ≡ S.failure_count source.old + failed_reads result }
+    ensures left { LeavesTail (S.remaining source.old) (S.remaining source.new) }
     ensures writes { T.failure_count sink.new ≡ T.failure_count sink.old + failed_writes result }
 {
     let keytab = Keytab::read(alloc, source)?;
@@ -113,6 +115,7 @@ pub fn list_ccache<S: Source, T: Sink>(
         AppendsBeginning (T.taken sink.old) (T.taken sink.new) (cache_lines cache)) }
     ensures kind { IfErr result IsOfCache }
     ensures reads { S.failure_count source.new ≡ S.failure_count source.old + failed_reads result }
+    ensures left { LeavesTail (S.remaining source.old) (S.remaining source.new) }
     ensures writes { T.failure_count sink.new ≡ T.failure_count sink.old + failed_writes result }
 {
     let cache = CCache::read(alloc, source)?;
