@@ -3,6 +3,7 @@ pub mod Entry
 pub mod Fault
 pub mod Format
 pub mod Items
+pub mod Only
 pub mod Pick
 pub mod Usable
 pub mod Written

@@ -1,10 +1,12 @@
 //! A keytab: the list of its entries.
 
-ghost use Rattle.std.specs.Prelude.{◌≡◌, ◌≢◌, ◌⊎◌, ◌≤◌, ◌<◌, ◌^◌, ◌-◌, ◌+◌, ℕ, List, IfOk, IfErr, IfSome, OnOk, Some, Err, Result, length};
+ghost use Rattle.std.specs.Prelude.{◌≡◌, ◌≢◌, ◌⊎◌, ◌≤◌, ◌<◌, ◌^◌, ◌-◌, ◌+◌, ℕ, List, All, IfOk, IfErr, IfSome, OnOk, Some, Err, Result, length};
 ghost use Rattle.std.specs.Io.KnownBytes.{IsAtEnd};
 ghost use Rattle.krb_keytab.specs.Entry.{KeytabEntry};
 ghost use Rattle.krb_keytab.specs.Fault.{offset_of, failed_reads};
+ghost use Rattle.krb_keytab.specs.Only.{KeepsOnly};
 ghost use Rattle.krb_keytab.specs.Pick.{IsPicked};
+ghost use Rattle.krb_name.specs.Name.{SameName};
 ghost use Rattle.krb_name.specs.File.{file_limit, ReadsFile};
 ghost use Rattle.krb_keytab.specs.Format.{IsKeytab, IsFaultOf, IsAnswerOf};
 ghost use Rattle.krb_keytab.specs.Written.{written};
@@ -149,6 +151,20 @@ impl Keytab {
         ensures { result.now ≡ self.now }
     {
         self.entries.as_slice()
+    }
+
+    /// Keeps only the entries of the principal `name`, in their order; the other keys are freed.
+    ///
+    /// A service that answers to one name takes this keytab, so that a ticket for another name of the
+    /// same file isn't for it. Names are compared as by `Principal::same_name`: realm and components,
+    /// and not the name type. No memory is taken. If no entry has the name, none is left.
+    pub fn only(mut self, name: &Principal) -> Keytab
+        ensures only { KeepsOnly name.now self result }
+        ensures named { All (λ entry. SameName entry.principal name.now) result }
+    {
+        self.entries
+            .retain(|entry| entry.principal().same_name(name));
+        self
     }
 
     /// Picks the entry for the principal `name`, the encryption type `etype` and the version number
