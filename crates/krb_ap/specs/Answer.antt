@@ -20,6 +20,7 @@ use Rattle.krb_ap.specs.declared.refusal.Refusal.TheVariants.{OutOfMemory}
 abbrev pub taken_of : Accepted → Taken
 taken_of x = record {
   client = x.client;
+  service = x.service;
   session_key = x.session_key;
   flags = x.flags.0;
   authtime = x.authtime;

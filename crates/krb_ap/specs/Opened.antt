@@ -55,6 +55,10 @@ pub record Asks (bytes : List ℕ) (request : ValueOf ap_req) : Type 0 where
   pub ordinary : ¬ HasBit (options_of request) use_session_key
   pub known : IsKnown (etype_of (sealed_ticket request))
 
+-- and its ticket is for this service
+abbrev pub AsksFor : List ℕ → Principal → Type 0
+AsksFor bytes service = (request : ValueOf ap_req) × (Asks bytes request × (service ≡ service_of request))
+
 -- and this entry of the keytab is chosen for its ticket
 pub record Keyed (setup : Setup) (bytes : List ℕ) (request : ValueOf ap_req) (entry : KeytabEntry) : Type 0 where
   pub asks : Asks bytes request

@@ -8,15 +8,17 @@ use Rattle.krb_msg.specs.Bits.{mutual_required}
 use Rattle.krb_msg.specs.Module.{typed, ap_req, enc_ticket_part, authenticator}
 use Rattle.krb_msg.specs.Fields.{options_of, part_client, flags_of, authtime_of, endtime_of, caddr_of, authorization_of, authenticator_subkey, authenticator_seq_number, authenticator_checksum, authenticator_authorization, authenticator_ctime, authenticator_cusec}
 use Rattle.krb_ap.specs.Setup.{Setup, Arrival}
-use Rattle.krb_ap.specs.Opened.{OpenedAs, session_key, sent_at, stamp_of}
+use Rattle.krb_ap.specs.Opened.{OpenedAs, service_of, session_key, sent_at, stamp_of}
 use Rattle.krb_ap.specs.Times.{Near, Alive, IsPathTrusted, IsDataIgnorable}
 use Rattle.krb_ap.specs.History.{effective, IsShown}
 
--- what is known of a request that was accepted: the ticket's client, session key, flags, times, addresses and authorization data,
+-- what is known of a request that was accepted: the ticket's client and service (its realm and sname, whichever entry of the keytab
+-- has the key), session key, flags, times, addresses and authorization data,
 -- the authenticator's subkey, sequence number, checksum, authorization data and time, and whether a reply is asked for. Times are whole seconds
 -- from 1970-01-01T00:00:00Z on, cusec is the microseconds of ctime.
 pub record Taken : Type 0 where
   pub client : Principal
+  pub service : Principal
   pub session_key : KeyValue
   pub flags : ℕ
   pub authtime : ℤ
@@ -37,6 +39,7 @@ is_mutual request = has_bit (options_of request) mutual_required
 abbrev pub taken_from : ValueOf ap_req → ValueOf enc_ticket_part → ValueOf authenticator → Taken
 taken_from request part auth = record {
   client = part_client part;
+  service = service_of request;
   session_key = session_key part;
   flags = flags_of part;
   authtime = authtime_of part;

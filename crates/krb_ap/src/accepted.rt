@@ -8,6 +8,9 @@ use krb_msg::{Flags, Microseconds, Principal, RawKey, Seconds, Typed};
 pub struct Accepted {
     /// The client, as the ticket names it.
     pub client: Principal,
+    /// The service that was asked for: the realm and the name of the ticket, with its name type. No key seals the name: where two
+    /// names of a keytab have one key, whoever has the ticket may write either.
+    pub service: Principal,
     /// The key that client and service share, from the ticket.
     pub session_key: Key,
     /// The ticket's flags.

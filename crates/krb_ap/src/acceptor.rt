@@ -6,7 +6,7 @@ ghost use Rattle.krb_msg.specs.Module.{ap_req};
 ghost use Rattle.krb_replay.specs.Memory.{later_of, AddsStamp, IsRecent, SameStamps};
 ghost use Rattle.krb_replay.specs.Stamp.{Stamp};
 ghost use Rattle.krb_ap.specs.Setup.{Arrival, arrival};
-ghost use Rattle.krb_ap.specs.Opened.{Asks};
+ghost use Rattle.krb_ap.specs.Opened.{Asks, AsksFor};
 ghost use Rattle.krb_ap.specs.History.{IsShown, IsShownLately, StandsFor};
 ghost use Rattle.krb_ap.specs.Taken.{Accept, Taken};
 ghost use Rattle.krb_ap.specs.Causes.{Cause, offset_of, place};
@@ -119,6 +119,9 @@ impl<M: ReplayMemory> Acceptor<M> {
             → (IsErrOf result OutOfMemory → ⊥)
             → SameStamps (IsShownLately self.old.setup (after history (arrival bytes.now now) result)) (M.has self.new.memory) }
 
+        // The service is the one that the ticket is for, whatever the memory stands for.
+        ensures service { IfOk result (λ accepted. AsksFor bytes.now accepted.service) }
+
         // Each answer but want of memory, refusals too, moves the latest moment to the one that counts; time doesn't go back.
         ensures moves { (IsErrOf result OutOfMemory → ⊥)
             → M.newest self.new.memory ≡ Some (later_of (M.newest self.old.memory) now) }
@@ -184,6 +187,7 @@ impl<M: ReplayMemory> Acceptor<M> {
             → M.newest self.new.memory ≡ Some (later_of (M.newest self.old.memory) now) }
         ensures offset { IfErr result (λ refusal. IfSome (offset_of refusal) (λ at. at ≤ length bytes.now)) }
         ensures memory { IsErrOf result OutOfMemory → (request : ValueOf ap_req) × Asks bytes.now request }
+        ensures service { IfOk result (λ accepted. AsksFor bytes.now accepted.service) }
         ensures unchanged { IsErrOf result OutOfMemory → SameStamps (M.has self.old.memory) (M.has self.new.memory)
             × (M.newest self.new.memory ≡ M.newest self.old.memory) }
     {

@@ -6,7 +6,7 @@ ghost use Rattle.krb_der.specs.Kind.{ValueOf};
 ghost use Rattle.krb_msg.specs.Borrowed.{ap_req_of, authenticator_of, enc_ticket_part_of, typed_of};
 ghost use Rattle.krb_msg.specs.Module.{ap_req};
 ghost use Rattle.krb_msg.specs.Owned.{owned_list_of, owned_typed_of};
-ghost use Rattle.krb_ap.specs.Opened.{Asks, OpenedAs, Ticketed, session_key as key_of_part, service_of};
+ghost use Rattle.krb_ap.specs.Opened.{Asks, AsksFor, OpenedAs, Ticketed, session_key as key_of_part, service_of};
 ghost use Rattle.krb_ap.specs.Taken.{taken_from};
 ghost use Rattle.krb_ap.specs.Answer.{taken_of};
 ghost use Rattle.krb_ap.specs.Inner.Judging.{IsPlacedWithin, IsPlaceless, Judges};
@@ -53,6 +53,7 @@ impl<M: ReplayMemory> Acceptor<M> {
         ensures placed { IsPlacedWithin bytes.now result }
         ensures asks { IfOk result (λ _. (request : ValueOf ap_req) × Asks bytes.now request) }
         ensures memory { IsErrOf result OutOfMemory → (request : ValueOf ap_req) × Asks bytes.now request }
+        ensures service { IfOk result (λ j. IfOk j.answer (λ x. AsksFor bytes.now x.service)) }
     {
         facts();
         krb_der::laws::within();
@@ -76,6 +77,7 @@ impl<M: ReplayMemory> Acceptor<M> {
         ensures same { self.new ≡ self.old }
         ensures named { IfOk result (λ j. IfErr j.answer (λ r. r ≢ OutOfMemory)) }
         ensures placeless { IsPlaceless result }
+        ensures service { IfOk result (λ j. IfOk j.answer (λ x. x.service ≡ service_of (ap_req_of request.now))) }
         ensures judged { (bytes : List ℕ) → Asks bytes (ap_req_of request.now) → server ≡ service_of (ap_req_of request.now)
             → Judges self.old.setup (M.has self.old.memory) (M.newest self.old.memory) bytes now result }
     {
@@ -106,6 +108,7 @@ impl<M: ReplayMemory> Acceptor<M> {
     ) -> Result<Judged, Refusal>
         ensures named { IfOk result (λ j. IfErr j.answer (λ r. r ≢ OutOfMemory)) }
         ensures placeless { IsPlaceless result }
+        ensures service { IfOk result (λ j. IfOk j.answer (λ x. x.service ≡ service_of (ap_req_of request.now))) }
         ensures judged { (bytes : List ℕ) → Ticketed self.now.setup bytes (ap_req_of request.now) (enc_ticket_part_of part.now)
             → server ≡ service_of (ap_req_of request.now)
             → Judges self.now.setup (M.has self.now.memory) (M.newest self.now.memory) bytes now result }
@@ -145,6 +148,7 @@ impl<M: ReplayMemory> Acceptor<M> {
     ) -> Result<Judged, Refusal>
         ensures named { IfOk result (λ j. IfErr j.answer (λ r. r ≢ OutOfMemory)) }
         ensures placeless { IsPlaceless result }
+        ensures service { IfOk result (λ j. IfOk j.answer (λ x. x.service ≡ service_of (ap_req_of request.now))) }
         ensures judged { (bytes : List ℕ)
             → OpenedAs self.now.setup bytes (ap_req_of request.now) (enc_ticket_part_of part.now) (authenticator_of auth.now)
             → server ≡ service_of (ap_req_of request.now) → session_key ≡ key_of_part (enc_ticket_part_of part.now)
@@ -189,11 +193,13 @@ fn accepted(
     part: &EncTicketRef,
     auth: &AuthenticatorRef,
 ) -> Result<Accepted, AllocError>
-    ensures { session_key ≡ key_of_part (enc_ticket_part_of part.now)
+    ensures service { IfOk result (λ x. x.service ≡ service_of (ap_req_of request.now)) }
+    ensures known { session_key ≡ key_of_part (enc_ticket_part_of part.now)
         → IfOk result (λ x. taken_of x ≡ taken_from (ap_req_of request.now) (enc_ticket_part_of part.now) (authenticator_of auth.now)) }
 {
     Ok(Accepted {
         client: part.cname.to_principal(alloc, part.crealm)?,
+        service: service(alloc, &request.ticket)?,
         session_key,
         flags: part.flags,
         authtime: part.authtime,

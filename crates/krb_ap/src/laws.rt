@@ -4,7 +4,7 @@ ghost use Rattle.std.specs.Prelude.{◌≡◌, ◌⊎◌, ℕ, ℤ, List, Result
 ghost use Rattle.krb_name.specs.declared.principal.Principal.{Principal};
 ghost use Rattle.krb_der.specs.Kind.{ValueOf};
 ghost use Rattle.krb_msg.specs.Module.{enc_ticket_part, ticket as ticket_kind};
-ghost use Rattle.krb_msg.specs.Fields.{part_client};
+ghost use Rattle.krb_msg.specs.Fields.{part_client, ticket_service};
 ghost use Rattle.krb_ccache.specs.Value.{Cache};
 ghost use Rattle.krb_replay.specs.Stamp.{Stamp};
 ghost use Rattle.krb_ap.specs.Setup.{Setup, Arrival, arrival};
@@ -43,7 +43,8 @@ pub fn one_answer()
 }
 
 /// Says that a service accepts a request that a client built, after each history and at each moment that lets it be taken, where the
-/// key that its keytab has for the ticket opens it to the credential's client and key. It then knows what the client awaits.
+/// key that its keytab has for the ticket opens it to the credential's client and key. It then knows what the client awaits, and the
+/// service that the ticket is for.
 ///
 /// What `make_request` answers is such a request, and `accept` answers so, or `OutOfMemory`, by its clause `taken`.
 pub fn built_is_accepted()
@@ -53,6 +54,7 @@ pub fn built_is_accepted()
         → HasTicket setup request.credential ticket part
         → MayBeTaken setup history moment at ticket part
         → (taken : Taken) × Accept setup history (arrival bytes moment) taken × (taken.client ≡ part_client part)
+        × (taken.service ≡ ticket_service ticket)
         × (taken.wants_reply ≡ options.mutual) × Agrees taken awaited }
 {
     facts();

@@ -3,4 +3,4 @@ mod Handles
 mod Making
 mod Requests
 mod Truth
-mod Asked
+mod Remembered

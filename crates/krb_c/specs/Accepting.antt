@@ -1,7 +1,5 @@
 -- What a filled handle is, and what is made of a call of it.
 use Rattle.std.specs.Prelude.{◌≡◌, ◌≤◌, ◌<◌, ℕ, ℤ, List, [], length, Contains, Option, Some, None, Result, Ok, Err, IfErr, IfSome, IsErrOf}
-use Rattle.std.specs.Option.{option_map}
-use Rattle.krb_name.specs.declared.principal.Principal.{Principal}
 use Rattle.krb_der.specs.Kind.{ValueOf}
 use Rattle.krb_der.specs.Time.{IsSeconds}
 use Rattle.krb_msg.specs.Module.{ap_req}
@@ -10,7 +8,7 @@ use Rattle.krb_keytab.specs.Entry.{KeytabEntry}
 use Rattle.krb_replay.specs.Memory.{later_of, SameStamps}
 use Rattle.krb_replay.specs.Stamp.{Stamp}
 use Rattle.krb_ap.specs.Setup.{Arrival}
-use Rattle.krb_ap.specs.Opened.{Asks, service_of, stamp_at}
+use Rattle.krb_ap.specs.Opened.{Asks, AsksFor, stamp_at}
 use Rattle.krb_ap.specs.History.{IsShownLately, StandsFor}
 use Rattle.krb_ap.specs.Causes.{offset_of}
 use Rattle.krb_ap.specs.Answer.{Answers, after}
@@ -19,7 +17,6 @@ use Rattle.krb_ap.specs.declared.refusal.Refusal.{Refusal}
 use Rattle.krb_ap.specs.declared.refusal.Refusal.TheVariants.{OutOfMemory}
 use Rattle.krb_c.specs.Answer.{plain, told}
 use Rattle.krb_c.specs.Codes.{nothing_there, ok}
-use Rattle.krb_c.specs.declared.admitted.Admitted.{Admitted}
 use Rattle.krb_c.specs.declared.answer.Answer.{Answer}
 use Rattle.krb_c.specs.declared.answer.Time.{Time}
 use Rattle.krb_c.specs.declared.login.Login.{Login}
@@ -43,13 +40,9 @@ fresh entries skew = record {
   refusal = None;
 }
 
--- the bytes are a request of the ordinary kind, with a ticket for this service
-abbrev pub AsksFor : List ℕ → Principal → Type 0
-AsksFor bytes service = (request : ValueOf ap_req) × (Asks bytes request × (service ≡ service_of request))
-
 -- what a request that was accepted is remembered by
-abbrev pub stamp_told : Admitted → Stamp
-stamp_told admitted = stamp_at admitted.service admitted.accepted.client (micros_of admitted.accepted.ctime admitted.accepted.cusec)
+abbrev pub stamp_told : Accepted → Stamp
+stamp_told x = stamp_at x.service x.client (micros_of x.ctime x.cusec)
 
 -- what was accepted, if it was
 abbrev pub accepted_by : Result Accepted Refusal → Option Accepted
@@ -92,8 +85,8 @@ pub record Decides (old new : Login) (call : Arrival) (answer : Answer) : Type 0
   pub offset : IfErr outcome (λ refusal. IfSome (offset_of refusal) (λ at. at ≤ length call.bytes))
   pub memory : IsErrOf outcome OutOfMemory → (request : ValueOf ap_req) × Asks call.bytes request
   pub unchanged : IsErrOf outcome OutOfMemory → SameStamps (Remembers old) (Remembers new) × (latest_of new ≡ latest_of old)
-  pub last : option_map (λ admitted. admitted.accepted) new.last ≡ accepted_by outcome
-  pub service : IfSome new.last (λ admitted. AsksFor call.bytes admitted.service)
-  pub remembered : (history : List Arrival) → Stands old history → IfSome new.last (λ admitted. Remembers new (stamp_told admitted))
+  pub last : new.last ≡ accepted_by outcome
+  pub service : IfSome new.last (λ accepted. AsksFor call.bytes accepted.service)
+  pub remembered : (history : List Arrival) → Stands old history → IfSome new.last (λ accepted. Remembers new (stamp_told accepted))
   pub refusal : new.refusal ≡ refused_by outcome
   pub told_is : answer ≡ told outcome

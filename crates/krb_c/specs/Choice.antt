@@ -8,7 +8,6 @@ use Rattle.krb_ap.specs.Reply.{IsReply}
 use Rattle.krb_ap.specs.declared.accepted.Accepted.{Accepted}
 use Rattle.krb_c.specs.Answer.{Delivers, plain}
 use Rattle.krb_c.specs.Codes.{bad_confounder, key_length, key_type, nothing_there, ok, out_of_memory, text_integrity, text_short}
-use Rattle.krb_c.specs.declared.admitted.Admitted.{Admitted}
 use Rattle.krb_c.specs.declared.answer.Answer.{Answer}
 use Rattle.krb_c.specs.declared.choice.Choice.{Choice}
 
@@ -83,7 +82,7 @@ IsChecked key usage text tag answer =
     ⊎ ((tag ≢ checksum_of (profile_of key) key.bytes usage text) × (answer ≡ plain text_integrity))))
 
 -- the reply to what was accepted is handed over, or it is told why not
-abbrev pub TellsReply : Option Admitted → List ℕ → Choice → List ℕ → List ℕ → List ℕ → Answer → Type 0
+abbrev pub TellsReply : Option Accepted → List ℕ → Choice → List ℕ → List ℕ → List ℕ → Answer → Type 0
 TellsReply None confounder choice subkey old new answer = (answer ≡ plain nothing_there) × (new ≡ old)
-TellsReply (Some admitted) confounder choice subkey old new answer =
-    Delivers (Replied admitted.accepted confounder choice subkey) (IsReplyFault confounder choice subkey) old new answer
+TellsReply (Some accepted) confounder choice subkey old new answer =
+    Delivers (Replied accepted confounder choice subkey) (IsReplyFault confounder choice subkey) old new answer

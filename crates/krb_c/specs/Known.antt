@@ -5,7 +5,6 @@ use Rattle.krb_msg.specs.declared.key.RawKey.{RawKey}
 use Rattle.krb_ap.specs.declared.accepted.Accepted.{Accepted}
 use Rattle.krb_c.specs.Answer.{Hands, plain}
 use Rattle.krb_c.specs.Codes.{nothing_there, out_of_memory}
-use Rattle.krb_c.specs.declared.admitted.Admitted.{Admitted}
 use Rattle.krb_c.specs.declared.answer.Answer.{Answer}
 use Rattle.krb_c.specs.declared.known.Known.{Known}
 use Rattle.krb_c.specs.declared.known.Span.{Span}
@@ -33,15 +32,15 @@ span before bytes = record { at = length before; size = length bytes }
 abbrev pub keys_told : Accepted → List ℕ
 keys_told x = (text_of x.client ++ x.session_key.bytes) ++ key_bytes x.subkey
 
-abbrev pub told_bytes : Admitted → List ℕ
-told_bytes a = keys_told a.accepted ++ text_of a.service
+abbrev pub told_bytes : Accepted → List ℕ
+told_bytes x = keys_told x ++ text_of x.service
 
-abbrev pub known_of : Admitted → Known
-known_of a = let x = a.accepted in record {
+abbrev pub known_of : Accepted → Known
+known_of x = record {
   client = span [] (text_of x.client);
   session_key = span (text_of x.client) x.session_key.bytes;
   subkey = span (text_of x.client ++ x.session_key.bytes) (key_bytes x.subkey);
-  service = span (keys_told x) (text_of a.service);
+  service = span (keys_told x) (text_of x.service);
   authtime = x.authtime;
   endtime = x.endtime;
   ctime = x.ctime;
@@ -49,7 +48,7 @@ known_of a = let x = a.accepted in record {
   flags = x.flags.0;
   seq = number_or_zero x.seq;
   name_type = x.client.name_type;
-  service_type = a.service.name_type;
+  service_type = x.service.name_type;
   session_type = x.session_key.etype;
   subkey_type = key_type x.subkey;
   has_subkey = is_there x.subkey;
@@ -58,7 +57,7 @@ known_of a = let x = a.accepted in record {
 }
 
 -- What was accepted is told, or that nothing was, or there was no room. The places are told also where the buffer is too short.
-abbrev pub TellsKnown : Option Admitted → Known → Known → List ℕ → List ℕ → Answer → Type 0
+abbrev pub TellsKnown : Option Accepted → Known → Known → List ℕ → List ℕ → Answer → Type 0
 TellsKnown None was is old new answer = (answer ≡ plain nothing_there) × ((is ≡ was) × (new ≡ old))
 TellsKnown (Some x) was is old new answer =
     (Hands (told_bytes x) old new answer × (is ≡ known_of x)) ⊎ ((answer ≡ plain out_of_memory) × ((is ≡ was) × (new ≡ old)))

@@ -3,7 +3,7 @@
 ghost use Rattle.std.specs.Prelude.{◌≡◌, ◌++◌, IfOk, length};
 ghost use Rattle.krb_c.specs.Known.{is_there, key_bytes, key_type, known_of, number_or_zero, told_bytes};
 
-use crate::admitted::Admitted;
+use krb_ap::Accepted;
 use krb_msg::RawKey;
 use std::alloc::{AllocError, Global};
 
@@ -58,11 +58,10 @@ pub struct Known {
 }
 
 /// The bytes that are told, and where each part stands.
-pub(crate) fn tell(alloc: Global, admitted: &Admitted) -> Result<(Vec<u8>, Known), AllocError>
-    ensures bytes { IfOk result (λ made. made.0.items ≡ told_bytes admitted.now) }
-    ensures known { IfOk result (λ made. made.1 ≡ known_of admitted.now) }
+pub(crate) fn tell(alloc: Global, accepted: &Accepted) -> Result<(Vec<u8>, Known), AllocError>
+    ensures bytes { IfOk result (λ made. made.0.items ≡ told_bytes accepted.now) }
+    ensures known { IfOk result (λ made. made.1 ≡ known_of accepted.now) }
 {
-    let accepted = &admitted.accepted;
     let text = accepted.client.to_text(alloc)?;
     let mut bytes = Vec::from_slice(alloc, text.as_bytes())?;
     let client = Span {
@@ -71,7 +70,7 @@ pub(crate) fn tell(alloc: Global, admitted: &Admitted) -> Result<(Vec<u8>, Known
     };
     let session_key = append(&mut bytes, accepted.session_key.bytes())?;
     let subkey = append(&mut bytes, bytes_of(&accepted.subkey))?;
-    let text = admitted.service.to_text(alloc)?;
+    let text = accepted.service.to_text(alloc)?;
     let service = append(&mut bytes, text.as_bytes())?;
     let known = Known {
         client,
@@ -85,7 +84,7 @@ pub(crate) fn tell(alloc: Global, admitted: &Admitted) -> Result<(Vec<u8>, Known
         flags: accepted.flags.0,
         seq: number(accepted.seq),
         name_type: accepted.client.name_type,
-        service_type: admitted.service.name_type,
+        service_type: accepted.service.name_type,
         session_type: accepted.session_key.etype(),
         subkey_type: type_of(&accepted.subkey),
         has_subkey: has_key(&accepted.subkey),

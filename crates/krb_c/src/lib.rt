@@ -19,7 +19,6 @@
 #![tactic(auto)]
 
 mod acceptor;
-mod admitted;
 mod agreement;
 mod answer;
 mod asking;

@@ -9,7 +9,6 @@ ghost use Rattle.krb_c.specs.Answer.{plain, refused};
 ghost use Rattle.krb_c.specs.Codes.{ok};
 ghost use Rattle.krb_c.specs.Refusing.{Errors, IsErrorFault, TellsError, error_answer};
 
-use crate::admitted::{Admitted, asked_service};
 use crate::answer::{Answer, Time, hand_over};
 use crate::asking::typed_name_of;
 use crate::choice::{Choice, block_of};
@@ -17,7 +16,6 @@ use crate::code;
 use crate::known::{Known, tell};
 use krb_ap::{Accepted, Acceptor, Refusal, ReplyFault, ReplyOptions, error_reply};
 use krb_msg::Moment;
-use krb_msg::laws::one_value;
 use krb_replay::{ReplayMemory, TimedMemory};
 use std::alloc::Global;
 
@@ -25,36 +23,26 @@ use std::alloc::Global;
 #[derive(Drop)]
 pub struct Login {
     pub acceptor: Acceptor<TimedMemory>,
-    pub last: Option<Admitted>,
+    pub last: Option<Accepted>,
     pub refusal: Option<Refusal>,
 }
 
 impl Login {
-    /// Decides a request, and keeps what is accepted, or why it is refused. The service's name is copied first: where there is no room for
-    /// it, the service has seen nothing.
+    /// Decides a request, and keeps what is accepted, or why it is refused.
     pub(crate) fn decide(&mut self, alloc: Global, bytes: &[u8], now: Moment) -> Answer
         ensures { Decides self.old self.new (arrival bytes.now now) result }
     {
-        one_value();
-        let service = match asked_service(alloc, bytes) {
-            Ok(service) => service,
-            Err(_) => return self.refuse(Refusal::OutOfMemory),
-        };
         match self.acceptor.accept(alloc, bytes, now) {
-            Ok(accepted) => match service {
-                Some(service) => self.keep(Admitted { accepted, service }),
-                // This doesn't happen: after no history is a request accepted that asks for no service.
-                None => self.refuse(Refusal::UserToUser),
-            },
+            Ok(accepted) => self.keep(accepted),
             Err(refusal) => self.refuse(refusal),
         }
     }
 
-    fn keep(&mut self, admitted: Admitted) -> Answer
-        ensures kept { self.new ≡ record { acceptor = self.old.acceptor; last = Some admitted; refusal = None } }
+    fn keep(&mut self, accepted: Accepted) -> Answer
+        ensures kept { self.new ≡ record { acceptor = self.old.acceptor; last = Some accepted; refusal = None } }
         ensures answer { result ≡ plain ok }
     {
-        self.last = Some(admitted);
+        self.last = Some(accepted);
         self.refusal = None;
         Answer::plain(code::OK)
     }
@@ -98,7 +86,7 @@ impl Login {
         ensures { TellsKnown self.now.last known.old known.new buffer.old buffer.new result }
     {
         match &self.last {
-            Some(admitted) => match tell(alloc, admitted) {
+            Some(accepted) => match tell(alloc, accepted) {
                 Ok((bytes, told)) => {
                     *known = told;
                     hand_over(bytes.as_slice(), buffer)
@@ -141,7 +129,7 @@ impl Login {
         ensures { TellsReply self.now.last confounder.now choice.now subkey.now buffer.old buffer.new result }
     {
         match &self.last {
-            Some(admitted) => match replied(alloc, &admitted.accepted, confounder, choice, subkey) {
+            Some(accepted) => match replied(alloc, accepted, confounder, choice, subkey) {
                 Ok(bytes) => hand_over(bytes.as_slice(), buffer),
                 Err(answer) => answer,
             },

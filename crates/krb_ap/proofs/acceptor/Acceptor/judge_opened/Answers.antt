@@ -77,7 +77,7 @@ returns-in-Ok-accepted-clause-judged g c = λ bytes opened server session histor
         near = near;
         stamp_is = tuple;
       };
-      answers = times_accept c.facts.ensures c.args.self.now.setup history bytes moment (ap_req_of c.args.request.now) (enc_ticket_part_of c.args.part.now) (authenticator_of c.args.auth.now) opened near unshown _ (c.in-Ok-accepted.ensures session) passed;
+      answers = times_accept c.facts.ensures c.args.self.now.setup history bytes moment (ap_req_of c.args.request.now) (enc_ticket_part_of c.args.part.now) (authenticator_of c.args.auth.now) opened near unshown _ (c.in-Ok-accepted.ensures.known session) passed;
       named = tt;
     }
 
