@@ -14,7 +14,7 @@ use Rattle.krb_keytab.specs.declared.stage.Stage.{Stage}
 use Rattle.krb_keytab.specs.declared.stage.Stage.TheVariants.{End, Failed}
 use Rattle.krb_ccache.specs.Format as cache
 use Rattle.krb_ccache.specs.Reader as reads
-use Rattle.krb_name.specs.File.{IsGiven}
+use Rattle.krb_name.specs.File.{IsGiven, LeavesTail}
 use Rattle.krb_ccache.specs.Value.{Cache}
 use Rattle.krb_ccache.specs.declared.credential.Credential.{Credential}
 use Rattle.krb_ccache.specs.declared.fault.CacheFault.{CacheFault}
@@ -185,3 +185,16 @@ pub fault_from : (Begun : Option (List ℕ) → Type 0) (from : Option (List ℕ
     → IfErr result (λ fault. fault ≢ of_cache.OutOfMemory → fault ≢ of_cache.Read → IfSome from (λ bytes. cache.IsFaultOf bytes fault))
 fault_from Begun from (Ok count) begun fault = tt
 fault_from Begun from (Err f) begun fault = λ memory read. fault memory read from begun
+
+-- ---- what is left of a source
+
+pub tail_then : (from middle to : Option (List ℕ)) → LeavesTail from middle → LeavesTail middle to → LeavesTail from to
+tail_then from middle to one other = (one.0 ++ other.0, Consumes-trans from middle to one.0 other.0 one.1 other.1)
+
+pub entries_tail : {S : Type 0} (from middle to : Option (List ℕ)) (old new : EntriesRead S) (count : ℕ) (result : Result Bool KeytabFault) → EntriesCounted from middle old count
+    → ((bytes : List ℕ) (entries : List KeytabEntry) → HasRead middle old bytes entries
+    → (answer : Result (Option KeytabEntry) KeytabFault) × (result ≡ passed answer) × (piece : List ℕ) × Consumes middle to piece × HasRead to new (bytes ++ piece) (entries_after entries answer))
+    → LeavesTail from to
+entries_tail from middle to old new count result t reads =
+    let r = reads t.bytes t.entries t.read in
+    tail_then from middle to (t.bytes, t.taken) (r.2, r.3)

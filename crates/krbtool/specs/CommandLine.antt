@@ -53,12 +53,15 @@ request_moment = with_rule (with_rule request_operands (needed_number (codes "ti
 abbrev pub request : App
 request = with_rule (with_rule request_moment (needed_option (codes "confounder"))) (flag (codes "mutual"))
 
--- accept KEYTAB [--skew SECONDS] [--service NAME]
+-- accept KEYTAB [--skew SECONDS] [--service NAME] [--only NAME]
 abbrev pub accept_operands : App
 accept_operands = with_rule (new_app (codes "accept")) (operand (codes "KEYTAB"))
 
+abbrev pub accept_with_skew : App
+accept_with_skew = with_rule accept_operands (number_option (codes "skew") 86_400 (codes "300"))
+
 abbrev pub accept : App
-accept = with_rule (with_rule accept_operands (number_option (codes "skew") 86_400 (codes "300"))) (free_option (codes "service"))
+accept = with_rule (with_rule accept_with_skew (free_option (codes "service"))) (free_option (codes "only"))
 
 -- an app with two more subcommands
 abbrev pub with_two : App → App → App → App
@@ -115,6 +118,7 @@ pub record AsksAcceptance (rows : List Row) (words : AcceptWords) : Type 0 where
   pub keytab : HasOperand rows (codes "KEYTAB") words.keytab.now
   pub skew : HasOperand rows (codes "skew") words.skew.now
   pub service : HasOption rows (codes "service") words.service
+  pub only : HasOption rows (codes "only") words.only
 
 -- the order is the subcommand's, with the values that its entries have
 abbrev pub IsOrder : Order → Option (Text × List Row) → Type 0

@@ -224,13 +224,24 @@ fn orders_of_accept(rt: HostRuntime) -> Result<(), Fail> {
         keytab: "k",
         skew: "300",
         service: None,
+        only: None,
     };
     assert_eq!(rt; read_words(rt.alloc(), &words)?, Order::Accept(wanted));
-    let words = ["krbtool", "accept", "--service=a@B", "k", "--skew", "0"];
+    let words = [
+        "krbtool",
+        "accept",
+        "--service=a@B",
+        "k",
+        "--skew",
+        "0",
+        "--only",
+        "c@D",
+    ];
     let wanted = AcceptWords {
         keytab: "k",
         skew: "0",
         service: Some("a@B"),
+        only: Some("c@D"),
     };
     assert_eq!(rt; read_words(rt.alloc(), &words)?, Order::Accept(wanted));
     Ok(())

@@ -241,9 +241,17 @@ fn accept_command<'a>(alloc: Global) -> Result<Command<'a>, AllocError>
     let service = free_arg(
         alloc,
         "service",
-        "The service's name: what is refused with a code is followed by an error that tells it",
+        "The name that errors carry: an error follows what is refused with a code. Requests are accepted for any name of the keytab",
     );
-    accept_with_operand(alloc)?.arg(skew)?.arg(service)
+    let only = free_arg(
+        alloc,
+        "only",
+        "The one name for which requests are accepted; those for other names of the keytab are refused as NotUs",
+    );
+    accept_with_operand(alloc)?
+        .arg(skew)?
+        .arg(service)?
+        .arg(only)
 }
 
 // The command with two more subcommands.

@@ -64,12 +64,12 @@ pub fn file_line(name: &str) -> FaultLine<'_>
     }
 }
 
-/// Gives the line for a service's name that can't be read. It takes no memory.
-pub fn service_line(fault: &TextFault) -> FaultLine<'static>
-    ensures { result ≡ line_of (codes "service") (text_fault_name fault.now) (text_fault_place fault.now) }
+/// Gives the line for an argument of this name that isn't the name of a service. It takes no memory.
+pub fn name_line<'a>(argument: &'a str, fault: &TextFault) -> FaultLine<'a>
+    ensures { result ≡ line_of argument.entry.now (text_fault_name fault.now) (text_fault_place fault.now) }
 {
     FaultLine {
-        name: "service",
+        name: argument,
         fault: text_fault_name(fault),
         at: text_fault_place(fault),
     }

@@ -37,7 +37,7 @@ pub enum Order<'a> {
     },
     /// `request FILE SERVICE --time S --usec U --confounder H [--mutual]`: a request in hexadecimal.
     Request(RequestWords<'a>),
-    /// `accept KEYTAB [--skew SECONDS] [--service NAME]`: the lines of standard input answered by a service.
+    /// `accept KEYTAB [--skew SECONDS] [--service NAME] [--only NAME]`: the lines of standard input answered by a service.
     Accept(AcceptWords<'a>),
 }
 
@@ -48,8 +48,10 @@ pub struct AcceptWords<'a> {
     pub keytab: &'a str,
     /// By how many seconds clocks may differ, in decimal: 0 to 86400.
     pub skew: &'a str,
-    /// The service's name, where errors are to be told.
+    /// The name that errors carry, if they are asked for.
     pub service: Option<&'a str>,
+    /// The one name for which requests are accepted; of any name of the keytab if absent.
+    pub only: Option<&'a str>,
 }
 
 /// The words of `request`.

@@ -1,6 +1,6 @@
 use crate::cache_tests::CACHE;
 use crate::fault::{EngineFault, service_status, status};
-use crate::fault_line::{confounder_line, fault_line, service_line};
+use crate::fault_line::{confounder_line, fault_line, name_line};
 use crate::order::{Order, RequestWords};
 use crate::request::{read_confounder, read_service, request_line};
 use crate::words::read_words;
@@ -212,7 +212,7 @@ fn reads_a_service(rt: HostRuntime) -> Result<(), Fail> {
         ),
     ] {
         assert_eq!(rt; read_service(rt.alloc(), text).err(), Some(fault), "{text}");
-        let printed = service_line(&fault).to_string(rt.alloc())?;
+        let printed = name_line("service", &fault).to_string(rt.alloc())?;
         assert_eq!(rt; printed.as_str(), line);
         assert_eq!(rt; service_status(&fault), 2, "{text}");
     }

@@ -2,7 +2,7 @@
 
 use crate::accept::accept_lines;
 use crate::fault::{EngineFault, FAILED, WRONG_WORDS, service_status};
-use crate::fault_line::{file_line, service_line};
+use crate::fault_line::{file_line, name_line};
 use crate::order::AcceptWords;
 use crate::request::read_service;
 use crate::run::{complain, complain_of, source_of};
@@ -26,24 +26,46 @@ pub(crate) fn run_accept<R: AllocGlobal + Files + Input + Print + Eprint>(
     };
     let service = match service_of(rt.alloc(), words.service) {
         Ok(service) => service,
-        Err(fault) => return complain(rt, service_line(&fault), service_status(&fault)),
+        Err(fault) => return complain(rt, name_line("service", &fault), service_status(&fault)),
     };
-    let Ok(opened) = File::open(rt, words.keytab) else {
-        return complain(rt, file_line(words.keytab), FAILED);
+    let only = match service_of(rt.alloc(), words.only) {
+        Ok(only) => only,
+        Err(fault) => return complain(rt, name_line("only", &fault), service_status(&fault)),
     };
-    let answered = match read_keytab(rt.alloc(), opened) {
-        Ok(keytab) => answered(rt, keytab, skew, service.as_ref()),
-        Err(fault) => Err(fault),
-    };
-    match answered {
-        Ok(status) => status,
-        Err(fault) => complain_of(rt, &fault, words.keytab, "accept"),
+    match accepted(rt, words.keytab, only.as_ref(), skew, service.as_ref()) {
+        Some(Ok(status)) => status,
+        Some(Err(fault)) => complain_of(rt, &fault, words.keytab, "accept"),
+        None => complain(rt, file_line(words.keytab), FAILED),
     }
 }
 
-fn read_keytab<F: Read + Drop>(alloc: Global, file: F) -> Result<Keytab, EngineFault> {
+// None if the keytab can't be opened.
+fn accepted<R: AllocGlobal + Files + Input + Print>(
+    rt: &R,
+    path: &str,
+    only: Option<&Principal>,
+    skew: Skew,
+    service: Option<&Principal>,
+) -> Option<Result<u8, EngineFault>> {
+    let opened = File::open(rt, path).ok()?;
+    Some(match read_keytab(rt.alloc(), opened, only) {
+        Ok(keytab) => answered(rt, keytab, skew, service),
+        Err(fault) => Err(fault),
+    })
+}
+
+// The entries of this name, or all.
+fn read_keytab<F: Read + Drop>(
+    alloc: Global,
+    file: F,
+    only: Option<&Principal>,
+) -> Result<Keytab, EngineFault> {
     let mut source = source_of(alloc, file)?;
-    Ok(Keytab::read(alloc, &mut source)?)
+    let keytab = Keytab::read(alloc, &mut source)?;
+    Ok(match only {
+        Some(name) => keytab.only(name),
+        None => keytab,
+    })
 }
 
 // The words of the command line were read as a number in this range.

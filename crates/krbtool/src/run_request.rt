@@ -1,7 +1,7 @@
 //! Running `request`: its words are read before its file is opened.
 
 use crate::fault::{EngineFault, FAILED, WRONG_WORDS, service_status};
-use crate::fault_line::{confounder_line, file_line, service_line};
+use crate::fault_line::{confounder_line, file_line, name_line};
 use crate::order::RequestWords;
 use crate::request::{read_confounder, read_service, request_line};
 use crate::run::{complain, complain_of, source_of};
@@ -30,7 +30,7 @@ pub(crate) fn run_request<R: AllocGlobal + Files + Print + Eprint>(
     };
     let service = match read_service(rt.alloc(), words.service) {
         Ok(service) => service,
-        Err(fault) => return complain(rt, service_line(&fault), service_status(&fault)),
+        Err(fault) => return complain(rt, name_line("service", &fault), service_status(&fault)),
     };
     let Some(confounder) = read_confounder(words.confounder) else {
         return complain(rt, confounder_line(), WRONG_WORDS);
