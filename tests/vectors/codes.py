@@ -1,5 +1,4 @@
 """Codes of texts, by Python's hmac."""
-import hashlib
 import hmac
 
 JEFE, NOTHING, GREETING = b"Jefe", b"what do ya want for nothing?", b"Hi There"
@@ -9,11 +8,15 @@ def word(text):
     return text.hex() or "-"
 
 
+def code(name, key, *parts):
+    return hmac.new(key, b"".join(parts), name).digest()
+
+
 def both(key, *parts):
     """The lines that ask for the two codes of some parts, and the codes."""
-    text = b"".join(parts)
-    lines = [" ".join([f"kdf {it} {word(key)}", *map(word, parts)]) for it in ("sha256", "sha384")]
-    return lines, [hmac.new(key, text, it).hexdigest() for it in (hashlib.sha256, hashlib.sha384)]
+    names = ("sha256", "sha384")
+    lines = [" ".join([f"kdf {it} {word(key)}", *map(word, parts)]) for it in names]
+    return lines, [code(it, key, *parts).hex() for it in names]
 
 
 def drawn():

@@ -19,11 +19,15 @@ use krb_der::{Cursor, Fault};
 /// ```
 pub(crate) fn walk(words: &mut Words, out: &mut Answer) -> Option<()> {
     let bytes = words.bytes()?;
-    let mut cursors = Vec::new(words.alloc);
     match Cursor::new(&bytes) {
-        Ok(cursor) => cursors.push(cursor).ok()?,
-        Err(fault) => out.fault(fault)?,
+        Ok(cursor) => walk_from(cursor, words, out),
+        Err(fault) => out.fault(fault),
     }
+}
+
+fn walk_from(cursor: Cursor, words: &mut Words, out: &mut Answer) -> Option<()> {
+    let mut cursors = Vec::new(words.alloc);
+    cursors.push(cursor).ok()?;
     for _ in 0..u32::MAX {
         if words.is_at_end() {
             break;

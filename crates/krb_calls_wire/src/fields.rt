@@ -5,6 +5,7 @@ use krb_msg::{
     ApRep, ApReq, Authenticator, Bytes, Components, EncApRepPart, EncTicketPart, Encrypted, Flags,
     KrbError, Microseconds, Name, Principal, RawKey, Seconds, Ticket, Typed,
 };
+use std::alloc::Global;
 
 pub(crate) fn ticket(words: &mut Words) -> Option<Ticket> {
     let service = principal(words)?;
@@ -12,29 +13,43 @@ pub(crate) fn ticket(words: &mut Words) -> Option<Ticket> {
     Some(Ticket { service, enc_part })
 }
 
+// Messages of many fields are made empty and then filled, so that one owned value is alive at a time.
+
 pub(crate) fn enc_ticket(words: &mut Words) -> Option<EncTicketPart> {
-    let flags = Flags(words.uint32()?);
-    let key = key(words)?;
-    let client = principal(words)?;
-    let transited = typed(words)?;
-    let authtime = seconds(words)?;
-    let starttime = seconds_or_none(words)?;
-    let endtime = seconds(words)?;
-    let renew_till = seconds_or_none(words)?;
-    let caddr = list(words)?;
-    let authorization = list(words)?;
-    Some(EncTicketPart {
-        flags,
-        key,
-        client,
-        transited,
-        authtime,
-        starttime,
-        endtime,
-        renew_till,
-        caddr,
-        authorization,
-    })
+    let second = Seconds::new(0)?;
+    let mut part = EncTicketPart {
+        flags: Flags::none(),
+        key: no_key(words.alloc),
+        client: no_principal(words.alloc),
+        transited: no_typed(words.alloc),
+        authtime: second,
+        starttime: None,
+        endtime: second,
+        renew_till: None,
+        caddr: None,
+        authorization: None,
+    };
+    fill_ticket(&mut part, words)?;
+    fill_times(&mut part, words)?;
+    Some(part)
+}
+
+fn fill_ticket(part: &mut EncTicketPart, words: &mut Words) -> Option<()> {
+    part.flags = Flags(words.uint32()?);
+    part.key = key(words)?;
+    part.client = principal(words)?;
+    part.transited = typed(words)?;
+    Some(())
+}
+
+fn fill_times(part: &mut EncTicketPart, words: &mut Words) -> Option<()> {
+    part.authtime = seconds(words)?;
+    part.starttime = seconds_or_none(words)?;
+    part.endtime = seconds(words)?;
+    part.renew_till = seconds_or_none(words)?;
+    part.caddr = list(words)?;
+    part.authorization = list(words)?;
+    Some(())
 }
 
 pub(crate) fn ap_req(words: &mut Words) -> Option<ApReq> {
@@ -49,22 +64,27 @@ pub(crate) fn ap_req(words: &mut Words) -> Option<ApReq> {
 }
 
 pub(crate) fn authenticator(words: &mut Words) -> Option<Authenticator> {
-    let client = principal(words)?;
-    let checksum = typed_or_none(words)?;
-    let cusec = micros(words)?;
-    let ctime = seconds(words)?;
-    let subkey = key_or_none(words)?;
-    let seq_number = number_or_none(words)?;
-    let authorization = list(words)?;
-    Some(Authenticator {
-        client,
-        checksum,
-        cusec,
-        ctime,
-        subkey,
-        seq_number,
-        authorization,
-    })
+    let mut made = Authenticator {
+        client: principal(words)?,
+        checksum: None,
+        cusec: Microseconds::new(0)?,
+        ctime: Seconds::new(0)?,
+        subkey: None,
+        seq_number: None,
+        authorization: None,
+    };
+    fill_authenticator(&mut made, words)?;
+    Some(made)
+}
+
+fn fill_authenticator(made: &mut Authenticator, words: &mut Words) -> Option<()> {
+    made.checksum = typed_or_none(words)?;
+    made.cusec = micros(words)?;
+    made.ctime = seconds(words)?;
+    made.subkey = key_or_none(words)?;
+    made.seq_number = number_or_none(words)?;
+    made.authorization = list(words)?;
+    Some(())
 }
 
 pub(crate) fn ap_rep(words: &mut Words) -> Option<ApRep> {
@@ -86,28 +106,51 @@ pub(crate) fn enc_ap_rep(words: &mut Words) -> Option<EncApRepPart> {
 }
 
 pub(crate) fn krb_error(words: &mut Words) -> Option<KrbError> {
-    let ctime = seconds_or_none(words)?;
-    let cusec = micros_or_none(words)?;
-    let stime = seconds(words)?;
-    let susec = micros(words)?;
-    let error_code = words.int32()?;
-    let crealm = bytes_or_none(words)?;
-    let cname = name_or_none(words)?;
-    let service = principal(words)?;
-    let e_text = bytes_or_none(words)?;
-    let e_data = octets_or_none(words)?;
-    Some(KrbError {
-        ctime,
-        cusec,
-        stime,
-        susec,
-        error_code,
-        crealm,
-        cname,
-        service,
-        e_text,
-        e_data,
-    })
+    let mut made = KrbError {
+        ctime: seconds_or_none(words)?,
+        cusec: micros_or_none(words)?,
+        stime: seconds(words)?,
+        susec: micros(words)?,
+        error_code: words.int32()?,
+        crealm: None,
+        cname: None,
+        service: no_principal(words.alloc),
+        e_text: None,
+        e_data: None,
+    };
+    fill_error(&mut made, words)?;
+    Some(made)
+}
+
+fn fill_error(made: &mut KrbError, words: &mut Words) -> Option<()> {
+    made.crealm = bytes_or_none(words)?;
+    made.cname = name_or_none(words)?;
+    made.service = principal(words)?;
+    made.e_text = bytes_or_none(words)?;
+    made.e_data = octets_or_none(words)?;
+    Some(())
+}
+
+fn no_key(alloc: Global) -> RawKey {
+    RawKey {
+        etype: 0,
+        bytes: Vec::new(alloc),
+    }
+}
+
+fn no_typed(alloc: Global) -> Typed {
+    Typed {
+        kind: 0,
+        bytes: Vec::new(alloc),
+    }
+}
+
+fn no_principal(alloc: Global) -> Principal {
+    Principal {
+        realm: Bytes::new(alloc),
+        name_type: 0,
+        components: Components::new(alloc),
+    }
 }
 
 /// A realm, a type and components.

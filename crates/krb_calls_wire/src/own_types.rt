@@ -241,7 +241,6 @@ impl<'a> Element<'a> for Name<'a> {
 
 impl<'a> Message<'a> for Name<'a> {}
 
-
 /// Shows the fields of a sample, and its bytes as they are written again.
 pub(crate) fn answer_sample(words: &mut Words, out: &mut Answer) -> Option<()> {
     let bytes = words.bytes()?;

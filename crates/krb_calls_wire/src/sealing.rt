@@ -1,5 +1,7 @@
 //! Keys, and what they seal, open and check.
 
+ghost use Rattle.std.specs.Prelude.{◌≡◌, length};
+
 use crate::words::{Answer, Words, bytes_of};
 use krb_enc::{Enctype, Key, KeyFault, OpenFault, Sha256Aes128, Sha384Aes256, UsageKey};
 use krb_kdf::{HmacSha256, HmacSha384};
@@ -41,7 +43,8 @@ impl Kept {
 /// enc usage-open TEXT                        as `open`, by those
 /// enc usage-for ETYPE BYTES USAGE            whether those are of this key and usage
 /// enc types                                  number, length of a key and length of a tag of both types
-/// enc tag|checksum-of ETYPE BYTES USAGE TEXT     a type's own calls
+/// enc type tag|checksum|open ETYPE BYTES USAGE TEXT             a type's own calls
+/// enc type seal ETYPE BYTES USAGE CONFOUNDER PLAIN
 /// enc fault NAME                             the text of a fault
 /// ```
 pub(crate) fn answer(kept: &mut Kept, words: &mut Words, out: &mut Answer) -> Option<()> {
@@ -62,8 +65,7 @@ pub(crate) fn answer(kept: &mut Kept, words: &mut Words, out: &mut Answer) -> Op
         "usage-open" => usage_open(kept, words, out),
         "usage-for" => usage_for(kept.usage_key.as_ref()?, words, out),
         "types" => show_types(out),
-        "tag" => tag(words, out),
-        "checksum-of" => checksum_of(words, out),
+        "type" => call_of_type(words, out),
         "fault" => fault(words, out),
         call => answer_of_key(kept.key.as_ref()?, call, words, out),
     }
@@ -107,14 +109,20 @@ fn seal(kept: &mut Kept, words: &mut Words, out: &mut Answer) -> Option<()> {
     let usage = words.uint32()?;
     let confounder = words.block()?;
     let plain = words.bytes()?;
-    let sealed = kept.key.as_ref()?.seal(words.alloc, usage, &confounder, &plain);
+    let sealed = kept
+        .key
+        .as_ref()?
+        .seal(words.alloc, usage, &confounder, &plain);
     keep_sealed(kept, sealed, out)
 }
 
 fn usage_seal(kept: &mut Kept, words: &mut Words, out: &mut Answer) -> Option<()> {
     let confounder = words.block()?;
     let plain = words.bytes()?;
-    let sealed = kept.usage_key.as_ref()?.seal(words.alloc, &confounder, &plain);
+    let sealed = kept
+        .usage_key
+        .as_ref()?
+        .seal(words.alloc, &confounder, &plain);
     keep_sealed(kept, sealed, out)
 }
 
@@ -144,19 +152,23 @@ fn text(kept: &Kept, words: &mut Words) -> Option<Vec<u8>> {
 fn open(kept: &Kept, words: &mut Words, out: &mut Answer) -> Option<()> {
     let usage = words.uint32()?;
     let text = text(kept, words)?;
-    show_opened(kept.key.as_ref()?.open(words.alloc, usage, &text), words, out)
+    show_opened(
+        kept.key.as_ref()?.open(words.alloc, usage, &text),
+        words,
+        out,
+    )
 }
 
 fn usage_open(kept: &Kept, words: &mut Words, out: &mut Answer) -> Option<()> {
     let text = text(kept, words)?;
-    show_opened(kept.usage_key.as_ref()?.open(words.alloc, &text), words, out)
+    show_opened(
+        kept.usage_key.as_ref()?.open(words.alloc, &text),
+        words,
+        out,
+    )
 }
 
-fn show_opened(
-    opened: Result<Vec<u8>, OpenFault>,
-    words: &Words,
-    out: &mut Answer,
-) -> Option<()> {
+fn show_opened(opened: Result<Vec<u8>, OpenFault>, words: &Words, out: &mut Answer) -> Option<()> {
     match opened {
         Ok(plain) => out.bytes(&plain),
         Err(fault) => out.word(format!(in words.alloc; "{fault:?}").ok()?.as_str()),
@@ -190,26 +202,39 @@ fn show_types(out: &mut Answer) -> Option<()> {
     out.size(Sha384Aes256::TAG_LEN)
 }
 
-fn tag(words: &mut Words, out: &mut Answer) -> Option<()> {
+fn call_of_type(words: &mut Words, out: &mut Answer) -> Option<()> {
+    let call = words.next()?;
     let etype = words.int32()?;
     let key = words.bytes()?;
     let usage = words.uint32()?;
-    let text = words.bytes()?;
     match (etype, key.len()) {
-        (19, 16) => out.bytes(Sha256Aes128::tag(&key, usage, &text).as_slice()),
-        (20, 32) => out.bytes(Sha384Aes256::tag(&key, usage, &text).as_slice()),
+        (19, 16) => answer_of_type::<Sha256Aes128>(call, &key, usage, words, out),
+        (20, 32) => answer_of_type::<Sha384Aes256>(call, &key, usage, words, out),
         _ => None,
     }
 }
 
-fn checksum_of(words: &mut Words, out: &mut Answer) -> Option<()> {
-    let etype = words.int32()?;
-    let key = words.bytes()?;
-    let usage = words.uint32()?;
-    let text = words.bytes()?;
-    match (etype, key.len()) {
-        (19, 16) => out.bytes(Sha256Aes128::checksum(&key, usage, &text).as_slice()),
-        (20, 32) => out.bytes(Sha384Aes256::checksum(&key, usage, &text).as_slice()),
+fn answer_of_type<T: Enctype>(
+    call: &str,
+    key: &[u8],
+    usage: u32,
+    words: &mut Words,
+    out: &mut Answer,
+) -> Option<()>
+    requires { length key.now ≡ T.KEY_LEN }
+{
+    match call {
+        "tag" => out.bytes(T::tag(key, usage, &words.bytes()?).as_slice()),
+        "checksum" => out.bytes(T::checksum(key, usage, &words.bytes()?).as_slice()),
+        "seal" => {
+            let confounder = words.block()?;
+            let plain = words.bytes()?;
+            out.made(T::seal(words.alloc, key, usage, &confounder, &plain))
+        }
+        "open" => {
+            let text = words.bytes()?;
+            show_opened(T::open(words.alloc, key, usage, &text), words, out)
+        }
         _ => None,
     }
 }

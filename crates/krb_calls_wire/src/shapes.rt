@@ -28,7 +28,10 @@ pub(crate) fn element(cursor: &mut Cursor, kind: &str, out: &mut Answer) -> Opti
     match kind {
         "int32" => number(cursor.int32().map(i64::from), out),
         "uint32" => number(cursor.uint32().map(i64::from), out),
-        "microseconds" => number(cursor.microseconds().map(|micros| i64::from(micros.get())), out),
+        "microseconds" => number(
+            cursor.microseconds().map(|micros| i64::from(micros.get())),
+            out,
+        ),
         "octets" => bytes(cursor.octets(), out),
         "string" => bytes(cursor.string(), out),
         "flags" => number(cursor.flags().map(|flags| i64::from(flags.bits())), out),

@@ -2,8 +2,7 @@
 
 use crate::words::{Answer, Words};
 use krb_der::{
-    Constant, EncodeFault, Flags, Microseconds, Octets, Seconds, Text, TextList, Writer,
-    encoded,
+    Constant, EncodeFault, Flags, Microseconds, Octets, Seconds, Text, TextList, Writer, encoded,
 };
 use std::alloc::{AllocError, Global};
 
