@@ -25,17 +25,14 @@ pub(crate) fn answer(kept: &mut Kept, words: &mut Words, out: &mut Answer) -> Op
     match words.next()? {
         "keep" => keep(kept, words, out),
         "copy" => copy(kept, out),
-        "purpose" => {
-            let purpose = Purpose::from(mac_purpose(words)?);
-            out.word(format!(in words.alloc; "{purpose:?}").ok()?.as_str())
-        }
+        "purpose" => show_purpose(words, out),
         "sha256" => code_256(words, out),
         "sha384" => code_384(words, out),
         "kept-sha256" => kept_code_256(kept, words, out),
         "kept-sha384" => kept_code_384(kept, words, out),
-        "derive-19" => out.bytes(&derive_19(&words.block()?, words.uint32()?, purpose(words)?)),
+        "derive-19" => derived_19(words, out),
         "derive-20" => derived_20(words, out),
-        "derive-20-ke" => out.bytes(&derive_20_ke(&words.long_key()?, words.uint32()?)),
+        "derive-20-ke" => derived_20_ke(words, out),
         call => derived_of_kept(kept, call, words, out),
     }
 }
@@ -48,8 +45,10 @@ fn keep(kept: &mut Kept, words: &mut Words, out: &mut Answer) -> Option<()> {
 }
 
 fn copy(kept: &mut Kept, out: &mut Answer) -> Option<()> {
-    kept.sha256 = Some(kept.sha256.as_ref()?.copy());
-    kept.sha384 = Some(kept.sha384.as_ref()?.copy());
+    let short = kept.sha256.as_ref()?.copy();
+    kept.sha256 = Some(short);
+    let long = kept.sha384.as_ref()?.copy();
+    kept.sha384 = Some(long);
     out.word("kept")
 }
 
@@ -104,20 +103,41 @@ fn kept_code_384(kept: &Kept, words: &mut Words, out: &mut Answer) -> Option<()>
     out.bytes(&kept.sha384.as_ref()?.code(&parts))
 }
 
+fn show_purpose(words: &mut Words, out: &mut Answer) -> Option<()> {
+    let purpose = Purpose::from(mac_purpose(words)?);
+    out.word(format!(in words.alloc; "{purpose:?}").ok()?.as_str())
+}
+
+fn derived_19(words: &mut Words, out: &mut Answer) -> Option<()> {
+    let key = words.block()?;
+    let usage = words.uint32()?;
+    out.bytes(&derive_19(&key, usage, purpose(words)?))
+}
+
 fn derived_20(words: &mut Words, out: &mut Answer) -> Option<()> {
     let key = words.long_key()?;
     let usage = words.uint32()?;
     out.bytes(&derive_20(&key, usage, mac_purpose(words)?))
 }
 
+fn derived_20_ke(words: &mut Words, out: &mut Answer) -> Option<()> {
+    let key = words.long_key()?;
+    let usage = words.uint32()?;
+    out.bytes(&derive_20_ke(&key, usage))
+}
+
 fn derived_of_kept(kept: &Kept, call: &str, words: &mut Words, out: &mut Answer) -> Option<()> {
     let usage = words.uint32()?;
-    let short = kept.sha256.as_ref()?;
-    let long = kept.sha384.as_ref()?;
     match call {
-        "kept-19" => out.bytes(&short.derive_19(usage, purpose(words)?)),
-        "kept-20" => out.bytes(&long.derive_20(usage, mac_purpose(words)?)),
-        "kept-20-ke" => out.bytes(&long.derive_20_ke(usage)),
+        "kept-19" => {
+            let purpose = purpose(words)?;
+            out.bytes(&kept.sha256.as_ref()?.derive_19(usage, purpose))
+        }
+        "kept-20" => {
+            let purpose = mac_purpose(words)?;
+            out.bytes(&kept.sha384.as_ref()?.derive_20(usage, purpose))
+        }
+        "kept-20-ke" => out.bytes(&kept.sha384.as_ref()?.derive_20_ke(usage)),
         _ => None,
     }
 }

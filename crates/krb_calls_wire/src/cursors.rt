@@ -2,7 +2,7 @@
 
 use crate::shapes::element;
 use crate::words::{Answer, Words};
-use krb_der::{Cursor, Fault};
+use krb_der::{Cursor, Text};
 
 /// Each step is a call of the innermost cursor, and shows what it gives. After a fault the walk goes on.
 ///
@@ -38,57 +38,66 @@ fn walk_from(cursor: Cursor, words: &mut Words, out: &mut Answer) -> Option<()> 
 }
 
 fn step(cursors: &mut Vec<Cursor>, words: &mut Words, out: &mut Answer) -> Option<()> {
-    let step = words.next()?;
-    let cursor = cursors.last_mut()?;
+    match words.next()? {
+        "enter" => enter(cursors, words.tag()?, out),
+        "optional" => optional(cursors, words.tag()?, out),
+        "again" => again(cursors, out),
+        "finish" => finish(cursors, out),
+        step => read_on(cursors.last_mut()?, step, out),
+    }
+}
+
+fn enter(cursors: &mut Vec<Cursor>, tag: u8, out: &mut Answer) -> Option<()> {
+    match cursors.last_mut()?.enter(tag) {
+        Ok(cursor) => go_in(cursors, cursor, out),
+        Err(fault) => out.fault(fault),
+    }
+}
+
+fn optional(cursors: &mut Vec<Cursor>, tag: u8, out: &mut Answer) -> Option<()> {
+    match cursors.last_mut()?.optional(tag) {
+        Ok(Some(cursor)) => go_in(cursors, cursor, out),
+        Ok(None) => out.word("none"),
+        Err(fault) => out.fault(fault),
+    }
+}
+
+fn again(cursors: &mut Vec<Cursor>, out: &mut Answer) -> Option<()> {
+    let same = cursors.last()?.again();
+    go_in(cursors, same, out)
+}
+
+fn go_in<'a>(cursors: &mut Vec<Cursor<'a>>, cursor: Cursor<'a>, out: &mut Answer) -> Option<()> {
+    cursors.push(cursor).ok()?;
+    out.word("in")
+}
+
+fn finish(cursors: &mut Vec<Cursor>, out: &mut Answer) -> Option<()> {
+    match cursors.last()?.finish() {
+        Ok(()) => {
+            cursors.pop();
+            out.word("end")
+        }
+        Err(fault) => out.fault(fault),
+    }
+}
+
+fn read_on(cursor: &mut Cursor, step: &str, out: &mut Answer) -> Option<()> {
     match step {
-        "enter" => {
-            let entered = cursor.enter(words.tag()?);
-            go_in(cursors, entered.map(Some), out)
-        }
-        "optional" => {
-            let entered = cursor.optional(words.tag()?);
-            go_in(cursors, entered, out)
-        }
-        "again" => {
-            let same = cursor.again();
-            go_in(cursors, Ok(Some(same)), out)
-        }
         "list-int32" => list(cursor, out),
         "read-int32" => match cursor.read::<i32>() {
             Ok(number) => out.number(i64::from(number)),
             Err(fault) => out.fault(fault),
         },
-        "check-string" => match cursor.check_each::<krb_der::Text>() {
+        "check-string" => match cursor.check_each::<Text>() {
             Ok(()) => out.word("fits"),
             Err(fault) => out.fault(fault),
         },
         "at-end" => out.truth(cursor.is_at_end()),
-        "finish" => match cursor.finish() {
-            Ok(()) => {
-                cursors.pop();
-                out.word("end")
-            }
-            Err(fault) => out.fault(fault),
-        },
         kind => {
             element(cursor, kind, out)?;
             Some(())
         }
-    }
-}
-
-fn go_in<'a>(
-    cursors: &mut Vec<Cursor<'a>>,
-    entered: Result<Option<Cursor<'a>>, Fault>,
-    out: &mut Answer,
-) -> Option<()> {
-    match entered {
-        Ok(Some(cursor)) => {
-            cursors.push(cursor).ok()?;
-            out.word("in")
-        }
-        Ok(None) => out.word("none"),
-        Err(fault) => out.fault(fault),
     }
 }
 

@@ -40,28 +40,38 @@ fn run(rt: &HostRuntime) -> io::Result<()> {
     let mut kept = Kept::new(alloc);
     let mut out = BufWriter::new(alloc, io::writer(rt))?;
     for line in BufReader::new(alloc, rt.reader())?.lines(alloc) {
-        let answer = answer_of(alloc, &mut kept, line?.as_str());
-        let text = answer.as_ref().map_or("bad line", |answer| answer.text());
-        writeln!(out, "{text}")?;
+        answer_line(alloc, &mut kept, line?.as_str(), &mut out)?;
     }
     out.flush()
 }
 
-fn answer_of(alloc: Global, kept: &mut Kept, line: &str) -> Option<Answer> {
-    let mut words = Words::new(alloc, line);
-    let mut out = Answer::new(alloc);
+fn answer_line<W: Write>(
+    alloc: Global,
+    kept: &mut Kept,
+    line: &str,
+    out: &mut W,
+) -> io::Result<()> {
+    let mut answer = Answer::new(alloc);
+    let text = match call(kept, &mut Words::new(alloc, line), &mut answer) {
+        Some(()) => answer.text(),
+        None => "bad line",
+    };
+    writeln!(out, "{text}")
+}
+
+fn call(kept: &mut Kept, words: &mut Words, out: &mut Answer) -> Option<()> {
     match words.next()? {
         "new" => {
-            *kept = Kept::new(alloc);
+            *kept = Kept::new(words.alloc);
             out.word("new")?;
         }
-        "aes" => blocks::answer_aes(&mut words, &mut out)?,
-        "cts" => blocks::answer_cts(&mut words, &mut out)?,
-        "kdf" => codes::answer(kept, &mut words, &mut out)?,
-        "enc" => sealing::answer(kept, &mut words, &mut out)?,
-        "der" => elements::answer(&mut words, &mut out)?,
-        "msg" => messages::answer(&mut words, &mut out)?,
+        "aes" => blocks::answer_aes(words, out)?,
+        "cts" => blocks::answer_cts(words, out)?,
+        "kdf" => codes::answer(kept, words, out)?,
+        "enc" => sealing::answer(kept, words, out)?,
+        "der" => elements::answer(words, out)?,
+        "msg" => messages::answer(words, out)?,
         _ => return None,
     }
-    if words.is_at_end() { Some(out) } else { None }
+    if words.is_at_end() { Some(()) } else { None }
 }

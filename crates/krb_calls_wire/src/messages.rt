@@ -179,22 +179,45 @@ fn write(words: &mut Words, out: &mut Answer) -> Option<()> {
         "ap-req" => show(fields::ap_req(words)?.encode(alloc), out),
         "authenticator" => show(fields::authenticator(words)?.encode(alloc), out),
         "ap-rep" => show(fields::ap_rep(words)?.encode(alloc), out),
-        "enc-ap-rep" => write_reply(alloc, &fields::enc_ap_rep(words)?, out),
+        "enc-ap-rep" => write_reply(words, out),
         "krb-error" => show(fields::krb_error(words)?.encode(alloc), out),
         _ => None,
     }
 }
 
-fn write_reply(alloc: Global, part: &EncApRepPart, out: &mut Answer) -> Option<()> {
-    if part.subkey.is_none() {
-        show(short_reply(alloc, part), out)
-    } else {
-        show(part.encode(alloc), out)
+fn write_reply(words: &mut Words, out: &mut Answer) -> Option<()> {
+    let mut part = fields::enc_ap_rep(words)?;
+    match part.subkey.take() {
+        Some(key) => {
+            part.subkey = Some(key);
+            show(part.encode(words.alloc), out)
+        }
+        None => show(
+            short_reply(words.alloc, part.ctime, part.cusec, part.seq_number),
+            out,
+        ),
     }
 }
 
 /// A reply without a key of its own is never too long.
-fn short_reply(alloc: Global, part: &EncApRepPart) -> Result<Vec<u8>, EncodeFault>
+fn short_reply(
+    alloc: Global,
+    ctime: Seconds,
+    cusec: Microseconds,
+    seq_number: Option<u32>,
+) -> Result<Vec<u8>, EncodeFault>
+    ensures { IsErrOf result EncodeFault.TooLong → ⊥ }
+{
+    let part = EncApRepPart {
+        ctime,
+        cusec,
+        subkey: None,
+        seq_number,
+    };
+    encode_short(alloc, &part)
+}
+
+fn encode_short(alloc: Global, part: &EncApRepPart) -> Result<Vec<u8>, EncodeFault>
     requires { reply_subkey (owned_enc_ap_rep_part_of part.now) ≡ None }
     ensures { IsErrOf result EncodeFault.TooLong → ⊥ }
 {

@@ -51,16 +51,10 @@ pub(crate) fn answer(kept: &mut Kept, words: &mut Words, out: &mut Answer) -> Op
     match words.next()? {
         "key" => make_key(kept, words, out),
         "usable" => usable(words, out),
-        "copy" => {
-            kept.key = Some(kept.key.as_ref()?.copy());
-            show_key(kept.key.as_ref()?, words, out)
-        }
+        "copy" => copy(kept, words, out),
         "seal" => seal(kept, words, out),
         "open" => open(kept, words, out),
-        "usage" => {
-            kept.usage_key = Some(kept.key.as_ref()?.for_usage(words.uint32()?));
-            out.word("kept")
-        }
+        "usage" => keep_usage(kept, words, out),
         "usage-seal" => usage_seal(kept, words, out),
         "usage-open" => usage_open(kept, words, out),
         "usage-for" => usage_for(kept.usage_key.as_ref()?, words, out),
@@ -98,6 +92,20 @@ fn make_key(kept: &mut Kept, words: &mut Words, out: &mut Answer) -> Option<()> 
 
 fn show_key(key: &Key, words: &Words, out: &mut Answer) -> Option<()> {
     out.word(format!(in words.alloc; "{key:?}").ok()?.as_str())
+}
+
+fn copy(kept: &mut Kept, words: &Words, out: &mut Answer) -> Option<()> {
+    let copy = kept.key.as_ref()?.copy();
+    show_key(&copy, words, out)?;
+    kept.key = Some(copy);
+    Some(())
+}
+
+fn keep_usage(kept: &mut Kept, words: &mut Words, out: &mut Answer) -> Option<()> {
+    let usage = words.uint32()?;
+    let keys = kept.key.as_ref()?.for_usage(usage);
+    kept.usage_key = Some(keys);
+    out.word("kept")
 }
 
 fn usable(words: &mut Words, out: &mut Answer) -> Option<()> {

@@ -26,32 +26,52 @@ pub(crate) fn read(words: &mut Words, out: &mut Answer) -> Option<()> {
 /// Shows the values of the element that stands next, or its fault: whether it was read.
 pub(crate) fn element(cursor: &mut Cursor, kind: &str, out: &mut Answer) -> Option<bool> {
     match kind {
-        "int32" => number(cursor.int32().map(i64::from), out),
-        "uint32" => number(cursor.uint32().map(i64::from), out),
-        "microseconds" => number(
-            cursor.microseconds().map(|micros| i64::from(micros.get())),
-            out,
-        ),
+        "int32" => match cursor.int32() {
+            Ok(found) => number(i64::from(found), out),
+            Err(fault) => refused(fault, out),
+        },
+        "uint32" => match cursor.uint32() {
+            Ok(found) => number(i64::from(found), out),
+            Err(fault) => refused(fault, out),
+        },
+        "microseconds" => match cursor.microseconds() {
+            Ok(found) => number(i64::from(found.get()), out),
+            Err(fault) => refused(fault, out),
+        },
+        "flags" => match cursor.flags() {
+            Ok(found) => number(i64::from(found.bits()), out),
+            Err(fault) => refused(fault, out),
+        },
+        "time" => match cursor.time() {
+            Ok(found) => number(found.get(), out),
+            Err(fault) => refused(fault, out),
+        },
+        _ => element_of_bytes(cursor, kind, out),
+    }
+}
+
+fn element_of_bytes(cursor: &mut Cursor, kind: &str, out: &mut Answer) -> Option<bool> {
+    match kind {
         "octets" => bytes(cursor.octets(), out),
         "string" => bytes(cursor.string(), out),
-        "flags" => number(cursor.flags().map(|flags| i64::from(flags.bits())), out),
-        "time" => number(cursor.time().map(Seconds::get), out),
-        "five" => number(cursor.constant::<5>().map(|_| 5), out),
-        "fourteen" => number(cursor.constant::<14>().map(|_| 14), out),
-        "fifteen" => number(cursor.constant::<15>().map(|_| 15), out),
-        "thirty" => number(cursor.constant::<30>().map(|_| 30), out),
+        "five" => constant::<5>(cursor, out),
+        "fourteen" => constant::<14>(cursor, out),
+        "fifteen" => constant::<15>(cursor, out),
+        "thirty" => constant::<30>(cursor, out),
         _ => parts(cursor, kind, out),
     }
 }
 
-fn number(read: Result<i64, Fault>, out: &mut Answer) -> Option<bool> {
-    match read {
-        Ok(number) => {
-            out.number(number)?;
-            Some(true)
-        }
+fn constant<const N: u32>(cursor: &mut Cursor, out: &mut Answer) -> Option<bool> {
+    match cursor.constant::<N>() {
+        Ok(Constant) => number(i64::from(N), out),
         Err(fault) => refused(fault, out),
     }
+}
+
+fn number(number: i64, out: &mut Answer) -> Option<bool> {
+    out.number(number)?;
+    Some(true)
 }
 
 fn bytes(read: Result<&[u8], Fault>, out: &mut Answer) -> Option<bool> {
@@ -71,7 +91,10 @@ pub(crate) fn refused(fault: Fault, out: &mut Answer) -> Option<bool> {
 
 fn parts(cursor: &mut Cursor, kind: &str, out: &mut Answer) -> Option<bool> {
     match kind {
-        "tagged" => number(cursor.wrapped::<i32>(0xa0).map(i64::from), out),
+        "tagged" => match cursor.wrapped::<i32>(0xa0) {
+            Ok(found) => number(i64::from(found), out),
+            Err(fault) => refused(fault, out),
+        },
         "nested" => nested(cursor, out),
         "pair" => pair(cursor, out),
         "options" => options(cursor, out),
@@ -80,14 +103,18 @@ fn parts(cursor: &mut Cursor, kind: &str, out: &mut Answer) -> Option<bool> {
             Ok(list) => show_texts(list, out),
             Err(fault) => refused(fault, out),
         },
-        "name" => match name(cursor) {
-            Ok((number, list)) => {
-                out.number(i64::from(number))?;
-                show_texts(list, out)
-            }
-            Err(fault) => refused(fault, out),
-        },
+        "name" => show_name(cursor, out),
         _ => None,
+    }
+}
+
+fn show_name(cursor: &mut Cursor, out: &mut Answer) -> Option<bool> {
+    match name(cursor) {
+        Ok((number, list)) => {
+            out.number(i64::from(number))?;
+            show_texts(list, out)
+        }
+        Err(fault) => refused(fault, out),
     }
 }
 

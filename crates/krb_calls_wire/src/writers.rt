@@ -22,16 +22,20 @@ pub(crate) fn write(words: &mut Words, out: &mut Answer) -> Option<()> {
         if words.is_at_end() {
             break;
         }
-        match words.next()? {
-            "len" => out.size(writer.len())?,
-            "empty" => out.truth(writer.is_empty())?,
-            step => match written(&mut writer, step, words)? {
-                Ok(()) => (),
-                Err(_) => out.word("OutOfMemory")?,
-            },
-        }
+        step(&mut writer, words, out)?;
     }
     out.bytes(&writer.into_bytes())
+}
+
+fn step(writer: &mut Writer, words: &mut Words, out: &mut Answer) -> Option<()> {
+    match words.next()? {
+        "len" => out.size(writer.len()),
+        "empty" => out.truth(writer.is_empty()),
+        step => match written(writer, step, words)? {
+            Ok(()) => Some(()),
+            Err(_) => out.word("OutOfMemory"),
+        },
+    }
 }
 
 fn written(out: &mut Writer, step: &str, words: &mut Words) -> Option<Result<(), AllocError>> {
@@ -83,28 +87,29 @@ fn wrapped(out: &mut Writer, tag: u8, start: usize) -> Option<Result<(), AllocEr
 /// der encoded texts|text-list BYTES..      a list of strings, by a slice of `Text` or by `TextList`
 /// ```
 pub(crate) fn encoded_value(words: &mut Words, out: &mut Answer) -> Option<()> {
+    let written = match words.next()? {
+        "octets" => encoded(words.alloc, &Octets(&words.bytes()?)),
+        "string" => encoded(words.alloc, &Text(&words.bytes()?)),
+        "numbers" => encoded(words.alloc, &numbers(words)?),
+        "texts" => texts(words)?,
+        "text-list" => encoded(words.alloc, &TextList(&words.texts()?)),
+        kind => encoded_number(kind, words)?,
+    };
+    show(written, out)
+}
+
+fn encoded_number(kind: &str, words: &mut Words) -> Option<Result<Vec<u8>, EncodeFault>> {
     let alloc = words.alloc;
-    match words.next()? {
-        "int32" => show(encoded(alloc, &words.int32()?), out),
-        "uint32" => show(encoded(alloc, &words.uint32()?), out),
-        "microseconds" => {
-            let micros = Microseconds::new(words.uint32()?)?;
-            show(encoded(alloc, &micros), out)
-        }
-        "flags" => show(encoded(alloc, &Flags(words.uint32()?)), out),
-        "time" => {
-            let time = Seconds::new(words.int64()?)?;
-            show(encoded(alloc, &time), out)
-        }
+    match kind {
+        "int32" => Some(encoded(alloc, &words.int32()?)),
+        "uint32" => Some(encoded(alloc, &words.uint32()?)),
+        "microseconds" => Some(encoded(alloc, &Microseconds::new(words.uint32()?)?)),
+        "flags" => Some(encoded(alloc, &Flags(words.uint32()?))),
+        "time" => Some(encoded(alloc, &Seconds::new(words.int64()?)?)),
         "five" => {
             let five: Constant<5> = Constant;
-            show(encoded(alloc, &five), out)
+            Some(encoded(alloc, &five))
         }
-        "octets" => show(encoded(alloc, &Octets(&words.bytes()?)), out),
-        "string" => show(encoded(alloc, &Text(&words.bytes()?)), out),
-        "numbers" => show(encoded(alloc, &numbers(words)?), out),
-        "texts" => texts(words, out),
-        "text-list" => show(encoded(alloc, &TextList(&words.texts()?)), out),
         _ => None,
     }
 }
@@ -129,10 +134,10 @@ fn numbers(words: &mut Words) -> Option<Vec<i32>> {
     Some(found)
 }
 
-fn texts(words: &mut Words, out: &mut Answer) -> Option<()> {
+fn texts(words: &mut Words) -> Option<Result<Vec<u8>, EncodeFault>> {
     let items = words.texts()?;
     let texts = texts_of(words.alloc, &items)?;
-    show(encoded(words.alloc, &texts.as_slice()), out)
+    Some(encoded(words.alloc, &texts.as_slice()))
 }
 
 fn texts_of<'a>(alloc: Global, items: &'a [Vec<u8>]) -> Option<Vec<Text<'a>>> {
