@@ -16,18 +16,19 @@ The rules (X.690, sections 8.1, 8.3, 8.6, 8.7 and 10.1; RFC 4120, section 5.2):
   Flags or Time at the element; bytes behind the last element: Trailing at the first of them; a message above 1,048,576
   bytes: TooLong at 0, before all else.
 
-This script writes src/tests/cases.rt of krb_der_tests: `tests/der_rules.py > crates/krb_der_tests/src/tests/cases.rt`, which `rt fmt` then
-lays out. `tests/der_rules.py --check FILE` says whether the file is the table, layout aside.
+The cases are calls of the program krb_calls_wire (tests/library.py). What is read is shown value by value: numbers in decimal digits, a
+time in seconds from 1970-01-01T00:00:00Z on, texts in hexadecimal digits, `none` for what is left out, a list between `[` and `]`.
 """
 import re
-import sys
-from pathlib import Path
+
+PROGRAM = "krb_calls_wire"
+# How many bytes a message has at most.
+LIMIT = 1_048_576
 
 
 class Refused(Exception):
     def __init__(self, kind, at):
-        super().__init__(kind, at)
-        self.kind, self.at = kind, at
+        super().__init__(f"{kind} at {at}")
 
 
 CONSTANTS = {"five": 5, "fourteen": 14, "fifteen": 15, "thirty": 30}
@@ -90,14 +91,25 @@ RANGES = {"int32": (-(2**31), 2**31 - 1), "uint32": (0, 2**32 - 1), "microsecond
 RANGES |= {kind: (value, value) for kind, value in CONSTANTS.items()}
 
 
+def packed(text):
+    """Bytes as a word of a case: long runs of one byte as `HEX*N`."""
+    pieces, at = [], 0
+    for run in re.finditer(rb"(?s)(.)\1{31,}", text):
+        pieces += [text[at : run.start()].hex(), f"{run[1].hex()}*{len(run[0])}"]
+        at = run.end()
+    return "+".join(it for it in [*pieces, text[at:].hex()] if it) or "-"
+
+
 def leaf_at(kind, data, at, end):
-    """The number that the value is (for texts their length), and where what follows begins."""
+    """The value, in a list of none where it is always the same, and where what follows begins."""
     start, after = head(data, at, end, TAGS[kind])
     content = data[start:after]
     if kind in RANGES:
         value, (low, high) = whole(content), RANGES[kind]
         if value is None or not low <= value <= high:
             raise Refused("Integer", at)
+        if kind in CONSTANTS:
+            return [], after
     elif kind == "flags":
         if len(content) != 5 or content[0] != 0:
             raise Refused("Flags", at)
@@ -107,8 +119,8 @@ def leaf_at(kind, data, at, end):
         if value is None:
             raise Refused("Time", at)
     else:
-        value = len(content)
-    return value, after
+        value = packed(content)
+    return [str(value)], after
 
 
 # A shape is the name of an element without parts, (tag, shape) for one with a tag round it, or a list of fields for a SEQUENCE:
@@ -129,7 +141,7 @@ def tag_of(shape):
 
 
 def element_at(shape, data, at, end):
-    """The sum of the numbers of the elements without parts, and where what follows begins."""
+    """The values of the elements without parts, and where what follows begins."""
     if isinstance(shape, str):
         return leaf_at(shape, data, at, end)
     start, after = head(data, at, end, tag_of(shape))
@@ -142,25 +154,44 @@ def element_at(shape, data, at, end):
 
 
 def fields_at(fields, data, at, end):
-    total = 0
+    values = []
     for way, shape in fields:
-        times = {"must": 1, "may": int(at < end and data[at] == tag_of(shape)), "each": end}[way]
-        while times > 0 and not (way == "each" and at == end):
-            value, at = element_at(shape, data, at, end)
-            total, times = total + value, times - 1
+        if way == "each":
+            found, at = list_at(shape, data, at, end)
+        elif way == "must" or (at < end and data[at] == tag_of(shape)):
+            found, at = element_at(shape, data, at, end)
+        else:
+            found = ["none"]
+        values += found
     if at != end:
         raise Refused("Trailing", at)
-    return total
+    return values
+
+
+def list_at(shape, data, at, end):
+    values = ["["]
+    while at != end:
+        found, at = element_at(shape, data, at, end)
+        values += found
+    return [*values, "]"], at
 
 
 def read(shape, data):
-    """What a message of this shape is read as: its element is all of the data."""
-    if len(data) > 1_048_576:
+    """The values of a message of this shape: its element is all of the data."""
+    if len(data) > LIMIT:
         raise Refused("TooLong", 0)
-    value, end = element_at(shape, data, 0, len(data))
+    values, end = element_at(shape, data, 0, len(data))
     if end != len(data):
         raise Refused("Trailing", end)
-    return value
+    return values
+
+
+def answer(shape, data):
+    """What a call that reads data of this shape answers: the values, or the first fault and its offset."""
+    try:
+        return " ".join(read(shape, data)) or str(CONSTANTS[shape])
+    except Refused as fault:
+        return str(fault)
 
 
 def element(tag, content, size=None):
@@ -271,40 +302,42 @@ def nested_cases():
         yield "name", alice[:cut]
 
 
-def table():
-    """The text of the file, before it is laid out."""
-    lines = ["//! Written by tests/der_rules.py, from the rules; not edited by hand.\n", "use super::table::Kind;\nuse krb_der::FaultKind;\n"]
-    lines.append("/// The kind that is read, the bytes, and the number that the value is, or the fault and its offset.")
-    lines.append("pub type Case = (Kind, &'static [u8], Result<i64, (FaultKind, usize)>);")
-    tables = {}
+def element_of(kind, content):
+    return element(TAGS[kind], content)
+
+
+# The bytes of contents at the edges of the forms of a length, and the longest that a message has room for.
+SIZES = [0, 1, 127, 128, 255, 256, 65_535, 65_536, 100_000, 500_000, 1_000_000, 1_048_571]
+
+
+def sizes():
+    """Texts of any length are written and read: none is refused for lack of memory, which no contract can say."""
+    for size in SIZES:
+        content = b"\x07" * size
+        word = packed(content)
+        for kind in ("octets", "string"):
+            whole = packed(element_of(kind, content))
+            yield f"{size} bytes of {kind}", [f"der encoded {kind} {word}", f"der read {kind} {whole}"], [whole, word]
+        both = element_of("octets", content) + element_of("string", content)
+        lines = f"der write octets {word} string {word} wrap 30 0 len"
+        whole = sequence(both)
+        yield f"{size} bytes, call by call", [lines], [f"{len(whole)} {packed(whole)}"]
+    for size in (LIMIT - 4, LIMIT, LIMIT + 1, 3_000_000):
+        yield f"{size} bytes are too many", [f"der encoded octets 07*{size}", f"der encoded string 07*{size}"], ["TooLong"] * 2
+
+
+def lists():
+    """Lists of 0 to 300 numbers are written and read."""
+    for many in range(301):
+        numbers = [str(it) for it in range(many)]
+        whole = sequence(*(element(0x02, it.to_bytes(it.bit_length() // 8 + 1, "big")) for it in range(many)))
+        lines = [" ".join(["der encoded numbers", *numbers]), f"der cursor {packed(whole)} list-int32 finish"]
+        yield f"a list of {many}", lines, [packed(whole), " ".join(["[", *numbers, "] end"])]
+
+
+def drawn():
+    """The cases of tests/library.py: program, name, lines, answers."""
     for kind, data in cases():
-        text = "b\"" + "".join(f"\\x{b:02x}" for b in data) + "\""
-        try:
-            answer = f"Ok({read(SHAPES[kind], data)})"
-        except Refused as fault:
-            answer = f"Err((FaultKind::{fault.kind}, {fault.at}))"
-        tables.setdefault(kind, []).append(f"    (Kind::{kind.capitalize()}, {text}, {answer}),")
-    for kind, rows in tables.items():
-        for part in range(0, len(rows), 12):
-            some = rows[part : part + 12]
-            lines.append(f"\npub static {kind.upper()}_{part // 12}: [Case; {len(some)}] = [")
-            lines += [*some, "];"]
-    return "\n".join(lines) + "\n"
-
-
-def plain(text):
-    return re.sub(r",(?=[)\]])", "", re.sub(r"\s+", "", text))
-
-
-def main(table):
-    """Writes the table, or says whether a file is the table, layout aside."""
-    if sys.argv[1:2] != ["--check"]:
-        sys.stdout.write(table())
-        return 0
-    same = plain(Path(sys.argv[2]).read_text()) == plain(table())
-    print("1 passed, 0 failed" if same else "0 passed, 1 failed")
-    return 0 if same else 1
-
-
-if __name__ == "__main__":
-    sys.exit(main(table))
+        yield PROGRAM, f"DER by the rules: {kind} {data.hex()}", [f"der read {kind} {packed(data)}"], [answer(SHAPES[kind], data)]
+    for name, lines, answers in [*sizes(), *lists()]:
+        yield PROGRAM, f"DER: {name}", lines, answers

@@ -1,27 +1,25 @@
 #!/usr/bin/env python3
-"""What a strict reader of Kerberos messages answers where one byte of a message is another.
+"""What a strict reader of Kerberos messages answers, and what a writer writes.
 
 The messages are those of tests/msg_values.py, and der_rules reads them, by the rules at its head. The shapes below are the tables
-of RFC 4120 (sections 5.2, 5.3, 5.5.1, 5.5.2 and 5.9.1), written out from that document alone. The answers:
+of RFC 4120 (sections 5.2, 5.3, 5.5.1, 5.5.2 and 5.9.1), written out from that document alone. The cases:
 
-* Each message as it stands is one.
+* Each message as it stands is read, with all its fields; copied and written again, it is the same bytes; and so is one made of its fields.
 * Each beginning of it that is not the whole is Truncated at its end.
 * With a zero byte behind it, it is Trailing at its end.
-* With one byte changed by xor 01, it is either a message still or has the fault that a table tells.
+* With one byte changed by xor 01 or xor 80, it is either a message still, with its fields, or has the fault that the rules tell.
 * Without one of its fields, or of the fields of its parts, the same; of each type a message without optional fields is taken.
+* As each other type it has the wrong tag.
+* Messages with many components and elements, and with a part of many bytes, are written, read, copied and written again: none is refused
+  for lack of memory, which no contract can say. Those at the limit are written, those above it refused.
 
-The first three are worked out here too, and this script fails where they do not hold.
-
-It writes src/tests/flipped.rt of krb_msg_tests: `tests/msg_rules.py > crates/krb_msg_tests/src/tests/flipped.rt`, which `rt fmt` then lays
-out. `tests/msg_rules.py --check FILE` says whether the file is the table, layout aside.
+The second, the third and the sixth are worked out here too, and this script fails where they do not hold.
 """
-import sys
-from itertools import groupby
+from msg_values import (
+    VALUES, fields as numbered, element, flags, integer, name, octet_string, sealed, sequence, text_string, ticket, time, typed,
+)
 
-sys.dont_write_bytecode = True
-
-from der_rules import Refused, element, head, main, read  # noqa: E402
-from msg_values import VALUES  # noqa: E402
+from der_rules import LIMIT, PROGRAM, Refused, answer, head, packed, read
 
 
 def fields(*rows):
@@ -137,39 +135,64 @@ SHAPES = {
     "KRB_ERROR": KRB_ERROR,
 }
 
+# The types by the names that the program gives them.
+TYPES = {
+    "ticket": TICKET,
+    "enc-ticket": ENC_TICKET_PART,
+    "ap-req": AP_REQ,
+    "authenticator": AUTHENTICATOR,
+    "ap-rep": AP_REP,
+    "enc-ap-rep": ENC_AP_REP_PART,
+    "krb-error": KRB_ERROR,
+}
+
 # Of each type a message without optional fields.
 SHORTEST = ["SHORT_TICKET", "ENC_TICKET", "SHORT_AP_REQ", "AUTHENTICATOR", "SHORT_AP_REP", "ENC_AP_REP", "KRB_ERROR"]
 
 
-def shape_of(word):
-    return next(shape for end, shape in SHAPES.items() if word.endswith(end))
+def type_of(word):
+    shape = next(shape for end, shape in SHAPES.items() if word.endswith(end))
+    return next(kind for kind, it in TYPES.items() if it is shape)
 
 
-def answer(shape, data):
-    """None where the data is a message of this shape, else the fault's kind and offset."""
-    try:
-        read(shape, data)
-        return None
-    except Refused as fault:
-        return fault.kind, fault.at
+def parse(kind, data):
+    """The line that reads data as a message of this type, and its answer."""
+    return f"msg parse {kind} {packed(data)}", answer(TYPES[kind], data)
 
 
-def unlike(word, data):
-    """What is wrong with the answers that no table tells: to the message, its beginnings, and a zero byte behind it."""
-    shape = shape_of(word)
-    wanted = [(data[:end], ("Truncated", end)) for end in range(len(data))]
-    wanted += [(data, None), (data + b"\0", ("Trailing", len(data)))]
-    found = [(given, answer(shape, given), want) for given, want in wanted]
-    return [f"{word}: {given.hex()} is {got}, not {want}" for given, got, want in found if got != want]
+def expect(found, wanted, data):
+    if found != wanted:
+        raise ValueError(f"{data.hex()} is {found}, not {wanted}")
 
 
-def flips(word, data):
-    """The first and the last byte of each run of bytes with one answer, and the answer to a changed byte."""
-    shape = shape_of(word)
-    answers = [answer(shape, data[:at] + bytes([data[at] ^ 1]) + data[at + 1 :]) for at in range(len(data))]
-    for found, run in groupby(range(len(data)), key=lambda at: answers[at]):
-        offsets = list(run)
-        yield offsets[0], offsets[-1], found
+def written(kind, data):
+    """A message is written from its fields, read, and copied."""
+    whole = packed(data)
+    values = " ".join(read(TYPES[kind], data))
+    lines = [f"msg write {kind} {values}", f"msg parse {kind} {whole}", f"msg again {kind} {whole}"]
+    return lines, [whole, values, whole]
+
+
+def beginnings(kind, data):
+    lines = []
+    for end in range(len(data)):
+        lines.append(parse(kind, data[:end]))
+        expect(lines[-1][1], f"Truncated at {end}", data[:end])
+    lines.append(parse(kind, data + b"\0"))
+    expect(lines[-1][1], f"Trailing at {len(data)}", data + b"\0")
+    return zip(*lines)
+
+
+def flips(kind, data, mask):
+    return zip(*(parse(kind, data[:at] + bytes([data[at] ^ mask]) + data[at + 1 :]) for at in range(len(data))))
+
+
+def others(kind, data):
+    """As each other type the message has the wrong tag."""
+    lines = [parse(it, data) for it in TYPES if it != kind]
+    for _, found in lines:
+        expect(found, "Tag at 0", data)
+    return zip(*lines)
 
 
 def parts_of(data):
@@ -194,44 +217,113 @@ def lacking(data):
             yield element(tag, b"".join([*parts[:number], changed, *parts[number + 1 :]]))
 
 
-def shown(found):
-    return "None" if found is None else f"Some((FaultKind::{found[0]}, {found[1]}))"
+def of_value(title, word, data):
+    """The cases of one of the messages of msg_values."""
+    kind = type_of(word)
+    yield f"{title} ({word})", *written(kind, data)
+    yield f"{word}, its beginnings, and a byte more", *beginnings(kind, data)
+    yield f"{word} with one byte xor 01", *flips(kind, data, 0x01)
+    yield f"{word} with one byte xor 80", *flips(kind, data, 0x80)
+    yield f"{word} as another type", *others(kind, data)
+    if word in SHORTEST:
+        yield f"{word} without a field", *zip(*(parse(kind, it) for it in lacking(data)))
 
 
-def lacking_row(shape, data):
-    text = "".join(f"\\x{byte:02x}" for byte in data)
-    return f'    (b"{text}", {shown(answer(shape, data))}),'
+def message(kind, many, parts):
+    """A message whose names have so many components and lists so many elements, and with parts of so many bytes: a realm, a last component
+    of a name, what is sealed or a key, what stands beside it, a last element of a list, and one of a second list."""
+    realm, last, main, beside, one, two = (b"\x07" * it for it in parts)
+
+    def named(content=last):
+        return name(1, *[b"web"] * many, *[content] * bool(content))
+
+    def listed(content):
+        return sequence(*[typed(1, bytes([7] * 2))] * many, *[typed(1, content)] * bool(content))
+
+    moment, etype = time("20231114221500Z"), integer(19)
+    key, cipher = typed(19, main), sealed(19, main, 3)
+    shared = ticket(named(), cipher, realm)
+    rows = {
+        "ticket": (None, shared),
+        "enc-ticket": (0x63, [
+            (0, flags(0)), (1, key), (2, text_string(realm)), (3, named()), (4, typed(1, beside)), (5, moment), (6, moment), (7, moment), (8, moment),
+            (9, listed(one)), (10, listed(two)),
+        ]),
+        "ap-req": (0x6E, [(0, integer(5)), (1, integer(14)), (2, flags(1 << 29)), (3, shared), (4, sealed(19, beside, 3))]),
+        "authenticator": (0x62, [
+            (0, integer(5)), (1, text_string(realm)), (2, named()), (3, typed(1, beside)), (4, integer(5)), (5, moment), (6, key),
+            (7, integer(2**32 - 1)), (8, listed(one)),
+        ]),
+        "ap-rep": (0x6F, [(0, integer(5)), (1, integer(15)), (2, cipher)]),
+        "enc-ap-rep": (0x7B, [(0, moment), (1, integer(5)), (2, key), (3, integer(128))]),
+        "krb-error": (0x7E, [
+            (0, integer(5)), (1, integer(30)), (2, moment), (3, integer(5)), (4, moment), (5, integer(5)), (6, integer(37)), (7, text_string(one)),
+            (8, named(two)), (9, text_string(realm)), (10, named()), (11, text_string(beside)), (12, octet_string(main)),
+        ]),
+    }
+    tag, row = rows[kind]
+    return row if tag is None else element(tag, numbered(*row))
 
 
-def static(word, kind, rows):
-    return [f"\npub(crate) static {word}: [{kind}; {len(rows)}] = [", *rows, "];"]
+def filled(kind, part, size):
+    """A message of just so many bytes, nearly all of them in one part; None where its type has no such part."""
+    parts = [0] * 6
+    parts[part] = size - 1000
+    length = len(message(kind, 2, parts))
+    if length < parts[part]:
+        return None
+    parts[part] += size - length
+    return parts
 
 
-HEAD = """//! Written by tests/msg_rules.py, from the rules; not edited by hand.
-
-use krb_msg::FaultKind;
-
-/// The first and the last of some bytes, and the answer to the message with any one of them changed by xor 01: `None` where it is
-/// a message still, else the fault and its offset.
-pub(crate) type Run = (usize, usize, Option<(FaultKind, usize)>);
-
-/// A message that lacks a field, and the answer to it.
-pub(crate) type Lacking = (&'static [u8], Option<(FaultKind, usize)>);"""
+def many():
+    for count in range(301):
+        for kind in TYPES:
+            yield f"{kind} with {count} components and elements", *written(kind, message(kind, count, [0] * 6))
 
 
-def table():
-    """The text of the file, before it is laid out."""
-    wrong = [line for _, word, data in VALUES for line in unlike(word, data)]
-    if wrong:
-        raise ValueError("\n".join(wrong))
-    lines = [HEAD]
-    for _, word, data in VALUES:
-        lines += static(word, "Run", [f"    ({first}, {last}, {shown(found)})," for first, last, found in flips(word, data)])
-    messages = {word: data for _, word, data in VALUES}
-    for word in SHORTEST:
-        lines += static(f"LACKING_{word}", "Lacking", [lacking_row(shape_of(word), data) for data in lacking(messages[word])])
-    return "\n".join(lines) + "\n"
+def long():
+    tried = 0
+    for kind in TYPES:
+        for part in range(6):
+            parts = filled(kind, part, 100_000)
+            if parts:
+                data = message(kind, 2, parts)
+                expect(len(data), 100_000, data[:100])
+                yield f"{kind} of 100000 bytes, most of them in its part {part}", *written(kind, data)
+                tried += 1
+    expect(tried, 26, b"")
 
 
-if __name__ == "__main__":
-    sys.exit(main(table))
+def at_the_limit():
+    for kind in TYPES:
+        parts = filled(kind, 2, LIMIT)
+        data = message(kind, 2, parts)
+        expect(len(data), LIMIT, data[:100])
+        yield f"{kind} of {LIMIT} bytes", *written(kind, data)
+        sizes = [parts[2] + more for more in (1, 1_000_000)]
+        yield f"{kind} of more bytes", *zip(*(too_long(kind, [*parts[:2], it, *parts[3:]]) for it in sizes))
+
+
+def with_elements_too_many():
+    """A list of many elements, each of which has room."""
+    elements = [typed(1, bytes([7] * 1024))] * 1024
+    part = message("enc-ticket", 0, [0] * 6)
+    values = read(ENC_TICKET_PART, part)[:-2]
+    expect(len(part) + len(b"".join(elements)) > LIMIT, True, part)
+    yield "a list of too many elements", [" ".join(["msg write enc-ticket", *values, "[", *["1 07*1024"] * 1024, "]"])], ["TooLong"]
+
+
+def too_long(kind, parts):
+    """The line that writes a message above the limit. Its fields are those of a short one, but for the part that is long."""
+    short = " ".join(read(TYPES[kind], message(kind, 2, [*parts[:2], 3, *parts[3:]])))
+    return f"msg write {kind} " + short.replace(" 070707", f" 07*{parts[2]}"), "TooLong"
+
+
+def drawn():
+    """The cases of tests/library.py: program, name, lines, answers."""
+    for title, word, data in VALUES:
+        for it in of_value(title, word, data):
+            yield PROGRAM, it[0], list(it[1]), list(it[2])
+    for it in (*many(), *long(), *at_the_limit(), *with_elements_too_many()):
+        yield PROGRAM, it[0], list(it[1]), list(it[2])

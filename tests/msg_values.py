@@ -1,6 +1,5 @@
-#!/usr/bin/env python3
-"""The messages of crates/krb_msg_tests/src/tests/values.rt that no document shows: put together from RFC 4120's tables, by hand-written
-DER, without the project's code. Prints that file."""
+"""Messages that no document shows, but four of the project's fixture: put together from RFC 4120's tables, by hand-written DER, without the
+project's code."""
 
 
 def element(tag, *parts):
@@ -25,12 +24,12 @@ def integer(number):
     return element(0x02, number.to_bytes(size, "big", signed=True))
 
 
-def octets(text):
-    return element(0x04, bytes.fromhex(text))
+def octet_string(content):
+    return element(0x04, content)
 
 
-def string(text):
-    return element(0x1B, text.encode())
+def text_string(content):
+    return element(0x1B, content)
 
 
 def time(text):
@@ -41,22 +40,22 @@ def flags(number):
     return element(0x03, b"\0", number.to_bytes(4, "big"))
 
 
-def typed(number, text):
-    return fields((0, integer(number)), (1, octets(text)))
+def typed(number, content):
+    return fields((0, integer(number)), (1, octet_string(content)))
 
 
-def sealed(etype, text, version=None):
+def sealed(etype, content, version=None):
     """An EncryptedData, with the key's version or without."""
     versions = [] if version is None else [(1, integer(version))]
-    return fields((0, integer(etype)), *versions, (2, octets(text)))
+    return fields((0, integer(etype)), *versions, (2, octet_string(content)))
 
 
-def name(kind, *texts):
-    return fields((0, integer(kind)), (1, sequence(*map(string, texts))))
+def name(kind, *components):
+    return fields((0, integer(kind)), (1, sequence(*map(text_string, components))))
 
 
-def ticket(kind, texts, part):
-    return element(0x61, fields((0, integer(5)), (1, string("EX")), (2, name(kind, *texts)), (3, part)))
+def ticket(sname, part, realm=b"EX"):
+    return element(0x61, fields((0, integer(5)), (1, text_string(realm)), (2, sname), (3, part)))
 
 
 TICKET = bytes.fromhex(
@@ -73,10 +72,10 @@ AUTHENTICATOR = bytes.fromhex(
     "62393037a003020105a1041b024558a2123010a003020101a10930071b05616c696365a403020105a511180f32303233313131343232313530305a"
 )
 ENC_AP_REP = bytes.fromhex("7b1a3018a011180f32303233313131343232313530305aa103020105")
-SHORT_TICKET = ticket(2, ["krbtgt", "EX"], sealed(20, "00ff"))
+SHORT_TICKET = ticket(name(2, b"krbtgt", b"EX"), sealed(20, bytes.fromhex("00ff")))
 # The least whole number of all, and the greatest where there are no negative ones.
 LEAST, MOST = -(2**31), 2**32 - 1
-EDGE_TICKET = ticket(LEAST, [""], sealed(-1, "", MOST))
+EDGE_TICKET = ticket(name(LEAST, b""), sealed(-1, b"", MOST))
 
 VALUES = [
     ("A ticket for host/web@EX.", "TICKET", TICKET),
@@ -86,65 +85,52 @@ VALUES = [
     ("A request with that ticket, mutual-required, and an authenticator of four bytes.", "AP_REQ",
      element(0x6E, fields(
          (0, integer(5)), (1, integer(14)), (2, flags(1 << 29)), (3, TICKET),
-         (4, sealed(19, "01020304"))))),
+         (4, sealed(19, bytes.fromhex("01020304")))))),
     ("A reply with the key's version 2^32 - 1.", "AP_REP",
      element(0x6F, fields(
-         (0, integer(5)), (1, integer(15)), (2, sealed(20, "a1a2a3", 2**32 - 1))))),
+         (0, integer(5)), (1, integer(15)), (2, sealed(20, bytes.fromhex("a1a2a3"), 2**32 - 1))))),
     ("What is sealed in a reply, with all fields.", "FULL_ENC_AP_REP",
      element(0x7B, fields(
-         (0, time("20231114221500Z")), (1, integer(999999)), (2, typed(19, "0b0c")), (3, integer(7))))),
+         (0, time("20231114221500Z")), (1, integer(999999)), (2, typed(19, bytes.fromhex("0b0c"))), (3, integer(7))))),
     ("An authenticator with all fields.", "FULL_AUTHENTICATOR",
      element(0x62, fields(
-         (0, integer(5)), (1, string("EX")), (2, name(1, "alice", "admin")), (3, typed(32771, "aabb")), (4, integer(0)),
-         (5, time("19700101000000Z")), (6, typed(20, "0c")), (7, integer(128)),
-         (8, sequence(typed(1, "3000"), typed(64, "")))))),
+         (0, integer(5)), (1, text_string(b"EX")), (2, name(1, b"alice", b"admin")), (3, typed(32771, bytes.fromhex("aabb"))), (4, integer(0)),
+         (5, time("19700101000000Z")), (6, typed(20, bytes.fromhex("0c"))), (7, integer(128)),
+         (8, sequence(typed(1, bytes.fromhex("3000")), typed(64, b"")))))),
     ("What is sealed in a ticket, with all fields.", "FULL_ENC_TICKET",
      element(0x63, fields(
-         (0, flags(1 << 24)), (1, typed(19, "0d")), (2, string("EX")), (3, name(1, "alice")), (4, typed(1, "4142")),
+         (0, flags(1 << 24)), (1, typed(19, bytes.fromhex("0d"))), (2, text_string(b"EX")), (3, name(1, b"alice")), (4, typed(1, bytes.fromhex("4142"))),
          (5, time("20231114221320Z")), (6, time("20231114221321Z")), (7, time("20231115081320Z")),
-         (8, time("20231116081320Z")), (9, sequence(typed(2, "7f000001"))), (10, sequence(typed(1, "3000")))))),
+         (8, time("20231116081320Z")), (9, sequence(typed(2, bytes.fromhex("7f000001")))), (10, sequence(typed(1, bytes.fromhex("3000"))))))),
     ("A ticket that tells no version of the key.", "SHORT_TICKET", SHORT_TICKET),
     ("A request that tells no version of a key.", "SHORT_AP_REQ",
      element(0x6E, fields(
-         (0, integer(5)), (1, integer(14)), (2, flags(0)), (3, SHORT_TICKET), (4, sealed(20, "05"))))),
+         (0, integer(5)), (1, integer(14)), (2, flags(0)), (3, SHORT_TICKET), (4, sealed(20, bytes.fromhex("05")))))),
     ("A ticket with numbers at their edges.", "EDGE_TICKET", EDGE_TICKET),
     ("A request with that ticket, that tells the versions of both keys.", "FULL_AP_REQ",
      element(0x6E, fields(
-         (0, integer(5)), (1, integer(14)), (2, flags(3 << 29)), (3, EDGE_TICKET), (4, sealed(LEAST, "0708", MOST))))),
+         (0, integer(5)), (1, integer(14)), (2, flags(3 << 29)), (3, EDGE_TICKET), (4, sealed(LEAST, bytes.fromhex("0708"), MOST))))),
     ("A reply that tells no version of the key.", "SHORT_AP_REP",
-     element(0x6F, fields((0, integer(5)), (1, integer(15)), (2, sealed(-1, ""))))),
+     element(0x6F, fields((0, integer(5)), (1, integer(15)), (2, sealed(-1, b""))))),
     ("What is sealed in a reply, with numbers at their edges.", "EDGE_ENC_AP_REP",
      element(0x7B, fields(
-         (0, time("99991231235959Z")), (1, integer(0)), (2, typed(LEAST, "")), (3, integer(MOST))))),
+         (0, time("99991231235959Z")), (1, integer(0)), (2, typed(LEAST, b"")), (3, integer(MOST))))),
     ("An authenticator with numbers at their edges.", "EDGE_AUTHENTICATOR",
      element(0x62, fields(
-         (0, integer(5)), (1, string("")), (2, name(LEAST)), (3, typed(-1, "")), (4, integer(999999)),
-         (5, time("00000101000000Z")), (6, typed(-129, "")), (7, integer(MOST)), (8, sequence(typed(-128, "")))))),
+         (0, integer(5)), (1, text_string(b"")), (2, name(LEAST)), (3, typed(-1, b"")), (4, integer(999999)),
+         (5, time("00000101000000Z")), (6, typed(-129, b"")), (7, integer(MOST)), (8, sequence(typed(-128, b"")))))),
     ("What is sealed in a ticket, with numbers at their edges.", "EDGE_ENC_TICKET",
      element(0x63, fields(
-         (0, flags(MOST)), (1, typed(LEAST, "")), (2, string("")), (3, name(-1)), (4, typed(-32769, "")),
-         (5, time("00000101000000Z")), (7, time("99991231235959Z")), (9, sequence(typed(-32768, ""))),
-         (10, sequence(typed(-1, "")))))),
+         (0, flags(MOST)), (1, typed(LEAST, b"")), (2, text_string(b"")), (3, name(-1)), (4, typed(-32769, b"")),
+         (5, time("00000101000000Z")), (7, time("99991231235959Z")), (9, sequence(typed(-32768, b""))),
+         (10, sequence(typed(-1, b"")))))),
     ("An error of the service host/web@EX: the clocks differ too much.", "KRB_ERROR",
      element(0x7E, fields(
          (0, integer(5)), (1, integer(30)), (4, time("20231114221500Z")), (5, integer(7)), (6, integer(37)),
-         (9, string("EX")), (10, name(3, "host", "web"))))),
+         (9, text_string(b"EX")), (10, name(3, b"host", b"web"))))),
     ("An error with all fields, and with numbers at their edges.", "FULL_KRB_ERROR",
      element(0x7E, fields(
          (0, integer(5)), (1, integer(30)), (2, time("20231114221500Z")), (3, integer(999999)),
-         (4, time("20231114222000Z")), (5, integer(999999)), (6, integer(LEAST)), (7, string("EX")), (8, name(-1, "alice")),
-         (9, string("EX")), (10, name(LEAST, "host", "web")), (11, string("too late")), (12, octets("3000"))))),
+         (4, time("20231114222000Z")), (5, integer(999999)), (6, integer(LEAST)), (7, text_string(b"EX")), (8, name(-1, b"alice")),
+         (9, text_string(b"EX")), (10, name(LEAST, b"host", b"web")), (11, text_string(b"too late")), (12, octet_string(bytes.fromhex("3000")))))),
 ]
-
-
-def main():
-    print("//! Messages: four of the project's fixture, the others by tests/msg_values.py, which prints this file.")
-    for title, word, value in VALUES:
-        print(f"\n// {title}\npub(crate) const {word}: [u8; {len(value)}] = [")
-        for start in range(0, len(value), 16):
-            print("    " + ", ".join(f"0x{b:02x}" for b in value[start:start + 16]) + ",")
-        print("];")
-
-
-if __name__ == "__main__":
-    main()

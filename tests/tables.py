@@ -1,11 +1,9 @@
-"""Compares the tables of the crates' tests with the scripts that make them, layout aside.
+"""Compares what tests keep with the scripts that make it, layout aside.
 
-Each check is a pair: its name, and what is wrong, or None. Tables that are copied from a published document aren't made by a
-script; those of RFC 8009 are compared with what the second implementation computes.
+Each check is a pair: its name, and what is wrong, or None. Answers of tests/calls that are copied from a published document, or that were
+drawn once, are compared with what the second implementation computes.
 """
 import contextlib
-import hashlib
-import hmac
 import io
 import re
 import runpy
@@ -18,9 +16,9 @@ sys.path.insert(0, str(HERE))
 sys.path.insert(0, str(HERE / "vectors"))
 
 import aes  # noqa: E402
-import der_rules  # noqa: E402
+import codes  # noqa: E402
 import fixture  # noqa: E402
-import msg_rules  # noqa: E402
+import library  # noqa: E402
 import msg_values  # noqa: E402
 import sealing  # noqa: E402
 import stealing  # noqa: E402
@@ -32,11 +30,6 @@ def source(path):
 
 def same(found, wanted):
     return None if found == wanted else "it isn't what the script gives"
-
-
-def same_text(path, text):
-    """The whole file is this text, layout aside."""
-    return same(der_rules.plain(source(path)), der_rules.plain(text))
 
 
 def printed(script):
@@ -57,57 +50,72 @@ def numbers(text):
     return [int(it.replace("_", ""), 0) for it in re.findall(r"\b(?:0x[0-9a-fA-F_]+|[0-9][0-9_]*)\b", text)]
 
 
-def texts(text):
-    return re.findall(r'"([^"]*)"', text)
-
-
-def random_blocks(path, name, row):
-    """The keys and blocks were drawn at random once; the last number of each row is worked out anew."""
-    found = numbers(value_of(path, name))
-    rows = [[it.to_bytes(16, "big") for it in found[at : at + row]] for at in range(0, len(found), row)]
-    wrong = [block.hex() for *key, block, wanted in rows if aes.encrypted(b"".join(key), block) != wanted]
-    return None if len(rows) == 32 and not wrong else f"of {len(rows)} rows wrong: {wrong}"
-
-
 def tower_tables():
     made = re.findall(r"static (\w+): [^=]*=\s*\[(.*?)\];", printed("crates/krb_aes/docs/tower_tables.py"), re.S)
     found = re.findall(r"static (\w+): [^=]*=\s*\[(.*?)\];", source("krb_aes/src/tower.rt"), re.S)
     return same([(name, numbers(it)) for name, it in found], [(name, numbers(it)) for name, it in made])
 
 
-def sealed_of_rfc_8009():
+# The calls of the ciphers and of the codes, as the second implementation computes them from the call's bytes.
+COMPUTED = {
+    "aes encrypt": aes.encrypted,
+    "aes decrypt": aes.decrypted,
+    "aes plain-encrypt": aes.encrypted,
+    "aes plain-decrypt": aes.decrypted,
+    "cts encrypt": stealing.stolen,
+    "kdf sha256": lambda key, *parts: codes.code("sha256", key, *parts),
+    "kdf sha384": lambda key, *parts: codes.code("sha384", key, *parts),
+}
+PURPOSES = {"kc": 0x99, "ke": 0xAA, "ki": 0x55}
+# Longer texts take the second implementation minutes.
+LONG = 10_000
+
+
+def computed(line):
+    """What a call answers, in hexadecimal digits, or None where it isn't computed here."""
+    layer, call, *words = line.split(" ")
+    if call in ("derive-19", "derive-20", "derive-20-ke"):
+        key, usage, purpose = *words, *["ke"] * (3 - len(words))
+        return sealing.derived(int(call[7:9]), bytes.fromhex(key), int(usage), PURPOSES[purpose]).hex()
+    compute = COMPUTED.get(f"{layer} {call}")
+    texts = [library.bytes_of(it) for it in words]
+    if compute is None or (layer == "cts" and len(texts[1]) < 16):
+        return None
+    return compute(*texts).hex()
+
+
+def computed_by_key(etype, key, line):
+    """The same of a call of a key."""
+    _, call, *words = line.split(" ")
+    if call == "seal" and len(library.bytes_of(words[2])) < LONG:
+        usage, *texts = words
+        return sealing.sealed(etype, key, int(usage), *map(library.bytes_of, texts)).hex()
+    if call == "checksum":
+        return sealing.checksum(etype, key, int(words[0]), library.bytes_of(words[1])).hex()
+    return None
+
+
+def wrong_answers(lines, answers):
+    """The lines of a case whose answers aren't what the second implementation computes, and how many it computes."""
+    etype, key, count, wrong = 0, b"", 0, []
+    for line, answer in zip(lines, answers):
+        if line.startswith("enc key ") and answer.startswith("Key("):
+            etype, key = int(line.split(" ")[2]), library.bytes_of(line.split(" ")[3])
+        found = computed_by_key(etype, key, line) if line.startswith("enc ") else computed(line)
+        count += found is not None
+        if found is not None and library.wanted(found) != answer:
+            wrong.append(f"{line[:80]}: {found[:80]}")
+    return wrong, count
+
+
+def stored_answers():
     sealing.check()
-    text = value_of("krb_enc_tests/src/tests/rfc_8009.rt", "SEALED")
-    found = re.findall(r'\(\s*(\d+),\s*(\d+),\s*"(\w*)",\s*"(\w*)",?\s*\)', text)
-    checksums = [it for _, it in sealing.CHECKSUMS if it not in texts(source("krb_enc_tests/src/tests.rt"))]
-    return same([(int(etype), int(size), *rest) for etype, size, *rest in found], sealing.SEALED) or same(checksums, [])
-
-
-def digests():
-    missing = [it for it in sealing.digests() if it not in texts(source("krb_enc_tests/src/tests.rt"))]
-    return f"digests that aren't there: {missing}" if missing else None
-
-
-def codes_of(key, text=b"Hi There"):
-    return [hmac.new(key, text, it).hexdigest() for it in (hashlib.sha256, hashlib.sha384)]
-
-
-def key_lengths():
-    text = value_of("krb_kdf_tests/src/hmac.rt", "KEY_LENGTHS")
-    found = re.findall(r'\(\s*(\d+),\s*"(\w+)",\s*"(\w+)",?\s*\)', text)
-    wanted = [(str(size), *codes_of(bytes(range(size)))) for size in (0, 63, 64, 65, 127, 128, 129)]
-    missing = [it for it in codes_of(b"", b"") if it not in texts(source("krb_kdf_tests/src/hmac.rt"))]
-    return same(found, wanted) or same(missing, [])
-
-
-def derived_keys():
-    text = value_of("krb_kdf_tests/src/derive.rt", "KEYS")
-    usages = [numbers(it)[0] for it in re.findall(r"usage: (\w+)", text)]
-    wanted = [
-        sealing.derived(etype, sealing.BASE[etype], usage, purpose).hex()
-        for usage in usages for etype in (19, 20) for purpose in (0x99, 0xAA, 0x55)
-    ]
-    return same(texts(text), wanted) if len(usages) == 4 else f"there are {len(usages)} usages"
+    count, wrong = 0, []
+    for _, name, lines, answers in library.stored():
+        if name.startswith(("aes: ", "stealing: ", "derive: ", "sealing: ")):
+            found, several = wrong_answers(lines, answers)
+            wrong, count = wrong + found, count + several
+    return (None if count > 300 else f"of only {count} answers") if not wrong else f"wrong: {wrong}"
 
 
 def messages_of_fixture():
@@ -148,22 +156,13 @@ def sides():
 
 
 TABLES = {
-    "DER by the rules": lambda: same_text("krb_der_tests/src/tests/cases.rt", der_rules.table()),
-    "messages by the rules": lambda: same_text("krb_msg_tests/src/tests/flipped.rt", msg_rules.table()),
-    "messages": lambda: same_text("krb_msg_tests/src/tests/values.rt", printed("tests/msg_values.py")),
     "the fixture's messages": messages_of_fixture,
     "the fixture's caches": caches,
     "the fixture's requests and replies": exchange,
     "the example's keytab, cache and request": example,
     "the cache and the request of the program of replies": sides,
-    "random blocks under keys of 16 bytes": lambda: random_blocks("krb_aes_tests/src/tests/random_128.rt", "RANDOM_128", 3),
-    "random blocks under keys of 32 bytes": lambda: random_blocks("krb_aes_tests/src/tests/random_256.rt", "RANDOM_256", 4),
     "the tables of the S-box on lanes": tower_tables,
-    "stealing at each length": lambda: same(texts(source("krb_cts_tests/src/tests/lengths.rt")), list(stealing.rows())),
-    "sealed texts of RFC 8009": sealed_of_rfc_8009,
-    "digests of sealed texts": digests,
-    "codes under keys about a block": key_lengths,
-    "derived keys": derived_keys,
+    "stored answers of the ciphers, codes and keys": stored_answers,
 }
 
 

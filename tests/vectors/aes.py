@@ -1,4 +1,4 @@
-"""AES on single blocks, forwards, straight from FIPS 197, sections 4.2 and 5: slow, and without tables but the S-box.
+"""AES on single blocks, both ways, straight from FIPS 197, sections 4.2 and 5: slow, and without tables but the S-box.
 
 What it computes is checked against appendices B and C where it is loaded.
 """
@@ -68,6 +68,22 @@ def encrypted(key, block):
     return block
 
 
+UNSBOX = bytes(SBOX.index(it) for it in range(256))
+
+
+def decrypted(key, block):
+    """INVCIPHER of a block of 16 bytes (section 5.3): the steps of CIPHER undone, from the last to the first."""
+    first, *middle, last = round_keys(key)
+    for it in [last, *reversed(middle)]:
+        block = added(block, it)
+        if it is not last:
+            # MixColumns three times more is MixColumns undone.
+            for _ in range(3):
+                block = bytes(byte for i in range(0, 16, 4) for byte in mixed(block[i : i + 4]))
+        block = bytes(UNSBOX[block[(13 * i) % 16]] for i in range(16))
+    return added(block, first)
+
+
 # Appendix B, and C.1 and C.3.
 for key, block, wanted in [
     ("2b7e151628aed2a6abf7158809cf4f3c", "3243f6a8885a308d313198a2e0370734", "3925841d02dc09fbdc118597196a0b32"),
@@ -75,3 +91,16 @@ for key, block, wanted in [
     (bytes(range(32)).hex(), "00112233445566778899aabbccddeeff", "8ea2b7ca516745bfeafc49904b496089"),
 ]:
     assert encrypted(bytes.fromhex(key), bytes.fromhex(block)).hex() == wanted, key
+    assert decrypted(bytes.fromhex(key), bytes.fromhex(wanted)).hex() == block, key
+
+
+def drawn():
+    """The cases of tests/library.py: the block of appendix C.1 under its two keys, with each first byte, by both bodies, both ways."""
+    for size in (16, 32):
+        key = bytes(range(size))
+        for first in range(256):
+            block = bytes([first]) + bytes.fromhex("112233445566778899aabbccddeeff")
+            answers = [encrypted(key, block).hex()] * 2 + [decrypted(key, block).hex()] * 2
+            calls = ["encrypt", "plain-encrypt", "decrypt", "plain-decrypt"]
+            lines = [f"aes {call} {key.hex()} {block.hex()}" for call in calls]
+            yield "krb_calls_wire", f"AES: a key of {size} bytes, a block that begins with {first}", lines, answers

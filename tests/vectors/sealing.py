@@ -1,7 +1,7 @@
 #!/usr/bin/env python3
 """A second implementation of RFC 8009, checked against the vectors of its appendix A.
 
-It prints the digests of sealed texts of the lengths 0 to 64 that stand in crates/krb_enc/src/tests.rt.
+It prints the hashes of long sealed texts that stand in tests/calls/sealing.toml, in some minutes.
 """
 import hashlib
 import hmac
@@ -55,14 +55,65 @@ def check():
         assert checksum(etype, BASE[etype], 2, bytes(range(21))).hex() == wanted, etype
 
 
-def digests():
-    """Of each type the digest of the sealed texts of all lengths from 0 to 64, joined."""
+def usages():
+    """The keys of usages with each bit."""
+    for usage in (0, 0xFFFFFFFF, *(1 << bit for bit in range(32))):
+        lines, answers = [], []
+        for etype, purpose, call in (
+            (19, 0x99, "derive-19 {} {} kc"), (19, 0xAA, "derive-19 {} {} ke"), (19, 0x55, "derive-19 {} {} ki"),
+            (20, 0x99, "derive-20 {} {} kc"), (20, 0xAA, "derive-20-ke {} {}"), (20, 0x55, "derive-20 {} {} ki"),
+        ):
+            lines.append("kdf " + call.format(BASE[etype].hex(), usage))
+            answers.append(derived(etype, BASE[etype], usage, purpose).hex())
+        yield f"the keys of usage {usage}", lines, answers
+
+
+def lengths(usage, confounder, step):
+    """Texts of each length to 64 are sealed and opened."""
+    for etype, key in BASE.items():
+        lines, answers = [f"enc key {etype} {key.hex()}", f"enc usage {usage}"], [f"Key({etype})", "kept"]
+        for size in range(65):
+            plain = bytes(step * i % 256 for i in range(size))
+            text = sealed(etype, key, usage, confounder, plain).hex()
+            lines += [f"enc seal {usage} {confounder.hex()} {plain.hex() or '-'}", f"enc open {usage} {text}", f"enc usage-open {text}"]
+            answers += [text, plain.hex() or "-", plain.hex() or "-"]
+        yield f"each length to 64, type {etype}, usage {usage}", lines, answers
+
+
+def changed(etype, key, confounder, plain=b""):
+    """Each byte of a sealed text counts, and so does its length."""
+    text = sealed(etype, key, 2, confounder, plain)
+    lines, answers = [f"enc key {etype} {key.hex()}", f"enc open 2 {text.hex()}"], [f"Key({etype})", plain.hex() or "-"]
+    for at in range(len(text)):
+        lines.append(f"enc open 2 {text[:at].hex()}{text[at] ^ 1:02x}{text[at + 1:].hex()}")
+        answers.append("Integrity")
+    least = 16 + TYPES[etype][2]
+    for size in range(len(text)):
+        lines.append(f"enc open 2 {text[:size].hex() or '-'}")
+        answers.append("Short" if size < least else "Integrity")
+    return f"each byte of {len(text)} changed, type {etype}", lines, answers
+
+
+def drawn():
+    """The cases of tests/library.py: program, name, lines, answers."""
     check()
-    for etype in TYPES:
-        joined = (sealed(etype, BASE[etype], 11, bytes(range(16)), bytes(7 * i % 256 for i in range(size))) for size in range(65))
-        yield hashlib.sha256(b"".join(joined)).hexdigest()
+    counted = bytes(range(16))
+    first, other = bytes.fromhex("7e5895eaf2672435bad817f545a37148"), bytes(range(32))
+    broken = (changed(19, BASE[19], first), changed(20, other, bytes(16)), changed(19, BASE[19], first, b"plain"), changed(20, other, first, bytes(20)))
+    for name, lines, answers in (*usages(), *lengths(11, counted, 7), *lengths(2, first, 5), *broken):
+        yield "krb_calls_wire", f"sealing: {name}", lines, answers
+
+
+def long_texts():
+    """Of texts of many bytes the length and the hash of what is sealed."""
+    check()
+    for size in (4_096, 100_000, 100_001, 1_048_576, 3_000_000):
+        plain = (bytes(7 * i % 256 for i in range(256)) * (size // 256 + 1))[:size]
+        for etype, key in BASE.items():
+            text = sealed(etype, key, 2, bytes([9] * 16), plain)
+            yield etype, size, f"#{len(text)}:{hashlib.sha256(text).hexdigest()}"
 
 
 if __name__ == "__main__":
-    for digest in digests():
-        print(digest)
+    for etype, size, text in long_texts():
+        print(etype, size, text, flush=True)

@@ -1,7 +1,6 @@
-#!/usr/bin/env python3
-"""Prints the rows of crates/krb_cts/src/tests/lengths.rt, by a second implementation of CBC with ciphertext stealing.
+"""A second implementation of CBC with ciphertext stealing (RFC 3962, section 5).
 
-What it computes is checked against the examples of RFC 3962, appendix B, before it prints.
+What it computes is checked against the examples of RFC 3962, appendix B, before a case is drawn.
 """
 import aes
 
@@ -18,11 +17,11 @@ SOUP = b"I would like the General Gau's Chicken, please, and wonton soup."
 
 def chained(key, text):
     """CBC of whole blocks, with an initial vector of zeros."""
-    out, previous = b"", bytes(16)
+    out, previous = bytearray(), bytes(16)
     for at in range(0, len(text), 16):
         previous = aes.encrypted(key, aes.added(text[at : at + 16], previous))
         out += previous
-    return out
+    return bytes(out)
 
 
 def stolen(key, text):
@@ -33,18 +32,13 @@ def stolen(key, text):
     return (out[: 16 * (blocks - 2)] + out[16 * (blocks - 1) :] + out[16 * (blocks - 2) : 16 * (blocks - 1)])[: len(text)]
 
 
-def rows():
-    """The blocks that chaining makes of the first 192 bytes, and of each length from 16 to 200 the last two blocks, or the one."""
+def drawn():
+    """The cases of tests/library.py: texts of each length from 16 to 220, both ways, under keys of both sizes."""
     for size, wanted in PUBLISHED:
         assert stolen(b"chicken teriyaki", SOUP[:size]).hex() == wanted, size
-    key = bytes(range(32))
-    text = bytes(7 * i % 256 for i in range(200))
-    yield chained(key, text[:192]).hex()
-    for size in range(16, 201):
-        blocks = (size + 15) // 16
-        yield stolen(key, text[:size])[16 * max(blocks - 2, 0) :].hex()
-
-
-if __name__ == "__main__":
-    for row in rows():
-        print(f'    "{row}",')
+    text = bytes(7 * i % 256 for i in range(220))
+    for key in (bytes(range(32)), bytes(range(16))):
+        for size in range(16, 221):
+            plain, cipher = text[:size].hex(), stolen(key, text[:size]).hex()
+            lines = [f"cts encrypt {key.hex()} {plain}", f"cts decrypt {key.hex()} {cipher}"]
+            yield "krb_calls_wire", f"stealing: {size} bytes, a key of {len(key)}", lines, [cipher, plain]
