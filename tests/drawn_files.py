@@ -197,10 +197,11 @@ class Entries:
         while True:
             at = source.at
             self.hand.clear()
-            self.hand.fill(min(4, LIMIT - at))
+            whole = self.hand.fill(min(4, LIMIT - at))
             few = self.hand.bytes()
             if len(few) < 4:
-                return f"Truncated {{ at: {at} }}" if few else "end"
+                last = f"Truncated {{ at: {at} }}" if few else "end"
+                return self.concluded(last) if whole else last
             size = struct.unpack(">i", few)[0]
             if size == 0:
                 return self.concluded("end")
@@ -707,9 +708,10 @@ def wide_records():
     """Entries and credentials of 1 MiB, with very many components."""
     file = Spelled(b"\5\2") + record(Spelled(), 65_535, b"\7" * 14, Spelled())
     yield from each_call(entry_case, "an entry of 65535 components", file, 65_536)
-    short = file.data[6:-5]
-    cut = Spelled(b"\5\2" + struct.pack(">i", len(short)) + short)
-    yield from each_call(entry_case, "an entry of 65535 components, cut", Spelled(cut.data), 65_536)
+    items = Spelled(data16(b"\7" * 14)).times(65_535)
+    body = Spelled(b"\xff\xff\0\0") + items + struct.pack(">iIBhB", 1, 0, 1, 19, 0)
+    cut = Spelled(b"\5\2" + struct.pack(">i", len(body.data))) + body
+    yield from each_call(entry_case, "an entry of 65535 components, cut", cut, 65_536)
     name, wide = name32(0, Spelled(), 0, b""), name32(1, Spelled(), 262_000, b"")
     for flag in (1, 2):
         numbers = struct.pack(">4IBI", 0, 0, 0, 0, flag, 0)

@@ -26,8 +26,8 @@
 //! source SOURCE BYTES, source flaky START                 read COUNT, source
 //! window SOURCE BYTES, window flaky START                 fill COUNT, skip COUNT, run-out LIMIT, clear, bytes, held, given, source, into
 //! sink ROOM N none|K, sink vec|full|slow                  write BYTES, write-all BYTES, failures; of ROOM taken, of vec into
-//! entries SOURCE FILE     next, pass, held, source, into
-//! credentials SOURCE FILE next, pass, held, name, offset, source, into
+//! entries SOURCE FILE     next, pass, held, failures, source, into
+//! credentials SOURCE FILE next, pass, held, failures, name, offset, source, into
 //! ```
 //!
 //! `source` says how many bytes the source has given, and how many reads failed; `into` gives the source back, and says also how many

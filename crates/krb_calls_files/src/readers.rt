@@ -57,12 +57,17 @@ fn entry_call<S: Source>(
         "pass" => passed_entry(alloc, reader.pass()),
         "held" => counted(alloc, reader.held()),
         "source" => source_told(alloc, reader.source()),
+        "failures" => failures_told(alloc, reader.source().failures()),
         _ => None,
     }
 }
 
 fn counted(alloc: Global, count: usize) -> Option<String> {
     format!(in alloc; "{count}").ok()
+}
+
+fn failures_told(alloc: Global, failures: u64) -> Option<String> {
+    format!(in alloc; "{failures}").ok()
 }
 
 fn next_entry(alloc: Global, answer: &Result<Option<Entry>, KeytabFault>) -> Option<String> {
@@ -150,6 +155,7 @@ fn credential_call<S: Source>(
         "pass" => passed_credential(alloc, reader.pass()),
         "held" => counted(alloc, reader.held()),
         "source" => source_told(alloc, reader.source()),
+        "failures" => failures_told(alloc, reader.source().failures()),
         "name" => {
             let mut text = String::new(alloc);
             show_name(alloc, &mut text, reader.default_principal())?;
