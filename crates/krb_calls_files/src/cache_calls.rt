@@ -1,43 +1,38 @@
 //! Calls of credential caches.
 
-use crate::counted::{Counted, Kind, kind_of};
+use crate::counted::source_of;
 use crate::flows::source_told;
 use crate::readers::offset_told;
 use crate::words::{
     bytes_of, credential_of, header_of, list_of, name_of, show_credential, show_list, show_name,
     show_typed, told, word,
 };
-use krb_ccache::{CCache, CacheFault};
-use krb_name::{PieceSource, ReadSource, SliceSource, Source};
+use krb_ccache::{CCache, CacheFault, Credential};
+use krb_name::{Principal, Source};
 use std::alloc::Global;
 
 /// Calls of caches.
 pub(crate) fn cache(alloc: Global, words: &[&str]) -> Option<String> {
     match *words {
-        ["parse", file] => {
-            let bytes = bytes_of(alloc, file)?;
-            listed(alloc, &CCache::parse(alloc, &bytes))
-        }
-        ["read", source, file] => read(alloc, kind_of(source)?, &bytes_of(alloc, file)?),
-        ["write", file] => {
-            let bytes = bytes_of(alloc, file)?;
-            written(alloc, &CCache::parse(alloc, &bytes).ok()?)
-        }
-        ["made", header, name, ..] => match made(alloc, header, name, words.get(3..)?)? {
-            Some(cache) => all_listed(alloc, &cache),
-            None => word(alloc, "none"),
-        },
-        ["written", header, name, ..] => match made(alloc, header, name, words.get(3..)?)? {
-            Some(cache) => written(alloc, &cache),
-            None => word(alloc, "none"),
-        },
-        ["shown", credential] => {
-            let credential = credential_of(alloc, credential)?;
-            format!(in alloc; "{credential:?}").ok()
-        }
+        ["parse", file] => parsed(alloc, file),
+        ["read", source, file] => read(alloc, source, file),
+        ["write", file] => written(alloc, file),
+        ["made", ..] => made_listed(alloc, words.get(1..)?),
+        ["written", ..] => made_written(alloc, words.get(1..)?),
+        ["shown", credential] => shown_credential(alloc, credential),
         ["list", list] => lent(alloc, list),
         _ => None,
     }
+}
+
+fn parsed(alloc: Global, file: &str) -> Option<String> {
+    let bytes = bytes_of(alloc, file)?;
+    listed(alloc, &CCache::parse(alloc, &bytes))
+}
+
+fn shown_credential(alloc: Global, word: &str) -> Option<String> {
+    let credential = credential_of(alloc, word)?;
+    format!(in alloc; "{credential:?}").ok()
 }
 
 // Tells a list: how many elements it has, whether it has none, and which.
@@ -50,14 +45,33 @@ fn lent(alloc: Global, word: &str) -> Option<String> {
     Some(text)
 }
 
-fn made(alloc: Global, header: &str, name: &str, words: &[&str]) -> Option<Option<CCache>> {
+fn made_listed(alloc: Global, words: &[&str]) -> Option<String> {
+    match made(alloc, words)? {
+        Some(cache) => all_listed(alloc, &cache),
+        None => word(alloc, "none"),
+    }
+}
+
+fn made_written(alloc: Global, words: &[&str]) -> Option<String> {
+    match made(alloc, words)? {
+        Some(cache) => bytes_told(alloc, &cache),
+        None => word(alloc, "none"),
+    }
+}
+
+fn made(alloc: Global, words: &[&str]) -> Option<Option<CCache>> {
+    let header = header_of(alloc, words.first()?)?;
+    let default = name_of(alloc, words.get(1)?)?;
+    let credentials = credentials_of(alloc, words.get(2..)?)?;
+    Some(CCache::from_parts(header, default, credentials))
+}
+
+fn credentials_of(alloc: Global, words: &[&str]) -> Option<Vec<Credential>> {
     let mut credentials = Vec::new(alloc);
     for word in words {
         credentials.push(credential_of(alloc, word)?).ok()?;
     }
-    let header = header_of(alloc, header)?;
-    let default = name_of(alloc, name)?;
-    Some(CCache::from_parts(header, default, credentials))
+    Some(credentials)
 }
 
 fn listed(alloc: Global, answer: &Result<CCache, CacheFault>) -> Option<String> {
@@ -68,54 +82,60 @@ fn listed(alloc: Global, answer: &Result<CCache, CacheFault>) -> Option<String> 
 }
 
 fn all_listed(alloc: Global, cache: &CCache) -> Option<String> {
-    let mut list = String::new(alloc);
-    for credential in cache.credentials() {
-        if !list.is_empty() {
-            list.push(' ').ok()?;
-        }
-        let is_configuration = CCache::is_configuration(credential);
-        list.push_str(if is_configuration {
-            "config "
-        } else {
-            "ticket "
-        })
-        .ok()?;
-        show_credential(alloc, &mut list, credential)?;
-    }
     let mut text = front(alloc, cache)?;
+    let list = joined(alloc, cache.credentials())?;
     show_list(alloc, &mut text, list.as_str())?;
     Some(text)
 }
 
+fn joined(alloc: Global, credentials: &[Credential]) -> Option<String> {
+    let mut list = String::new(alloc);
+    for credential in credentials {
+        if !list.is_empty() {
+            list.push(' ').ok()?;
+        }
+        let is_configuration = CCache::is_configuration(credential);
+        let kind = if is_configuration {
+            "config "
+        } else {
+            "ticket "
+        };
+        list.push_str(kind).ok()?;
+        show_credential(alloc, &mut list, credential)?;
+    }
+    Some(list)
+}
+
 fn front(alloc: Global, cache: &CCache) -> Option<String> {
-    let mut name = String::new(alloc);
-    show_name(alloc, &mut name, cache.default_principal())?;
+    let name = name_shown(alloc, cache.default_principal())?;
     let offset = offset_told(alloc, cache.kdc_offset())?;
     let count = cache.credentials().len();
     format!(in alloc; "ok {name} {offset} {count} ").ok()
 }
 
-fn read(alloc: Global, kind: Kind, bytes: &[u8]) -> Option<String> {
-    match kind {
-        Kind::Slice => read_from(alloc, SliceSource::new(bytes)),
-        Kind::Reader => read_from(alloc, ReadSource::new(bytes)),
-        Kind::Pieces(piece, failing) => {
-            read_from(alloc, PieceSource::new(bytes, piece.max(1), failing))
-        }
-    }
+fn name_shown(alloc: Global, name: &Principal) -> Option<String> {
+    let mut text = String::new(alloc);
+    show_name(alloc, &mut text, name)?;
+    Some(text)
 }
 
-fn read_from<S: Source + Drop>(alloc: Global, source: S) -> Option<String> {
-    let mut counted = Counted::new(source);
-    if counted.failures() == u64::MAX {
+fn read(alloc: Global, source: &str, file: &str) -> Option<String> {
+    let bytes = bytes_of(alloc, file)?;
+    let mut source = source_of(source, &bytes)?;
+    if source.failures() == u64::MAX {
         return None;
     }
-    let list = listed(alloc, &CCache::read(alloc, &mut counted))?;
-    let told = source_told(alloc, &counted)?;
+    let list = listed(alloc, &CCache::read(alloc, &mut source))?;
+    let told = source_told(alloc, &source)?;
     format!(in alloc; "{list} {told}").ok()
 }
 
-fn written(alloc: Global, cache: &CCache) -> Option<String> {
+fn written(alloc: Global, file: &str) -> Option<String> {
+    let bytes = bytes_of(alloc, file)?;
+    bytes_told(alloc, &CCache::parse(alloc, &bytes).ok()?)
+}
+
+fn bytes_told(alloc: Global, cache: &CCache) -> Option<String> {
     match cache.to_bytes(alloc) {
         Ok(bytes) => told(alloc, "ok", &bytes),
         Err(fault) => format!(in alloc; "{fault:?}").ok(),

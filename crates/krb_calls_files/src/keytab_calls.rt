@@ -1,143 +1,141 @@
 //! Calls of keytabs.
 
-use crate::counted::{Counted, Kind, kind_of};
+use crate::counted::source_of;
 use crate::flows::source_told;
+use crate::readers::entry_told;
 use crate::words::{bytes_of, entry_of, name_of, show_bytes, show_entry, show_list, told, word};
 use krb_keytab::{Entry, Keytab, KeytabFault, Picked};
-use krb_name::{PieceSource, ReadSource, SliceSource, Source};
+use krb_name::{Principal, Source};
 use std::alloc::Global;
 
 /// Calls of keytabs.
 pub(crate) fn keytab(alloc: Global, words: &[&str]) -> Option<String> {
     match *words {
-        ["parse", file] => {
-            let bytes = bytes_of(alloc, file)?;
-            listed(alloc, &Keytab::parse(alloc, &bytes))
-        }
-        ["read", source, file] => read(alloc, kind_of(source)?, &bytes_of(alloc, file)?),
-        ["write", file] => written(alloc, &parsed(alloc, file)?),
-        ["pick", file, name, etype, kvno] => picked(
-            alloc,
-            &parsed(alloc, file)?,
-            name,
-            etype,
-            kvno,
-        ),
-        ["remove", index, file] => removed(alloc, index, bytes_of(alloc, file)?),
-        ["add", file, ..] => {
-            let entry = entry_of(alloc, words.get(2..)?)??;
-            added(alloc, bytes_of(alloc, file)?, &entry)
-        }
+        ["parse", file] => parsed(alloc, file),
+        ["read", source, file] => read(alloc, source, file),
+        ["write", file] => written(alloc, file),
+        ["pick", file, name, etype, kvno] => picked(alloc, file, name, etype, kvno),
+        ["remove", index, file] => removed(alloc, index, file),
+        ["add", file, ..] => added(alloc, file, words.get(2..)?),
         _ => None,
     }
 }
 
-fn parsed(alloc: Global, file: &str) -> Option<Keytab> {
-    Keytab::parse(alloc, &bytes_of(alloc, file)?).ok()
+fn parsed(alloc: Global, file: &str) -> Option<String> {
+    let bytes = bytes_of(alloc, file)?;
+    listed(alloc, &Keytab::parse(alloc, &bytes))
+}
+
+fn keytab_of(alloc: Global, file: &str) -> Option<Keytab> {
+    let bytes = bytes_of(alloc, file)?;
+    Keytab::parse(alloc, &bytes).ok()
 }
 
 fn listed(alloc: Global, answer: &Result<Keytab, KeytabFault>) -> Option<String> {
     match answer {
-        Ok(keytab) => all_listed(alloc, keytab),
+        Ok(keytab) => all_listed(alloc, keytab.entries()),
         Err(fault) => format!(in alloc; "{fault:?}").ok(),
     }
 }
 
-fn all_listed(alloc: Global, keytab: &Keytab) -> Option<String> {
+fn all_listed(alloc: Global, entries: &[Entry]) -> Option<String> {
+    let count = entries.len();
+    let mut text = format!(in alloc; "ok {count} ").ok()?;
+    let list = joined(alloc, entries)?;
+    show_list(alloc, &mut text, list.as_str())?;
+    Some(text)
+}
+
+fn joined(alloc: Global, entries: &[Entry]) -> Option<String> {
     let mut list = String::new(alloc);
-    for entry in keytab.entries() {
+    for entry in entries {
         if !list.is_empty() {
             list.push(' ').ok()?;
         }
         show_entry(alloc, &mut list, entry)?;
     }
-    let count = keytab.entries().len();
-    let mut text = format!(in alloc; "ok {count} ").ok()?;
-    show_list(alloc, &mut text, list.as_str())?;
-    Some(text)
+    Some(list)
 }
 
-fn read(alloc: Global, kind: Kind, bytes: &[u8]) -> Option<String> {
-    match kind {
-        Kind::Slice => read_from(alloc, SliceSource::new(bytes)),
-        Kind::Reader => read_from(alloc, ReadSource::new(bytes)),
-        Kind::Pieces(piece, failing) => {
-            read_from(alloc, PieceSource::new(bytes, piece.max(1), failing))
-        }
-    }
-}
-
-fn read_from<S: Source + Drop>(alloc: Global, source: S) -> Option<String> {
-    let mut counted = Counted::new(source);
-    if counted.failures() == u64::MAX {
+fn read(alloc: Global, source: &str, file: &str) -> Option<String> {
+    let bytes = bytes_of(alloc, file)?;
+    let mut source = source_of(source, &bytes)?;
+    if source.failures() == u64::MAX {
         return None;
     }
-    let list = listed(alloc, &Keytab::read(alloc, &mut counted))?;
-    let told = source_told(alloc, &counted)?;
+    let list = listed(alloc, &Keytab::read(alloc, &mut source))?;
+    let told = source_told(alloc, &source)?;
     format!(in alloc; "{list} {told}").ok()
 }
 
-fn written(alloc: Global, keytab: &Keytab) -> Option<String> {
-    match keytab.to_bytes(alloc) {
+fn written(alloc: Global, file: &str) -> Option<String> {
+    match keytab_of(alloc, file)?.to_bytes(alloc) {
         Ok(bytes) => told(alloc, "ok", &bytes),
         Err(fault) => format!(in alloc; "{fault:?}").ok(),
     }
 }
 
-fn picked(alloc: Global, keytab: &Keytab, name: &str, etype: &str, kvno: &str) -> Option<String> {
+fn picked(alloc: Global, file: &str, name: &str, etype: &str, kvno: &str) -> Option<String> {
     let etype = etype.parse::<i32>().ok()?;
     let kvno = match kvno {
         "none" => None,
         _ => Some(kvno.parse::<u32>().ok()?),
     };
     let name = name_of(alloc, name)?;
-    match keytab.pick(&name, etype, kvno) {
-        Picked::Entry(entry) => shown_entry(alloc, entry),
+    picked_from(alloc, &keytab_of(alloc, file)?, &name, etype, kvno)
+}
+
+fn picked_from(
+    alloc: Global,
+    keytab: &Keytab,
+    name: &Principal,
+    etype: i32,
+    kvno: Option<u32>,
+) -> Option<String> {
+    match keytab.pick(name, etype, kvno) {
+        Picked::Entry(entry) => entry_told(alloc, entry),
         Picked::NoName => word(alloc, "NoName"),
         Picked::NoKey => word(alloc, "NoKey"),
         Picked::NoVersion => word(alloc, "NoVersion"),
     }
 }
 
-fn shown_entry(alloc: Global, entry: &Entry) -> Option<String> {
-    let mut text = String::from_str(alloc, "entry ").ok()?;
-    show_entry(alloc, &mut text, entry)?;
-    Some(text)
-}
-
-fn removed(alloc: Global, index: &str, file: Vec<u8>) -> Option<String> {
+fn removed(alloc: Global, index: &str, file: &str) -> Option<String> {
     let index = index.parse::<usize>().ok()?;
-    let mut file = file;
+    let mut file = bytes_of(alloc, file)?;
     let answer = Keytab::remove_in(&mut file, index);
     edited(alloc, answer, &file)
 }
 
-fn added(alloc: Global, file: Vec<u8>, entry: &Entry) -> Option<String> {
-    let mut file = file;
-    let answer = Keytab::add_in(&mut file, entry);
+fn added(alloc: Global, file: &str, words: &[&str]) -> Option<String> {
+    let entry = entry_of(alloc, words)??;
+    let mut file = bytes_of(alloc, file)?;
+    let answer = Keytab::add_in(&mut file, &entry);
     edited(alloc, answer, &file)
 }
 
 // What an edit answered, and the file afterwards.
 fn edited(alloc: Global, answer: Result<(), KeytabFault>, file: &[u8]) -> Option<String> {
-    match answer {
-        Ok(()) => told(alloc, "ok", file),
-        Err(fault) => {
-            let mut text = format!(in alloc; "{fault:?} ").ok()?;
-            show_bytes(alloc, &mut text, file)?;
-            Some(text)
-        }
-    }
+    let mut text = match answer {
+        Ok(()) => word(alloc, "ok ")?,
+        Err(fault) => format!(in alloc; "{fault:?} ").ok()?,
+    };
+    show_bytes(alloc, &mut text, file)?;
+    Some(text)
 }
 
 /// Calls of entries.
 pub(crate) fn entry(alloc: Global, words: &[&str]) -> Option<String> {
     let (call, parts) = words.split_first()?;
-    let Some(entry) = entry_of(alloc, parts)? else {
-        return word(alloc, "none");
-    };
-    match *call {
-        "new" => shown_entry(alloc, &entry),
+    match entry_of(alloc, parts)? {
+        Some(entry) => one_entry(alloc, call, &entry),
+        None => word(alloc, "none"),
+    }
+}
+
+fn one_entry(alloc: Global, call: &str, entry: &Entry) -> Option<String> {
+    match call {
+        "new" => entry_told(alloc, entry),
         "shown" => format!(in alloc; "{entry:?}").ok(),
         _ => None,
     }

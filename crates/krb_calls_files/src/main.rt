@@ -5,7 +5,8 @@
 //! BYTES are hexadecimal digits, `-` for none, `HEX*N` for HEX N times, several such joined by `+`; more than 1,024 bytes are shown as
 //! `#LENGTH:SHA256`. LIST is `.` for none, or items joined by `,`, where `ITEM^N` is ITEM N times; what is shown of more than 2,048
 //! characters stands as `#LENGTH:SHA256` of it. A name is `TYPE/REALM/LIST`, of BYTES. A text stands behind `=`, up to the line's end.
-//! SOURCE is `slice`, `reader`, `piece:N` (N bytes a read) or `piece:N:K`, whose Kth read fails. Faults are shown by `Debug`.
+//! SOURCE is `slice`, `reader`, `piece:N` (N bytes a read), `piece:N:K`, whose Kth read fails, or `flaky:0`, a reader that gives
+//! one byte, fails and is at its end (`flaky:1` has given it already). Faults are shown by `Debug`.
 //!
 //! ```text
 //! new                                     ends what an earlier line opened
@@ -23,8 +24,8 @@
 //!
 //! ```text
 //! cursor BYTES            u8, u16, u32, i16, i32, data16, data32, bytes COUNT, at, rest, is-at-end
-//! source SOURCE BYTES, source flaky START                 read COUNT, source
-//! window SOURCE BYTES, window flaky START                 fill COUNT, skip COUNT, run-out LIMIT, clear, bytes, held, given, source, into
+//! source SOURCE BYTES     read COUNT, source, into
+//! window SOURCE BYTES     fill COUNT, skip COUNT, run-out LIMIT, clear, bytes, held, given, source, into
 //! sink ROOM N none|K, sink vec|full|slow                  write BYTES, write-all BYTES, failures; of ROOM taken, of vec into
 //! entries SOURCE FILE     next, pass, held, failures, source, into
 //! credentials SOURCE FILE next, pass, held, failures, name, offset, source, into
@@ -44,7 +45,10 @@ mod sinks;
 mod talk;
 mod words;
 
-use crate::talk::{tell, tell_answer};
+use crate::readers::{Over, open_over};
+use crate::talk::{open, tell, tell_answer};
+use crate::words::bytes_of;
+use krb_name::FileCursor;
 use std::alloc::Global;
 use std::io;
 use std::process::ExitCode;
@@ -75,13 +79,21 @@ fn answer(rt: &HostRuntime, lines: &mut Lines<'_>, line: &str) -> Option<()> {
         return tell(rt, "new");
     }
     match line.split_once(' ') {
-        Some(("cursor", rest)) => flows::cursor(rt, lines, rest),
-        Some(("source", rest)) => flows::source(rt, lines, rest),
-        Some(("window", rest)) => flows::window(rt, lines, rest),
+        Some(("cursor", rest)) => cursor(rt, lines, rest),
         Some(("sink", rest)) => sinks::sink(rt, lines, rest),
-        Some(("entries", rest)) => readers::entries(rt, lines, rest),
-        Some(("credentials", rest)) => readers::credentials(rt, lines, rest),
+        Some(("source", rest)) => open_over(rt, lines, Over::Source, rest),
+        Some(("window", rest)) => open_over(rt, lines, Over::Window, rest),
+        Some(("entries", rest)) => open_over(rt, lines, Over::Entries, rest),
+        Some(("credentials", rest)) => open_over(rt, lines, Over::Credentials, rest),
         _ => tell_answer(rt, one(rt.alloc(), line)),
+    }
+}
+
+// Opens a cursor: `BYTES`.
+fn cursor(rt: &HostRuntime, lines: &mut Lines<'_>, rest: &str) -> Option<()> {
+    match bytes_of(rt.alloc(), rest) {
+        Some(bytes) => open(rt, lines, FileCursor::new(&bytes)),
+        None => tell(rt, "bad line"),
     }
 }
 

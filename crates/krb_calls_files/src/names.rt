@@ -1,7 +1,8 @@
 //! Calls of names.
 
 use crate::words::{
-    bytes_of, components_of, name_of, quoted, show_bytes, show_components, show_name, truth, word,
+    bytes_of, components_of, displayed, name_of, quoted, show_bytes, show_components, show_name,
+    truth, word,
 };
 use krb_ccache::CacheFault;
 use krb_keytab::KeytabFault;
@@ -54,17 +55,29 @@ fn cache_laws() {
 /// Calls of names.
 pub(crate) fn name(alloc: Global, words: &[&str]) -> Option<String> {
     match *words {
-        ["text", name] => {
-            let text = name_of(alloc, name)?.to_text(alloc).ok()?;
-            quoted(alloc, text.as_str())
-        }
-        ["same", one, other] => truth(
-            alloc,
-            name_of(alloc, one)?.same_name(&name_of(alloc, other)?),
-        ),
-        ["clone", name] => shown_name(alloc, &name_of(alloc, name)?.clone().ok()?),
+        ["text", name] => text_told(alloc, name),
+        ["same", one, other] => are_same(alloc, one, other),
+        ["clone", name] => cloned(alloc, name),
         _ => None,
     }
+}
+
+fn text_told(alloc: Global, word: &str) -> Option<String> {
+    let name = name_of(alloc, word)?;
+    let text = name.to_text(alloc).ok()?;
+    quoted(alloc, text.as_str())
+}
+
+fn are_same(alloc: Global, one: &str, other: &str) -> Option<String> {
+    let first = name_of(alloc, one)?;
+    let second = name_of(alloc, other)?;
+    truth(alloc, first.same_name(&second))
+}
+
+fn cloned(alloc: Global, word: &str) -> Option<String> {
+    let name = name_of(alloc, word)?;
+    let copy = name.clone().ok()?;
+    shown_name(alloc, &copy)
 }
 
 fn shown_name(alloc: Global, name: &Principal) -> Option<String> {
@@ -86,20 +99,27 @@ pub(crate) fn read(alloc: Global, rest: &str) -> Option<String> {
 /// Calls of strings of bytes.
 pub(crate) fn bytes(alloc: Global, words: &[&str]) -> Option<String> {
     match *words {
-        ["from", digits] => {
-            let bytes = bytes_of(alloc, digits)?;
-            told_bytes(alloc, &Bytes::from_slice(alloc, &bytes).ok()?)
+        ["same", one, other] => are_bytes_same(alloc, one, other),
+        [call, digits] => {
+            let given = bytes_of(alloc, digits)?;
+            told_bytes(alloc, &made(alloc, call, given)?)
         }
-        ["pushed", digits] => told_bytes(alloc, &pushed(alloc, &bytes_of(alloc, digits)?)?),
-        ["of", digits] => told_bytes(alloc, &Bytes::from(bytes_of(alloc, digits)?)),
-        ["clone", digits] => told_bytes(
-            alloc,
-            &Bytes::from(bytes_of(alloc, digits)?).clone().ok()?,
-        ),
-        ["same", one, other] => {
-            let first = Bytes::from(bytes_of(alloc, one)?);
-            truth(alloc, first == Bytes::from(bytes_of(alloc, other)?))
-        }
+        _ => None,
+    }
+}
+
+fn are_bytes_same(alloc: Global, one: &str, other: &str) -> Option<String> {
+    let first = Bytes::from(bytes_of(alloc, one)?);
+    let second = Bytes::from(bytes_of(alloc, other)?);
+    truth(alloc, first == second)
+}
+
+fn made(alloc: Global, call: &str, given: Vec<u8>) -> Option<Bytes> {
+    match call {
+        "from" => Bytes::from_slice(alloc, &given).ok(),
+        "pushed" => pushed(alloc, &given),
+        "of" => Some(Bytes::from(given)),
+        "clone" => Bytes::from(given).clone().ok(),
         _ => None,
     }
 }
@@ -124,23 +144,30 @@ fn told_bytes(alloc: Global, bytes: &Bytes) -> Option<String> {
 pub(crate) fn components(alloc: Global, words: &[&str]) -> Option<String> {
     match *words {
         ["pushed", list] => told_components(alloc, &components_of(alloc, list)?),
-        ["clone", list] => told_components(alloc, &components_of(alloc, list)?.clone().ok()?),
-        ["room", count, list] => roomy(
-            alloc,
-            count.parse::<u16>().ok()?,
-            &components_of(alloc, list)?,
-        ),
-        ["same", one, other] => {
-            let first = components_of(alloc, one)?;
-            truth(alloc, first == components_of(alloc, other)?)
-        }
+        ["clone", list] => copied_components(alloc, list),
+        ["room", count, list] => roomy(alloc, count, list),
+        ["same", one, other] => are_components_same(alloc, one, other),
         _ => None,
     }
 }
 
-fn roomy(alloc: Global, count: u16, list: &Components) -> Option<String> {
+fn copied_components(alloc: Global, list: &str) -> Option<String> {
+    let given = components_of(alloc, list)?;
+    let copy = given.clone().ok()?;
+    told_components(alloc, &copy)
+}
+
+fn are_components_same(alloc: Global, one: &str, other: &str) -> Option<String> {
+    let first = components_of(alloc, one)?;
+    let second = components_of(alloc, other)?;
+    truth(alloc, first == second)
+}
+
+fn roomy(alloc: Global, count: &str, list: &str) -> Option<String> {
+    let count = count.parse::<u16>().ok()?;
+    let given = components_of(alloc, list)?;
     let mut made = Components::with_room(alloc, usize::from(count)).ok()?;
-    for component in list.as_slice() {
+    for component in given.as_slice() {
         made.push(component.clone().ok()?).ok()?;
     }
     told_components(alloc, &made)
@@ -157,60 +184,46 @@ fn told_components(alloc: Global, components: &Components) -> Option<String> {
 /// Tells the text of a fault, and its offset.
 pub(crate) fn fault(alloc: Global, words: &[&str]) -> Option<String> {
     match *words {
-        ["name", "BadText", at] => text_fault(alloc, TextFault::BadText { at: number(at)? }),
-        ["name", "NoRealm"] => text_fault(alloc, TextFault::NoRealm),
-        ["name", "OutOfMemory"] => text_fault(alloc, TextFault::OutOfMemory),
+        ["name", word] => text_fault(alloc, word, 0),
+        ["name", word, at] => text_fault(alloc, word, at.parse::<usize>().ok()?),
         ["read", word] => flow_fault(alloc, word),
-        ["keytab", "Truncated", at] => keytab_fault(
+        ["keytab", word] => keytab_fault(alloc, keytab_fault_of(word, 0)?),
+        ["keytab", word, at] => keytab_fault(
             alloc,
-            KeytabFault::Truncated { at: number(at)? },
+            keytab_fault_of(word, at.parse::<usize>().ok()?)?,
         ),
-        ["keytab", "BadEntry", at] => keytab_fault(
-            alloc,
-            KeytabFault::BadEntry { at: number(at)? },
-        ),
-        ["keytab", word] => keytab_fault(alloc, plain_keytab_fault(word)?),
-        ["cache", "BadItem", at] => cache_fault(alloc, CacheFault::BadItem { at: number(at)? }),
-        ["cache", word] => cache_fault(alloc, plain_cache_fault(word)?),
+        ["cache", word] => cache_fault(alloc, cache_fault_of(word, 0)?),
+        ["cache", word, at] => cache_fault(alloc, cache_fault_of(word, at.parse::<usize>().ok()?)?),
         _ => None,
     }
 }
 
-fn number(word: &str) -> Option<usize> {
-    word.parse::<usize>().ok()
-}
-
-fn text_fault(alloc: Global, fault: TextFault) -> Option<String> {
-    format!(in alloc; "{fault}").ok()
+fn text_fault(alloc: Global, word: &str, at: usize) -> Option<String> {
+    let fault = match word {
+        "BadText" => TextFault::BadText { at },
+        "NoRealm" => TextFault::NoRealm,
+        "OutOfMemory" => TextFault::OutOfMemory,
+        _ => return None,
+    };
+    displayed(alloc, fault)
 }
 
 fn flow_fault(alloc: Global, word: &str) -> Option<String> {
     match word {
-        "Read" => read_fault(alloc, ReadFault::Read),
-        "OutOfMemory" => read_fault(alloc, ReadFault::OutOfMemory),
-        "Short" => {
-            let fault = Short;
-            format!(in alloc; "{fault}").ok()
-        }
-        "SinkFailed" => {
-            let fault = SinkFailed;
-            format!(in alloc; "{fault}").ok()
-        }
-        "SourceFailed" => {
-            let fault = SourceFailed;
-            format!(in alloc; "{fault}").ok()
-        }
+        "Read" => displayed(alloc, ReadFault::Read),
+        "OutOfMemory" => displayed(alloc, ReadFault::OutOfMemory),
+        "Short" => displayed(alloc, Short),
+        "SinkFailed" => displayed(alloc, SinkFailed),
+        "SourceFailed" => displayed(alloc, SourceFailed),
         _ => None,
     }
 }
 
-fn read_fault(alloc: Global, fault: ReadFault) -> Option<String> {
-    format!(in alloc; "{fault}").ok()
-}
-
-fn plain_keytab_fault(word: &str) -> Option<KeytabFault> {
+fn keytab_fault_of(word: &str, at: usize) -> Option<KeytabFault> {
     match word {
         "Version" => Some(KeytabFault::Version),
+        "Truncated" => Some(KeytabFault::Truncated { at }),
+        "BadEntry" => Some(KeytabFault::BadEntry { at }),
         "TooLong" => Some(KeytabFault::TooLong),
         "NoSuchEntry" => Some(KeytabFault::NoSuchEntry),
         "Read" => Some(KeytabFault::Read),
@@ -222,14 +235,15 @@ fn plain_keytab_fault(word: &str) -> Option<KeytabFault> {
 fn keytab_fault(alloc: Global, fault: KeytabFault) -> Option<String> {
     match fault.at() {
         Some(at) => format!(in alloc; "{fault}; at {at}").ok(),
-        None => format!(in alloc; "{fault}").ok(),
+        None => displayed(alloc, fault),
     }
 }
 
-fn plain_cache_fault(word: &str) -> Option<CacheFault> {
+fn cache_fault_of(word: &str, at: usize) -> Option<CacheFault> {
     match word {
         "Version" => Some(CacheFault::Version),
         "Header" => Some(CacheFault::Header),
+        "BadItem" => Some(CacheFault::BadItem { at }),
         "TooLong" => Some(CacheFault::TooLong),
         "Read" => Some(CacheFault::Read),
         "OutOfMemory" => Some(CacheFault::OutOfMemory),
@@ -240,6 +254,6 @@ fn plain_cache_fault(word: &str) -> Option<CacheFault> {
 fn cache_fault(alloc: Global, fault: CacheFault) -> Option<String> {
     match fault.at() {
         Some(at) => format!(in alloc; "{fault}; at {at}").ok(),
-        None => format!(in alloc; "{fault}").ok(),
+        None => displayed(alloc, fault),
     }
 }

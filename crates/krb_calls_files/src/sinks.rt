@@ -1,7 +1,7 @@
 //! Calls of sinks.
 
-use crate::talk::{next_call, tell, tell_answer};
-use crate::words::{bytes_of, shown, word};
+use crate::talk::{Talk, open, tell};
+use crate::words::{bytes_of, displayed, shown, word};
 use krb_name::{PieceSink, Sink, SinkFailed, WriteSink, write_all};
 use std::alloc::Global;
 use std::io;
@@ -43,96 +43,117 @@ impl Write for Slow {
 /// Opens a sink: `ROOM N none`, `ROOM N K`, `vec`, `full` or `slow`.
 pub(crate) fn sink(rt: &HostRuntime, lines: &mut Lines<'_>, rest: &str) -> Option<()> {
     match rest {
-        "vec" => kept(rt, lines),
-        "full" => written(rt, lines, WriteSink::new(Full)),
-        "slow" => written(rt, lines, WriteSink::new(Slow(false))),
-        _ => match room_of(rest) {
-            Some((room, piece, failing)) => pieces(rt, lines, room, piece, failing),
+        "vec" => open(rt, lines, Kept(WriteSink::new(Vec::new(rt.alloc())))),
+        "full" => open(rt, lines, Written(WriteSink::new(Full))),
+        "slow" => open(rt, lines, Written(WriteSink::new(Slow(false)))),
+        _ => match pieces_of(rest) {
+            Some(given) => pieces(rt, lines, given),
             None => tell(rt, "bad line"),
         },
     }
 }
 
-fn room_of(rest: &str) -> Option<(u16, usize, Option<u64>)> {
+// What a sink of pieces is made with.
+#[derive(Clone, Copy)]
+struct Given {
+    room: u16,
+    piece: u32,
+    failing: Option<u64>,
+}
+
+fn pieces_of(rest: &str) -> Option<Given> {
     let (room, others) = rest.split_once(' ')?;
     let (piece, failing) = others.split_once(' ')?;
     let room = room.parse::<u16>().ok()?;
-    let piece = piece.parse::<usize>().ok()?;
-    match failing {
-        "none" => Some((room, piece, None)),
-        _ => Some((room, piece, Some(failing.parse::<u64>().ok()?))),
-    }
+    let piece = piece.parse::<u32>().ok()?;
+    let failing = match failing {
+        "none" => None,
+        _ => Some(failing.parse::<u64>().ok()?),
+    };
+    Some(Given {
+        room,
+        piece,
+        failing,
+    })
 }
 
-fn pieces(
-    rt: &HostRuntime,
-    lines: &mut Lines<'_>,
-    size: u16,
-    piece: usize,
-    failing: Option<u64>,
-) -> Option<()> {
-    let mut room = vec![in rt.alloc(); 0u8; usize::from(size)].ok()?;
-    let mut sink = PieceSink::new(&mut room, piece.max(1), failing);
-    tell(rt, "open")?;
-    for _ in 0..u64::MAX {
-        let Some(line) = next_call(rt, lines)? else {
-            return Some(());
-        };
-        let answer = match line {
-            "taken" => shown(rt.alloc(), sink.taken()),
-            _ => sink_call(rt.alloc(), &mut sink, line),
-        };
-        tell_answer(rt, answer)?;
-    }
-    Some(())
+fn pieces(rt: &HostRuntime, lines: &mut Lines<'_>, given: Given) -> Option<()> {
+    let mut room = vec![in rt.alloc(); 0u8; usize::from(given.room)].ok()?;
+    let piece = given.piece as usize;
+    open(
+        rt,
+        lines,
+        PieceSink::new(&mut room, piece.max(1), given.failing),
+    )
 }
 
-fn kept(rt: &HostRuntime, lines: &mut Lines<'_>) -> Option<()> {
-    let mut sink = WriteSink::new(Vec::new(rt.alloc()));
-    tell(rt, "open")?;
-    for _ in 0..u64::MAX {
-        let Some(line) = next_call(rt, lines)? else {
-            return Some(());
-        };
-        if line == "into" {
-            return tell_answer(rt, shown(rt.alloc(), &sink.into_inner()));
+impl Talk for PieceSink<'_> {
+    fn call(&mut self, alloc: Global, line: &str) -> Option<String> {
+        match line {
+            "taken" => shown(alloc, self.taken()),
+            _ => sink_call(alloc, self, line),
         }
-        tell_answer(rt, sink_call(rt.alloc(), &mut sink, line))?;
     }
-    Some(())
+
+    fn into_answer(self, _alloc: Global) -> Option<String> {
+        None
+    }
 }
 
-fn written<S: Sink + Drop>(rt: &HostRuntime, lines: &mut Lines<'_>, sink: S) -> Option<()> {
-    let mut sink = sink;
-    tell(rt, "open")?;
-    for _ in 0..u64::MAX {
-        let Some(line) = next_call(rt, lines)? else {
-            return Some(());
-        };
-        tell_answer(rt, sink_call(rt.alloc(), &mut sink, line))?;
+// A sink over a list of bytes.
+#[derive(Drop)]
+struct Kept(WriteSink<Vec<u8>>);
+
+impl Talk for Kept {
+    fn call(&mut self, alloc: Global, line: &str) -> Option<String> {
+        sink_call(alloc, &mut self.0, line)
     }
-    Some(())
+
+    fn into_answer(self, alloc: Global) -> Option<String> {
+        shown(alloc, &self.0.into_inner())
+    }
+}
+
+// A sink over another writer.
+#[derive(Drop)]
+struct Written<W>(WriteSink<W>);
+
+impl<W: Write + Drop> Talk for Written<W> {
+    fn call(&mut self, alloc: Global, line: &str) -> Option<String> {
+        sink_call(alloc, &mut self.0, line)
+    }
+
+    fn into_answer(self, _alloc: Global) -> Option<String> {
+        None
+    }
 }
 
 fn sink_call<S: Sink>(alloc: Global, sink: &mut S, line: &str) -> Option<String> {
     if line == "failures" {
-        let failures = sink.failures();
-        return format!(in alloc; "{failures}").ok();
+        return displayed(alloc, sink.failures());
     }
     let (call, digits) = line.split_once(' ')?;
-    let bytes = bytes_of(alloc, digits)?;
     if sink.failures() == u64::MAX {
         return None;
     }
+    let bytes = bytes_of(alloc, digits)?;
     match call {
-        "write" => match sink.write(&bytes) {
-            Ok(count) => format!(in alloc; "{count}").ok(),
-            Err(SinkFailed) => word(alloc, "SinkFailed"),
-        },
-        "write-all" => match write_all(sink, &bytes) {
-            Ok(()) => word(alloc, "ok"),
-            Err(SinkFailed) => word(alloc, "SinkFailed"),
-        },
+        "write" => some_written(alloc, sink.write(&bytes)),
+        "write-all" => written_all(alloc, write_all(sink, &bytes)),
         _ => None,
+    }
+}
+
+fn some_written(alloc: Global, answer: Result<usize, SinkFailed>) -> Option<String> {
+    match answer {
+        Ok(count) => displayed(alloc, count),
+        Err(SinkFailed) => word(alloc, "SinkFailed"),
+    }
+}
+
+fn written_all(alloc: Global, answer: Result<(), SinkFailed>) -> Option<String> {
+    match answer {
+        Ok(()) => word(alloc, "ok"),
+        Err(SinkFailed) => word(alloc, "SinkFailed"),
     }
 }

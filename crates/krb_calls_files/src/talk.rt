@@ -1,5 +1,6 @@
 //! Answering lines.
 
+use std::alloc::Global;
 use std::str::Lines;
 
 /// Answers a line.
@@ -15,14 +16,32 @@ pub(crate) fn tell_answer(rt: &HostRuntime, answer: Option<String>) -> Option<()
     }
 }
 
-/// The next line that speaks to what is open. Where it is closed, by `new` or the end, this is answered and there is none.
-pub(crate) fn next_call<'a>(rt: &HostRuntime, lines: &mut Lines<'a>) -> Option<Option<&'a str>> {
-    match lines.next() {
-        Some("new") => {
-            tell(rt, "new")?;
-            Some(None)
+/// What a line opens, and the lines after it speak to.
+pub(crate) trait Talk {
+    /// Makes a call; `None` where the line can't be read.
+    fn call(&mut self, alloc: Global, line: &str) -> Option<String>;
+
+    /// Closes it, and answers what it had.
+    fn into_answer(self, alloc: Global) -> Option<String>;
+}
+
+/// Answers the lines that speak to what was opened, up to `into`, `new` or the end.
+pub(crate) fn open<T: Talk + Drop>(
+    rt: &HostRuntime,
+    lines: &mut Lines<'_>,
+    opened: T,
+) -> Option<()> {
+    let mut opened = opened;
+    tell(rt, "open")?;
+    for _ in 0..u64::MAX {
+        let Some(line) = lines.next() else {
+            return Some(());
+        };
+        match line {
+            "new" => return tell(rt, "new"),
+            "into" => return tell_answer(rt, opened.into_answer(rt.alloc())),
+            _ => tell_answer(rt, opened.call(rt.alloc(), line))?,
         }
-        Some(line) => Some(Some(line)),
-        None => Some(None),
     }
+    Some(())
 }

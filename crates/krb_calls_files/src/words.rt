@@ -6,6 +6,7 @@ use krb_keytab::Entry;
 use krb_name::{Bytes, Components, Principal};
 use sha2::{Digest, Sha256};
 use std::alloc::Global;
+use std::fmt::{Display, Write};
 
 // Longer bytes, and longer lists, are shown by their length and their hash.
 const SHOWN_BYTES: usize = 1_024;
@@ -140,115 +141,63 @@ pub(crate) fn header_of(alloc: Global, word: &str) -> Option<Vec<HeaderField>> {
     Some(header)
 }
 
-// The numbers of a credential.
-#[derive(Clone, Copy)]
-struct Numbers {
-    etype: i16,
-    times: [u32; 4],
-    is_skey: bool,
-    flags: u32,
-}
-
-fn numbers_of(words: &[&str]) -> Option<Numbers> {
-    match *words {
-        [
-            _,
-            _,
-            etype,
-            _,
-            authtime,
-            starttime,
-            endtime,
-            renew_till,
-            skey,
-            flags,
-            ..
-        ] => Some(Numbers {
-            etype: etype.parse::<i16>().ok()?,
-            times: [
-                authtime.parse::<u32>().ok()?,
-                starttime.parse::<u32>().ok()?,
-                endtime.parse::<u32>().ok()?,
-                renew_till.parse::<u32>().ok()?,
-            ],
-            is_skey: flag_of(skey)?,
-            flags: flags.parse::<u32>().ok()?,
-        }),
-        _ => None,
-    }
-}
-
-fn flag_of(word: &str) -> Option<bool> {
-    match word {
-        "0" => Some(false),
-        "1" => Some(true),
-        _ => None,
-    }
-}
-
-// The strings of a credential.
-#[derive(Drop)]
-struct Strings {
-    key: Bytes,
-    ticket: Bytes,
-    second_ticket: Bytes,
-}
-
-fn strings_of(alloc: Global, words: &[&str]) -> Option<Strings> {
-    let key = string_of(alloc, words.get(3)?)?;
-    let ticket = string_of(alloc, words.get(12)?)?;
-    let second_ticket = string_of(alloc, words.get(13)?)?;
-    Some(Strings {
-        key,
-        ticket,
-        second_ticket,
-    })
-}
-
-// The lists of a credential.
-#[derive(Drop)]
-struct Lists {
-    addresses: TypedList,
-    authdata: TypedList,
-}
-
-fn lists_of(alloc: Global, words: &[&str]) -> Option<Lists> {
-    let addresses = list_of(alloc, words.get(10)?)?;
-    let authdata = list_of(alloc, words.get(11)?)?;
-    Some(Lists {
-        addresses,
-        authdata,
-    })
-}
-
 /// Reads a credential: `CLIENT:SERVER:ETYPE:KEY:AUTHTIME:STARTTIME:ENDTIME:RENEW_TILL:IS_SKEY:FLAGS:ADDRESSES:AUTHDATA:TICKET:SECOND`.
 pub(crate) fn credential_of(alloc: Global, word: &str) -> Option<Credential> {
     let words: Vec<&str> = word.split(':').collect(alloc).ok()?;
+    let mut credential = named(alloc, &words)?;
+    number_in(&mut credential, &words)?;
+    list_in(alloc, &mut credential, &words)?;
+    string_in(alloc, &mut credential, &words)?;
+    Some(credential)
+}
+
+// A credential with these names and nothing more.
+fn named(alloc: Global, words: &[&str]) -> Option<Credential> {
     if words.len() != 14 {
         return None;
     }
-    let numbers = numbers_of(&words)?;
-    let [authtime, starttime, endtime, renew_till] = numbers.times;
     let client = name_of(alloc, words.first()?)?;
     let server = name_of(alloc, words.get(1)?)?;
-    let strings = strings_of(alloc, &words)?;
-    let lists = lists_of(alloc, &words)?;
     Some(Credential {
         client,
         server,
-        etype: numbers.etype,
-        key: strings.key,
-        authtime,
-        starttime,
-        endtime,
-        renew_till,
-        is_skey: numbers.is_skey,
-        ticket_flags: numbers.flags,
-        addresses: lists.addresses,
-        authdata: lists.authdata,
-        ticket: strings.ticket,
-        second_ticket: strings.second_ticket,
+        etype: 0,
+        key: Bytes::new(alloc),
+        authtime: 0,
+        starttime: 0,
+        endtime: 0,
+        renew_till: 0,
+        is_skey: false,
+        ticket_flags: 0,
+        addresses: TypedList::new(alloc),
+        authdata: TypedList::new(alloc),
+        ticket: Bytes::new(alloc),
+        second_ticket: Bytes::new(alloc),
     })
+}
+
+fn number_in(credential: &mut Credential, words: &[&str]) -> Option<()> {
+    credential.etype = words.get(2)?.parse::<i16>().ok()?;
+    credential.authtime = words.get(4)?.parse::<u32>().ok()?;
+    credential.starttime = words.get(5)?.parse::<u32>().ok()?;
+    credential.endtime = words.get(6)?.parse::<u32>().ok()?;
+    credential.renew_till = words.get(7)?.parse::<u32>().ok()?;
+    credential.is_skey = *words.get(8)? == "1";
+    credential.ticket_flags = words.get(9)?.parse::<u32>().ok()?;
+    Some(())
+}
+
+fn list_in(alloc: Global, credential: &mut Credential, words: &[&str]) -> Option<()> {
+    credential.addresses = list_of(alloc, words.get(10)?)?;
+    credential.authdata = list_of(alloc, words.get(11)?)?;
+    Some(())
+}
+
+fn string_in(alloc: Global, credential: &mut Credential, words: &[&str]) -> Option<()> {
+    credential.key = string_of(alloc, words.get(3)?)?;
+    credential.ticket = string_of(alloc, words.get(12)?)?;
+    credential.second_ticket = string_of(alloc, words.get(13)?)?;
+    Some(())
 }
 
 /// Shows bytes as hexadecimal digits, `-` for none; longer ones as `#LENGTH:SHA256`.
@@ -267,8 +216,7 @@ fn show_hash(alloc: Global, text: &mut String, bytes: &[u8]) -> Option<()> {
     let count = bytes.len();
     let hash = Sha256::digest(bytes);
     let digits = encode(alloc, hash.as_slice()).ok()?;
-    let word = format!(in alloc; "#{count}:{digits}").ok()?;
-    text.push_str(word.as_str()).ok()
+    write!(text, "#{count}:{digits}").ok()
 }
 
 /// Shows a list, `.` for an empty one; a longer one as `#LENGTH:SHA256` of what is shown of it.
@@ -300,6 +248,11 @@ pub(crate) fn told(alloc: Global, word: &str, bytes: &[u8]) -> Option<String> {
 /// Answers a word.
 pub(crate) fn word(alloc: Global, word: &str) -> Option<String> {
     String::from_str(alloc, word).ok()
+}
+
+/// Answers what is displayed of a value.
+pub(crate) fn displayed<T: Display + Drop>(alloc: Global, value: T) -> Option<String> {
+    format!(in alloc; "{value}").ok()
 }
 
 /// Answers `true` or `false`.
@@ -334,8 +287,7 @@ pub(crate) fn show_components(
 /// Shows a name as `name_of` reads it.
 pub(crate) fn show_name(alloc: Global, text: &mut String, name: &Principal) -> Option<()> {
     let name_type = name.name_type;
-    let front = format!(in alloc; "{name_type}/").ok()?;
-    text.push_str(front.as_str()).ok()?;
+    write!(text, "{name_type}/").ok()?;
     show_bytes(alloc, text, name.realm.as_slice())?;
     text.push('/').ok()?;
     show_components(alloc, text, name.components.as_slice())
@@ -347,8 +299,7 @@ pub(crate) fn show_entry(alloc: Global, text: &mut String, entry: &Entry) -> Opt
     let timestamp = entry.timestamp();
     let kvno = entry.kvno();
     let etype = entry.etype();
-    let numbers = format!(in alloc; ":{timestamp}:{kvno}:{etype}:").ok()?;
-    text.push_str(numbers.as_str()).ok()?;
+    write!(text, ":{timestamp}:{kvno}:{etype}:").ok()?;
     show_bytes(alloc, text, entry.key())
 }
 
@@ -366,8 +317,7 @@ pub(crate) fn show_typed(alloc: Global, text: &mut String, items: &TypedList) ->
 
 fn show_item(alloc: Global, list: &mut String, item: &TypedBytes) -> Option<()> {
     let kind = item.kind;
-    let front = format!(in alloc; "{kind}/").ok()?;
-    list.push_str(front.as_str()).ok()?;
+    write!(list, "{kind}/").ok()?;
     show_bytes(alloc, list, item.bytes.as_slice())
 }
 
@@ -377,7 +327,7 @@ pub(crate) fn show_credential(alloc: Global, text: &mut String, it: &Credential)
     text.push(':').ok()?;
     show_name(alloc, text, &it.server)?;
     show_key(alloc, text, it)?;
-    show_times(alloc, text, it)?;
+    show_times(text, it)?;
     show_typed(alloc, text, &it.addresses)?;
     text.push(':').ok()?;
     show_typed(alloc, text, &it.authdata)?;
@@ -389,20 +339,20 @@ pub(crate) fn show_credential(alloc: Global, text: &mut String, it: &Credential)
 
 fn show_key(alloc: Global, text: &mut String, it: &Credential) -> Option<()> {
     let etype = it.etype;
-    let front = format!(in alloc; ":{etype}:").ok()?;
-    text.push_str(front.as_str()).ok()?;
+    write!(text, ":{etype}:").ok()?;
     show_bytes(alloc, text, it.key.as_slice())
 }
 
-fn show_times(alloc: Global, text: &mut String, it: &Credential) -> Option<()> {
+fn show_times(text: &mut String, it: &Credential) -> Option<()> {
     let authtime = it.authtime;
     let starttime = it.starttime;
     let endtime = it.endtime;
     let renew_till = it.renew_till;
-    let times = format!(in alloc; ":{authtime}:{starttime}:{endtime}:{renew_till}:").ok()?;
-    text.push_str(times.as_str()).ok()?;
-    let skey = if it.is_skey { "1" } else { "0" };
+    let skey = u8::from(it.is_skey);
     let flags = it.ticket_flags;
-    let rest = format!(in alloc; "{skey}:{flags}:").ok()?;
-    text.push_str(rest.as_str()).ok()
+    write!(
+        text,
+        ":{authtime}:{starttime}:{endtime}:{renew_till}:{skey}:{flags}:"
+    )
+    .ok()
 }
