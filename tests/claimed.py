@@ -8,8 +8,9 @@ Each check is a pair: its name, and what is wrong, or None.
 import resource
 import subprocess
 
-import drawn_files
 import library
+
+import drawn_files  # noqa: E402, I001  library makes the folder of the vectors known
 
 PROGRAM = library.TOP / f"crates/{drawn_files.PROGRAM}/out/{drawn_files.PROGRAM}"
 STEP = 64 * 1024

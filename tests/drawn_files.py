@@ -7,10 +7,11 @@ session key's bytes, up to the flags, at once.
 import hashlib
 import struct
 
-import fixture
 import reference
 from library import TOP, shown
 from reference import Fault, Reader, Short
+
+import fixture  # noqa: E402, I001  library makes the folder of the vectors known
 
 PROGRAM = "krb_calls_files"
 LIMIT = reference.LIMIT
