@@ -118,4 +118,5 @@ class Lock:
     def forget(self, crates):
         """Drops the lines of crates of which an edit wasn't refused."""
         names = {it.name for it in crates}
-        write_lock(self.top, {name: row for name, row in read_lock(self.top).items() if name not in names})
+        if names:
+            write_lock(self.top, {name: row for name, row in read_lock(self.top).items() if name not in names})

@@ -36,7 +36,7 @@ sys.path.insert(0, str(HERE / "vectors"))
 sys.dont_write_bytecode = True
 
 # The modules with a function drawn(), which gives (program, name, lines, answers) of further cases.
-MODELS = ("aes", "stealing", "codes", "sealing", "der_rules", "msg_rules")
+MODELS = ("aes", "stealing", "codes", "sealing", "der_rules", "msg_rules", "drawn_files")
 # A longer text is told by its length and its hash.
 SHOWN = 1024
 SECONDS = 120
