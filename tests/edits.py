@@ -24,7 +24,8 @@ see of one (its head, or a const fn), since its group could be refused for it.
 
 An edit fails, by name, where it doesn't apply, doesn't compile or can't be read, where its crate stays proved, and where only
 a proof file is refused, for a name that the edit took away. Once all edits of a crate are refused, its line is written to the lock; if one
-isn't, its line goes. The last line is 'N passed, M failed', of the edits that were tried.
+isn't, its line goes. Edits that are refused only since a term of an answer file no longer fits are named: the checker says nothing of the goal
+then, so that another answer might prove it. The last line is 'N passed, M failed', of the edits that were tried.
 """
 import argparse
 import os
@@ -71,6 +72,8 @@ class Edit:
         self.is_outside = self.is_seen = False
         # what came of it: 'refused', or a fault's words
         self.outcome, self.told = None, ""
+        # whether it is refused by nothing but terms of an answer file that no longer fit
+        self.by_terms = False
         self.read()
         if not self.fault:
             self.look()
@@ -125,8 +128,9 @@ class Edit:
     def functions(self):
         return [(path, self.crate.functions(path)[number]) for path, number in self.changed]
 
-    def end(self, outcome, told=""):
+    def end(self, outcome, told="", goals=()):
         self.outcome, self.told = outcome, told
+        self.by_terms = bool(goals) and all(it.startswith(("proofs/", "./proofs/")) and TERMS_ALONE.search(it) for it in goals)
 
 
 def around(text, functions):
@@ -331,6 +335,8 @@ def run(words, folder):
         return started.returncode, said.read(), used.ru_utime + used.ru_stime, used.ru_maxrss * 1024
 
 
+# What an answer file is told if a term of it no longer fits: that says nothing of the goal.
+TERMS_ALONE = re.compile(r"the two types (?:first )?differ|the two types are|list the missing equation|no occurrence of the path's left endpoint|expected type")
 NAMES_ALONE = re.compile(r"has no field|is not in scope|has no `|was not admitted|which was rejected, was not checked")
 UNREADABLE = re.compile(r"is not in scope|has no field|is no name|operand is missing|expected the end|cannot continue")
 
@@ -447,7 +453,7 @@ class Runner:
             goals = [it for name in names for it in said.goals[name] if not said.state.get(name, "").startswith("proved")]
             others = [it for goals in said.goals.values() for it in goals]
             if goals or (others and edit.is_outside):
-                edit.end("refused", (goals or others)[0])
+                edit.end("refused", (goals or others)[0], goals or others)
             elif others:
                 edit.end("is refused only elsewhere, by no goal of a function that it changes", others[0])
             else:
@@ -478,7 +484,7 @@ class Runner:
             if it in shared:
                 lone.append(it)
             elif open_names:
-                it.end("refused", said.goals[open_names[0]][0])
+                it.end("refused", said.goals[open_names[0]][0], [line for name in open_names for line in said.goals[name]])
             elif waits:
                 later.append(it)
             else:
@@ -600,6 +606,9 @@ def reported(crate):
     refused = sum(it.outcome == "refused" for it in crate.edits)
     cost = f"{crate.checks} checks, {crate.seconds:.0f} s of processor time, {crate.memory / 1e9:.1f} GB"
     yield f"{crate.name}: {refused} of {len(crate.edits)} refused, by {cost}"
+    terms = [os.path.basename(it.file) for it in crate.edits if it.by_terms]
+    if terms:
+        yield f"{crate.name}: {len(terms)} of these show less: a term of an answer no longer fits, and no goal is named: {' '.join(terms)}"
     for it in crate.edits:
         if it.outcome != "refused":
             told = f": {it.told[:300]}" if it.told else ""
