@@ -1,4 +1,4 @@
-# Builds, checks, installs and packs krbtool, the library for C and the Python package.
+# Builds, checks, installs and packs krbtool and the library for C.
 #
 #   make                  krbtool, libfevstunik.a and libfevstunik.so, in build/
 #   make check            all proofs and tests, as ./test runs them
