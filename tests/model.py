@@ -38,7 +38,8 @@ def value_at(shape, data, at, end):
         start, after = der_rules.head(data, at, end, der_rules.TAGS[shape])
         if shape in ("octets", "string"):
             return data[start:after], after
-        return der_rules.leaf_at(shape, data, at, end)
+        words, after = der_rules.leaf_at(shape, data, at, end)
+        return int(words[0]) if words else None, after
     start, after = der_rules.head(data, at, end, der_rules.tag_of(shape))
     if isinstance(shape, tuple):
         return value_at(shape[1], data, start, after)[0], after
