@@ -1,29 +1,28 @@
 -- Each call has an answer: it is accepted, or there is a first cause.
-use Rattle.std.proofs.Common.{◌≡◌, ℕ, ◌<◌, ℤ, pos, ◌+ℤ◌, List, [], ◌∷◌, refl, sym, ◌∙◌, inl, inr, ◌⊎◌, lit<, Option, Some, None}
+use Rattle.std.proofs.Common.{◌≡◌, ℕ, ◌<◌, ℤ, pos, List, [], ◌∷◌, refl, sym, ◌∙◌, inl, inr, ◌⊎◌, lit<}
 use Rattle.krb_der.specs.Kind.{Kind, ValueOf}
 use Rattle.krb_der.specs.Spells.{IsMessage}
 use Rattle.krb_enc.specs.Key.{KeyValue, IsKnown, IsUsable}
-use Rattle.krb_msg.specs.Bits.{use_session_key, invalid, transited_policy_checked}
-use Rattle.krb_msg.specs.Module.{ap_req, enc_ticket_part, authenticator, authorization_data, IsMessageKind, is_ap_req, is_enc_ticket_part, is_authenticator}
-use Rattle.krb_msg.specs.Fields.{options_of, etype_of, kvno_of, cipher_of, authenticator_of_request, flags_of, endtime_of, crealm_of, realm_of, ticket_of_request, authorization_of, authenticator_authorization, type_of, part_client, authenticator_client}
+use Rattle.krb_msg.specs.Bits.{use_session_key}
+use Rattle.krb_msg.specs.Module.{ap_req, enc_ticket_part, authenticator, IsMessageKind, is_ap_req, is_enc_ticket_part, is_authenticator}
+use Rattle.krb_msg.specs.Fields.{options_of, etype_of, kvno_of, cipher_of, authenticator_of_request, part_client, authenticator_client}
 use Rattle.krb_keytab.specs.Entry.{KeytabEntry}
 use Rattle.krb_keytab.specs.Pick.{Choice, chosen, no_name, no_key, no_version}
 use Rattle.krb_replay.specs.Stamp.{Stamp}
 use Rattle.krb_ap.specs.Setup.{Setup, Arrival, arrival}
 use Rattle.krb_ap.specs.Opened.{OpensAs, Asks, Keyed, Ticketed, Authenticated, OpenedAs, IsChoiceFor, sealed_ticket, session_key, entry_key, service_of, ticket_usage, authenticator_usage, sent_at, stamp_of}
-use Rattle.krb_ap.specs.Times.{Near, IsEarly, IsLate, IsPathTrusted, IsDataIgnorable, MayBeIgnored, second_at, start_of}
 use Rattle.krb_ap.specs.History.{effective, Shows, IsShown}
-use Rattle.krb_ap.specs.Taken.{Taken, taken_from, Accept}
+use Rattle.krb_ap.specs.Taken.{Taken, Accept}
 use Rattle.krb_ap.specs.Causes.{BeginsOtherwise, place, Cause}
 use Rattle.krb_ap.specs.Inner.Facts.{Facts}
 use Rattle.krb_ap.specs.Inner.Decisions.{Decisions}
-use Rattle.krb_ap.proofs.Decided.{Decided, both, one_of, none_of, numbers, integers, texts, same_name, stamps, order, each}
-use Rattle.krb_ap.proofs.TurnedAway.{wanted, ticket_shut, key_unusable, authenticator_shut, other_client, far, near_passes, opens_nothing, opens_to_none, shown_near, shown_stamp}
-use Rattle.krb_ap.proofs.Late.{times_cause, times_accept}
+use Rattle.krb_ap.proofs.Decided.{Decided, both, one_of, numbers, integers, same_name, stamps}
+use Rattle.krb_ap.proofs.TurnedAway.{wanted, ticket_shut, key_unusable, authenticator_shut, other_client, opens_nothing, opens_to_none, shown_near, shown_stamp}
+use Rattle.krb_ap.proofs.OfOpened.{near, answered as of_opened_answered}
 use Rattle.krb_ap.proofs.Table.{none_before}
 use Rattle.krb_ap.proofs.Stages.{begun, read, ordinary, opened}
 use Rattle.krb_ap.specs.declared.refusal.Refusal.{Refusal}
-use Rattle.krb_ap.specs.declared.refusal.Refusal.TheVariants.{MessageType, Malformed, UserToUser, TicketEtype, NotUs, NoKey, BadKeyVersion, TicketIntegrity, SessionKey, AuthenticatorIntegrity, BadMatch, Skew, Repeat, NotYetValid, Expired, Transited, Authorization}
+use Rattle.krb_ap.specs.declared.refusal.Refusal.TheVariants.{MessageType, Malformed, UserToUser, TicketEtype, NotUs, NoKey, BadKeyVersion, TicketIntegrity, SessionKey, AuthenticatorIntegrity, BadMatch, Skew}
 
 -- how far bytes come, whatever was before: to a cause, or to what they are opened as
 pub data Outcome (setup : Setup) (bytes : List ℕ) : Type 0 where
@@ -58,9 +57,6 @@ opens_as facts d key usage cipher k m = elim (d.opening key usage cipher) [
 ]
 
 module _ (facts : Facts) (d : Decisions) (setup : Setup) (bytes : List ℕ) where
-  Nothing : Stamp → Type 0
-  Nothing s = ⊥
-
   by_client : (request : ValueOf ap_req) (part : ValueOf enc_ticket_part) (auth : ValueOf authenticator) → Authenticated setup bytes request part auth
       → Outcome setup bytes
   by_client request part auth a = elim (same_name (part_client part) (authenticator_client auth)) [
@@ -94,9 +90,9 @@ module _ (facts : Facts) (d : Decisions) (setup : Setup) (bytes : List ℕ) wher
 
   by_choice : (request : ValueOf ap_req) → Asks bytes request → (choice : Choice) → IsChoiceFor setup request choice → Outcome setup bytes
   by_choice request asks (chosen entry) h = by_ticket request entry (record { asks = asks; chosen_is = h })
-  by_choice request asks no_name h = refused NotUs (lit< tt) (λ history moment. (wanted facts setup history bytes moment (λ s. ⊥) request asks NotUs h).cause)
-  by_choice request asks no_key h = refused NoKey (lit< tt) (λ history moment. (wanted facts setup history bytes moment (λ s. ⊥) request asks NoKey h).cause)
-  by_choice request asks no_version h = refused BadKeyVersion (lit< tt) (λ history moment. (wanted facts setup history bytes moment (λ s. ⊥) request asks BadKeyVersion h).cause)
+  by_choice request asks no_name h = refused NotUs (lit< tt) (λ history moment. (wanted facts setup history bytes moment (λ s. ⊥) request asks NotUs (inl (refl, h))).cause)
+  by_choice request asks no_key h = refused NoKey (lit< tt) (λ history moment. (wanted facts setup history bytes moment (λ s. ⊥) request asks NoKey (inr (inl (refl, h)))).cause)
+  by_choice request asks no_version h = refused BadKeyVersion (lit< tt) (λ history moment. (wanted facts setup history bytes moment (λ s. ⊥) request asks BadKeyVersion (inr (inr (refl, h)))).cause)
 
   by_request : (request : ValueOf ap_req) → IsMessage ap_req request bytes → Outcome setup bytes
   by_request request message = elim (d.bit (options_of request) use_session_key) [
@@ -128,12 +124,6 @@ module _ (facts : Facts) (d : Decisions) (setup : Setup) (bytes : List ℕ) wher
     ]
   ]
 
-near : (a now : ℤ) (skew : ℕ) → Decided (Near a now skew)
-near a now skew = elim (both _ _ (order a (now +ℤ pos skew)) (order now (a +ℤ pos skew))) [
-  | inl h ↦ inl (record { not_after = h.0; not_before = h.1 })
-  | inr none ↦ inr (λ h. none (h.not_after, h.not_before))
-]
-
 module _ (facts : Facts) (d : Decisions) (setup : Setup) where
   shows : (now : ℤ) (bytes : List ℕ) (stamp : Stamp) → Decided (Shows setup now bytes stamp)
   shows now bytes stamp = at (outcome facts d setup bytes)
@@ -149,68 +139,10 @@ module _ (facts : Facts) (d : Decisions) (setup : Setup) where
   shown [] stamp = inr (λ h. h)
   shown (a ∷ history) stamp = one_of _ _ (shows (effective history a.moment) a.bytes stamp) (shown history stamp)
 
-  early : (part : ValueOf enc_ticket_part) (now : ℤ) → Decided (IsEarly part now setup.skew)
-  early part now = one_of _ _ (none_of _ (order (second_at (start_of part)) (now +ℤ pos setup.skew))) (d.bit (flags_of part) invalid)
-
-  late : (part : ValueOf enc_ticket_part) (now : ℤ) → Decided (IsLate part now setup.skew)
-  late part now = none_of _ (order now (second_at (endtime_of part) +ℤ pos setup.skew))
-
-  trusted : (request : ValueOf ap_req) (part : ValueOf enc_ticket_part) → Decided (IsPathTrusted request part)
-  trusted request part = one_of _ _ (texts (crealm_of part) (realm_of (ticket_of_request request))) (d.bit (flags_of part) transited_policy_checked)
-
-  data_of : (data_ : Option (ValueOf authorization_data)) → Decided (MayBeIgnored data_)
-  data_of None = inl tt
-  data_of (Some elements) = each (λ element. type_of element ≡ pos 1) (λ element. integers (type_of element) (pos 1)) elements
-
-  ignorable : (part : ValueOf enc_ticket_part) (auth : ValueOf authenticator) → Decided (IsDataIgnorable part auth)
-  ignorable part auth = elim (both _ _ (data_of (authorization_of part)) (data_of (authenticator_authorization auth))) [
-    | inl h ↦ inl (record { of_ticket = h.0; of_authenticator = h.1 })
-    | inr none ↦ inr (λ h. none (h.of_ticket, h.of_authenticator))
-  ]
-
-  Answer : List Arrival → List ℕ → ℤ → Type 0
-  Answer history bytes moment = ((t : Taken) × Accept setup history (arrival bytes moment) t) ⊎ ((r : Refusal) × Cause setup history (arrival bytes moment) r)
-
-  module _ (history : List Arrival) (bytes : List ℕ) (moment : ℤ) (request : ValueOf ap_req) (part : ValueOf enc_ticket_part) (auth : ValueOf authenticator)
-      (o : OpenedAs setup bytes request part auth) where
-    by_times : Near (sent_at auth) (effective history moment) setup.skew → ¬ IsShown setup history (stamp_of request part auth)
-        → ((t : Taken) × Accept setup history (arrival bytes moment) t) ⊎ ((r : Refusal) × Cause setup history (arrival bytes moment) r)
-    by_times n new = elim (early part (effective history moment)) [
-      | inl h ↦ inr (NotYetValid, times_cause facts setup history bytes moment request part auth o n new NotYetValid h)
-      | inr begun ↦ elim (late part (effective history moment)) [
-        | inl h ↦ inr (Expired, times_cause facts setup history bytes moment request part auth o n new Expired (begun, h))
-        | inr lasting ↦ elim (trusted request part) [
-          | inr h ↦ inr (Transited, times_cause facts setup history bytes moment request part auth o n new Transited (begun, lasting, h))
-          | inl path ↦ elim (ignorable part auth) [
-            | inr h ↦ inr (Authorization, times_cause facts setup history bytes moment request part auth o n new Authorization (begun, lasting, path, h))
-            | inl ignored ↦ inl (
-              taken_from request part auth,
-              times_accept facts setup history bytes moment request part auth o n new (taken_from request part auth) refl
-                  (record { early = begun; late = lasting; trusted = path; ignorable = ignored }),
-            )
-          ]
-        ]
-      ]
-    ]
-
-    by_moment : ((t : Taken) × Accept setup history (arrival bytes moment) t) ⊎ ((r : Refusal) × Cause setup history (arrival bytes moment) r)
-    by_moment = elim (near (sent_at auth) (effective history moment) setup.skew) [
-      | inr h ↦ inr (Skew, (far facts setup history bytes moment (λ s. ⊥) request part auth o h).cause)
-      | inl n ↦ elim (shown history (stamp_of request part auth)) [
-        | inl h ↦ inr (
-          Repeat,
-          record {
-            holds = record { request = request; part = part; auth = auth; opened = o; holds = h };
-            first = near_passes facts setup history bytes moment (λ s. ⊥) request part auth o n;
-          },
-        )
-        | inr new ↦ by_times n new
-      ]
-    ]
-
   pub answered : (history : List Arrival) (call : Arrival) → ((t : Taken) × Accept setup history call t) ⊎ ((r : Refusal) × Cause setup history call r)
   answered history call = at (outcome facts d setup call.bytes)
     where
       at : Outcome setup call.bytes → ((t : Taken) × Accept setup history call t) ⊎ ((r : Refusal) × Cause setup history call r)
       at (refused r early cause) = inr (r, cause history call.moment)
-      at (taken request part auth o) = by_moment history call.bytes call.moment request part auth o
+      at (taken request part auth o) =
+          of_opened_answered facts setup history call.bytes call.moment request part auth o d (shown history (stamp_of request part auth))

@@ -5,6 +5,7 @@ pub mod Table
 pub mod Stages
 pub mod TurnedAway
 pub mod Late
+pub mod OfOpened
 pub mod Standing
 pub mod Afterwards
 pub mod OneAnswer

@@ -1,43 +1,38 @@
 -- Which refusals tell a place, and that it is one of the bytes or their end.
-use Rattle.std.proofs.Common.{◌≡◌, ◌≢◌, ℕ, ◌≤◌, List, length}
+use Rattle.std.proofs.Common.{◌≡◌, ◌≢◌, ℕ, ◌≤◌, List, length, sym, subst, arith, ◌⊎◌, inl, inr, Option, None}
 use Rattle.std.specs.Prelude.{IfSome}
 use Rattle.krb_der.specs.Kind.{Kind}
 use Rattle.krb_der.specs.Fault.{IsFault}
 use Rattle.krb_der.specs.declared.fault.Fault.{Fault}
 use Rattle.krb_msg.specs.Module.{ap_req, ap_rep}
 use Rattle.krb_ap.specs.Setup.{Setup, Arrival}
-use Rattle.krb_ap.specs.Causes.{Cause, offset_of}
+use Rattle.krb_ap.specs.Causes.{Cause, Holds, offset_of}
 use Rattle.krb_ap.specs.Request.{Awaited}
 use Rattle.krb_ap.specs.Finish.{FinishCause, finish_offset_of}
 use Rattle.krb_ap.specs.declared.finish_fault.FinishFault.{FinishFault}
 use Rattle.krb_ap.specs.declared.finish_fault.FinishFault.TheVariants as finish
+use Rattle.krb_ap.proofs.Table.{fault_in}
 use Rattle.krb_ap.specs.declared.refusal.Refusal.{Refusal}
-use Rattle.krb_ap.specs.declared.refusal.Refusal.TheVariants.{MessageType, Malformed, UserToUser, TicketEtype, NotUs, NoKey, BadKeyVersion, TicketIntegrity, SessionKey, AuthenticatorIntegrity, BadMatch, Skew, Repeat, NotYetValid, Expired, Transited, Authorization, OutOfMemory}
+use Rattle.krb_ap.specs.declared.refusal.Refusal.TheVariants.{Malformed}
 
 -- a fault of bytes lies within them
 abbrev pub Within : Type 0
 Within = (k : Kind) (bytes : List ℕ) (fault : Fault) → IsFault k bytes fault → fault.at ≤ length bytes
 
+-- a refusal tells no place, or is of malformed bytes
+placeless : (r : Refusal) → (offset_of r ≡ None) ⊎ (r ≡ Malformed (fault_in r))
+placeless r = grind arith
+
 pub cause_within : Within → (setup : Setup) (history : List Arrival) (call : Arrival) (r : Refusal) → Cause setup history call r
     → IfSome (offset_of r) (λ at. at ≤ length call.bytes)
-cause_within within setup history call MessageType cause = tt
-cause_within within setup history call (Malformed fault) cause = within ap_req call.bytes fault cause.holds.1
-cause_within within setup history call UserToUser cause = tt
-cause_within within setup history call TicketEtype cause = tt
-cause_within within setup history call NotUs cause = tt
-cause_within within setup history call NoKey cause = tt
-cause_within within setup history call BadKeyVersion cause = tt
-cause_within within setup history call TicketIntegrity cause = tt
-cause_within within setup history call SessionKey cause = tt
-cause_within within setup history call AuthenticatorIntegrity cause = tt
-cause_within within setup history call BadMatch cause = tt
-cause_within within setup history call Skew cause = tt
-cause_within within setup history call Repeat cause = tt
-cause_within within setup history call NotYetValid cause = tt
-cause_within within setup history call Expired cause = tt
-cause_within within setup history call Transited cause = tt
-cause_within within setup history call Authorization cause = tt
-cause_within within setup history call OutOfMemory cause = tt
+cause_within within setup history call r cause = elim (placeless r) [
+  | inl none ↦ subst (λ (o : Option ℕ). IfSome o (λ at. at ≤ length call.bytes)) (sym none) tt
+  | inr is ↦ subst (λ (x : Refusal). IfSome (offset_of x) (λ at. at ≤ length call.bytes)) (sym is)
+      (of_malformed (fault_in r) (subst (λ (x : Refusal). Holds setup history call x) is cause.holds))
+]
+  where
+    of_malformed : (fault : Fault) → Holds setup history call (Malformed fault) → fault.at ≤ length call.bytes
+    of_malformed fault h = within ap_req call.bytes fault h.1
 
 pub finish_within : Within → (awaited : Awaited) (bytes : List ℕ) (f : FinishFault) → FinishCause awaited bytes f
     → IfSome (finish_offset_of f) (λ at. at ≤ length bytes)

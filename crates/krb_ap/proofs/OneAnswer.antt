@@ -1,66 +1,30 @@
 -- A call has one answer: accepted with what is then known, or one cause.
-use Rattle.std.proofs.Common.{◌≡◌, ℕ, ◌<◌, List, sym, ◌∙◌, ap, inl, inr, ◌⊎◌, arith, lit<, Ok, Err, Result}
+use Rattle.std.proofs.Common.{◌≡◌, ◌≢◌, ℕ, ◌<◌, List, sym, subst, ◌∙◌, ap, inl, inr, ◌⊎◌, arith, Ok, Err, Result}
 use Rattle.std.specs.Prelude.{MatchResult, IsErrAnd}
 use Rattle.krb_der.specs.Kind.{ValueOf}
 use Rattle.krb_msg.specs.Module.{ap_req, enc_ticket_part}
 use Rattle.krb_ap.specs.Setup.{Setup, Arrival}
-use Rattle.krb_ap.specs.Opened.{sent_at, stamp_of}
-use Rattle.krb_ap.specs.Times.{Near, Alive, IsEarly, IsLate, IsPathTrusted, IsDataIgnorable}
-use Rattle.krb_ap.specs.History.{effective, IsShown}
 use Rattle.krb_ap.specs.Taken.{Taken, taken_from, Accept}
 use Rattle.krb_ap.specs.Causes.{Holds, place, Cause}
 use Rattle.krb_ap.specs.Answer.{Answers, taken_of}
 use Rattle.krb_ap.specs.Inner.Facts.{Facts}
-use Rattle.krb_ap.proofs.OneOpening.{of_opened, one_authenticated, SameOpening}
-use Rattle.krb_ap.proofs.Table.{Clear, pass}
-use Rattle.krb_ap.proofs.Stages.{opened}
+use Rattle.krb_ap.proofs.OneOpening.{one_authenticated, SameOpening}
+use Rattle.krb_ap.proofs.OfOpened.{accepted_is_clear}
 use Rattle.krb_ap.proofs.Afterwards.{memory_or_not}
 use Rattle.krb_ap.specs.declared.accepted.Accepted.{Accepted}
 use Rattle.krb_ap.specs.declared.refusal.Refusal.{Refusal}
-use Rattle.krb_ap.specs.declared.refusal.Refusal.TheVariants.{MessageType, Malformed, UserToUser, TicketEtype, NotUs, NoKey, BadKeyVersion, TicketIntegrity, SessionKey, AuthenticatorIntegrity, BadMatch, Skew, Repeat, NotYetValid, Expired, Transited, Authorization, OutOfMemory}
+use Rattle.krb_ap.specs.declared.refusal.Refusal.TheVariants.{OutOfMemory}
 
 module _ (facts : Facts) (setup : Setup) (history : List Arrival) (call : Arrival) where
   -- what is accepted has no cause
-  not_early : (part : ValueOf enc_ticket_part) → Alive part (effective history call.moment) setup.skew → ¬ IsEarly part (effective history call.moment) setup.skew
-  not_early part alive early = elim early [ inl h ↦ h alive.begun | inr bit ↦ alive.valid bit ]
-
-  pub accepted_is_clear : (taken : Taken) → Accept setup history call taken → Clear setup history call (place OutOfMemory)
-  accepted_is_clear taken a =
-      pass setup history call Authorization (λ e. cc)
-      (pass setup history call Transited (λ e. cc)
-      (pass setup history call Expired (λ e. cc)
-      (pass setup history call NotYetValid (λ e. cc)
-      (pass setup history call Repeat (λ e. cc)
-      (pass setup history call Skew (λ e. cc) (opened facts setup history call a.request a.part a.auth a.opened)
-      (λ x. of_opened facts setup call.bytes a.request a.part a.auth (λ r p b. ¬ Near (sent_at b) (effective history call.moment) setup.skew) a.opened x a.near))
-      (λ x. a.unshown (of_opened facts setup call.bytes a.request a.part a.auth (λ r p b. IsShown setup history (stamp_of r p b)) a.opened x)))
-      (λ x. not_early a.part a.alive (of_opened facts setup call.bytes a.request a.part a.auth (λ r p b. IsEarly p (effective history call.moment) setup.skew) a.opened x)))
-      (λ x. of_opened facts setup call.bytes a.request a.part a.auth (λ r p b. IsLate p (effective history call.moment) setup.skew) a.opened x a.alive.lasting))
-      (λ x. of_opened facts setup call.bytes a.request a.part a.auth (λ r p b. ¬ IsPathTrusted r p) a.opened x a.trusted))
-      (λ x. of_opened facts setup call.bytes a.request a.part a.auth (λ r p b. ¬ IsDataIgnorable p b) a.opened x a.ignorable)
-
-  below : (r : Refusal) → Holds setup history call r → place r < place OutOfMemory
-  below MessageType h = lit< tt
-  below (Malformed fault) h = lit< tt
-  below UserToUser h = lit< tt
-  below TicketEtype h = lit< tt
-  below NotUs h = lit< tt
-  below NoKey h = lit< tt
-  below BadKeyVersion h = lit< tt
-  below TicketIntegrity h = lit< tt
-  below SessionKey h = lit< tt
-  below AuthenticatorIntegrity h = lit< tt
-  below BadMatch h = lit< tt
-  below Skew h = lit< tt
-  below Repeat h = lit< tt
-  below NotYetValid h = lit< tt
-  below Expired h = lit< tt
-  below Transited h = lit< tt
-  below Authorization h = lit< tt
-  below OutOfMemory h = absurd h
+  below : (r : Refusal) → r ≢ OutOfMemory → place r < place OutOfMemory
+  below r named = grind arith
 
   pub not_both : (taken : Taken) (r : Refusal) → Accept setup history call taken → Cause setup history call r → ⊥
-  not_both taken r a cause = accepted_is_clear taken a r (below r cause.holds) cause.holds
+  not_both taken r a cause = elim (memory_or_not r) [
+    | inl memory ↦ subst (λ (x : Refusal). Holds setup history call x) memory cause.holds
+    | inr named ↦ accepted_is_clear facts setup history call taken a r (below r named) cause.holds
+  ]
 
   -- what is known of it is one
   pub one_taken : (one other : Taken) → Accept setup history call one → Accept setup history call other → other ≡ one

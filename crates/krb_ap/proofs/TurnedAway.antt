@@ -1,5 +1,5 @@
 -- Why a request is turned away, or how it is judged, at each stage.
-use Rattle.std.proofs.Common.{◌≡◌, ℕ, ◌<◌, ℤ, pos, ◌+ℤ◌, List, refl, sym, subst, arith, lit<, Some, None, Option}
+use Rattle.std.proofs.Common.{◌≡◌, ℕ, ◌<◌, ℤ, pos, ◌+ℤ◌, List, refl, sym, subst, arith, inl, inr, lit<, Some, None, Option}
 use Rattle.std.specs.Prelude.{◌≤ℤ◌, ◌-ℤ◌, IfSome}
 use Rattle.std.proofs.lemmas.Int.{ints}
 use Rattle.krb_name.specs.declared.principal.Principal.{Principal}
@@ -16,16 +16,15 @@ use Rattle.krb_replay.specs.Memory.{later_of, IsRecent}
 use Rattle.krb_ap.specs.Setup.{Setup, Arrival, arrival}
 use Rattle.krb_ap.specs.Opened.{OpensAs, Asks, Keyed, Ticketed, OpensAuthenticator, Authenticated, OpenedAs, SameClient, sealed_ticket, session_key, entry_key, service_of, ticket_usage, sent_at, stamp_of}
 use Rattle.krb_ap.specs.Times.{Near}
-use Rattle.krb_ap.specs.History.{greatest, effective, Shows, IsShown, IsStillRecent}
+use Rattle.krb_ap.specs.History.{greatest, effective, Shows, IsStillRecent}
 use Rattle.krb_ap.specs.Causes.{place, Cause}
 use Rattle.krb_ap.specs.Inner.Facts.{Facts}
 use Rattle.krb_ap.specs.Inner.Stages.{IsChosenKey, Wants, IsShut, IsNone}
 use Rattle.krb_ap.specs.Inner.Judging.{IsTurnedAway}
-use Rattle.krb_ap.proofs.OneOpening.{one_authenticated, of_opened, SameOpening}
-use Rattle.krb_ap.proofs.Table.{Clear, pass}
+use Rattle.krb_ap.proofs.OneOpening.{one_authenticated, SameOpening}
 use Rattle.krb_ap.proofs.Stages.{asked, named, with_key, keyed, ticketed, usable, authenticated, opened}
 use Rattle.krb_ap.specs.declared.refusal.Refusal.{Refusal}
-use Rattle.krb_ap.specs.declared.refusal.Refusal.TheVariants.{MessageType, Malformed, UserToUser, TicketEtype, NotUs, NoKey, BadKeyVersion, TicketIntegrity, SessionKey, AuthenticatorIntegrity, BadMatch, Skew, Repeat, NotYetValid, Expired, Transited, Authorization, OutOfMemory}
+use Rattle.krb_ap.specs.declared.refusal.Refusal.TheVariants.{NotUs, NoKey, BadKeyVersion, TicketIntegrity, SessionKey, AuthenticatorIntegrity, BadMatch, Skew}
 
 -- a text that opens to no message of the kind
 pub opens_to_none : Facts → (key : KeyValue) (usage : ℕ) (cipher plain : List ℕ) (k : Kind) → Opens (profile_of key) key.bytes usage cipher plain
@@ -87,33 +86,22 @@ module _ (facts : Facts) (setup : Setup) (history : List Arrival) (bytes : List 
 
   pub wanted : (request : ValueOf ap_req) → Asks bytes request → (r : Refusal)
       → Wants setup.entries (service_of request) (sealed_ticket request) r → IsTurnedAway setup history (arrival bytes moment) Has r
-  wanted request asks NotUs w = turned_away NotUs (lit< tt) (record {
-    holds = record { request = request; asks = asks; holds = w };
-    first = asked facts setup history (arrival bytes moment) request asks;
-  })
-  wanted request asks NoKey w = turned_away NoKey (lit< tt) (record {
-    holds = record { request = request; asks = asks; holds = w };
-    first = named facts setup history (arrival bytes moment) request no_key (λ e. cc) asks w;
-  })
-  wanted request asks BadKeyVersion w = turned_away BadKeyVersion (lit< tt) (record {
-    holds = record { request = request; asks = asks; holds = w };
-    first = with_key facts setup history (arrival bytes moment) request no_version (λ e. cc) (λ e. cc) asks w;
-  })
-  wanted request asks MessageType w = absurd w
-  wanted request asks (Malformed fault) w = absurd w
-  wanted request asks UserToUser w = absurd w
-  wanted request asks TicketEtype w = absurd w
-  wanted request asks TicketIntegrity w = absurd w
-  wanted request asks SessionKey w = absurd w
-  wanted request asks AuthenticatorIntegrity w = absurd w
-  wanted request asks BadMatch w = absurd w
-  wanted request asks Skew w = absurd w
-  wanted request asks Repeat w = absurd w
-  wanted request asks NotYetValid w = absurd w
-  wanted request asks Expired w = absurd w
-  wanted request asks Transited w = absurd w
-  wanted request asks Authorization w = absurd w
-  wanted request asks OutOfMemory w = absurd w
+  wanted request asks r w = elim w [
+    | inl h ↦ subst (λ (x : Refusal). IsTurnedAway setup history (arrival bytes moment) Has x) (sym h.0) (turned_away NotUs (lit< tt) (record {
+      holds = record { request = request; asks = asks; holds = h.1 };
+      first = asked facts setup history (arrival bytes moment) request asks;
+    }))
+    | inr rest ↦ elim rest [
+      | inl h ↦ subst (λ (x : Refusal). IsTurnedAway setup history (arrival bytes moment) Has x) (sym h.0) (turned_away NoKey (lit< tt) (record {
+        holds = record { request = request; asks = asks; holds = h.1 };
+        first = named facts setup history (arrival bytes moment) request no_key (λ e. cc) asks h.1;
+      }))
+      | inr h ↦ subst (λ (x : Refusal). IsTurnedAway setup history (arrival bytes moment) Has x) (sym h.0) (turned_away BadKeyVersion (lit< tt) (record {
+        holds = record { request = request; asks = asks; holds = h.1 };
+        first = with_key facts setup history (arrival bytes moment) request no_version (λ e. cc) (λ e. cc) asks h.1;
+      }))
+    ]
+  ]
 
   -- ---- the ticket
 
@@ -167,35 +155,6 @@ module _ (facts : Facts) (setup : Setup) (history : List Arrival) (bytes : List 
         (subst (λ (p : ValueOf enc_ticket_part). stamp_of shows.request shows.part shows.auth ≡ stamp_of shows.request p auth) s.part
         (subst (λ (a : ValueOf authenticator). stamp_of shows.request shows.part shows.auth ≡ stamp_of shows.request shows.part a) s.auth refl)) in
         subst (λ (x : Stamp). stamp ≡ x) e shows.stamp_is
-
-    pub far : ¬ Near (sent_at auth) (effective history moment) setup.skew → IsTurnedAway setup history (arrival bytes moment) Has Skew
-    far not_near = record {
-      cause = record {
-        holds = record { request = request; part = part; auth = auth; opened = o; holds = not_near };
-        first = opened facts setup history (arrival bytes moment) request part auth o;
-      };
-      had = λ stamp shows. absurd (not_near (shown_near (effective history moment) stamp shows));
-    }
-
-    -- a near request passes the row of skewed clocks
-    pub near_passes : Near (sent_at auth) (effective history moment) setup.skew → Clear setup history (arrival bytes moment) (place Repeat)
-    near_passes near = pass setup history (arrival bytes moment) Skew (λ e. cc) (opened facts setup history (arrival bytes moment) request part auth o)
-        (λ x. of_opened facts setup bytes request part auth (λ r p a. ¬ Near (sent_at a) (effective history moment) setup.skew) o x near)
-
-    pub repeated : Near (sent_at auth) (effective history moment) setup.skew → IsShown setup history (stamp_of request part auth)
-        → Has (stamp_of request part auth) → IsTurnedAway setup history (arrival bytes moment) Has Repeat
-    repeated near shown had = record {
-      cause = record {
-        holds = record { request = request; part = part; auth = auth; opened = o; holds = shown };
-        first = near_passes near;
-      };
-      had = λ stamp shows. subst Has (sym (shown_stamp (effective history moment) stamp shows)) had;
-    }
-
-    pub new_passes : Near (sent_at auth) (effective history moment) setup.skew → ¬ IsShown setup history (stamp_of request part auth)
-        → Clear setup history (arrival bytes moment) (place NotYetValid)
-    new_passes near unshown = pass setup history (arrival bytes moment) Repeat (λ e. cc) (near_passes near)
-        (λ x. unshown (of_opened facts setup bytes request part auth (λ r p a. IsShown setup history (stamp_of r p a)) o x))
 
 -- ---- a memory that stands for a history has what was shown and is near
 

@@ -1,6 +1,6 @@
 -- Why a service refuses an arrival: a table of causes, of which the first that holds is the answer. The
 -- order is our own; the codes are of RFC 4120, section 7.5.9.
-use Rattle.std.specs.Prelude.{◌≡◌, ◌≢◌, ◌<◌, ℕ, ℤ, pos, List, ◌∷◌, Option, Some, None}
+use Rattle.std.specs.Prelude.{◌≡◌, ◌≢◌, ◌<◌, ℕ, ℤ, pos, Bool, true, false, IsTrue, List, ◌∷◌, Option, Some, None, codes}
 use Rattle.krb_der.specs.Kind.{ValueOf}
 use Rattle.krb_der.specs.Spells.{IsMessage}
 use Rattle.krb_der.specs.Fault.{IsFault}
@@ -71,69 +71,93 @@ pub record OfOpened (setup : Setup) (bytes : List ℕ) (P : ValueOf ap_req → V
 
 -- ---- the table
 
+-- A row: its place in the order, its name, its error code (none: it is told to nobody), whether a request that is refused for it is
+-- remembered, and what must hold. Places are hundreds, so that a row can be put between two others and no place moves.
+pub record Row : Type 1 where
+  pub place : ℕ
+  pub name : List ℕ
+  pub code : Option ℤ
+  pub remembered : Bool
+  pub holds : Setup → List Arrival → Arrival → Type 0
+
+abbrev pub row_of : ℕ → List ℕ → Option ℤ → Bool → (Setup → List Arrival → Arrival → Type 0) → Row
+row_of place name code remembered holds = record { place = place; name = name; code = code; remembered = remembered; holds = holds }
+
+abbrev pub kerberos : ℕ → Option ℤ
+kerberos code = Some (pos code)
+
+-- The codes are RFC 4120's. Where the RFC names none for a cause, the choice is ours: for malformed requests and for what we don't look
+-- at KRB_ERR_GENERIC, for types that we don't know KDC_ERR_ETYPE_NOSUPP, for user-to-user requests KRB_AP_ERR_NOKEY. A wrong version
+-- number or a wrong message type after a good tag is malformed here, though RFC 4120 has 39 and 40 for them; KRB_AP_ERR_NOKEY for a
+-- missing key is its own (3.2.3).
+abbrev pub row : Refusal → Row
+-- KRB_AP_ERR_MSG_TYPE
+row MessageType = row_of 100 (codes "MessageType") (kerberos 40) false (λ setup history call. BeginsOtherwise 0x6e call.bytes)
+-- KRB_ERR_GENERIC
+row (Malformed fault) = row_of 200 (codes "Malformed") (kerberos 60) false
+    (λ setup history call. ((request : ValueOf ap_req) → ¬ IsMessage ap_req request call.bytes) × IsFault ap_req call.bytes fault)
+-- KRB_AP_ERR_NOKEY
+row UserToUser = row_of 300 (codes "UserToUser") (kerberos 45) false
+    (λ setup history call. OfRequest call.bytes (λ request. HasBit (options_of request) use_session_key))
+-- KDC_ERR_ETYPE_NOSUPP
+row TicketEtype = row_of 400 (codes "TicketEtype") (kerberos 14) false
+    (λ setup history call. OfRequest call.bytes (λ request. ¬ IsKnown (etype_of (sealed_ticket request))))
+-- KRB_AP_ERR_NOT_US
+row NotUs = row_of 500 (codes "NotUs") (kerberos 35) false
+    (λ setup history call. OfAsked call.bytes (λ request. IsChoiceFor setup request no_name))
+-- KRB_AP_ERR_NOKEY
+row NoKey = row_of 600 (codes "NoKey") (kerberos 45) false
+    (λ setup history call. OfAsked call.bytes (λ request. IsChoiceFor setup request no_key))
+-- KRB_AP_ERR_BADKEYVER
+row BadKeyVersion = row_of 700 (codes "BadKeyVersion") (kerberos 44) false
+    (λ setup history call. OfAsked call.bytes (λ request. IsChoiceFor setup request no_version))
+-- KRB_AP_ERR_BAD_INTEGRITY
+row TicketIntegrity = row_of 800 (codes "TicketIntegrity") (kerberos 31) false (λ setup history call. IsTicketShut setup call.bytes)
+-- KDC_ERR_ETYPE_NOSUPP
+row SessionKey = row_of 900 (codes "SessionKey") (kerberos 14) false
+    (λ setup history call. OfTicket setup call.bytes (λ request part. ¬ IsUsable (session_key part)))
+-- KRB_AP_ERR_BAD_INTEGRITY
+row AuthenticatorIntegrity = row_of 1_000 (codes "AuthenticatorIntegrity") (kerberos 31) false
+    (λ setup history call. OfTicket setup call.bytes (λ request part. (auth : ValueOf authenticator) → ¬ OpensAuthenticator request part auth))
+-- KRB_AP_ERR_BADMATCH
+row BadMatch = row_of 1_100 (codes "BadMatch") (kerberos 36) false
+    (λ setup history call. OfAuthenticator setup call.bytes (λ part auth. ¬ SameClient part auth))
+-- KRB_AP_ERR_SKEW
+row Skew = row_of 1_200 (codes "Skew") (kerberos 37) false
+    (λ setup history call. OfOpened setup call.bytes (λ request part auth. ¬ Near (sent_at auth) (effective history call.moment) setup.skew))
+-- KRB_AP_ERR_REPEAT
+row Repeat = row_of 1_300 (codes "Repeat") (kerberos 34) false
+    (λ setup history call. OfOpened setup call.bytes (λ request part auth. IsShown setup history (stamp_of request part auth)))
+-- KRB_AP_ERR_TKT_NYV
+row NotYetValid = row_of 1_400 (codes "NotYetValid") (kerberos 33) true
+    (λ setup history call. OfOpened setup call.bytes (λ request part auth. IsEarly part (effective history call.moment) setup.skew))
+-- KRB_AP_ERR_TKT_EXPIRED
+row Expired = row_of 1_500 (codes "Expired") (kerberos 32) true
+    (λ setup history call. OfOpened setup call.bytes (λ request part auth. IsLate part (effective history call.moment) setup.skew))
+-- KRB_ERR_GENERIC
+row Transited = row_of 1_600 (codes "Transited") (kerberos 60) true
+    (λ setup history call. OfOpened setup call.bytes (λ request part auth. ¬ IsPathTrusted request part))
+-- KRB_ERR_GENERIC
+row Authorization = row_of 1_700 (codes "Authorization") (kerberos 60) true
+    (λ setup history call. OfOpened setup call.bytes (λ request part auth. ¬ IsDataIgnorable part auth))
+row OutOfMemory = row_of 1_800 (codes "OutOfMemory") None false (λ setup history call. ⊥)
+
+-- ---- what follows from the rows
+
 abbrev pub Holds : Setup → List Arrival → Arrival → Refusal → Type 0
-Holds setup history call MessageType = BeginsOtherwise 0x6e call.bytes
-Holds setup history call (Malformed fault) = ((request : ValueOf ap_req) → ¬ IsMessage ap_req request call.bytes) × IsFault ap_req call.bytes fault
-Holds setup history call UserToUser = OfRequest call.bytes (λ request. HasBit (options_of request) use_session_key)
-Holds setup history call TicketEtype = OfRequest call.bytes (λ request. ¬ IsKnown (etype_of (sealed_ticket request)))
-Holds setup history call NotUs = OfAsked call.bytes (λ request. IsChoiceFor setup request no_name)
-Holds setup history call NoKey = OfAsked call.bytes (λ request. IsChoiceFor setup request no_key)
-Holds setup history call BadKeyVersion = OfAsked call.bytes (λ request. IsChoiceFor setup request no_version)
-Holds setup history call TicketIntegrity = IsTicketShut setup call.bytes
-Holds setup history call SessionKey = OfTicket setup call.bytes (λ request part. ¬ IsUsable (session_key part))
-Holds setup history call AuthenticatorIntegrity = OfTicket setup call.bytes (λ request part. (auth : ValueOf authenticator) → ¬ OpensAuthenticator request part auth)
-Holds setup history call BadMatch = OfAuthenticator setup call.bytes (λ part auth. ¬ SameClient part auth)
-Holds setup history call Skew = OfOpened setup call.bytes (λ request part auth. ¬ Near (sent_at auth) (effective history call.moment) setup.skew)
-Holds setup history call Repeat = OfOpened setup call.bytes (λ request part auth. IsShown setup history (stamp_of request part auth))
-Holds setup history call NotYetValid = OfOpened setup call.bytes (λ request part auth. IsEarly part (effective history call.moment) setup.skew)
-Holds setup history call Expired = OfOpened setup call.bytes (λ request part auth. IsLate part (effective history call.moment) setup.skew)
-Holds setup history call Transited = OfOpened setup call.bytes (λ request part auth. ¬ IsPathTrusted request part)
-Holds setup history call Authorization = OfOpened setup call.bytes (λ request part auth. ¬ IsDataIgnorable part auth)
-Holds setup history call OutOfMemory = ⊥
+Holds setup history call refusal = (row refusal).holds setup history call
 
--- the order of the table
 abbrev pub place : Refusal → ℕ
-place MessageType = 1
-place (Malformed fault) = 2
-place UserToUser = 3
-place TicketEtype = 4
-place NotUs = 5
-place NoKey = 6
-place BadKeyVersion = 7
-place TicketIntegrity = 8
-place SessionKey = 9
-place AuthenticatorIntegrity = 10
-place BadMatch = 11
-place Skew = 12
-place Repeat = 13
-place NotYetValid = 14
-place Expired = 15
-place Transited = 16
-place Authorization = 17
-place OutOfMemory = 18
+place refusal = (row refusal).place
 
--- the error codes, by RFC 4120's names. Where the RFC names none for a cause, the choice is ours: for malformed requests and for
--- what we don't look at 60, for types that we don't know 14, for user-to-user requests 45. A wrong version number or a wrong message
--- type behind a good tag is malformed here, with 60, though RFC 4120 has 39 and 40 for them; 45 for a missing key is its own (3.2.3).
+abbrev pub name_of : Refusal → List ℕ
+name_of refusal = (row refusal).name
+
 abbrev pub code_of : Refusal → Option ℤ
-code_of MessageType = Some (pos 40)  -- KRB_AP_ERR_MSG_TYPE
-code_of (Malformed fault) = Some (pos 60)  -- KRB_ERR_GENERIC
-code_of UserToUser = Some (pos 45)  -- KRB_AP_ERR_NOKEY
-code_of TicketEtype = Some (pos 14)  -- KDC_ERR_ETYPE_NOSUPP
-code_of NotUs = Some (pos 35)  -- KRB_AP_ERR_NOT_US
-code_of NoKey = Some (pos 45)  -- KRB_AP_ERR_NOKEY
-code_of BadKeyVersion = Some (pos 44)  -- KRB_AP_ERR_BADKEYVER
-code_of TicketIntegrity = Some (pos 31)  -- KRB_AP_ERR_BAD_INTEGRITY
-code_of SessionKey = Some (pos 14)  -- KDC_ERR_ETYPE_NOSUPP
-code_of AuthenticatorIntegrity = Some (pos 31)  -- KRB_AP_ERR_BAD_INTEGRITY
-code_of BadMatch = Some (pos 36)  -- KRB_AP_ERR_BADMATCH
-code_of Skew = Some (pos 37)  -- KRB_AP_ERR_SKEW
-code_of Repeat = Some (pos 34)  -- KRB_AP_ERR_REPEAT
-code_of NotYetValid = Some (pos 33)  -- KRB_AP_ERR_TKT_NYV
-code_of Expired = Some (pos 32)  -- KRB_AP_ERR_TKT_EXPIRED
-code_of Transited = Some (pos 60)  -- KRB_ERR_GENERIC
-code_of Authorization = Some (pos 60)  -- KRB_ERR_GENERIC
-code_of OutOfMemory = None
+code_of refusal = (row refusal).code
+
+abbrev pub IsRemembered : Refusal → Type 0
+IsRemembered refusal = IsTrue (row refusal).remembered
 
 -- the place in the bytes that a refusal tells
 abbrev pub offset_of : Refusal → Option ℕ

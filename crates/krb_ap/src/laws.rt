@@ -8,7 +8,7 @@ ghost use Rattle.krb_msg.specs.Fields.{part_client, ticket_service};
 ghost use Rattle.krb_ccache.specs.Value.{Cache};
 ghost use Rattle.krb_replay.specs.Stamp.{Stamp};
 ghost use Rattle.krb_ap.specs.Setup.{Setup, Arrival, arrival};
-ghost use Rattle.krb_ap.specs.History.{IsShown};
+ghost use Rattle.krb_ap.specs.History.{IsShown, Shows, effective};
 ghost use Rattle.krb_ap.specs.Request.{Awaited, IsRequest, Prevents};
 ghost use Rattle.krb_ap.specs.Finish.{Agreement, FinishCause, IsAgreed, finish_place};
 ghost use Rattle.krb_ap.specs.declared.finish_fault.FinishFault.{FinishFault};
@@ -16,7 +16,7 @@ ghost use Rattle.krb_ap.specs.declared.request_fault.RequestFault.{RequestFault}
 ghost use Rattle.krb_ap.specs.Headline.{Agrees, HasTicket, MayBeTaken};
 ghost use Rattle.krb_ap.specs.declared.request.RequestOptions.{RequestOptions};
 ghost use Rattle.krb_ap.specs.Taken.{Accept, Taken};
-ghost use Rattle.krb_ap.specs.Causes.{Cause, place};
+ghost use Rattle.krb_ap.specs.Causes.{Cause, IsRemembered, place};
 ghost use Rattle.krb_ap.specs.Answer.{Run};
 ghost use Rattle.krb_ap.specs.Once.{TakesAmong, TakesOnce};
 ghost use Rattle.krb_ap.specs.World.{BothAgree, Comes, Event, IsHeldInEachWorld, IsHeldOnce, World, nothing_yet};
@@ -40,6 +40,19 @@ pub fn one_answer()
 {
     facts();
     decisions();
+}
+
+/// Says which calls add to what was shown: one that is refused for a cause whose row says that it is remembered shows a request, which
+/// wasn't shown before; and one that is refused for another cause shows none, or one that was shown before.
+pub fn refused_is_remembered()
+    ensures remembered { (setup : Setup) (history : List Arrival) (call : Arrival) (cause : Refusal)
+        → Cause setup history call cause → IsRemembered cause
+        → (stamp : Stamp) × (Shows setup (effective history call.moment) call.bytes stamp × (¬ IsShown setup history stamp)) }
+    ensures nothing { (setup : Setup) (history : List Arrival) (call : Arrival) (cause : Refusal)
+        → Cause setup history call cause → ¬ IsRemembered cause
+        → (stamp : Stamp) → Shows setup (effective history call.moment) call.bytes stamp → IsShown setup history stamp }
+{
+    facts();
 }
 
 /// Says that a service accepts a request that a client built, after each history and at each moment that lets it be taken, where the

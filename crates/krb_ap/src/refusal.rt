@@ -1,7 +1,7 @@
 //! Why a request is refused.
 
-ghost use Rattle.std.specs.Prelude.{◌≡◌};
-ghost use Rattle.krb_ap.specs.Causes.{code_of};
+ghost use Rattle.std.specs.Prelude.{◌≡◌, Some};
+ghost use Rattle.krb_ap.specs.Causes.{code_of, name_of, place};
 ghost use Rattle.krb_ap.specs.declared.refusal.Refusal.TheVariants.{OutOfMemory};
 
 use krb_msg::Fault;
@@ -67,31 +67,78 @@ pub enum Refusal {
     OutOfMemory,
 }
 
+/// A row of the table of causes.
+#[derive(Clone, Copy)]
+struct Row {
+    place: u32,
+    name: &'static str,
+    code: Option<i32>,
+}
+
 impl Refusal {
-    /// The error code that a KRB-ERROR tells (RFC 4120, section 7.5.9); none for want of memory.
+    // Its row.
+    fn row(&self) -> Row
+        ensures place { result.place ≡ place self.now }
+        ensures name { result.name.now ≡ name_of self.now }
+        ensures code { result.code ≡ code_of self.now }
+    {
+        match self {
+            Refusal::MessageType => row_of(100, "MessageType", 40),
+            Refusal::Malformed(_) => row_of(200, "Malformed", 60),
+            Refusal::UserToUser => row_of(300, "UserToUser", 45),
+            Refusal::TicketEtype => row_of(400, "TicketEtype", 14),
+            Refusal::NotUs => row_of(500, "NotUs", 35),
+            Refusal::NoKey => row_of(600, "NoKey", 45),
+            Refusal::BadKeyVersion => row_of(700, "BadKeyVersion", 44),
+            Refusal::TicketIntegrity => row_of(800, "TicketIntegrity", 31),
+            Refusal::SessionKey => row_of(900, "SessionKey", 14),
+            Refusal::AuthenticatorIntegrity => row_of(1_000, "AuthenticatorIntegrity", 31),
+            Refusal::BadMatch => row_of(1_100, "BadMatch", 36),
+            Refusal::Skew => row_of(1_200, "Skew", 37),
+            Refusal::Repeat => row_of(1_300, "Repeat", 34),
+            Refusal::NotYetValid => row_of(1_400, "NotYetValid", 33),
+            Refusal::Expired => row_of(1_500, "Expired", 32),
+            Refusal::Transited => row_of(1_600, "Transited", 60),
+            Refusal::Authorization => row_of(1_700, "Authorization", 60),
+            Refusal::OutOfMemory => Row {
+                place: 1_800,
+                name: "OutOfMemory",
+                code: None,
+            },
+        }
+    }
+
+    /// The error code that a KRB-ERROR tells (RFC 4120, section 7.5.9); none for `OutOfMemory`.
     pub fn code(&self) -> Option<i32>
         ensures { result ≡ code_of self.now }
     {
-        match self {
-            Refusal::MessageType => Some(40),
-            Refusal::Malformed(_) => Some(60),
-            Refusal::UserToUser => Some(45),
-            Refusal::TicketEtype => Some(14),
-            Refusal::NotUs => Some(35),
-            Refusal::NoKey => Some(45),
-            Refusal::BadKeyVersion => Some(44),
-            Refusal::TicketIntegrity => Some(31),
-            Refusal::SessionKey => Some(14),
-            Refusal::AuthenticatorIntegrity => Some(31),
-            Refusal::BadMatch => Some(36),
-            Refusal::Skew => Some(37),
-            Refusal::Repeat => Some(34),
-            Refusal::NotYetValid => Some(33),
-            Refusal::Expired => Some(32),
-            Refusal::Transited => Some(60),
-            Refusal::Authorization => Some(60),
-            Refusal::OutOfMemory => None,
-        }
+        self.row().code
+    }
+
+    /// Its name, as the enum has it.
+    pub fn name(&self) -> &'static str
+        ensures { result.now ≡ name_of self.now }
+    {
+        self.row().name
+    }
+
+    /// A number that is greater the later the cause is looked at. It stays the same when other causes are added.
+    pub fn place(&self) -> u32
+        ensures { result ≡ place self.now }
+    {
+        self.row().place
+    }
+}
+
+const fn row_of(place: u32, name: &'static str, code: i32) -> Row
+    ensures place { result.place ≡ place }
+    ensures name { result.name.now ≡ name.now }
+    ensures code { result.code ≡ Some code }
+{
+    Row {
+        place,
+        name,
+        code: Some(code),
     }
 }
 

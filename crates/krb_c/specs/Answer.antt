@@ -1,5 +1,5 @@
 -- What a call answers: a code, and what goes with it.
-use Rattle.std.specs.Prelude.{◌≡◌, ◌≤◌, ◌<◌, ◌⊎◌, ℕ, ℤ, pos, List, ◌++◌, length, drop, Option, Some, None, Result, Ok, Err}
+use Rattle.std.specs.Prelude.{◌≡◌, ◌≤◌, ◌<◌, ◌⊎◌, ◌%◌, ◌/◌, ◌==◌, if◌then◌else◌, ℕ, ℤ, pos, List, ◌++◌, length, drop, Option, Some, None, Result, Ok, Err}
 use Rattle.krb_keytab.specs.declared.fault.KeytabFault.{KeytabFault}
 use Rattle.krb_keytab.specs.declared.fault.KeytabFault.TheVariants as keytab
 use Rattle.krb_ap.specs.Causes.{place, code_of, offset_of}
@@ -26,9 +26,13 @@ abbrev pub offset_or_none : Option ℕ → ℕ
 offset_or_none (Some at) = at
 offset_or_none None = 0
 
--- a refusal's place in the table, its error code, and the offset of a malformed request's fault
+-- the code of a cause: the hundreds of its place in the table, or the place of one that was put between two others
+abbrev pub code_at : ℕ → ℕ
+code_at place = if place % 100 == 0 then place / 100 else place
+
+-- a refusal's code, its error code, and the offset of a malformed request's fault
 abbrev pub refused : Refusal → Answer
-refused refusal = record { code = place refusal; kerberos = number_or_none (code_of refusal); at = offset_or_none (offset_of refusal); size = 0 }
+refused refusal = record { code = code_at (place refusal); kerberos = number_or_none (code_of refusal); at = offset_or_none (offset_of refusal); size = 0 }
 
 abbrev pub told : Result Accepted Refusal → Answer
 told (Ok accepted) = plain ok

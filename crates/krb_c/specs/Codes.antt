@@ -1,4 +1,4 @@
--- The codes of answers. Those from 1 to 17 are the causes of a refusal, by their place in the table of krb_ap.
+-- The codes of answers. Those of the causes of a refusal follow from their places in the table of krb_ap (`specs/Answer`).
 use Rattle.std.specs.Prelude.{ℕ}
 
 abbrev pub ok : ℕ

@@ -2,9 +2,8 @@
 
 ghost use Rattle.std.specs.Prelude.{◌≡◌, SomeIff};
 ghost use Rattle.krb_msg.specs.Moments.{micros_of};
-ghost use Rattle.krb_ap.specs.Causes.{place};
 ghost use Rattle.krb_c.specs.Accepting.{IsMomentOf};
-ghost use Rattle.krb_c.specs.Answer.{Hands, keytab_answer, plain, placed, refused, sized};
+ghost use Rattle.krb_c.specs.Answer.{Hands, code_at, keytab_answer, plain, placed, refused, sized};
 
 use crate::code;
 use krb_ap::Refusal;
@@ -81,7 +80,7 @@ impl Answer {
             _ => 0,
         };
         Answer {
-            code: place_of(refusal),
+            code: code_at(refusal.place()),
             kerberos: refusal.code().unwrap_or(0),
             at,
             size: 0,
@@ -103,30 +102,11 @@ impl Answer {
     }
 }
 
-// A refusal's place in the table.
-fn place_of(refusal: &Refusal) -> u32
-    ensures { result ≡ place refusal.now }
+// The code of a cause: the hundreds of its place in the table, or the place of one that was put between two others.
+const fn code_at(place: u32) -> u32
+    ensures { result ≡ code_at place }
 {
-    match refusal {
-        Refusal::MessageType => code::MESSAGE_TYPE,
-        Refusal::Malformed(_) => code::MALFORMED,
-        Refusal::UserToUser => code::USER_TO_USER,
-        Refusal::TicketEtype => code::TICKET_ETYPE,
-        Refusal::NotUs => code::NOT_US,
-        Refusal::NoKey => code::NO_KEY,
-        Refusal::BadKeyVersion => code::BAD_KEY_VERSION,
-        Refusal::TicketIntegrity => code::TICKET_INTEGRITY,
-        Refusal::SessionKey => code::SESSION_KEY,
-        Refusal::AuthenticatorIntegrity => code::AUTHENTICATOR_INTEGRITY,
-        Refusal::BadMatch => code::BAD_MATCH,
-        Refusal::Skew => code::SKEW,
-        Refusal::Repeat => code::REPEAT,
-        Refusal::NotYetValid => code::NOT_YET_VALID,
-        Refusal::Expired => code::EXPIRED,
-        Refusal::Transited => code::TRANSITED,
-        Refusal::Authorization => code::AUTHORIZATION,
-        Refusal::OutOfMemory => code::OUT_OF_MEMORY,
-    }
+    if place % 100 == 0 { place / 100 } else { place }
 }
 
 /// Copies bytes to the front of a buffer, where there is room.

@@ -2,40 +2,7 @@
 
 pub(crate) const OK: u32 = 0;
 
-// Why a request is refused, in the order in which the causes are looked at (`krb_ap::Refusal`).
-pub(crate) const MESSAGE_TYPE: u32 = 1;
-
-pub(crate) const MALFORMED: u32 = 2;
-
-pub(crate) const USER_TO_USER: u32 = 3;
-
-pub(crate) const TICKET_ETYPE: u32 = 4;
-
-pub(crate) const NOT_US: u32 = 5;
-
-pub(crate) const NO_KEY: u32 = 6;
-
-pub(crate) const BAD_KEY_VERSION: u32 = 7;
-
-pub(crate) const TICKET_INTEGRITY: u32 = 8;
-
-pub(crate) const SESSION_KEY: u32 = 9;
-
-pub(crate) const AUTHENTICATOR_INTEGRITY: u32 = 10;
-
-pub(crate) const BAD_MATCH: u32 = 11;
-
-pub(crate) const SKEW: u32 = 12;
-
-pub(crate) const REPEAT: u32 = 13;
-
-pub(crate) const NOT_YET_VALID: u32 = 14;
-
-pub(crate) const EXPIRED: u32 = 15;
-
-pub(crate) const TRANSITED: u32 = 16;
-
-pub(crate) const AUTHORIZATION: u32 = 17;
+// Why a request is refused: `Answer::refused`.
 
 // What may come of many calls.
 pub(crate) const OUT_OF_MEMORY: u32 = 18;

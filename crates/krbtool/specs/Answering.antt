@@ -8,10 +8,10 @@ use Rattle.krb_replay.specs.Stamp.{Stamp}
 use Rattle.krb_ap.specs.Setup.{Setup, Arrival}
 use Rattle.krb_ap.specs.History.{StandsFor}
 use Rattle.krb_ap.specs.Answer.{Answers, after}
-use Rattle.krb_ap.specs.Causes.{code_of}
+use Rattle.krb_ap.specs.Causes.{code_of, name_of}
 use Rattle.krb_ap.specs.declared.accepted.Accepted.{Accepted}
 use Rattle.krb_ap.specs.declared.refusal.Refusal.{Refusal}
-use Rattle.krb_ap.specs.declared.refusal.Refusal.TheVariants.{MessageType, Malformed, UserToUser, TicketEtype, NotUs, NoKey, BadKeyVersion, TicketIntegrity, SessionKey, AuthenticatorIntegrity, BadMatch, Skew, Repeat, NotYetValid, Expired, Transited, Authorization, OutOfMemory}
+use Rattle.krb_ap.specs.declared.refusal.Refusal.TheVariants.{OutOfMemory}
 use Rattle.krb_name.specs.declared.principal.Principal.{Principal}
 use Rattle.krbtool.specs.CallLine.{SpellsCall, IsBadLine}
 use Rattle.krbtool.specs.Tails.{IsTail, tail_status, tail_text}
@@ -23,26 +23,6 @@ use Rattle.krbtool.specs.declared.tail.LineAnswer.{LineAnswer}
 -- what becomes of a line: nothing, where it is bad, or what its call is answered and what follows that
 abbrev pub LineOutcome : Type 0
 LineOutcome = Option LineAnswer
-
-abbrev pub refusal_name : Refusal → List ℕ
-refusal_name MessageType = codes "MessageType"
-refusal_name (Malformed fault) = codes "Malformed"
-refusal_name UserToUser = codes "UserToUser"
-refusal_name TicketEtype = codes "TicketEtype"
-refusal_name NotUs = codes "NotUs"
-refusal_name NoKey = codes "NoKey"
-refusal_name BadKeyVersion = codes "BadKeyVersion"
-refusal_name TicketIntegrity = codes "TicketIntegrity"
-refusal_name SessionKey = codes "SessionKey"
-refusal_name AuthenticatorIntegrity = codes "AuthenticatorIntegrity"
-refusal_name BadMatch = codes "BadMatch"
-refusal_name Skew = codes "Skew"
-refusal_name Repeat = codes "Repeat"
-refusal_name NotYetValid = codes "NotYetValid"
-refusal_name Expired = codes "Expired"
-refusal_name Transited = codes "Transited"
-refusal_name Authorization = codes "Authorization"
-refusal_name OutOfMemory = codes "OutOfMemory"
 
 -- the error code, where the refusal has one
 abbrev pub code_text : Option ℤ → List ℕ
@@ -59,7 +39,7 @@ accepted_line x tail =
     ++ (32 ∷ (decimal x.cusec ++ (32 ∷ (mutual_text x.mutual ++ (tail_text tail ++ 10 ∷ []))))))))))
 
 abbrev pub refused_line : Refusal → Tail → List ℕ
-refused_line refusal tail = codes "refused " ++ (code_text (code_of refusal) ++ (32 ∷ (refusal_name refusal ++ (tail_text tail ++ 10 ∷ []))))
+refused_line refusal tail = codes "refused " ++ (code_text (code_of refusal) ++ (32 ∷ (name_of refusal ++ (tail_text tail ++ 10 ∷ []))))
 
 abbrev pub call_text : Result Accepted Refusal → Tail → List ℕ
 call_text (Ok accepted) tail = accepted_line accepted tail

@@ -3,7 +3,7 @@
 ghost use Rattle.std.specs.Prelude.{◌≡◌, ◌⊎◌, ◌+◌, ◌-◌, ◌^◌, ◌<◌, IfOk, IfErr, OnOk, OnErr, string_bytes};
 ghost use Rattle.std.specs.Io.KnownBytes.{Appends};
 ghost use Rattle.krb_name.specs.Flow.{AppendsBeginning};
-ghost use Rattle.krbtool.specs.Answering.{accepted_line, answer_line, call_status, call_text, outcome_status, refusal_name, refused_line};
+ghost use Rattle.krbtool.specs.Answering.{accepted_line, answer_line, call_status, call_text, outcome_status, refused_line};
 ghost use Rattle.krbtool.specs.Engine.{failed_writes};
 
 use crate::fault::{EngineFault, FAILED, REFUSED};
@@ -66,35 +66,10 @@ fn refused_text(alloc: Global, refusal: &Refusal, tail: &Tail) -> Result<String,
     ensures { IfOk result (λ text. string_bytes text ≡ refused_line refusal.now tail.now) }
 {
     let tail = tail_text(alloc, tail)?;
-    let name = refusal_name(refusal);
+    let name = refusal.name();
     match refusal.code() {
         Some(code) => format!(in alloc; "refused {code} {name}{tail}\n"),
         None => format!(in alloc; "refused none {name}{tail}\n"),
-    }
-}
-
-fn refusal_name(refusal: &Refusal) -> &'static str
-    ensures { result.now ≡ refusal_name refusal.now }
-{
-    match refusal {
-        Refusal::MessageType => "MessageType",
-        Refusal::Malformed(_) => "Malformed",
-        Refusal::UserToUser => "UserToUser",
-        Refusal::TicketEtype => "TicketEtype",
-        Refusal::NotUs => "NotUs",
-        Refusal::NoKey => "NoKey",
-        Refusal::BadKeyVersion => "BadKeyVersion",
-        Refusal::TicketIntegrity => "TicketIntegrity",
-        Refusal::SessionKey => "SessionKey",
-        Refusal::AuthenticatorIntegrity => "AuthenticatorIntegrity",
-        Refusal::BadMatch => "BadMatch",
-        Refusal::Skew => "Skew",
-        Refusal::Repeat => "Repeat",
-        Refusal::NotYetValid => "NotYetValid",
-        Refusal::Expired => "Expired",
-        Refusal::Transited => "Transited",
-        Refusal::Authorization => "Authorization",
-        Refusal::OutOfMemory => "OutOfMemory",
     }
 }
 

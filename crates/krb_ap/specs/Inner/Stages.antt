@@ -1,5 +1,5 @@
 -- The words of private contracts: what the stages of a decision say.
-use Rattle.std.specs.Prelude.{◌≡◌, ℕ, ℤ, List, Option, Some}
+use Rattle.std.specs.Prelude.{◌≡◌, ◌⊎◌, ℕ, ℤ, List, Option, Some}
 use Rattle.krb_name.specs.declared.principal.Principal.{Principal}
 use Rattle.krb_der.specs.Kind.{Kind, ValueOf}
 use Rattle.krb_der.specs.Spells.{IsMessage}
@@ -41,10 +41,10 @@ pub record HoldsChosen (entries : List KeytabEntry) (name : Principal) (text : V
 
 -- what is wanting, as a refusal
 abbrev pub Wants : List KeytabEntry → Principal → ValueOf encrypted_data → Refusal → Type 0
-Wants entries name text NotUs = IsChoice entries name (etype_of text) (kvno_of text) no_name
-Wants entries name text NoKey = IsChoice entries name (etype_of text) (kvno_of text) no_key
-Wants entries name text BadKeyVersion = IsChoice entries name (etype_of text) (kvno_of text) no_version
-Wants entries name text _ = ⊥
+Wants entries name text refusal =
+    ((refusal ≡ NotUs) × IsChoice entries name (etype_of text) (kvno_of text) no_name)
+    ⊎ (((refusal ≡ NoKey) × IsChoice entries name (etype_of text) (kvno_of text) no_key)
+    ⊎ ((refusal ≡ BadKeyVersion) × IsChoice entries name (etype_of text) (kvno_of text) no_version))
 
 -- nothing opens
 abbrev pub IsShut : KeyValue → ℕ → List ℕ → Type 0
@@ -58,9 +58,8 @@ pub record IsOfTimes (skew : ℕ) (now : ℤ) (request : ValueOf ap_req) (part :
   pub ignorable : IsDataIgnorable part auth
 
 abbrev pub TimesRefuse : ℕ → ℤ → ValueOf ap_req → ValueOf enc_ticket_part → ValueOf authenticator → Refusal → Type 0
-TimesRefuse skew now request part auth NotYetValid = IsEarly part now skew
-TimesRefuse skew now request part auth Expired = (¬ IsEarly part now skew) × IsLate part now skew
-TimesRefuse skew now request part auth Transited = (¬ IsEarly part now skew) × (¬ IsLate part now skew) × (¬ IsPathTrusted request part)
-TimesRefuse skew now request part auth Authorization =
-    (¬ IsEarly part now skew) × (¬ IsLate part now skew) × IsPathTrusted request part × (¬ IsDataIgnorable part auth)
-TimesRefuse skew now request part auth _ = ⊥
+TimesRefuse skew now request part auth refusal =
+    ((refusal ≡ NotYetValid) × IsEarly part now skew)
+    ⊎ (((refusal ≡ Expired) × ((¬ IsEarly part now skew) × IsLate part now skew))
+    ⊎ (((refusal ≡ Transited) × ((¬ IsEarly part now skew) × ((¬ IsLate part now skew) × (¬ IsPathTrusted request part))))
+    ⊎ ((refusal ≡ Authorization) × ((¬ IsEarly part now skew) × ((¬ IsLate part now skew) × (IsPathTrusted request part × (¬ IsDataIgnorable part auth)))))))

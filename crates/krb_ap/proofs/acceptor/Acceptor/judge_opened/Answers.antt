@@ -6,16 +6,17 @@ use Rattle.krb_ap.specs.Opened.{sent_at, stamp_of}
 use Rattle.krb_ap.specs.Times.{Near}
 use Rattle.krb_ap.specs.History.{effective, IsShown}
 use Rattle.krb_ap.proofs.Truth.{is_so, is_not}
-use Rattle.krb_ap.proofs.TurnedAway.{far, repeated, near_by}
+use Rattle.krb_ap.proofs.TurnedAway.{near_by}
 use Rattle.krb_ap.specs.Inner.Stages.{IsOfTimes, TimesRefuse}
-use Rattle.krb_ap.proofs.Late.{stamp_by, times_cause, times_accept, times_named, refused_by, passed_by, unseen}
+use Rattle.krb_ap.proofs.Late.{stamp_by, times_named, refused_by, passed_by, unseen}
+use Rattle.krb_ap.proofs.OfOpened.{far, repeated, times_cause, times_accept}
 use Rattle.krb_ap.proofs.acceptor.Acceptor.judge_opened.Goals as goal
 
 pub returns-then-not-is_near-clause-judged : goal.returns-then-not-is_near-clause-judged
 returns-then-not-is_near-clause-judged g c = λ bytes opened server session history moment stands eff named.
     let skew : c.self.inside.skew ≡ c.args.self.now.setup.skew = ap (λ s. s.setup.skew) c.self.view_is in
-    far c.facts.ensures c.args.self.now.setup history bytes moment _ (ap_req_of c.args.request.now) (enc_ticket_part_of c.args.part.now) (authenticator_of c.args.auth.now)
-    opened (λ near. is_not _ _ c.is_near.ensures c.if-not-is_near.true (near_by _ _ _ _ _ _ c.at.ensures eff skew near))
+    far c.facts.ensures c.args.self.now.setup history bytes moment (ap_req_of c.args.request.now) (enc_ticket_part_of c.args.part.now) (authenticator_of c.args.auth.now)
+    opened _ (λ near. is_not _ _ c.is_near.ensures c.if-not-is_near.true (near_by _ _ _ _ _ _ c.at.ensures eff skew near))
 
 pub returns-then-contains-clause-judged : goal.returns-then-contains-clause-judged
 returns-then-contains-clause-judged g c = λ bytes opened server session history moment stands eff named.
@@ -28,8 +29,8 @@ returns-then-contains-clause-judged g c = λ bytes opened server session history
     let had : g.M.ReplayMemory.has c.args.self.now.memory (stamp_of (ap_req_of c.args.request.now) (enc_ticket_part_of c.args.part.now) (authenticator_of c.args.auth.now)) =
     subst (λ (m : _). g.M.ReplayMemory.has m (stamp_of (ap_req_of c.args.request.now) (enc_ticket_part_of c.args.part.now) (authenticator_of c.args.auth.now))) memory
     (subst (λ (s : Stamp). g.M.ReplayMemory.has c.self.inside.memory s) tuple (is_so _ _ c.contains.ensures c.if-contains.true)) in
-    repeated c.facts.ensures c.args.self.now.setup history bytes moment _ (ap_req_of c.args.request.now) (enc_ticket_part_of c.args.part.now) (authenticator_of c.args.auth.now)
-    opened near (stands.only _ had) had
+    repeated c.facts.ensures c.args.self.now.setup history bytes moment (ap_req_of c.args.request.now) (enc_ticket_part_of c.args.part.now) (authenticator_of c.args.auth.now)
+    opened near _ (stands.only _ had) had
 
 pub returns-in-Some-clause-judged : goal.returns-in-Some-clause-judged
 returns-in-Some-clause-judged g c = λ bytes opened server session history moment stands eff.
