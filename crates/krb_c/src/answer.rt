@@ -2,8 +2,8 @@
 
 ghost use Rattle.std.specs.Prelude.{◌≡◌, SomeIff};
 ghost use Rattle.krb_msg.specs.Moments.{micros_of};
-ghost use Rattle.krb_ap.specs.Causes.{place};
 ghost use Rattle.krb_c.specs.Accepting.{IsMomentOf};
+ghost use Rattle.krb_c.specs.Codes.{cause_code};
 ghost use Rattle.krb_c.specs.Answer.{Hands, keytab_answer, plain, placed, refused, sized};
 
 use crate::code;
@@ -81,7 +81,7 @@ impl Answer {
             _ => 0,
         };
         Answer {
-            code: place_of(refusal),
+            code: code_of(refusal),
             kerberos: refusal.code().unwrap_or(0),
             at,
             size: 0,
@@ -103,9 +103,9 @@ impl Answer {
     }
 }
 
-// A refusal's place in the table.
-fn place_of(refusal: &Refusal) -> u32
-    ensures { result ≡ place refusal.now }
+// The code of a cause.
+fn code_of(refusal: &Refusal) -> u32
+    ensures { result ≡ cause_code refusal.now }
 {
     match refusal {
         Refusal::MessageType => code::MESSAGE_TYPE,
