@@ -127,10 +127,10 @@ static double their_requests(void)
 
 static double our_acceptor(void)
 {
-    fevstunik_acceptor acceptor = {0};
+    fevstunik_acceptor acceptor = FEVSTUNIK_ACCEPTOR_INIT;
     fevstunik_known known;
     uint8_t told[4096];
-    is_well(fevstunik_acceptor_new(&acceptor, keytab.at, keytab.size, 300), "a service");
+    is_well(fevstunik_acceptor_new(&acceptor, keytab.at, keytab.size, 300, (const uint8_t *)service, strlen(service)), "a service");
     double start = processor_time();
     for (long i = 0; i < count; i++) {
         fevstunik_time now = clock_now();

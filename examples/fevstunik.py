@@ -4,7 +4,7 @@
     cd crates/krb_c && rt lib && cd ../..
     gcc -shared -o libfevstunik.so -Wl,--whole-archive crates/krb_c/out/libkrb_c.a -Wl,--no-whole-archive \\
         "$(dirname "$(rt doc)")/c/liblibc_c.a"
-    examples/fevstunik.py libfevstunik.so examples/service.keytab < requests
+    examples/fevstunik.py libfevstunik.so examples/service.keytab host/web@EX < requests
 
 Each line of standard input is a request in hex. Each is answered by a line: `accepted CLIENT REPLY` with the reply in hex, where one is
 asked for, else `accepted CLIENT -`; or `refused CODE KERBEROS`, the library's code and that of RFC 4120. An option --at SECONDS takes that
@@ -14,11 +14,12 @@ import argparse
 import ctypes
 import os
 import sys
+import threading
 import time
 from ctypes import POINTER, byref, c_bool, c_char_p, c_int32, c_int64, c_size_t, c_uint32, c_void_p
 
 OK = 0
-SHORT_BUFFER = 19
+SHORT_BUFFER = 401
 
 
 class Answer(ctypes.Structure):
@@ -64,7 +65,7 @@ def library(path):
     lib = ctypes.CDLL(path)
     handle, into = POINTER(Handle), (c_void_p, c_size_t)
     for name, result, words in [
-            ("new", Answer, (handle, c_char_p, c_size_t, c_uint32)),
+            ("new", Answer, (handle, c_char_p, c_size_t, c_uint32, c_char_p, c_size_t)),
             ("accept", Answer, (handle, c_char_p, c_size_t, POINTER(Time))),
             ("accepted", Answer, (handle, POINTER(Known), *into)),
             ("reply", Answer, (handle, c_char_p, c_size_t, POINTER(Choice), c_char_p, c_size_t, *into)),
@@ -90,11 +91,13 @@ def filled(call):
 
 
 class Acceptor:
-    """A service. One thread uses it at a time."""
+    """A service of the name whose text is `service`, or of each name of the keytab, if that is None. Any thread may call it: a lock lets in
+    one call at a time."""
 
-    def __init__(self, lib, keytab, skew=300):
-        self.lib, self.handle = lib, Handle()
-        self.done(lib.fevstunik_acceptor_new(byref(self.handle), keytab, len(keytab), skew))
+    def __init__(self, lib, keytab, service, skew=300):
+        self.lib, self.handle, self.lock = lib, Handle(), threading.Lock()
+        name = b"" if service is None else service.encode()
+        self.done(lib.fevstunik_acceptor_new(byref(self.handle), keytab, len(keytab), skew, name, len(name)))
 
     @staticmethod
     def done(answer):
@@ -102,41 +105,46 @@ class Acceptor:
             raise Refused(answer)
 
     def accept(self, request, seconds, micros=0):
-        """The client and the service as text, the session key, the client's subkey, and the numbers."""
-        self.done(self.lib.fevstunik_acceptor_accept(byref(self.handle), request, len(request), byref(Time(seconds, micros))))
-        known = Known()
-        data = filled(lambda buffer, room: self.lib.fevstunik_acceptor_accepted(byref(self.handle), byref(known), buffer, room))
+        """The client and the service as text, the session key, the client's subkey, the numbers, and the reply, or None if none is asked
+        for. All of it is of this request: the lock is held until it is read."""
+        with self.lock:
+            self.done(self.lib.fevstunik_acceptor_accept(byref(self.handle), request, len(request), byref(Time(seconds, micros))))
+            known = Known()
+            data = filled(lambda buffer, room: self.lib.fevstunik_acceptor_accepted(byref(self.handle), byref(known), buffer, room))
+            reply = self.reply(os.urandom(16)) if known.wants_reply else None
         client, service = known.client.of(data).decode(), known.service.of(data).decode()
-        return client, service, known.session_key.of(data), known.subkey.of(data), known
+        return client, service, known.session_key.of(data), known.subkey.of(data), known, reply
 
     def reply(self, confounder):
-        """The reply to what was accepted last."""
         return filled(lambda buffer, room: self.lib.fevstunik_acceptor_reply(
             byref(self.handle), confounder, len(confounder), byref(Choice()), b"", 0, buffer, room))
 
     def __len__(self):
-        return self.lib.fevstunik_acceptor_count(byref(self.handle))
+        with self.lock:
+            return self.lib.fevstunik_acceptor_count(byref(self.handle))
 
     def close(self):
-        self.lib.fevstunik_acceptor_free(byref(self.handle))
+        with self.lock:
+            self.lib.fevstunik_acceptor_free(byref(self.handle))
 
 
 def answered(service, request, seconds, micros):
     try:
-        client, _, _, _, known = service.accept(request, seconds, micros)
+        client, _, _, _, _, reply = service.accept(request, seconds, micros)
     except Refused as refused:
         return f"refused {refused.code} {refused.kerberos}"
-    return f"accepted {client} {service.reply(os.urandom(16)).hex() if known.wants_reply else '-'}"
+    return f"accepted {client} {'-' if reply is None else reply.hex()}"
 
 
 def main():
     words = argparse.ArgumentParser()
     words.add_argument("library")
     words.add_argument("keytab")
+    words.add_argument("service", help="the name that is served, as host/web@EX")
     words.add_argument("--at", type=int)
     words = words.parse_args()
     with open(words.keytab, "rb") as file:
-        service = Acceptor(library(os.path.abspath(words.library)), file.read())
+        service = Acceptor(library(os.path.abspath(words.library)), file.read(), words.service)
     for line in sys.stdin:
         micros = time.time_ns() // 1000
         seconds, micros = divmod(micros, 1_000_000) if words.at is None else (words.at, 0)

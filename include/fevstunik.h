@@ -4,7 +4,7 @@
  * builds, and with the toolchain's liblibc_c.a, by which the library reaches malloc, realloc and free.
  *
  * What is proved of a call holds where its caller keeps to this, and nothing is promised otherwise:
- *  - A handle is all zero before its first use, as `fevstunik_acceptor handle = {0};` makes it. That is the empty handle.
+ *  - A handle is all zero before its first use, as `fevstunik_acceptor handle = FEVSTUNIK_ACCEPTOR_INIT;` makes it. That is the empty handle.
  *  - A handle is never copied and never written but by these functions. It may be moved in memory between calls, not during one, and is not
  *    used again where it was. What a program gets that uses a copy, or that lets a handle overlap a buffer, isn't promised: it may free what is
  *    still in use.
@@ -37,77 +37,208 @@
 extern "C" {
 #endif
 
+/* ---- version ---- */
+
+#define FEVSTUNIK_VERSION_MAJOR 0
+#define FEVSTUNIK_VERSION_MINOR 1
+#define FEVSTUNIK_VERSION_PATCH 0
+
+/* Returns the version of the library that the program runs with: 10,000 times the major number, 100 times the minor
+ * number, and the patch number. The macros above have that of this header.
+ *
+ *     printf("%u\n", (unsigned)fevstunik_version());
+ */
+uint32_t fevstunik_version(void);
+
 /* ---- codes ---- */
 
-enum {
-    FEVSTUNIK_OK = 0,
+/* The codes of answers. A number never changes its meaning. The gaps are for codes to come: handle those that you don't know as
+ * failures. */
+typedef enum fevstunik_code {
+    FEVSTUNIK_OK = 0, /* all is well */
 
-    /* Why a request is refused, in the order in which the causes are looked at: the first that holds is answered. `kerberos` has the
-     * code of RFC 4120, section 7.5.9, which is named here. */
-    FEVSTUNIK_MESSAGE_TYPE = 1,             /* 40: the first byte isn't that of a request */
-    FEVSTUNIK_MALFORMED = 2,                /* 60: the bytes are no request; `at` is where */
-    FEVSTUNIK_USER_TO_USER = 3,             /* 45: the option use-session-key is set */
-    FEVSTUNIK_TICKET_ETYPE = 4,             /* 14: the ticket is of an encryption type other than 19 and 20 */
-    FEVSTUNIK_NOT_US = 5,                   /* 35: the keytab has no entry of the service's name */
-    FEVSTUNIK_NO_KEY = 6,                   /* 45: no key of the ticket's encryption type is usable */
-    FEVSTUNIK_BAD_KEY_VERSION = 7,          /* 44: no such key has the ticket's version number */
-    FEVSTUNIK_TICKET_INTEGRITY = 8,         /* 31: the key doesn't open the ticket */
-    FEVSTUNIK_SESSION_KEY = 9,              /* 14: the ticket's session key isn't usable */
-    FEVSTUNIK_AUTHENTICATOR_INTEGRITY = 10, /* 31: the session key doesn't open the authenticator */
-    FEVSTUNIK_BAD_MATCH = 11,               /* 36: the authenticator names another client than the ticket */
-    FEVSTUNIK_SKEW = 12,                    /* 37: the clocks differ by more than the skew */
-    FEVSTUNIK_REPEAT = 13,                  /* 34: a request of this service, client and time was seen before */
-    FEVSTUNIK_NOT_YET_VALID = 14,           /* 33: the ticket begins later, or is marked invalid */
-    FEVSTUNIK_EXPIRED = 15,                 /* 32: the ticket has ended */
-    FEVSTUNIK_TRANSITED = 16,               /* 60: the client is of another realm, and no KDC checked the realms between */
-    FEVSTUNIK_AUTHORIZATION = 17,           /* 60: there is authorization data that may not be ignored */
+    /* Why a request is refused, in the order in which the causes are looked at: the first that holds is answered. A number in
+     * front of a text is the code of RFC 4120, section 7.5.9, which is in `kerberos`. */
+    FEVSTUNIK_MESSAGE_TYPE = 100,            /* 40: the first byte isn't that of a request */
+    FEVSTUNIK_MALFORMED = 110,               /* 60: the bytes are no request; `at` is the place of the fault */
+    FEVSTUNIK_USER_TO_USER = 120,            /* 45: the option use-session-key is set */
+    FEVSTUNIK_TICKET_ETYPE = 130,            /* 14: the ticket's encryption type isn't 19 or 20 */
+    FEVSTUNIK_NOT_US = 140,                  /* 35: the ticket is for another service than those that are served */
+    FEVSTUNIK_NO_KEY = 150,                  /* 45: no key of the ticket's encryption type is usable */
+    FEVSTUNIK_BAD_KEY_VERSION = 160,         /* 44: no such key has the ticket's version number */
+    FEVSTUNIK_TICKET_INTEGRITY = 170,        /* 31: the key doesn't open the ticket */
+    FEVSTUNIK_SESSION_KEY = 180,             /* 14: the ticket's session key isn't usable */
+    FEVSTUNIK_AUTHENTICATOR_INTEGRITY = 190, /* 31: the session key doesn't open the authenticator */
+    FEVSTUNIK_BAD_MATCH = 200,               /* 36: the authenticator names another client than the ticket */
+    FEVSTUNIK_SKEW = 210,                    /* 37: the clocks differ by more than the skew */
+    FEVSTUNIK_REPEAT = 220,                  /* 34: a request of this service, client and time was seen before */
+    FEVSTUNIK_NOT_YET_VALID = 230,           /* 33: the ticket begins later, or is marked invalid */
+    FEVSTUNIK_EXPIRED = 240,                 /* 32: the ticket has ended */
+    FEVSTUNIK_TRANSITED = 250,               /* 60: the client is of another realm, and no KDC checked the realms between */
+    FEVSTUNIK_AUTHORIZATION = 260,           /* 60: there is authorization data that may not be ignored */
 
-    /* What may come of many calls. */
-    FEVSTUNIK_OUT_OF_MEMORY = 18,  /* malloc or realloc gave nothing */
-    FEVSTUNIK_SHORT_BUFFER = 19,   /* `size` bytes are needed */
-    FEVSTUNIK_EMPTY_HANDLE = 20,   /* the handle holds nothing */
-    FEVSTUNIK_NOTHING_THERE = 21,  /* nothing was accepted, or refused, by the last call, or no moment was told so far */
-    FEVSTUNIK_BAD_SKEW = 22,       /* more than 86,400 seconds */
-    FEVSTUNIK_BAD_MOMENT = 23,     /* outside the years 0000 to 9999, or 1,000,000 microseconds or more */
-    FEVSTUNIK_BAD_CONFOUNDER = 24, /* not 16 bytes */
-    FEVSTUNIK_KEY_TYPE = 25,       /* an encryption type other than 19 and 20 */
-    FEVSTUNIK_KEY_LENGTH = 26,     /* not 16 bytes (type 19) or 32 (type 20) */
+    /* What many calls may answer. */
+    FEVSTUNIK_OUT_OF_MEMORY = 400,  /* out of memory: malloc or realloc returned NULL */
+    FEVSTUNIK_SHORT_BUFFER = 401,   /* the buffer is too short: `size` bytes are needed */
+    FEVSTUNIK_EMPTY_HANDLE = 402,   /* the handle is empty */
+    FEVSTUNIK_NOTHING_THERE = 403,  /* the last call accepted nothing, or refused nothing, or there is no moment yet */
+    FEVSTUNIK_TOO_LONG = 404,       /* a file, a request, an error, a name or a key is longer than its limit */
+    FEVSTUNIK_BAD_SKEW = 410,       /* the skew is more than 86,400 seconds */
+    FEVSTUNIK_BAD_MOMENT = 411,     /* the moment is outside the years 0000 to 9999, or has 1,000,000 microseconds or more */
+    FEVSTUNIK_BAD_CONFOUNDER = 412, /* the confounder isn't 16 bytes long */
+    FEVSTUNIK_KEY_TYPE = 413,       /* the key's encryption type isn't 19 or 20 */
+    FEVSTUNIK_KEY_LENGTH = 414,     /* the key isn't 16 bytes long (type 19) or 32 (type 20) */
+    FEVSTUNIK_NO_CODE = 415,        /* there is no error to send: the request was refused because memory ran out */
 
     /* What is wrong with a file. */
-    FEVSTUNIK_FILE_VERSION = 27,   /* it doesn't begin with 05 02 (a keytab), or with 05 04 (a cache) */
-    FEVSTUNIK_FILE_HEADER = 28,    /* the header of a cache is malformed */
-    FEVSTUNIK_FILE_TRUNCATED = 29, /* a keytab ends before the record at `at` does */
-    FEVSTUNIK_FILE_BAD_ITEM = 30,  /* the record at `at` holds no entry, or no principal or credential is at `at` */
-    FEVSTUNIK_TOO_LONG = 31,       /* a file has more than 16,777,216 bytes, or a request or an error
-                                    * would have more than 1,048,576, or a name or a key doesn't fit into an entry of a keytab */
-    FEVSTUNIK_NO_SUCH_ENTRY = 32,  /* the file has no entry, or no credential, of this index */
+    FEVSTUNIK_FILE_VERSION = 500,   /* the file doesn't begin with 05 02 (a keytab) or with 05 04 (a cache) */
+    FEVSTUNIK_FILE_HEADER = 501,    /* the header of the cache is malformed */
+    FEVSTUNIK_FILE_TRUNCATED = 502, /* the keytab ends before the record at `at` does */
+    FEVSTUNIK_FILE_BAD_ITEM = 503,  /* the record at `at` holds no entry, or no principal or credential is at `at` */
+    FEVSTUNIK_NO_SUCH_ENTRY = 504,  /* the file has no entry, or no credential, of this index */
 
     /* Why there is no request. */
-    FEVSTUNIK_NO_CREDENTIAL = 34,      /* the cache has no ticket of its default principal for the service */
-    FEVSTUNIK_NO_USABLE_KEY = 35,      /* of these none has a usable session key */
-    FEVSTUNIK_CREDENTIAL_EXPIRED = 36, /* of those that have none ends later than the moment */
-    FEVSTUNIK_BAD_TICKET = 37,         /* the bytes that the credential has for a ticket are none */
+    FEVSTUNIK_NO_CREDENTIAL = 600,      /* the cache has no ticket of its default principal for the service */
+    FEVSTUNIK_NO_USABLE_KEY = 601,      /* no ticket for the service has a usable session key */
+    FEVSTUNIK_CREDENTIAL_EXPIRED = 602, /* no usable ticket for the service ends later than the moment */
+    FEVSTUNIK_BAD_TICKET = 603,         /* the bytes that the credential has for a ticket are none */
 
     /* Why a reply is refused: the first that holds. */
-    FEVSTUNIK_REPLY_TYPE = 38,      /* the first byte isn't that of a reply */
-    FEVSTUNIK_REPLY_MALFORMED = 39, /* the bytes are no reply; `at` is where */
-    FEVSTUNIK_REPLY_INTEGRITY = 40, /* the session key doesn't open it */
-    FEVSTUNIK_REPLY_MISMATCH = 41,  /* 46: its time isn't the request's */
+    FEVSTUNIK_REPLY_TYPE = 700,      /* the first byte isn't that of a reply */
+    FEVSTUNIK_REPLY_MALFORMED = 701, /* the bytes are no reply; `at` is the place of the fault */
+    FEVSTUNIK_REPLY_INTEGRITY = 702, /* the session key doesn't open the reply */
+    FEVSTUNIK_REPLY_MISMATCH = 703,  /* 46: the reply's time isn't the request's */
 
     /* Why a text isn't opened, or a tag isn't its checksum; and why a text is no name. */
-    FEVSTUNIK_TEXT_SHORT = 42,     /* fewer bytes than a sealed empty text has: 32 (type 19) or 40 (type 20) */
-    FEVSTUNIK_TEXT_INTEGRITY = 43, /* the tag is wrong */
-    FEVSTUNIK_BAD_TEXT = 44,       /* at `at` the text goes on as no name does */
-    FEVSTUNIK_NO_REALM = 45,       /* no bare `@` stands in the text */
-    FEVSTUNIK_NO_CODE = 46,        /* the last request was refused for want of memory, of which no error tells */
-    FEVSTUNIK_NOT_UTF8 = 47        /* the text isn't UTF-8 */
-};
+    FEVSTUNIK_TEXT_SHORT = 800,     /* the text has fewer bytes than a sealed empty text: 32 (type 19) or 40 (type 20) */
+    FEVSTUNIK_TEXT_INTEGRITY = 801, /* the tag is wrong */
+    FEVSTUNIK_BAD_TEXT = 810,       /* the text isn't a name's from `at` on */
+    FEVSTUNIK_NO_REALM = 811,       /* the text has no `@` without a backslash before it */
+    FEVSTUNIK_NOT_UTF8 = 812        /* the text isn't UTF-8 */
+} fevstunik_code;
+
+/* Returns the name of a code, as "FEVSTUNIK_REPEAT", or NULL if the number is no code of this header.
+ *
+ *     printf("%s\n", fevstunik_code_name(answer.code));
+ */
+static inline const char *fevstunik_code_name(uint32_t code)
+{
+    switch (code) {
+    case FEVSTUNIK_OK: return "FEVSTUNIK_OK";
+    case FEVSTUNIK_MESSAGE_TYPE: return "FEVSTUNIK_MESSAGE_TYPE";
+    case FEVSTUNIK_MALFORMED: return "FEVSTUNIK_MALFORMED";
+    case FEVSTUNIK_USER_TO_USER: return "FEVSTUNIK_USER_TO_USER";
+    case FEVSTUNIK_TICKET_ETYPE: return "FEVSTUNIK_TICKET_ETYPE";
+    case FEVSTUNIK_NOT_US: return "FEVSTUNIK_NOT_US";
+    case FEVSTUNIK_NO_KEY: return "FEVSTUNIK_NO_KEY";
+    case FEVSTUNIK_BAD_KEY_VERSION: return "FEVSTUNIK_BAD_KEY_VERSION";
+    case FEVSTUNIK_TICKET_INTEGRITY: return "FEVSTUNIK_TICKET_INTEGRITY";
+    case FEVSTUNIK_SESSION_KEY: return "FEVSTUNIK_SESSION_KEY";
+    case FEVSTUNIK_AUTHENTICATOR_INTEGRITY: return "FEVSTUNIK_AUTHENTICATOR_INTEGRITY";
+    case FEVSTUNIK_BAD_MATCH: return "FEVSTUNIK_BAD_MATCH";
+    case FEVSTUNIK_SKEW: return "FEVSTUNIK_SKEW";
+    case FEVSTUNIK_REPEAT: return "FEVSTUNIK_REPEAT";
+    case FEVSTUNIK_NOT_YET_VALID: return "FEVSTUNIK_NOT_YET_VALID";
+    case FEVSTUNIK_EXPIRED: return "FEVSTUNIK_EXPIRED";
+    case FEVSTUNIK_TRANSITED: return "FEVSTUNIK_TRANSITED";
+    case FEVSTUNIK_AUTHORIZATION: return "FEVSTUNIK_AUTHORIZATION";
+    case FEVSTUNIK_OUT_OF_MEMORY: return "FEVSTUNIK_OUT_OF_MEMORY";
+    case FEVSTUNIK_SHORT_BUFFER: return "FEVSTUNIK_SHORT_BUFFER";
+    case FEVSTUNIK_EMPTY_HANDLE: return "FEVSTUNIK_EMPTY_HANDLE";
+    case FEVSTUNIK_NOTHING_THERE: return "FEVSTUNIK_NOTHING_THERE";
+    case FEVSTUNIK_TOO_LONG: return "FEVSTUNIK_TOO_LONG";
+    case FEVSTUNIK_BAD_SKEW: return "FEVSTUNIK_BAD_SKEW";
+    case FEVSTUNIK_BAD_MOMENT: return "FEVSTUNIK_BAD_MOMENT";
+    case FEVSTUNIK_BAD_CONFOUNDER: return "FEVSTUNIK_BAD_CONFOUNDER";
+    case FEVSTUNIK_KEY_TYPE: return "FEVSTUNIK_KEY_TYPE";
+    case FEVSTUNIK_KEY_LENGTH: return "FEVSTUNIK_KEY_LENGTH";
+    case FEVSTUNIK_NO_CODE: return "FEVSTUNIK_NO_CODE";
+    case FEVSTUNIK_FILE_VERSION: return "FEVSTUNIK_FILE_VERSION";
+    case FEVSTUNIK_FILE_HEADER: return "FEVSTUNIK_FILE_HEADER";
+    case FEVSTUNIK_FILE_TRUNCATED: return "FEVSTUNIK_FILE_TRUNCATED";
+    case FEVSTUNIK_FILE_BAD_ITEM: return "FEVSTUNIK_FILE_BAD_ITEM";
+    case FEVSTUNIK_NO_SUCH_ENTRY: return "FEVSTUNIK_NO_SUCH_ENTRY";
+    case FEVSTUNIK_NO_CREDENTIAL: return "FEVSTUNIK_NO_CREDENTIAL";
+    case FEVSTUNIK_NO_USABLE_KEY: return "FEVSTUNIK_NO_USABLE_KEY";
+    case FEVSTUNIK_CREDENTIAL_EXPIRED: return "FEVSTUNIK_CREDENTIAL_EXPIRED";
+    case FEVSTUNIK_BAD_TICKET: return "FEVSTUNIK_BAD_TICKET";
+    case FEVSTUNIK_REPLY_TYPE: return "FEVSTUNIK_REPLY_TYPE";
+    case FEVSTUNIK_REPLY_MALFORMED: return "FEVSTUNIK_REPLY_MALFORMED";
+    case FEVSTUNIK_REPLY_INTEGRITY: return "FEVSTUNIK_REPLY_INTEGRITY";
+    case FEVSTUNIK_REPLY_MISMATCH: return "FEVSTUNIK_REPLY_MISMATCH";
+    case FEVSTUNIK_TEXT_SHORT: return "FEVSTUNIK_TEXT_SHORT";
+    case FEVSTUNIK_TEXT_INTEGRITY: return "FEVSTUNIK_TEXT_INTEGRITY";
+    case FEVSTUNIK_BAD_TEXT: return "FEVSTUNIK_BAD_TEXT";
+    case FEVSTUNIK_NO_REALM: return "FEVSTUNIK_NO_REALM";
+    case FEVSTUNIK_NOT_UTF8: return "FEVSTUNIK_NOT_UTF8";
+    default: return NULL;
+    }
+}
+
+/* Returns what a code says, as "a request of this service, client and time was seen before", or NULL if the number is no
+ * code of this header.
+ *
+ *     fprintf(stderr, "%s\n", fevstunik_code_text(answer.code));
+ */
+static inline const char *fevstunik_code_text(uint32_t code)
+{
+    switch (code) {
+    case FEVSTUNIK_OK: return "all is well";
+    case FEVSTUNIK_MESSAGE_TYPE: return "the first byte isn't that of a request";
+    case FEVSTUNIK_MALFORMED: return "the bytes are no request; `at` is the place of the fault";
+    case FEVSTUNIK_USER_TO_USER: return "the option use-session-key is set";
+    case FEVSTUNIK_TICKET_ETYPE: return "the ticket's encryption type isn't 19 or 20";
+    case FEVSTUNIK_NOT_US: return "the ticket is for another service than those that are served";
+    case FEVSTUNIK_NO_KEY: return "no key of the ticket's encryption type is usable";
+    case FEVSTUNIK_BAD_KEY_VERSION: return "no such key has the ticket's version number";
+    case FEVSTUNIK_TICKET_INTEGRITY: return "the key doesn't open the ticket";
+    case FEVSTUNIK_SESSION_KEY: return "the ticket's session key isn't usable";
+    case FEVSTUNIK_AUTHENTICATOR_INTEGRITY: return "the session key doesn't open the authenticator";
+    case FEVSTUNIK_BAD_MATCH: return "the authenticator names another client than the ticket";
+    case FEVSTUNIK_SKEW: return "the clocks differ by more than the skew";
+    case FEVSTUNIK_REPEAT: return "a request of this service, client and time was seen before";
+    case FEVSTUNIK_NOT_YET_VALID: return "the ticket begins later, or is marked invalid";
+    case FEVSTUNIK_EXPIRED: return "the ticket has ended";
+    case FEVSTUNIK_TRANSITED: return "the client is of another realm, and no KDC checked the realms between";
+    case FEVSTUNIK_AUTHORIZATION: return "there is authorization data that may not be ignored";
+    case FEVSTUNIK_OUT_OF_MEMORY: return "out of memory: malloc or realloc returned NULL";
+    case FEVSTUNIK_SHORT_BUFFER: return "the buffer is too short: `size` bytes are needed";
+    case FEVSTUNIK_EMPTY_HANDLE: return "the handle is empty";
+    case FEVSTUNIK_NOTHING_THERE: return "the last call accepted nothing, or refused nothing, or there is no moment yet";
+    case FEVSTUNIK_TOO_LONG: return "a file, a request, an error, a name or a key is longer than its limit";
+    case FEVSTUNIK_BAD_SKEW: return "the skew is more than 86,400 seconds";
+    case FEVSTUNIK_BAD_MOMENT: return "the moment is outside the years 0000 to 9999, or has 1,000,000 microseconds or more";
+    case FEVSTUNIK_BAD_CONFOUNDER: return "the confounder isn't 16 bytes long";
+    case FEVSTUNIK_KEY_TYPE: return "the key's encryption type isn't 19 or 20";
+    case FEVSTUNIK_KEY_LENGTH: return "the key isn't 16 bytes long (type 19) or 32 (type 20)";
+    case FEVSTUNIK_NO_CODE: return "there is no error to send: the request was refused because memory ran out";
+    case FEVSTUNIK_FILE_VERSION: return "the file doesn't begin with 05 02 (a keytab) or with 05 04 (a cache)";
+    case FEVSTUNIK_FILE_HEADER: return "the header of the cache is malformed";
+    case FEVSTUNIK_FILE_TRUNCATED: return "the keytab ends before the record at `at` does";
+    case FEVSTUNIK_FILE_BAD_ITEM: return "the record at `at` holds no entry, or no principal or credential is at `at`";
+    case FEVSTUNIK_NO_SUCH_ENTRY: return "the file has no entry, or no credential, of this index";
+    case FEVSTUNIK_NO_CREDENTIAL: return "the cache has no ticket of its default principal for the service";
+    case FEVSTUNIK_NO_USABLE_KEY: return "no ticket for the service has a usable session key";
+    case FEVSTUNIK_CREDENTIAL_EXPIRED: return "no usable ticket for the service ends later than the moment";
+    case FEVSTUNIK_BAD_TICKET: return "the bytes that the credential has for a ticket are none";
+    case FEVSTUNIK_REPLY_TYPE: return "the first byte isn't that of a reply";
+    case FEVSTUNIK_REPLY_MALFORMED: return "the bytes are no reply; `at` is the place of the fault";
+    case FEVSTUNIK_REPLY_INTEGRITY: return "the session key doesn't open the reply";
+    case FEVSTUNIK_REPLY_MISMATCH: return "the reply's time isn't the request's";
+    case FEVSTUNIK_TEXT_SHORT: return "the text has fewer bytes than a sealed empty text: 32 (type 19) or 40 (type 20)";
+    case FEVSTUNIK_TEXT_INTEGRITY: return "the tag is wrong";
+    case FEVSTUNIK_BAD_TEXT: return "the text isn't a name's from `at` on";
+    case FEVSTUNIK_NO_REALM: return "the text has no `@` without a backslash before it";
+    case FEVSTUNIK_NOT_UTF8: return "the text isn't UTF-8";
+    default: return NULL;
+    }
+}
 
 /* ---- what is handed in and out ---- */
 
 /* What a call answers. Numbers that don't go with the code are 0. */
 typedef struct fevstunik_answer {
-    uint32_t code;    /* one of the codes above */
+    uint32_t code;    /* a fevstunik_code */
     int32_t kerberos; /* the error code of RFC 4120, section 7.5.9, that goes with it */
     size_t at;        /* where a fault is, in bytes from the start of what was handed in */
     size_t size;      /* how many bytes were written, or are needed */
@@ -216,6 +347,9 @@ typedef struct fevstunik_acceptor {
     void *opaque;
 } fevstunik_acceptor;
 
+/* The empty handle, with which a handle is initialized. */
+#define FEVSTUNIK_ACCEPTOR_INIT {NULL}
+
 /* ---- files ---- */
 
 /* Looks whether the bytes of a file are a keytab of version 0x0502. `size` is how many entries it has.
@@ -318,18 +452,28 @@ fevstunik_answer fevstunik_name_check(const uint8_t *name, size_t name_size);
 
 /* ---- the service's side ---- */
 
-/* Makes the handle hold a service that decides by the keys of a keytab (the bytes of a file of version 0x0502) and by a skew of so many
- * seconds (300 is usual), and that has seen nothing. What the handle held is freed. The keytab's bytes aren't needed afterwards.
+/* Makes the handle hold a service that decides by the keys of a keytab (the bytes of a file of version 0x0502) and by a skew
+ * of so many seconds (300 is usual), and that has seen nothing. What the handle held is freed: a service that is made in a
+ * used handle forgets what the old one has seen. The keytab's bytes aren't needed afterwards.
  *
- * It is for a service that had no earlier life: one that lost its memory takes again what it took before, until the skew has passed.
+ * `service` is the text of the name that is served, as host/web@EX: a ticket for any other name is answered NOT_US.
+ * With `service_size` 0 each name of the keytab is served. Name the service if the keytab has keys of several: otherwise a
+ * ticket for any of them lets its client in. The name in a ticket isn't sealed, and whoever records a request can write
+ * another name into it: if two names of a keytab have the same key and both are served, a recorded request is let in once
+ * more under the other name.
  *
- * FEVSTUNIK_OK; FEVSTUNIK_BAD_SKEW; FEVSTUNIK_TOO_LONG, _FILE_VERSION, _FILE_TRUNCATED, _FILE_BAD_ITEM; FEVSTUNIK_OUT_OF_MEMORY.
- * Where it isn't FEVSTUNIK_OK the handle is as before.
+ * Make a service only if there was none before it: one that lost its memory accepts again what it accepted before, until the
+ * skew has passed.
  *
- *     fevstunik_acceptor service = {0};
- *     fevstunik_answer answer = fevstunik_acceptor_new(&service, file, file_size, 300);
+ * The first that holds: FEVSTUNIK_BAD_SKEW; FEVSTUNIK_TOO_LONG, _FILE_VERSION, _FILE_TRUNCATED, _FILE_BAD_ITEM for the keytab;
+ * FEVSTUNIK_NOT_UTF8, _BAD_TEXT and _NO_REALM for the service; or FEVSTUNIK_OUT_OF_MEMORY; and the handle is as before.
+ * FEVSTUNIK_OK.
+ *
+ *     fevstunik_acceptor service = FEVSTUNIK_ACCEPTOR_INIT;
+ *     fevstunik_answer answer = fevstunik_acceptor_new(&service, file, file_size, 300, (const uint8_t *)"host/web@EX", 11);
  */
-fevstunik_answer fevstunik_acceptor_new(fevstunik_acceptor *handle, const uint8_t *keytab, size_t keytab_size, uint32_t skew);
+fevstunik_answer fevstunik_acceptor_new(fevstunik_acceptor *handle, const uint8_t *keytab, size_t keytab_size, uint32_t skew,
+                                        const uint8_t *service, size_t service_size);
 
 /* Decides whether a request (the bytes of an AP-REQ) is accepted at a moment of the service's clock, and remembers what has to be
  * remembered of it. Time doesn't go back: what counts is the latest moment that was handed in so far.

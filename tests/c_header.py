@@ -15,8 +15,14 @@ def without_comments(text):
     return re.sub(r"/\*.*?\*/", "", text, flags=re.S)
 
 
+def inline_functions():
+    """The functions that the header has whole, with their bodies."""
+    return dict(re.findall(r"^static inline [\w *]+?(fevstunik_\w+)\([^)]*\)\n(\{.*?^\})", without_comments(HEADER.read_text()), re.M | re.S))
+
+
 def header_functions():
-    return set(re.findall(r"\b(fevstunik_\w+)\s*\(", without_comments(HEADER.read_text())))
+    """The functions that the header takes from the archive."""
+    return set(re.findall(r"\b(fevstunik_\w+)\s*\(", without_comments(HEADER.read_text()))) - set(inline_functions())
 
 
 def header_codes():
@@ -29,7 +35,7 @@ def crate_codes():
 
 def comments():
     """The header's comment at each function, with what the function answers."""
-    form = r"/\*((?:(?!\*/).)*)\*/\n(fevstunik_answer|size_t|void) (fevstunik_\w+)\("
+    form = r"/\*((?:(?!\*/).)*)\*/\n(fevstunik_answer|size_t|uint32_t|void|static inline const char) \*?(fevstunik_\w+)\("
     return {function: (kind, text) for text, kind, function in re.findall(form, HEADER.read_text(), re.S)}
 
 
@@ -38,7 +44,7 @@ def documented():
     numbers = header_codes()
     found = {}
     for function, (kind, text) in comments().items():
-        named = set(re.findall(r"\b(?:FEVSTUNIK)?_([A-Z][A-Z0-9_]*)\b", text))
+        named = set(re.findall(r"\b(?:FEVSTUNIK)?_([A-Z][A-Z0-9_]*)\b", re.sub(r"\bFEVSTUNIK_\w+_INIT\b", "", text)))
         for first, last in re.findall(r"from FEVSTUNIK_(\w+) to[\s*]+FEVSTUNIK_(\w+)", text):
             named |= {name for name, number in numbers.items() if numbers[first] <= number <= numbers[last]}
         if kind == "fevstunik_answer":
@@ -49,7 +55,7 @@ def documented():
 def examples():
     """Each function's comment ends with code that calls it."""
     told = {function for function, (_, text) in comments().items() if re.search(rf"\n \*     .*\b{function}\(", text)}
-    return differs(told, header_functions())
+    return differs(told, header_functions() | set(inline_functions()))
 
 
 def kerberos_codes():
@@ -59,6 +65,20 @@ def kerberos_codes():
 
 def differs(found, wanted):
     return None if found == wanted else f"only here: {sorted(found - wanted)}, only there: {sorted(wanted - found)}"
+
+
+def names_and_texts():
+    """fevstunik_code_name and fevstunik_code_text answer each code's name, and its comment without the code of RFC 4120."""
+    found = {function: dict(re.findall(r'case FEVSTUNIK_(\w+): return "([^"]*)";', body)) for function, body in inline_functions().items()}
+    said = dict(re.findall(r"\bFEVSTUNIK_(\w+) = \d+,?\s*/\* (?:\d+: )?(.*?) \*/", HEADER.read_text()))
+    wanted = {"fevstunik_code_name": {name: f"FEVSTUNIK_{name}" for name in header_codes()}, "fevstunik_code_text": said}
+    return None if found == wanted and set(said) == set(header_codes()) else f"{found}, not {wanted}"
+
+
+def order():
+    """The causes stand in the order of the crate's table, each group in its hundreds, and no number is there twice."""
+    numbers = list(header_codes().values())
+    return None if numbers == sorted(set(numbers)) else f"not in order: {numbers}"
 
 
 def codes():
@@ -102,13 +122,15 @@ def prototypes():
     crate = set()
     for name, words, answer in re.findall(r'pub extern "C" fn (\w+)\((.*?)\)(?: -> (\w+))?\n', crate_text(), re.S):
         parameters = [it for word in re.findall(r"(\w+): ([^,]+?)(?:,|\s*$)", words) for it in c_parameters(*word)]
-        crate.add(f"{c_type(answer) if answer else 'void'} {name}({', '.join(parameters)})")
-    header = re.findall(r"^((?:fevstunik_answer|size_t|void) fevstunik_\w+\([^;]*\));", without_comments(HEADER.read_text()), re.M)
+        crate.add(f"{c_type(answer) if answer else 'void'} {name}({', '.join(parameters) or 'void'})")
+    header = re.findall(r"^((?:fevstunik_answer|size_t|uint32_t|void) fevstunik_\w+\([^;]*\));", without_comments(HEADER.read_text()), re.M)
     return differs({" ".join(it.split()) for it in header}, crate)
 
 
 def header_checks():
     yield "the header's codes are the crate's", codes()
+    yield "the codes' names and texts are those of the enum", names_and_texts()
+    yield "the codes are in order", order()
     yield "the header's structs are the crate's", structs()
     yield "the header's prototypes are the crate's", prototypes()
     yield "each function has an example in the header", examples()

@@ -26,6 +26,7 @@ ROOT = pathlib.Path(__file__).resolve().parent.parent
 sys.path += [str(ROOT / "tests"), str(ROOT / "tests/vectors")]
 import c_cases  # noqa: E402
 import c_peers  # noqa: E402
+import c_threads  # noqa: E402
 from c_header import HEADER, differs, documented, header_checks, header_codes, header_functions, kerberos_codes  # noqa: E402
 import edits  # noqa: E402
 import fixture as shared  # noqa: E402
@@ -71,11 +72,11 @@ def watch(room):
 #include <stdlib.h>
 #include "fevstunik.h"
 static const char *const watched[] = {{{listed}}};
-static unsigned char answers[{len(names)}][256];
+static unsigned char answers[{len(names)}][1024];
 static void tell_answers(void)
 {{
     for (int function = 0; function < {len(names)}; function++)
-        for (int code = 0; code < 256; code++)
+        for (int code = 0; code < 1024; code++)
             if (answers[function][code])
                 printf("answered %s %d\\n", watched[function], code);
 }}
@@ -85,7 +86,7 @@ static inline fevstunik_answer noted(int function, fevstunik_answer answer)
     if (is_first)
         atexit(tell_answers);
     is_first = 0;
-    answers[function][answer.code & 255] = 1;
+    answers[function][answer.code & 1023] = 1;
     return answer;
 }}
 {calls}""")
@@ -181,7 +182,7 @@ def over_tcp(room):
         again = run(room / "client", cache, "host/web@EX", port, "hello again", timeout=60)
         yield "another request is accepted", differs(set(again.stdout.splitlines()), {"agreed as alice@EX"})
         lines = service.communicate(timeout=60)[0].splitlines()
-        wanted = ["alice@EX: hello", "refused 13", "alice@EX: hello again"]
+        wanted = ["alice@EX: hello", "refused FEVSTUNIK_REPEAT", "alice@EX: hello again"]
         yield "the service", None if lines == wanted and service.returncode == 0 else f"{lines}, status {service.returncode}"
     finally:
         service.kill()
@@ -195,12 +196,13 @@ def from_python(room):
     if built.returncode:
         return
     plain, keyed = fixture("client.rt", "REQUEST"), fixture("client.rt", "KEYED")
-    ran = run(sys.executable, ROOT / "examples/fevstunik.py", shared, ROOT / "examples/service.keytab", "--at", "1700000100",
+    ran = run(sys.executable, ROOT / "examples/fevstunik.py", shared, ROOT / "examples/service.keytab", "host/web@EX", "--at", "1700000100",
               input="\n".join([plain, plain, keyed, "30", ""]) + "\n")
     lines = ran.stdout.splitlines()
-    wanted = ["accepted alice@EX -", "refused 13 34", "refused 13 34", "refused 1 40", "refused 2 60"]
+    wanted = ["accepted alice@EX -", "refused 220 34", "refused 220 34", "refused 100 40", "refused 110 60"]
     yield "the Python service", None if lines == wanted else f"{lines} {ran.stderr[-1000:]}"
-    ran = run(sys.executable, ROOT / "examples/fevstunik.py", shared, ROOT / "examples/service.keytab", "--at", "1700000100", input=keyed + "\n")
+    ran = run(sys.executable, ROOT / "examples/fevstunik.py", shared, ROOT / "examples/service.keytab", "host/web@EX", "--at", "1700000100", input=keyed + "\n")
+    yield from c_threads.checks(shared)
     yield "the Python service replies", None if re.fullmatch(r"accepted alice@EX 6f55[0-9a-f]{170}\n", ran.stdout) else ran.stdout + ran.stderr[-1000:]
 
 

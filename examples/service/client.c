@@ -45,7 +45,7 @@ int main(int count, char **words)
     answer = fevstunik_request(cache.at, cache.size, (const uint8_t *)words[2], strlen(words[2]), &at, confounder, sizeof confounder, &choice,
                                subkey, sizeof subkey, request.at, sizeof request.at);
     if (answer.code != FEVSTUNIK_OK) {
-        fprintf(stderr, "client: no request: code %u of fevstunik.h\n", (unsigned)answer.code);
+        fprintf(stderr, "client: no request: %s\n", fevstunik_code_text(answer.code));
         return 2;
     }
     for (times = count - 4; times > 0; times--) {

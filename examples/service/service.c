@@ -3,7 +3,7 @@
  *
  *     service KEYTAB NAME COUNT      NAME as host/web@EX; it ends after so many connections
  *
- * It prints its port first, and then a line for each connection: `CLIENT: TEXT`, or `refused CODE`. */
+ * It prints its port first, and then a line for each connection: `CLIENT: TEXT`, or `refused CODE` with the code's name. */
 #include "sources.h"
 
 /* Tells the client why it is refused. */
@@ -13,7 +13,7 @@ static void refuse(fevstunik_acceptor *service, const char *name, int to, fevstu
     uint8_t error[4096];
     fevstunik_answer answer = fevstunik_acceptor_error(service, (const uint8_t *)name, strlen(name), 3, &now, error, sizeof error);
 
-    printf("refused %u\n", (unsigned)why.code);
+    printf("refused %s\n", fevstunik_code_name(why.code));
     if (answer.code == FEVSTUNIK_OK)
         transmit(to, error, answer.size);
 }
@@ -72,16 +72,16 @@ static void serve(fevstunik_acceptor *service, const char *name, int peer)
 int main(int count, char **words)
 {
     static struct bytes keytab;
-    fevstunik_acceptor service = {0};
+    fevstunik_acceptor service = FEVSTUNIK_ACCEPTOR_INIT;
     fevstunik_answer made;
     int listener, peer, left;
 
     if (count != 4)
         return 2;
     read_file(words[1], &keytab);
-    made = fevstunik_acceptor_new(&service, keytab.at, keytab.size, 300);
+    made = fevstunik_acceptor_new(&service, keytab.at, keytab.size, 300, (const uint8_t *)words[2], strlen(words[2]));
     if (made.code != FEVSTUNIK_OK) {
-        fprintf(stderr, "service: no acceptor: code %u of fevstunik.h\n", (unsigned)made.code);
+        fprintf(stderr, "service: no acceptor: %s\n", fevstunik_code_text(made.code));
         return 2;
     }
     listener = listen_on_any();

@@ -9,6 +9,10 @@
 
 #include "fevstunik.h"
 
+/* Which service is wanted: each of the keytab, or the fixture's. */
+#define EACH_NAME (const uint8_t *)"", 0
+#define WEB (const uint8_t *)"host/web@EX", 11
+
 static int passed = 0, failed = 0;
 
 static inline void is(const char *what, long long found, long long wanted)

@@ -81,13 +81,13 @@ static void askings(void)
 static void is_no_keytab(const char *what, const uint8_t *file, size_t size, unsigned code, size_t at)
 {
     static const fevstunik_key_parts parts = {1700000000, 3, 3, 19};
-    fevstunik_acceptor service = {0};
+    fevstunik_acceptor service = FEVSTUNIK_ACCEPTOR_INIT;
     fevstunik_key_entry entry;
     void *held;
 
-    is_answer("new", fevstunik_acceptor_new(&service, keytab.at, keytab.size, 86400), FEVSTUNIK_OK, 0, 0, 0);
+    is_answer("new", fevstunik_acceptor_new(&service, keytab.at, keytab.size, 86400, EACH_NAME), FEVSTUNIK_OK, 0, 0, 0);
     held = service.opaque;
-    is_answer(what, fevstunik_acceptor_new(&service, file, size, 86400), code, 0, at, 0);
+    is_answer(what, fevstunik_acceptor_new(&service, file, size, 86400, EACH_NAME), code, 0, at, 0);
     is("it stays", service.opaque == held, 1);
     fevstunik_acceptor_free(&service);
     is_answer(what, fevstunik_keytab_check(file, size), code, 0, at, 0);
@@ -148,13 +148,35 @@ static void keys(void)
     is_answer("check", fevstunik_checksum_check(20, key, 32, 2, key, 5, key, 24), FEVSTUNIK_TEXT_INTEGRITY, 0, 0, 0);
 }
 
+/* A service that is wanted by what is no name isn't made, and one that was made stays. */
+static void is_no_service(const char *what, const uint8_t *name, size_t size, unsigned code, size_t at)
+{
+    fevstunik_acceptor service = FEVSTUNIK_ACCEPTOR_INIT;
+    void *held;
+
+    is_answer("new", fevstunik_acceptor_new(&service, keytab.at, keytab.size, 86400, WEB), FEVSTUNIK_OK, 0, 0, 0);
+    held = service.opaque;
+    is_answer(what, fevstunik_acceptor_new(&service, keytab.at, keytab.size, 86400, name, size), code, 0, at, 0);
+    is("it stays", service.opaque == held, 1);
+    is_answer("the skew first", fevstunik_acceptor_new(&service, keytab.at, keytab.size, 86401, name, size), FEVSTUNIK_BAD_SKEW, 0, 0, 0);
+    is_answer("the keytab then", fevstunik_acceptor_new(&service, keytab.at, 1, 86400, name, size), FEVSTUNIK_FILE_VERSION, 0, 0, 0);
+    fevstunik_acceptor_free(&service);
+}
+
+static void services(void)
+{
+    is_no_service("not UTF-8", (const uint8_t *)"\xff@EX", 4, FEVSTUNIK_NOT_UTF8, 0);
+    is_no_service("two realms", (const uint8_t *)"a@b@c", 5, FEVSTUNIK_BAD_TEXT, 3);
+    is_no_service("no realm", (const uint8_t *)"host/web", 8, FEVSTUNIK_NO_REALM, 0);
+}
+
 /* What a service answers to a request, and why there is no reply; and an error for a name that is too long for one. */
 static void is_refused(const char *what, const uint8_t *request, size_t size, unsigned code, int kerberos)
 {
-    fevstunik_acceptor service = {0};
+    fevstunik_acceptor service = FEVSTUNIK_ACCEPTOR_INIT;
     fevstunik_choice choice = {0, 0, false, false};
 
-    is_answer("new", fevstunik_acceptor_new(&service, keytab.at, keytab.size, 300), FEVSTUNIK_OK, 0, 0, 0);
+    is_answer("new", fevstunik_acceptor_new(&service, keytab.at, keytab.size, 300, EACH_NAME), FEVSTUNIK_OK, 0, 0, 0);
     is_answer(what, fevstunik_acceptor_accept(&service, request, size, &sent), code, kerberos, 0, 0);
     is_answer("no reply", fevstunik_acceptor_reply(&service, request, 16, &choice, request, 0, buffer, sizeof buffer), FEVSTUNIK_NOTHING_THERE,
               0, 0, 0);
@@ -200,6 +222,7 @@ int main(int count, char **words)
     askings();
     files();
     keys();
+    services();
     long_file[0] = 0x6e;
     is_refused("a long request", long_file, 1048577, FEVSTUNIK_MALFORMED, 60);
     for (; fgets(line, sizeof line, stdin) != NULL; lines++)

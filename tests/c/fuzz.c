@@ -21,7 +21,7 @@ struct bytes {
 static struct bytes keytab, cache, request, reply, bent;
 static uint8_t buffer[ROOM + GUARD];
 static uint64_t state;
-static long counts[64];
+static long counts[1024];
 
 static void wrong(const char *what, long at)
 {
@@ -208,7 +208,7 @@ static void look(fevstunik_answer answer, size_t handed, size_t room, long at)
 {
     size_t i;
 
-    if (answer.code > FEVSTUNIK_NOT_UTF8 || answer.code == FEVSTUNIK_OUT_OF_MEMORY)
+    if (fevstunik_code_name(answer.code) == NULL || answer.code == FEVSTUNIK_OUT_OF_MEMORY)
         wrong("a code", at);
     if (answer.at > handed)
         wrong("an offset", at);
@@ -232,14 +232,14 @@ static void one(fevstunik_acceptor *service, long at)
     fevstunik_key_entry entry;
     fevstunik_cache_entry credential;
     fevstunik_owner owner;
-    fevstunik_acceptor other = {0};
+    fevstunik_acceptor other = FEVSTUNIK_ACCEPTOR_INIT;
     size_t room = below(3) ? ROOM : below(64);
 
     memset(buffer, 0xa5, sizeof buffer);
     switch (below(4)) {
     case 0:
         bend(&keytab);
-        look(fevstunik_acceptor_new(&other, bent.at, bent.size, below(86402)), bent.size, ROOM, at);
+        look(fevstunik_acceptor_new(&other, bent.at, bent.size, below(86402), bent.at, below(20)), bent.size, ROOM, at);
         look(fevstunik_acceptor_accept(&other, request.at, request.size, &now), request.size, ROOM, at);
         look(fevstunik_acceptor_error(&other, bent.at, bent.size, 3, &now, buffer, room), bent.size, room, at);
         look(fevstunik_keytab_entry(bent.at, bent.size, below(3), &entry, buffer, room), bent.size, room, at);
@@ -274,7 +274,7 @@ static void one(fevstunik_acceptor *service, long at)
 
 int main(int count, char **words)
 {
-    fevstunik_acceptor service = {0};
+    fevstunik_acceptor service = FEVSTUNIK_ACCEPTOR_INIT;
     long at, inputs;
 
     if (count != 7)
@@ -287,7 +287,7 @@ int main(int count, char **words)
     state = strtoull(words[6], NULL, 10);
     for (at = 0; at < inputs; at++) {
         /* A new service now and then, which hasn't seen the request. */
-        if (at % 8 == 0 && fevstunik_acceptor_new(&service, keytab.at, keytab.size, 300).code != FEVSTUNIK_OK)
+        if (at % 8 == 0 && fevstunik_acceptor_new(&service, keytab.at, keytab.size, 300, (const uint8_t *)"host/web@EX", 11).code != FEVSTUNIK_OK)
             wrong("a new service", at);
         one(&service, at);
     }

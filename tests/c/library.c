@@ -8,6 +8,10 @@
 /* How many entries the keytab has. */
 #define ENTRIES 1
 
+/* An index whose lower 32 bits are those of the first entry; and a size of bytes 0x5a. */
+#define FAR ((size_t)1 << 32)
+#define FILLED ((size_t)0x5a5a5a5a5a5a5a5a)
+
 static struct bytes keytab, cache, request, keyed, reply, keyed_reply, error, two, other;
 static uint8_t buffer[4096];
 static const fevstunik_choice nothing = {0, 0, false, false};
@@ -15,7 +19,7 @@ static const fevstunik_choice nothing = {0, 0, false, false};
 /* An empty handle answers that it is empty, and stays so. */
 static void empty_handles(void)
 {
-    fevstunik_acceptor service = {0};
+    fevstunik_acceptor service = FEVSTUNIK_ACCEPTOR_INIT;
     fevstunik_time now = moment(1700000101, 0), bad = moment(0, 1000000);
     fevstunik_known known;
 
@@ -37,10 +41,10 @@ static void faulty_keytabs(fevstunik_acceptor *service)
 {
     void *held = service->opaque;
 
-    is_answer("skew", fevstunik_acceptor_new(service, keytab.at, keytab.size, 86401), FEVSTUNIK_BAD_SKEW, 0, 0, 0);
-    is_answer("version", fevstunik_acceptor_new(service, keytab.at + 1, keytab.size - 1, 300), FEVSTUNIK_FILE_VERSION, 0, 0, 0);
-    is_answer("no file", fevstunik_acceptor_new(service, keytab.at, 0, 300), FEVSTUNIK_FILE_VERSION, 0, 0, 0);
-    is_answer("cut off", fevstunik_acceptor_new(service, keytab.at, 10, 300), FEVSTUNIK_FILE_TRUNCATED, 0, 2, 0);
+    is_answer("skew", fevstunik_acceptor_new(service, keytab.at, keytab.size, 86401, EACH_NAME), FEVSTUNIK_BAD_SKEW, 0, 0, 0);
+    is_answer("version", fevstunik_acceptor_new(service, keytab.at + 1, keytab.size - 1, 300, EACH_NAME), FEVSTUNIK_FILE_VERSION, 0, 0, 0);
+    is_answer("no file", fevstunik_acceptor_new(service, keytab.at, 0, 300, EACH_NAME), FEVSTUNIK_FILE_VERSION, 0, 0, 0);
+    is_answer("cut off", fevstunik_acceptor_new(service, keytab.at, 10, 300, EACH_NAME), FEVSTUNIK_FILE_TRUNCATED, 0, 2, 0);
     is("it stays", service->opaque == held, 1);
 }
 
@@ -80,6 +84,7 @@ static void is_accepted(fevstunik_acceptor *service)
     is("name type", known.name_type, 1);
     is("service type", known.service_type, 3);
     is("session type", known.session_type, 19);
+    is("authtime", known.authtime, 1700000000);
     is("subkey type", known.subkey_type, 0);
     is("has subkey", known.has_subkey, 0);
     is("has seq", known.has_seq, 0);
@@ -142,10 +147,10 @@ static fevstunik_answer error_of(fevstunik_acceptor *service, const char *name, 
 /* The error of a refusal is the fixture's, to the byte, with its code at the byte 42; and why there is none. */
 static void errors(void)
 {
-    fevstunik_acceptor service = {0};
+    fevstunik_acceptor service = FEVSTUNIK_ACCEPTOR_INIT;
     fevstunik_time now = moment(1700000100, 7), late = moment(1700000401, 0);
 
-    is_answer("new", fevstunik_acceptor_new(&service, keytab.at, keytab.size, 300), FEVSTUNIK_OK, 0, 0, 0);
+    is_answer("new", fevstunik_acceptor_new(&service, keytab.at, keytab.size, 300, EACH_NAME), FEVSTUNIK_OK, 0, 0, 0);
     is_answer("no error yet", error_of(&service, "host/web@EX", now, sizeof buffer), FEVSTUNIK_NOTHING_THERE, 0, 0, 0);
     is_answer("accept", fevstunik_acceptor_accept(&service, request.at, request.size, &now), FEVSTUNIK_OK, 0, 0, 0);
     is_answer("no error of it", error_of(&service, "host/web@EX", now, sizeof buffer), FEVSTUNIK_NOTHING_THERE, 0, 0, 0);
@@ -164,6 +169,38 @@ static void errors(void)
     is_answer("error of bytes", error_of(&service, "\xff@EX", now, sizeof buffer), FEVSTUNIK_NOT_UTF8, 0, 0, 0);
     is_answer("error at no moment", error_of(&service, "host/web@EX", moment(0, 1000000), sizeof buffer), FEVSTUNIK_BAD_MOMENT, 0, 0, 0);
     fevstunik_acceptor_free(&service);
+}
+
+/* The fixture's request is for host/web@EX alone: a service that is wanted by another name refuses it, whatever the keytab has; one that is
+ * made in a used handle has forgotten it. The types of names don't count. */
+static void wanted_services(void)
+{
+    static const char *const others[] = {"host/web@EY", "host/mail@EX", "http/web@EX", "host@EX", "host/web/x@EX", "@EX", "host\\/web@EX"};
+    fevstunik_acceptor service = FEVSTUNIK_ACCEPTOR_INIT;
+    fevstunik_time now = moment(1700000101, 7);
+    size_t i;
+
+    for (i = 0; i < sizeof others / sizeof *others; i++) {
+        is_answer("another", fevstunik_acceptor_new(&service, keytab.at, keytab.size, 300, (const uint8_t *)others[i], strlen(others[i])),
+                  FEVSTUNIK_OK, 0, 0, 0);
+        is_answer(others[i], fevstunik_acceptor_accept(&service, request.at, request.size, &now), FEVSTUNIK_NOT_US, 35, 0, 0);
+        is("nothing is seen", (long long)fevstunik_acceptor_count(&service), 0);
+    }
+    is_answer("this one", fevstunik_acceptor_new(&service, keytab.at, keytab.size, 300, WEB), FEVSTUNIK_OK, 0, 0, 0);
+    is_answer("accept", fevstunik_acceptor_accept(&service, request.at, request.size, &now), FEVSTUNIK_OK, 0, 0, 0);
+    is_answer("repeat", fevstunik_acceptor_accept(&service, request.at, request.size, &now), FEVSTUNIK_REPEAT, 34, 0, 0);
+    is_answer("each", fevstunik_acceptor_new(&service, keytab.at, keytab.size, 300, EACH_NAME), FEVSTUNIK_OK, 0, 0, 0);
+    is_answer("accept anew", fevstunik_acceptor_accept(&service, request.at, request.size, &now), FEVSTUNIK_OK, 0, 0, 0);
+    fevstunik_acceptor_free(&service);
+}
+
+/* Numbers that are no code have neither name nor text; and the header's version is the library's. */
+static void constants(void)
+{
+    is("no name", fevstunik_code_name(1) == NULL, 1);
+    is("no text", fevstunik_code_text(505) == NULL, 1);
+    is("a name", strcmp(fevstunik_code_name(FEVSTUNIK_REPEAT), "FEVSTUNIK_REPEAT"), 0);
+    is("version", fevstunik_version(), FEVSTUNIK_VERSION_MAJOR * 10000 + FEVSTUNIK_VERSION_MINOR * 100 + FEVSTUNIK_VERSION_PATCH);
 }
 
 /* The texts of names, and what is wrong with others. */
@@ -256,7 +293,10 @@ static void listings(void)
     is("entry name type", entry.name_type, 3);
     is("entry key type", entry.key_type, 19);
     is_answer("entry short", fevstunik_keytab_entry(keytab.at, keytab.size, 0, &entry, buffer, 26), FEVSTUNIK_SHORT_BUFFER, 0, 0, 27);
+    memset(&entry, 0x5a, sizeof entry);
     is_answer("past the last", fevstunik_keytab_entry(keytab.at, keytab.size, ENTRIES, &entry, buffer, 27), FEVSTUNIK_NO_SUCH_ENTRY, 0, 0, 0);
+    is_answer("far past it", fevstunik_keytab_entry(keytab.at, keytab.size, FAR, &entry, buffer, 27), FEVSTUNIK_NO_SUCH_ENTRY, 0, 0, 0);
+    is("the entry stays", entry.kvno == 0x5a5a5a5a && entry.name.size == FILLED && entry.key_type == 0x5a5a, 1);
     is_answer("entry of none", fevstunik_keytab_entry(keytab.at, 10, 0, &entry, buffer, 27), FEVSTUNIK_FILE_TRUNCATED, 0, 2, 0);
     size = 8 + 11 + 16 + 214;
     is_answer("credential", fevstunik_cache_credential(cache.at, cache.size, 0, &credential, buffer, size), FEVSTUNIK_OK, 0, 0, size);
@@ -278,7 +318,10 @@ static void listings(void)
     is("is_skey", credential.is_skey, 0);
     is_answer("credential short", fevstunik_cache_credential(cache.at, cache.size, 0, &credential, buffer, size - 1), FEVSTUNIK_SHORT_BUFFER,
               0, 0, size);
+    memset(&credential, 0x5a, sizeof credential);
     is_answer("past the last", fevstunik_cache_credential(cache.at, cache.size, 1, &credential, buffer, size), FEVSTUNIK_NO_SUCH_ENTRY, 0, 0, 0);
+    is_answer("far past it", fevstunik_cache_credential(cache.at, cache.size, FAR, &credential, buffer, size), FEVSTUNIK_NO_SUCH_ENTRY, 0, 0, 0);
+    is("the credential stays", credential.flags == 0x5a5a5a5a && credential.client.size == FILLED && credential.key_type == 0x5a5a, 1);
     is_answer("of none", fevstunik_cache_credential(cache.at, 3, 0, &credential, buffer, size), FEVSTUNIK_FILE_HEADER, 0, 0, 0);
     is_answer("owner", fevstunik_cache_owner(cache.at, cache.size, &owner, buffer, 8), FEVSTUNIK_OK, 0, 0, 8);
     is_bytes("owner", buffer, "alice@EX", 8);
@@ -357,12 +400,12 @@ static void second_credential(void)
 /* The client's subkey and number are told. */
 static void is_keyed(void)
 {
-    fevstunik_acceptor service = {0};
+    fevstunik_acceptor service = FEVSTUNIK_ACCEPTOR_INIT;
     fevstunik_time now = moment(1700000100, 5);
     fevstunik_known known;
     size_t i;
 
-    is_answer("new", fevstunik_acceptor_new(&service, keytab.at, keytab.size, 0), FEVSTUNIK_OK, 0, 0, 0);
+    is_answer("new", fevstunik_acceptor_new(&service, keytab.at, keytab.size, 0, EACH_NAME), FEVSTUNIK_OK, 0, 0, 0);
     is_answer("keyed", fevstunik_acceptor_accept(&service, keyed.at, keyed.size, &now), FEVSTUNIK_OK, 0, 0, 0);
     is_answer("told", fevstunik_acceptor_accepted(&service, &known, buffer, sizeof buffer), FEVSTUNIK_OK, 0, 0, 67);
     is("type", known.subkey_type, 20);
@@ -383,13 +426,13 @@ static void is_keyed(void)
 /* The service is told as the ticket names it: one that the keytab has beside the fixture's, of another name type, and with a slash in a part. */
 static void another_service(void)
 {
-    fevstunik_acceptor service = {0};
+    fevstunik_acceptor service = FEVSTUNIK_ACCEPTOR_INIT;
     fevstunik_time now = moment(1700000100, 5);
     fevstunik_answer both = added(&keytab, "a\\/b@EX", keytab.at + keytab.size - 20, 16, sizeof buffer);
     fevstunik_known known;
 
     is("two keys", both.code, FEVSTUNIK_OK);
-    is_answer("new", fevstunik_acceptor_new(&service, buffer, both.size, 300), FEVSTUNIK_OK, 0, 0, 0);
+    is_answer("new", fevstunik_acceptor_new(&service, buffer, both.size, 300, EACH_NAME), FEVSTUNIK_OK, 0, 0, 0);
     is_answer("accept", fevstunik_acceptor_accept(&service, other.at, other.size, &now), FEVSTUNIK_OK, 0, 0, 0);
     is_answer("told", fevstunik_acceptor_accepted(&service, &known, buffer, sizeof buffer), FEVSTUNIK_OK, 0, 0, 31);
     is("at", (long long)known.service.at, 24);
@@ -565,7 +608,7 @@ static void two_faults(void)
     static const uint8_t key[17] = {0};
     static uint8_t long_key[65536];
     struct bytes none = {{0}, 1};
-    fevstunik_acceptor service = {0};
+    fevstunik_acceptor service = FEVSTUNIK_ACCEPTOR_INIT;
     fevstunik_agreement agreement;
     fevstunik_time now = moment(1700000100, 7), bad = moment(0, 1000000);
 
@@ -576,8 +619,8 @@ static void two_faults(void)
     is_answer("open short and tag", fevstunik_open(19, key, 16, 2, key, 16, buffer, 64), FEVSTUNIK_TEXT_SHORT, 0, 0, 0);
     is_answer("tag type and tag", fevstunik_checksum_check(17, key, 16, 2, key, 3, key, 16), FEVSTUNIK_KEY_TYPE, 0, 0, 0);
     is_answer("tag length and tag", fevstunik_checksum_check(20, key, 16, 2, key, 3, key, 16), FEVSTUNIK_KEY_LENGTH, 0, 0, 0);
-    is_answer("skew and keytab", fevstunik_acceptor_new(&service, none.at, none.size, 86401), FEVSTUNIK_BAD_SKEW, 0, 0, 0);
-    is_answer("new", fevstunik_acceptor_new(&service, keytab.at, keytab.size, 300), FEVSTUNIK_OK, 0, 0, 0);
+    is_answer("skew and keytab", fevstunik_acceptor_new(&service, none.at, none.size, 86401, EACH_NAME), FEVSTUNIK_BAD_SKEW, 0, 0, 0);
+    is_answer("new", fevstunik_acceptor_new(&service, keytab.at, keytab.size, 300, EACH_NAME), FEVSTUNIK_OK, 0, 0, 0);
     is_answer("nothing and name", error_of(&service, "host/web", now, sizeof buffer), FEVSTUNIK_NOTHING_THERE, 0, 0, 0);
     is_answer("accept", fevstunik_acceptor_accept(&service, request.at, request.size, &now), FEVSTUNIK_OK, 0, 0, 0);
     is_answer("reply confounder and type", reply_of(&service, 17, 17, 32, sizeof buffer), FEVSTUNIK_BAD_CONFOUNDER, 0, 0, 0);
@@ -595,11 +638,11 @@ static void two_faults(void)
 /* A moment that is none lets go of what was accepted, and of why it was refused; what is remembered and the latest moment stay. */
 static void bad_moments(void)
 {
-    fevstunik_acceptor service = {0};
+    fevstunik_acceptor service = FEVSTUNIK_ACCEPTOR_INIT;
     fevstunik_time now = moment(1700000101, 7), bad = moment(0, 1000000), latest = moment(0, 0);
     fevstunik_known known;
 
-    is_answer("new", fevstunik_acceptor_new(&service, keytab.at, keytab.size, 300), FEVSTUNIK_OK, 0, 0, 0);
+    is_answer("new", fevstunik_acceptor_new(&service, keytab.at, keytab.size, 300, EACH_NAME), FEVSTUNIK_OK, 0, 0, 0);
     is_answer("accept", fevstunik_acceptor_accept(&service, request.at, request.size, &now), FEVSTUNIK_OK, 0, 0, 0);
     is_answer("no moment", fevstunik_acceptor_accept(&service, request.at, request.size, &bad), FEVSTUNIK_BAD_MOMENT, 0, 0, 0);
     is_answer("none told", fevstunik_acceptor_accepted(&service, &known, buffer, sizeof buffer), FEVSTUNIK_NOTHING_THERE, 0, 0, 0);
@@ -617,7 +660,7 @@ static void bad_moments(void)
 
 int main(int count, char **words)
 {
-    fevstunik_acceptor service = {0};
+    fevstunik_acceptor service = FEVSTUNIK_ACCEPTOR_INIT;
 
     if (count != 10)
         return 2;
@@ -631,12 +674,14 @@ int main(int count, char **words)
     from_hex(&two, words[8]);
     from_hex(&other, words[9]);
     empty_handles();
-    is_answer("new", fevstunik_acceptor_new(&service, keytab.at, keytab.size, 300), FEVSTUNIK_OK, 0, 0, 0);
+    wanted_services();
+    constants();
+    is_answer("new", fevstunik_acceptor_new(&service, keytab.at, keytab.size, 300, EACH_NAME), FEVSTUNIK_OK, 0, 0, 0);
     faulty_keytabs(&service);
     is_accepted(&service);
     replies(&service);
     is_refused(&service);
-    is_answer("new again", fevstunik_acceptor_new(&service, keytab.at, keytab.size, 300), FEVSTUNIK_OK, 0, 0, 0);
+    is_answer("new again", fevstunik_acceptor_new(&service, keytab.at, keytab.size, 300, EACH_NAME), FEVSTUNIK_OK, 0, 0, 0);
     is("count anew", (long long)fevstunik_acceptor_count(&service), 0);
     fevstunik_acceptor_free(&service);
     fevstunik_acceptor_free(&service);

@@ -54,7 +54,7 @@ static fevstunik_acceptor service;
 
 static fevstunik_answer making(void)
 {
-    return fevstunik_acceptor_new(&service, keytab.at, keytab.size, 300);
+    return fevstunik_acceptor_new(&service, keytab.at, keytab.size, 300, WEB);
 }
 
 static fevstunik_answer accepting(void)

@@ -1,5 +1,5 @@
 -- How files are read as the answers that they have, and how a keytab and a skew make a service.
-use Rattle.std.proofs.Common.{◌≡◌, ◌⊎◌, inl, inr, ℕ, List, [], ap, subst, sym, ◌∙◌}
+use Rattle.std.proofs.Common.{◌≡◌, ◌⊎◌, inl, inr, ℕ, List, [], ap, refl, subst, sym, ◌∙◌}
 use Rattle.std.specs.Prelude.{Result, Ok, Err, None}
 use Rattle.krb_keytab.specs.Entry.{KeytabEntry}
 use Rattle.krb_ccache.specs.Format.{IsAnswerOf, IsFaultOf}
@@ -8,7 +8,7 @@ use Rattle.krb_ccache.specs.declared.fault.CacheFault.{CacheFault}
 use Rattle.krb_ccache.specs.declared.fault.CacheFault.TheVariants.{OutOfMemory}
 use Rattle.krb_replay.specs.Memory.{Memory}
 use Rattle.krb_ap.specs.Service.{Service}
-use Rattle.krb_c.specs.Accepting.{fresh}
+use Rattle.krb_c.specs.Accepting.{IsFresh, Serves, fresh}
 use Rattle.krb_c.specs.Asking.{HasCache}
 use Rattle.krb_c.specs.declared.answer.Answer.{Answer}
 use Rattle.krb_c.specs.declared.login.Login.{Login}
@@ -60,3 +60,9 @@ pub fresh_of : (a : Service Memory) (entries found : List KeytabEntry) (skew mic
     → found ≡ entries → skew ≡ micros → ◌≡◌ {A = Login} (record { acceptor = a; last = None; refusal = None }) (fresh entries micros)
 fresh_of a entries found skew micros memory s m n e k =
     λ i. record { acceptor = record { setup = (s ∙ (λ j. record { entries = e j; skew = k j; start = None })) i; memory = (m ∙ n) i }; last = None; refusal = None }
+
+pub is_fresh : (a : Service Memory) (text : List ℕ) (entries found kept : List KeytabEntry) (skew micros : ℕ) (memory : Memory) (login : Login)
+    → a.setup ≡ record { entries = kept; skew = skew; start = None } → a.memory ≡ memory → memory ≡ record { stamps = []; latest = None }
+    → found ≡ entries → skew ≡ micros → Serves text found kept → login ≡ record { acceptor = a; last = None; refusal = None } → IsFresh text entries micros login
+is_fresh a text entries found kept skew micros memory login s m n e k serves made =
+    (kept, (subst (λ (es : List KeytabEntry). Serves text es kept) e serves, made ∙ fresh_of a kept kept skew micros memory s m n refl k))

@@ -1,10 +1,13 @@
 -- What a filled handle is, and what is made of a call of it.
-use Rattle.std.specs.Prelude.{◌≡◌, ◌≤◌, ◌<◌, ℕ, ℤ, List, [], length, Contains, Option, Some, None, Result, Ok, Err, IfErr, IfSome, IsErrOf}
+use Rattle.std.specs.Prelude.{◌≡◌, ◌≤◌, ◌<◌, ℕ, ℤ, List, [], ◌∷◌, length, Contains, Option, Some, None, Result, Ok, Err, IfErr, IfSome, IsErrOf}
 use Rattle.krb_der.specs.Kind.{ValueOf}
 use Rattle.krb_der.specs.Time.{IsSeconds}
 use Rattle.krb_msg.specs.Module.{ap_req}
 use Rattle.krb_msg.specs.Moments.{micros_of}
 use Rattle.krb_keytab.specs.Entry.{KeytabEntry}
+use Rattle.krb_keytab.specs.Only.{KeepsOnly}
+use Rattle.krb_name.specs.Reading.{IsReadAs}
+use Rattle.krb_name.specs.declared.principal.Principal.{Principal}
 use Rattle.krb_replay.specs.Memory.{later_of, SameStamps}
 use Rattle.krb_replay.specs.Stamp.{Stamp}
 use Rattle.krb_ap.specs.Setup.{Arrival}
@@ -39,6 +42,15 @@ fresh entries skew = record {
   last = None;
   refusal = None;
 }
+
+-- a service of these entries: of all where the text has no bytes, and else of those of the name whose text it is
+abbrev pub Serves : List ℕ → List KeytabEntry → List KeytabEntry → Type 0
+Serves [] entries kept = kept ≡ entries
+Serves (byte ∷ text) entries kept = (name : Principal) × (IsReadAs (byte ∷ text) (Ok name) × KeepsOnly name entries kept)
+
+-- it is new, and decides by the entries of the wanted service
+abbrev pub IsFresh : List ℕ → List KeytabEntry → ℕ → Login → Type 0
+IsFresh text entries skew login = (kept : List KeytabEntry) × (Serves text entries kept × (login ≡ fresh kept skew))
 
 -- what a request that was accepted is remembered by
 abbrev pub stamp_told : Accepted → Stamp

@@ -1,11 +1,11 @@
 -- What a call answers: a code, and what goes with it.
-use Rattle.std.specs.Prelude.{◌≡◌, ◌≤◌, ◌<◌, ◌⊎◌, ◌%◌, ◌/◌, ◌==◌, if◌then◌else◌, ℕ, ℤ, pos, List, ◌++◌, length, drop, Option, Some, None, Result, Ok, Err}
+use Rattle.std.specs.Prelude.{◌≡◌, ◌≤◌, ◌<◌, ◌⊎◌, ℕ, ℤ, pos, List, ◌++◌, length, drop, Option, Some, None, Result, Ok, Err}
 use Rattle.krb_keytab.specs.declared.fault.KeytabFault.{KeytabFault}
 use Rattle.krb_keytab.specs.declared.fault.KeytabFault.TheVariants as keytab
-use Rattle.krb_ap.specs.Causes.{place, code_of, offset_of}
+use Rattle.krb_ap.specs.Causes.{code_of, offset_of}
 use Rattle.krb_ap.specs.declared.accepted.Accepted.{Accepted}
 use Rattle.krb_ap.specs.declared.refusal.Refusal.{Refusal}
-use Rattle.krb_c.specs.Codes.{ok, out_of_memory, short_buffer, file_version, file_truncated, file_bad_item, too_long, no_such_entry, not_read}
+use Rattle.krb_c.specs.Codes.{cause_code, ok, out_of_memory, short_buffer, file_version, file_truncated, file_bad_item, too_long, no_such_entry, not_read}
 use Rattle.krb_c.specs.declared.answer.Answer.{Answer}
 
 -- a code alone, or with a number of bytes, or with an offset
@@ -26,13 +26,9 @@ abbrev pub offset_or_none : Option ℕ → ℕ
 offset_or_none (Some at) = at
 offset_or_none None = 0
 
--- the code of a cause: the hundreds of its place in the table, or the place of one that was put between two others
-abbrev pub code_at : ℕ → ℕ
-code_at place = if place % 100 == 0 then place / 100 else place
-
 -- a refusal's code, its error code, and the offset of a malformed request's fault
 abbrev pub refused : Refusal → Answer
-refused refusal = record { code = code_at (place refusal); kerberos = number_or_none (code_of refusal); at = offset_or_none (offset_of refusal); size = 0 }
+refused refusal = record { code = cause_code refusal; kerberos = number_or_none (code_of refusal); at = offset_or_none (offset_of refusal); size = 0 }
 
 abbrev pub told : Result Accepted Refusal → Answer
 told (Ok accepted) = plain ok

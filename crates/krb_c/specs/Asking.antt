@@ -1,5 +1,5 @@
 -- The client's side: a request for a cache's credential, and what is agreed on by the reply.
-use Rattle.std.specs.Prelude.{◌≡◌, ◌≢◌, ◌⊎◌, ℕ, ℤ, List, length, Ok, Err}
+use Rattle.std.specs.Prelude.{◌≡◌, ◌≢◌, ◌⊎◌, ℕ, ℤ, List, [], length, Ok, Err}
 use Rattle.std.specs.Str.{IsUtf8}
 use Rattle.krb_name.specs.Reading.{IsReadAs}
 use Rattle.krb_name.specs.declared.principal.Principal.{Principal}
@@ -67,6 +67,10 @@ pub record HasNameFault (bytes : List ℕ) (answer : Answer) : Type 0 where
 
 abbrev pub IsNameFault : List ℕ → Answer → Type 0
 IsNameFault bytes answer = HasNameFault bytes answer ⊎ ((¬ IsUtf8 bytes) × (answer ≡ plain not_utf8))
+
+-- a service is named by a text that is no name's
+abbrev pub IsUnnamed : List ℕ → Answer → Type 0
+IsUnnamed text answer = (text ≢ []) × IsNameFault text answer
 
 -- the text of a name, and how many components it has; or why it is none
 abbrev pub IsNameChecked : List ℕ → Answer → Type 0

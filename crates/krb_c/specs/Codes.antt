@@ -1,95 +1,122 @@
--- The codes of answers. Those of the causes of a refusal follow from their places in the table of krb_ap (`specs/Answer`).
+-- The codes of answers. A number never moves: a cause that comes between two others takes one of the numbers between theirs.
 use Rattle.std.specs.Prelude.{ℕ}
+use Rattle.krb_ap.specs.declared.refusal.Refusal.{Refusal}
+use Rattle.krb_ap.specs.declared.refusal.Refusal.TheVariants.{MessageType, Malformed, UserToUser, TicketEtype, NotUs, NoKey, BadKeyVersion, TicketIntegrity, SessionKey, AuthenticatorIntegrity, BadMatch, Skew, Repeat, NotYetValid, Expired, Transited, Authorization, OutOfMemory}
 
 abbrev pub ok : ℕ
 ok = 0
 
 abbrev pub out_of_memory : ℕ
-out_of_memory = 18
+out_of_memory = 400
 
 abbrev pub short_buffer : ℕ
-short_buffer = 19
+short_buffer = 401
 
 abbrev pub empty_handle : ℕ
-empty_handle = 20
+empty_handle = 402
 
 abbrev pub nothing_there : ℕ
-nothing_there = 21
-
-abbrev pub bad_skew : ℕ
-bad_skew = 22
-
-abbrev pub bad_moment : ℕ
-bad_moment = 23
-
-abbrev pub bad_confounder : ℕ
-bad_confounder = 24
-
-abbrev pub key_type : ℕ
-key_type = 25
-
-abbrev pub key_length : ℕ
-key_length = 26
-
-abbrev pub file_version : ℕ
-file_version = 27
-
-abbrev pub file_header : ℕ
-file_header = 28
-
-abbrev pub file_truncated : ℕ
-file_truncated = 29
-
-abbrev pub file_bad_item : ℕ
-file_bad_item = 30
+nothing_there = 403
 
 abbrev pub too_long : ℕ
-too_long = 31
+too_long = 404
 
-abbrev pub no_such_entry : ℕ
-no_such_entry = 32
+abbrev pub bad_skew : ℕ
+bad_skew = 410
 
-abbrev pub not_read : ℕ
-not_read = 33
+abbrev pub bad_moment : ℕ
+bad_moment = 411
 
-abbrev pub no_credential : ℕ
-no_credential = 34
+abbrev pub bad_confounder : ℕ
+bad_confounder = 412
 
-abbrev pub no_usable_key : ℕ
-no_usable_key = 35
+abbrev pub key_type : ℕ
+key_type = 413
 
-abbrev pub credential_expired : ℕ
-credential_expired = 36
-
-abbrev pub bad_ticket : ℕ
-bad_ticket = 37
-
-abbrev pub reply_type : ℕ
-reply_type = 38
-
-abbrev pub reply_malformed : ℕ
-reply_malformed = 39
-
-abbrev pub reply_integrity : ℕ
-reply_integrity = 40
-
-abbrev pub reply_mismatch : ℕ
-reply_mismatch = 41
-
-abbrev pub text_short : ℕ
-text_short = 42
-
-abbrev pub text_integrity : ℕ
-text_integrity = 43
-
-abbrev pub bad_text : ℕ
-bad_text = 44
-
-abbrev pub no_realm : ℕ
-no_realm = 45
+abbrev pub key_length : ℕ
+key_length = 414
 
 abbrev pub no_code : ℕ
-no_code = 46
+no_code = 415
+
+abbrev pub file_version : ℕ
+file_version = 500
+
+abbrev pub file_header : ℕ
+file_header = 501
+
+abbrev pub file_truncated : ℕ
+file_truncated = 502
+
+abbrev pub file_bad_item : ℕ
+file_bad_item = 503
+
+abbrev pub no_such_entry : ℕ
+no_such_entry = 504
+
+abbrev pub not_read : ℕ
+not_read = 505
+
+abbrev pub no_credential : ℕ
+no_credential = 600
+
+abbrev pub no_usable_key : ℕ
+no_usable_key = 601
+
+abbrev pub credential_expired : ℕ
+credential_expired = 602
+
+abbrev pub bad_ticket : ℕ
+bad_ticket = 603
+
+abbrev pub reply_type : ℕ
+reply_type = 700
+
+abbrev pub reply_malformed : ℕ
+reply_malformed = 701
+
+abbrev pub reply_integrity : ℕ
+reply_integrity = 702
+
+abbrev pub reply_mismatch : ℕ
+reply_mismatch = 703
+
+abbrev pub text_short : ℕ
+text_short = 800
+
+abbrev pub text_integrity : ℕ
+text_integrity = 801
+
+abbrev pub bad_text : ℕ
+bad_text = 810
+
+abbrev pub no_realm : ℕ
+no_realm = 811
 
 abbrev pub not_utf8 : ℕ
-not_utf8 = 47
+not_utf8 = 812
+
+-- why a request is refused, in the order of krb_ap's table
+abbrev pub cause_code : Refusal → ℕ
+cause_code MessageType = 100
+cause_code (Malformed fault) = 110
+cause_code UserToUser = 120
+cause_code TicketEtype = 130
+cause_code NotUs = 140
+cause_code NoKey = 150
+cause_code BadKeyVersion = 160
+cause_code TicketIntegrity = 170
+cause_code SessionKey = 180
+cause_code AuthenticatorIntegrity = 190
+cause_code BadMatch = 200
+cause_code Skew = 210
+cause_code Repeat = 220
+cause_code NotYetValid = 230
+cause_code Expired = 240
+cause_code Transited = 250
+cause_code Authorization = 260
+cause_code OutOfMemory = out_of_memory
+
+-- the library's version: the major number, the minor one and the patch, by two digits each
+abbrev pub version : ℕ
+version = 100

@@ -8,7 +8,8 @@ ghost use Rattle.krb_ap.specs.Setup.{arrival};
 ghost use Rattle.krb_keytab.specs.Entry.{KeytabEntry};
 ghost use Rattle.krb_keytab.specs.Format.{IsFaultOf, IsKeytab};
 ghost use Rattle.krb_keytab.specs.declared.fault.KeytabFault.{KeytabFault};
-ghost use Rattle.krb_c.specs.Accepting.{Decides, IsMomentOf, Remembers, Stands, TellsLatest, Turns, cleared, fresh, latest_of};
+ghost use Rattle.krb_c.specs.Accepting.{Decides, IsFresh, IsMomentOf, Remembers, Serves, Stands, TellsLatest, Turns, cleared, latest_of};
+ghost use Rattle.krb_c.specs.Asking.{IsUnnamed};
 ghost use Rattle.krb_c.specs.Choice.{TellsReply};
 ghost use Rattle.krb_c.specs.Known.{TellsKnown};
 ghost use Rattle.krb_c.specs.Refusing.{TellsError};
@@ -16,6 +17,7 @@ ghost use Rattle.krb_c.specs.Answer.{keytab_answer, plain};
 ghost use Rattle.krb_c.specs.Codes.{bad_moment, bad_skew, empty_handle, ok, out_of_memory};
 
 use crate::answer::{Answer, Time};
+use crate::asking::name_of;
 use crate::choice::Choice;
 use crate::code;
 use crate::handle::Handle;
@@ -26,24 +28,27 @@ use krb_keytab::Keytab;
 use krb_replay::{ReplayMemory, Skew, TimedMemory};
 use std::alloc::Global;
 
-/// Makes the handle hold a service that decides by the keys of a keytab and by a skew of so many seconds, and has seen nothing. What
-/// the handle held is let go of; where no service is made, it stays.
+/// Makes the handle hold a service that decides by the keys of a keytab and by a skew of so many seconds, and has seen nothing. If `service`
+/// has bytes, it is a name's text, and only that name's keys count: a ticket for another name is refused as `NotUs`. What the handle held
+/// is freed; if no service is made, it stays.
 #[unsafe(no_mangle)]
 pub extern "C" fn fevstunik_acceptor_new(
     handle: &mut Handle,
     alloc: Global,
     keytab: &[u8],
     skew: u32,
+    service: &[u8],
 ) -> Answer
     ensures skew { (result ≡ plain bad_skew) ↔ (86_400 < skew) }
     ensures made { (entries : List KeytabEntry) → skew ≤ 86_400 → IsKeytab keytab.now entries
-        → ((result ≡ plain ok) × (handle.new.value ≡ Some (fresh entries (1_000_000 * skew)))) ⊎ (result ≡ plain out_of_memory) }
+        → ((result ≡ plain ok) × IsSomeAnd handle.new.value (λ login. IsFresh service.now entries (1_000_000 * skew) login))
+        ⊎ (IsUnnamed service.now result ⊎ (result ≡ plain out_of_memory)) }
     ensures stands { result ≡ plain ok → IsSomeAnd handle.new.value (λ login. Stands login []) }
     ensures fault { (fault : KeytabFault) → skew ≤ 86_400 → IsFaultOf keytab.now fault
         → (result ≡ keytab_answer fault) ⊎ (result ≡ plain out_of_memory) }
     ensures unchanged { result ≢ plain ok → handle.new.value ≡ handle.old.value }
 {
-    match service(alloc, keytab, skew) {
+    match service_of(alloc, keytab, skew, service) {
         Ok(login) => {
             *handle = Handle::of(login);
             Answer::plain(code::OK)
@@ -52,10 +57,11 @@ pub extern "C" fn fevstunik_acceptor_new(
     }
 }
 
-fn service(alloc: Global, keytab: &[u8], skew: u32) -> Result<Box<Login>, Answer>
+fn service_of(alloc: Global, keytab: &[u8], skew: u32, service: &[u8]) -> Result<Box<Login>, Answer>
     ensures skew { IsErrOf result (plain bad_skew) ↔ (86_400 < skew) }
     ensures made { (entries : List KeytabEntry) → skew ≤ 86_400 → IsKeytab keytab.now entries
-        → MatchResult result (λ login. login.value ≡ fresh entries (1_000_000 * skew)) (λ answer. answer ≡ plain out_of_memory) }
+        → MatchResult result (λ login. IsFresh service.now entries (1_000_000 * skew) login.value)
+        (λ answer. IsUnnamed service.now answer ⊎ (answer ≡ plain out_of_memory)) }
     ensures fault { (fault : KeytabFault) → skew ≤ 86_400 → IsFaultOf keytab.now fault
         → IsErrAnd result (λ answer. (answer ≡ keytab_answer fault) ⊎ (answer ≡ plain out_of_memory)) }
     ensures stands { IfOk result (λ login. Stands login.value []) }
@@ -69,6 +75,10 @@ fn service(alloc: Global, keytab: &[u8], skew: u32) -> Result<Box<Login>, Answer
         Ok(keytab) => keytab,
         Err(fault) => return Err(Answer::keytab(fault)),
     };
+    let keytab = match wanted(alloc, keytab, service) {
+        Ok(keytab) => keytab,
+        Err(answer) => return Err(answer),
+    };
     let acceptor = Acceptor::new(keytab, skew, TimedMemory::new(alloc));
     let login = Login {
         acceptor,
@@ -78,6 +88,22 @@ fn service(alloc: Global, keytab: &[u8], skew: u32) -> Result<Box<Login>, Answer
     match Box::new(alloc, login) {
         Ok(login) => Ok(login),
         Err(_) => Err(Answer::plain(code::OUT_OF_MEMORY)),
+    }
+}
+
+// The keytab's entries of the wanted service: all of them if no service is named.
+fn wanted(alloc: Global, keytab: Keytab, service: &[u8]) -> Result<Keytab, Answer>
+    ensures wanted { IfOk result (λ kept. Serves service.now keytab kept) }
+    ensures unnamed { IfErr result (λ answer. IsUnnamed service.now answer) }
+    ensures skew { IfErr result (λ answer. answer ≢ plain bad_skew) }
+    ensures refused { IfErr result (λ answer. answer ≢ plain ok) }
+{
+    if service.is_empty() {
+        return Ok(keytab);
+    }
+    match name_of(alloc, service) {
+        Ok(name) => Ok(keytab.only(&name)),
+        Err(answer) => Err(answer),
     }
 }
 

@@ -3,7 +3,8 @@
 ghost use Rattle.std.specs.Prelude.{◌≡◌, SomeIff};
 ghost use Rattle.krb_msg.specs.Moments.{micros_of};
 ghost use Rattle.krb_c.specs.Accepting.{IsMomentOf};
-ghost use Rattle.krb_c.specs.Answer.{Hands, code_at, keytab_answer, plain, placed, refused, sized};
+ghost use Rattle.krb_c.specs.Codes.{cause_code};
+ghost use Rattle.krb_c.specs.Answer.{Hands, keytab_answer, plain, placed, refused, sized};
 
 use crate::code;
 use krb_ap::Refusal;
@@ -80,7 +81,7 @@ impl Answer {
             _ => 0,
         };
         Answer {
-            code: code_at(refusal.place()),
+            code: code_of(refusal),
             kerberos: refusal.code().unwrap_or(0),
             at,
             size: 0,
@@ -102,11 +103,30 @@ impl Answer {
     }
 }
 
-// The code of a cause: the hundreds of its place in the table, or the place of one that was put between two others.
-const fn code_at(place: u32) -> u32
-    ensures { result ≡ code_at place }
+// The code of a cause.
+fn code_of(refusal: &Refusal) -> u32
+    ensures { result ≡ cause_code refusal.now }
 {
-    if place % 100 == 0 { place / 100 } else { place }
+    match refusal {
+        Refusal::MessageType => code::MESSAGE_TYPE,
+        Refusal::Malformed(_) => code::MALFORMED,
+        Refusal::UserToUser => code::USER_TO_USER,
+        Refusal::TicketEtype => code::TICKET_ETYPE,
+        Refusal::NotUs => code::NOT_US,
+        Refusal::NoKey => code::NO_KEY,
+        Refusal::BadKeyVersion => code::BAD_KEY_VERSION,
+        Refusal::TicketIntegrity => code::TICKET_INTEGRITY,
+        Refusal::SessionKey => code::SESSION_KEY,
+        Refusal::AuthenticatorIntegrity => code::AUTHENTICATOR_INTEGRITY,
+        Refusal::BadMatch => code::BAD_MATCH,
+        Refusal::Skew => code::SKEW,
+        Refusal::Repeat => code::REPEAT,
+        Refusal::NotYetValid => code::NOT_YET_VALID,
+        Refusal::Expired => code::EXPIRED,
+        Refusal::Transited => code::TRANSITED,
+        Refusal::Authorization => code::AUTHORIZATION,
+        Refusal::OutOfMemory => code::OUT_OF_MEMORY,
+    }
 }
 
 /// Copies bytes to the front of a buffer, where there is room.

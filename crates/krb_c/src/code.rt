@@ -1,71 +1,104 @@
-//! The codes of answers. The header has them under the same names.
+//! The codes of answers. The header has them under the same names. A number never moves: a cause that comes between two others takes one
+//! of the numbers between theirs.
 
 pub(crate) const OK: u32 = 0;
 
-// Why a request is refused: `Answer::refused`.
+// Why a request is refused, in the order in which the causes are looked at (`krb_ap::Refusal`).
+pub(crate) const MESSAGE_TYPE: u32 = 100;
+
+pub(crate) const MALFORMED: u32 = 110;
+
+pub(crate) const USER_TO_USER: u32 = 120;
+
+pub(crate) const TICKET_ETYPE: u32 = 130;
+
+pub(crate) const NOT_US: u32 = 140;
+
+pub(crate) const NO_KEY: u32 = 150;
+
+pub(crate) const BAD_KEY_VERSION: u32 = 160;
+
+pub(crate) const TICKET_INTEGRITY: u32 = 170;
+
+pub(crate) const SESSION_KEY: u32 = 180;
+
+pub(crate) const AUTHENTICATOR_INTEGRITY: u32 = 190;
+
+pub(crate) const BAD_MATCH: u32 = 200;
+
+pub(crate) const SKEW: u32 = 210;
+
+pub(crate) const REPEAT: u32 = 220;
+
+pub(crate) const NOT_YET_VALID: u32 = 230;
+
+pub(crate) const EXPIRED: u32 = 240;
+
+pub(crate) const TRANSITED: u32 = 250;
+
+pub(crate) const AUTHORIZATION: u32 = 260;
 
 // What may come of many calls.
-pub(crate) const OUT_OF_MEMORY: u32 = 18;
+pub(crate) const OUT_OF_MEMORY: u32 = 400;
 
-pub(crate) const SHORT_BUFFER: u32 = 19;
+pub(crate) const SHORT_BUFFER: u32 = 401;
 
-pub(crate) const EMPTY_HANDLE: u32 = 20;
+pub(crate) const EMPTY_HANDLE: u32 = 402;
 
-pub(crate) const NOTHING_THERE: u32 = 21;
+pub(crate) const NOTHING_THERE: u32 = 403;
 
-pub(crate) const BAD_SKEW: u32 = 22;
+pub(crate) const TOO_LONG: u32 = 404;
 
-pub(crate) const BAD_MOMENT: u32 = 23;
+pub(crate) const BAD_SKEW: u32 = 410;
 
-pub(crate) const BAD_CONFOUNDER: u32 = 24;
+pub(crate) const BAD_MOMENT: u32 = 411;
 
-pub(crate) const KEY_TYPE: u32 = 25;
+pub(crate) const BAD_CONFOUNDER: u32 = 412;
 
-pub(crate) const KEY_LENGTH: u32 = 26;
+pub(crate) const KEY_TYPE: u32 = 413;
+
+pub(crate) const KEY_LENGTH: u32 = 414;
+
+pub(crate) const NO_CODE: u32 = 415;
 
 // What is wrong with a file.
-pub(crate) const FILE_VERSION: u32 = 27;
+pub(crate) const FILE_VERSION: u32 = 500;
 
-pub(crate) const FILE_HEADER: u32 = 28;
+pub(crate) const FILE_HEADER: u32 = 501;
 
-pub(crate) const FILE_TRUNCATED: u32 = 29;
+pub(crate) const FILE_TRUNCATED: u32 = 502;
 
-pub(crate) const FILE_BAD_ITEM: u32 = 30;
+pub(crate) const FILE_BAD_ITEM: u32 = 503;
 
-pub(crate) const TOO_LONG: u32 = 31;
+pub(crate) const NO_SUCH_ENTRY: u32 = 504;
 
-pub(crate) const NO_SUCH_ENTRY: u32 = 32;
-
-pub(crate) const NOT_READ: u32 = 33;
+pub(crate) const NOT_READ: u32 = 505;
 
 // Why there is no request.
-pub(crate) const NO_CREDENTIAL: u32 = 34;
+pub(crate) const NO_CREDENTIAL: u32 = 600;
 
-pub(crate) const NO_USABLE_KEY: u32 = 35;
+pub(crate) const NO_USABLE_KEY: u32 = 601;
 
-pub(crate) const CREDENTIAL_EXPIRED: u32 = 36;
+pub(crate) const CREDENTIAL_EXPIRED: u32 = 602;
 
-pub(crate) const BAD_TICKET: u32 = 37;
+pub(crate) const BAD_TICKET: u32 = 603;
 
 // Why a reply is refused.
-pub(crate) const REPLY_TYPE: u32 = 38;
+pub(crate) const REPLY_TYPE: u32 = 700;
 
-pub(crate) const REPLY_MALFORMED: u32 = 39;
+pub(crate) const REPLY_MALFORMED: u32 = 701;
 
-pub(crate) const REPLY_INTEGRITY: u32 = 40;
+pub(crate) const REPLY_INTEGRITY: u32 = 702;
 
-pub(crate) const REPLY_MISMATCH: u32 = 41;
+pub(crate) const REPLY_MISMATCH: u32 = 703;
 
 // Why a text isn't opened, or a name isn't read.
-pub(crate) const TEXT_SHORT: u32 = 42;
+pub(crate) const TEXT_SHORT: u32 = 800;
 
-pub(crate) const TEXT_INTEGRITY: u32 = 43;
+pub(crate) const TEXT_INTEGRITY: u32 = 801;
 
-pub(crate) const BAD_TEXT: u32 = 44;
+pub(crate) const BAD_TEXT: u32 = 810;
 
-pub(crate) const NO_REALM: u32 = 45;
+pub(crate) const NO_REALM: u32 = 811;
 
-pub(crate) const NOT_UTF8: u32 = 47;
-
-// Why there is no error to tell.
-pub(crate) const NO_CODE: u32 = 46;
+pub(crate) const NOT_UTF8: u32 = 812;

@@ -10,8 +10,8 @@
 //! `specs/Listing` what is told of the entries of files, and `specs/Editing` what a changed keytab is.
 //!
 //! ```c
-//! fevstunik_acceptor service = {0};
-//! fevstunik_acceptor_new(&service, keytab, keytab_size, 300);
+//! fevstunik_acceptor service = FEVSTUNIK_ACCEPTOR_INIT;
+//! fevstunik_acceptor_new(&service, keytab, keytab_size, 300, name, name_size);
 //! if (fevstunik_acceptor_accept(&service, request, request_size, &now).code == FEVSTUNIK_OK)
 //!     fevstunik_acceptor_accepted(&service, &known, buffer, sizeof buffer);
 //! fevstunik_acceptor_free(&service);
@@ -33,3 +33,4 @@ mod listing;
 mod login;
 mod names;
 mod sealing;
+mod version;

@@ -1,24 +1,29 @@
-use Rattle.std.proofs.Common.{List, ◌∙◌}
+use Rattle.std.proofs.Common.{List, inr}
 use Rattle.std.specs.Prelude.{Ok, Err}
 use Rattle.krb_keytab.specs.Entry.{KeytabEntry}
 use Rattle.krb_keytab.specs.declared.fault.KeytabFault.{KeytabFault}
 use Rattle.krb_keytab.specs.declared.fault.KeytabFault.TheVariants.{OutOfMemory}
 use Rattle.krb_c.specs.Answer.{keytab_answer}
-use Rattle.krb_c.proofs.Making.{wanting, same_fault, same_value, no_fault, fresh_of}
-use Rattle.krb_c.proofs.acceptor.service.Goals as goal
+use Rattle.krb_c.proofs.Making.{is_fresh, no_fault, same_fault, same_value, wanting}
+use Rattle.krb_c.proofs.acceptor.service_of.Goals as goal
 
 pub returns-in-Err-clause-made : goal.returns-in-Err-clause-made
 returns-in-Err-clause-made c = λ entries low keytab.
-    wanting (List KeytabEntry) KeytabFault OutOfMemory keytab_answer c.keytab.result c.in-Err.fault entries c.keytab.ensures (c.in-Err.ensures.only (Ok entries) keytab)
+    inr (wanting (List KeytabEntry) KeytabFault OutOfMemory keytab_answer c.keytab.result c.in-Err.fault entries c.keytab.ensures (c.in-Err.ensures.only (Ok entries) keytab))
 
 pub returns-in-Err-clause-fault : goal.returns-in-Err-clause-fault
 returns-in-Err-clause-fault c = λ fault low faulty.
     same_fault (List KeytabEntry) KeytabFault OutOfMemory keytab_answer c.keytab.result c.in-Err.fault fault c.keytab.ensures (c.in-Err.ensures.only (Err fault) faulty)
 
+pub returns-in-Err-wanted-clause-fault : goal.returns-in-Err-wanted-clause-fault
+returns-in-Err-wanted-clause-fault c = λ fault low faulty.
+    absurd (no_fault (List KeytabEntry) KeytabFault OutOfMemory keytab_answer c.in-Ok.keytab fault (c.in-Ok.ensures.only (Err fault) faulty))
+
 pub returns-in-Ok-new-clause-made : goal.returns-in-Ok-new-clause-made
-returns-in-Ok-new-clause-made c = λ entries low keytab. c.in-Ok-new.ensures.ok ∙ fresh_of c.new-acceptor.result entries c.in-Ok.keytab c.in-Some.skew _ c.new-2.result
+returns-in-Ok-new-clause-made c = λ entries low keytab. is_fresh c.new-acceptor.result c.args.service.now entries c.in-Ok.keytab c.in-Ok-wanted.keytab c.in-Some.skew _ c.new-2.result _
     c.new-acceptor.ensures.setup c.new-acceptor.ensures.memory c.new-2.ensures.value
     (same_value (List KeytabEntry) KeytabFault OutOfMemory keytab_answer c.in-Ok.keytab entries (c.in-Ok.ensures.only (Ok entries) keytab)) c.in-Some.ensures.1
+    c.in-Ok-wanted.ensures.wanted c.in-Ok-new.ensures.ok
 
 pub returns-in-Ok-new-clause-fault : goal.returns-in-Ok-new-clause-fault
 returns-in-Ok-new-clause-fault c = λ fault low faulty.
