@@ -1,4 +1,4 @@
-"""Hands the program of the crate krb_calls_files files that tell 16 MB by a length or a count and have a few bytes (tests/drawn_files.py),
+"""Hands the program of the crate krb_calls_files files that claim 16 MB by a length or a count and have a few bytes (tests/drawn_files.py),
 and lets it have no more address space than it needs for a small file, and 512 KiB (setrlimit, as the shell's `ulimit -v`).
 
 The answer is the fault that is there: so nothing was reserved that the bytes don't bear out.
@@ -15,7 +15,7 @@ import drawn_files  # noqa: E402, I001  library makes the folder of the vectors 
 PROGRAM = library.TOP / f"crates/{drawn_files.PROGRAM}/out/{drawn_files.PROGRAM}"
 STEP = 64 * 1024
 MORE = 512 * 1024
-# Wherever it starts, the program has this at most.
+# If the program starts at all, it starts within this.
 MOST = 256 * 1024 * 1024
 SECONDS = 60
 

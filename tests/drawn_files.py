@@ -1,7 +1,7 @@
 """Draws cases of keytabs, credential caches and names, for the calls of crates/krb_calls_files (tests/library.py runs them).
 
 What is answered is worked out here: of whole files by tests/reference.py, of readers by a second walk over a source that gives a few
-bytes a read. Nothing is taken from the program's sources. Fields are asked of a source one after another; the numbers behind a
+bytes a read. Nothing is taken from the program's sources. Fields are asked of a source one after another; the numbers after a
 session key's bytes, up to the flags, at once.
 """
 import hashlib
@@ -233,7 +233,7 @@ class Entries:
 
 
 class Stop(Exception):
-    """The bytes of a part aren't there; `is_out` where the source is at its end."""
+    """The bytes of a part aren't there; `is_out` if the source is at its end."""
 
     def __init__(self, is_out):
         super().__init__()
@@ -340,7 +340,7 @@ def is_item(answer):
 
 
 def conversation(reader, calls, count):
-    """So many times these calls in turn, each followed by `held`; up to one answer behind the last."""
+    """So many times these calls in turn, each followed by `held`; up to one answer after the last."""
     lines, answers, left = [], [], 1
     for it in range(count):
         call = calls[it % len(calls)]
@@ -564,7 +564,7 @@ def other_caches():
         yield cache_case(f"a count of 4294967295 at {at}", Spelled(empty[:at] + b"\xff" * 4 + empty[at + 4 :]))
 
 
-# Sizes at which memory is taken: none of them may be answered by the want of it.
+# Sizes at which memory is taken. There is ample memory, so out of memory is a wrong answer to any of them.
 
 
 def credential_of(**parts):
@@ -759,7 +759,7 @@ CLAIMED = struct.pack(">I", 16_000_000)
 
 
 def claims():
-    """A name, and the lines and answers of a file that tells 16 MB by a length or a count, and has a few bytes."""
+    """A name, and the bytes of a file that claims 16 MB by a length or a count, and has a few bytes."""
     start, name, small = b"\5\2", fixture.principal(1, b"EX", b"alice"), b"\0" * 8
     for what, body in {"a record": CLAIMED + small, "a hole": struct.pack(">i", -16_000_000) + small}.items():
         yield what, start + body

@@ -1,10 +1,10 @@
 //! Makes the calls of names, keytabs and credential caches that the lines of standard input say, for the tests (tests/library.py).
 //!
-//! One line is answered for each: what the call gave, or `bad line` where it can't be read. Words stand behind single spaces.
+//! One line is answered for each: what the call gave, or `bad line` if it can't be read. Single spaces stand between words.
 //!
 //! BYTES are hexadecimal digits, `-` for none, `HEX*N` for HEX N times, several such joined by `+`; more than 1,024 bytes are shown as
 //! `#LENGTH:SHA256`. LIST is `.` for none, or items joined by `,`, where `ITEM^N` is ITEM N times; what is shown of more than 2,048
-//! characters stands as `#LENGTH:SHA256` of it. A name is `TYPE/REALM/LIST`, of BYTES. A text stands behind `=`, up to the line's end.
+//! characters stands as `#LENGTH:SHA256` of it. A name is `TYPE/REALM/LIST`, of BYTES. A text follows `=`, up to the line's end.
 //! SOURCE is `slice`, `reader`, `piece:N` (N bytes a read), `piece:N:K`, whose Kth read fails, or `flaky:0`, a reader that gives
 //! one byte, fails and is at its end (`flaky:1` has given it already). Faults are shown by `Debug`.
 //!
@@ -26,7 +26,7 @@
 //! cursor BYTES            u8, u16, u32, i16, i32, data16, data32, bytes COUNT, at, rest, is-at-end
 //! source SOURCE BYTES     read COUNT, source, into
 //! window SOURCE BYTES     fill COUNT, skip COUNT, run-out LIMIT, clear, bytes, held, given, source, into
-//! sink ROOM N none|K, sink vec|full|slow                  write BYTES, write-all BYTES, failures; of ROOM taken, of vec into
+//! sink ROOM N none|K, sink vec|full|slow                  write BYTES, write-lent BYTES, write-all BYTES, failures; of ROOM taken, of vec into
 //! entries SOURCE FILE     next, pass, held, failures, source, into
 //! credentials SOURCE FILE next, pass, held, failures, name, offset, source, into
 //! ```

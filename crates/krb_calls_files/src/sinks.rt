@@ -139,9 +139,19 @@ fn sink_call<S: Sink>(alloc: Global, sink: &mut S, line: &str) -> Option<String>
     let bytes = bytes_of(alloc, digits)?;
     match call {
         "write" => some_written(alloc, sink.write(&bytes)),
+        "write-lent" => some_written(alloc, write_to(&mut *sink, &bytes)),
         "write-all" => written_all(alloc, write_all(sink, &bytes)),
         _ => None,
     }
+}
+
+// Writes to a sink, which may be a lent one.
+fn write_to<S: Sink + Drop>(sink: S, bytes: &[u8]) -> Result<usize, SinkFailed> {
+    let mut sink = sink;
+    if sink.failures() == u64::MAX {
+        return Err(SinkFailed);
+    }
+    sink.write(bytes)
 }
 
 fn some_written(alloc: Global, answer: Result<usize, SinkFailed>) -> Option<String> {

@@ -8,7 +8,7 @@ pub(crate) fn tell(rt: &HostRuntime, answer: &str) -> Option<()> {
     println!(rt; "{answer}").ok()
 }
 
-/// Answers a line, by `bad line` where there is no answer.
+/// Answers a line, by `bad line` if there is no answer.
 pub(crate) fn tell_answer(rt: &HostRuntime, answer: Option<String>) -> Option<()> {
     match answer {
         Some(text) => tell(rt, text.as_str()),
@@ -18,7 +18,7 @@ pub(crate) fn tell_answer(rt: &HostRuntime, answer: Option<String>) -> Option<()
 
 /// What a line opens, and the lines after it speak to.
 pub(crate) trait Talk {
-    /// Makes a call; `None` where the line can't be read.
+    /// Makes a call; `None` if the line can't be read.
     fn call(&mut self, alloc: Global, line: &str) -> Option<String>;
 
     /// Closes it, and answers what it had.

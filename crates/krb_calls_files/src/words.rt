@@ -91,7 +91,7 @@ pub(crate) fn name_of(alloc: Global, word: &str) -> Option<Principal> {
     })
 }
 
-/// Reads the parts of an entry of a keytab, `NAME TIMESTAMP KVNO ETYPE KEY`. The inner answer is `None` where they don't fit.
+/// Reads the parts of an entry of a keytab, `NAME TIMESTAMP KVNO ETYPE KEY`. The inner answer is `None` if they don't fit.
 pub(crate) fn entry_of(alloc: Global, words: &[&str]) -> Option<Option<Entry>> {
     match *words {
         [name, timestamp, kvno, etype, key] => {
@@ -260,7 +260,7 @@ pub(crate) fn truth(alloc: Global, holds: bool) -> Option<String> {
     word(alloc, if holds { "true" } else { "false" })
 }
 
-/// Answers a text behind a `=`; one that has no room is shown as its bytes.
+/// Answers a text after a `=`; a longer one is shown as its bytes.
 pub(crate) fn quoted(alloc: Global, text: &str) -> Option<String> {
     if text.len() > SHOWN_BYTES {
         return shown(alloc, text.as_bytes());
