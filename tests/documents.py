@@ -43,6 +43,37 @@ def example_output():
     return None if wrote in blocks("docs/LIBRARY.md", "text") else "the example's output isn't there"
 
 
+# What stands around a block of C, so that it compiles.
+AROUND = """#include <stdio.h>
+#include "fevstunik.h"
+void example(const uint8_t *keytab, size_t keytab_size, const uint8_t *request, size_t request_size, fevstunik_time now);
+void example(const uint8_t *keytab, size_t keytab_size, const uint8_t *request, size_t request_size, fevstunik_time now)
+{
+%s}
+"""
+
+
+def c_code(name):
+    """Each block of C compiles by the header."""
+    found = blocks(name, "c")
+    for block in found:
+        words = ["gcc", "-std=c99", "-Wall", "-Wextra", "-Werror", "-pedantic", f"-I{TOP}/include", "-fsyntax-only", "-x", "c", "-"]
+        ran = subprocess.run(words, input=AROUND % block, capture_output=True, text=True)
+        if ran.returncode:
+            return ran.stderr[:500]
+    return None if found else "there is none"
+
+
+def python_code(name):
+    """Each block of Python is Python."""
+    try:
+        for block in blocks(name, "python"):
+            compile(block, name, "exec")
+    except SyntaxError as error:
+        return str(error)
+    return None if blocks(name, "python") else "there is none"
+
+
 def links(path):
     """The files that a document links to are there."""
     found = re.findall(r"\]\(([^)#]+)(?:#[^)]*)?\)", path.read_text())
@@ -109,6 +140,8 @@ def checks(program):
     for name in OF_THE_EXAMPLE:
         yield f"{name}: its code is the example's", code(name)
     yield "docs/LIBRARY.md: what the example prints", example_output()
+    yield "README.md: its C compiles", c_code("README.md")
+    yield "README.md: its Python is Python", python_code("README.md")
     yield "docs/PROOFS.md: what is proved has these names", names()
     yield "README.md: its length", None if len(text_of("README.md").splitlines()) <= LINES else f"more than {LINES} lines"
     for name in LAID_OUT:
