@@ -21,7 +21,7 @@ SERVICES = {19: "host/only19.example", 20: "host/web.example"}
 MIT = ["mit_client", "mit_service"]
 PROGRAMS = ["kdb5_util", "kadmin.local", "krb5kdc", "kinit", "kvno", "krb5-config.mit"]
 # What each side says of a repeat and of a ticket that the keytab doesn't open: our service its own code, the others RFC 4120's.
-REPEAT, BENT_KEY = {"our": 13, "MIT's": 34}, {"our": 8, "MIT's": 31}
+REPEAT, BENT_KEY = {"our": "FEVSTUNIK_REPEAT", "MIT's": 34}, {"our": "FEVSTUNIK_TICKET_INTEGRITY", "MIT's": 31}
 
 
 def built(folder):
