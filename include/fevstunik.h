@@ -3,28 +3,32 @@
  * Each function calls a proved function of this repository; crates/krb_c has their contracts. Link with libkrb_c.a, which `rt lib`
  * builds, and with the toolchain's liblibc_c.a, by which the library reaches malloc, realloc and free.
  *
- * What is proved of a call holds where its caller keeps to this, and nothing is promised otherwise:
- *  - A handle is all zero before its first use, as `fevstunik_acceptor handle = FEVSTUNIK_ACCEPTOR_INIT;` makes it. That is the empty handle.
- *  - A handle is never copied and never written but by these functions. It may be moved in memory between calls, not during one, and is not
- *    used again where it was. What a program gets that uses a copy, or that lets a handle overlap a buffer, isn't promised: it may free what is
- *    still in use.
- *  - A handle is used by one thread, by one call at a time. Different handles have nothing to do with each other.
+ * What is proved of a call holds if its caller keeps to this, and nothing is promised otherwise:
+ *  - A handle is empty before its first use, as `fevstunik_acceptor handle = FEVSTUNIK_ACCEPTOR_INIT;` makes it: all zero.
+ *  - A handle is never copied, and only these functions write it. It may be moved in memory between calls, not during one, and
+ *    is not used again at its old place. A program that uses a copy, or that lets a handle overlap a buffer, may free memory
+ *    that is still in use.
+ *  - Any thread may make a call, but only one call at a time uses a handle: put a lock around calls that share one, and around
+ *    calls that belong together, as fevstunik_acceptor_accept and fevstunik_acceptor_accepted. Two handles share nothing, in
+ *    one process or in two; after a fork the child's copy of a handle is a copy, and isn't used.
  *  - Pointers are valid and never NULL, also those to no bytes: hand in any valid pointer with size 0.
  *  - What a call writes (its handle, its buffer, its other results) overlaps nothing else that is handed to that call.
  *  - A bool is 0 or 1. Sizes are at most PTRDIFF_MAX.
  *  - malloc, realloc and free are of one allocator, and aligned as C asks.
  * No function is called from a signal handler, or from the child of a fork of a process with threads.
  *
- * The library keeps no state but in handles, reads no clock and no random numbers, and writes nothing anywhere. Keys aren't wiped from
- * memory that is let go of, and nothing is promised of how long a call takes.
+ * The library keeps no state but in handles, reads no clock and no random numbers, and writes nothing anywhere. Keys aren't
+ * wiped from memory that is freed, and nothing is promised about how long a call takes.
  *
- * Whatever is handed in stays the caller's: no function keeps a pointer to it, or frees it. What a handle holds the library has allocated,
- * and fevstunik_acceptor_free frees it; nothing else is there for the caller to free. Files have at most 16,777,216 bytes, and requests,
- * replies and errors at most 1,048,576: what is longer is answered as a fault. Other sizes have no limit but memory's, where none is named.
+ * Whatever is handed in stays the caller's: no function keeps a pointer to it, or frees it. What a handle holds the library has
+ * allocated, and fevstunik_acceptor_free frees it; the caller has nothing else to free. Files have at most 16,777,216 bytes,
+ * and requests, replies and errors at most 1,048,576: anything longer is a fault. Other sizes are limited by memory alone,
+ * unless a limit is named.
  *
- * Bytes that a function answers stand at the front of the caller's buffer, and the rest of the buffer stays as it is. Where the buffer is
- * too short the code is FEVSTUNIK_SHORT_BUFFER, `size` says how many bytes are needed, and the buffer stays: the call may be made again
- * with a longer one. A call without a handle may be made with no buffer first, to learn the size.
+ * A function that returns bytes writes them to the front of the caller's buffer, and leaves the rest of the buffer as it is. If
+ * the buffer is too short the code is FEVSTUNIK_SHORT_BUFFER, `size` is the number of bytes that are needed, and the buffer is
+ * left as it is: the call may be made again with a longer one. A call without a handle may be made with a short buffer first,
+ * to learn the size.
  */
 #ifndef FEVSTUNIK_H
 #define FEVSTUNIK_H
@@ -240,7 +244,7 @@ static inline const char *fevstunik_code_text(uint32_t code)
 typedef struct fevstunik_answer {
     uint32_t code;    /* a fevstunik_code */
     int32_t kerberos; /* the error code of RFC 4120, section 7.5.9, that goes with it */
-    size_t at;        /* where a fault is, in bytes from the start of what was handed in */
+    size_t at;        /* the place of a fault, in bytes from the start of what was handed in */
     size_t size;      /* how many bytes were written, or are needed */
 } fevstunik_answer;
 
@@ -273,7 +277,7 @@ typedef struct fevstunik_known {
     int32_t session_type;       /* the encryption type of the session key: 19 or 20 */
     int32_t subkey_type;        /* the encryption type of the client's subkey, or 0; any type */
     bool has_subkey;            /* whether the client chose a subkey */
-    bool has_seq;               /* whether it told a sequence number */
+    bool has_seq;               /* whether it chose a sequence number */
     bool wants_reply;           /* whether it asks for a reply */
 } fevstunik_known;
 
@@ -287,14 +291,14 @@ typedef struct fevstunik_agreement {
     int32_t session_type;          /* the encryption type of the session key: 19 or 20 */
     int32_t service_subkey_type;   /* the encryption type of the service's subkey, or 0; any type */
     bool has_service_subkey;       /* whether the service chose a subkey */
-    bool has_service_seq;          /* whether it told a sequence number */
+    bool has_service_seq;          /* whether it chose a sequence number */
 } fevstunik_agreement;
 
 /* What a side chooses for its message. */
 typedef struct fevstunik_choice {
     int32_t subkey_type; /* the encryption type of its subkey, 19 or 20, or 0 for no subkey */
     uint32_t seq;        /* its first sequence number */
-    bool has_seq;        /* whether it tells the number */
+    bool has_seq;        /* whether it sends the number */
     bool wants_reply;    /* whether a client asks for a reply; not looked at by a service */
 } fevstunik_choice;
 
@@ -319,9 +323,9 @@ typedef struct fevstunik_key_parts {
 /* A credential of a cache. The spans are places in the buffer that was handed in beside it. */
 typedef struct fevstunik_cache_entry {
     fevstunik_span client; /* whose ticket it is, as text */
-    fevstunik_span server; /* for which service, as text; of realm X-CACHECONF: where it is a configuration entry */
+    fevstunik_span server; /* for which service, as text; its realm is X-CACHECONF: if it is a configuration entry */
     fevstunik_span key;    /* the session key */
-    fevstunik_span ticket; /* the bytes of the ticket, or what a configuration entry tells */
+    fevstunik_span ticket; /* the bytes of the ticket, or the value of a configuration entry */
     uint32_t authtime;     /* when the client was authenticated, in seconds */
     uint32_t starttime;    /* when the ticket begins, in seconds, or 0 */
     uint32_t endtime;      /* when it ends, in seconds */
@@ -339,7 +343,7 @@ typedef struct fevstunik_owner {
     int32_t name_type;      /* the type of its name */
     int32_t offset_seconds; /* the KDC's clock offset in seconds, or 0 */
     int32_t offset_micros;  /* and the microseconds of it */
-    bool has_offset;        /* whether the cache tells an offset */
+    bool has_offset;        /* whether the cache has an offset */
 } fevstunik_owner;
 
 /* A service that takes requests: opaque, and all zero before its first use. */
@@ -352,7 +356,7 @@ typedef struct fevstunik_acceptor {
 
 /* ---- files ---- */
 
-/* Looks whether the bytes of a file are a keytab of version 0x0502. `size` is how many entries it has.
+/* Checks that the bytes of a file are a keytab of version 0x0502. `size` is the number of its entries.
  *
  * FEVSTUNIK_OK; FEVSTUNIK_TOO_LONG, _FILE_VERSION, _FILE_TRUNCATED, _FILE_BAD_ITEM; FEVSTUNIK_OUT_OF_MEMORY.
  *
@@ -360,8 +364,8 @@ typedef struct fevstunik_acceptor {
  */
 fevstunik_answer fevstunik_keytab_check(const uint8_t *keytab, size_t keytab_size);
 
-/* Looks whether the bytes of a file are a credential cache of version 0x0504. `size` is how many credentials it has, configuration
- * entries among them.
+/* Checks that the bytes of a file are a credential cache of version 0x0504. `size` is the number of its credentials, with its
+ * configuration entries.
  *
  * FEVSTUNIK_OK; FEVSTUNIK_TOO_LONG, _FILE_VERSION, _FILE_HEADER, _FILE_BAD_ITEM; FEVSTUNIK_OUT_OF_MEMORY.
  *
@@ -369,8 +373,8 @@ fevstunik_answer fevstunik_keytab_check(const uint8_t *keytab, size_t keytab_siz
  */
 fevstunik_answer fevstunik_cache_check(const uint8_t *cache, size_t cache_size);
 
-/* Tells the entry of an index, counted from 0, of a keytab: in the buffer its name's text and its key, one after another, and in `entry`
- * where they stand, and the numbers. `entry` is written also where the buffer is too short. The whole file is read for each call.
+/* Reads the entry of an index, counted from 0, of a keytab. The buffer gets its name's text and its key, one after the other,
+ * and `entry` their places and the numbers. `entry` is written even if the buffer is too short. Each call reads the whole file.
  *
  * FEVSTUNIK_TOO_LONG, _FILE_VERSION, _FILE_TRUNCATED, _FILE_BAD_ITEM; FEVSTUNIK_NO_SUCH_ENTRY; FEVSTUNIK_OUT_OF_MEMORY; and nothing is
  * written. FEVSTUNIK_OK; FEVSTUNIK_SHORT_BUFFER.
@@ -380,9 +384,9 @@ fevstunik_answer fevstunik_cache_check(const uint8_t *cache, size_t cache_size);
 fevstunik_answer fevstunik_keytab_entry(const uint8_t *keytab, size_t keytab_size, size_t index, fevstunik_key_entry *entry,
                                         uint8_t *buffer, size_t buffer_size);
 
-/* Tells the credential of an index, counted from 0, of a cache: in the buffer its client's and its service's text, its session key and its
- * ticket, one after another, and in `credential` where they stand, and the numbers. `credential` is written also where the buffer is too
- * short. Addresses, authorization data and a second ticket aren't told. The whole file is read for each call.
+/* Reads the credential of an index, counted from 0, of a cache. The buffer gets its client's and its service's text, its session
+ * key and its ticket, one after the other, and `credential` their places and the numbers. `credential` is written even if the
+ * buffer is too short. Addresses, authorization data and a second ticket aren't handed out. Each call reads the whole file.
  *
  * FEVSTUNIK_TOO_LONG, _FILE_VERSION, _FILE_HEADER, _FILE_BAD_ITEM; FEVSTUNIK_NO_SUCH_ENTRY; FEVSTUNIK_OUT_OF_MEMORY; and nothing is
  * written. FEVSTUNIK_OK; FEVSTUNIK_SHORT_BUFFER.
@@ -392,8 +396,8 @@ fevstunik_answer fevstunik_keytab_entry(const uint8_t *keytab, size_t keytab_siz
 fevstunik_answer fevstunik_cache_credential(const uint8_t *cache, size_t cache_size, size_t index, fevstunik_cache_entry *credential,
                                             uint8_t *buffer, size_t buffer_size);
 
-/* Tells whose cache it is: in the buffer the default principal's text, and in `owner` the numbers, with the KDC's clock offset, if the cache
- * tells one. `owner` is written also where the buffer is too short.
+/* Reads whose cache it is. The buffer gets the default principal's text, and `owner` its place and the numbers, with the KDC's
+ * clock offset, if the cache has one. `owner` is written even if the buffer is too short.
  *
  * FEVSTUNIK_TOO_LONG, _FILE_VERSION, _FILE_HEADER, _FILE_BAD_ITEM; FEVSTUNIK_OUT_OF_MEMORY; and nothing is written. FEVSTUNIK_OK;
  * FEVSTUNIK_SHORT_BUFFER.
@@ -403,11 +407,11 @@ fevstunik_answer fevstunik_cache_credential(const uint8_t *cache, size_t cache_s
 fevstunik_answer fevstunik_cache_owner(const uint8_t *cache, size_t cache_size, fevstunik_owner *owner, uint8_t *buffer,
                                        size_t buffer_size);
 
-/* Adds an entry to a keytab, and answers the bytes of the new file. `name` is the name's text, `key` the key's bytes, of any type. The first
- * hole that is long enough takes the entry; where there is none the entry stands behind the last record, in place of the end word (a
- * record's size of 0), and the bytes behind an end word are lost. The bytes 05 02 are an empty keytab.
+/* Adds an entry to a keytab, and returns the bytes of the new file. `name` is the name's text, `key` the key's bytes, of any
+ * type. The first hole that is long enough takes the entry; if there is none the entry comes after the last record, in place of
+ * the end word (a record's size of 0), and the bytes after an end word are lost. The bytes 05 02 are an empty keytab.
  *
- * The first that holds: FEVSTUNIK_NOT_UTF8, _BAD_TEXT and _NO_REALM for the name; FEVSTUNIK_TOO_LONG where the name has a part of more
+ * The first that holds: FEVSTUNIK_NOT_UTF8, _BAD_TEXT and _NO_REALM for the name; FEVSTUNIK_TOO_LONG if the name has a part of more
  * than 65,535 bytes or more parts than that, or the key more bytes; FEVSTUNIK_TOO_LONG, _FILE_VERSION, _FILE_TRUNCATED, _FILE_BAD_ITEM
  * for the keytab; FEVSTUNIK_TOO_LONG for the new file; or FEVSTUNIK_OUT_OF_MEMORY; and nothing is written. FEVSTUNIK_OK;
  * FEVSTUNIK_SHORT_BUFFER.
@@ -418,8 +422,8 @@ fevstunik_answer fevstunik_cache_owner(const uint8_t *cache, size_t cache_size, 
 fevstunik_answer fevstunik_keytab_add(const uint8_t *keytab, size_t keytab_size, const uint8_t *name, size_t name_size, const uint8_t *key,
                                       size_t key_size, const fevstunik_key_parts *parts, uint8_t *buffer, size_t buffer_size);
 
-/* Removes the entry of an index, counted from 0, and answers the bytes of the new file, which are as many: the entry's record has become a
- * hole of zeros, and all else is as it was.
+/* Removes the entry of an index, counted from 0, and returns the bytes of the new file, which are as many: the entry's record
+ * becomes a hole of zeros, and all else is as it was.
  *
  * FEVSTUNIK_TOO_LONG, _FILE_VERSION, _FILE_TRUNCATED, _FILE_BAD_ITEM; FEVSTUNIK_NO_SUCH_ENTRY; FEVSTUNIK_OUT_OF_MEMORY; and nothing is
  * written. FEVSTUNIK_OK; FEVSTUNIK_SHORT_BUFFER.
@@ -428,10 +432,10 @@ fevstunik_answer fevstunik_keytab_add(const uint8_t *keytab, size_t keytab_size,
  */
 fevstunik_answer fevstunik_keytab_remove(const uint8_t *keytab, size_t keytab_size, size_t index, uint8_t *buffer, size_t buffer_size);
 
-/* Answers the bytes of a new file of a keytab's entries, in their order: without holes and what stands behind the end, and with the version
- * number of 32 bits behind each key.
+/* Returns the bytes of a new file of a keytab's entries, in their order: without holes and bytes after the end word, and with
+ * the version number of 32 bits after each key.
  *
- * FEVSTUNIK_TOO_LONG (also where the new file would be), _FILE_VERSION, _FILE_TRUNCATED, _FILE_BAD_ITEM; FEVSTUNIK_OUT_OF_MEMORY; and
+ * FEVSTUNIK_TOO_LONG (also if the new file would be), _FILE_VERSION, _FILE_TRUNCATED, _FILE_BAD_ITEM; FEVSTUNIK_OUT_OF_MEMORY; and
  * nothing is written. FEVSTUNIK_OK; FEVSTUNIK_SHORT_BUFFER.
  *
  *     answer = fevstunik_keytab_write(file, file_size, buffer, sizeof buffer);
@@ -440,9 +444,9 @@ fevstunik_answer fevstunik_keytab_write(const uint8_t *keytab, size_t keytab_siz
 
 /* ---- names ---- */
 
-/* Looks whether a text is that of a name, as host/web@EX: components with `/` between each two, `@` and a realm, where a backslash stands
- * before each `/`, `@` and backslash of a part, and each byte that isn't printable is `\x` and two digits in lower case. `size` is how many
- * components the name has. A name has one text only.
+/* Checks that a text is that of a name, as host/web@EX: components with `/` between each two, `@` and a realm. A backslash comes
+ * before each `/`, `@` and backslash of a part, and a byte that isn't printable is `\x` and two digits in lower case. `size` is
+ * the number of components. A name has one text only.
  *
  * FEVSTUNIK_OK; FEVSTUNIK_NOT_UTF8; FEVSTUNIK_BAD_TEXT, with the offset in `at`; FEVSTUNIK_NO_REALM; FEVSTUNIK_OUT_OF_MEMORY.
  *
@@ -478,11 +482,13 @@ fevstunik_answer fevstunik_acceptor_new(fevstunik_acceptor *handle, const uint8_
 /* Decides whether a request (the bytes of an AP-REQ) is accepted at a moment of the service's clock, and remembers what has to be
  * remembered of it. Time doesn't go back: what counts is the latest moment that was handed in so far.
  *
- * What is accepted is kept until the next call of this function: fevstunik_acceptor_accepted tells it, and fevstunik_acceptor_reply
- * replies to it. So is why a request is refused: fevstunik_acceptor_error tells it to the client. Only one of the two is there.
+ * The handle keeps what is accepted until the next call of this function: fevstunik_acceptor_accepted hands it out, and
+ * fevstunik_acceptor_reply replies to it. Threads that share a handle hold one lock around these calls: otherwise the next
+ * request's client is handed out. The handle keeps why a request is refused as well: fevstunik_acceptor_error makes an error of
+ * it for the client. Only one of the two is there.
  *
  * FEVSTUNIK_BAD_MOMENT; FEVSTUNIK_EMPTY_HANDLE; FEVSTUNIK_OK; a cause from FEVSTUNIK_MESSAGE_TYPE to FEVSTUNIK_AUTHORIZATION;
- * FEVSTUNIK_OUT_OF_MEMORY. With FEVSTUNIK_BAD_MOMENT nothing is told as accepted or refused any more, and with it and with
+ * FEVSTUNIK_OUT_OF_MEMORY. With FEVSTUNIK_BAD_MOMENT nothing is accepted or refused any more, and with it and with
  * FEVSTUNIK_OUT_OF_MEMORY what is remembered and the latest moment are as before.
  *
  *     fevstunik_time now = {1700000101, 0};
@@ -491,13 +497,13 @@ fevstunik_answer fevstunik_acceptor_new(fevstunik_acceptor *handle, const uint8_
 fevstunik_answer fevstunik_acceptor_accept(fevstunik_acceptor *handle, const uint8_t *request, size_t request_size,
                                            const fevstunik_time *now);
 
-/* Tells what the last call of fevstunik_acceptor_accept accepted: in the buffer the client's text, the session key, the client's subkey
- * and the service's text, one after another, and in `known` where they stand, and the numbers. `known` is written also where the buffer
- * is too short.
+/* Hands out what the last call of fevstunik_acceptor_accept accepted. The buffer gets the client's text, the session key, the
+ * client's subkey and the service's text, one after the other, and `known` their places and the numbers. `known` is written even
+ * if the buffer is too short.
  *
  * `service`, `client`, `ctime` and `cusec` are what the request is remembered by. (The types of names don't count; and a name without
  * components has the same text as one with a single empty component, though they are two names.) The ticket's addresses were compared
- * with nothing; they, authorization data and the checksum aren't told.
+ * with nothing; they, authorization data and the checksum aren't handed out.
  *
  * FEVSTUNIK_EMPTY_HANDLE, FEVSTUNIK_NOTHING_THERE and FEVSTUNIK_OUT_OF_MEMORY, and nothing is written; FEVSTUNIK_OK;
  * FEVSTUNIK_SHORT_BUFFER.
@@ -511,7 +517,7 @@ fevstunik_answer fevstunik_acceptor_accepted(fevstunik_acceptor *handle, fevstun
 
 /* Builds the reply (the bytes of an AP-REP) to what the last call of fevstunik_acceptor_accept accepted. It is for a request whose
  * `wants_reply` is true, at which it doesn't look. `confounder` is 16 random bytes, new for each call. `subkey` has the bytes of the
- * subkey whose type `choice` tells; where that is 0 they aren't looked at.
+ * subkey whose type is in `choice`; if that is 0 they aren't looked at.
  *
  * The first that holds: FEVSTUNIK_EMPTY_HANDLE, FEVSTUNIK_NOTHING_THERE; FEVSTUNIK_BAD_CONFOUNDER; FEVSTUNIK_KEY_TYPE and _KEY_LENGTH for
  * the subkey; or FEVSTUNIK_OUT_OF_MEMORY; and nothing is written. FEVSTUNIK_OK; FEVSTUNIK_SHORT_BUFFER. A reply has fewer than 256 bytes.
@@ -524,7 +530,7 @@ fevstunik_answer fevstunik_acceptor_reply(fevstunik_acceptor *handle, const uint
                                           const fevstunik_choice *choice, const uint8_t *subkey, size_t subkey_size, uint8_t *buffer,
                                           size_t buffer_size);
 
-/* Builds the error (the bytes of a KRB-ERROR) that tells why the last call of fevstunik_acceptor_accept refused a request. `service` has the
+/* Builds the error (the bytes of a KRB-ERROR) that says why the last call of fevstunik_acceptor_accept refused a request. `service` has the
  * service's name as text, as host/web@EX, `name_type` is the type of that name (RFC 4120, section 6.2; 3 for a service on a host), and
  * `now` is the service's time. The error has these and the refusal's code, and nothing else. It isn't sealed: anyone could have written it.
  *
@@ -538,14 +544,26 @@ fevstunik_answer fevstunik_acceptor_reply(fevstunik_acceptor *handle, const uint
 fevstunik_answer fevstunik_acceptor_error(fevstunik_acceptor *handle, const uint8_t *service, size_t service_size, int32_t name_type,
                                           const fevstunik_time *now, uint8_t *buffer, size_t buffer_size);
 
-/* Counts the requests that are remembered; none where the handle is empty. The handle stays as it is. It has no error.
+/* Builds the error (the bytes of a KRB-ERROR) of a cause from its code alone, as fevstunik_acceptor_accept answered it: no handle
+ * is needed, and no other request's cause can come into it. `service`, `name_type` and `now` are as for fevstunik_acceptor_error.
+ *
+ * The first that holds: FEVSTUNIK_NO_CODE if `code` is no cause's; FEVSTUNIK_NOT_UTF8, _BAD_TEXT and _NO_REALM for the service;
+ * FEVSTUNIK_BAD_MOMENT; FEVSTUNIK_TOO_LONG; or FEVSTUNIK_OUT_OF_MEMORY; and nothing is written. FEVSTUNIK_OK;
+ * FEVSTUNIK_SHORT_BUFFER.
+ *
+ *     answer = fevstunik_error(answer.code, (const uint8_t *)"host/web@EX", 11, 3, &now, buffer, sizeof buffer);
+ */
+fevstunik_answer fevstunik_error(uint32_t code, const uint8_t *service, size_t service_size, int32_t name_type,
+                                 const fevstunik_time *now, uint8_t *buffer, size_t buffer_size);
+
+/* Returns the number of requests that are remembered: none if the handle is empty. The handle stays as it is. It has no error.
  *
  *     printf("%zu remembered\n", fevstunik_acceptor_count(&service));
  */
 size_t fevstunik_acceptor_count(fevstunik_acceptor *handle);
 
-/* Tells the greatest moment that was handed in to fevstunik_acceptor_accept so far, by which the service decides. Calls that were answered
- * by want of memory, or by a moment that is none, don't count. The handle stays as it is.
+/* Reads the latest moment that was handed in to fevstunik_acceptor_accept so far, by which the service decides. Calls that were
+ * answered OUT_OF_MEMORY or BAD_MOMENT don't count. The handle stays as it is.
  *
  * FEVSTUNIK_EMPTY_HANDLE and FEVSTUNIK_NOTHING_THERE, and nothing is written; FEVSTUNIK_OK.
  *
@@ -565,7 +583,7 @@ void fevstunik_acceptor_free(fevstunik_acceptor *handle);
 /* Builds a request (the bytes of an AP-REQ) for a service with the first credential of a cache that fits: a ticket of the cache's default
  * principal for the service whose session key is usable, and that ends later than `at`, the client's clock. `cache` has the bytes of a
  * file of version 0x0504, `service` the service's name as text, as host/web@EX. `confounder` is 16 random bytes, new for each call.
- * `subkey` has the bytes of the subkey whose type `choice` tells; where that is 0 they aren't looked at.
+ * `subkey` has the bytes of the subkey whose type is in `choice`; if that is 0 they aren't looked at.
  *
  * The first that holds: FEVSTUNIK_FILE_VERSION, _FILE_HEADER, _FILE_BAD_ITEM and _TOO_LONG for the cache; FEVSTUNIK_NOT_UTF8, _BAD_TEXT and
  * _NO_REALM for the service; FEVSTUNIK_BAD_MOMENT; FEVSTUNIK_BAD_CONFOUNDER; FEVSTUNIK_KEY_TYPE and _KEY_LENGTH;
@@ -583,13 +601,13 @@ fevstunik_answer fevstunik_request(const uint8_t *cache, size_t cache_size, cons
                                    const fevstunik_choice *choice, const uint8_t *subkey, size_t subkey_size, uint8_t *buffer,
                                    size_t buffer_size);
 
-/* Reads the reply (the bytes of an AP-REP) to the request that fevstunik_request builds of the same cache, service, moment and choice, and
- * tells what both sides agree on: in the buffer the client's text, the session key and the service's subkey, one after another, and in
- * `agreement` where they stand, and the numbers. `agreement` is written also where the buffer is too short.
+/* Reads the reply (the bytes of an AP-REP) to the request that fevstunik_request builds of the same cache, service, moment and
+ * choice, and hands out what both sides agree on. The buffer gets the client's text, the session key and the service's subkey,
+ * one after the other, and `agreement` their places and the numbers. `agreement` is written even if the buffer is too short.
  *
  * The first that holds: FEVSTUNIK_FILE_VERSION, _FILE_HEADER, _FILE_BAD_ITEM and _TOO_LONG for the cache; FEVSTUNIK_NOT_UTF8, _BAD_TEXT and
  * _NO_REALM for the service; FEVSTUNIK_BAD_MOMENT; FEVSTUNIK_KEY_TYPE and _KEY_LENGTH; FEVSTUNIK_NO_CREDENTIAL, _NO_USABLE_KEY,
- * _CREDENTIAL_EXPIRED, _BAD_TICKET and _TOO_LONG, where there is no such request; FEVSTUNIK_REPLY_TYPE, _REPLY_MALFORMED, _REPLY_INTEGRITY,
+ * _CREDENTIAL_EXPIRED, _BAD_TICKET and _TOO_LONG, if there is no such request; FEVSTUNIK_REPLY_TYPE, _REPLY_MALFORMED, _REPLY_INTEGRITY,
  * _REPLY_MISMATCH; or FEVSTUNIK_OUT_OF_MEMORY; and nothing is written. FEVSTUNIK_OK; FEVSTUNIK_SHORT_BUFFER.
  *
  *     fevstunik_agreement agreement;
@@ -614,7 +632,7 @@ fevstunik_answer fevstunik_finish(const uint8_t *cache, size_t cache_size, const
 fevstunik_answer fevstunik_seal(int32_t key_type, const uint8_t *key, size_t key_size, uint32_t usage, const uint8_t *confounder,
                                 size_t confounder_size, const uint8_t *plain, size_t plain_size, uint8_t *buffer, size_t buffer_size);
 
-/* Opens a text that was sealed under a key for a usage, and answers the plain text.
+/* Opens a text that was sealed under a key for a usage, and returns the plain text.
  *
  * The first that holds: FEVSTUNIK_KEY_TYPE, FEVSTUNIK_KEY_LENGTH; FEVSTUNIK_TEXT_SHORT, FEVSTUNIK_TEXT_INTEGRITY; or
  * FEVSTUNIK_OUT_OF_MEMORY; and nothing is written. FEVSTUNIK_OK; FEVSTUNIK_SHORT_BUFFER.
@@ -624,7 +642,7 @@ fevstunik_answer fevstunik_seal(int32_t key_type, const uint8_t *key, size_t key
 fevstunik_answer fevstunik_open(int32_t key_type, const uint8_t *key, size_t key_size, uint32_t usage, const uint8_t *text,
                                 size_t text_size, uint8_t *buffer, size_t buffer_size);
 
-/* Answers the checksum of a text under a key for a usage: 16 bytes (type 19) or 24 (type 20). It takes no memory.
+/* Returns the checksum of a text under a key for a usage: 16 bytes (type 19) or 24 (type 20). It takes no memory.
  *
  * FEVSTUNIK_KEY_TYPE and FEVSTUNIK_KEY_LENGTH, and nothing is written; FEVSTUNIK_OK; FEVSTUNIK_SHORT_BUFFER.
  *
@@ -634,9 +652,9 @@ fevstunik_answer fevstunik_open(int32_t key_type, const uint8_t *key, size_t key
 fevstunik_answer fevstunik_checksum(int32_t key_type, const uint8_t *key, size_t key_size, uint32_t usage, const uint8_t *text,
                                     size_t text_size, uint8_t *buffer, size_t buffer_size);
 
-/* Looks whether a tag is the whole checksum of a text under a key for a usage. It takes no memory.
+/* Checks that a tag is the whole checksum of a text under a key for a usage. It takes no memory.
  *
- * FEVSTUNIK_KEY_TYPE, FEVSTUNIK_KEY_LENGTH; FEVSTUNIK_OK where it is; FEVSTUNIK_TEXT_INTEGRITY where it isn't.
+ * FEVSTUNIK_KEY_TYPE, FEVSTUNIK_KEY_LENGTH; FEVSTUNIK_OK if it is; FEVSTUNIK_TEXT_INTEGRITY if it isn't.
  *
  *     if (fevstunik_checksum_check(20, key, 32, 1025, text, text_size, tag, 24).code == FEVSTUNIK_OK) ...
  */

@@ -45,8 +45,11 @@ def request(of, authenticator=None):
 
 
 def for_another_service():
-    """A request to a service of one part, in which there is a slash, under a name of another type."""
-    return request(ticket(service=(b"a/b",), name_type=1))
+    """A request to a service of one part, in which there is a slash. The types of both names are negative, the ticket has flags, and the
+    sequence number is 0."""
+    part = replaced(der.ticket_part(), b"\x03\x05\x00\x00\x00\x00\x00", b"\x03\x05\x00\x40\x61\x00\x00")
+    part = replaced(part, der.name(1, b"alice"), der.name(-7, b"alice"))
+    return request(ticket(part, service=(b"a/b",), name_type=-3), der.authenticator(number=0))
 
 
 def refused():

@@ -7,11 +7,11 @@
 #include "sources.h"
 
 /* Tells the client why it is refused. */
-static void refuse(fevstunik_acceptor *service, const char *name, int to, fevstunik_answer why)
+static void refuse(const char *name, int to, fevstunik_answer why)
 {
     fevstunik_time now = clock_now();
     uint8_t error[4096];
-    fevstunik_answer answer = fevstunik_acceptor_error(service, (const uint8_t *)name, strlen(name), 3, &now, error, sizeof error);
+    fevstunik_answer answer = fevstunik_error(why.code, (const uint8_t *)name, strlen(name), 3, &now, error, sizeof error);
 
     printf("refused %s\n", fevstunik_code_name(why.code));
     if (answer.code == FEVSTUNIK_OK)
@@ -66,7 +66,7 @@ static void serve(fevstunik_acceptor *service, const char *name, int peer)
     if (answer.code == FEVSTUNIK_OK)
         converse(service, peer);
     else
-        refuse(service, name, peer, answer);
+        refuse(name, peer, answer);
 }
 
 int main(int count, char **words)

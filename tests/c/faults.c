@@ -184,6 +184,10 @@ static void is_refused(const char *what, const uint8_t *request, size_t size, un
               FEVSTUNIK_TOO_LONG, 0, 0, 0);
     is("an error", fevstunik_acceptor_error(&service, long_name + LONG_NAME - 1, 4, 3, &sent, buffer, sizeof buffer).code, FEVSTUNIK_OK);
     is("its code", buffer[42], kerberos);
+    memset(buffer, 0, sizeof buffer);
+    is_answer("a long name", fevstunik_error(code, long_name, sizeof long_name, 3, &sent, buffer, sizeof buffer), FEVSTUNIK_TOO_LONG, 0, 0, 0);
+    is("an error by code", fevstunik_error(code, long_name + LONG_NAME - 1, 4, 3, &sent, buffer, sizeof buffer).code, FEVSTUNIK_OK);
+    is("its code then", buffer[42], kerberos);
     fevstunik_acceptor_free(&service);
 }
 

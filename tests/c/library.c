@@ -144,6 +144,35 @@ static fevstunik_answer error_of(fevstunik_acceptor *service, const char *name, 
     return fevstunik_acceptor_error(service, (const uint8_t *)name, strlen(name), 3, &now, buffer, room);
 }
 
+static fevstunik_answer error_by(uint32_t code, const char *name, fevstunik_time now, size_t room)
+{
+    return fevstunik_error(code, (const uint8_t *)name, strlen(name), 3, &now, buffer, room);
+}
+
+/* So is the error of a cause that is known by its code alone; other codes have none. */
+static void codes_errors(fevstunik_time now)
+{
+    uint32_t code;
+    int errors = 0;
+
+    is_answer("error by code", error_by(FEVSTUNIK_SKEW, "host/web@EX", now, sizeof buffer), FEVSTUNIK_OK, 0, 0, error.size);
+    is_bytes("error by code", buffer, error.at, error.size);
+    is_answer("error by another", error_by(FEVSTUNIK_REPEAT, "host/web@EX", now, sizeof buffer), FEVSTUNIK_OK, 0, 0, error.size);
+    is("another's code", buffer[42], 34);
+    for (code = 0; code < 1000; code++)
+        if (error_by(code, "host/web@EX", now, sizeof buffer).code == FEVSTUNIK_OK)
+            errors++;
+    is("causes", errors, 17);
+    memset(buffer, 0xaa, sizeof buffer);
+    is_answer("short by code", error_by(FEVSTUNIK_SKEW, "host/web@EX", now, error.size - 1), FEVSTUNIK_SHORT_BUFFER, 0, 0, error.size);
+    is_answer("no cause's code", error_by(FEVSTUNIK_OUT_OF_MEMORY, "host/web", now, sizeof buffer), FEVSTUNIK_NO_CODE, 0, 0, 0);
+    is("not written", buffer[0], 0xaa);
+    is_answer("code without a realm", error_by(FEVSTUNIK_SKEW, "host/web", now, sizeof buffer), FEVSTUNIK_NO_REALM, 0, 0, 0);
+    is_answer("code of a bad name", error_by(FEVSTUNIK_SKEW, "a@b@c", now, sizeof buffer), FEVSTUNIK_BAD_TEXT, 0, 3, 0);
+    is_answer("code of bytes", error_by(FEVSTUNIK_SKEW, "\xff@EX", now, sizeof buffer), FEVSTUNIK_NOT_UTF8, 0, 0, 0);
+    is_answer("code at no moment", error_by(FEVSTUNIK_SKEW, "host/web@EX", moment(0, 1000000), sizeof buffer), FEVSTUNIK_BAD_MOMENT, 0, 0, 0);
+}
+
 /* The error of a refusal is the fixture's, to the byte, with its code at the byte 42; and why there is none. */
 static void errors(void)
 {
@@ -164,6 +193,7 @@ static void errors(void)
     is_answer("another type", fevstunik_acceptor_accept(&service, reply.at, reply.size, &now), FEVSTUNIK_MESSAGE_TYPE, 40, 0, 0);
     is_answer("its error", error_of(&service, "host/web@EX", now, sizeof buffer), FEVSTUNIK_OK, 0, 0, error.size);
     is("its code", buffer[42], 40);
+    codes_errors(now);
     is_answer("error without a realm", error_of(&service, "host/web", now, sizeof buffer), FEVSTUNIK_NO_REALM, 0, 0, 0);
     is_answer("error of a bad name", error_of(&service, "a@b@c", now, sizeof buffer), FEVSTUNIK_BAD_TEXT, 0, 3, 0);
     is_answer("error of bytes", error_of(&service, "\xff@EX", now, sizeof buffer), FEVSTUNIK_NOT_UTF8, 0, 0, 0);
@@ -438,7 +468,12 @@ static void another_service(void)
     is("at", (long long)known.service.at, 24);
     is("size", (long long)known.service.size, 7);
     is_bytes("service", buffer + 24, "a\\/b@EX", 7);
-    is("type", known.service_type, 1);
+    is("service type", known.service_type, -3);
+    is("name type", known.name_type, -7);
+    is("flags", known.flags, 0x40610000);
+    is("authtime", known.authtime, 1700000000);
+    is("numbered", known.has_seq, 1);
+    is("number", known.seq, 0);
     is_answer("the fixture's", fevstunik_acceptor_accept(&service, request.at, request.size, &now), FEVSTUNIK_OK, 0, 0, 0);
     is_answer("told then", fevstunik_acceptor_accepted(&service, &known, buffer, sizeof buffer), FEVSTUNIK_OK, 0, 0, 35);
     is_bytes("its service", buffer + known.service.at, "host/web@EX", 11);

@@ -74,6 +74,11 @@ static fevstunik_answer replying(void)
     return fevstunik_acceptor_reply(&service, cache.at, 16, &keyed, cache.at, 16, buffer, sizeof buffer);
 }
 
+static fevstunik_answer refusing_by_code(void)
+{
+    return fevstunik_error(FEVSTUNIK_REPEAT, service_name, 11, 3, &now, buffer, sizeof buffer);
+}
+
 static fevstunik_answer refusing(void)
 {
     return fevstunik_acceptor_error(&service, service_name, 11, 3, &now, buffer, sizeof buffer);
@@ -286,6 +291,7 @@ int main(int count, char **words)
     is_told("reply", replying);
     is_at("a repeat", 0, accepting().code, FEVSTUNIK_REPEAT);
     is_told("error", refusing);
+    is_told("error by code", refusing_by_code);
     fevstunik_acceptor_free(&service);
     is_at("freed", 0, held, 0);
     is_told("request", asking);

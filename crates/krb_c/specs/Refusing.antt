@@ -10,7 +10,7 @@ use Rattle.krb_ap.specs.declared.refusal.Refusal.{Refusal}
 use Rattle.krb_c.specs.Accepting.{IsMomentOf}
 use Rattle.krb_c.specs.Answer.{Delivers, plain}
 use Rattle.krb_c.specs.Asking.{HasName, IsMomentFault, IsNameFault, moment_of}
-use Rattle.krb_c.specs.Codes.{no_code, nothing_there, out_of_memory, too_long}
+use Rattle.krb_c.specs.Codes.{cause_code, no_code, nothing_there, out_of_memory, too_long}
 use Rattle.krb_c.specs.declared.answer.Answer.{Answer}
 use Rattle.krb_c.specs.declared.answer.Time.{Time}
 
@@ -52,3 +52,13 @@ abbrev pub TellsError : Option Refusal → List ℕ → ℤ → Time → List �
 TellsError None text name_type now old new answer = (answer ≡ plain nothing_there) × (new ≡ old)
 TellsError (Some refusal) text name_type now old new answer =
     Delivers (Errors refusal text name_type now) (IsErrorFault refusal text name_type now) old new answer
+
+-- why a request is refused has this code
+abbrev pub IsCauseOf : ℕ → Refusal → Type 0
+IsCauseOf code refusal = (code_of refusal ≢ None) × (cause_code refusal ≡ code)
+
+-- the error of the cause that has this code is handed over, or it is told why not; there is none for other codes
+abbrev pub TellsErrorOf : ℕ → List ℕ → ℤ → Time → List ℕ → List ℕ → Answer → Type 0
+TellsErrorOf code text name_type now old new answer =
+    ((refusal : Refusal) × (IsCauseOf code refusal × TellsError (Some refusal) text name_type now old new answer))
+    ⊎ (((refusal : Refusal) → ¬ IsCauseOf code refusal) × ((answer ≡ plain no_code) × (new ≡ old)))

@@ -32,5 +32,6 @@ mod known;
 mod listing;
 mod login;
 mod names;
+mod refusing;
 mod sealing;
 mod version;
