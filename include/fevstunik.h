@@ -466,8 +466,8 @@ fevstunik_answer fevstunik_name_check(const uint8_t *name, size_t name_size);
  * another name into it: if two names of a keytab have the same key and both are served, a recorded request is let in once
  * more under the other name.
  *
- * Make a service only if there was none before it: one that lost its memory accepts again what it accepted before, until the
- * skew has passed.
+ * Make a service only if there was none before it. After a restart, refuse all requests until twice the skew has passed: a
+ * service that lost its memory may accept a request again, and one whose time was ahead by the skew for that long.
  *
  * The first that holds: FEVSTUNIK_BAD_SKEW; FEVSTUNIK_TOO_LONG, _FILE_VERSION, _FILE_TRUNCATED, _FILE_BAD_ITEM for the keytab;
  * FEVSTUNIK_NOT_UTF8, _BAD_TEXT and _NO_REALM for the service; or FEVSTUNIK_OUT_OF_MEMORY; and the handle is as before.

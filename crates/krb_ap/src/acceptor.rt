@@ -53,8 +53,8 @@ impl<M> Model for Acceptor<M> {
 impl<M: ReplayMemory> Acceptor<M> {
     /// A service that decides by `keytab` and `skew`, and remembers in `memory`.
     ///
-    /// It is for a service that had no earlier life: one that lost its memory has to refuse all requests until the skew has passed
-    /// (RFC 4120, section 3.2.3), or it takes again what it took before.
+    /// It is for a service that had no earlier life. One that lost its memory must refuse all requests until twice the skew has passed,
+    /// or it may accept a request again: one whose time was ahead by the skew stays near for that long (RFC 4120, section 3.2.3).
     ///
     /// Condition: the memory is new. It has no tuple (`len()` is 0), and was told no moment (`latest()` is `None`).
     pub fn new(keytab: Keytab, skew: Skew, memory: M) -> Acceptor<M>
