@@ -30,7 +30,7 @@ $(BUILD)/krbtool: $(SOURCES)
 	./krbtool --version >/dev/null
 	install -D -m 755 crates/krbtool/out/krbtool $@
 
-$(BUILD)/%/libfevstunik.a: $(SOURCES) packaging/build-library packaging/fevstunik.map
+$(BUILD)/%/libfevstunik.a: $(SOURCES) packaging/build-library packaging/archive.py packaging/fevstunik.map
 	packaging/build-library $* $(BUILD)/$* $(VERSION)
 
 $(BUILD)/fevstunik.pc: packaging/fevstunik.pc.in Makefile include/fevstunik.h
