@@ -74,6 +74,19 @@ def python_code(name):
     return None if blocks(name, "python") else "there is none"
 
 
+def options(program):
+    """Each command and option that the program's help has is in the manual and in its document."""
+    manual, document = text_of("docs/man/krbtool.1").replace("Fl -", "--"), text_of("docs/KRBTOOL.md")
+    said = subprocess.run([program, "--help"], capture_output=True, text=True).stdout
+    commands = re.findall(r"^  ([a-z]+(?:-[a-z]+)?)  ", said, re.M)
+    words = set(commands)
+    for command in commands:
+        if command != "help":
+            words |= set(re.findall(r"--[a-z]+", subprocess.run([program, command, "--help"], capture_output=True, text=True).stdout))
+    lacking = {it for it in words - {"help", "--help"} if it not in manual or it not in document}
+    return f"not there: {sorted(lacking)}" if lacking or len(words) < 12 else None
+
+
 def links(path):
     """The files that a document links to are there."""
     found = re.findall(r"\]\(([^)#]+)(?:#[^)]*)?\)", path.read_text())
@@ -143,6 +156,7 @@ def checks(program):
     yield "README.md: its C compiles", c_code("README.md")
     yield "README.md: its Python is Python", python_code("README.md")
     yield "docs/PROOFS.md: what is proved has these names", names()
+    yield "the manual and KRBTOOL.md: commands and options", options(program)
     yield "README.md: its length", None if len(text_of("README.md").splitlines()) <= LINES else f"more than {LINES} lines"
     for name in LAID_OUT:
         yield f"{name}: its layout", layout(name)

@@ -24,7 +24,7 @@ LIBDIR = "usr/lib/x86_64-linux-gnu"
 INSTALLED = {
     "usr/bin/krbtool", "usr/include/fevstunik.h", f"{LIBDIR}/libfevstunik.a", f"{LIBDIR}/libfevstunik.so", f"{LIBDIR}/libfevstunik.so.0",
     f"{LIBDIR}/libfevstunik.so.0.1.0", f"{LIBDIR}/pkgconfig/fevstunik.pc", f"{LIBDIR}/glibc-hwcaps/x86-64-v2/libfevstunik.so.0",
-    f"{LIBDIR}/glibc-hwcaps/x86-64-v2/libfevstunik.so.0.1.0",
+    f"{LIBDIR}/glibc-hwcaps/x86-64-v2/libfevstunik.so.0.1.0", "usr/share/man/man1/krbtool.1",
 }
 PACKAGES = {"krbtool": "usr/bin/", "libfevstunik0": f"{LIBDIR}/", "libfevstunik-dev": f"{LIBDIR}/"}
 
