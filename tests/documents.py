@@ -17,7 +17,7 @@ EXAMPLE = TOP / "crates/krb_example"
 # How long the README may be, and how wide a line of a document.
 LINES, WIDTH = 200, 100
 # Those whose lines are laid out, and whose commands are run.
-LAID_OUT = ("README.md", "docs/KRBTOOL.md", "docs/LIBRARY.md", "docs/OPERATING.md", "docs/PROOFS.md")
+LAID_OUT = ("README.md", "CONTRIBUTING.md", "CHANGELOG.md", "docs/KRBTOOL.md", "docs/LIBRARY.md", "docs/OPERATING.md", "docs/PROOFS.md")
 OF_THE_EXAMPLE = ("README.md", "docs/LIBRARY.md")
 OF_THE_PROGRAM = ("README.md", "docs/KRBTOOL.md")
 
@@ -160,6 +160,6 @@ def checks(program):
     yield "README.md: its length", None if len(text_of("README.md").splitlines()) <= LINES else f"more than {LINES} lines"
     for name in LAID_OUT:
         yield f"{name}: its layout", layout(name)
-    for path in [TOP / "README.md", TOP / "tests/README.md", TOP / "bench/README.md", *sorted((TOP / "docs").glob("*.md"))]:
+    for path in [TOP / "README.md", TOP / "CONTRIBUTING.md", TOP / "tests/README.md", TOP / "bench/README.md", *sorted((TOP / "docs").glob("*.md"))]:
         yield f"{path.relative_to(TOP)}: its links", links(path)
     yield from commands(program)
