@@ -25,3 +25,5 @@ pub mod Once
 pub mod Sending
 pub mod Worlds
 pub mod WorldsOnce
+pub mod Behind
+pub mod Entries
