@@ -223,6 +223,7 @@ fn orders_of_accept(rt: HostRuntime) -> Result<(), Fail> {
     let wanted = AcceptWords {
         keytab: "k",
         skew: "300",
+        started: None,
         service: None,
         only: None,
     };
@@ -234,12 +235,15 @@ fn orders_of_accept(rt: HostRuntime) -> Result<(), Fail> {
         "k",
         "--skew",
         "0",
+        "--started",
+        "253402300799",
         "--only",
         "c@D",
     ];
     let wanted = AcceptWords {
         keytab: "k",
         skew: "0",
+        started: Some("253402300799"),
         service: Some("a@B"),
         only: Some("c@D"),
     };
