@@ -25,6 +25,25 @@ CLIENT, SERVICE = (b"EX", (b"alice",)), (b"EX", (b"host", b"web"))
 ETYPE, KEY, SESSION = 19, bytes(range(16)), bytes(range(16, 32))
 SKEWS = [0, 1, 2, 10]
 
+# A service of skew 300 that was started at BASE, or had no earlier life (None): calls, each with the service's clock and the request's time
+# in microseconds after BASE, and what each is answered. A request is good from the first microsecond on after BASE and 300 seconds.
+ACCEPTED, STARTED, REPEAT, SKEW, EXPIRED = "accepted", "refused 37 JustStarted", "refused 34 Repeat", "refused 37 Skew", "refused 32 Expired"
+ROWS = [
+    ("the client's time is within the skew of the start", 0, [(301_000_000, 100_000_005, STARTED)]),
+    ("the client's time is the start and the skew", 0, [(301_000_000, 300_000_000, STARTED)]),
+    ("a microsecond later", 0, [(300_000_001, 300_000_001, ACCEPTED)]),
+    ("the service's time is the start and the skew", 0, [(300_000_000, 400_000_000, STARTED), (301_000_000, 400_000_000, REPEAT)]),
+    ("what is refused so is remembered", 0, [(100_000_000, 390_000_000, STARTED), (300_000_001, 390_000_000, REPEAT)]),
+    ("it is refused so again while the start is near", 0, [(100_000_000, 390_000_000, STARTED), (100_000_001, 390_000_000, STARTED)]),
+    ("the start moves no moment", 0, [(-400_000_000, -400_000_000, STARTED), (-400_000_000, -100_000_000, STARTED), (-400_000_000, -99_999_999, SKEW)]),
+    ("clocks that are off come first", 0, [(100_000_000, 400_000_001, SKEW)]),
+    ("the ticket's end comes after it", 0, [(36_300_000_001, 36_300_000_001, EXPIRED), (36_300_000_001, 36_300_000_001, REPEAT)]),
+    ("the ticket's end and the skew", 0, [(36_300_000_000, 36_300_000_000, ACCEPTED)]),
+    ("a service without an earlier life", None, [(0, 0, ACCEPTED), (300_000_000, 0, REPEAT), (300_000_000, 300_000_000, ACCEPTED)]),
+    ("a service without an earlier life, as soon as the skew allows", None, [(-300_000_000, 0, ACCEPTED), (-300_000_000, 1, SKEW)]),
+    ("a service that was started at second 0", -BASE, [(0, 0, ACCEPTED), (0, 0, REPEAT)]),
+]
+
 
 class Requests:
     """Requests of one client with one ticket, by the client's time. They are sealed with what `seals` then knows."""
@@ -126,6 +145,15 @@ def fault_of(program, file, requests, lives, seen):
     return None
 
 
+def row_fault(program, file, requests, started, calls):
+    """What is wrong with the answers of a row, or None."""
+    moments = [(1_000_000 * BASE + now, 1_000_000 * BASE + at) for now, at, _ in calls]
+    found = run_life(program, file, requests, None if started is None else BASE + started, 300, moments)
+    wanted = [it for _, _, it in calls]
+    alike = len(found) == len(wanted) and all(one.startswith(other) for one, other in zip(found, wanted))
+    return None if alike else f"{found}, not {wanted}"
+
+
 def checks(program):
     draw, requests, seen = random.Random(SEED), Requests(), {}
     worlds = [world(draw) for _ in range(WORLDS)]
@@ -137,6 +165,8 @@ def checks(program):
     with tempfile.TemporaryDirectory(prefix="krbtool-restarts-") as folder, ThreadPoolExecutor(AT_ONCE) as pool:
         file = Path(folder) / "k"
         file.write_bytes(keytab())
+        for name, started, calls in ROWS:
+            yield f"a start: {name}", row_fault(program, str(file), requests, started, calls)
         faults = pool.map(lambda lives: fault_of(program, str(file), requests, lives, seen), worlds)
         for number in range(0, WORLDS, GROUP):
             wrong = [it for _, it in zip(range(GROUP), faults) if it]

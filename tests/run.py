@@ -8,8 +8,8 @@ Then it compares the tables of the crates' tests with the scripts that make them
 (tests/refused.py), and those of further calls of the library (tests/calls.py, by the program of the crate krb_calls), runs it within less
 and less memory (tests/limited.py), hands the calls of files lengths and counts that the bytes don't bear out (tests/claimed.py, by the
 program of the crate krb_calls_files), lets its reads and writes fail (tests/failing.py), compares it with a second client and service on
-generated input (tests/exchange.py), starts a service again and again (tests/restarts.py), and ends with what MIT's tools say of files that the program wrote (tests/peers.py; Debian's package
-krb5-user).
+generated input (tests/exchange.py), starts a service again and again (tests/restarts.py), and ends with what MIT's tools say of files that
+the program wrote (tests/peers.py; Debian's package krb5-user).
 
 A case is a table [[case]] of a TOML file:
 
