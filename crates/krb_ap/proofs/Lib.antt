@@ -27,3 +27,4 @@ pub mod Worlds
 pub mod WorldsOnce
 pub mod Behind
 pub mod Entries
+pub mod SomeRequest

@@ -25,7 +25,7 @@ ghost use Rattle.krb_ap.specs.declared.accepted.Accepted.{Accepted};
 ghost use Rattle.krb_ap.specs.declared.refusal.Refusal.{Refusal};
 ghost use Rattle.krb_ap.specs.declared.refusal.Refusal.TheVariants.{JustStarted};
 
-use crate::inner_laws::{decisions, facts};
+use crate::inner_laws::{decisions, facts, writing};
 
 /// Says that after each history a call has exactly one answer: it is accepted, or there is a first cause, and it isn't both; what is known
 /// of an accepted request is one, and so is the first cause (whatever fault a malformed request tells).
@@ -75,15 +75,26 @@ pub fn built_is_accepted()
     facts();
 }
 
-/// Says that where a client builds a request, nothing prevents it, and that what prevents one is one fault.
+/// Says that there is one request, or one fault that prevents it: if no bytes are a request, a fault prevents it; if some are, none does,
+/// and they are one, as is what the client awaits; and what prevents a request is one fault.
 pub fn built_or_prevented()
+    ensures some { (cache : Cache) (service : Principal) (at : ℤ) (confounder : List ℕ) (options : RequestOptions)
+        → ((bytes : List ℕ) (awaited : Awaited) → ¬ IsRequest cache service at confounder options bytes awaited)
+        → (fault : RequestFault) × Prevents cache service at confounder options fault }
+    ensures one { (cache : Cache) (service : Principal) (at : ℤ) (confounder : List ℕ) (options : RequestOptions)
+        (bytes others : List ℕ) (awaited other : Awaited) → IsRequest cache service at confounder options bytes awaited
+        → IsRequest cache service at confounder options others other → (bytes ≡ others) × (awaited ≡ other) }
     ensures apart { (cache : Cache) (service : Principal) (at : ℤ) (confounder : List ℕ) (options : RequestOptions) (bytes : List ℕ)
         (awaited : Awaited) (fault : RequestFault) → IsRequest cache service at confounder options bytes awaited
         → Prevents cache service at confounder options fault → ⊥ }
     ensures fault { (cache : Cache) (service : Principal) (at : ℤ) (confounder : List ℕ) (options : RequestOptions)
         (one other : RequestFault) → Prevents cache service at confounder options one
         → Prevents cache service at confounder options other → one ≡ other }
-{}
+{
+    facts();
+    decisions();
+    writing();
+}
 
 /// Says that to a reply a client has exactly one answer: it agrees, or there is a first cause to refuse the reply, and it isn't both;
 /// what it agrees on is one, and so is the first cause (whatever fault a malformed reply tells).
