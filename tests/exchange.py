@@ -100,7 +100,7 @@ def ticket_part(draw, client, session):
 
 def authenticator(draw, client, seconds, micros):
     etype, key = some_key(draw)
-    subkey, number = draw.choice([None, der.key(etype, key)]), draw.choice([None, 0, 2**32 - 1])
+    subkey, number = draw.choice([None, der.key(etype, key)]), draw.choice([None, 0, 2**32 - 1, 2**31, -1, -(2**31)])
     checksum = draw.choice([None, der.key(-3, b"sum")])
     fields = [
         der.field(0, der.integer(5)), der.field(1, der.string(client[0])), der.field(2, der.name(draw.choice([0, 1, 7]), *client[1])),
