@@ -1,5 +1,5 @@
 /* Times the library for C beside MIT krb5 in one program, over the same ticket and the same requests: fevstunik_request beside
- * krb5_mk_req_extended, and fevstunik_acceptor_accept with fevstunik_acceptor_accepted beside krb5_rd_req.
+ * krb5_mk_req_extended, and fevstunik_acceptor_accept with fevstunik_accepted_known beside krb5_rd_req.
  *
  *   from_c KEYTAB CACHE COUNT      prints four numbers: nanoseconds of processor time a call, in this order
  *
@@ -128,16 +128,19 @@ static double their_requests(void)
 static double our_acceptor(void)
 {
     fevstunik_acceptor acceptor = FEVSTUNIK_ACCEPTOR_INIT;
+    fevstunik_accepted accepted = FEVSTUNIK_ACCEPTED_INIT;
     fevstunik_known known;
     uint8_t told[4096];
     is_well(fevstunik_acceptor_new(&acceptor, keytab.at, keytab.size, 300, (const uint8_t *)service, strlen(service)), "a service");
+    is_well(fevstunik_accepted_new(&accepted), "a place");
     double start = processor_time();
     for (long i = 0; i < count; i++) {
         fevstunik_time now = clock_now();
-        is_well(fevstunik_acceptor_accept(&acceptor, (const uint8_t *)requests[i].data, requests[i].length, &now), "a call");
-        is_well(fevstunik_acceptor_accepted(&acceptor, &known, told, sizeof told), "what was accepted");
+        is_well(fevstunik_acceptor_accept(&acceptor, &accepted, (const uint8_t *)requests[i].data, requests[i].length, &now), "a call");
+        is_well(fevstunik_accepted_known(&accepted, &known, told, sizeof told), "what was accepted");
     }
     double took = processor_time() - start;
+    fevstunik_accepted_free(&accepted);
     fevstunik_acceptor_free(&acceptor);
     return took / count;
 }

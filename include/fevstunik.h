@@ -8,9 +8,10 @@
  *  - A handle is never copied, and only these functions write it. It may be moved in memory between calls, not during one, and
  *    is not used again at its old place. A program that uses a copy, or that lets a handle overlap a buffer, may free memory
  *    that is still in use.
- *  - Any thread may make a call, but only one call at a time uses a handle: put a lock around calls that share one, and around
- *    calls that belong together, as fevstunik_acceptor_accept and fevstunik_acceptor_accepted. Two handles share nothing, in
- *    one process or in two; after a fork the child's copy of a handle is a copy, and isn't used.
+ *  - Any thread may make a call, but only one call at a time uses a handle, also a const one: put a lock around calls that
+ *    share one. Two handles share nothing, in one process or in two; after a fork the child's copy of a handle is a copy, and
+ *    isn't used. A call that takes a const handle leaves it as it was, but may write to it until it returns: no handle is
+ *    defined const.
  *  - Pointers are valid and never NULL, also those to no bytes: hand in any valid pointer with size 0.
  *  - What a call writes (its handle, its buffer, its other results) overlaps nothing else that is handed to that call.
  *  - A bool is 0 or 1. Sizes are at most PTRDIFF_MAX.
@@ -21,7 +22,7 @@
  * wiped from memory that is freed, and nothing is promised about how long a call takes.
  *
  * Whatever is handed in stays the caller's: no function keeps a pointer to it, or frees it. What a handle holds the library has
- * allocated, and fevstunik_acceptor_free frees it; the caller has nothing else to free. Files have at most 16,777,216 bytes,
+ * allocated, and fevstunik_acceptor_free and fevstunik_accepted_free free it; the caller has nothing else to free. Files have at most 16,777,216 bytes,
  * and requests, replies and errors at most 1,048,576: anything longer is a fault. Other sizes are limited by memory alone,
  * unless a limit is named.
  *
@@ -85,7 +86,7 @@ typedef enum fevstunik_code {
     FEVSTUNIK_OUT_OF_MEMORY = 400,  /* out of memory: malloc or realloc returned NULL */
     FEVSTUNIK_SHORT_BUFFER = 401,   /* the buffer is too short: `size` bytes are needed */
     FEVSTUNIK_EMPTY_HANDLE = 402,   /* the handle is empty */
-    FEVSTUNIK_NOTHING_THERE = 403,  /* the last call accepted nothing, or refused nothing, or there is no moment yet */
+    FEVSTUNIK_NOTHING_THERE = 403,  /* nothing was accepted, or nothing was refused, or there is no moment yet */
     FEVSTUNIK_TOO_LONG = 404,       /* a file, a request, an error, a name or a key is longer than its limit */
     FEVSTUNIK_BAD_SKEW = 410,       /* the skew is more than 86,400 seconds */
     FEVSTUNIK_BAD_MOMENT = 411,     /* the moment is outside the years 0000 to 9999, or has 1,000,000 microseconds or more */
@@ -208,7 +209,7 @@ static inline const char *fevstunik_code_text(uint32_t code)
     case FEVSTUNIK_OUT_OF_MEMORY: return "out of memory: malloc or realloc returned NULL";
     case FEVSTUNIK_SHORT_BUFFER: return "the buffer is too short: `size` bytes are needed";
     case FEVSTUNIK_EMPTY_HANDLE: return "the handle is empty";
-    case FEVSTUNIK_NOTHING_THERE: return "the last call accepted nothing, or refused nothing, or there is no moment yet";
+    case FEVSTUNIK_NOTHING_THERE: return "nothing was accepted, or nothing was refused, or there is no moment yet";
     case FEVSTUNIK_TOO_LONG: return "a file, a request, an error, a name or a key is longer than its limit";
     case FEVSTUNIK_BAD_SKEW: return "the skew is more than 86,400 seconds";
     case FEVSTUNIK_BAD_MOMENT: return "the moment is outside the years 0000 to 9999, or has 1,000,000 microseconds or more";
@@ -351,8 +352,14 @@ typedef struct fevstunik_acceptor {
     void *opaque;
 } fevstunik_acceptor;
 
-/* The empty handle, with which a handle is initialized. */
+/* A request that was accepted: opaque, and all zero before its first use. */
+typedef struct fevstunik_accepted {
+    void *opaque;
+} fevstunik_accepted;
+
+/* The empty handles, with which handles are initialized. */
 #define FEVSTUNIK_ACCEPTOR_INIT {NULL}
+#define FEVSTUNIK_ACCEPTED_INIT {NULL}
 
 /* ---- files ---- */
 
@@ -479,27 +486,40 @@ fevstunik_answer fevstunik_name_check(const uint8_t *name, size_t name_size);
 fevstunik_answer fevstunik_acceptor_new(fevstunik_acceptor *handle, const uint8_t *keytab, size_t keytab_size, uint32_t skew,
                                         const uint8_t *service, size_t service_size);
 
+/* Makes the handle ready for a request that is accepted: fevstunik_acceptor_accept keeps it there. Nothing is kept in it yet. One
+ * handle serves for any number of requests, one after the other; what it held is freed. Threads that share a service have a
+ * handle each for what is accepted, and read it without a lock.
+ *
+ * FEVSTUNIK_OUT_OF_MEMORY, and the handle is as before; FEVSTUNIK_OK.
+ *
+ *     fevstunik_accepted accepted = FEVSTUNIK_ACCEPTED_INIT;
+ *     if (fevstunik_accepted_new(&accepted).code == FEVSTUNIK_OK) ...
+ */
+fevstunik_answer fevstunik_accepted_new(fevstunik_accepted *accepted);
+
 /* Decides whether a request (the bytes of an AP-REQ) is accepted at a moment of the service's clock, and remembers what has to be
  * remembered of it. Time doesn't go back: what counts is the latest moment that was handed in so far.
  *
- * The handle keeps what is accepted until the next call of this function: fevstunik_acceptor_accepted hands it out, and
- * fevstunik_acceptor_reply replies to it. Threads that share a handle hold one lock around these calls: otherwise the next
- * request's client is handed out. The handle keeps why a request is refused as well: fevstunik_acceptor_error makes an error of
- * it for the client. Only one of the two is there.
+ * What is accepted is kept in the handle `accepted`, which fevstunik_accepted_new made, until the next call with that handle:
+ * fevstunik_accepted_known hands it out, and fevstunik_accepted_reply replies to it. What was kept there before is freed. After
+ * any other answer than FEVSTUNIK_OK nothing is kept there. Threads that share a service lock it for this call alone, if each has
+ * a handle of its own for what is accepted.
  *
- * FEVSTUNIK_BAD_MOMENT; FEVSTUNIK_EMPTY_HANDLE; FEVSTUNIK_OK; a cause from FEVSTUNIK_MESSAGE_TYPE to FEVSTUNIK_AUTHORIZATION;
- * FEVSTUNIK_OUT_OF_MEMORY. With FEVSTUNIK_BAD_MOMENT nothing is accepted or refused any more, and with it and with
- * FEVSTUNIK_OUT_OF_MEMORY what is remembered and the latest moment are as before.
+ * The service keeps why a request is refused until its next call: fevstunik_acceptor_error makes an error of it for the client.
+ * fevstunik_error makes the same error of the answer's code alone, and needs no lock.
+ *
+ * FEVSTUNIK_BAD_MOMENT; FEVSTUNIK_EMPTY_HANDLE if either handle is empty; FEVSTUNIK_OK; a cause from FEVSTUNIK_MESSAGE_TYPE to
+ * FEVSTUNIK_AUTHORIZATION; FEVSTUNIK_OUT_OF_MEMORY. With FEVSTUNIK_EMPTY_HANDLE the service is as before. With
+ * FEVSTUNIK_BAD_MOMENT and FEVSTUNIK_OUT_OF_MEMORY what is remembered and the latest moment are as before.
  *
  *     fevstunik_time now = {1700000101, 0};
- *     if (fevstunik_acceptor_accept(&service, request, request_size, &now).code == FEVSTUNIK_OK) ...
+ *     if (fevstunik_acceptor_accept(&service, &accepted, request, request_size, &now).code == FEVSTUNIK_OK) ...
  */
-fevstunik_answer fevstunik_acceptor_accept(fevstunik_acceptor *handle, const uint8_t *request, size_t request_size,
-                                           const fevstunik_time *now);
+fevstunik_answer fevstunik_acceptor_accept(fevstunik_acceptor *handle, fevstunik_accepted *accepted, const uint8_t *request,
+                                           size_t request_size, const fevstunik_time *now);
 
-/* Hands out what the last call of fevstunik_acceptor_accept accepted. The buffer gets the client's text, the session key, the
- * client's subkey and the service's text, one after the other, and `known` their places and the numbers. `known` is written even
- * if the buffer is too short.
+/* Hands out what was accepted. The buffer gets the client's text, the session key, the client's subkey and the service's text, one
+ * after the other, and `known` their places and the numbers. `known` is written even if the buffer is too short.
  *
  * `service`, `client`, `ctime` and `cusec` are what the request is remembered by. (The types of names don't count; and a name without
  * components has the same text as one with a single empty component, though they are two names.) The ticket's addresses were compared
@@ -510,25 +530,31 @@ fevstunik_answer fevstunik_acceptor_accept(fevstunik_acceptor *handle, const uin
  *
  *     fevstunik_known known;
  *     uint8_t buffer[4096];
- *     fevstunik_answer answer = fevstunik_acceptor_accepted(&service, &known, buffer, sizeof buffer);
+ *     fevstunik_answer answer = fevstunik_accepted_known(&accepted, &known, buffer, sizeof buffer);
  *     printf("%.*s\n", (int)known.client.size, (const char *)buffer + known.client.at);
  */
-fevstunik_answer fevstunik_acceptor_accepted(fevstunik_acceptor *handle, fevstunik_known *known, uint8_t *buffer, size_t buffer_size);
+fevstunik_answer fevstunik_accepted_known(const fevstunik_accepted *accepted, fevstunik_known *known, uint8_t *buffer, size_t buffer_size);
 
-/* Builds the reply (the bytes of an AP-REP) to what the last call of fevstunik_acceptor_accept accepted. It is for a request whose
- * `wants_reply` is true, at which it doesn't look. `confounder` is 16 random bytes, new for each call. `subkey` has the bytes of the
- * subkey whose type is in `choice`; if that is 0 they aren't looked at.
+/* Builds the reply (the bytes of an AP-REP) to what was accepted. It is for a request whose `wants_reply` is true, at which it doesn't
+ * look. `confounder` is 16 random bytes, new for each call. `subkey` has the bytes of the subkey whose type is in `choice`; if that is 0
+ * they aren't looked at.
  *
  * The first that holds: FEVSTUNIK_EMPTY_HANDLE, FEVSTUNIK_NOTHING_THERE; FEVSTUNIK_BAD_CONFOUNDER; FEVSTUNIK_KEY_TYPE and _KEY_LENGTH for
  * the subkey; or FEVSTUNIK_OUT_OF_MEMORY; and nothing is written. FEVSTUNIK_OK; FEVSTUNIK_SHORT_BUFFER. A reply has fewer than 256 bytes.
  *
  *     fevstunik_choice choice = {0, 0, false, false};
  *     uint8_t reply[256];
- *     answer = fevstunik_acceptor_reply(&service, random, 16, &choice, random, 0, reply, sizeof reply);
+ *     answer = fevstunik_accepted_reply(&accepted, random, 16, &choice, random, 0, reply, sizeof reply);
  */
-fevstunik_answer fevstunik_acceptor_reply(fevstunik_acceptor *handle, const uint8_t *confounder, size_t confounder_size,
+fevstunik_answer fevstunik_accepted_reply(const fevstunik_accepted *accepted, const uint8_t *confounder, size_t confounder_size,
                                           const fevstunik_choice *choice, const uint8_t *subkey, size_t subkey_size, uint8_t *buffer,
                                           size_t buffer_size);
+
+/* Frees what the handle holds, which is empty then, and may be made ready again. An empty handle stays so. It has no error.
+ *
+ *     fevstunik_accepted_free(&accepted);
+ */
+void fevstunik_accepted_free(fevstunik_accepted *accepted);
 
 /* Builds the error (the bytes of a KRB-ERROR) that says why the last call of fevstunik_acceptor_accept refused a request. `service` has the
  * service's name as text, as host/web@EX, `name_type` is the type of that name (RFC 4120, section 6.2; 3 for a service on a host), and
@@ -538,11 +564,11 @@ fevstunik_answer fevstunik_acceptor_reply(fevstunik_acceptor *handle, const uint
  * FEVSTUNIK_BAD_MOMENT; FEVSTUNIK_NO_CODE, FEVSTUNIK_TOO_LONG; or FEVSTUNIK_OUT_OF_MEMORY; and nothing is written. FEVSTUNIK_OK;
  * FEVSTUNIK_SHORT_BUFFER.
  *
- *     if (fevstunik_acceptor_accept(&service, request, request_size, &now).code != FEVSTUNIK_OK)
+ *     if (fevstunik_acceptor_accept(&service, &accepted, request, request_size, &now).code != FEVSTUNIK_OK)
  *         answer = fevstunik_acceptor_error(&service, (const uint8_t *)"host/web@EX", 11, 3, &now, buffer, sizeof buffer);
  */
-fevstunik_answer fevstunik_acceptor_error(fevstunik_acceptor *handle, const uint8_t *service, size_t service_size, int32_t name_type,
-                                          const fevstunik_time *now, uint8_t *buffer, size_t buffer_size);
+fevstunik_answer fevstunik_acceptor_error(const fevstunik_acceptor *handle, const uint8_t *service, size_t service_size,
+                                          int32_t name_type, const fevstunik_time *now, uint8_t *buffer, size_t buffer_size);
 
 /* Builds the error (the bytes of a KRB-ERROR) of a cause from its code alone, as fevstunik_acceptor_accept answered it: no handle
  * is needed, and no other request's cause can come into it. `service`, `name_type` and `now` are as for fevstunik_acceptor_error.
@@ -556,21 +582,21 @@ fevstunik_answer fevstunik_acceptor_error(fevstunik_acceptor *handle, const uint
 fevstunik_answer fevstunik_error(uint32_t code, const uint8_t *service, size_t service_size, int32_t name_type,
                                  const fevstunik_time *now, uint8_t *buffer, size_t buffer_size);
 
-/* Returns the number of requests that are remembered: none if the handle is empty. The handle stays as it is. It has no error.
+/* Returns the number of requests that are remembered: none if the handle is empty. It has no error.
  *
  *     printf("%zu remembered\n", fevstunik_acceptor_count(&service));
  */
-size_t fevstunik_acceptor_count(fevstunik_acceptor *handle);
+size_t fevstunik_acceptor_count(const fevstunik_acceptor *handle);
 
 /* Reads the latest moment that was handed in to fevstunik_acceptor_accept so far, by which the service decides. Calls that were
- * answered OUT_OF_MEMORY or BAD_MOMENT don't count. The handle stays as it is.
+ * answered OUT_OF_MEMORY or BAD_MOMENT don't count.
  *
  * FEVSTUNIK_EMPTY_HANDLE and FEVSTUNIK_NOTHING_THERE, and nothing is written; FEVSTUNIK_OK.
  *
  *     fevstunik_time latest;
  *     if (fevstunik_acceptor_latest(&service, &latest).code == FEVSTUNIK_OK) ...
  */
-fevstunik_answer fevstunik_acceptor_latest(fevstunik_acceptor *handle, fevstunik_time *latest);
+fevstunik_answer fevstunik_acceptor_latest(const fevstunik_acceptor *handle, fevstunik_time *latest);
 
 /* Frees what the handle holds, which is empty then, and may be used again. An empty handle stays so. It has no error.
  *

@@ -8,7 +8,9 @@ from pathlib import Path
 TOP = Path(__file__).resolve().parent.parent
 CRATE = TOP / "crates/krb_c"
 HEADER = TOP / "include/fevstunik.h"
-TYPES = {"u32": "uint32_t", "i16": "int16_t", "i32": "int32_t", "i64": "int64_t", "usize": "size_t", "bool": "bool", "Handle": "fevstunik_acceptor"}
+TYPES = {"u32": "uint32_t", "i16": "int16_t", "i32": "int32_t", "i64": "int64_t", "usize": "size_t", "bool": "bool",
+         "Handle": "fevstunik_acceptor", "Slot": "fevstunik_accepted"}
+HANDLES = {"Handle", "Slot"}
 
 
 def without_comments(text):
@@ -97,21 +99,23 @@ def crate_text():
 
 
 def structs():
-    """The header's structs have the crate's fields, in their order. (The handle is opaque.)"""
+    """The header's structs have the crate's fields, in their order. (Handles are opaque.)"""
     form = r"#\[repr\(C\)\]\n#\[derive\(Clone, Copy\)\]\npub struct (\w+) \{\n(.*?)\n\}"
     crate = {(c_type(name), tuple((c_type(of), field) for field, of in re.findall(r"^    pub (\w+): (\w+),$", body, re.M)))
              for name, body in re.findall(form, crate_text(), re.S)}
     form = r"typedef struct (\w+) \{\n(.*?)\n\}"
     header = {(name, tuple(re.findall(r"^    (\w+) (\w+);", body, re.M)))
-              for name, body in re.findall(form, without_comments(HEADER.read_text()), re.S) if name != "fevstunik_acceptor"}
+              for name, body in re.findall(form, without_comments(HEADER.read_text()), re.S) if name not in map(c_type, HANDLES)}
     return differs(header, crate)
 
 
-def c_parameters(name, of):
-    """How C hands in a parameter: a slice as a pointer and a size, a reference as a pointer, and no allocator."""
+def c_parameters(name, of, stays):
+    """How C hands in a parameter: a slice as a pointer and a size, a reference as a pointer, and no allocator. A handle is const where a
+    clause says that its value stays."""
     if of == "Global":
         return []
-    const, at = ("" if of.startswith("&mut ") else "const "), re.sub(r"^&(mut )?", "", of)
+    at = re.sub(r"^&(mut )?", "", of)
+    const = "" if of.startswith("&mut ") and not (stays and at in HANDLES) else "const "
     if at == "[u8]":
         return [f"{const}uint8_t *{name}", f"size_t {name}_size"]
     return [f"{const}{c_type(at)} *{name}"] if of.startswith("&") else [f"{c_type(of)} {name}"]
@@ -120,8 +124,9 @@ def c_parameters(name, of):
 def prototypes():
     """The header's prototypes are those of the crate's exports."""
     crate = set()
-    for name, words, answer in re.findall(r'pub extern "C" fn (\w+)\((.*?)\)(?: -> (\w+))?\n', crate_text(), re.S):
-        parameters = [it for word in re.findall(r"(\w+): ([^,]+?)(?:,|\s*$)", words) for it in c_parameters(*word)]
+    for name, words, answer, clauses in re.findall(r'pub extern "C" fn (\w+)\((.*?)\)(?: -> (\w+))?\n(.*?)^\{$', crate_text(), re.S | re.M):
+        stays = "ensures stays" in clauses
+        parameters = [it for word in re.findall(r"(\w+): ([^,]+?)(?:,|\s*$)", words) for it in c_parameters(*word, stays)]
         crate.add(f"{c_type(answer) if answer else 'void'} {name}({', '.join(parameters) or 'void'})")
     header = re.findall(r"^((?:fevstunik_answer|size_t|uint32_t|void) fevstunik_\w+\([^;]*\));", without_comments(HEADER.read_text()), re.M)
     return differs({" ".join(it.split()) for it in header}, crate)

@@ -5,7 +5,7 @@ The header is compiled alone, as C99 and as C++; its functions are exactly those
 program (tests/c/library.c) runs the exchange that tests share, with exact answers, and so does examples/fevstunik.py over a shared
 object. tests/c/faults.c asks for each fault, and tests/c/memory.c lets each allocation fail in turn: together they see just the codes that
 the header names at each function. A service and a client (examples/service) talk over TCP, to each other and to a client and a service over
-MIT krb5 (tests/c_peers.py). tests/c/fuzz.c hands the library good and broken files and messages, some of them under valgrind.
+MIT krb5 (tests/c_peers.py). Threads share a service (tests/c/threads.c). tests/c/fuzz.c hands the library good and broken files and messages, some of them under valgrind.
 
     tests/c_library.py [--inputs N]     so many inputs, 50,000 if left out
 
@@ -167,6 +167,16 @@ def current_cache(now):
     return cache.replace(struct.pack(">4I", 1_700_000_000, 0, 1_700_036_000, 0), struct.pack(">4I", now, 0, now + 36_000, 0))
 
 
+def over_threads(room):
+    """Threads in C that share a service, each with a handle of its own for what is accepted (tests/c/threads.c)."""
+    program, caches = room / "threads", room / "caches"
+    built = linked(program, "-D_POSIX_C_SOURCE=200809L", "-pthread", ROOT / "tests/c/threads.c")
+    yield "the program of threads is linked", wrong(built)
+    if built.returncode == 0:
+        caches.write_text("".join(c_threads.cache_of(client).hex() + "\n" for client in c_threads.CLIENTS))
+        yield from counted("the program of threads", Answered(), program, ROOT / "examples/service.keytab", caches)
+
+
 def over_tcp(room):
     """A service and a client in C: a request is accepted once, the same one is refused, and a second client is accepted."""
     for name in ("service", "client"):
@@ -252,6 +262,7 @@ def checks(inputs):
         room = pathlib.Path(name)
         yield from headers(room)
         yield from from_c(room, Answered())
+        yield from over_threads(room)
         yield from over_tcp(room)
         yield from c_peers.checks(room)
         yield from from_python(room)

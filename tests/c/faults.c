@@ -174,11 +174,13 @@ static void services(void)
 static void is_refused(const char *what, const uint8_t *request, size_t size, unsigned code, int kerberos)
 {
     fevstunik_acceptor service = FEVSTUNIK_ACCEPTOR_INIT;
+    fevstunik_accepted accepted = FEVSTUNIK_ACCEPTED_INIT;
     fevstunik_choice choice = {0, 0, false, false};
 
     is_answer("new", fevstunik_acceptor_new(&service, keytab.at, keytab.size, 300, EACH_NAME), FEVSTUNIK_OK, 0, 0, 0);
-    is_answer(what, fevstunik_acceptor_accept(&service, request, size, &sent), code, kerberos, 0, 0);
-    is_answer("no reply", fevstunik_acceptor_reply(&service, request, 16, &choice, request, 0, buffer, sizeof buffer), FEVSTUNIK_NOTHING_THERE,
+    is_answer("ready", fevstunik_accepted_new(&accepted), FEVSTUNIK_OK, 0, 0, 0);
+    is_answer(what, fevstunik_acceptor_accept(&service, &accepted, request, size, &sent), code, kerberos, 0, 0);
+    is_answer("no reply", fevstunik_accepted_reply(&accepted, request, 16, &choice, request, 0, buffer, sizeof buffer), FEVSTUNIK_NOTHING_THERE,
               0, 0, 0);
     is_answer("a long name", fevstunik_acceptor_error(&service, long_name, sizeof long_name, 3, &sent, buffer, sizeof buffer),
               FEVSTUNIK_TOO_LONG, 0, 0, 0);
@@ -189,6 +191,7 @@ static void is_refused(const char *what, const uint8_t *request, size_t size, un
     is("an error by code", fevstunik_error(code, long_name + LONG_NAME - 1, 4, 3, &sent, buffer, sizeof buffer).code, FEVSTUNIK_OK);
     is("its code then", buffer[42], kerberos);
     fevstunik_acceptor_free(&service);
+    fevstunik_accepted_free(&accepted);
 }
 
 static void one(const char *line)

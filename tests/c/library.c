@@ -14,6 +14,8 @@
 
 static struct bytes keytab, cache, request, keyed, reply, keyed_reply, error, two, other;
 static uint8_t buffer[4096];
+/* What is accepted is kept here, if not said otherwise. */
+static fevstunik_accepted accepted = FEVSTUNIK_ACCEPTED_INIT;
 static const fevstunik_choice nothing = {0, 0, false, false};
 
 /* An empty handle answers that it is empty, and stays so. */
@@ -23,10 +25,10 @@ static void empty_handles(void)
     fevstunik_time now = moment(1700000101, 0), bad = moment(0, 1000000);
     fevstunik_known known;
 
-    is_answer("accept of none", fevstunik_acceptor_accept(&service, request.at, request.size, &now), FEVSTUNIK_EMPTY_HANDLE, 0, 0, 0);
-    is_answer("a moment of none", fevstunik_acceptor_accept(&service, request.at, request.size, &bad), FEVSTUNIK_BAD_MOMENT, 0, 0, 0);
-    is_answer("accepted of none", fevstunik_acceptor_accepted(&service, &known, buffer, sizeof buffer), FEVSTUNIK_EMPTY_HANDLE, 0, 0, 0);
-    is_answer("reply of none", fevstunik_acceptor_reply(&service, request.at, 16, &nothing, request.at, 0, buffer, sizeof buffer),
+    is_answer("accept of none", fevstunik_acceptor_accept(&service, &accepted, request.at, request.size, &now), FEVSTUNIK_EMPTY_HANDLE, 0, 0, 0);
+    is_answer("a moment of none", fevstunik_acceptor_accept(&service, &accepted, request.at, request.size, &bad), FEVSTUNIK_BAD_MOMENT, 0, 0, 0);
+    is_answer("accepted of none", fevstunik_accepted_known(&accepted, &known, buffer, sizeof buffer), FEVSTUNIK_EMPTY_HANDLE, 0, 0, 0);
+    is_answer("reply of none", fevstunik_accepted_reply(&accepted, request.at, 16, &nothing, request.at, 0, buffer, sizeof buffer),
               FEVSTUNIK_EMPTY_HANDLE, 0, 0, 0);
     is_answer("error of none", fevstunik_acceptor_error(&service, request.at, 0, 3, &now, buffer, sizeof buffer),
               FEVSTUNIK_EMPTY_HANDLE, 0, 0, 0);
@@ -34,6 +36,94 @@ static void empty_handles(void)
     is("count of none", (long long)fevstunik_acceptor_count(&service), 0);
     fevstunik_acceptor_free(&service);
     is("empty", service.opaque == NULL, 1);
+    is_answer("ready", fevstunik_accepted_new(&accepted), FEVSTUNIK_OK, 0, 0, 0);
+    is("ready", accepted.opaque != NULL, 1);
+    is_answer("accept of none then", fevstunik_acceptor_accept(&service, &accepted, request.at, request.size, &now), FEVSTUNIK_EMPTY_HANDLE, 0,
+              0, 0);
+    is_answer("nothing kept", fevstunik_accepted_known(&accepted, &known, buffer, sizeof buffer), FEVSTUNIK_NOTHING_THERE, 0, 0, 0);
+}
+
+/* Where nothing is ready for what is accepted, nothing is decided. */
+static void unready(void)
+{
+    fevstunik_acceptor service = FEVSTUNIK_ACCEPTOR_INIT;
+    fevstunik_accepted none = FEVSTUNIK_ACCEPTED_INIT;
+    fevstunik_time now = moment(1700000101, 7), late = moment(1700000401, 0), bad = moment(0, 1000000), latest;
+
+    is_answer("new", fevstunik_acceptor_new(&service, keytab.at, keytab.size, 300, EACH_NAME), FEVSTUNIK_OK, 0, 0, 0);
+    is_answer("unready", fevstunik_acceptor_accept(&service, &none, request.at, request.size, &now), FEVSTUNIK_EMPTY_HANDLE, 0, 0, 0);
+    is("it stays so", none.opaque == NULL, 1);
+    is("nothing is seen", (long long)fevstunik_acceptor_count(&service), 0);
+    is_answer("no moment", fevstunik_acceptor_latest(&service, &latest), FEVSTUNIK_NOTHING_THERE, 0, 0, 0);
+    is_answer("late", fevstunik_acceptor_accept(&service, &accepted, keyed.at, keyed.size, &late), FEVSTUNIK_SKEW, 37, 0, 0);
+    is_answer("unready then", fevstunik_acceptor_accept(&service, &none, request.at, request.size, &now), FEVSTUNIK_EMPTY_HANDLE, 0, 0, 0);
+    is_answer("the cause stays", fevstunik_acceptor_error(&service, WEB, 3, &now, buffer, sizeof buffer), FEVSTUNIK_OK, 0, 0, error.size);
+    is_answer("unready, no moment", fevstunik_acceptor_accept(&service, &none, request.at, request.size, &bad), FEVSTUNIK_BAD_MOMENT, 0, 0, 0);
+    is_answer("the cause is gone", fevstunik_acceptor_error(&service, WEB, 3, &now, buffer, sizeof buffer), FEVSTUNIK_NOTHING_THERE, 0, 0, 0);
+    fevstunik_accepted_free(&none);
+    is("free of none", none.opaque == NULL, 1);
+    fevstunik_acceptor_free(&service);
+}
+
+/* What is handed out of a handle: the client's subkey's type and number, or that nothing is kept there. */
+static void is_kept(const char *what, const fevstunik_accepted *kept, int32_t subkey_type, uint32_t seq)
+{
+    fevstunik_known known;
+    size_t size = subkey_type == 20 ? 67 : 35;
+
+    is_answer(what, fevstunik_accepted_known(kept, &known, buffer, sizeof buffer), FEVSTUNIK_OK, 0, 0, size);
+    is_bytes(what, buffer + known.client.at, "alice@EX", 8);
+    is(what, known.subkey_type, subkey_type);
+    is(what, known.seq, seq);
+}
+
+/* Two requests of one service are kept side by side, also after the service is freed. */
+static void kept_apart(void)
+{
+    fevstunik_acceptor service = FEVSTUNIK_ACCEPTOR_INIT, none = FEVSTUNIK_ACCEPTOR_INIT;
+    fevstunik_accepted first = FEVSTUNIK_ACCEPTED_INIT, second = FEVSTUNIK_ACCEPTED_INIT;
+    fevstunik_time now = moment(1700000100, 5);
+    fevstunik_known known;
+
+    is_answer("new", fevstunik_acceptor_new(&service, keytab.at, keytab.size, 300, EACH_NAME), FEVSTUNIK_OK, 0, 0, 0);
+    is_answer("ready", fevstunik_accepted_new(&first), FEVSTUNIK_OK, 0, 0, 0);
+    is_answer("ready too", fevstunik_accepted_new(&second), FEVSTUNIK_OK, 0, 0, 0);
+    is_answer("the first", fevstunik_acceptor_accept(&service, &first, keyed.at, keyed.size, &now), FEVSTUNIK_OK, 0, 0, 0);
+    is_kept("the first is kept", &first, 20, 4294967295);
+    is_answer("not yet", fevstunik_accepted_known(&second, &known, buffer, sizeof buffer), FEVSTUNIK_NOTHING_THERE, 0, 0, 0);
+    is_answer("a repeat", fevstunik_acceptor_accept(&service, &second, keyed.at, keyed.size, &now), FEVSTUNIK_REPEAT, 34, 0, 0);
+    is_kept("the first stays", &first, 20, 4294967295);
+    fevstunik_acceptor_free(&service);
+    is_kept("without the service", &first, 20, 4294967295);
+    is_answer("another", fevstunik_acceptor_new(&service, keytab.at, keytab.size, 300, EACH_NAME), FEVSTUNIK_OK, 0, 0, 0);
+    is_answer("the second", fevstunik_acceptor_accept(&service, &second, request.at, request.size, &now), FEVSTUNIK_OK, 0, 0, 0);
+    is_kept("the second is kept", &second, 0, 0);
+    is_kept("and the first", &first, 20, 4294967295);
+    is_answer("into the first", fevstunik_acceptor_accept(&service, &first, request.at, request.size, &now), FEVSTUNIK_REPEAT, 34, 0, 0);
+    is_answer("that is empty", fevstunik_accepted_known(&first, &known, buffer, sizeof buffer), FEVSTUNIK_NOTHING_THERE, 0, 0, 0);
+    is_kept("the second stays", &second, 0, 0);
+    is_answer("of no service", fevstunik_acceptor_accept(&none, &second, request.at, request.size, &now), FEVSTUNIK_EMPTY_HANDLE, 0, 0, 0);
+    is_answer("nothing then", fevstunik_accepted_known(&second, &known, buffer, sizeof buffer), FEVSTUNIK_NOTHING_THERE, 0, 0, 0);
+    fevstunik_acceptor_free(&service);
+    fevstunik_accepted_free(&first);
+    is_answer("freed", fevstunik_accepted_known(&first, &known, buffer, sizeof buffer), FEVSTUNIK_EMPTY_HANDLE, 0, 0, 0);
+    is("freed", first.opaque == NULL, 1);
+    fevstunik_accepted_free(&second);
+}
+
+/* A handle that is made ready again has forgotten what it kept. */
+static void ready_again(void)
+{
+    fevstunik_acceptor service = FEVSTUNIK_ACCEPTOR_INIT;
+    fevstunik_time now = moment(1700000100, 5);
+    fevstunik_known known;
+
+    is_answer("new", fevstunik_acceptor_new(&service, keytab.at, keytab.size, 300, EACH_NAME), FEVSTUNIK_OK, 0, 0, 0);
+    is_answer("accept", fevstunik_acceptor_accept(&service, &accepted, keyed.at, keyed.size, &now), FEVSTUNIK_OK, 0, 0, 0);
+    is_kept("kept", &accepted, 20, 4294967295);
+    is_answer("ready again", fevstunik_accepted_new(&accepted), FEVSTUNIK_OK, 0, 0, 0);
+    is_answer("forgotten", fevstunik_accepted_known(&accepted, &known, buffer, sizeof buffer), FEVSTUNIK_NOTHING_THERE, 0, 0, 0);
+    fevstunik_acceptor_free(&service);
 }
 
 /* A service isn't made of what is no keytab, or with too great a skew, and one that was made stays. */
@@ -56,16 +146,17 @@ static void is_accepted(fevstunik_acceptor *service)
     fevstunik_known known;
 
     is_answer("no moment", fevstunik_acceptor_latest(service, &latest), FEVSTUNIK_NOTHING_THERE, 0, 0, 0);
-    is_answer("none yet", fevstunik_acceptor_accepted(service, &known, buffer, sizeof buffer), FEVSTUNIK_NOTHING_THERE, 0, 0, 0);
-    is_answer("accept", fevstunik_acceptor_accept(service, request.at, request.size, &now), FEVSTUNIK_OK, 0, 0, 0);
+    is_answer("ready", fevstunik_accepted_new(&accepted), FEVSTUNIK_OK, 0, 0, 0);
+    is_answer("none yet", fevstunik_accepted_known(&accepted, &known, buffer, sizeof buffer), FEVSTUNIK_NOTHING_THERE, 0, 0, 0);
+    is_answer("accept", fevstunik_acceptor_accept(service, &accepted, request.at, request.size, &now), FEVSTUNIK_OK, 0, 0, 0);
     is("count", (long long)fevstunik_acceptor_count(service), 1);
     is_answer("latest", fevstunik_acceptor_latest(service, &latest), FEVSTUNIK_OK, 0, 0, 0);
     is("latest second", latest.seconds, 1700000101);
     is("latest micros", latest.micros, 7);
     memset(buffer, 0xaa, sizeof buffer);
-    is_answer("short", fevstunik_acceptor_accepted(service, &known, buffer, 34), FEVSTUNIK_SHORT_BUFFER, 0, 0, 35);
+    is_answer("short", fevstunik_accepted_known(&accepted, &known, buffer, 34), FEVSTUNIK_SHORT_BUFFER, 0, 0, 35);
     is("not written", buffer[0], 0xaa);
-    is_answer("told", fevstunik_acceptor_accepted(service, &known, buffer, 35), FEVSTUNIK_OK, 0, 0, 35);
+    is_answer("told", fevstunik_accepted_known(&accepted, &known, buffer, 35), FEVSTUNIK_OK, 0, 0, 35);
     is("behind", buffer[35], 0xaa);
     is("client at", (long long)known.client.at, 0);
     is("client size", (long long)known.client.size, 8);
@@ -91,7 +182,7 @@ static void is_accepted(fevstunik_acceptor *service)
     is("wants reply", known.wants_reply, 0);
 }
 
-static fevstunik_answer reply_of(fevstunik_acceptor *service, size_t confounder_size, int32_t type, size_t subkey_size, size_t room)
+static fevstunik_answer reply_of(size_t confounder_size, int32_t type, size_t subkey_size, size_t room)
 {
     uint8_t confounder[17], subkey[32];
     fevstunik_choice choice = nothing;
@@ -104,19 +195,19 @@ static fevstunik_answer reply_of(fevstunik_acceptor *service, size_t confounder_
     choice.subkey_type = type;
     choice.has_seq = type != 0;
     choice.seq = 128;
-    return fevstunik_acceptor_reply(service, confounder, confounder_size, &choice, subkey, subkey_size, buffer, room);
+    return fevstunik_accepted_reply(&accepted, confounder, confounder_size, &choice, subkey, subkey_size, buffer, room);
 }
 
 /* The replies are those of the fixture, to the byte; what isn't replied to says why. */
-static void replies(fevstunik_acceptor *service)
+static void replies(void)
 {
-    is_answer("confounder", reply_of(service, 17, 0, 0, sizeof buffer), FEVSTUNIK_BAD_CONFOUNDER, 0, 0, 0);
-    is_answer("type", reply_of(service, 16, 18, 32, sizeof buffer), FEVSTUNIK_KEY_TYPE, 0, 0, 0);
-    is_answer("length", reply_of(service, 16, 20, 16, sizeof buffer), FEVSTUNIK_KEY_LENGTH, 0, 0, 0);
-    is_answer("short reply", reply_of(service, 16, 0, 0, reply.size - 1), FEVSTUNIK_SHORT_BUFFER, 0, 0, reply.size);
-    is_answer("reply", reply_of(service, 16, 0, 0, sizeof buffer), FEVSTUNIK_OK, 0, 0, reply.size);
+    is_answer("confounder", reply_of(17, 0, 0, sizeof buffer), FEVSTUNIK_BAD_CONFOUNDER, 0, 0, 0);
+    is_answer("type", reply_of(16, 18, 32, sizeof buffer), FEVSTUNIK_KEY_TYPE, 0, 0, 0);
+    is_answer("length", reply_of(16, 20, 16, sizeof buffer), FEVSTUNIK_KEY_LENGTH, 0, 0, 0);
+    is_answer("short reply", reply_of(16, 0, 0, reply.size - 1), FEVSTUNIK_SHORT_BUFFER, 0, 0, reply.size);
+    is_answer("reply", reply_of(16, 0, 0, sizeof buffer), FEVSTUNIK_OK, 0, 0, reply.size);
     is_bytes("reply", buffer, reply.at, reply.size);
-    is_answer("keyed reply", reply_of(service, 16, 19, 16, sizeof buffer), FEVSTUNIK_OK, 0, 0, keyed_reply.size);
+    is_answer("keyed reply", reply_of(16, 19, 16, sizeof buffer), FEVSTUNIK_OK, 0, 0, keyed_reply.size);
     is_bytes("keyed reply", buffer, keyed_reply.at, keyed_reply.size);
 }
 
@@ -126,16 +217,16 @@ static void is_refused(fevstunik_acceptor *service)
     fevstunik_time now = moment(1700000101, 0), late = moment(1700000400, 6);
     fevstunik_known known;
 
-    is_answer("repeat", fevstunik_acceptor_accept(service, request.at, request.size, &now), FEVSTUNIK_REPEAT, 34, 0, 0);
-    is_answer("none then", fevstunik_acceptor_accepted(service, &known, buffer, sizeof buffer), FEVSTUNIK_NOTHING_THERE, 0, 0, 0);
-    is_answer("no reply then", reply_of(service, 16, 0, 0, sizeof buffer), FEVSTUNIK_NOTHING_THERE, 0, 0, 0);
-    is_answer("another message", fevstunik_acceptor_accept(service, reply.at, reply.size, &now), FEVSTUNIK_MESSAGE_TYPE, 40, 0, 0);
-    is_answer("no bytes", fevstunik_acceptor_accept(service, request.at, 0, &now), FEVSTUNIK_MALFORMED, 60, 0, 0);
-    is_answer("one byte", fevstunik_acceptor_accept(service, request.at, 1, &now), FEVSTUNIK_MALFORMED, 60, 1, 0);
+    is_answer("repeat", fevstunik_acceptor_accept(service, &accepted, request.at, request.size, &now), FEVSTUNIK_REPEAT, 34, 0, 0);
+    is_answer("none then", fevstunik_accepted_known(&accepted, &known, buffer, sizeof buffer), FEVSTUNIK_NOTHING_THERE, 0, 0, 0);
+    is_answer("no reply then", reply_of(16, 0, 0, sizeof buffer), FEVSTUNIK_NOTHING_THERE, 0, 0, 0);
+    is_answer("another message", fevstunik_acceptor_accept(service, &accepted, reply.at, reply.size, &now), FEVSTUNIK_MESSAGE_TYPE, 40, 0, 0);
+    is_answer("no bytes", fevstunik_acceptor_accept(service, &accepted, request.at, 0, &now), FEVSTUNIK_MALFORMED, 60, 0, 0);
+    is_answer("one byte", fevstunik_acceptor_accept(service, &accepted, request.at, 1, &now), FEVSTUNIK_MALFORMED, 60, 1, 0);
     request.at[request.size - 1] ^= 1;
-    is_answer("bent", fevstunik_acceptor_accept(service, request.at, request.size, &now), FEVSTUNIK_AUTHENTICATOR_INTEGRITY, 31, 0, 0);
+    is_answer("bent", fevstunik_acceptor_accept(service, &accepted, request.at, request.size, &now), FEVSTUNIK_AUTHENTICATOR_INTEGRITY, 31, 0, 0);
     request.at[request.size - 1] ^= 1;
-    is_answer("late", fevstunik_acceptor_accept(service, keyed.at, keyed.size, &late), FEVSTUNIK_SKEW, 37, 0, 0);
+    is_answer("late", fevstunik_acceptor_accept(service, &accepted, keyed.at, keyed.size, &late), FEVSTUNIK_SKEW, 37, 0, 0);
     is("count then", (long long)fevstunik_acceptor_count(service), 0);
 }
 
@@ -181,16 +272,16 @@ static void errors(void)
 
     is_answer("new", fevstunik_acceptor_new(&service, keytab.at, keytab.size, 300, EACH_NAME), FEVSTUNIK_OK, 0, 0, 0);
     is_answer("no error yet", error_of(&service, "host/web@EX", now, sizeof buffer), FEVSTUNIK_NOTHING_THERE, 0, 0, 0);
-    is_answer("accept", fevstunik_acceptor_accept(&service, request.at, request.size, &now), FEVSTUNIK_OK, 0, 0, 0);
+    is_answer("accept", fevstunik_acceptor_accept(&service, &accepted, request.at, request.size, &now), FEVSTUNIK_OK, 0, 0, 0);
     is_answer("no error of it", error_of(&service, "host/web@EX", now, sizeof buffer), FEVSTUNIK_NOTHING_THERE, 0, 0, 0);
-    is_answer("late", fevstunik_acceptor_accept(&service, keyed.at, keyed.size, &late), FEVSTUNIK_SKEW, 37, 0, 0);
+    is_answer("late", fevstunik_acceptor_accept(&service, &accepted, keyed.at, keyed.size, &late), FEVSTUNIK_SKEW, 37, 0, 0);
     memset(buffer, 0xaa, sizeof buffer);
     is_answer("short error", error_of(&service, "host/web@EX", now, error.size - 1), FEVSTUNIK_SHORT_BUFFER, 0, 0, error.size);
     is("not written", buffer[0], 0xaa);
     is_answer("error", error_of(&service, "host/web@EX", now, error.size), FEVSTUNIK_OK, 0, 0, error.size);
     is_bytes("error", buffer, error.at, error.size);
     is("behind it", buffer[error.size], 0xaa);
-    is_answer("another type", fevstunik_acceptor_accept(&service, reply.at, reply.size, &now), FEVSTUNIK_MESSAGE_TYPE, 40, 0, 0);
+    is_answer("another type", fevstunik_acceptor_accept(&service, &accepted, reply.at, reply.size, &now), FEVSTUNIK_MESSAGE_TYPE, 40, 0, 0);
     is_answer("its error", error_of(&service, "host/web@EX", now, sizeof buffer), FEVSTUNIK_OK, 0, 0, error.size);
     is("its code", buffer[42], 40);
     codes_errors(now);
@@ -213,14 +304,14 @@ static void wanted_services(void)
     for (i = 0; i < sizeof others / sizeof *others; i++) {
         is_answer("another", fevstunik_acceptor_new(&service, keytab.at, keytab.size, 300, (const uint8_t *)others[i], strlen(others[i])),
                   FEVSTUNIK_OK, 0, 0, 0);
-        is_answer(others[i], fevstunik_acceptor_accept(&service, request.at, request.size, &now), FEVSTUNIK_NOT_US, 35, 0, 0);
+        is_answer(others[i], fevstunik_acceptor_accept(&service, &accepted, request.at, request.size, &now), FEVSTUNIK_NOT_US, 35, 0, 0);
         is("nothing is seen", (long long)fevstunik_acceptor_count(&service), 0);
     }
     is_answer("this one", fevstunik_acceptor_new(&service, keytab.at, keytab.size, 300, WEB), FEVSTUNIK_OK, 0, 0, 0);
-    is_answer("accept", fevstunik_acceptor_accept(&service, request.at, request.size, &now), FEVSTUNIK_OK, 0, 0, 0);
-    is_answer("repeat", fevstunik_acceptor_accept(&service, request.at, request.size, &now), FEVSTUNIK_REPEAT, 34, 0, 0);
+    is_answer("accept", fevstunik_acceptor_accept(&service, &accepted, request.at, request.size, &now), FEVSTUNIK_OK, 0, 0, 0);
+    is_answer("repeat", fevstunik_acceptor_accept(&service, &accepted, request.at, request.size, &now), FEVSTUNIK_REPEAT, 34, 0, 0);
     is_answer("each", fevstunik_acceptor_new(&service, keytab.at, keytab.size, 300, EACH_NAME), FEVSTUNIK_OK, 0, 0, 0);
-    is_answer("accept anew", fevstunik_acceptor_accept(&service, request.at, request.size, &now), FEVSTUNIK_OK, 0, 0, 0);
+    is_answer("accept anew", fevstunik_acceptor_accept(&service, &accepted, request.at, request.size, &now), FEVSTUNIK_OK, 0, 0, 0);
     fevstunik_acceptor_free(&service);
 }
 
@@ -436,8 +527,8 @@ static void is_keyed(void)
     size_t i;
 
     is_answer("new", fevstunik_acceptor_new(&service, keytab.at, keytab.size, 0, EACH_NAME), FEVSTUNIK_OK, 0, 0, 0);
-    is_answer("keyed", fevstunik_acceptor_accept(&service, keyed.at, keyed.size, &now), FEVSTUNIK_OK, 0, 0, 0);
-    is_answer("told", fevstunik_acceptor_accepted(&service, &known, buffer, sizeof buffer), FEVSTUNIK_OK, 0, 0, 67);
+    is_answer("keyed", fevstunik_acceptor_accept(&service, &accepted, keyed.at, keyed.size, &now), FEVSTUNIK_OK, 0, 0, 0);
+    is_answer("told", fevstunik_accepted_known(&accepted, &known, buffer, sizeof buffer), FEVSTUNIK_OK, 0, 0, 67);
     is("type", known.subkey_type, 20);
     is("there", known.has_subkey, 1);
     is("at", (long long)known.subkey.at, 24);
@@ -463,8 +554,8 @@ static void another_service(void)
 
     is("two keys", both.code, FEVSTUNIK_OK);
     is_answer("new", fevstunik_acceptor_new(&service, buffer, both.size, 300, EACH_NAME), FEVSTUNIK_OK, 0, 0, 0);
-    is_answer("accept", fevstunik_acceptor_accept(&service, other.at, other.size, &now), FEVSTUNIK_OK, 0, 0, 0);
-    is_answer("told", fevstunik_acceptor_accepted(&service, &known, buffer, sizeof buffer), FEVSTUNIK_OK, 0, 0, 31);
+    is_answer("accept", fevstunik_acceptor_accept(&service, &accepted, other.at, other.size, &now), FEVSTUNIK_OK, 0, 0, 0);
+    is_answer("told", fevstunik_accepted_known(&accepted, &known, buffer, sizeof buffer), FEVSTUNIK_OK, 0, 0, 31);
     is("at", (long long)known.service.at, 24);
     is("size", (long long)known.service.size, 7);
     is_bytes("service", buffer + 24, "a\\/b@EX", 7);
@@ -474,8 +565,8 @@ static void another_service(void)
     is("authtime", known.authtime, 1700000000);
     is("numbered", known.has_seq, 1);
     is("number", known.seq, 0);
-    is_answer("the fixture's", fevstunik_acceptor_accept(&service, request.at, request.size, &now), FEVSTUNIK_OK, 0, 0, 0);
-    is_answer("told then", fevstunik_acceptor_accepted(&service, &known, buffer, sizeof buffer), FEVSTUNIK_OK, 0, 0, 35);
+    is_answer("the fixture's", fevstunik_acceptor_accept(&service, &accepted, request.at, request.size, &now), FEVSTUNIK_OK, 0, 0, 0);
+    is_answer("told then", fevstunik_accepted_known(&accepted, &known, buffer, sizeof buffer), FEVSTUNIK_OK, 0, 0, 35);
     is_bytes("its service", buffer + known.service.at, "host/web@EX", 11);
     is("its type", known.service_type, 3);
     fevstunik_acceptor_free(&service);
@@ -657,10 +748,10 @@ static void two_faults(void)
     is_answer("skew and keytab", fevstunik_acceptor_new(&service, none.at, none.size, 86401, EACH_NAME), FEVSTUNIK_BAD_SKEW, 0, 0, 0);
     is_answer("new", fevstunik_acceptor_new(&service, keytab.at, keytab.size, 300, EACH_NAME), FEVSTUNIK_OK, 0, 0, 0);
     is_answer("nothing and name", error_of(&service, "host/web", now, sizeof buffer), FEVSTUNIK_NOTHING_THERE, 0, 0, 0);
-    is_answer("accept", fevstunik_acceptor_accept(&service, request.at, request.size, &now), FEVSTUNIK_OK, 0, 0, 0);
-    is_answer("reply confounder and type", reply_of(&service, 17, 17, 32, sizeof buffer), FEVSTUNIK_BAD_CONFOUNDER, 0, 0, 0);
-    is_answer("reply confounder and length", reply_of(&service, 15, 20, 16, sizeof buffer), FEVSTUNIK_BAD_CONFOUNDER, 0, 0, 0);
-    is_answer("repeat", fevstunik_acceptor_accept(&service, request.at, request.size, &now), FEVSTUNIK_REPEAT, 34, 0, 0);
+    is_answer("accept", fevstunik_acceptor_accept(&service, &accepted, request.at, request.size, &now), FEVSTUNIK_OK, 0, 0, 0);
+    is_answer("reply confounder and type", reply_of(17, 17, 32, sizeof buffer), FEVSTUNIK_BAD_CONFOUNDER, 0, 0, 0);
+    is_answer("reply confounder and length", reply_of(15, 20, 16, sizeof buffer), FEVSTUNIK_BAD_CONFOUNDER, 0, 0, 0);
+    is_answer("repeat", fevstunik_acceptor_accept(&service, &accepted, request.at, request.size, &now), FEVSTUNIK_REPEAT, 34, 0, 0);
     is_answer("error name and moment", error_of(&service, "host/web", bad, sizeof buffer), FEVSTUNIK_NO_REALM, 0, 0, 0);
     is_answer("error bytes and moment", error_of(&service, "\xff@EX", bad, sizeof buffer), FEVSTUNIK_NOT_UTF8, 0, 0, 0);
     fevstunik_acceptor_free(&service);
@@ -678,17 +769,17 @@ static void bad_moments(void)
     fevstunik_known known;
 
     is_answer("new", fevstunik_acceptor_new(&service, keytab.at, keytab.size, 300, EACH_NAME), FEVSTUNIK_OK, 0, 0, 0);
-    is_answer("accept", fevstunik_acceptor_accept(&service, request.at, request.size, &now), FEVSTUNIK_OK, 0, 0, 0);
-    is_answer("no moment", fevstunik_acceptor_accept(&service, request.at, request.size, &bad), FEVSTUNIK_BAD_MOMENT, 0, 0, 0);
-    is_answer("none told", fevstunik_acceptor_accepted(&service, &known, buffer, sizeof buffer), FEVSTUNIK_NOTHING_THERE, 0, 0, 0);
-    is_answer("no reply", reply_of(&service, 16, 0, 0, sizeof buffer), FEVSTUNIK_NOTHING_THERE, 0, 0, 0);
+    is_answer("accept", fevstunik_acceptor_accept(&service, &accepted, request.at, request.size, &now), FEVSTUNIK_OK, 0, 0, 0);
+    is_answer("no moment", fevstunik_acceptor_accept(&service, &accepted, request.at, request.size, &bad), FEVSTUNIK_BAD_MOMENT, 0, 0, 0);
+    is_answer("none told", fevstunik_accepted_known(&accepted, &known, buffer, sizeof buffer), FEVSTUNIK_NOTHING_THERE, 0, 0, 0);
+    is_answer("no reply", reply_of(16, 0, 0, sizeof buffer), FEVSTUNIK_NOTHING_THERE, 0, 0, 0);
     is_answer("no error", error_of(&service, "host/web@EX", now, sizeof buffer), FEVSTUNIK_NOTHING_THERE, 0, 0, 0);
     is("count", (long long)fevstunik_acceptor_count(&service), 1);
     is_answer("latest", fevstunik_acceptor_latest(&service, &latest), FEVSTUNIK_OK, 0, 0, 0);
     is("latest second", latest.seconds, 1700000101);
     is("latest micros", latest.micros, 7);
-    is_answer("repeat", fevstunik_acceptor_accept(&service, request.at, request.size, &now), FEVSTUNIK_REPEAT, 34, 0, 0);
-    is_answer("no moment again", fevstunik_acceptor_accept(&service, request.at, request.size, &bad), FEVSTUNIK_BAD_MOMENT, 0, 0, 0);
+    is_answer("repeat", fevstunik_acceptor_accept(&service, &accepted, request.at, request.size, &now), FEVSTUNIK_REPEAT, 34, 0, 0);
+    is_answer("no moment again", fevstunik_acceptor_accept(&service, &accepted, request.at, request.size, &bad), FEVSTUNIK_BAD_MOMENT, 0, 0, 0);
     is_answer("no error of it", error_of(&service, "host/web@EX", now, sizeof buffer), FEVSTUNIK_NOTHING_THERE, 0, 0, 0);
     fevstunik_acceptor_free(&service);
 }
@@ -709,12 +800,15 @@ int main(int count, char **words)
     from_hex(&two, words[8]);
     from_hex(&other, words[9]);
     empty_handles();
+    unready();
+    kept_apart();
+    ready_again();
     wanted_services();
     constants();
     is_answer("new", fevstunik_acceptor_new(&service, keytab.at, keytab.size, 300, EACH_NAME), FEVSTUNIK_OK, 0, 0, 0);
     faulty_keytabs(&service);
     is_accepted(&service);
-    replies(&service);
+    replies();
     is_refused(&service);
     is_answer("new again", fevstunik_acceptor_new(&service, keytab.at, keytab.size, 300, EACH_NAME), FEVSTUNIK_OK, 0, 0, 0);
     is("count anew", (long long)fevstunik_acceptor_count(&service), 0);
@@ -737,6 +831,7 @@ int main(int count, char **words)
     two_faults_of_requests();
     two_faults();
     bad_moments();
+    fevstunik_accepted_free(&accepted);
     printf("%d passed, %d failed\n", passed, failed);
     return failed != 0;
 }

@@ -1,5 +1,6 @@
 mod Values
 mod Handles
+mod Slots
 mod Making
 mod Requests
 mod Truth
