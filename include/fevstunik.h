@@ -100,7 +100,7 @@ typedef enum fevstunik_code {
     FEVSTUNIK_FILE_HEADER = 501,    /* the header of the cache is malformed */
     FEVSTUNIK_FILE_TRUNCATED = 502, /* the keytab ends before the record at `at` does */
     FEVSTUNIK_FILE_BAD_ITEM = 503,  /* the record at `at` holds no entry, or no principal or credential is at `at` */
-    FEVSTUNIK_NO_SUCH_ENTRY = 504,  /* the file has no entry, or no credential, of this index */
+    FEVSTUNIK_NO_SUCH_ENTRY = 504,  /* the file or the request has no item of this index */
 
     /* Why there is no request. */
     FEVSTUNIK_NO_CREDENTIAL = 600,      /* the cache has no ticket of its default principal for the service */
@@ -221,7 +221,7 @@ static inline const char *fevstunik_code_text(uint32_t code)
     case FEVSTUNIK_FILE_HEADER: return "the header of the cache is malformed";
     case FEVSTUNIK_FILE_TRUNCATED: return "the keytab ends before the record at `at` does";
     case FEVSTUNIK_FILE_BAD_ITEM: return "the record at `at` holds no entry, or no principal or credential is at `at`";
-    case FEVSTUNIK_NO_SUCH_ENTRY: return "the file has no entry, or no credential, of this index";
+    case FEVSTUNIK_NO_SUCH_ENTRY: return "the file or the request has no item of this index";
     case FEVSTUNIK_NO_CREDENTIAL: return "the cache has no ticket of its default principal for the service";
     case FEVSTUNIK_NO_USABLE_KEY: return "no ticket for the service has a usable session key";
     case FEVSTUNIK_CREDENTIAL_EXPIRED: return "no usable ticket for the service ends later than the moment";
@@ -281,6 +281,15 @@ typedef struct fevstunik_known {
     bool has_seq;               /* whether it chose a sequence number */
     bool wants_reply;           /* whether it asks for a reply */
 } fevstunik_known;
+
+/* The lists of a request that was accepted. A number never changes its meaning. Data of types that you don't know is to be handled
+ * as RFC 4120 says of each. */
+typedef enum fevstunik_list {
+    FEVSTUNIK_LIST_ADDRESSES = 1,                   /* the ticket's addresses, which were compared with nothing */
+    FEVSTUNIK_LIST_TICKET_AUTHORIZATION = 2,        /* the ticket's authorization data; each item is of type 1 (AD-IF-RELEVANT) */
+    FEVSTUNIK_LIST_AUTHENTICATOR_AUTHORIZATION = 3, /* the authenticator's, likewise */
+    FEVSTUNIK_LIST_CHECKSUM = 4                     /* the authenticator's checksum, a list of one; it wasn't verified */
+} fevstunik_list;
 
 /* What a client and a service agreed on. The spans are places in the buffer that was handed in beside it. */
 typedef struct fevstunik_agreement {
@@ -523,7 +532,7 @@ fevstunik_answer fevstunik_acceptor_accept(fevstunik_acceptor *handle, fevstunik
  *
  * `service`, `client`, `ctime` and `cusec` are what the request is remembered by. (The types of names don't count; and a name without
  * components has the same text as one with a single empty component, though they are two names.) The ticket's addresses were compared
- * with nothing; they, authorization data and the checksum aren't handed out.
+ * with nothing: fevstunik_accepted_item hands out these, authorization data and the checksum.
  *
  * FEVSTUNIK_EMPTY_HANDLE, FEVSTUNIK_NOTHING_THERE and FEVSTUNIK_OUT_OF_MEMORY, and nothing is written; FEVSTUNIK_OK;
  * FEVSTUNIK_SHORT_BUFFER.
@@ -534,6 +543,27 @@ fevstunik_answer fevstunik_acceptor_accept(fevstunik_acceptor *handle, fevstunik
  *     printf("%.*s\n", (int)known.client.size, (const char *)buffer + known.client.at);
  */
 fevstunik_answer fevstunik_accepted_known(const fevstunik_accepted *accepted, fevstunik_known *known, uint8_t *buffer, size_t buffer_size);
+
+/* Counts the items of a list of what was accepted: `list` is a fevstunik_list, and `size` the number of its items. A list that is
+ * there may have none. It takes no memory.
+ *
+ * FEVSTUNIK_EMPTY_HANDLE; FEVSTUNIK_NOTHING_THERE; FEVSTUNIK_NO_SUCH_ENTRY if the request doesn't have the list; FEVSTUNIK_OK.
+ *
+ *     answer = fevstunik_accepted_count(&accepted, FEVSTUNIK_LIST_TICKET_AUTHORIZATION);
+ */
+fevstunik_answer fevstunik_accepted_count(const fevstunik_accepted *accepted, uint32_t list);
+
+/* Hands out the item of an index, counted from 0, of a list of what was accepted: its type in `kind`, and its bytes in the buffer.
+ * The type is that of an address (RFC 4120, section 7.5.3), of authorization data (section 7.5.4) or of a checksum (section 7.5.6).
+ * `kind` is written even if the buffer is too short. It takes no memory.
+ *
+ * FEVSTUNIK_EMPTY_HANDLE; FEVSTUNIK_NOTHING_THERE; FEVSTUNIK_NO_SUCH_ENTRY if the request doesn't have the list, or the list the item; and
+ * nothing is written. FEVSTUNIK_OK; FEVSTUNIK_SHORT_BUFFER.
+ *
+ *     answer = fevstunik_accepted_item(&accepted, FEVSTUNIK_LIST_CHECKSUM, 0, &kind, buffer, sizeof buffer);
+ */
+fevstunik_answer fevstunik_accepted_item(const fevstunik_accepted *accepted, uint32_t list, size_t index, int32_t *kind, uint8_t *buffer,
+                                         size_t buffer_size);
 
 /* Builds the reply (the bytes of an AP-REP) to what was accepted. It is for a request whose `wants_reply` is true, at which it doesn't
  * look. `confounder` is 16 random bytes, new for each call. `subkey` has the bytes of the subkey whose type is in `choice`; if that is 0

@@ -144,7 +144,7 @@ def from_c(room, answered):
     yield "the C program is linked", wrong(built)
     if built.returncode == 0:
         messages = [fixture("client.rt", "REQUEST"), fixture("client.rt", "KEYED"), fixture("replies.rt", "REPLY"), fixture("replies.rt", "KEYED"),
-                    fixture("replies.rt", "ERROR"), c_cases.two_credentials().hex(), c_cases.for_another_service().hex()]
+                    fixture("replies.rt", "ERROR"), c_cases.two_credentials().hex(), c_cases.for_another_service().hex(), c_cases.with_lists().hex()]
         yield from counted("the C program", answered, program, *files, *messages)
     program, built = watched(room, "faults")
     yield "the program of faults is linked", wrong(built)

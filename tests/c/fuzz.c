@@ -232,6 +232,7 @@ static void one(fevstunik_acceptor *service, fevstunik_accepted *accepted, long 
     fevstunik_key_entry entry;
     fevstunik_cache_entry credential;
     fevstunik_owner owner;
+    int32_t kind;
     fevstunik_acceptor other = FEVSTUNIK_ACCEPTOR_INIT;
     size_t room = below(3) ? ROOM : below(64);
 
@@ -261,6 +262,8 @@ static void one(fevstunik_acceptor *service, fevstunik_accepted *accepted, long 
         bend_message(&request);
         look(fevstunik_acceptor_accept(service, accepted, bent.at, bent.size, &now), bent.size, ROOM, at);
         look(fevstunik_accepted_known(accepted, &known, buffer, room), 0, room, at);
+        look(fevstunik_accepted_count(accepted, below(6)), 0, ROOM, at);
+        look(fevstunik_accepted_item(accepted, below(6), below(3), &kind, buffer, room), 0, room, at);
         look(fevstunik_accepted_reply(accepted, cache.at, 16, &nothing, cache.at, 0, buffer, room), 0, room, at);
         if (fevstunik_acceptor_count(service) > 1)
             wrong("what is remembered", at);

@@ -1,6 +1,6 @@
 /* Runs the library on the exchange that tests share (tests/vectors/fixture.py), with exact answers. The arguments are the files of the
  * keytab and of the cache, and in hex the request, the request with a subkey, the reply, the reply with a subkey, the error, a cache of
- * two credentials with an offset, and a request for another service (tests/c_cases.py). */
+ * two credentials with an offset, a request for another service, and a request with lists (tests/c_cases.py). */
 #include "checks.h"
 
 /* Where the credential begins in the cache: behind the version, an empty header and the default principal. */
@@ -12,7 +12,7 @@
 #define FAR ((size_t)1 << 32)
 #define FILLED ((size_t)0x5a5a5a5a5a5a5a5a)
 
-static struct bytes keytab, cache, request, keyed, reply, keyed_reply, error, two, other;
+static struct bytes keytab, cache, request, keyed, reply, keyed_reply, error, two, other, listed;
 static uint8_t buffer[4096];
 /* What is accepted is kept here, if not said otherwise. */
 static fevstunik_accepted accepted = FEVSTUNIK_ACCEPTED_INIT;
@@ -544,6 +544,93 @@ static void is_keyed(void)
     fevstunik_acceptor_free(&service);
 }
 
+static fevstunik_answer item(uint32_t list, size_t index, int32_t *kind, size_t room)
+{
+    memset(buffer, 0xaa, sizeof buffer);
+    *kind = 77;
+    return fevstunik_accepted_item(&accepted, list, index, kind, buffer, room);
+}
+
+/* An item is handed out with room for it, and its type alone with a byte less. */
+static void is_item(const char *what, uint32_t list, size_t index, int32_t kind, const void *bytes, size_t size)
+{
+    int32_t found;
+
+    is_answer(what, item(list, index, &found, size), FEVSTUNIK_OK, 0, 0, size);
+    is(what, found, kind);
+    is_bytes(what, buffer, bytes, size);
+    is("behind it", buffer[size], 0xaa);
+    if (size == 0)
+        return;
+    is_answer(what, item(list, index, &found, size - 1), FEVSTUNIK_SHORT_BUFFER, 0, 0, size);
+    is(what, found, kind);
+    is("not written", buffer[0], 0xaa);
+}
+
+static void is_no_item(const char *what, uint32_t list, size_t index, unsigned code)
+{
+    int32_t kind;
+
+    is_answer(what, item(list, index, &kind, sizeof buffer), code, 0, 0, 0);
+    is("no type", kind, 77);
+    is("no byte", buffer[0], 0xaa);
+}
+
+/* How many items each list has; -1 if it isn't there. */
+static void are_counted(long long addresses, long long ticket, long long authenticator, long long checksum)
+{
+    const long long wanted[] = {-1, addresses, ticket, authenticator, checksum, -1};
+    uint32_t list;
+
+    for (list = 0; list < 6; list++)
+        if (wanted[list] < 0) {
+            is_answer("no list", fevstunik_accepted_count(&accepted, list), FEVSTUNIK_NO_SUCH_ENTRY, 0, 0, 0);
+            is_no_item("no list's item", list, 0, FEVSTUNIK_NO_SUCH_ENTRY);
+        } else {
+            is_answer("a list", fevstunik_accepted_count(&accepted, list), FEVSTUNIK_OK, 0, 0, (size_t)wanted[list]);
+            is_no_item("the item after the last", list, (size_t)wanted[list], FEVSTUNIK_NO_SUCH_ENTRY);
+            is_no_item("an item far on", list, FAR, FEVSTUNIK_NO_SUCH_ENTRY);
+        }
+}
+
+/* Addresses, authorization data and the checksum are handed out item by item. */
+static void lists(void)
+{
+    static const uint8_t near[] = {192, 0, 2, 1};
+    uint8_t sum[16], far[16];
+    fevstunik_accepted none = FEVSTUNIK_ACCEPTED_INIT;
+    fevstunik_acceptor service = FEVSTUNIK_ACCEPTOR_INIT;
+    fevstunik_time now = moment(1700000100, 5);
+    int32_t kind = 77;
+    size_t i;
+
+    for (i = 0; i < 16; i++) {
+        sum[i] = (uint8_t)(0x50 + i);
+        far[i] = (uint8_t)(0xf0 + i);
+    }
+    is_answer("count of none", fevstunik_accepted_count(&none, FEVSTUNIK_LIST_CHECKSUM), FEVSTUNIK_EMPTY_HANDLE, 0, 0, 0);
+    is_answer("item of none", fevstunik_accepted_item(&none, FEVSTUNIK_LIST_CHECKSUM, 0, &kind, buffer, sizeof buffer),
+              FEVSTUNIK_EMPTY_HANDLE, 0, 0, 0);
+    is("no type", kind, 77);
+    is_answer("ready", fevstunik_accepted_new(&accepted), FEVSTUNIK_OK, 0, 0, 0);
+    is_answer("nothing counted", fevstunik_accepted_count(&accepted, FEVSTUNIK_LIST_CHECKSUM), FEVSTUNIK_NOTHING_THERE, 0, 0, 0);
+    is_no_item("nothing there", FEVSTUNIK_LIST_CHECKSUM, 0, FEVSTUNIK_NOTHING_THERE);
+    is_answer("new", fevstunik_acceptor_new(&service, keytab.at, keytab.size, 300, EACH_NAME), FEVSTUNIK_OK, 0, 0, 0);
+    is_answer("accept", fevstunik_acceptor_accept(&service, &accepted, listed.at, listed.size, &now), FEVSTUNIK_OK, 0, 0, 0);
+    are_counted(2, 3, 1, 1);
+    is_item("an address", FEVSTUNIK_LIST_ADDRESSES, 0, 2, near, 4);
+    is_item("another", FEVSTUNIK_LIST_ADDRESSES, 1, 24, far, 16);
+    is_item("the ticket's first", FEVSTUNIK_LIST_TICKET_AUTHORIZATION, 0, 1, "first", 5);
+    is_item("of no bytes", FEVSTUNIK_LIST_TICKET_AUTHORIZATION, 1, 1, "", 0);
+    is_item("the third", FEVSTUNIK_LIST_TICKET_AUTHORIZATION, 2, 1, "the third", 9);
+    is_item("the authenticator's", FEVSTUNIK_LIST_AUTHENTICATOR_AUTHORIZATION, 0, 1, "alone", 5);
+    is_item("the checksum", FEVSTUNIK_LIST_CHECKSUM, 0, -138, sum, 16);
+    is_answer("new again", fevstunik_acceptor_new(&service, keytab.at, keytab.size, 300, EACH_NAME), FEVSTUNIK_OK, 0, 0, 0);
+    is_answer("accept one without", fevstunik_acceptor_accept(&service, &accepted, request.at, request.size, &now), FEVSTUNIK_OK, 0, 0, 0);
+    are_counted(-1, -1, -1, -1);
+    fevstunik_acceptor_free(&service);
+}
+
 /* The service is told as the ticket names it: one that the keytab has beside the fixture's, of another name type, and with a slash in a part. */
 static void another_service(void)
 {
@@ -788,7 +875,7 @@ int main(int count, char **words)
 {
     fevstunik_acceptor service = FEVSTUNIK_ACCEPTOR_INIT;
 
-    if (count != 10)
+    if (count != 11)
         return 2;
     from_file(&keytab, words[1]);
     from_file(&cache, words[2]);
@@ -799,6 +886,7 @@ int main(int count, char **words)
     from_hex(&error, words[7]);
     from_hex(&two, words[8]);
     from_hex(&other, words[9]);
+    from_hex(&listed, words[10]);
     empty_handles();
     unready();
     kept_apart();
@@ -817,6 +905,7 @@ int main(int count, char **words)
     is("freed", service.opaque == NULL, 1);
     is_keyed();
     another_service();
+    lists();
     errors();
     names();
     files();

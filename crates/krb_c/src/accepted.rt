@@ -4,6 +4,7 @@ ghost use Rattle.std.specs.Prelude.{◌≡◌, ◌⊎◌, None, Some};
 ghost use Rattle.std.specs.Option.{MatchOption};
 ghost use Rattle.krb_c.specs.Accepting.{nothing_kept};
 ghost use Rattle.krb_c.specs.Choice.{TellsReply};
+ghost use Rattle.krb_c.specs.Items.{Counts, TellsItem};
 ghost use Rattle.krb_c.specs.Known.{TellsKnown};
 ghost use Rattle.krb_c.specs.Answer.{plain};
 ghost use Rattle.krb_c.specs.Codes.{empty_handle, ok, out_of_memory};
@@ -11,6 +12,7 @@ ghost use Rattle.krb_c.specs.Codes.{empty_handle, ok, out_of_memory};
 use crate::answer::Answer;
 use crate::choice::Choice;
 use crate::code;
+use crate::items::{count, hand_item};
 use crate::kept::Kept;
 use crate::known::Known;
 use crate::slot::Slot;
@@ -47,6 +49,46 @@ pub extern "C" fn fevstunik_accepted_known(
     match accepted.take(alloc) {
         Some(kept) => {
             let answer = kept.tell(alloc, known, buffer);
+            *accepted = Slot::of(kept);
+            answer
+        }
+        None => Answer::plain(code::EMPTY_HANDLE),
+    }
+}
+
+/// Counts the items of a list of what was accepted: 1 its addresses, 2 the ticket's authorization data, 3 the authenticator's, 4 its checksum.
+#[unsafe(no_mangle)]
+pub extern "C" fn fevstunik_accepted_count(accepted: &mut Slot, alloc: Global, list: u32) -> Answer
+    ensures count { MatchOption accepted.old.value (result ≡ plain empty_handle) (λ kept. Counts kept.accepted list result) }
+    ensures stays { accepted.new.value ≡ accepted.old.value }
+{
+    match accepted.take(alloc) {
+        Some(kept) => {
+            let answer = count(&kept.accepted, list);
+            *accepted = Slot::of(kept);
+            answer
+        }
+        None => Answer::plain(code::EMPTY_HANDLE),
+    }
+}
+
+/// Hands out the item of an index, counted from 0, of a list of what was accepted: its type in `kind`, and its bytes in the buffer.
+#[unsafe(no_mangle)]
+pub extern "C" fn fevstunik_accepted_item(
+    accepted: &mut Slot,
+    alloc: Global,
+    list: u32,
+    index: usize,
+    kind: &mut i32,
+    buffer: &mut [u8],
+) -> Answer
+    ensures item { MatchOption accepted.old.value ((result ≡ plain empty_handle) × ((kind.new ≡ kind.old) × (buffer.new ≡ buffer.old)))
+        (λ kept. TellsItem kept.accepted list index kind.old kind.new buffer.old buffer.new result) }
+    ensures stays { accepted.new.value ≡ accepted.old.value }
+{
+    match accepted.take(alloc) {
+        Some(kept) => {
+            let answer = hand_item(&kept.accepted, list, index, kind, buffer);
             *accepted = Slot::of(kept);
             answer
         }

@@ -6,7 +6,7 @@
 //!
 //! A service is kept behind a [`Handle`](handle::Handle), one pointer that is null while the handle is empty, and a request that was
 //! accepted behind a [`Slot`](slot::Slot), another one. `specs/Accepting` says what a call makes of both, `specs/Known` what is told of a
-//! request that was accepted, `specs/Choice` what a side chooses, and `specs/Asking` and
+//! request that was accepted, `specs/Items` what of its lists, `specs/Choice` what a side chooses, and `specs/Asking` and
 //! `specs/Finishing` what becomes of a client's request and of the reply to it. `specs/Refusing` says which error tells of a refusal,
 //! `specs/Listing` what is told of the entries of files, and `specs/Editing` what a changed keytab is.
 //!
@@ -33,6 +33,7 @@ mod editing;
 mod files;
 mod handle;
 mod held;
+mod items;
 mod kept;
 mod known;
 mod listing;
