@@ -12,7 +12,7 @@
  *    share one. Two handles share nothing, in one process or in two; after a fork the child's copy of a handle is a copy, and
  *    isn't used. A call that takes a const handle leaves it as it was, but may write to it until it returns: no handle is
  *    defined const.
- *  - Pointers are valid and never NULL, also those to no bytes: hand in any valid pointer with size 0.
+ *  - Pointers are valid. A pointer to no bytes, with size 0, may be NULL, and no other (this is tested, not proved).
  *  - What a call writes (its handle, its buffer, its other results) overlaps nothing else that is handed to that call.
  *  - A bool is 0 or 1. Sizes are at most PTRDIFF_MAX.
  *  - malloc, realloc and free are of one allocator, and aligned as C asks.
@@ -22,7 +22,7 @@
  * wiped from memory that is freed, and nothing is promised about how long a call takes.
  *
  * Whatever is handed in stays the caller's: no function keeps a pointer to it, or frees it. What a handle holds the library has
- * allocated, and fevstunik_acceptor_free and fevstunik_accepted_free free it; the caller has nothing else to free. Files have at most 16,777,216 bytes,
+ * allocated, and the function of that handle whose name ends in _free frees it; the caller has nothing else to free. Files have at most 16,777,216 bytes,
  * and requests, replies and errors at most 1,048,576: anything longer is a fault. Other sizes are limited by memory alone,
  * unless a limit is named.
  *
@@ -366,9 +366,21 @@ typedef struct fevstunik_accepted {
     void *opaque;
 } fevstunik_accepted;
 
+/* A credential cache that was read: opaque, and all zero before its first use. */
+typedef struct fevstunik_cache {
+    void *opaque;
+} fevstunik_cache;
+
+/* A request whose reply is awaited: opaque, and all zero before its first use. */
+typedef struct fevstunik_pending {
+    void *opaque;
+} fevstunik_pending;
+
 /* The empty handles, with which handles are initialized. */
 #define FEVSTUNIK_ACCEPTOR_INIT {NULL}
 #define FEVSTUNIK_ACCEPTED_INIT {NULL}
+#define FEVSTUNIK_CACHE_INIT {NULL}
+#define FEVSTUNIK_PENDING_INIT {NULL}
 
 /* ---- files ---- */
 
@@ -636,44 +648,65 @@ void fevstunik_acceptor_free(fevstunik_acceptor *handle);
 
 /* ---- the client's side ---- */
 
-/* Builds a request (the bytes of an AP-REQ) for a service with the first credential of a cache that fits: a ticket of the cache's default
- * principal for the service whose session key is usable, and that ends later than `at`, the client's clock. `cache` has the bytes of a
- * file of version 0x0504, `service` the service's name as text, as host/web@EX. `confounder` is 16 random bytes, new for each call.
- * `subkey` has the bytes of the subkey whose type is in `choice`; if that is 0 they aren't looked at.
+/* Reads a credential cache (the bytes of a file of version 0x0504) and keeps it in the handle: it is read once, and serves for any number
+ * of requests. What the handle held is freed. The file's bytes aren't needed afterwards.
  *
- * The first that holds: FEVSTUNIK_FILE_VERSION, _FILE_HEADER, _FILE_BAD_ITEM and _TOO_LONG for the cache; FEVSTUNIK_NOT_UTF8, _BAD_TEXT and
- * _NO_REALM for the service; FEVSTUNIK_BAD_MOMENT; FEVSTUNIK_BAD_CONFOUNDER; FEVSTUNIK_KEY_TYPE and _KEY_LENGTH;
- * FEVSTUNIK_NO_CREDENTIAL, _NO_USABLE_KEY, _CREDENTIAL_EXPIRED, _BAD_TICKET and _TOO_LONG; or FEVSTUNIK_OUT_OF_MEMORY; and nothing is
- * written. FEVSTUNIK_OK; FEVSTUNIK_SHORT_BUFFER.
+ * The first that holds: FEVSTUNIK_FILE_VERSION, _FILE_HEADER, _FILE_BAD_ITEM, _TOO_LONG; or FEVSTUNIK_OUT_OF_MEMORY; and the handle is as
+ * before. FEVSTUNIK_OK.
+ *
+ *     fevstunik_cache cache = FEVSTUNIK_CACHE_INIT;
+ *     answer = fevstunik_cache_new(&cache, file, file_size);
+ */
+fevstunik_answer fevstunik_cache_new(fevstunik_cache *cache, const uint8_t *file, size_t file_size);
+
+/* Frees what the handle holds, which is empty then, and may be used again. An empty handle stays so. It has no error.
+ *
+ *     fevstunik_cache_free(&cache);
+ */
+void fevstunik_cache_free(fevstunik_cache *cache);
+
+/* Builds a request (the bytes of an AP-REQ) for a service with the first credential of a cache that fits: a ticket of the cache's default
+ * principal for the service whose session key is usable, and that ends later than `at`, the client's clock. `service` has the service's
+ * name as text, as host/web@EX. `confounder` is 16 random bytes, new for each call. `subkey` has the bytes of the subkey whose type is in
+ * `choice`; if that is 0 they aren't looked at.
+ *
+ * What is needed to read the reply is kept in the handle `pending`, also if the buffer is too short, and what that held is freed.
+ *
+ * The first that holds: FEVSTUNIK_EMPTY_HANDLE if `cache` is empty; FEVSTUNIK_NOT_UTF8, _BAD_TEXT and _NO_REALM for the service;
+ * FEVSTUNIK_BAD_MOMENT; FEVSTUNIK_BAD_CONFOUNDER; FEVSTUNIK_KEY_TYPE and _KEY_LENGTH; FEVSTUNIK_NO_CREDENTIAL, _NO_USABLE_KEY,
+ * _CREDENTIAL_EXPIRED, _BAD_TICKET and _TOO_LONG; or FEVSTUNIK_OUT_OF_MEMORY; and nothing is written, and `pending` is as before.
+ * FEVSTUNIK_OK; FEVSTUNIK_SHORT_BUFFER.
  *
  * A call that is made again for a short buffer is handed the same moment and confounder; no other request is made of that moment.
  *
+ *     fevstunik_pending pending = FEVSTUNIK_PENDING_INIT;
  *     fevstunik_choice choice = {0, 0, false, true};
- *     answer = fevstunik_request(file, file_size, (const uint8_t *)"host/web@EX", 11, &now, random, 16, &choice, random, 0,
+ *     answer = fevstunik_request(&cache, &pending, (const uint8_t *)"host/web@EX", 11, &now, random, 16, &choice, random, 0,
  *                                buffer, sizeof buffer);
  */
-fevstunik_answer fevstunik_request(const uint8_t *cache, size_t cache_size, const uint8_t *service, size_t service_size,
+fevstunik_answer fevstunik_request(const fevstunik_cache *cache, fevstunik_pending *pending, const uint8_t *service, size_t service_size,
                                    const fevstunik_time *at, const uint8_t *confounder, size_t confounder_size,
                                    const fevstunik_choice *choice, const uint8_t *subkey, size_t subkey_size, uint8_t *buffer,
                                    size_t buffer_size);
 
-/* Reads the reply (the bytes of an AP-REP) to the request that fevstunik_request builds of the same cache, service, moment and
- * choice, and hands out what both sides agree on. The buffer gets the client's text, the session key and the service's subkey,
- * one after the other, and `agreement` their places and the numbers. `agreement` is written even if the buffer is too short.
+/* Reads the reply (the bytes of an AP-REP) to the request that is kept in the handle, and hands out what both sides agree on. The buffer
+ * gets the client's text, the session key and the service's subkey, one after the other, and `agreement` their places and the numbers.
+ * `agreement` is written even if the buffer is too short. The request is awaited still: another reply may be read.
  *
- * The first that holds: FEVSTUNIK_FILE_VERSION, _FILE_HEADER, _FILE_BAD_ITEM and _TOO_LONG for the cache; FEVSTUNIK_NOT_UTF8, _BAD_TEXT and
- * _NO_REALM for the service; FEVSTUNIK_BAD_MOMENT; FEVSTUNIK_KEY_TYPE and _KEY_LENGTH; FEVSTUNIK_NO_CREDENTIAL, _NO_USABLE_KEY,
- * _CREDENTIAL_EXPIRED, _BAD_TICKET and _TOO_LONG, if there is no such request; FEVSTUNIK_REPLY_TYPE, _REPLY_MALFORMED, _REPLY_INTEGRITY,
- * _REPLY_MISMATCH; or FEVSTUNIK_OUT_OF_MEMORY; and nothing is written. FEVSTUNIK_OK; FEVSTUNIK_SHORT_BUFFER.
+ * The first that holds: FEVSTUNIK_EMPTY_HANDLE; FEVSTUNIK_REPLY_TYPE, _REPLY_MALFORMED, _REPLY_INTEGRITY, _REPLY_MISMATCH; or
+ * FEVSTUNIK_OUT_OF_MEMORY; and nothing is written. FEVSTUNIK_OK; FEVSTUNIK_SHORT_BUFFER.
  *
  *     fevstunik_agreement agreement;
- *     answer = fevstunik_finish(file, file_size, (const uint8_t *)"host/web@EX", 11, &now, &choice, random, 0, reply, reply_size,
- *                               &agreement, buffer, sizeof buffer);
+ *     answer = fevstunik_finish(&pending, reply, reply_size, &agreement, buffer, sizeof buffer);
  */
-fevstunik_answer fevstunik_finish(const uint8_t *cache, size_t cache_size, const uint8_t *service, size_t service_size,
-                                  const fevstunik_time *at, const fevstunik_choice *choice, const uint8_t *subkey, size_t subkey_size,
-                                  const uint8_t *reply, size_t reply_size, fevstunik_agreement *agreement, uint8_t *buffer,
-                                  size_t buffer_size);
+fevstunik_answer fevstunik_finish(const fevstunik_pending *pending, const uint8_t *reply, size_t reply_size,
+                                  fevstunik_agreement *agreement, uint8_t *buffer, size_t buffer_size);
+
+/* Frees what the handle holds, which is empty then, and may be used again. An empty handle stays so. It has no error.
+ *
+ *     fevstunik_pending_free(&pending);
+ */
+void fevstunik_pending_free(fevstunik_pending *pending);
 
 /* ---- texts (RFC 8009, sections 5 and 6) ---- */
 

@@ -9,8 +9,8 @@ TOP = Path(__file__).resolve().parent.parent
 CRATE = TOP / "crates/krb_c"
 HEADER = TOP / "include/fevstunik.h"
 TYPES = {"u32": "uint32_t", "i16": "int16_t", "i32": "int32_t", "i64": "int64_t", "usize": "size_t", "bool": "bool",
-         "Handle": "fevstunik_acceptor", "Slot": "fevstunik_accepted"}
-HANDLES = {"Handle", "Slot"}
+         "Handle": "fevstunik_acceptor", "Slot": "fevstunik_accepted", "CacheHandle": "fevstunik_cache", "PendingHandle": "fevstunik_pending"}
+HANDLES = {"Handle", "Slot", "CacheHandle", "PendingHandle"}
 
 
 def without_comments(text):
@@ -132,8 +132,8 @@ def prototypes():
     """The header's prototypes are those of the crate's exports."""
     crate = set()
     for name, words, answer, clauses in re.findall(r'pub extern "C" fn (\w+)\((.*?)\)(?: -> (\w+))?\n(.*?)^\{$', crate_text(), re.S | re.M):
-        stays = "ensures stays" in clauses
-        parameters = [it for word in re.findall(r"(\w+): ([^,]+?)(?:,|\s*$)", words) for it in c_parameters(*word, stays)]
+        stays = re.findall(r"ensures stays \{ (\w+)\.new\.value ≡ \1\.old\.value \}", clauses)
+        parameters = [it for name_of, of in re.findall(r"(\w+): ([^,]+?)(?:,|\s*$)", words) for it in c_parameters(name_of, of, name_of in stays)]
         crate.add(f"{c_type(answer) if answer else 'void'} {name}({', '.join(parameters) or 'void'})")
     header = re.findall(r"^((?:fevstunik_answer|size_t|uint32_t|void) fevstunik_\w+\([^;]*\));", without_comments(HEADER.read_text()), re.M)
     return differs({" ".join(it.split()) for it in header}, crate)

@@ -2,7 +2,7 @@
  * the keytab and of the cache, and the reply in hex. Lines of standard input have what tests/c_cases.py makes:
  *
  *     request CODE KERBEROS HEX      a new service with the keytab answers this to the request
- *     cache CODE KERBEROS HEX        this is answered where a request is asked for with the cache, or its reply is finished */
+ *     cache CODE KERBEROS HEX        this is answered where a request is asked for with the cache */
 #include "checks.h"
 
 /* One byte more than a file may have, and than a message may have. */
@@ -29,17 +29,22 @@ static struct asked usual(void)
     return it;
 }
 
-/* The same fault prevents a request and its reply's being finished. */
+/* A fault prevents a request: of a cache's file that it is read, else that it is built. Nothing is awaited of it. */
 static void prevented(const char *what, struct asked it, unsigned code, size_t at)
 {
     fevstunik_choice choice = {0, 0, false, true};
-    fevstunik_agreement agreement;
+    fevstunik_cache held = FEVSTUNIK_CACHE_INIT;
+    fevstunik_pending pending = FEVSTUNIK_PENDING_INIT;
+    fevstunik_answer answer = fevstunik_cache_new(&held, it.cache, it.cache_size);
 
     choice.subkey_type = it.subkey_type;
-    is_answer(what, fevstunik_request(it.cache, it.cache_size, it.service, it.service_size, &it.at, cache.at, 16, &choice, cache.at,
-                                      it.subkey_size, buffer, sizeof buffer), code, 0, at, 0);
-    is_answer(what, fevstunik_finish(it.cache, it.cache_size, it.service, it.service_size, &it.at, &choice, cache.at, it.subkey_size, reply.at,
-                                     reply.size, &agreement, buffer, sizeof buffer), code, 0, at, 0);
+    is(what, held.opaque != NULL, answer.code == FEVSTUNIK_OK);
+    if (answer.code == FEVSTUNIK_OK)
+        answer = fevstunik_request(&held, &pending, it.service, it.service_size, &it.at, cache.at, 16, &choice, cache.at, it.subkey_size,
+                                   buffer, sizeof buffer);
+    is_answer(what, answer, code, 0, at, 0);
+    is("nothing is awaited", pending.opaque == NULL, 1);
+    fevstunik_cache_free(&held);
 }
 
 static struct asked named(const char *service)

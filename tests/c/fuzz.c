@@ -233,6 +233,8 @@ static void one(fevstunik_acceptor *service, fevstunik_accepted *accepted, long 
     fevstunik_cache_entry credential;
     fevstunik_owner owner;
     int32_t kind;
+    fevstunik_cache held = FEVSTUNIK_CACHE_INIT;
+    fevstunik_pending pending = FEVSTUNIK_PENDING_INIT;
     fevstunik_acceptor other = FEVSTUNIK_ACCEPTOR_INIT;
     size_t room = below(3) ? ROOM : below(64);
 
@@ -252,8 +254,10 @@ static void one(fevstunik_acceptor *service, fevstunik_accepted *accepted, long 
         break;
     case 1:
         bend(&cache);
-        look(fevstunik_request(bent.at, bent.size, (const uint8_t *)"host/web@EX", 11, &now, cache.at, 16, &nothing, cache.at, 0, buffer, room),
+        look(fevstunik_cache_new(&held, bent.at, bent.size), bent.size, ROOM, at);
+        look(fevstunik_request(&held, &pending, (const uint8_t *)"host/web@EX", 11, &now, cache.at, 16, &nothing, cache.at, 0, buffer, room),
              bent.size, room, at);
+        fevstunik_cache_free(&held);
         look(fevstunik_cache_credential(bent.at, bent.size, below(3), &credential, buffer, room), bent.size, room, at);
         look(fevstunik_cache_owner(bent.at, bent.size, &owner, buffer, room), bent.size, room, at);
         look(fevstunik_name_check(bent.at, bent.size), bent.size, ROOM, at);
@@ -270,10 +274,13 @@ static void one(fevstunik_acceptor *service, fevstunik_accepted *accepted, long 
         break;
     default:
         bend_message(&reply);
-        look(fevstunik_finish(cache.at, cache.size, (const uint8_t *)"host/web@EX", 11, &now, &nothing, cache.at, 0, bent.at, bent.size,
-                              &agreement, buffer, room),
-             bent.size > cache.size ? bent.size : cache.size, room, at);
+        look(fevstunik_cache_new(&held, cache.at, cache.size), cache.size, ROOM, at);
+        look(fevstunik_request(&held, &pending, (const uint8_t *)"host/web@EX", 11, &now, cache.at, 16, &nothing, cache.at, 0, buffer, room),
+             cache.size, room, at);
+        look(fevstunik_finish(&pending, bent.at, bent.size, &agreement, buffer, room), bent.size, room, at);
+        fevstunik_cache_free(&held);
     }
+    fevstunik_pending_free(&pending);
 }
 
 int main(int count, char **words)

@@ -14,8 +14,10 @@
 
 static struct bytes keytab, cache, request, keyed, reply, keyed_reply, error, two, other, listed;
 static uint8_t buffer[4096];
-/* What is accepted is kept here, if not said otherwise. */
+/* What is accepted is kept here, if not said otherwise; the fixture's cache; and what is awaited of its requests. */
 static fevstunik_accepted accepted = FEVSTUNIK_ACCEPTED_INIT;
+static fevstunik_cache credentials = FEVSTUNIK_CACHE_INIT;
+static fevstunik_pending pending = FEVSTUNIK_PENDING_INIT;
 static const fevstunik_choice nothing = {0, 0, false, false};
 
 /* An empty handle answers that it is empty, and stays so. */
@@ -703,7 +705,7 @@ static fevstunik_answer asked(const char *service, fevstunik_time at, size_t con
     choice.subkey_type = type;
     choice.wants_reply = choice.has_seq = type != 0;
     choice.seq = 4294967295;
-    return fevstunik_request(cache.at, cache.size, (const uint8_t *)service, strlen(service), &at, confounder, confounder_size, &choice,
+    return fevstunik_request(&credentials, &pending, (const uint8_t *)service, strlen(service), &at, confounder, confounder_size, &choice,
                              subkey, sizeof subkey, buffer, room);
 }
 
@@ -726,29 +728,59 @@ static void requests(void)
     is_answer("type", asked("host/web@EX", at, 16, 1, sizeof buffer), FEVSTUNIK_KEY_TYPE, 0, 0, 0);
     is_answer("expired", asked("host/web@EX", moment(1700036000, 0), 16, 0, sizeof buffer), FEVSTUNIK_CREDENTIAL_EXPIRED, 0, 0, 0);
     is_answer("moment", asked("host/web@EX", moment(253402300800, 0), 16, 0, sizeof buffer), FEVSTUNIK_BAD_MOMENT, 0, 0, 0);
-    cache.size--;
-    is_answer("cut off", asked("host/web@EX", at, 16, 0, sizeof buffer), FEVSTUNIK_FILE_BAD_ITEM, 0, CREDENTIAL_AT, 0);
-    cache.size++;
-    cache.at[0]++;
-    is_answer("version", asked("host/web@EX", at, 16, 0, sizeof buffer), FEVSTUNIK_FILE_VERSION, 0, 0, 0);
-    cache.at[0]--;
+    is_answer("cut off", fevstunik_cache_new(&credentials, cache.at, cache.size - 1), FEVSTUNIK_FILE_BAD_ITEM, 0, CREDENTIAL_AT, 0);
+    is_answer("version", fevstunik_cache_new(&credentials, cache.at + 1, cache.size - 1), FEVSTUNIK_FILE_VERSION, 0, 0, 0);
+    is_answer("the cache stays", asked("host/web@EX", at, 16, 0, sizeof buffer), FEVSTUNIK_OK, 0, 0, request.size);
+    is_answer("a cache of none", fevstunik_cache_new(&credentials, cache.at, CREDENTIAL_AT), FEVSTUNIK_OK, 0, 0, 0);
+    is_answer("no credential", asked("host/web@EX", at, 16, 0, sizeof buffer), FEVSTUNIK_NO_CREDENTIAL, 0, 0, 0);
+    is_answer("the cache", fevstunik_cache_new(&credentials, cache.at, cache.size), FEVSTUNIK_OK, 0, 0, 0);
 }
 
-static fevstunik_answer finished(const struct bytes *bytes, fevstunik_time at, fevstunik_agreement *agreement, size_t room)
+/* Handles of the client's side that are empty answer so, and stay so; what is awaited stays where there is no request. */
+static void empty_askings(void)
 {
-    return fevstunik_finish(cache.at, cache.size, (const uint8_t *)"host/web@EX", 11, &at, &nothing, cache.at, 0, bytes->at, bytes->size,
-                            agreement, buffer, room);
+    fevstunik_cache none = FEVSTUNIK_CACHE_INIT;
+    fevstunik_pending nobody = FEVSTUNIK_PENDING_INIT;
+    fevstunik_time at = moment(1700000100, 5);
+    fevstunik_agreement told;
+    uint8_t confounder[16] = {0};
+
+    memset(buffer, 0xaa, sizeof buffer);
+    is_answer("of no cache", fevstunik_request(&none, &nobody, WEB, &at, confounder, 16, &nothing, confounder, 0, buffer, sizeof buffer),
+              FEVSTUNIK_EMPTY_HANDLE, 0, 0, 0);
+    is("nothing is awaited", none.opaque == NULL && nobody.opaque == NULL, 1);
+    is_answer("finish of none", fevstunik_finish(&nobody, reply.at, reply.size, &told, buffer, sizeof buffer), FEVSTUNIK_EMPTY_HANDLE, 0, 0, 0);
+    is("not written", buffer[0], 0xaa);
+    is_answer("no realm", fevstunik_request(&credentials, &nobody, confounder, 0, &at, confounder, 16, &nothing, confounder, 0, buffer,
+                                            sizeof buffer), FEVSTUNIK_NO_REALM, 0, 0, 0);
+    is("nothing is awaited yet", nobody.opaque == NULL, 1);
+    is_answer("short", fevstunik_request(&credentials, &nobody, WEB, &at, confounder, 16, &nothing, confounder, 0, buffer, 0),
+              FEVSTUNIK_SHORT_BUFFER, 0, 0, request.size);
+    is_answer("awaited", fevstunik_finish(&nobody, reply.at, reply.size, &told, buffer, sizeof buffer), FEVSTUNIK_OK, 0, 0, 24);
+    is_answer("no realm again", fevstunik_request(&credentials, &nobody, confounder, 0, &at, confounder, 16, &nothing, confounder, 0, buffer,
+                                                  sizeof buffer), FEVSTUNIK_NO_REALM, 0, 0, 0);
+    is_answer("awaited still", fevstunik_finish(&nobody, reply.at, reply.size, &told, buffer, sizeof buffer), FEVSTUNIK_OK, 0, 0, 24);
+    fevstunik_pending_free(&nobody);
+    fevstunik_pending_free(&nobody);
+    is("freed", nobody.opaque == NULL, 1);
+    fevstunik_cache_free(&none);
+    is("free of none", none.opaque == NULL, 1);
+}
+
+static fevstunik_answer finished(const struct bytes *bytes, fevstunik_agreement *agreement, size_t room)
+{
+    return fevstunik_finish(&pending, bytes->at, bytes->size, agreement, buffer, room);
 }
 
 /* What is agreed on by the fixture's replies, and why others are refused. */
 static void agreements(void)
 {
-    fevstunik_time at = moment(1700000100, 5);
     fevstunik_agreement told;
     struct bytes none;
     size_t i;
 
-    is_answer("finish", finished(&reply, at, &told, sizeof buffer), FEVSTUNIK_OK, 0, 0, 24);
+    is_answer("ask", asked("host/web@EX", moment(1700000100, 5), 16, 0, sizeof buffer), FEVSTUNIK_OK, 0, 0, request.size);
+    is_answer("finish", finished(&reply, &told, sizeof buffer), FEVSTUNIK_OK, 0, 0, 24);
     is_bytes("client", buffer + told.client.at, "alice@EX", told.client.size);
     is("client size", (long long)told.client.size, 8);
     is("key at", (long long)told.session_key.at, 8);
@@ -759,8 +791,8 @@ static void agreements(void)
     is("session type", told.session_type, 19);
     is("no subkey", told.has_service_subkey, 0);
     is("no number", told.has_service_seq, 0);
-    is_answer("finish short", finished(&keyed_reply, at, &told, 39), FEVSTUNIK_SHORT_BUFFER, 0, 0, 40);
-    is_answer("finish keyed", finished(&keyed_reply, at, &told, 40), FEVSTUNIK_OK, 0, 0, 40);
+    is_answer("finish short", finished(&keyed_reply, &told, 39), FEVSTUNIK_SHORT_BUFFER, 0, 0, 40);
+    is_answer("finish keyed", finished(&keyed_reply, &told, 40), FEVSTUNIK_OK, 0, 0, 40);
     is("subkey", told.has_service_subkey, 1);
     is("subkey type", told.service_subkey_type, 19);
     is("subkey at", (long long)told.service_subkey.at, 24);
@@ -769,14 +801,15 @@ static void agreements(void)
         is("subkey", buffer[24 + i], (long long)(0x40 + i));
     is("number", told.service_seq, 128);
     is("numbered", told.has_service_seq, 1);
-    is_answer("mismatch", finished(&reply, moment(1700000100, 6), &told, sizeof buffer), FEVSTUNIK_REPLY_MISMATCH, 46, 0, 0);
-    is_answer("a request", finished(&request, at, &told, sizeof buffer), FEVSTUNIK_REPLY_TYPE, 0, 0, 0);
+    is_answer("a request", finished(&request, &told, sizeof buffer), FEVSTUNIK_REPLY_TYPE, 0, 0, 0);
     none = reply;
     none.size = 1;
-    is_answer("one byte", finished(&none, at, &told, sizeof buffer), FEVSTUNIK_REPLY_MALFORMED, 0, 1, 0);
+    is_answer("one byte", finished(&none, &told, sizeof buffer), FEVSTUNIK_REPLY_MALFORMED, 0, 1, 0);
     none = reply;
     none.at[none.size - 1] ^= 1;
-    is_answer("bent", finished(&none, at, &told, sizeof buffer), FEVSTUNIK_REPLY_INTEGRITY, 0, 0, 0);
+    is_answer("bent", finished(&none, &told, sizeof buffer), FEVSTUNIK_REPLY_INTEGRITY, 0, 0, 0);
+    is_answer("ask later", asked("host/web@EX", moment(1700000100, 6), 16, 0, sizeof buffer), FEVSTUNIK_OK, 0, 0, request.size);
+    is_answer("mismatch", finished(&reply, &told, sizeof buffer), FEVSTUNIK_REPLY_MISMATCH, 46, 0, 0);
 }
 
 /* Files are looked at, and their entries counted. */
@@ -798,11 +831,6 @@ static void two_faults_of_requests(void)
 {
     fevstunik_time at = moment(1700000100, 5), bad = moment(253402300800, 0), late = moment(1700036000, 0);
 
-    cache.at[0]++;
-    is_answer("cache and name", asked("host/web", at, 16, 0, sizeof buffer), FEVSTUNIK_FILE_VERSION, 0, 0, 0);
-    is_answer("cache and moment", asked("host/web@EX", bad, 16, 0, sizeof buffer), FEVSTUNIK_FILE_VERSION, 0, 0, 0);
-    is_answer("cache and confounder", asked("host/web@EX", at, 15, 0, sizeof buffer), FEVSTUNIK_FILE_VERSION, 0, 0, 0);
-    cache.at[0]--;
     is_answer("name and moment", asked("a@b@c", bad, 16, 0, sizeof buffer), FEVSTUNIK_BAD_TEXT, 0, 3, 0);
     is_answer("bytes and moment", asked("\xff@b@c", bad, 16, 0, sizeof buffer), FEVSTUNIK_NOT_UTF8, 0, 0, 0);
     is_answer("name and confounder", asked("host/web", at, 15, 0, sizeof buffer), FEVSTUNIK_NO_REALM, 0, 0, 0);
@@ -822,7 +850,6 @@ static void two_faults(void)
     static uint8_t long_key[65536];
     struct bytes none = {{0}, 1};
     fevstunik_acceptor service = FEVSTUNIK_ACCEPTOR_INIT;
-    fevstunik_agreement agreement;
     fevstunik_time now = moment(1700000100, 7), bad = moment(0, 1000000);
 
     is_answer("seal type and confounder", fevstunik_seal(17, key, 16, 2, key, 15, key, 0, buffer, 64), FEVSTUNIK_KEY_TYPE, 0, 0, 0);
@@ -845,7 +872,6 @@ static void two_faults(void)
     is_answer("add name and key", added(&none, "a", long_key, 65536, sizeof buffer), FEVSTUNIK_NO_REALM, 0, 0, 0);
     is_answer("add key and keytab", added(&none, "a@EX", long_key, 65536, sizeof buffer), FEVSTUNIK_TOO_LONG, 0, 0, 0);
     is_answer("name that is no text", fevstunik_name_check((const uint8_t *)" \xff@b@c", 6), FEVSTUNIK_NOT_UTF8, 0, 0, 0);
-    is_answer("finish moment and reply", finished(&none, bad, &agreement, sizeof buffer), FEVSTUNIK_BAD_MOMENT, 0, 0, 0);
 }
 
 /* A moment that is none lets go of what was accepted, and of why it was refused; what is remembered and the latest moment stay. */
@@ -869,6 +895,67 @@ static void bad_moments(void)
     is_answer("no moment again", fevstunik_acceptor_accept(&service, &accepted, request.at, request.size, &bad), FEVSTUNIK_BAD_MOMENT, 0, 0, 0);
     is_answer("no error of it", error_of(&service, "host/web@EX", now, sizeof buffer), FEVSTUNIK_NOTHING_THERE, 0, 0, 0);
     fevstunik_acceptor_free(&service);
+}
+
+/* NULL with size 0 is no bytes, wherever bytes are handed in or out. */
+static void no_bytes(void)
+{
+    static const uint8_t key[16] = {0};
+    static const fevstunik_key_parts parts = {1700000000, 3, 3, 19};
+    fevstunik_acceptor service = FEVSTUNIK_ACCEPTOR_INIT;
+    fevstunik_cache none = FEVSTUNIK_CACHE_INIT;
+    fevstunik_time now = moment(1700000100, 5);
+    fevstunik_known known;
+    fevstunik_agreement told;
+    fevstunik_key_entry entry;
+    fevstunik_cache_entry credential;
+    fevstunik_owner owner;
+    int32_t kind;
+    uint8_t tag[16];
+
+    is_answer("keytab", fevstunik_keytab_check(NULL, 0), FEVSTUNIK_FILE_VERSION, 0, 0, 0);
+    is_answer("cache", fevstunik_cache_check(NULL, 0), FEVSTUNIK_FILE_VERSION, 0, 0, 0);
+    is_answer("entry", fevstunik_keytab_entry(keytab.at, keytab.size, 0, &entry, NULL, 0), FEVSTUNIK_SHORT_BUFFER, 0, 0, 27);
+    is_answer("no entry", fevstunik_keytab_entry(NULL, 0, 0, &entry, NULL, 0), FEVSTUNIK_FILE_VERSION, 0, 0, 0);
+    is("credential", fevstunik_cache_credential(cache.at, cache.size, 0, &credential, NULL, 0).code, FEVSTUNIK_SHORT_BUFFER);
+    is_answer("no credential", fevstunik_cache_credential(NULL, 0, 0, &credential, NULL, 0), FEVSTUNIK_FILE_VERSION, 0, 0, 0);
+    is_answer("owner", fevstunik_cache_owner(cache.at, cache.size, &owner, NULL, 0), FEVSTUNIK_SHORT_BUFFER, 0, 0, 8);
+    is_answer("no owner", fevstunik_cache_owner(NULL, 0, &owner, NULL, 0), FEVSTUNIK_FILE_VERSION, 0, 0, 0);
+    is("a key of none", fevstunik_keytab_add(keytab.at, keytab.size, WEB, NULL, 0, &parts, buffer, sizeof buffer).code, FEVSTUNIK_OK);
+    is_answer("a name of none", fevstunik_keytab_add(keytab.at, keytab.size, NULL, 0, NULL, 0, &parts, NULL, 0), FEVSTUNIK_NO_REALM, 0, 0, 0);
+    is_answer("add to none", fevstunik_keytab_add(NULL, 0, WEB, key, 16, &parts, NULL, 0), FEVSTUNIK_FILE_VERSION, 0, 0, 0);
+    is_answer("remove", fevstunik_keytab_remove(NULL, 0, 0, NULL, 0), FEVSTUNIK_FILE_VERSION, 0, 0, 0);
+    is_answer("removed", fevstunik_keytab_remove(keytab.at, keytab.size, 0, NULL, 0), FEVSTUNIK_SHORT_BUFFER, 0, 0, keytab.size);
+    is_answer("write", fevstunik_keytab_write(NULL, 0, NULL, 0), FEVSTUNIK_FILE_VERSION, 0, 0, 0);
+    is_answer("name", fevstunik_name_check(NULL, 0), FEVSTUNIK_NO_REALM, 0, 0, 0);
+    is_answer("no service", fevstunik_acceptor_new(&service, NULL, 0, 300, NULL, 0), FEVSTUNIK_FILE_VERSION, 0, 0, 0);
+    is_answer("each name", fevstunik_acceptor_new(&service, keytab.at, keytab.size, 300, NULL, 0), FEVSTUNIK_OK, 0, 0, 0);
+    is_answer("no request", fevstunik_acceptor_accept(&service, &accepted, NULL, 0, &now), FEVSTUNIK_MALFORMED, 60, 0, 0);
+    is_answer("no name", fevstunik_acceptor_error(&service, NULL, 0, 3, &now, NULL, 0), FEVSTUNIK_NO_REALM, 0, 0, 0);
+    is_answer("an error", fevstunik_acceptor_error(&service, WEB, 3, &now, NULL, 0), FEVSTUNIK_SHORT_BUFFER, 0, 0, error.size);
+    is_answer("no name by code", fevstunik_error(FEVSTUNIK_SKEW, NULL, 0, 3, &now, NULL, 0), FEVSTUNIK_NO_REALM, 0, 0, 0);
+    is_answer("an error by code", fevstunik_error(FEVSTUNIK_SKEW, WEB, 3, &now, NULL, 0), FEVSTUNIK_SHORT_BUFFER, 0, 0, error.size);
+    is_answer("accept", fevstunik_acceptor_accept(&service, &accepted, listed.at, listed.size, &now), FEVSTUNIK_OK, 0, 0, 0);
+    is_answer("known", fevstunik_accepted_known(&accepted, &known, NULL, 0), FEVSTUNIK_SHORT_BUFFER, 0, 0, 35);
+    is_answer("of no bytes", fevstunik_accepted_item(&accepted, FEVSTUNIK_LIST_TICKET_AUTHORIZATION, 1, &kind, NULL, 0), FEVSTUNIK_OK, 0, 0, 0);
+    is_answer("no confounder", fevstunik_accepted_reply(&accepted, NULL, 0, &nothing, NULL, 0, NULL, 0), FEVSTUNIK_BAD_CONFOUNDER, 0, 0, 0);
+    is_answer("reply", fevstunik_accepted_reply(&accepted, key, 16, &nothing, NULL, 0, NULL, 0), FEVSTUNIK_SHORT_BUFFER, 0, 0, reply.size);
+    fevstunik_acceptor_free(&service);
+    is_answer("no cache", fevstunik_cache_new(&none, NULL, 0), FEVSTUNIK_FILE_VERSION, 0, 0, 0);
+    is_answer("no service", fevstunik_request(&credentials, &pending, NULL, 0, &now, NULL, 0, &nothing, NULL, 0, NULL, 0), FEVSTUNIK_NO_REALM,
+              0, 0, 0);
+    is_answer("ask", fevstunik_request(&credentials, &pending, WEB, &now, key, 16, &nothing, NULL, 0, NULL, 0), FEVSTUNIK_SHORT_BUFFER, 0, 0,
+              request.size);
+    is_answer("no reply", fevstunik_finish(&pending, NULL, 0, &told, NULL, 0), FEVSTUNIK_REPLY_MALFORMED, 0, 0, 0);
+    is_answer("finish", fevstunik_finish(&pending, reply.at, reply.size, &told, NULL, 0), FEVSTUNIK_SHORT_BUFFER, 0, 0, 24);
+    is_answer("no key", fevstunik_seal(19, NULL, 0, 2, NULL, 0, NULL, 0, NULL, 0), FEVSTUNIK_KEY_LENGTH, 0, 0, 0);
+    is_answer("seal", fevstunik_seal(19, key, 16, 2, key, 16, NULL, 0, buffer, sizeof buffer), FEVSTUNIK_OK, 0, 0, 32);
+    is_answer("open", fevstunik_open(19, key, 16, 2, buffer, 32, NULL, 0), FEVSTUNIK_OK, 0, 0, 0);
+    is_answer("open none", fevstunik_open(19, key, 16, 2, NULL, 0, NULL, 0), FEVSTUNIK_TEXT_SHORT, 0, 0, 0);
+    is_answer("tag", fevstunik_checksum(19, key, 16, 2, NULL, 0, tag, 16), FEVSTUNIK_OK, 0, 0, 16);
+    is_answer("its tag", fevstunik_checksum_check(19, key, 16, 2, NULL, 0, tag, 16), FEVSTUNIK_OK, 0, 0, 0);
+    is_answer("no tag", fevstunik_checksum_check(19, key, 16, 2, NULL, 0, NULL, 0), FEVSTUNIK_TEXT_INTEGRITY, 0, 0, 0);
+    is_answer("no room for it", fevstunik_checksum(19, key, 16, 2, NULL, 0, NULL, 0), FEVSTUNIK_SHORT_BUFFER, 0, 0, 16);
 }
 
 int main(int count, char **words)
@@ -914,13 +1001,18 @@ int main(int count, char **words)
     edits();
     additions();
     second_entry();
+    is_answer("cache", fevstunik_cache_new(&credentials, cache.at, cache.size), FEVSTUNIK_OK, 0, 0, 0);
     requests();
+    empty_askings();
     agreements();
     texts();
     two_faults_of_requests();
     two_faults();
     bad_moments();
+    no_bytes();
     fevstunik_accepted_free(&accepted);
+    fevstunik_cache_free(&credentials);
+    fevstunik_pending_free(&pending);
     printf("%d passed, %d failed\n", passed, failed);
     return failed != 0;
 }

@@ -52,6 +52,8 @@ static const fevstunik_time now = {1700000100, 5};
 static const uint8_t *const service_name = (const uint8_t *)"host/web@EX";
 static fevstunik_acceptor service;
 static fevstunik_accepted accepted;
+static fevstunik_cache credentials;
+static fevstunik_pending pending;
 
 static fevstunik_answer making(void)
 {
@@ -92,15 +94,19 @@ static fevstunik_answer refusing(void)
 
 static fevstunik_answer asking(void)
 {
-    return fevstunik_request(cache.at, cache.size, service_name, 11, &now, cache.at, 16, &keyed, cache.at, 16, buffer, sizeof buffer);
+    return fevstunik_request(&credentials, &pending, service_name, 11, &now, cache.at, 16, &keyed, cache.at, 16, buffer, sizeof buffer);
+}
+
+static fevstunik_answer reading_cache(void)
+{
+    return fevstunik_cache_new(&credentials, cache.at, cache.size);
 }
 
 static fevstunik_answer finishing(void)
 {
     fevstunik_agreement agreement;
 
-    return fevstunik_finish(cache.at, cache.size, service_name, 11, &now, &plain, cache.at, 0, reply.at, reply.size, &agreement, buffer,
-                            sizeof buffer);
+    return fevstunik_finish(&pending, reply.at, reply.size, &agreement, buffer, sizeof buffer);
 }
 
 static fevstunik_answer sealing(void)
@@ -192,7 +198,7 @@ static void is_told(const char *what, fevstunik_answer (*call)(void))
 {
     long at, before = held;
     size_t count = fevstunik_acceptor_count(&service), i;
-    void *opaque = service.opaque, *kept = accepted.opaque;
+    void *opaque = service.opaque, *kept = accepted.opaque, *read = credentials.opaque, *awaited = pending.opaque;
     fevstunik_time moment_before = latest();
     fevstunik_answer answer;
 
@@ -206,6 +212,7 @@ static void is_told(const char *what, fevstunik_answer (*call)(void))
         is_at("size", at, (long long)answer.size, 0);
         is_at("pieces held", at, held, before);
         is_at("the handle", at, service.opaque == opaque && accepted.opaque == kept, 1);
+        is_at("the client's handles", at, credentials.opaque == read && pending.opaque == awaited, 1);
         is_at("what is remembered", at, (long long)fevstunik_acceptor_count(&service), (long long)count);
         is_at("the latest second", at, latest().seconds, moment_before.seconds);
         is_at("the latest microsecond", at, latest().micros, moment_before.micros);
@@ -265,9 +272,7 @@ static void faults_without_memory(void)
     is_at("cut off", 0, fevstunik_cache_check(cache.at, cache.size - 1).code, FEVSTUNIK_FILE_BAD_ITEM);
     is_at("credential", 0, fevstunik_cache_credential(cache.at, cache.size - 1, 0, &entry, buffer, sizeof buffer).code, FEVSTUNIK_FILE_BAD_ITEM);
     is_at("owner", 0, fevstunik_cache_owner(cache.at, 3, &owner, buffer, sizeof buffer).code, FEVSTUNIK_FILE_HEADER);
-    is_at("request", 0,
-       fevstunik_request(cache.at, 1, service_name, 11, &now, cache.at, 16, &plain, cache.at, 0, buffer, sizeof buffer).code,
-       FEVSTUNIK_FILE_VERSION);
+    is_at("cache", 0, fevstunik_cache_new(&credentials, cache.at, 1).code, FEVSTUNIK_FILE_VERSION);
     is_at("seal type", 0, fevstunik_seal(17, cache.at, 16, 2, cache.at, 16, cache.at, 5, buffer, sizeof buffer).code, FEVSTUNIK_KEY_TYPE);
     is_at("seal confounder", 0, fevstunik_seal(19, cache.at, 16, 2, cache.at, 15, cache.at, 5, buffer, sizeof buffer).code,
        FEVSTUNIK_BAD_CONFOUNDER);
@@ -307,7 +312,10 @@ int main(int count, char **words)
     fevstunik_accepted_free(&accepted);
     is_at("freed", 0, held, 0);
     is_at("ready", 1, getting_ready().code, FEVSTUNIK_OK);
+    is_told("cache", reading_cache);
+    is_told("cache again", reading_cache);
     is_told("request", asking);
+    is_told("request again", asking);
     is_told("finish", finishing);
     is_told("seal", sealing);
     (void)opening();
@@ -325,6 +333,8 @@ int main(int count, char **words)
     refusals_without_memory();
     faults_without_memory();
     fevstunik_accepted_free(&accepted);
+    fevstunik_cache_free(&credentials);
+    fevstunik_pending_free(&pending);
     is_at("freed", 1, held, 0);
     printf("%d passed, %d failed\n", passed, failed);
     return failed != 0;

@@ -27,6 +27,8 @@ struct seen {
 
 static struct bytes keytab, caches[CLIENTS];
 static struct sent requests[REQUESTS + CLIENTS];
+static fevstunik_cache held[CLIENTS];
+static fevstunik_pending pending = FEVSTUNIK_PENDING_INIT;
 static fevstunik_acceptor service = FEVSTUNIK_ACCEPTOR_INIT;
 static pthread_mutex_t lock = PTHREAD_MUTEX_INITIALIZER;
 static const fevstunik_time now = {1700000100, 0};
@@ -39,8 +41,8 @@ static void make(int at)
     fevstunik_time sent = moment(1700000100, (uint32_t)(at / CLIENTS));
     fevstunik_owner owner;
     uint8_t name[64];
-    fevstunik_answer answer =
-        fevstunik_request(cache->at, cache->size, WEB, &sent, none, 16, &choice, none, 0, requests[at].at, sizeof requests[at].at);
+    fevstunik_answer answer = fevstunik_request(&held[at % CLIENTS], &pending, WEB, &sent, none, 16, &choice, none, 0, requests[at].at,
+                                                sizeof requests[at].at);
 
     is("a request", answer.code, FEVSTUNIK_OK);
     requests[at].size = answer.size;
@@ -137,6 +139,8 @@ int main(int count, char **words)
     for (i = 0; i < CLIENTS && fgets(line, sizeof line, file) != NULL; i++)
         from_hex(&caches[i], line);
     fclose(file);
+    for (i = 0; i < CLIENTS; i++)
+        is("a cache", fevstunik_cache_new(&held[i], caches[i].at, caches[i].size).code, FEVSTUNIK_OK);
     for (i = 0; i < REQUESTS + CLIENTS; i++)
         make(i);
     is_answer("new", fevstunik_acceptor_new(&service, keytab.at, keytab.size, 300, WEB), FEVSTUNIK_OK, 0, 0, 0);
@@ -145,6 +149,9 @@ int main(int count, char **words)
     is_seen("none again", send_all(0, 2 * CLIENTS, 1), 0, 2 * CLIENTS * THREADS);
     is_seen("each once", send_all(REQUESTS, REQUESTS + CLIENTS, 1), CLIENTS, CLIENTS * (THREADS - 1));
     fevstunik_acceptor_free(&service);
+    fevstunik_pending_free(&pending);
+    for (i = 0; i < CLIENTS; i++)
+        fevstunik_cache_free(&held[i]);
     printf("%d passed, %d failed\n", passed, failed);
     return failed != 0;
 }
