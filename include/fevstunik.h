@@ -241,6 +241,8 @@ static inline const char *fevstunik_code_text(uint32_t code)
 
 /* ---- what is handed in and out ---- */
 
+/* A struct never gains a field: what is handed out beside it is reached by calls. */
+
 /* What a call answers. Numbers that don't go with the code are 0. */
 typedef struct fevstunik_answer {
     uint32_t code;    /* a fevstunik_code */

@@ -149,7 +149,9 @@ static void is_accepted(fevstunik_acceptor *service)
 
     is_answer("no moment", fevstunik_acceptor_latest(service, &latest), FEVSTUNIK_NOTHING_THERE, 0, 0, 0);
     is_answer("ready", fevstunik_accepted_new(&accepted), FEVSTUNIK_OK, 0, 0, 0);
+    memset(&known, 0x5a, sizeof known);
     is_answer("none yet", fevstunik_accepted_known(&accepted, &known, buffer, sizeof buffer), FEVSTUNIK_NOTHING_THERE, 0, 0, 0);
+    is("known stays", known.flags == 0x5a5a5a5a && known.client.size == FILLED && known.session_type == 0x5a5a5a5a, 1);
     is_answer("accept", fevstunik_acceptor_accept(service, &accepted, request.at, request.size, &now), FEVSTUNIK_OK, 0, 0, 0);
     is("count", (long long)fevstunik_acceptor_count(service), 1);
     is_answer("latest", fevstunik_acceptor_latest(service, &latest), FEVSTUNIK_OK, 0, 0, 0);
@@ -801,7 +803,9 @@ static void agreements(void)
         is("subkey", buffer[24 + i], (long long)(0x40 + i));
     is("number", told.service_seq, 128);
     is("numbered", told.has_service_seq, 1);
+    memset(&told, 0x5a, sizeof told);
     is_answer("a request", finished(&request, &told, sizeof buffer), FEVSTUNIK_REPLY_TYPE, 0, 0, 0);
+    is("the agreement stays", told.service_seq == 0x5a5a5a5a && told.client.size == FILLED && told.session_type == 0x5a5a5a5a, 1);
     none = reply;
     none.size = 1;
     is_answer("one byte", finished(&none, &told, sizeof buffer), FEVSTUNIK_REPLY_MALFORMED, 0, 1, 0);
