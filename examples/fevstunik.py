@@ -49,7 +49,12 @@ class Choice(ctypes.Structure):
 
 
 class Handle(ctypes.Structure):
-    """Made zero, as the library asks. It is never copied."""
+    """A service. It is made zero, as the library asks, and never copied."""
+    _fields_ = [("opaque", c_void_p)]
+
+
+class Accepted(ctypes.Structure):
+    """A request that was accepted; likewise."""
     _fields_ = [("opaque", c_void_p)]
 
 
@@ -63,16 +68,18 @@ class Refused(Exception):
 
 def library(path):
     lib = ctypes.CDLL(path)
-    handle, into = POINTER(Handle), (c_void_p, c_size_t)
+    handle, accepted, text, into = POINTER(Handle), POINTER(Accepted), (c_char_p, c_size_t), (c_void_p, c_size_t)
     for name, result, words in [
-            ("new", Answer, (handle, c_char_p, c_size_t, c_uint32, c_char_p, c_size_t)),
-            ("accept", Answer, (handle, c_char_p, c_size_t, POINTER(Time))),
-            ("accepted", Answer, (handle, POINTER(Known), *into)),
-            ("reply", Answer, (handle, c_char_p, c_size_t, POINTER(Choice), c_char_p, c_size_t, *into)),
-            ("count", c_size_t, (handle,)),
-            ("latest", Answer, (handle, POINTER(Time))),
-            ("free", None, (handle,))]:
-        function = getattr(lib, "fevstunik_acceptor_" + name)
+            ("acceptor_new", Answer, (handle, *text, c_uint32, *text)),
+            ("acceptor_accept", Answer, (handle, accepted, *text, POINTER(Time))),
+            ("acceptor_count", c_size_t, (handle,)),
+            ("acceptor_latest", Answer, (handle, POINTER(Time))),
+            ("acceptor_free", None, (handle,)),
+            ("accepted_new", Answer, (accepted,)),
+            ("accepted_known", Answer, (accepted, POINTER(Known), *into)),
+            ("accepted_reply", Answer, (accepted, *text, POINTER(Choice), *text, *into)),
+            ("accepted_free", None, (accepted,))]:
+        function = getattr(lib, "fevstunik_" + name)
         function.restype, function.argtypes = result, words
     return lib
 
@@ -90,34 +97,43 @@ def filled(call):
         room = answer.size
 
 
+def done(answer):
+    if answer.code != OK:
+        raise Refused(answer)
+
+
 class Acceptor:
     """A service of the name whose text is `service`, or of each name of the keytab, if that is None. Any thread may call it: a lock lets in
-    one call at a time."""
+    one call at a time. What is accepted is kept apart for each call, and read without the lock."""
 
     def __init__(self, lib, keytab, service, skew=300):
         self.lib, self.handle, self.lock = lib, Handle(), threading.Lock()
         name = b"" if service is None else service.encode()
-        self.done(lib.fevstunik_acceptor_new(byref(self.handle), keytab, len(keytab), skew, name, len(name)))
-
-    @staticmethod
-    def done(answer):
-        if answer.code != OK:
-            raise Refused(answer)
+        done(lib.fevstunik_acceptor_new(byref(self.handle), keytab, len(keytab), skew, name, len(name)))
 
     def accept(self, request, seconds, micros=0):
         """The client and the service as text, the session key, the client's subkey, the numbers, and the reply, or None if none is asked
-        for. All of it is of this request: the lock is held until it is read."""
-        with self.lock:
-            self.done(self.lib.fevstunik_acceptor_accept(byref(self.handle), request, len(request), byref(Time(seconds, micros))))
-            known = Known()
-            data = filled(lambda buffer, room: self.lib.fevstunik_acceptor_accepted(byref(self.handle), byref(known), buffer, room))
-            reply = self.reply(os.urandom(16)) if known.wants_reply else None
+        for."""
+        accepted = Accepted()
+        done(self.lib.fevstunik_accepted_new(byref(accepted)))
+        try:
+            with self.lock:
+                done(self.lib.fevstunik_acceptor_accept(
+                    byref(self.handle), byref(accepted), request, len(request), byref(Time(seconds, micros))))
+            return self.read(accepted)
+        finally:
+            self.lib.fevstunik_accepted_free(byref(accepted))
+
+    def read(self, accepted):
+        known = Known()
+        data = filled(lambda buffer, room: self.lib.fevstunik_accepted_known(byref(accepted), byref(known), buffer, room))
+        reply = self.reply(accepted, os.urandom(16)) if known.wants_reply else None
         client, service = known.client.of(data).decode(), known.service.of(data).decode()
         return client, service, known.session_key.of(data), known.subkey.of(data), known, reply
 
-    def reply(self, confounder):
-        return filled(lambda buffer, room: self.lib.fevstunik_acceptor_reply(
-            byref(self.handle), confounder, len(confounder), byref(Choice()), b"", 0, buffer, room))
+    def reply(self, accepted, confounder):
+        return filled(lambda buffer, room: self.lib.fevstunik_accepted_reply(
+            byref(accepted), confounder, len(confounder), byref(Choice()), b"", 0, buffer, room))
 
     def __len__(self):
         with self.lock:

@@ -5,7 +5,7 @@ The header is compiled alone, as C99 and as C++; its functions are exactly those
 program (tests/c/library.c) runs the exchange that tests share, with exact answers, and so does examples/fevstunik.py over a shared
 object. tests/c/faults.c asks for each fault, and tests/c/memory.c lets each allocation fail in turn: together they see just the codes that
 the header names at each function. A service and a client (examples/service) talk over TCP, to each other and to a client and a service over
-MIT krb5 (tests/c_peers.py). tests/c/fuzz.c hands the library good and broken files and messages, some of them under valgrind.
+MIT krb5 (tests/c_peers.py). Threads share a service (tests/c/threads.c). tests/c/fuzz.c hands the library good and broken files and messages, some of them under valgrind.
 
     tests/c_library.py [--inputs N]     so many inputs, 50,000 if left out
 
@@ -144,7 +144,7 @@ def from_c(room, answered):
     yield "the C program is linked", wrong(built)
     if built.returncode == 0:
         messages = [fixture("client.rt", "REQUEST"), fixture("client.rt", "KEYED"), fixture("replies.rt", "REPLY"), fixture("replies.rt", "KEYED"),
-                    fixture("replies.rt", "ERROR"), c_cases.two_credentials().hex(), c_cases.for_another_service().hex()]
+                    fixture("replies.rt", "ERROR"), c_cases.two_credentials().hex(), c_cases.for_another_service().hex(), c_cases.with_lists().hex()]
         yield from counted("the C program", answered, program, *files, *messages)
     program, built = watched(room, "faults")
     yield "the program of faults is linked", wrong(built)
@@ -165,6 +165,16 @@ def current_cache(now):
     part = shared.ticket_part().replace(b"20231114221320Z", times[0]).replace(b"20231115081320Z", times[1])
     cache = shared.cache(shared.ticket(shared.sealed(19, shared.SERVICE_KEY, 2, bytes(16), part)))
     return cache.replace(struct.pack(">4I", 1_700_000_000, 0, 1_700_036_000, 0), struct.pack(">4I", now, 0, now + 36_000, 0))
+
+
+def over_threads(room):
+    """Threads in C that share a service, each with a handle of its own for what is accepted (tests/c/threads.c)."""
+    program, caches = room / "threads", room / "caches"
+    built = linked(program, "-D_POSIX_C_SOURCE=200809L", "-pthread", ROOT / "tests/c/threads.c")
+    yield "the program of threads is linked", wrong(built)
+    if built.returncode == 0:
+        caches.write_text("".join(c_threads.cache_of(client).hex() + "\n" for client in c_threads.CLIENTS))
+        yield from counted("the program of threads", Answered(), program, ROOT / "examples/service.keytab", caches)
 
 
 def over_tcp(room):
@@ -252,6 +262,7 @@ def checks(inputs):
         room = pathlib.Path(name)
         yield from headers(room)
         yield from from_c(room, Answered())
+        yield from over_threads(room)
         yield from over_tcp(room)
         yield from c_peers.checks(room)
         yield from from_python(room)

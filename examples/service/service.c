@@ -30,7 +30,7 @@ static int confirm(int to, const fevstunik_known *known, const uint8_t *bytes, c
 }
 
 /* Replies to what was accepted, with a subkey of the session key's type, and reads a text under it. */
-static void converse(fevstunik_acceptor *service, int peer)
+static void converse(const fevstunik_accepted *accepted, int peer)
 {
     static struct bytes text;
     uint8_t confounder[16], subkey[32], bytes[4096], reply[256], plain[MOST];
@@ -38,12 +38,12 @@ static void converse(fevstunik_acceptor *service, int peer)
     fevstunik_known known;
     fevstunik_answer answer;
 
-    if (fevstunik_acceptor_accepted(service, &known, bytes, sizeof bytes).code != FEVSTUNIK_OK || !known.wants_reply)
+    if (fevstunik_accepted_known(accepted, &known, bytes, sizeof bytes).code != FEVSTUNIK_OK || !known.wants_reply)
         return;
     choice.subkey_type = known.session_type;
     draw(confounder, sizeof confounder);
     draw(subkey, sizeof subkey);
-    answer = fevstunik_acceptor_reply(service, confounder, sizeof confounder, &choice, subkey, known.session_key.size, reply, sizeof reply);
+    answer = fevstunik_accepted_reply(accepted, confounder, sizeof confounder, &choice, subkey, known.session_key.size, reply, sizeof reply);
     if (answer.code != FEVSTUNIK_OK || !transmit(peer, reply, answer.size) || !receive(peer, &text))
         return;
     answer = fevstunik_open(choice.subkey_type, subkey, known.session_key.size, TEXT_USAGE, text.at, text.size, plain, sizeof plain);
@@ -53,7 +53,7 @@ static void converse(fevstunik_acceptor *service, int peer)
         printf("a bent text\n");
 }
 
-static void serve(fevstunik_acceptor *service, const char *name, int peer)
+static void serve(fevstunik_acceptor *service, fevstunik_accepted *accepted, const char *name, int peer)
 {
     static struct bytes request;
     fevstunik_time now;
@@ -62,9 +62,9 @@ static void serve(fevstunik_acceptor *service, const char *name, int peer)
     if (!receive(peer, &request))
         return;
     now = clock_now();
-    answer = fevstunik_acceptor_accept(service, request.at, request.size, &now);
+    answer = fevstunik_acceptor_accept(service, accepted, request.at, request.size, &now);
     if (answer.code == FEVSTUNIK_OK)
-        converse(service, peer);
+        converse(accepted, peer);
     else
         refuse(name, peer, answer);
 }
@@ -73,6 +73,7 @@ int main(int count, char **words)
 {
     static struct bytes keytab;
     fevstunik_acceptor service = FEVSTUNIK_ACCEPTOR_INIT;
+    fevstunik_accepted accepted = FEVSTUNIK_ACCEPTED_INIT;
     fevstunik_answer made;
     int listener, peer, left;
 
@@ -80,6 +81,8 @@ int main(int count, char **words)
         return 2;
     read_file(words[1], &keytab);
     made = fevstunik_acceptor_new(&service, keytab.at, keytab.size, 300, (const uint8_t *)words[2], strlen(words[2]));
+    if (made.code == FEVSTUNIK_OK)
+        made = fevstunik_accepted_new(&accepted);
     if (made.code != FEVSTUNIK_OK) {
         fprintf(stderr, "service: no acceptor: %s\n", fevstunik_code_text(made.code));
         return 2;
@@ -87,10 +90,11 @@ int main(int count, char **words)
     listener = listen_on_any();
     for (left = atoi(words[3]); left > 0; left--) {
         peer = accept_from(listener);
-        serve(&service, words[2], peer);
+        serve(&service, &accepted, words[2], peer);
         fflush(stdout);
         close(peer);
     }
+    fevstunik_accepted_free(&accepted);
     fevstunik_acceptor_free(&service);
     return 0;
 }

@@ -57,12 +57,12 @@ cache_there bytes f (Err fault) is faulty want = absurd (subst (IsFaultOf bytes)
 
 pub fresh_of : (a : Service Memory) (entries found : List KeytabEntry) (skew micros : ℕ) (memory : Memory)
     → a.setup ≡ record { entries = found; skew = skew; start = None } → a.memory ≡ memory → memory ≡ record { stamps = []; latest = None }
-    → found ≡ entries → skew ≡ micros → ◌≡◌ {A = Login} (record { acceptor = a; last = None; refusal = None }) (fresh entries micros)
+    → found ≡ entries → skew ≡ micros → ◌≡◌ {A = Login} (record { acceptor = a; refusal = None }) (fresh entries micros)
 fresh_of a entries found skew micros memory s m n e k =
-    λ i. record { acceptor = record { setup = (s ∙ (λ j. record { entries = e j; skew = k j; start = None })) i; memory = (m ∙ n) i }; last = None; refusal = None }
+    λ i. record { acceptor = record { setup = (s ∙ (λ j. record { entries = e j; skew = k j; start = None })) i; memory = (m ∙ n) i }; refusal = None }
 
 pub is_fresh : (a : Service Memory) (text : List ℕ) (entries found kept : List KeytabEntry) (skew micros : ℕ) (memory : Memory) (login : Login)
     → a.setup ≡ record { entries = kept; skew = skew; start = None } → a.memory ≡ memory → memory ≡ record { stamps = []; latest = None }
-    → found ≡ entries → skew ≡ micros → Serves text found kept → login ≡ record { acceptor = a; last = None; refusal = None } → IsFresh text entries micros login
+    → found ≡ entries → skew ≡ micros → Serves text found kept → login ≡ record { acceptor = a; refusal = None } → IsFresh text entries micros login
 is_fresh a text entries found kept skew micros memory login s m n e k serves made =
     (kept, (subst (λ (es : List KeytabEntry). Serves text es kept) e serves, made ∙ fresh_of a kept kept skew micros memory s m n refl k))

@@ -8,23 +8,22 @@ ghost use Rattle.krb_ap.specs.Setup.{arrival};
 ghost use Rattle.krb_keytab.specs.Entry.{KeytabEntry};
 ghost use Rattle.krb_keytab.specs.Format.{IsFaultOf, IsKeytab};
 ghost use Rattle.krb_keytab.specs.declared.fault.KeytabFault.{KeytabFault};
-ghost use Rattle.krb_c.specs.Accepting.{Decides, IsFresh, IsMomentOf, Remembers, Serves, Stands, TellsLatest, Turns, cleared, latest_of};
+ghost use Rattle.krb_c.specs.Accepting.{Decides, IsFresh, IsMomentOf, Remembers, Serves, Stands, TellsLatest, Turns, cleared, emptied, latest_of, nothing_kept};
 ghost use Rattle.krb_c.specs.Asking.{IsUnnamed};
-ghost use Rattle.krb_c.specs.Choice.{TellsReply};
-ghost use Rattle.krb_c.specs.Known.{TellsKnown};
 ghost use Rattle.krb_c.specs.Refusing.{TellsError};
 ghost use Rattle.krb_c.specs.Answer.{keytab_answer, plain};
 ghost use Rattle.krb_c.specs.Codes.{bad_moment, bad_skew, empty_handle, ok, out_of_memory};
 
 use crate::answer::{Answer, Time};
 use crate::asking::name_of;
-use crate::choice::Choice;
 use crate::code;
 use crate::handle::Handle;
-use crate::known::Known;
+use crate::kept::Kept;
 use crate::login::Login;
+use crate::slot::Slot;
 use krb_ap::Acceptor;
 use krb_keytab::Keytab;
+use krb_msg::Moment;
 use krb_replay::{ReplayMemory, Skew, TimedMemory};
 use std::alloc::Global;
 
@@ -82,7 +81,6 @@ fn service_of(alloc: Global, keytab: &[u8], skew: u32, service: &[u8]) -> Result
     let acceptor = Acceptor::new(keytab, skew, TimedMemory::new(alloc));
     let login = Login {
         acceptor,
-        last: None,
         refusal: None,
     };
     match Box::new(alloc, login) {
@@ -108,36 +106,63 @@ fn wanted(alloc: Global, keytab: Keytab, service: &[u8]) -> Result<Keytab, Answe
 }
 
 /// Decides whether a request is accepted at a moment of the service's clock, and remembers what has to be remembered of it. What is
-/// accepted is kept until the next call, also one with a moment that is none, and is told by `fevstunik_acceptor_accepted`.
+/// accepted is kept in the handle `accepted`, which `fevstunik_accepted_new` made; after any other answer nothing is kept in it.
 #[unsafe(no_mangle)]
 pub extern "C" fn fevstunik_acceptor_accept(
     handle: &mut Handle,
+    accepted: &mut Slot,
     alloc: Global,
     request: &[u8],
     now: &Time,
 ) -> Answer
-    ensures moment { ¬ IsMomentOf now.now → (result ≡ plain bad_moment) × (handle.new.value ≡ option_map cleared handle.old.value) }
-    ensures decided { IsMomentOf now.now → Turns handle.old.value handle.new.value (result ≡ plain empty_handle)
-        (λ old new. Decides old new (arrival request.now (micros_of now.now.seconds now.now.micros)) result) }
+    ensures moment { ¬ IsMomentOf now.now → (result ≡ plain bad_moment)
+        × ((handle.new.value ≡ option_map cleared handle.old.value) × (accepted.new.value ≡ option_map emptied accepted.old.value)) }
+    ensures decided { IsMomentOf now.now → Turns accepted.old.value accepted.new.value ((result ≡ plain empty_handle) × (handle.new.value ≡ handle.old.value))
+        (λ before kept. Turns handle.old.value handle.new.value ((result ≡ plain empty_handle) × (kept ≡ nothing_kept))
+        (λ old new. Decides old new (arrival request.now (micros_of now.now.seconds now.now.micros)) kept.accepted result)) }
 {
     let now = match now.moment() {
         Some(now) => now,
         None => {
             clear(handle, alloc);
+            forget(accepted, alloc);
             return Answer::plain(code::BAD_MOMENT);
         }
     };
-    match handle.take(alloc) {
-        Some(mut login) => {
-            let answer = login.decide(alloc, request, now);
-            *handle = Handle::of(login);
+    match accepted.take(alloc) {
+        Some(mut kept) => {
+            let answer = decided(handle, alloc, &mut kept, request, now);
+            *accepted = Slot::of(kept);
             answer
         }
         None => Answer::plain(code::EMPTY_HANDLE),
     }
 }
 
-// Nothing is told as accepted or refused afterwards.
+fn decided(
+    handle: &mut Handle,
+    alloc: Global,
+    kept: &mut Kept,
+    request: &[u8],
+    now: Moment,
+) -> Answer
+    ensures { Turns handle.old.value handle.new.value ((result ≡ plain empty_handle) × (kept.new ≡ nothing_kept))
+        (λ old new. Decides old new (arrival request.now now) kept.new.accepted result) }
+{
+    match handle.take(alloc) {
+        Some(mut login) => {
+            let answer = login.decide(alloc, kept, request, now);
+            *handle = Handle::of(login);
+            answer
+        }
+        None => {
+            kept.clear();
+            Answer::plain(code::EMPTY_HANDLE)
+        }
+    }
+}
+
+// Nothing is told as refused afterwards.
 fn clear(handle: &mut Handle, alloc: Global)
     ensures { handle.new.value ≡ option_map cleared handle.old.value }
 {
@@ -150,51 +175,16 @@ fn clear(handle: &mut Handle, alloc: Global)
     }
 }
 
-/// Tells what the last call of `fevstunik_acceptor_accept` accepted: in the buffer the client's text, the session key, the client's
-/// subkey and the text of the service that was asked for, and in `known` where they stand, and the numbers. The places are told also
-/// where the buffer is too short.
-#[unsafe(no_mangle)]
-pub extern "C" fn fevstunik_acceptor_accepted(
-    handle: &mut Handle,
-    alloc: Global,
-    known: &mut Known,
-    buffer: &mut [u8],
-) -> Answer
-    ensures told { MatchOption handle.old.value ((result ≡ plain empty_handle) × ((known.new ≡ known.old) × (buffer.new ≡ buffer.old)))
-        (λ login. TellsKnown login.last known.old known.new buffer.old buffer.new result) }
-    ensures stays { handle.new.value ≡ handle.old.value }
+// Nothing is told as accepted afterwards.
+fn forget(accepted: &mut Slot, alloc: Global)
+    ensures { accepted.new.value ≡ option_map emptied accepted.old.value }
 {
-    match handle.take(alloc) {
-        Some(login) => {
-            let answer = login.tell(alloc, known, buffer);
-            *handle = Handle::of(login);
-            answer
+    match accepted.take(alloc) {
+        Some(mut kept) => {
+            kept.clear();
+            *accepted = Slot::of(kept);
         }
-        None => Answer::plain(code::EMPTY_HANDLE),
-    }
-}
-
-/// Builds the reply to what the last call of `fevstunik_acceptor_accept` accepted. The confounder is 16 random bytes, new for each call.
-#[unsafe(no_mangle)]
-pub extern "C" fn fevstunik_acceptor_reply(
-    handle: &mut Handle,
-    alloc: Global,
-    confounder: &[u8],
-    choice: &Choice,
-    subkey: &[u8],
-    buffer: &mut [u8],
-) -> Answer
-    ensures reply { MatchOption handle.old.value ((result ≡ plain empty_handle) × (buffer.new ≡ buffer.old))
-        (λ login. TellsReply login.last confounder.now choice.now subkey.now buffer.old buffer.new result) }
-    ensures stays { handle.new.value ≡ handle.old.value }
-{
-    match handle.take(alloc) {
-        Some(login) => {
-            let answer = login.reply(alloc, confounder, choice, subkey, buffer);
-            *handle = Handle::of(login);
-            answer
-        }
-        None => Answer::plain(code::EMPTY_HANDLE),
+        None => {}
     }
 }
 
