@@ -1,5 +1,5 @@
 -- What is read of a file, part by part, is what the file says.
-use Rattle.std.proofs.Common.{◌≡◌, ℕ, ◌<◌, ◌≤◌, List, [], ◌∷◌, ◌++◌, length, map, Option, Some, None, refl, sym, ap, subst, ◌∙◌, append_assoc, append-nil, arith, inl, inr}
+use Rattle.std.proofs.Common.{◌≡◌, ℕ, ◌<◌, ◌≤◌, List, [], ◌∷◌, ◌++◌, length, map, Some, None, refl, sym, ap, subst, ◌∙◌, append_assoc, arith, inl, inr}
 use Rattle.std.specs.Prelude.{All, IfSome}
 use Rattle.std.specs.List.{flat_map}
 use Rattle.std.proofs.lemmas.List.{length-append}
@@ -23,7 +23,7 @@ use Rattle.krb_ccache.specs.Inner.Standing.{bytes_of, Lies, Reaches, IsMissing, 
 use Rattle.krb_ccache.specs.Inner.Stepping.{spelled_as}
 use Rattle.krb_ccache.proofs.PartLaws.{IsField-name, IsField-spelled, spelled_some, spelled_none}
 use Rattle.krb_ccache.proofs.Repeats.{missing_where, reach_none, reach_more}
-use Rattle.krb_ccache.proofs.LayoutLaws.{credential_some, credential_in, all_fit, map_more, front, read_cache, is_reached, reached_within}
+use Rattle.krb_ccache.proofs.LayoutLaws.{credential_some, credential_in, all_fit, map_more, read_cache, is_reached, reached_within}
 
 -- ---- the default principal
 
@@ -68,22 +68,22 @@ stops layout start place spelled fault reaches more h =
     subst (StopsBy layout start) (sym h.0) (record { credentials = spelled; behind = place; reaches = reaches; at_is = refl; more = more; missing = credential_missing layout place h.1 })
 
 -- the credentials so far, with their spellings
-pub record Read_to (layout : Layout) (start place : Place) (credentials : List Credential) : Type 0 where
+pub record ReadTo (layout : Layout) (start place : Place) (credentials : List Credential) : Type 0 where
   pub spelled : List Spelled
   pub reaches : Reaches bytes_of (Spells layout) start spelled place
   pub are : credentials ≡ map credential_in spelled
 
-pub read_none : (layout : Layout) (start place : Place) (credentials : List Credential) → IsBytes start.rest → place ≡ start → credentials ≡ [] → Read_to layout start place credentials
+pub read_none : (layout : Layout) (start place : Place) (credentials : List Credential) → IsBytes start.rest → place ≡ start → credentials ≡ [] → ReadTo layout start place credentials
 read_none layout start place credentials fits e none = record { spelled = []; reaches = none_reached layout start place fits e; are = none }
 
-pub read_more : (layout : Layout) (start place : Place) (credentials : List Credential) (credential : Credential) (behind : Place) → Read_to layout start place credentials
-    → credential_at layout place ≡ Some (credential, behind) → Read_to layout start behind (credentials ++ credential ∷ [])
+pub read_more : (layout : Layout) (start place : Place) (credentials : List Credential) (credential : Credential) (behind : Place) → ReadTo layout start place credentials
+    → credential_at layout place ≡ Some (credential, behind) → ReadTo layout start behind (credentials ++ credential ∷ [])
 read_more layout start place credentials credential behind so_far e =
     let goes = credential_goes layout start place so_far.spelled credential behind so_far.reaches e in
     let one : Spelled = spelled_as goes.bytes credential in
     record { spelled = so_far.spelled ++ one ∷ []; reaches = goes.reaches; are = ap (λ (t : List Credential). t ++ credential ∷ []) so_far.are ∙ sym (map_more so_far.spelled one) }
 
-pub read_fit : (layout : Layout) (start place : Place) (credentials : List Credential) → Read_to layout start place credentials → All FitsCredential credentials
+pub read_fit : (layout : Layout) (start place : Place) (credentials : List Credential) → ReadTo layout start place credentials → All FitsCredential credentials
 read_fit layout start place credentials so_far =
     subst (All FitsCredential) (sym so_far.are) (all_fit layout so_far.spelled (recursion_from_All (Spells layout) so_far.spelled so_far.reaches.fit))
 
@@ -129,7 +129,7 @@ module _ (layout : Layout) where
 
   -- the whole file, with the credentials that were read
   pub all_read : (bytes : List ℕ) (header : List HeaderField) (place : Place) (name : Principal) (middle : Place) (credentials : List Credential) (behind : Place) → HasStart layout bytes header place
-      → Lies name_bytes FitsName place name middle → Read_to layout middle behind credentials → behind.rest ≡ [] → IsCache bytes (record { header = header; default_principal = name; credentials = credentials })
+      → Lies name_bytes FitsName place name middle → ReadTo layout middle behind credentials → behind.rest ≡ [] → IsCache bytes (record { header = header; default_principal = name; credentials = credentials })
   all_read bytes header place name middle credentials behind start lies so_far end =
       let has = cache_read bytes header place name middle so_far.spelled behind start lies so_far.reaches in
       subst (λ (cs : List Credential). IsCache bytes (record { header = header; default_principal = name; credentials = cs })) (sym so_far.are) (cache_found bytes behind.at (read_cache header name so_far.spelled) behind.rest start.limit has end)

@@ -15,7 +15,7 @@ use Rattle.krb_ccache.specs.declared.layout.Layout.TheVariants.{Version3, Versio
 use Rattle.krb_ccache.specs.Spelling.{name_bytes, flag_bytes, list_bytes, keyed_bytes, credential_bytes}
 use Rattle.krb_ccache.specs.Value.{Cache, cache_of, FitsHeader, FitsName, FitsCredential, Fits}
 use Rattle.krb_name.specs.File.{file_limit}
-use Rattle.krb_ccache.specs.Format.{version_of, second_size, FitsHead, start_bytes, written, Spelled, Spells, credential_length, IsReached, IsCache}
+use Rattle.krb_ccache.specs.Format.{FitsHead, start_bytes, written, Spelled, Spells, credential_length, IsReached, IsCache}
 use Rattle.krb_ccache.specs.Inner.Standing.{bytes_of}
 use Rattle.krb_ccache.specs.Inner.Stepping.{spelled_as}
 use Rattle.krb_ccache.specs.Reader.{with_credential}

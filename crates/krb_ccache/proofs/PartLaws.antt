@@ -6,7 +6,7 @@ use Rattle.std.specs.List.{flat_map}
 use Rattle.std.proofs.lemmas.Bool.{eqb-true}
 use Rattle.std.proofs.lemmas.List.{length-append}
 use Rattle.std.proofs.lemmas.List.Elements.{All-from_recursion, recursion_from_All}
-use Rattle.krb_name.specs.Cursor.{Place, ◌>>=◌, bytes_at, number_at, signed_at, data_at, times_at, number_bytes, signed_bytes, data_bytes}
+use Rattle.krb_name.specs.Cursor.{Place, ◌>>=◌, number_at, signed_at, data_at, times_at, number_bytes, signed_bytes, data_bytes}
 use Rattle.krb_name.specs.Field.{IsBytes, Takes, IsField}
 use Rattle.krb_name.proofs.CursorLaws.{bind_some, some_is, Takes-then, IsField-bytes, IsField-u8, IsField-u16, IsField-u32, IsField-i16, IsField-i32, IsField-data16, IsField-data32}
 use Rattle.krb_name.proofs.Repeated.{IsField-times}

@@ -1,5 +1,5 @@
 -- What a reader has taken of a file, step by step.
-use Rattle.std.proofs.Common.{◌≡◌, ℕ, ◌+◌, ◌-◌, ◌≤◌, Bool, true, false, take, drop, List, [], ◌∷◌, ◌++◌, length, Option, Some, None, Result, Ok, Err, refl, sym, ap, ap₂, subst, ◌∙◌, append_assoc, append-nil, arith, inl, inr}
+use Rattle.std.proofs.Common.{◌≡◌, ℕ, ◌+◌, ◌-◌, ◌≤◌, Bool, true, false, take, drop, List, [], ◌++◌, length, Option, Some, None, Result, Ok, Err, refl, sym, ap, ap₂, subst, ◌∙◌, append_assoc, append-nil, arith, inl, inr}
 use Rattle.std.specs.Prelude.{◌≢◌, max, IfOk, IfErr, IfSome, OnErr}
 use Rattle.std.specs.Io.KnownBytes.{Consumes, IsAtEnd}
 use Rattle.std.proofs.KnownBytes.{Consumes-trans, Consumes-nil}
@@ -266,18 +266,18 @@ module _ {S : Type 0} (left : S → Option (List ℕ)) where
     passed_one was now old new (Ok None) said step is there lay also s g h source given held ended = absurd cc
     passed_one was now old new (Err fault) said step is there lay also s g h source given held ended = absurd cc
     passed_one was now old new (Ok (Some credential)) said step is there lay also s g h source given held ended =
-      let one = gave_one old new step.0 credential step.1 in
-      let length_is : credential_length was.layout credential ≡ credential_length layout credential = ap (λ (l : Layout). credential_length l credential) lay in (
-      credential,
-      record {
-        gave = record { given = omega (arith, one.given, g, given, length_is); some = omega (arith, one.some, g, given); limit = omega (arith, one.limit, given) };
-        held = omega (arith, step.1.peak, h, held, spelled_length layout (spelled_as step.0 credential) step.1.fits, length_is);
-        read = λ from cache read.
-            let before = subst (λ (l : Layout). HasTaken l from (left was.source) was.given cache) lay read.taken in
-            let taken = subst (λ (n : ℕ). HasTaken layout from (left old.source) n cache) g (subst (λ (t : S). HasTaken layout from (left t) was.given cache) s before) in
-            next_item from old new now cache (Ok (Some credential)) step taken also source given (ended ∙ ap ended_passed is);
-      },
-    )
+        let one = gave_one old new step.0 credential step.1 in
+        let length_is : credential_length was.layout credential ≡ credential_length layout credential = ap (λ (l : Layout). credential_length l credential) lay in (
+          credential,
+          record {
+            gave = record { given = omega (arith, one.given, g, given, length_is); some = omega (arith, one.some, g, given); limit = omega (arith, one.limit, given) };
+            held = omega (arith, step.1.peak, h, held, spelled_length layout (spelled_as step.0 credential) step.1.fits, length_is);
+            read = λ from cache read.
+                let before = subst (λ (l : Layout). HasTaken l from (left was.source) was.given cache) lay read.taken in
+                let taken = subst (λ (n : ℕ). HasTaken layout from (left old.source) n cache) g (subst (λ (t : S). HasTaken layout from (left t) was.given cache) s before) in
+                next_item from old new now cache (Ok (Some credential)) step taken also source given (ended ∙ ap ended_passed is);
+          },
+        )
 
     pub next_end : (from : Option (List ℕ)) (old new : AtHand S) (cache : Cache) (result : Result (Option Credential) CacheFault) → IsStep layout left old new result → HasTaken layout from (left old.source) old.given cache → result ≡ Ok None
         → (bytes : List ℕ) × IsGiven from (left new.source) bytes × IsCache bytes cache

@@ -18,7 +18,7 @@ use Rattle.krb_ccache.specs.Value.{FitsCredential}
 use Rattle.krb_ccache.specs.declared.credential.Credential.{Credential}
 use Rattle.krb_ccache.specs.Inner.Standing.{bytes_of, IsMissing}
 use Rattle.krb_ccache.specs.Inner.Walking.{Walks, Halts, FitsKeyed, whole}
-use Rattle.krb_ccache.specs.Inner.Stepping.{item_stop, Stands, cleared, Comes, Gives, Runs, IsTold, Lacks, Misses, MissesOne, IsStep}
+use Rattle.krb_ccache.specs.Inner.Stepping.{item_stop, Stands, cleared, Comes, Gives, Runs, IsTold, Lacks, Misses, MissesOne, spelled_as, IsStep, IsAtHand}
 use Rattle.std.specs.Prelude.{◌≢◌}
 use Rattle.krb_ccache.specs.declared.fault.CacheFault.TheVariants.{BadItem, OutOfMemory}
 use Rattle.krb_ccache.specs.Format.{version_of, head_bytes, FitsHead, second_size, Spelled, Spells}
@@ -188,6 +188,16 @@ not_made layout left old new (Ok (Some credential)) there step =
       },
       λ e. absurd cc,
     )
+
+-- it was made of the bytes at hand
+pub was_made : (layout : Layout) {S : Type 0} (left : S → Option (List ℕ)) (old new : AtHand S) (answer : Result (Option Credential) CacheFault) (bytes : List ℕ) (made : Credential) → Ok true ≡ passed answer → IsStep layout left old new answer
+    → IsAtHand layout new.bytes answer → bytes ≡ new.bytes → ((one : Spelled) → Stands bytes_of (Spells layout) bytes one → made ≡ one.credential) → IsStep layout left old new (Ok (Some made))
+was_made layout left old new (Ok None) bytes made there step hand same is = absurd cc
+was_made layout left old new (Err fault) bytes made there step hand same is = absurd cc
+was_made layout left old new (Ok (Some credential)) bytes made there step hand same is =
+    let one : Spelled = spelled_as hand.0 credential in
+    let stands = subst (λ (t : List ℕ). Stands bytes_of (Spells layout) t one) (sym same) hand.1 in
+    subst (λ (x : Credential). IsStep layout left old new (Ok (Some x))) (sym (is one stands)) step
 
 -- ---- a field
 

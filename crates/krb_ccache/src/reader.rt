@@ -94,11 +94,13 @@ impl<S: Source> CredentialReader<S> {
     {
         let mut window = Window::new(alloc, source);
         match begin(alloc, &mut window) {
-            Ok(Start {
-                layout,
-                header,
-                default_principal,
-            }) => Ok(CredentialReader {
+            Ok(
+                Start {
+                    layout,
+                    header,
+                    default_principal,
+                },
+            ) => Ok(CredentialReader {
                 window,
                 layout,
                 header,

@@ -278,10 +278,7 @@ fn step_name<S: Source>(alloc: Global, window: &mut Window<S>) -> Result<Princip
 }
 
 /// Takes the version, the header and the default principal.
-pub(crate) fn begin<S: Source>(
-    alloc: Global,
-    window: &mut Window<S>,
-) -> Result<Start, CacheFault>
+pub(crate) fn begin<S: Source>(alloc: Global, window: &mut Window<S>) -> Result<Start, CacheFault>
     requires reads { S.failure_count window.old.source < 2 ^ 64 - 1 }
     requires start { window.old.given ≡ 0 }
     ensures taken { IfOk result (λ begun. HasTaken begun.layout (S.remaining window.old.source)

@@ -1,11 +1,10 @@
-use Rattle.std.proofs.Common.{ℕ, List, Result, Ok, Err, refl, subst}
+use Rattle.std.proofs.Common.{ℕ, List, refl, subst}
 use Rattle.krb_ccache.specs.Format.{Spells}
 use Rattle.krb_ccache.specs.Inner.Standing.{bytes_of, IsMissing}
 use Rattle.krb_ccache.specs.Inner.Stepping.{Stands}
 use Rattle.krb_ccache.specs.declared.item_fault.ItemFault.TheVariants as item
 use Rattle.krb_ccache.proofs.StepLaws.{came, not_read, part_walked, part_halted}
 use Rattle.krb_ccache.proofs.WalkParts.{unmarked_walks, unmarked_halts}
-use Rattle.krb_ccache.specs.declared.walking.Stop.{Stop}
 use Rattle.krb_ccache.specs.declared.walking.Stop.TheVariants as stop
 use Rattle.std.proofs.lemmas.Result.{err_from_is_err_and}
 use Rattle.krb_ccache.proofs.stepping.come_past.Goals as goal

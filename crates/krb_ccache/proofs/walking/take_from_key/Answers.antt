@@ -1,7 +1,6 @@
-use Rattle.std.proofs.Common.{◌≡◌, ◌+◌, ap, Result, Err}
+use Rattle.std.proofs.Common.{Result, Err}
 use Rattle.std.proofs.lemmas.Result.{err_from_is_err_and}
 use Rattle.krb_ccache.specs.declared.walking.Stop.{Stop}
-use Rattle.krb_ccache.specs.Format.{second_size}
 use Rattle.krb_ccache.proofs.WalkParts.{etype_then, etype_first, key_then, key_first}
 use Rattle.krb_ccache.proofs.walking.take_from_key.Goals as goal
 

@@ -1,7 +1,6 @@
 use Rattle.std.proofs.Common.{◌≤◌, length}
 use Rattle.krb_name.specs.File.{file_limit}
 use Rattle.krb_ccache.specs.Format.{written}
-use Rattle.krb_ccache.specs.Format.{IsCache}
 use Rattle.krb_ccache.proofs.LayoutLaws.{written_cache}
 use Rattle.krb_ccache.proofs.cache.CCache.to_bytes.Goals as goal
 
