@@ -364,7 +364,7 @@ typedef struct fevstunik_acceptor {
  */
 fevstunik_answer fevstunik_keytab_check(const uint8_t *keytab, size_t keytab_size);
 
-/* Checks that the bytes of a file are a credential cache of version 0x0504. `size` is the number of its credentials, with its
+/* Checks that the bytes of a file are a credential cache of version 0x0503 or 0x0504. `size` is the number of its credentials, with its
  * configuration entries.
  *
  * FEVSTUNIK_OK; FEVSTUNIK_TOO_LONG, _FILE_VERSION, _FILE_HEADER, _FILE_BAD_ITEM; FEVSTUNIK_OUT_OF_MEMORY.
@@ -582,7 +582,7 @@ void fevstunik_acceptor_free(fevstunik_acceptor *handle);
 
 /* Builds a request (the bytes of an AP-REQ) for a service with the first credential of a cache that fits: a ticket of the cache's default
  * principal for the service whose session key is usable, and that ends later than `at`, the client's clock. `cache` has the bytes of a
- * file of version 0x0504, `service` the service's name as text, as host/web@EX. `confounder` is 16 random bytes, new for each call.
+ * file of version 0x0503 or 0x0504, `service` the service's name as text, as host/web@EX. `confounder` is 16 random bytes, new for each call.
  * `subkey` has the bytes of the subkey whose type is in `choice`; if that is 0 they aren't looked at.
  *
  * The first that holds: FEVSTUNIK_FILE_VERSION, _FILE_HEADER, _FILE_BAD_ITEM and _TOO_LONG for the cache; FEVSTUNIK_NOT_UTF8, _BAD_TEXT and
