@@ -394,7 +394,7 @@ typedef struct fevstunik_pending {
  */
 fevstunik_answer fevstunik_keytab_check(const uint8_t *keytab, size_t keytab_size);
 
-/* Checks that the bytes of a file are a credential cache of version 0x0504. `size` is the number of its credentials, with its
+/* Checks that the bytes of a file are a credential cache of version 0x0503 or 0x0504. `size` is the number of its credentials, with its
  * configuration entries.
  *
  * FEVSTUNIK_OK; FEVSTUNIK_TOO_LONG, _FILE_VERSION, _FILE_HEADER, _FILE_BAD_ITEM; FEVSTUNIK_OUT_OF_MEMORY.
@@ -650,7 +650,7 @@ void fevstunik_acceptor_free(fevstunik_acceptor *handle);
 
 /* ---- the client's side ---- */
 
-/* Reads a credential cache (the bytes of a file of version 0x0504) and keeps it in the handle: it is read once, and serves for any number
+/* Reads a credential cache (the bytes of a file of version 0x0503 or 0x0504) and keeps it in the handle: it is read once, and serves for any number
  * of requests. What the handle held is freed. The file's bytes aren't needed afterwards.
  *
  * The first that holds: FEVSTUNIK_FILE_VERSION, _FILE_HEADER, _FILE_BAD_ITEM, _TOO_LONG; or FEVSTUNIK_OUT_OF_MEMORY; and the handle is as

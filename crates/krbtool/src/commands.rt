@@ -77,7 +77,7 @@ const CONVERT_KEYTAB: Help<'static> = Help {
 };
 
 const CONVERT_CCACHE: Help<'static> = Help {
-    about: "Writes a credential cache anew",
+    about: "Writes a credential cache again, as one of version 0x0504",
     file: CCACHE,
     end: of_faulty_file!("It prints 'wrote COUNT', of bytes."),
 };
