@@ -22,6 +22,7 @@ MEMORY_CALLS = 1_500
 BASE = exchange.BASE
 SKEW = 300_000_000
 FIXTURE = Made()
+CLIENT_ANSWERS = ["NoCredential", "NoUsableKey", "Expired", "BadTicket", "MessageType", "Malformed", "Integrity", "Mismatch", "agreed"]
 MICROS = 1_000_000
 
 
@@ -123,6 +124,26 @@ def conversation(draw):
             lines.append(f"reply {confounder.hex()} {choice_words(choice)}")
             answers.append(word_of(reply_of(seals, *told.taken, confounder, choice)))
     return lines, answers
+
+
+def refused(answers):
+    """The causes that answers name, and `accepted`, one for each request."""
+    for text in answers:
+        for words in (it.split() for it in text.split(" | ")):
+            if words[0] in ("accepted", "agreed"):
+                yield words[0]
+            if words[0] == "refused":
+                yield words[1]
+
+
+def often_enough(what, wanted, cases):
+    """The cases, once it is seen that each of these answers comes among them."""
+    cases = list(cases)
+    seen = [it for _, _, answers in cases for it in refused(answers)]
+    lacking = exchange.lacking(wanted, seen)
+    if lacking:
+        raise ValueError(f"{what}: {lacking}")
+    return cases
 
 
 def services(draw):
@@ -365,6 +386,8 @@ def memories(draw):
 def drawn():
     """The cases of tests/library.py: program, name, lines, answers."""
     draw = random.Random(SEED)
-    for cases in (services(draw), clients(draw), beginnings(), each_byte(), schedules(draw), many_tuples(), memories(draw)):
+    served = often_enough("services", [*model.CODES, "accepted"], services(draw))
+    asked = often_enough("clients", CLIENT_ANSWERS, clients(draw))
+    for cases in (served, asked, beginnings(), each_byte(), schedules(draw), many_tuples(), memories(draw)):
         for name, lines, answers in cases:
             yield PROGRAM, f"exchange: {name}", lines, answers
