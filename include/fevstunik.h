@@ -650,8 +650,8 @@ void fevstunik_acceptor_free(fevstunik_acceptor *handle);
 
 /* ---- the client's side ---- */
 
-/* Reads a credential cache (the bytes of a file of version 0x0503 or 0x0504) and keeps it in the handle: it is read once, and serves for any number
- * of requests. What the handle held is freed. The file's bytes aren't needed afterwards.
+/* Reads a credential cache (the bytes of a file of version 0x0503 or 0x0504) and keeps it in the handle: it is read once, and serves for
+ * any number of requests. What the handle held is freed. The file's bytes aren't needed afterwards.
  *
  * The first that holds: FEVSTUNIK_FILE_VERSION, _FILE_HEADER, _FILE_BAD_ITEM, _TOO_LONG; or FEVSTUNIK_OUT_OF_MEMORY; and the handle is as
  * before. FEVSTUNIK_OK.

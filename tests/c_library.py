@@ -35,6 +35,8 @@ CRATE = ROOT / "crates/krb_c"
 ARCHIVE = CRATE / "out/libkrb_c.a"
 # What is drawn for fuzzing, and how many inputs valgrind watches.
 SEED = 20_261_123
+# Of the fixture's messages.
+KEYED = "mutual request with a subkey and a number"
 WATCHED = 5_000
 STRICT = ["-Wall", "-Wextra", "-Werror", "-pedantic"]
 
@@ -52,10 +54,9 @@ def toolchain():
     return pathlib.Path(run("rt", "doc").stdout.strip()).parent / "c/liblibc_c.a"
 
 
-def fixture(file, name):
-    """A message of the tests of krb_ap, in hex."""
-    text = (ROOT / "crates/krb_ap_tests/src/tests" / file).read_text()
-    return re.sub(r"[\\\s]", "", re.search(rf'const {name}: &str =\s*"([0-9a-f\\\s]+)"', text)[1])
+def fixture(name):
+    """A message of the fixture, in hex."""
+    return shared.made()[name].hex()
 
 
 def archive_functions():
@@ -143,19 +144,19 @@ def from_c(room, answered):
     program, built = watched(room, "library", "-static")
     yield "the C program is linked", wrong(built)
     if built.returncode == 0:
-        messages = [fixture("client.rt", "REQUEST"), fixture("client.rt", "KEYED"), fixture("replies.rt", "REPLY"), fixture("replies.rt", "KEYED"),
-                    fixture("replies.rt", "ERROR"), c_cases.two_credentials().hex(), c_cases.for_another_service().hex(), c_cases.with_lists().hex()]
+        messages = [fixture("request"), fixture(KEYED), fixture("reply"), fixture("reply with a subkey and a number"),
+                    fixture("error"), c_cases.two_credentials().hex(), c_cases.for_another_service().hex(), c_cases.with_lists().hex()]
         yield from counted("the C program", answered, program, *files, *messages)
     program, built = watched(room, "faults")
     yield "the program of faults is linked", wrong(built)
     if built.returncode == 0:
-        yield from counted("the program of faults", answered, program, *files, fixture("replies.rt", "REPLY"),
+        yield from counted("the program of faults", answered, program, *files, fixture("reply"),
                            input=c_cases.lines(header_codes(), kerberos_codes()))
     # each allocation of each call fails in turn
     program, built = watched(room, "memory", "-Wl,--wrap=malloc", "-Wl,--wrap=realloc", "-Wl,--wrap=free")
     yield "the program without memory is linked", wrong(built)
     if built.returncode == 0:
-        yield from counted("the program without memory", answered, program, *files, fixture("client.rt", "KEYED"), fixture("replies.rt", "REPLY"))
+        yield from counted("the program without memory", answered, program, *files, fixture(KEYED), fixture("reply"))
     yield from answered.checks()
 
 
@@ -205,7 +206,7 @@ def from_python(room):
     yield "the shared object is linked", wrong(built)
     if built.returncode:
         return
-    plain, keyed = fixture("client.rt", "REQUEST"), fixture("client.rt", "KEYED")
+    plain, keyed = fixture("request"), fixture(KEYED)
     ran = run(sys.executable, ROOT / "examples/fevstunik.py", shared, ROOT / "examples/service.keytab", "host/web@EX", "--at", "1700000100",
               input="\n".join([plain, plain, keyed, "30", ""]) + "\n")
     lines = ran.stdout.splitlines()
@@ -218,7 +219,7 @@ def from_python(room):
 
 def fuzzed(room, inputs):
     """The library is handed files and messages, good and broken; a few of them under valgrind, which looks for errors and for leaks."""
-    files = [ROOT / "examples/service.keytab", ROOT / "examples/client.ccache", fixture("client.rt", "REQUEST"), fixture("replies.rt", "REPLY")]
+    files = [ROOT / "examples/service.keytab", ROOT / "examples/client.ccache", fixture("request"), fixture("reply")]
     program = room / "fuzz"
     built = run("gcc", "-std=c99", "-O1", "-g", *STRICT, f"-I{HEADER.parent}", ROOT / "tests/c/fuzz.c", ARCHIVE, toolchain(), "-o", program)
     yield "the fuzzing program is linked", wrong(built)

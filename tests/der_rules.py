@@ -20,6 +20,7 @@ The rules (X.690, sections 8.1, 8.3, 8.6, 8.7 and 10.1; RFC 4120, section 5.2):
 The cases are calls of the program krb_calls_wire (tests/library.py). What is read is shown value by value: numbers in decimal digits, a
 time in seconds from 1970-01-01T00:00:00Z on, texts in hexadecimal digits, `none` for what is left out, a list between `[` and `]`.
 """
+import functools
 import re
 
 PROGRAM = "krb_calls_wire"
@@ -72,6 +73,11 @@ def whole(content):
     return value if len(content) == shortest else None
 
 
+@functools.cache
+def days_before(year):
+    return sum(366 if y % 4 == 0 and (y % 100 != 0 or y % 400 == 0) else 365 for y in range(year))
+
+
 def seconds(content):
     text = bytes(content)
     if len(text) != 15 or text[14:] != b"Z" or any(c not in b"0123456789" for c in text[:14]):
@@ -83,8 +89,7 @@ def seconds(content):
     if not 1 <= month <= 12 or not 1 <= day <= days[month - 1] or hour > 23 or minute > 59 or second > 59:
         return None
     # Days from 0000-01-01: whole years, whole months, days. 1970-01-01 is day 719528 of them.
-    before = sum(366 if y % 4 == 0 and (y % 100 != 0 or y % 400 == 0) else 365 for y in range(year))
-    number = before + sum(days[: month - 1]) + day - 1 - 719528
+    number = days_before(year) + sum(days[: month - 1]) + day - 1 - 719528
     return 86400 * number + 3600 * hour + 60 * minute + second
 
 

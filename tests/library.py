@@ -16,7 +16,12 @@ cases of a file tests/calls/*.toml:
 
 A case begins with nothing made: the line `new` goes before it, and is answered `new`. Bytes are hexadecimal digits, `-` where there are
 none, `HEX*N` for HEX N times, several such joined by `+`; `@PATH` is a file of the repository. In an answer, a word of bytes of more than
-1,024 bytes stands as `#LENGTH:SHA256` (in a case it is written like the bytes of a call).
+1,024 bytes stands as `#LENGTH:SHA256` (in a case it is written like the bytes of a call). Of the program krb_calls_exchange a text in
+braces stands for what exchange_made.py makes of it.
+
+A case of that program may have `calls` in place of lines: what follows `accept` in the line of a request. Each of them, made to a fresh
+service over the keytab `keytab` (if there is none, the fixture's for both types) with a skew of 300 s, has the answer of the same place;
+with both memories, by `accept` one after another, and by `serve` all at once.
 
 The last line is 'N passed, M failed'.
 """
@@ -35,11 +40,16 @@ sys.path.insert(0, str(HERE))
 sys.path.insert(0, str(HERE / "vectors"))
 sys.dont_write_bytecode = True
 
+import exchange_made  # noqa: E402
+
 # The modules with a function drawn(), which gives (program, name, lines, answers) of further cases.
-MODELS = ("aes", "stealing", "codes", "sealing", "der_rules", "msg_rules", "drawn_files")
+MODELS = ("aes", "stealing", "codes", "sealing", "der_rules", "msg_rules", "drawn_files", "drawn_exchange")
 # A longer text is told by its length and its hash.
 SHOWN = 1024
 SECONDS = 120
+
+# The program for whose cases messages are made.
+EXCHANGE = "krb_calls_exchange"
 
 PIECE = re.compile(r"(?:[0-9a-f]{2})+(?:\*[0-9]+)?")
 
@@ -86,16 +96,38 @@ def listed(it):
     return [it] if isinstance(it, str) else it
 
 
+def spelled(program, texts):
+    """Lines or answers, with what is made in the place of braces."""
+    if program != EXCHANGE:
+        return texts
+    return [re.sub(r"\{(\w[^}]*)\}", lambda it: exchange_made.written(it[1]), text) for text in texts]
+
+
+def forms(case):
+    """Each form of a case: what is added to its name, the lines and the answers."""
+    answers = listed(case["answers"])
+    if "lines" in case:
+        yield "", listed(case["lines"]), answers
+        return
+    calls = listed(case["calls"])
+    for memory in ("list", "timed"):
+        service = f"service {memory} 300 {case.get('keytab', '{keytab}')}"
+        yield f", {memory}, accept", [service, *(f"accept {it}" for it in calls)], ["service", *answers]
+        yield f", {memory}, serve", [service, " ".join(["serve", *calls])], ["service", " | ".join([str(len(answers)), *answers])]
+
+
 def stored():
     """The cases of the files: program, name, lines, answers."""
     for path in sorted((HERE / "calls").glob("*.toml")):
         with open(path, "rb") as file:
             table = tomllib.load(file)
         for case in table["case"]:
-            unknown = set(case) - {"name", "lines", "answers"}
+            unknown = set(case) - {"name", "lines", "answers", "calls", "keytab"}
             if unknown:
                 raise ValueError(f"{path.name}: {case.get('name')}: unknown keys {sorted(unknown)}")
-            yield table["program"], f"{path.stem}: {case['name']}", listed(case["lines"]), listed(case["answers"])
+            program = table["program"]
+            for form, lines, answers in forms(case):
+                yield program, f"{path.stem}: {case['name']}{form}", spelled(program, lines), spelled(program, answers)
 
 
 def drawn():

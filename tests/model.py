@@ -245,13 +245,15 @@ def is_configuration(credential):
     return server["realm"] == b"X-CACHECONF:" and server["components"][:1] == [b"krb5_ccache_conf_data"]
 
 
-def request(seals, cache, service, seconds, micros, confounder, is_mutual):
-    """The request that a client makes of a cache's bytes; or Refused."""
+def request(seals, cache, service, seconds, micros, confounder, is_mutual, subkey=None, number=None):
+    """The request that a client makes of a cache's bytes, with a subkey as ETYPE/HEX and a number; or Refused."""
     credential = chosen(reference.cache(cache), service, seconds)
     client = credential["client"]
     plain = der.element(0x62, der.sequence(
         der.field(0, der.integer(5)), der.field(1, der.string(client["realm"])), der.field(2, der.name(client["name_type"], *client["components"])),
         der.field(4, der.integer(micros)), der.field(5, time_of(seconds)),
+        *der.present(6, subkey and der.key(int(subkey.split("/")[0]), bytes.fromhex(subkey.split("/")[1]))),
+        *der.present(7, None if number is None else der.integer(number)),
     ))
     cipher = seals.seal(credential["etype"], credential["key"], AUTHENTICATOR_USAGE, confounder, plain)
     options = (0x20000000 if is_mutual else 0).to_bytes(4, "big")

@@ -129,17 +129,14 @@ def caches():
     return same(found, [fixture.cache(), fixture.configured_cache()])
 
 
-def joined(path):
-    """A source whose texts that go on in the next line are in one."""
-    return re.sub(r"\\\n\s*", "", source(path))
-
-
 def exchange():
-    """The requests, replies and errors of the fixture stand in krb_ap_tests."""
-    text = joined("krb_ap_tests/src/tests/client.rt") + joined("krb_ap_tests/src/tests/replies.rt")
-    names = ["ticket", "configured cache", "request", "mutual request with a subkey and a number", "reply", "reply with a subkey and a number", "error"]
-    missing = [name for name in names if f'"{fixture.made()[name].hex()}"' not in text]
-    return f"not there: {missing}" if missing else None
+    """The requests, replies and the error of the fixture stand among the cases of the exchange, and have the sizes that they had when they were made."""
+    made, folder = fixture.made(), TOP / "tests/calls"
+    text = "".join((folder / f"{it}.toml").read_text() for it in ("request", "replies"))
+    names = ["configured cache", "request", "mutual request with a subkey and a number", "reply", "reply with a subkey and a number", "error"]
+    missing = [name for name in names if not re.search(rf'["\b ]{made[name].hex()}"', text)]
+    sizes = [len(made[it]) for it in ("ticket part", "ticket", "cache", "configured cache", "request", "reply", "error")]
+    return f"not there: {missing}" if missing else same(sizes, [119, 214, 352, 178, 348, 87, 73])
 
 
 def example():

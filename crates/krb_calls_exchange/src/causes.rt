@@ -1,0 +1,115 @@
+//! Causes and faults: their texts, and the errors that tell of them.
+
+use crate::names::name;
+use crate::words::{Answer, Words};
+use krb_ap::{FinishFault, Refusal, ReplyFault, RequestFault, error_reply};
+use krb_msg::{Fault, FaultKind};
+
+// What is malformed is cut off at the byte 7.
+const CUT: Fault = Fault {
+    kind: FaultKind::Truncated,
+    at: 7,
+};
+
+static CAUSES: [Refusal; 18] = [
+    Refusal::MessageType,
+    Refusal::Malformed(CUT),
+    Refusal::UserToUser,
+    Refusal::TicketEtype,
+    Refusal::NotUs,
+    Refusal::NoKey,
+    Refusal::BadKeyVersion,
+    Refusal::TicketIntegrity,
+    Refusal::SessionKey,
+    Refusal::AuthenticatorIntegrity,
+    Refusal::BadMatch,
+    Refusal::Skew,
+    Refusal::Repeat,
+    Refusal::NotYetValid,
+    Refusal::Expired,
+    Refusal::Transited,
+    Refusal::Authorization,
+    Refusal::OutOfMemory,
+];
+
+/// Answers a call that takes a cause or a fault.
+pub(crate) fn answer(first: &str, words: &mut Words, out: &mut Answer) -> Option<()> {
+    match first {
+        "error" => error(words, out),
+        "cause" => show_cause(cause(words)?, out),
+        "fault" => fault(words, out),
+        _ => None,
+    }
+}
+
+// The cause of that name.
+fn cause(words: &mut Words) -> Option<&'static Refusal> {
+    let name = words.next()?;
+    for cause in &CAUSES {
+        if cause.name() == name {
+            return Some(cause);
+        }
+    }
+    None
+}
+
+fn error(words: &mut Words, out: &mut Answer) -> Option<()> {
+    let cause = cause(words)?;
+    let now = words.moment()?;
+    let service = name(words)?;
+    match error_reply(words.alloc, cause, now, &service) {
+        Ok(bytes) => out.bytes(&bytes),
+        Err(fault) => {
+            out.word("refused")?;
+            out.named(fault)
+        }
+    }
+}
+
+fn show_cause(cause: &Refusal, out: &mut Answer) -> Option<()> {
+    out.shown(cause.place())?;
+    out.shown_or_none(cause.code())?;
+    out.word(cause.name())?;
+    out.shown(*cause)
+}
+
+fn fault(words: &mut Words, out: &mut Answer) -> Option<()> {
+    match words.next()? {
+        "request" => out.shown(request_fault(words.next()?)?),
+        "finish" => out.shown(finish_fault(words.next()?)?),
+        "reply" => out.shown(reply_fault(words.next()?)?),
+        _ => None,
+    }
+}
+
+fn request_fault(name: &str) -> Option<RequestFault> {
+    match name {
+        "NoCredential" => Some(RequestFault::NoCredential),
+        "NoUsableKey" => Some(RequestFault::NoUsableKey),
+        "Expired" => Some(RequestFault::Expired),
+        "BadTicket" => Some(RequestFault::BadTicket),
+        "TooLong" => Some(RequestFault::TooLong),
+        "OutOfMemory" => Some(RequestFault::OutOfMemory),
+        _ => None,
+    }
+}
+
+fn finish_fault(name: &str) -> Option<FinishFault> {
+    match name {
+        "MessageType" => Some(FinishFault::MessageType),
+        "Malformed" => Some(FinishFault::Malformed(CUT)),
+        "Integrity" => Some(FinishFault::Integrity),
+        "Mismatch" => Some(FinishFault::Mismatch),
+        "OutOfMemory" => Some(FinishFault::OutOfMemory),
+        _ => None,
+    }
+}
+
+fn reply_fault(name: &str) -> Option<ReplyFault> {
+    match name {
+        "NoCode" => Some(ReplyFault::NoCode),
+        "TooLong" => Some(ReplyFault::TooLong),
+        "OutOfMemory" => Some(ReplyFault::OutOfMemory),
+        _ => None,
+    }
+}

@@ -1,0 +1,139 @@
+//! Makes the calls of the exchange, and of the memory of what was seen, that the lines of standard input say, for the tests
+//! (tests/library.py).
+//!
+//! One line is answered for each: what the call gave, or `bad line` if it can't be read. Single spaces stand between words; `new` drops
+//! what earlier lines made. BYTES are hexadecimal digits, `-` for none, `HEX*N` for HEX N times, several such joined by `+`; more than
+//! 1,024 bytes are shown as `#LENGTH:SHA256`. A NAME is `TYPE/REALM/COMPONENTS`: of BYTES, the components joined by `,`, or `.` for none.
+//! A KEY is `ETYPE/BYTES`. TIME is two words, seconds from 1970-01-01T00:00:00Z on and microseconds. What is left out is `none`.
+//! A MESSAGE is BYTES, or `made:INDEX`, a request that was made, counted from 0 on, or `replied`, the last reply.
+//!
+//! ```text
+//! service list|timed SKEW BYTES         a service over this keytab, with a new memory: `service`, the keytab's fault, or `none` where
+//!                                       there is no such skew
+//! accept TIME MESSAGE                   what it answers to a request: `refused CAUSE [FAULT]`, or `accepted CLIENT SERVICE KEY FLAGS
+//!                                       AUTHTIME ENDTIME ADDRESSES AUTHORIZATION CTIME CUSEC SUBKEY NUMBER CHECKSUM AUTHORIZATION
+//!                                       mutual|plain`, first of the ticket's data, then of the authenticator's
+//! serve [TIME MESSAGE ..]               the same of a list of calls, with `|` between
+//! held                                  how many tuples its memory has, and the latest moment
+//! reply BYTES KEY|none NUMBER|none      the reply to the request that was accepted last, with this confounder
+//! error CAUSE TIME NAME                 the error that tells of a refusal, or why there is none
+//! cache BYTES                           a client's cache: `cache`, or its fault
+//! request NAME TIME BYTES plain|mutual KEY|none NUMBER|none      the request for a service, with this confounder; or `refused FAULT`
+//! finish INDEX MESSAGE                  what the client of that request says of a reply: `agreed CLIENT KEY SUBKEY
+//!                                       NUMBER SUBKEY NUMBER`, first its own, then the service's; or `refused FAULT`
+//! memory list|timed                     a new memory
+//! remember|contains NAME NAME TIME      of the tuple of this server, client and time
+//! advance TIME SKEW, len, latest
+//! tuple time NAME NAME TIME             the tuple's time
+//! tuple compare NAME NAME TIME NAME NAME TIME
+//! skew SECONDS                          its microseconds, or `none`
+//! cause CAUSE                           place, code and name of a cause, and its text
+//! fault request|finish|reply FAULT      the text of a fault
+//! laws                                  calls the laws, which do nothing
+//! ```
+#![tactic(auto)]
+
+mod causes;
+mod clients;
+mod memories;
+mod messages;
+mod names;
+mod services;
+mod words;
+
+use clients::Client;
+use memories::Memory;
+use messages::Messages;
+use services::Served;
+use std::alloc::Global;
+use std::io::{self, BufRead, BufReader, BufWriter, Write};
+use std::process::ExitCode;
+use words::{Answer, Words};
+
+/// What earlier lines made.
+#[derive(Drop)]
+struct Kept {
+    served: Served,
+    client: Client,
+    messages: Messages,
+    memory: Option<Memory>,
+}
+
+impl Kept {
+    fn new(alloc: Global) -> Kept {
+        Kept {
+            served: Served::new(),
+            client: Client::new(alloc),
+            messages: Messages::new(alloc),
+            memory: None,
+        }
+    }
+}
+
+fn main(rt: HostRuntime) -> ExitCode {
+    match run(&rt) {
+        Ok(()) => ExitCode::from(0),
+        Err(_) => ExitCode::from(2),
+    }
+}
+
+fn run(rt: &HostRuntime) -> io::Result<()> {
+    let alloc = rt.alloc();
+    let mut kept = Kept::new(alloc);
+    let mut out = BufWriter::new(alloc, io::writer(rt))?;
+    for line in BufReader::new(alloc, rt.reader())?.lines(alloc) {
+        answer_line(alloc, &mut kept, line?.as_str(), &mut out)?;
+    }
+    out.flush()
+}
+
+fn answer_line<W: Write>(
+    alloc: Global,
+    kept: &mut Kept,
+    line: &str,
+    out: &mut W,
+) -> io::Result<()> {
+    let mut answer = Answer::new(alloc);
+    let text = match answered(kept, &mut Words::new(alloc, line), &mut answer) {
+        Some(()) => answer.text(),
+        None => "bad line",
+    };
+    writeln!(out, "{text}")
+}
+
+fn answered(kept: &mut Kept, words: &mut Words, out: &mut Answer) -> Option<()> {
+    let first = words.next()?;
+    if first == "new" {
+        *kept = Kept::new(words.alloc);
+        out.word("new")?;
+    } else {
+        call(kept, first, words, out)?;
+    }
+    if words.is_at_end() { Some(()) } else { None }
+}
+
+fn call(kept: &mut Kept, first: &str, words: &mut Words, out: &mut Answer) -> Option<()> {
+    match first {
+        "service" | "accept" | "serve" | "held" | "reply" => {
+            services::answer(&mut kept.served, &mut kept.messages, first, words, out)
+        }
+        "cache" | "request" | "finish" => {
+            clients::answer(&mut kept.client, &mut kept.messages, first, words, out)
+        }
+        "error" | "cause" | "fault" => causes::answer(first, words, out),
+        "laws" => laws(out),
+        _ => memories::answer(&mut kept.memory, first, words, out),
+    }
+}
+
+fn laws(out: &mut Answer) -> Option<()> {
+    krb_ap::laws::one_answer();
+    krb_ap::laws::refused_is_remembered();
+    krb_ap::laws::built_is_accepted();
+    krb_ap::laws::built_or_prevented();
+    krb_ap::laws::agreed_or_refused();
+    krb_ap::laws::no_stamp_twice();
+    krb_ap::laws::both_agree();
+    krb_replay::laws::a_set_has_one_size();
+    out.word("laws")
+}

@@ -1,0 +1,240 @@
+//! Calls of a service.
+
+use crate::memories::show_memory;
+use crate::messages::Messages;
+use crate::names::{key_or_none, show_key, show_list, show_name, show_raw_key, show_typed};
+use crate::words::{Answer, Words};
+use krb_ap::{Accepted, Acceptor, Call, Outcome, Refusal, ReplyOptions};
+use krb_keytab::Keytab;
+use krb_msg::Moment;
+use krb_replay::{ListMemory, ReplayMemory, Skew, TimedMemory};
+use std::alloc::{AllocError, Global};
+
+/// A service with either memory.
+#[derive(Drop)]
+enum Service {
+    List(Acceptor<ListMemory>),
+    Timed(Acceptor<TimedMemory>),
+}
+
+/// A service, and what it accepted last.
+#[derive(Drop)]
+pub(crate) struct Served {
+    service: Option<Service>,
+    accepted: Option<Accepted>,
+}
+
+impl Served {
+    pub(crate) fn new() -> Served {
+        Served {
+            service: None,
+            accepted: None,
+        }
+    }
+}
+
+/// Answers a call of the service.
+pub(crate) fn answer(
+    served: &mut Served,
+    messages: &mut Messages,
+    first: &str,
+    words: &mut Words,
+    out: &mut Answer,
+) -> Option<()> {
+    match first {
+        "service" => start(served, words, out),
+        "accept" => accept(served, messages, words, out),
+        "serve" => serve(served, messages, words, out),
+        "held" => held(served.service.as_ref()?, out),
+        "reply" => reply(served.accepted.as_ref()?, messages, words, out),
+        _ => None,
+    }
+}
+
+fn start(served: &mut Served, words: &mut Words, out: &mut Answer) -> Option<()> {
+    *served = Served::new();
+    let kind = words.next()?;
+    let skew = Skew::new(words.number()?);
+    let file = words.bytes()?;
+    let Some(skew) = skew else {
+        return out.word("none");
+    };
+    match Keytab::parse(words.alloc, &file) {
+        Ok(keytab) => {
+            served.service = Some(new_service(words.alloc, kind, keytab, skew)?);
+            out.word("service")
+        }
+        Err(fault) => out.named(fault),
+    }
+}
+
+fn new_service(alloc: Global, kind: &str, keytab: Keytab, skew: Skew) -> Option<Service> {
+    match kind {
+        "list" => {
+            let memory = ListMemory::new(alloc);
+            Some(Service::List(Acceptor::new(keytab, skew, memory)))
+        }
+        "timed" => {
+            let memory = TimedMemory::new(alloc);
+            Some(Service::Timed(Acceptor::new(keytab, skew, memory)))
+        }
+        _ => None,
+    }
+}
+
+fn accept(
+    served: &mut Served,
+    messages: &Messages,
+    words: &mut Words,
+    out: &mut Answer,
+) -> Option<()> {
+    let now = words.moment()?;
+    let bytes = messages.taken(words)?;
+    let outcome = match served.service.as_mut()? {
+        Service::List(acceptor) => acceptor.accept(words.alloc, &bytes, now),
+        Service::Timed(acceptor) => acceptor.accept(words.alloc, &bytes, now),
+    };
+    keep(&mut served.accepted, outcome, out)
+}
+
+// Shows an outcome, and keeps what was accepted.
+fn keep(kept: &mut Option<Accepted>, outcome: Outcome, out: &mut Answer) -> Option<()> {
+    match outcome {
+        Ok(accepted) => {
+            show_accepted(&accepted, out)?;
+            *kept = Some(accepted);
+            Some(())
+        }
+        Err(refusal) => show_refusal(refusal, out),
+    }
+}
+
+fn show_refusal(refusal: Refusal, out: &mut Answer) -> Option<()> {
+    out.word("refused")?;
+    match refusal {
+        Refusal::Malformed(fault) => {
+            out.word("Malformed")?;
+            out.shown(fault)
+        }
+        _ => out.named(refusal),
+    }
+}
+
+fn show_accepted(accepted: &Accepted, out: &mut Answer) -> Option<()> {
+    out.word("accepted")?;
+    show_name(&accepted.client, out)?;
+    show_name(&accepted.service, out)?;
+    show_of_ticket(accepted, out)?;
+    show_of_authenticator(accepted, out)?;
+    out.word(if accepted.mutual { "mutual" } else { "plain" })
+}
+
+fn show_of_ticket(accepted: &Accepted, out: &mut Answer) -> Option<()> {
+    show_key(&accepted.session_key, out)?;
+    out.shown(accepted.flags.bits())?;
+    out.shown(accepted.authtime.get())?;
+    out.shown(accepted.endtime.get())?;
+    show_list(&accepted.addresses, out)?;
+    show_list(&accepted.ticket_authorization, out)
+}
+
+fn show_of_authenticator(accepted: &Accepted, out: &mut Answer) -> Option<()> {
+    out.shown(accepted.ctime.get())?;
+    out.shown(accepted.cusec.get())?;
+    show_raw_key(&accepted.subkey, out)?;
+    out.shown_or_none(accepted.seq)?;
+    show_typed(&accepted.checksum, out)?;
+    show_list(&accepted.authenticator_authorization, out)
+}
+
+/// A request, and the moment at which it comes.
+#[derive(Drop)]
+struct Given {
+    bytes: Vec<u8>,
+    now: Moment,
+}
+
+impl Given {
+    fn call(&self) -> Call<'_> {
+        Call {
+            bytes: &self.bytes,
+            now: self.now,
+        }
+    }
+}
+
+fn serve(
+    served: &mut Served,
+    messages: &Messages,
+    words: &mut Words,
+    out: &mut Answer,
+) -> Option<()> {
+    let given = all_given(messages, words)?;
+    let outcomes = serve_all(words.alloc, served.service.as_mut()?, &given)?;
+    match outcomes {
+        Ok(outcomes) => keep_all(&mut served.accepted, outcomes, out),
+        Err(_) => out.word("OutOfMemory"),
+    }
+}
+
+fn all_given(messages: &Messages, words: &mut Words) -> Option<Vec<Given>> {
+    let mut given = Vec::new(words.alloc);
+    for _ in 0..u32::MAX {
+        if words.is_at_end() {
+            break;
+        }
+        let now = words.moment()?;
+        let bytes = messages.taken(words)?;
+        given.push(Given { bytes, now }).ok()?;
+    }
+    Some(given)
+}
+
+fn serve_all(
+    alloc: Global,
+    service: &mut Service,
+    given: &[Given],
+) -> Option<Result<Vec<Outcome>, AllocError>> {
+    let calls: Vec<Call> = given.iter().map(Given::call).collect(alloc).ok()?;
+    Some(match service {
+        Service::List(acceptor) => acceptor.serve(alloc, &calls),
+        Service::Timed(acceptor) => acceptor.serve(alloc, &calls),
+    })
+}
+
+fn keep_all(kept: &mut Option<Accepted>, outcomes: Vec<Outcome>, out: &mut Answer) -> Option<()> {
+    let count = outcomes.len();
+    out.shown(count)?;
+    for outcome in outcomes {
+        out.word("|")?;
+        keep(kept, outcome, out)?;
+    }
+    Some(())
+}
+
+fn held(service: &Service, out: &mut Answer) -> Option<()> {
+    match service {
+        Service::List(acceptor) => show_memory(acceptor.memory(), out),
+        Service::Timed(acceptor) => show_memory(acceptor.memory(), out),
+    }
+}
+
+fn reply(
+    accepted: &Accepted,
+    messages: &mut Messages,
+    words: &mut Words,
+    out: &mut Answer,
+) -> Option<()> {
+    let confounder = words.confounder()?;
+    let subkey = key_or_none(words)?;
+    let seq = words.number_or_none()?;
+    let options = ReplyOptions { subkey, seq };
+    match accepted.reply(words.alloc, &confounder, options) {
+        Ok(bytes) => {
+            out.bytes(&bytes)?;
+            messages.keep_reply(bytes);
+            Some(())
+        }
+        Err(AllocError) => out.word("OutOfMemory"),
+    }
+}

@@ -1,5 +1,0 @@
-//! Tests of what `krb_replay` has for everyone, in a crate of their own, so that a change of a test doesn't prove that crate again.
-#![tactic(auto)]
-
-#[cfg(test)]
-mod tests;
