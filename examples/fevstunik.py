@@ -8,7 +8,8 @@
 
 Each line of standard input is a request in hex. Each is answered by a line: `accepted CLIENT REPLY` with the reply in hex, where one is
 asked for, else `accepted CLIENT -`; or `refused CODE KERBEROS`, the library's code and that of RFC 4120. An option --at SECONDS takes that
-moment in place of the clock's.
+moment in place of the clock's. The service may have run before, so it is quiet at first: until the skew has passed, it refuses requests
+(code 215). With --first it had no earlier life, and accepts at once.
 """
 import argparse
 import ctypes
@@ -71,6 +72,7 @@ def library(path):
     handle, accepted, text, into = POINTER(Handle), POINTER(Accepted), (c_char_p, c_size_t), (c_void_p, c_size_t)
     for name, result, words in [
             ("acceptor_new", Answer, (handle, *text, c_uint32, *text)),
+            ("acceptor_started", Answer, (handle, *text, c_uint32, *text, POINTER(Time))),
             ("acceptor_accept", Answer, (handle, accepted, *text, POINTER(Time))),
             ("acceptor_count", c_size_t, (handle,)),
             ("acceptor_latest", Answer, (handle, POINTER(Time))),
@@ -103,13 +105,18 @@ def done(answer):
 
 
 class Acceptor:
-    """A service of the name whose text is `service`, or of each name of the keytab, if that is None. Any thread may call it: a lock lets in
-    one call at a time. What is accepted is kept apart for each call, and read without the lock."""
+    """A service of the name whose text is `service`, or of each name of the keytab, if that is None. `started` is its clock when it was started
+    again, in seconds, and None only if it had no earlier life: it has forgotten what it accepted, and is quiet until the skew has passed.
+    Any thread may call it: a lock lets in one call at a time. What is accepted is kept apart for each call, and read without the lock."""
 
-    def __init__(self, lib, keytab, service, skew=300):
+    def __init__(self, lib, keytab, service, skew=300, *, started):
         self.lib, self.handle, self.lock = lib, Handle(), threading.Lock()
         name = b"" if service is None else service.encode()
-        done(lib.fevstunik_acceptor_new(byref(self.handle), keytab, len(keytab), skew, name, len(name)))
+        words = byref(self.handle), keytab, len(keytab), skew, name, len(name)
+        if started is None:
+            done(lib.fevstunik_acceptor_new(*words))
+        else:
+            done(lib.fevstunik_acceptor_started(*words, byref(Time(int(started), int(started % 1 * 1_000_000)))))
 
     def accept(self, request, seconds, micros=0):
         """The client and the service as text, the session key, the client's subkey, the numbers, and the reply, or None if none is asked
@@ -157,10 +164,12 @@ def main():
     words.add_argument("library")
     words.add_argument("keytab")
     words.add_argument("service", help="the name that is served, as host/web@EX")
-    words.add_argument("--at", type=int)
+    words.add_argument("--at", type=int, help="a moment in place of the clock's, in seconds since 1970-01-01")
+    words.add_argument("--first", action="store_true", help="the service had no earlier life")
     words = words.parse_args()
+    now = time.time() if words.at is None else words.at
     with open(words.keytab, "rb") as file:
-        service = Acceptor(library(os.path.abspath(words.library)), file.read(), words.service)
+        service = Acceptor(library(os.path.abspath(words.library)), file.read(), words.service, started=None if words.first else now)
     for line in sys.stdin:
         micros = time.time_ns() // 1000
         seconds, micros = divmod(micros, 1_000_000) if words.at is None else (words.at, 0)

@@ -76,6 +76,7 @@ typedef enum fevstunik_code {
     FEVSTUNIK_AUTHENTICATOR_INTEGRITY = 190, /* 31: the session key doesn't open the authenticator */
     FEVSTUNIK_BAD_MATCH = 200,               /* 36: the authenticator names another client than the ticket */
     FEVSTUNIK_SKEW = 210,                    /* 37: the clocks differ by more than the skew */
+    FEVSTUNIK_JUST_STARTED = 215,            /* 37: the service was started again, and isn't past its start by more than the skew */
     FEVSTUNIK_REPEAT = 220,                  /* 34: a request of this service, client and time was seen before */
     FEVSTUNIK_NOT_YET_VALID = 230,           /* 33: the ticket begins later, or is marked invalid */
     FEVSTUNIK_EXPIRED = 240,                 /* 32: the ticket has ended */
@@ -142,6 +143,7 @@ static inline const char *fevstunik_code_name(uint32_t code)
     case FEVSTUNIK_AUTHENTICATOR_INTEGRITY: return "FEVSTUNIK_AUTHENTICATOR_INTEGRITY";
     case FEVSTUNIK_BAD_MATCH: return "FEVSTUNIK_BAD_MATCH";
     case FEVSTUNIK_SKEW: return "FEVSTUNIK_SKEW";
+    case FEVSTUNIK_JUST_STARTED: return "FEVSTUNIK_JUST_STARTED";
     case FEVSTUNIK_REPEAT: return "FEVSTUNIK_REPEAT";
     case FEVSTUNIK_NOT_YET_VALID: return "FEVSTUNIK_NOT_YET_VALID";
     case FEVSTUNIK_EXPIRED: return "FEVSTUNIK_EXPIRED";
@@ -201,6 +203,7 @@ static inline const char *fevstunik_code_text(uint32_t code)
     case FEVSTUNIK_AUTHENTICATOR_INTEGRITY: return "the session key doesn't open the authenticator";
     case FEVSTUNIK_BAD_MATCH: return "the authenticator names another client than the ticket";
     case FEVSTUNIK_SKEW: return "the clocks differ by more than the skew";
+    case FEVSTUNIK_JUST_STARTED: return "the service has just started";
     case FEVSTUNIK_REPEAT: return "a request of this service, client and time was seen before";
     case FEVSTUNIK_NOT_YET_VALID: return "the ticket begins later, or is marked invalid";
     case FEVSTUNIK_EXPIRED: return "the ticket has ended";
@@ -496,8 +499,8 @@ fevstunik_answer fevstunik_name_check(const uint8_t *name, size_t name_size);
  * another name into it: if two names of a keytab have the same key and both are served, a recorded request is let in once
  * more under the other name.
  *
- * Make a service only if there was none before it. After a restart, refuse all requests until twice the skew has passed: a
- * service that lost its memory may accept a request again, and one whose time was ahead by the skew for that long.
+ * Make a service so only if there was none before it. After a restart use fevstunik_acceptor_started: a service that lost its
+ * memory may accept a request again.
  *
  * The first that holds: FEVSTUNIK_BAD_SKEW; FEVSTUNIK_TOO_LONG, _FILE_VERSION, _FILE_TRUNCATED, _FILE_BAD_ITEM for the keytab;
  * FEVSTUNIK_NOT_UTF8, _BAD_TEXT and _NO_REALM for the service; or FEVSTUNIK_OUT_OF_MEMORY; and the handle is as before.
@@ -508,6 +511,20 @@ fevstunik_answer fevstunik_name_check(const uint8_t *name, size_t name_size);
  */
 fevstunik_answer fevstunik_acceptor_new(fevstunik_acceptor *handle, const uint8_t *keytab, size_t keytab_size, uint32_t skew,
                                         const uint8_t *service, size_t service_size);
+
+/* Makes the handle hold a service as fevstunik_acceptor_new does, for one that was started again at `start`, its clock then, and
+ * has forgotten what it accepted before. It is quiet at first: it answers JUST_STARTED until its clock and the client's are both
+ * later than the start by more than the skew. No request that was accepted before is accepted again, if no time that was handed
+ * in before is later than `start`, and the skew is no smaller than it was.
+ *
+ * FEVSTUNIK_BAD_MOMENT if `start` isn't a moment of the years 0000 to 9999, and the handle is as before; else as
+ * fevstunik_acceptor_new.
+ *
+ *     fevstunik_time start = {time(NULL), 0};
+ *     answer = fevstunik_acceptor_started(&service, file, file_size, 300, (const uint8_t *)"host/web@EX", 11, &start);
+ */
+fevstunik_answer fevstunik_acceptor_started(fevstunik_acceptor *handle, const uint8_t *keytab, size_t keytab_size, uint32_t skew,
+                                            const uint8_t *service, size_t service_size, const fevstunik_time *start);
 
 /* Makes the handle ready for a request that is accepted: fevstunik_acceptor_accept keeps it there. Nothing is kept in it yet. One
  * handle serves for any number of requests, one after the other; what it held is freed. Threads that share a service have a

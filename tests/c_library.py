@@ -178,13 +178,26 @@ def over_threads(room):
         yield from counted("the program of threads", Answered(), program, ROOT / "examples/service.keytab", caches)
 
 
+def started_again(room, cache):
+    """A service that may have run before is quiet at first."""
+    service = subprocess.Popen([str(room / "service"), str(ROOT / "examples/service.keytab"), "host/web@EX", "1"], stdout=subprocess.PIPE, text=True)
+    try:
+        port = service.stdout.readline().strip()
+        run(room / "client", cache, "host/web@EX", port, "hello", timeout=60)
+        yield "a service that may have run before", differs(service.communicate(timeout=60)[0].splitlines(), ["refused FEVSTUNIK_JUST_STARTED"])
+    finally:
+        service.kill()
+        service.wait()
+
+
 def over_tcp(room):
     """A service and a client in C: a request is accepted once, the same one is refused, and a second client is accepted."""
     for name in ("service", "client"):
         yield f"the {name} is linked", wrong(linked(room / name, "-D_DEFAULT_SOURCE", ROOT / f"examples/service/{name}.c"))
     cache = room / "cache"
     cache.write_bytes(current_cache(int(time.time()) - 60))
-    service = subprocess.Popen([str(room / "service"), str(ROOT / "examples/service.keytab"), "host/web@EX", "3"], stdout=subprocess.PIPE, text=True)
+    yield from started_again(room, cache)
+    service = subprocess.Popen([str(room / "service"), str(ROOT / "examples/service.keytab"), "host/web@EX", "3", "first"], stdout=subprocess.PIPE, text=True)
     try:
         port = service.stdout.readline().strip()
         twice = run(room / "client", cache, "host/web@EX", port, "hello", "twice", timeout=60)
@@ -207,12 +220,15 @@ def from_python(room):
     if built.returncode:
         return
     plain, keyed = fixture("request"), fixture(KEYED)
-    ran = run(sys.executable, ROOT / "examples/fevstunik.py", shared, ROOT / "examples/service.keytab", "host/web@EX", "--at", "1700000100",
+    ran = run(sys.executable, ROOT / "examples/fevstunik.py", shared, ROOT / "examples/service.keytab", "host/web@EX", "--first", "--at", "1700000100",
               input="\n".join([plain, plain, keyed, "30", ""]) + "\n")
     lines = ran.stdout.splitlines()
     wanted = ["accepted alice@EX -", "refused 220 34", "refused 220 34", "refused 100 40", "refused 110 60"]
     yield "the Python service", None if lines == wanted else f"{lines} {ran.stderr[-1000:]}"
-    ran = run(sys.executable, ROOT / "examples/fevstunik.py", shared, ROOT / "examples/service.keytab", "host/web@EX", "--at", "1700000100", input=keyed + "\n")
+    ran = run(sys.executable, ROOT / "examples/fevstunik.py", shared, ROOT / "examples/service.keytab", "host/web@EX", "--at", "1700000100", input=plain + "\n")
+    yield "the Python service may have run before", differs(ran.stdout.splitlines(), ["refused 215 37"])
+    ran = run(sys.executable, ROOT / "examples/fevstunik.py", shared, ROOT / "examples/service.keytab", "host/web@EX", "--first", "--at", "1700000100",
+              input=keyed + "\n")
     yield from c_threads.checks(shared)
     yield "the Python service replies", None if re.fullmatch(r"accepted alice@EX 6f55[0-9a-f]{170}\n", ran.stdout) else ran.stdout + ran.stderr[-1000:]
 

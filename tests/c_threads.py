@@ -71,7 +71,7 @@ def checks(path):
         free.restype, free.argtypes = None, (c_void_p,)
     made = [[(f"{client}@EX", request) for request in requests_of(lib, client)] for client in CLIENTS]
     sent = [it for row in zip(*made) for it in row]
-    service = fevstunik.Acceptor(lib, (TOP / "examples/service.keytab").read_bytes(), SERVICE.decode())
+    service = fevstunik.Acceptor(lib, (TOP / "examples/service.keytab").read_bytes(), SERVICE.decode(), started=None)
     found = Counter(served(service, sent, True))
     wanted = Counter({(f"{client}@EX", f"{client}@EX"): EACH for client in CLIENTS})
     yield "each of the threads' requests has its own client", None if found == wanted else f"{(found - wanted).most_common(5)}"

@@ -1,8 +1,10 @@
 /* A service over TCP on the loopback. It takes requests for mutual authentication, replies with a subkey of its own, opens the text that
  * the client sends under that key, and sends a receipt under the client's.
  *
- *     service KEYTAB NAME COUNT      NAME as host/web@EX; it ends after so many connections
+ *     service KEYTAB NAME COUNT [first]      NAME as host/web@EX; it ends after so many connections
  *
+ * It may have run before, so it is quiet at first: until the skew has passed, it refuses requests as FEVSTUNIK_JUST_STARTED. With `first`
+ * it had no earlier life, and accepts at once.
  * It prints its port first, and then a line for each connection: `CLIENT: TEXT`, or `refused CODE` with the code's name. */
 #include "sources.h"
 
@@ -69,6 +71,16 @@ static void serve(fevstunik_acceptor *service, fevstunik_accepted *accepted, con
         refuse(name, peer, answer);
 }
 
+/* A service that may have run before, unless this is its first start. */
+static fevstunik_answer make_service(fevstunik_acceptor *service, const struct bytes *keytab, const char *name, int is_first)
+{
+    fevstunik_time start = clock_now();
+
+    if (is_first)
+        return fevstunik_acceptor_new(service, keytab->at, keytab->size, 300, (const uint8_t *)name, strlen(name));
+    return fevstunik_acceptor_started(service, keytab->at, keytab->size, 300, (const uint8_t *)name, strlen(name), &start);
+}
+
 int main(int count, char **words)
 {
     static struct bytes keytab;
@@ -77,10 +89,10 @@ int main(int count, char **words)
     fevstunik_answer made;
     int listener, peer, left;
 
-    if (count != 4)
+    if (count != 4 && (count != 5 || strcmp(words[4], "first") != 0))
         return 2;
     read_file(words[1], &keytab);
-    made = fevstunik_acceptor_new(&service, keytab.at, keytab.size, 300, (const uint8_t *)words[2], strlen(words[2]));
+    made = make_service(&service, &keytab, words[2], count == 5);
     if (made.code == FEVSTUNIK_OK)
         made = fevstunik_accepted_new(&accepted);
     if (made.code != FEVSTUNIK_OK) {

@@ -36,10 +36,11 @@ latest_of login = login.acceptor.memory.latest
 abbrev pub Stands : Login → List Arrival → Type 0
 Stands login history = StandsFor login.acceptor.setup (Remembers login) (latest_of login) history
 
--- it is new: it has these entries and a skew of so many microseconds, has seen nothing, and has refused nothing
-abbrev pub fresh : List KeytabEntry → ℕ → Login
-fresh entries skew = record {
-  acceptor = record { setup = record { entries = entries; skew = skew; start = None }; memory = record { stamps = []; latest = None } };
+-- it is new: it has these entries, a skew of so many microseconds, and the moment at which it was started again, if it had an earlier
+-- life; it has seen nothing, and has refused nothing
+abbrev pub fresh : List KeytabEntry → ℕ → Option ℤ → Login
+fresh entries skew start = record {
+  acceptor = record { setup = record { entries = entries; skew = skew; start = start }; memory = record { stamps = []; latest = None } };
   refusal = None;
 }
 
@@ -49,8 +50,8 @@ Serves [] entries kept = kept ≡ entries
 Serves (byte ∷ text) entries kept = (name : Principal) × (IsReadAs (byte ∷ text) (Ok name) × KeepsOnly name entries kept)
 
 -- it is new, and decides by the entries of the wanted service
-abbrev pub IsFresh : List ℕ → List KeytabEntry → ℕ → Login → Type 0
-IsFresh text entries skew login = (kept : List KeytabEntry) × (Serves text entries kept × (login ≡ fresh kept skew))
+abbrev pub IsFresh : List ℕ → List KeytabEntry → ℕ → Option ℤ → Login → Type 0
+IsFresh text entries skew start login = (kept : List KeytabEntry) × (Serves text entries kept × (login ≡ fresh kept skew start))
 
 -- what a request that was accepted is remembered by
 abbrev pub stamp_told : Accepted → Stamp

@@ -1,9 +1,10 @@
 //! The service's side: a handle over a service that takes requests.
 
-ghost use Rattle.std.specs.Prelude.{◌≡◌, ◌≢◌, ◌<◌, ◌≤◌, ◌*◌, ◌↔◌, ◌⊎◌, List, [], None, Some, IfErr, IfOk, IsErrAnd, IsErrOf, IsSomeAnd, MatchResult};
+ghost use Rattle.std.specs.Prelude.{◌≡◌, ◌≢◌, ◌<◌, ◌≤◌, ◌*◌, ◌↔◌, ◌⊎◌, Contains, List, [], None, Some, IfErr, IfOk, IsErrAnd, IsErrOf, IsSomeAnd, MatchResult};
 ghost use Rattle.std.specs.Option.{MatchOption, option_map};
 ghost use Rattle.krb_msg.specs.Moments.{micros_of};
 ghost use Rattle.krb_replay.specs.Memory.{IsSizeOf};
+ghost use Rattle.krb_ap.specs.History.{StandsFor};
 ghost use Rattle.krb_ap.specs.Setup.{arrival};
 ghost use Rattle.krb_keytab.specs.Entry.{KeytabEntry};
 ghost use Rattle.krb_keytab.specs.Format.{IsFaultOf, IsKeytab};
@@ -40,14 +41,14 @@ pub extern "C" fn fevstunik_acceptor_new(
 ) -> Answer
     ensures skew { (result ≡ plain bad_skew) ↔ (86_400 < skew) }
     ensures made { (entries : List KeytabEntry) → skew ≤ 86_400 → IsKeytab keytab.now entries
-        → ((result ≡ plain ok) × IsSomeAnd handle.new.value (λ login. IsFresh service.now entries (1_000_000 * skew) login))
+        → ((result ≡ plain ok) × IsSomeAnd handle.new.value (λ login. IsFresh service.now entries (1_000_000 * skew) None login))
         ⊎ (IsUnnamed service.now result ⊎ (result ≡ plain out_of_memory)) }
     ensures stands { result ≡ plain ok → IsSomeAnd handle.new.value (λ login. Stands login []) }
     ensures fault { (fault : KeytabFault) → skew ≤ 86_400 → IsFaultOf keytab.now fault
         → (result ≡ keytab_answer fault) ⊎ (result ≡ plain out_of_memory) }
     ensures unchanged { result ≢ plain ok → handle.new.value ≡ handle.old.value }
 {
-    match service_of(alloc, keytab, skew, service) {
+    match service_of(alloc, keytab, skew, service, None) {
         Ok(login) => {
             *handle = Handle::of(login);
             Answer::plain(code::OK)
@@ -56,10 +57,51 @@ pub extern "C" fn fevstunik_acceptor_new(
     }
 }
 
-fn service_of(alloc: Global, keytab: &[u8], skew: u32, service: &[u8]) -> Result<Box<Login>, Answer>
+/// Makes the handle hold a service as `fevstunik_acceptor_new` does, for one that was started again at a moment and has forgotten what it
+/// accepted before: it refuses requests as `JustStarted` until its clock and the client's are later than that by more than the skew.
+#[unsafe(no_mangle)]
+pub extern "C" fn fevstunik_acceptor_started(
+    handle: &mut Handle,
+    alloc: Global,
+    keytab: &[u8],
+    skew: u32,
+    service: &[u8],
+    start: &Time,
+) -> Answer
+    ensures moment { ¬ IsMomentOf start.now → result ≡ plain bad_moment }
+    ensures skew { IsMomentOf start.now → ((result ≡ plain bad_skew) ↔ (86_400 < skew)) }
+    ensures made { (entries : List KeytabEntry) → IsMomentOf start.now → skew ≤ 86_400 → IsKeytab keytab.now entries
+        → ((result ≡ plain ok) × IsSomeAnd handle.new.value
+        (λ login. IsFresh service.now entries (1_000_000 * skew) (Some (micros_of start.now.seconds start.now.micros)) login))
+        ⊎ (IsUnnamed service.now result ⊎ (result ≡ plain out_of_memory)) }
+    ensures stands { result ≡ plain ok → IsSomeAnd handle.new.value (λ login. Stands login []) }
+    ensures fault { (fault : KeytabFault) → IsMomentOf start.now → skew ≤ 86_400 → IsFaultOf keytab.now fault
+        → (result ≡ keytab_answer fault) ⊎ (result ≡ plain out_of_memory) }
+    ensures unchanged { result ≢ plain ok → handle.new.value ≡ handle.old.value }
+{
+    let start = match start.moment() {
+        Some(start) => start,
+        None => return Answer::plain(code::BAD_MOMENT),
+    };
+    match service_of(alloc, keytab, skew, service, Some(start)) {
+        Ok(login) => {
+            *handle = Handle::of(login);
+            Answer::plain(code::OK)
+        }
+        Err(answer) => answer,
+    }
+}
+
+fn service_of(
+    alloc: Global,
+    keytab: &[u8],
+    skew: u32,
+    service: &[u8],
+    start: Option<Moment>,
+) -> Result<Box<Login>, Answer>
     ensures skew { IsErrOf result (plain bad_skew) ↔ (86_400 < skew) }
     ensures made { (entries : List KeytabEntry) → skew ≤ 86_400 → IsKeytab keytab.now entries
-        → MatchResult result (λ login. IsFresh service.now entries (1_000_000 * skew) login.value)
+        → MatchResult result (λ login. IsFresh service.now entries (1_000_000 * skew) start login.value)
         (λ answer. IsUnnamed service.now answer ⊎ (answer ≡ plain out_of_memory)) }
     ensures fault { (fault : KeytabFault) → skew ≤ 86_400 → IsFaultOf keytab.now fault
         → IsErrAnd result (λ answer. (answer ≡ keytab_answer fault) ⊎ (answer ≡ plain out_of_memory)) }
@@ -78,14 +120,31 @@ fn service_of(alloc: Global, keytab: &[u8], skew: u32, service: &[u8]) -> Result
         Ok(keytab) => keytab,
         Err(answer) => return Err(answer),
     };
-    let acceptor = Acceptor::new(keytab, skew, TimedMemory::new(alloc));
     let login = Login {
-        acceptor,
+        acceptor: acceptor_of(alloc, keytab, skew, start),
         refusal: None,
     };
     match Box::new(alloc, login) {
         Ok(login) => Ok(login),
         Err(_) => Err(Answer::plain(code::OUT_OF_MEMORY)),
+    }
+}
+
+// A service of these entries that has seen nothing.
+fn acceptor_of(
+    alloc: Global,
+    keytab: Keytab,
+    skew: Skew,
+    start: Option<Moment>,
+) -> Acceptor<TimedMemory>
+    ensures setup { result.setup ≡ record { entries = keytab; skew = skew; start = start } }
+    ensures memory { result.memory ≡ record { stamps = []; latest = None } }
+    ensures stands { StandsFor result.setup (Contains result.memory.stamps) result.memory.latest [] }
+{
+    let memory = TimedMemory::new(alloc);
+    match start {
+        Some(start) => Acceptor::started(keytab, skew, memory, start),
+        None => Acceptor::new(keytab, skew, memory),
     }
 }
 
