@@ -4,6 +4,7 @@ mod broken;
 mod client;
 mod fixture;
 mod handed_on;
+mod negative;
 mod one_request;
 mod replies;
 mod schedules;
