@@ -1,6 +1,6 @@
 -- Sequence numbers in kinds and in values, and the second spelling of a value that has one above 2147483647.
 use Rattle.std.specs.Prelude.{ℕ, ◌+◌, ◌*◌, ◌^◌, ◌≤◌, List, [], ◌∷◌, IsSomeAnd, ◌⊎◌}
-use Rattle.krb_der.specs.Kind.{Content, int32, uint32, seq_number, microseconds, constant, octets, string, flags, time, Kind, leaf, wrapped, sequence, Fields, ends, must, may, each, ContentValue, ValueOf, FieldsOf}
+use Rattle.krb_der.specs.Kind.{seq_number, Kind, leaf, wrapped, sequence, Fields, ends, must, may, each, ValueOf, FieldsOf}
 use Rattle.krb_der.specs.Content.{IsNegative, ElementaryBy}
 use Rattle.krb_der.specs.Spells.{SpellsBy}
 
