@@ -65,13 +65,7 @@ impl<M: ReplayMemory> Acceptor<M> {
         ensures memory { result.memory ≡ memory }
         ensures stands { StandsFor result.setup (M.has result.memory) (M.newest result.memory) [] }
     {
-        Acceptor {
-            keytab,
-            skew,
-            memory,
-            start: None,
-            ready: None,
-        }
+        Acceptor::of(keytab, skew, memory, None)
     }
 
     /// A service that was started again at `start`, by its clock, and has forgotten what it accepted before.
@@ -89,11 +83,18 @@ impl<M: ReplayMemory> Acceptor<M> {
         ensures memory { result.memory ≡ memory }
         ensures stands { StandsFor result.setup (M.has result.memory) (M.newest result.memory) [] }
     {
+        Acceptor::of(keytab, skew, memory, Some(start))
+    }
+
+    fn of(keytab: Keytab, skew: Skew, memory: M, start: Option<Moment>) -> Acceptor<M>
+        ensures setup { result.setup ≡ record { entries = keytab; skew = skew; start = start } }
+        ensures memory { result.memory ≡ memory }
+    {
         Acceptor {
             keytab,
             skew,
             memory,
-            start: Some(start),
+            start,
             ready: None,
         }
     }
