@@ -22,6 +22,11 @@ MEMORY_CALLS = 1_500
 BASE = exchange.BASE
 SKEW = 300_000_000
 FIXTURE = Made()
+# What is answered to requests, and to what a client asks for and is sent.
+SERVICE_ANSWERS = [
+    "MessageType", "Malformed", "UserToUser", "TicketEtype", "NotUs", "NoKey", "BadKeyVersion", "TicketIntegrity", "SessionKey",
+    "AuthenticatorIntegrity", "BadMatch", "Skew", "Repeat", "NotYetValid", "Expired", "Transited", "Authorization", "accepted",
+]
 CLIENT_ANSWERS = ["NoCredential", "NoUsableKey", "Expired", "BadTicket", "MessageType", "Malformed", "Integrity", "Mismatch", "agreed"]
 MICROS = 1_000_000
 
@@ -386,7 +391,7 @@ def memories(draw):
 def drawn():
     """The cases of tests/library.py: program, name, lines, answers."""
     draw = random.Random(SEED)
-    served = often_enough("services", [*model.CODES, "accepted"], services(draw))
+    served = often_enough("services", SERVICE_ANSWERS, services(draw))
     asked = often_enough("clients", CLIENT_ANSWERS, clients(draw))
     for cases in (served, asked, beginnings(), each_byte(), schedules(draw), many_tuples(), memories(draw)):
         for name, lines, answers in cases:

@@ -5,46 +5,29 @@ use crate::names::{key_or_none, name, show_key, show_name, show_own_key, show_ra
 use crate::words::{Answer, Words};
 use krb_ap::{Agreed, FinishFault, Pending, RequestFault, RequestOptions, make_request};
 use krb_ccache::CCache;
-use std::alloc::Global;
-
-/// A cache, and the requests that were made of it.
-#[derive(Drop)]
-pub(crate) struct Client {
-    cache: Option<CCache>,
-    pending: Vec<Pending>,
-}
-
-impl Client {
-    pub(crate) fn new(alloc: Global) -> Client {
-        Client {
-            cache: None,
-            pending: Vec::new(alloc),
-        }
-    }
-}
 
 /// Answers a call of the client.
 pub(crate) fn answer(
-    client: &mut Client,
+    cache: &mut Option<CCache>,
     messages: &mut Messages,
     first: &str,
     words: &mut Words,
     out: &mut Answer,
 ) -> Option<()> {
     match first {
-        "cache" => read_cache(client, words, out),
-        "request" => request(client, messages, words, out),
-        "finish" => finish(client, messages, words, out),
+        "cache" => read_cache(cache, words, out),
+        "request" => request(cache.as_ref()?, messages, words, out),
+        "finish" => finish(messages, words, out),
         _ => None,
     }
 }
 
-fn read_cache(client: &mut Client, words: &mut Words, out: &mut Answer) -> Option<()> {
+fn read_cache(kept: &mut Option<CCache>, words: &mut Words, out: &mut Answer) -> Option<()> {
     let file = words.bytes()?;
-    client.cache = None;
+    *kept = None;
     match CCache::parse(words.alloc, &file) {
         Ok(cache) => {
-            client.cache = Some(cache);
+            *kept = Some(cache);
             out.word("cache")
         }
         Err(fault) => out.named(fault),
@@ -52,16 +35,15 @@ fn read_cache(client: &mut Client, words: &mut Words, out: &mut Answer) -> Optio
 }
 
 fn request(
-    client: &mut Client,
+    cache: &CCache,
     messages: &mut Messages,
     words: &mut Words,
     out: &mut Answer,
 ) -> Option<()> {
-    match made(client.cache.as_ref()?, words)? {
+    match made(cache, words)? {
         Ok((bytes, pending)) => {
             out.bytes(&bytes)?;
-            client.pending.push(pending).ok()?;
-            messages.keep_request(bytes)
+            messages.keep_request(bytes, pending)
         }
         Err(fault) => {
             out.word("refused")?;
@@ -94,8 +76,8 @@ fn chosen(words: &mut Words) -> Option<RequestOptions> {
     })
 }
 
-fn finish(client: &Client, messages: &Messages, words: &mut Words, out: &mut Answer) -> Option<()> {
-    let pending = client.pending.get(words.number()? as usize)?;
+fn finish(messages: &Messages, words: &mut Words, out: &mut Answer) -> Option<()> {
+    let pending = messages.pending(words.number()? as usize)?;
     let reply = messages.taken(words)?;
     match pending.finish(words.alloc, &reply) {
         Ok(agreed) => show_agreed(&agreed, out),

@@ -41,7 +41,7 @@ mod names;
 mod services;
 mod words;
 
-use clients::Client;
+use krb_ccache::CCache;
 use memories::Memory;
 use messages::Messages;
 use services::Served;
@@ -54,7 +54,7 @@ use words::{Answer, Words};
 #[derive(Drop)]
 struct Kept {
     served: Served,
-    client: Client,
+    cache: Option<CCache>,
     messages: Messages,
     memory: Option<Memory>,
 }
@@ -63,7 +63,7 @@ impl Kept {
     fn new(alloc: Global) -> Kept {
         Kept {
             served: Served::new(),
-            client: Client::new(alloc),
+            cache: None,
             messages: Messages::new(alloc),
             memory: None,
         }
@@ -118,7 +118,7 @@ fn call(kept: &mut Kept, first: &str, words: &mut Words, out: &mut Answer) -> Op
             services::answer(&mut kept.served, &mut kept.messages, first, words, out)
         }
         "cache" | "request" | "finish" => {
-            clients::answer(&mut kept.client, &mut kept.messages, first, words, out)
+            clients::answer(&mut kept.cache, &mut kept.messages, first, words, out)
         }
         "error" | "cause" | "fault" => causes::answer(first, words, out),
         "laws" => laws(out),

@@ -1,12 +1,20 @@
 //! Messages that earlier lines made, to be handed on.
 
 use crate::words::{Words, bytes_of};
+use krb_ap::Pending;
 use std::alloc::Global;
+
+/// A request that was made, and what its client keeps of it.
+#[derive(Drop)]
+struct Sent {
+    bytes: Vec<u8>,
+    pending: Pending,
+}
 
 /// The requests that were made, and the last reply.
 #[derive(Drop)]
 pub(crate) struct Messages {
-    requests: Vec<Vec<u8>>,
+    requests: Vec<Sent>,
     reply: Option<Vec<u8>>,
 }
 
@@ -18,8 +26,13 @@ impl Messages {
         }
     }
 
-    pub(crate) fn keep_request(&mut self, bytes: Vec<u8>) -> Option<()> {
-        self.requests.push(bytes).ok()
+    pub(crate) fn keep_request(&mut self, bytes: Vec<u8>, pending: Pending) -> Option<()> {
+        self.requests.push(Sent { bytes, pending }).ok()
+    }
+
+    /// What the client of a request keeps of it.
+    pub(crate) fn pending(&self, index: usize) -> Option<&Pending> {
+        Some(&self.requests.get(index)?.pending)
     }
 
     pub(crate) fn keep_reply(&mut self, bytes: Vec<u8>) {
@@ -40,6 +53,6 @@ impl Messages {
 
     fn request(&self, index: &str) -> Option<Vec<u8>> {
         let index = index.parse::<usize>().ok()?;
-        self.requests.get(index)?.clone().ok()
+        self.requests.get(index)?.bytes.clone().ok()
     }
 }

@@ -101,9 +101,8 @@ fn accept(
 fn keep(kept: &mut Option<Accepted>, outcome: Outcome, out: &mut Answer) -> Option<()> {
     match outcome {
         Ok(accepted) => {
-            show_accepted(&accepted, out)?;
             *kept = Some(accepted);
-            Some(())
+            show_accepted(kept.as_ref()?, out)
         }
         Err(refusal) => show_refusal(refusal, out),
     }

@@ -92,12 +92,3 @@ fn show(rt: &HostRuntime, error: &clap::Error) -> u8 {
         _ => WRONG_WORDS,
     }
 }
-
-#[cfg(test)]
-mod accept_tests;
-#[cfg(test)]
-mod cache_tests;
-#[cfg(test)]
-mod request_tests;
-#[cfg(test)]
-mod tests;
