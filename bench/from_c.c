@@ -1,9 +1,9 @@
 /* Times the library for C beside MIT krb5 in one program, over the same ticket and the same requests: fevstunik_request beside
- * krb5_mk_req_extended, and fevstunik_acceptor_accept with fevstunik_acceptor_accepted beside krb5_rd_req.
+ * krb5_mk_req_extended, and fevstunik_acceptor_accept with fevstunik_accepted_known beside krb5_rd_req.
  *
  *   from_c KEYTAB CACHE COUNT      prints four numbers: nanoseconds of processor time a call, in this order
  *
- * Ours reads the cache's bytes at each call, and remembers what it has accepted; MIT's has the credential and the keytab in memory, and no
+ * Both have the credential and the keytab in memory. Ours looks through the cache at each call, and remembers what it has accepted; MIT's has no
  * replay cache. Requests are for the first credential of the cache, at the moment that the clock shows.
  */
 #include <errno.h>
@@ -98,13 +98,19 @@ static double our_requests(void)
     static const fevstunik_choice plain = {0, 0, false, false};
     static const uint8_t confounder[16] = {7};
     static uint8_t made[1 << 16];
+    fevstunik_cache held = FEVSTUNIK_CACHE_INIT;
+    fevstunik_pending pending = FEVSTUNIK_PENDING_INIT;
+    is_well(fevstunik_cache_new(&held, cache.at, cache.size), "a cache");
     double start = processor_time();
     for (long i = 0; i < count; i++) {
         fevstunik_time now = clock_now();
-        is_well(fevstunik_request(cache.at, cache.size, (const uint8_t *)service, strlen(service), &now, confounder, sizeof confounder, &plain,
+        is_well(fevstunik_request(&held, &pending, (const uint8_t *)service, strlen(service), &now, confounder, sizeof confounder, &plain,
                                   confounder, 0, made, sizeof made), "a request");
     }
-    return (processor_time() - start) / count;
+    double took = processor_time() - start;
+    fevstunik_pending_free(&pending);
+    fevstunik_cache_free(&held);
+    return took / count;
 }
 
 static krb5_auth_context without_times(void)
@@ -128,16 +134,19 @@ static double their_requests(void)
 static double our_acceptor(void)
 {
     fevstunik_acceptor acceptor = FEVSTUNIK_ACCEPTOR_INIT;
+    fevstunik_accepted accepted = FEVSTUNIK_ACCEPTED_INIT;
     fevstunik_known known;
     uint8_t told[4096];
     is_well(fevstunik_acceptor_new(&acceptor, keytab.at, keytab.size, 300, (const uint8_t *)service, strlen(service)), "a service");
+    is_well(fevstunik_accepted_new(&accepted), "a place");
     double start = processor_time();
     for (long i = 0; i < count; i++) {
         fevstunik_time now = clock_now();
-        is_well(fevstunik_acceptor_accept(&acceptor, (const uint8_t *)requests[i].data, requests[i].length, &now), "a call");
-        is_well(fevstunik_acceptor_accepted(&acceptor, &known, told, sizeof told), "what was accepted");
+        is_well(fevstunik_acceptor_accept(&acceptor, &accepted, (const uint8_t *)requests[i].data, requests[i].length, &now), "a call");
+        is_well(fevstunik_accepted_known(&accepted, &known, told, sizeof told), "what was accepted");
     }
     double took = processor_time() - start;
+    fevstunik_accepted_free(&accepted);
     fevstunik_acceptor_free(&acceptor);
     return took / count;
 }

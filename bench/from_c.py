@@ -43,7 +43,7 @@ def least(command):
 
 
 def table(folder, program):
-    print("\n| from C, processor time | fevstunik_request | krb5_mk_req_extended | ratio | fevstunik_acceptor_accept and _accepted | krb5_rd_req "
+    print("\n| from C, processor time | fevstunik_request | krb5_mk_req_extended | ratio | fevstunik_acceptor_accept and fevstunik_accepted_known | krb5_rd_req "
           "| ratio |\n|---|---|---|---|---|---|---|")
     for etype in (19, 20):
         for extra in (0, exchange.PAC):

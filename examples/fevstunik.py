@@ -8,7 +8,8 @@
 
 Each line of standard input is a request in hex. Each is answered by a line: `accepted CLIENT REPLY` with the reply in hex, where one is
 asked for, else `accepted CLIENT -`; or `refused CODE KERBEROS`, the library's code and that of RFC 4120. An option --at SECONDS takes that
-moment in place of the clock's.
+moment in place of the clock's. The service may have run before, so it is quiet at first: until the skew has passed, it refuses requests
+(code 215). With --first it had no earlier life, and accepts at once.
 """
 import argparse
 import ctypes
@@ -49,7 +50,12 @@ class Choice(ctypes.Structure):
 
 
 class Handle(ctypes.Structure):
-    """Made zero, as the library asks. It is never copied."""
+    """A service. It is made zero, as the library asks, and never copied."""
+    _fields_ = [("opaque", c_void_p)]
+
+
+class Accepted(ctypes.Structure):
+    """A request that was accepted; likewise."""
     _fields_ = [("opaque", c_void_p)]
 
 
@@ -63,16 +69,19 @@ class Refused(Exception):
 
 def library(path):
     lib = ctypes.CDLL(path)
-    handle, into = POINTER(Handle), (c_void_p, c_size_t)
+    handle, accepted, text, into = POINTER(Handle), POINTER(Accepted), (c_char_p, c_size_t), (c_void_p, c_size_t)
     for name, result, words in [
-            ("new", Answer, (handle, c_char_p, c_size_t, c_uint32, c_char_p, c_size_t)),
-            ("accept", Answer, (handle, c_char_p, c_size_t, POINTER(Time))),
-            ("accepted", Answer, (handle, POINTER(Known), *into)),
-            ("reply", Answer, (handle, c_char_p, c_size_t, POINTER(Choice), c_char_p, c_size_t, *into)),
-            ("count", c_size_t, (handle,)),
-            ("latest", Answer, (handle, POINTER(Time))),
-            ("free", None, (handle,))]:
-        function = getattr(lib, "fevstunik_acceptor_" + name)
+            ("acceptor_new", Answer, (handle, *text, c_uint32, *text)),
+            ("acceptor_started", Answer, (handle, *text, c_uint32, *text, POINTER(Time))),
+            ("acceptor_accept", Answer, (handle, accepted, *text, POINTER(Time))),
+            ("acceptor_count", c_size_t, (handle,)),
+            ("acceptor_latest", Answer, (handle, POINTER(Time))),
+            ("acceptor_free", None, (handle,)),
+            ("accepted_new", Answer, (accepted,)),
+            ("accepted_known", Answer, (accepted, POINTER(Known), *into)),
+            ("accepted_reply", Answer, (accepted, *text, POINTER(Choice), *text, *into)),
+            ("accepted_free", None, (accepted,))]:
+        function = getattr(lib, "fevstunik_" + name)
         function.restype, function.argtypes = result, words
     return lib
 
@@ -90,34 +99,48 @@ def filled(call):
         room = answer.size
 
 
-class Acceptor:
-    """A service of the name whose text is `service`, or of each name of the keytab, if that is None. Any thread may call it: a lock lets in
-    one call at a time."""
+def done(answer):
+    if answer.code != OK:
+        raise Refused(answer)
 
-    def __init__(self, lib, keytab, service, skew=300):
+
+class Acceptor:
+    """A service of the name whose text is `service`, or of each name of the keytab, if that is None. `started` is its clock when it was started
+    again, in seconds, and None only if it had no earlier life: it has forgotten what it accepted, and is quiet until the skew has passed.
+    Any thread may call it: a lock lets in one call at a time. What is accepted is kept apart for each call, and read without the lock."""
+
+    def __init__(self, lib, keytab, service, skew=300, *, started):
         self.lib, self.handle, self.lock = lib, Handle(), threading.Lock()
         name = b"" if service is None else service.encode()
-        self.done(lib.fevstunik_acceptor_new(byref(self.handle), keytab, len(keytab), skew, name, len(name)))
-
-    @staticmethod
-    def done(answer):
-        if answer.code != OK:
-            raise Refused(answer)
+        words = byref(self.handle), keytab, len(keytab), skew, name, len(name)
+        if started is None:
+            done(lib.fevstunik_acceptor_new(*words))
+        else:
+            done(lib.fevstunik_acceptor_started(*words, byref(Time(int(started), int(started % 1 * 1_000_000)))))
 
     def accept(self, request, seconds, micros=0):
         """The client and the service as text, the session key, the client's subkey, the numbers, and the reply, or None if none is asked
-        for. All of it is of this request: the lock is held until it is read."""
-        with self.lock:
-            self.done(self.lib.fevstunik_acceptor_accept(byref(self.handle), request, len(request), byref(Time(seconds, micros))))
-            known = Known()
-            data = filled(lambda buffer, room: self.lib.fevstunik_acceptor_accepted(byref(self.handle), byref(known), buffer, room))
-            reply = self.reply(os.urandom(16)) if known.wants_reply else None
+        for."""
+        accepted = Accepted()
+        done(self.lib.fevstunik_accepted_new(byref(accepted)))
+        try:
+            with self.lock:
+                done(self.lib.fevstunik_acceptor_accept(
+                    byref(self.handle), byref(accepted), request, len(request), byref(Time(seconds, micros))))
+            return self.read(accepted)
+        finally:
+            self.lib.fevstunik_accepted_free(byref(accepted))
+
+    def read(self, accepted):
+        known = Known()
+        data = filled(lambda buffer, room: self.lib.fevstunik_accepted_known(byref(accepted), byref(known), buffer, room))
+        reply = self.reply(accepted, os.urandom(16)) if known.wants_reply else None
         client, service = known.client.of(data).decode(), known.service.of(data).decode()
         return client, service, known.session_key.of(data), known.subkey.of(data), known, reply
 
-    def reply(self, confounder):
-        return filled(lambda buffer, room: self.lib.fevstunik_acceptor_reply(
-            byref(self.handle), confounder, len(confounder), byref(Choice()), b"", 0, buffer, room))
+    def reply(self, accepted, confounder):
+        return filled(lambda buffer, room: self.lib.fevstunik_accepted_reply(
+            byref(accepted), confounder, len(confounder), byref(Choice()), b"", 0, buffer, room))
 
     def __len__(self):
         with self.lock:
@@ -141,10 +164,12 @@ def main():
     words.add_argument("library")
     words.add_argument("keytab")
     words.add_argument("service", help="the name that is served, as host/web@EX")
-    words.add_argument("--at", type=int)
+    words.add_argument("--at", type=int, help="a moment in place of the clock's, in seconds since 1970-01-01")
+    words.add_argument("--first", action="store_true", help="the service had no earlier life")
     words = words.parse_args()
+    now = time.time() if words.at is None else words.at
     with open(words.keytab, "rb") as file:
-        service = Acceptor(library(os.path.abspath(words.library)), file.read(), words.service)
+        service = Acceptor(library(os.path.abspath(words.library)), file.read(), words.service, started=None if words.first else now)
     for line in sys.stdin:
         micros = time.time_ns() // 1000
         seconds, micros = divmod(micros, 1_000_000) if words.at is None else (words.at, 0)

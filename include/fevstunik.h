@@ -8,10 +8,11 @@
  *  - A handle is never copied, and only these functions write it. It may be moved in memory between calls, not during one, and
  *    is not used again at its old place. A program that uses a copy, or that lets a handle overlap a buffer, may free memory
  *    that is still in use.
- *  - Any thread may make a call, but only one call at a time uses a handle: put a lock around calls that share one, and around
- *    calls that belong together, as fevstunik_acceptor_accept and fevstunik_acceptor_accepted. Two handles share nothing, in
- *    one process or in two; after a fork the child's copy of a handle is a copy, and isn't used.
- *  - Pointers are valid and never NULL, also those to no bytes: hand in any valid pointer with size 0.
+ *  - Any thread may make a call, but only one call at a time uses a handle, also a const one: put a lock around calls that
+ *    share one. Two handles share nothing, in one process or in two; after a fork the child's copy of a handle is a copy, and
+ *    isn't used. A call that takes a const handle leaves it as it was, but may write to it until it returns: no handle is
+ *    defined const.
+ *  - Pointers are valid. A pointer to no bytes, with size 0, may be NULL, and no other (this is tested, not proved).
  *  - What a call writes (its handle, its buffer, its other results) overlaps nothing else that is handed to that call.
  *  - A bool is 0 or 1. Sizes are at most PTRDIFF_MAX.
  *  - malloc, realloc and free are of one allocator, and aligned as C asks.
@@ -21,7 +22,7 @@
  * wiped from memory that is freed, and nothing is promised about how long a call takes.
  *
  * Whatever is handed in stays the caller's: no function keeps a pointer to it, or frees it. What a handle holds the library has
- * allocated, and fevstunik_acceptor_free frees it; the caller has nothing else to free. Files have at most 16,777,216 bytes,
+ * allocated, and the function of that handle whose name ends in _free frees it; the caller has nothing else to free. Files have at most 16,777,216 bytes,
  * and requests, replies and errors at most 1,048,576: anything longer is a fault. Other sizes are limited by memory alone,
  * unless a limit is named.
  *
@@ -75,6 +76,7 @@ typedef enum fevstunik_code {
     FEVSTUNIK_AUTHENTICATOR_INTEGRITY = 190, /* 31: the session key doesn't open the authenticator */
     FEVSTUNIK_BAD_MATCH = 200,               /* 36: the authenticator names another client than the ticket */
     FEVSTUNIK_SKEW = 210,                    /* 37: the clocks differ by more than the skew */
+    FEVSTUNIK_JUST_STARTED = 215,            /* 37: the service was started again, and isn't past its start by more than the skew */
     FEVSTUNIK_REPEAT = 220,                  /* 34: a request of this service, client and time was seen before */
     FEVSTUNIK_NOT_YET_VALID = 230,           /* 33: the ticket begins later, or is marked invalid */
     FEVSTUNIK_EXPIRED = 240,                 /* 32: the ticket has ended */
@@ -85,7 +87,7 @@ typedef enum fevstunik_code {
     FEVSTUNIK_OUT_OF_MEMORY = 400,  /* out of memory: malloc or realloc returned NULL */
     FEVSTUNIK_SHORT_BUFFER = 401,   /* the buffer is too short: `size` bytes are needed */
     FEVSTUNIK_EMPTY_HANDLE = 402,   /* the handle is empty */
-    FEVSTUNIK_NOTHING_THERE = 403,  /* the last call accepted nothing, or refused nothing, or there is no moment yet */
+    FEVSTUNIK_NOTHING_THERE = 403,  /* nothing was accepted, or nothing was refused, or there is no moment yet */
     FEVSTUNIK_TOO_LONG = 404,       /* a file, a request, an error, a name or a key is longer than its limit */
     FEVSTUNIK_BAD_SKEW = 410,       /* the skew is more than 86,400 seconds */
     FEVSTUNIK_BAD_MOMENT = 411,     /* the moment is outside the years 0000 to 9999, or has 1,000,000 microseconds or more */
@@ -99,7 +101,7 @@ typedef enum fevstunik_code {
     FEVSTUNIK_FILE_HEADER = 501,    /* the header of the cache is malformed */
     FEVSTUNIK_FILE_TRUNCATED = 502, /* the keytab ends before the record at `at` does */
     FEVSTUNIK_FILE_BAD_ITEM = 503,  /* the record at `at` holds no entry, or no principal or credential is at `at` */
-    FEVSTUNIK_NO_SUCH_ENTRY = 504,  /* the file has no entry, or no credential, of this index */
+    FEVSTUNIK_NO_SUCH_ENTRY = 504,  /* the file or the request has no item of this index */
 
     /* Why there is no request. */
     FEVSTUNIK_NO_CREDENTIAL = 600,      /* the cache has no ticket of its default principal for the service */
@@ -141,6 +143,7 @@ static inline const char *fevstunik_code_name(uint32_t code)
     case FEVSTUNIK_AUTHENTICATOR_INTEGRITY: return "FEVSTUNIK_AUTHENTICATOR_INTEGRITY";
     case FEVSTUNIK_BAD_MATCH: return "FEVSTUNIK_BAD_MATCH";
     case FEVSTUNIK_SKEW: return "FEVSTUNIK_SKEW";
+    case FEVSTUNIK_JUST_STARTED: return "FEVSTUNIK_JUST_STARTED";
     case FEVSTUNIK_REPEAT: return "FEVSTUNIK_REPEAT";
     case FEVSTUNIK_NOT_YET_VALID: return "FEVSTUNIK_NOT_YET_VALID";
     case FEVSTUNIK_EXPIRED: return "FEVSTUNIK_EXPIRED";
@@ -200,6 +203,7 @@ static inline const char *fevstunik_code_text(uint32_t code)
     case FEVSTUNIK_AUTHENTICATOR_INTEGRITY: return "the session key doesn't open the authenticator";
     case FEVSTUNIK_BAD_MATCH: return "the authenticator names another client than the ticket";
     case FEVSTUNIK_SKEW: return "the clocks differ by more than the skew";
+    case FEVSTUNIK_JUST_STARTED: return "the service has just started";
     case FEVSTUNIK_REPEAT: return "a request of this service, client and time was seen before";
     case FEVSTUNIK_NOT_YET_VALID: return "the ticket begins later, or is marked invalid";
     case FEVSTUNIK_EXPIRED: return "the ticket has ended";
@@ -208,7 +212,7 @@ static inline const char *fevstunik_code_text(uint32_t code)
     case FEVSTUNIK_OUT_OF_MEMORY: return "out of memory: malloc or realloc returned NULL";
     case FEVSTUNIK_SHORT_BUFFER: return "the buffer is too short: `size` bytes are needed";
     case FEVSTUNIK_EMPTY_HANDLE: return "the handle is empty";
-    case FEVSTUNIK_NOTHING_THERE: return "the last call accepted nothing, or refused nothing, or there is no moment yet";
+    case FEVSTUNIK_NOTHING_THERE: return "nothing was accepted, or nothing was refused, or there is no moment yet";
     case FEVSTUNIK_TOO_LONG: return "a file, a request, an error, a name or a key is longer than its limit";
     case FEVSTUNIK_BAD_SKEW: return "the skew is more than 86,400 seconds";
     case FEVSTUNIK_BAD_MOMENT: return "the moment is outside the years 0000 to 9999, or has 1,000,000 microseconds or more";
@@ -220,7 +224,7 @@ static inline const char *fevstunik_code_text(uint32_t code)
     case FEVSTUNIK_FILE_HEADER: return "the header of the cache is malformed";
     case FEVSTUNIK_FILE_TRUNCATED: return "the keytab ends before the record at `at` does";
     case FEVSTUNIK_FILE_BAD_ITEM: return "the record at `at` holds no entry, or no principal or credential is at `at`";
-    case FEVSTUNIK_NO_SUCH_ENTRY: return "the file has no entry, or no credential, of this index";
+    case FEVSTUNIK_NO_SUCH_ENTRY: return "the file or the request has no item of this index";
     case FEVSTUNIK_NO_CREDENTIAL: return "the cache has no ticket of its default principal for the service";
     case FEVSTUNIK_NO_USABLE_KEY: return "no ticket for the service has a usable session key";
     case FEVSTUNIK_CREDENTIAL_EXPIRED: return "no usable ticket for the service ends later than the moment";
@@ -239,6 +243,8 @@ static inline const char *fevstunik_code_text(uint32_t code)
 }
 
 /* ---- what is handed in and out ---- */
+
+/* A struct never gains a field: what is handed out beside it is reached by calls. */
 
 /* What a call answers. Numbers that don't go with the code are 0. */
 typedef struct fevstunik_answer {
@@ -280,6 +286,15 @@ typedef struct fevstunik_known {
     bool has_seq;               /* whether it chose a sequence number */
     bool wants_reply;           /* whether it asks for a reply */
 } fevstunik_known;
+
+/* The lists of a request that was accepted. A number never changes its meaning. Data of types that you don't know is to be handled
+ * as RFC 4120 says of each. */
+typedef enum fevstunik_list {
+    FEVSTUNIK_LIST_ADDRESSES = 1,                   /* the ticket's addresses, which were compared with nothing */
+    FEVSTUNIK_LIST_TICKET_AUTHORIZATION = 2,        /* the ticket's authorization data; each item is of type 1 (AD-IF-RELEVANT) */
+    FEVSTUNIK_LIST_AUTHENTICATOR_AUTHORIZATION = 3, /* the authenticator's, likewise */
+    FEVSTUNIK_LIST_CHECKSUM = 4                     /* the authenticator's checksum, a list of one; it wasn't verified */
+} fevstunik_list;
 
 /* What a client and a service agreed on. The spans are places in the buffer that was handed in beside it. */
 typedef struct fevstunik_agreement {
@@ -351,8 +366,26 @@ typedef struct fevstunik_acceptor {
     void *opaque;
 } fevstunik_acceptor;
 
-/* The empty handle, with which a handle is initialized. */
+/* A request that was accepted: opaque, and all zero before its first use. */
+typedef struct fevstunik_accepted {
+    void *opaque;
+} fevstunik_accepted;
+
+/* A credential cache that was read: opaque, and all zero before its first use. */
+typedef struct fevstunik_cache {
+    void *opaque;
+} fevstunik_cache;
+
+/* A request whose reply is awaited: opaque, and all zero before its first use. */
+typedef struct fevstunik_pending {
+    void *opaque;
+} fevstunik_pending;
+
+/* The empty handles, with which handles are initialized. */
 #define FEVSTUNIK_ACCEPTOR_INIT {NULL}
+#define FEVSTUNIK_ACCEPTED_INIT {NULL}
+#define FEVSTUNIK_CACHE_INIT {NULL}
+#define FEVSTUNIK_PENDING_INIT {NULL}
 
 /* ---- files ---- */
 
@@ -364,7 +397,7 @@ typedef struct fevstunik_acceptor {
  */
 fevstunik_answer fevstunik_keytab_check(const uint8_t *keytab, size_t keytab_size);
 
-/* Checks that the bytes of a file are a credential cache of version 0x0504. `size` is the number of its credentials, with its
+/* Checks that the bytes of a file are a credential cache of version 0x0503 or 0x0504. `size` is the number of its credentials, with its
  * configuration entries.
  *
  * FEVSTUNIK_OK; FEVSTUNIK_TOO_LONG, _FILE_VERSION, _FILE_HEADER, _FILE_BAD_ITEM; FEVSTUNIK_OUT_OF_MEMORY.
@@ -466,8 +499,8 @@ fevstunik_answer fevstunik_name_check(const uint8_t *name, size_t name_size);
  * another name into it: if two names of a keytab have the same key and both are served, a recorded request is let in once
  * more under the other name.
  *
- * Make a service only if there was none before it. After a restart, refuse all requests until twice the skew has passed: a
- * service that lost its memory may accept a request again, and one whose time was ahead by the skew for that long.
+ * Make a service so only if there was none before it. After a restart use fevstunik_acceptor_started: a service that lost its
+ * memory may accept a request again.
  *
  * The first that holds: FEVSTUNIK_BAD_SKEW; FEVSTUNIK_TOO_LONG, _FILE_VERSION, _FILE_TRUNCATED, _FILE_BAD_ITEM for the keytab;
  * FEVSTUNIK_NOT_UTF8, _BAD_TEXT and _NO_REALM for the service; or FEVSTUNIK_OUT_OF_MEMORY; and the handle is as before.
@@ -479,56 +512,110 @@ fevstunik_answer fevstunik_name_check(const uint8_t *name, size_t name_size);
 fevstunik_answer fevstunik_acceptor_new(fevstunik_acceptor *handle, const uint8_t *keytab, size_t keytab_size, uint32_t skew,
                                         const uint8_t *service, size_t service_size);
 
+/* Makes the handle hold a service as fevstunik_acceptor_new does, for one that was started again at `start`, its clock then, and
+ * has forgotten what it accepted before. It is quiet at first: it answers JUST_STARTED until its clock and the client's are both
+ * later than the start by more than the skew. No request that was accepted before is accepted again, if no time that was handed
+ * in before is later than `start`, and the skew is no smaller than it was.
+ *
+ * FEVSTUNIK_BAD_MOMENT if `start` isn't a moment of the years 0000 to 9999, and the handle is as before; else as
+ * fevstunik_acceptor_new.
+ *
+ *     fevstunik_time start = {time(NULL), 0};
+ *     answer = fevstunik_acceptor_started(&service, file, file_size, 300, (const uint8_t *)"host/web@EX", 11, &start);
+ */
+fevstunik_answer fevstunik_acceptor_started(fevstunik_acceptor *handle, const uint8_t *keytab, size_t keytab_size, uint32_t skew,
+                                            const uint8_t *service, size_t service_size, const fevstunik_time *start);
+
+/* Makes the handle ready for a request that is accepted: fevstunik_acceptor_accept keeps it there. Nothing is kept in it yet. One
+ * handle serves for any number of requests, one after the other; what it held is freed. Threads that share a service have a
+ * handle each for what is accepted, and read it without a lock.
+ *
+ * FEVSTUNIK_OUT_OF_MEMORY, and the handle is as before; FEVSTUNIK_OK.
+ *
+ *     fevstunik_accepted accepted = FEVSTUNIK_ACCEPTED_INIT;
+ *     if (fevstunik_accepted_new(&accepted).code == FEVSTUNIK_OK) ...
+ */
+fevstunik_answer fevstunik_accepted_new(fevstunik_accepted *accepted);
+
 /* Decides whether a request (the bytes of an AP-REQ) is accepted at a moment of the service's clock, and remembers what has to be
  * remembered of it. Time doesn't go back: what counts is the latest moment that was handed in so far.
  *
- * The handle keeps what is accepted until the next call of this function: fevstunik_acceptor_accepted hands it out, and
- * fevstunik_acceptor_reply replies to it. Threads that share a handle hold one lock around these calls: otherwise the next
- * request's client is handed out. The handle keeps why a request is refused as well: fevstunik_acceptor_error makes an error of
- * it for the client. Only one of the two is there.
+ * What is accepted is kept in the handle `accepted`, which fevstunik_accepted_new made, until the next call with that handle:
+ * fevstunik_accepted_known hands it out, and fevstunik_accepted_reply replies to it. What was kept there before is freed. After
+ * any other answer than FEVSTUNIK_OK nothing is kept there. Threads that share a service lock it for this call alone, if each has
+ * a handle of its own for what is accepted.
  *
- * FEVSTUNIK_BAD_MOMENT; FEVSTUNIK_EMPTY_HANDLE; FEVSTUNIK_OK; a cause from FEVSTUNIK_MESSAGE_TYPE to FEVSTUNIK_AUTHORIZATION;
- * FEVSTUNIK_OUT_OF_MEMORY. With FEVSTUNIK_BAD_MOMENT nothing is accepted or refused any more, and with it and with
- * FEVSTUNIK_OUT_OF_MEMORY what is remembered and the latest moment are as before.
+ * The service keeps why a request is refused until its next call: fevstunik_acceptor_error makes an error of it for the client.
+ * fevstunik_error makes the same error of the answer's code alone, and needs no lock.
+ *
+ * FEVSTUNIK_BAD_MOMENT; FEVSTUNIK_EMPTY_HANDLE if either handle is empty; FEVSTUNIK_OK; a cause from FEVSTUNIK_MESSAGE_TYPE to
+ * FEVSTUNIK_AUTHORIZATION; FEVSTUNIK_OUT_OF_MEMORY. With FEVSTUNIK_EMPTY_HANDLE the service is as before. With
+ * FEVSTUNIK_BAD_MOMENT and FEVSTUNIK_OUT_OF_MEMORY what is remembered and the latest moment are as before.
  *
  *     fevstunik_time now = {1700000101, 0};
- *     if (fevstunik_acceptor_accept(&service, request, request_size, &now).code == FEVSTUNIK_OK) ...
+ *     if (fevstunik_acceptor_accept(&service, &accepted, request, request_size, &now).code == FEVSTUNIK_OK) ...
  */
-fevstunik_answer fevstunik_acceptor_accept(fevstunik_acceptor *handle, const uint8_t *request, size_t request_size,
-                                           const fevstunik_time *now);
+fevstunik_answer fevstunik_acceptor_accept(fevstunik_acceptor *handle, fevstunik_accepted *accepted, const uint8_t *request,
+                                           size_t request_size, const fevstunik_time *now);
 
-/* Hands out what the last call of fevstunik_acceptor_accept accepted. The buffer gets the client's text, the session key, the
- * client's subkey and the service's text, one after the other, and `known` their places and the numbers. `known` is written even
- * if the buffer is too short.
+/* Hands out what was accepted. The buffer gets the client's text, the session key, the client's subkey and the service's text, one
+ * after the other, and `known` their places and the numbers. `known` is written even if the buffer is too short.
  *
  * `service`, `client`, `ctime` and `cusec` are what the request is remembered by. (The types of names don't count; and a name without
  * components has the same text as one with a single empty component, though they are two names.) The ticket's addresses were compared
- * with nothing; they, authorization data and the checksum aren't handed out.
+ * with nothing: fevstunik_accepted_item hands out these, authorization data and the checksum.
  *
  * FEVSTUNIK_EMPTY_HANDLE, FEVSTUNIK_NOTHING_THERE and FEVSTUNIK_OUT_OF_MEMORY, and nothing is written; FEVSTUNIK_OK;
  * FEVSTUNIK_SHORT_BUFFER.
  *
  *     fevstunik_known known;
  *     uint8_t buffer[4096];
- *     fevstunik_answer answer = fevstunik_acceptor_accepted(&service, &known, buffer, sizeof buffer);
+ *     fevstunik_answer answer = fevstunik_accepted_known(&accepted, &known, buffer, sizeof buffer);
  *     printf("%.*s\n", (int)known.client.size, (const char *)buffer + known.client.at);
  */
-fevstunik_answer fevstunik_acceptor_accepted(fevstunik_acceptor *handle, fevstunik_known *known, uint8_t *buffer, size_t buffer_size);
+fevstunik_answer fevstunik_accepted_known(const fevstunik_accepted *accepted, fevstunik_known *known, uint8_t *buffer, size_t buffer_size);
 
-/* Builds the reply (the bytes of an AP-REP) to what the last call of fevstunik_acceptor_accept accepted. It is for a request whose
- * `wants_reply` is true, at which it doesn't look. `confounder` is 16 random bytes, new for each call. `subkey` has the bytes of the
- * subkey whose type is in `choice`; if that is 0 they aren't looked at.
+/* Counts the items of a list of what was accepted: `list` is a fevstunik_list, and `size` the number of its items. A list that is
+ * there may have none. It takes no memory.
+ *
+ * FEVSTUNIK_EMPTY_HANDLE; FEVSTUNIK_NOTHING_THERE; FEVSTUNIK_NO_SUCH_ENTRY if the request doesn't have the list; FEVSTUNIK_OK.
+ *
+ *     answer = fevstunik_accepted_count(&accepted, FEVSTUNIK_LIST_TICKET_AUTHORIZATION);
+ */
+fevstunik_answer fevstunik_accepted_count(const fevstunik_accepted *accepted, uint32_t list);
+
+/* Hands out the item of an index, counted from 0, of a list of what was accepted: its type in `kind`, and its bytes in the buffer.
+ * The type is that of an address (RFC 4120, section 7.5.3), of authorization data (section 7.5.4) or of a checksum (section 7.5.6).
+ * `kind` is written even if the buffer is too short. It takes no memory.
+ *
+ * FEVSTUNIK_EMPTY_HANDLE; FEVSTUNIK_NOTHING_THERE; FEVSTUNIK_NO_SUCH_ENTRY if the request doesn't have the list, or the list the item; and
+ * nothing is written. FEVSTUNIK_OK; FEVSTUNIK_SHORT_BUFFER.
+ *
+ *     answer = fevstunik_accepted_item(&accepted, FEVSTUNIK_LIST_CHECKSUM, 0, &kind, buffer, sizeof buffer);
+ */
+fevstunik_answer fevstunik_accepted_item(const fevstunik_accepted *accepted, uint32_t list, size_t index, int32_t *kind, uint8_t *buffer,
+                                         size_t buffer_size);
+
+/* Builds the reply (the bytes of an AP-REP) to what was accepted. It is for a request whose `wants_reply` is true, at which it doesn't
+ * look. `confounder` is 16 random bytes, new for each call. `subkey` has the bytes of the subkey whose type is in `choice`; if that is 0
+ * they aren't looked at.
  *
  * The first that holds: FEVSTUNIK_EMPTY_HANDLE, FEVSTUNIK_NOTHING_THERE; FEVSTUNIK_BAD_CONFOUNDER; FEVSTUNIK_KEY_TYPE and _KEY_LENGTH for
  * the subkey; or FEVSTUNIK_OUT_OF_MEMORY; and nothing is written. FEVSTUNIK_OK; FEVSTUNIK_SHORT_BUFFER. A reply has fewer than 256 bytes.
  *
  *     fevstunik_choice choice = {0, 0, false, false};
  *     uint8_t reply[256];
- *     answer = fevstunik_acceptor_reply(&service, random, 16, &choice, random, 0, reply, sizeof reply);
+ *     answer = fevstunik_accepted_reply(&accepted, random, 16, &choice, random, 0, reply, sizeof reply);
  */
-fevstunik_answer fevstunik_acceptor_reply(fevstunik_acceptor *handle, const uint8_t *confounder, size_t confounder_size,
+fevstunik_answer fevstunik_accepted_reply(const fevstunik_accepted *accepted, const uint8_t *confounder, size_t confounder_size,
                                           const fevstunik_choice *choice, const uint8_t *subkey, size_t subkey_size, uint8_t *buffer,
                                           size_t buffer_size);
+
+/* Frees what the handle holds, which is empty then, and may be made ready again. An empty handle stays so. It has no error.
+ *
+ *     fevstunik_accepted_free(&accepted);
+ */
+void fevstunik_accepted_free(fevstunik_accepted *accepted);
 
 /* Builds the error (the bytes of a KRB-ERROR) that says why the last call of fevstunik_acceptor_accept refused a request. `service` has the
  * service's name as text, as host/web@EX, `name_type` is the type of that name (RFC 4120, section 6.2; 3 for a service on a host), and
@@ -538,11 +625,11 @@ fevstunik_answer fevstunik_acceptor_reply(fevstunik_acceptor *handle, const uint
  * FEVSTUNIK_BAD_MOMENT; FEVSTUNIK_NO_CODE, FEVSTUNIK_TOO_LONG; or FEVSTUNIK_OUT_OF_MEMORY; and nothing is written. FEVSTUNIK_OK;
  * FEVSTUNIK_SHORT_BUFFER.
  *
- *     if (fevstunik_acceptor_accept(&service, request, request_size, &now).code != FEVSTUNIK_OK)
+ *     if (fevstunik_acceptor_accept(&service, &accepted, request, request_size, &now).code != FEVSTUNIK_OK)
  *         answer = fevstunik_acceptor_error(&service, (const uint8_t *)"host/web@EX", 11, 3, &now, buffer, sizeof buffer);
  */
-fevstunik_answer fevstunik_acceptor_error(fevstunik_acceptor *handle, const uint8_t *service, size_t service_size, int32_t name_type,
-                                          const fevstunik_time *now, uint8_t *buffer, size_t buffer_size);
+fevstunik_answer fevstunik_acceptor_error(const fevstunik_acceptor *handle, const uint8_t *service, size_t service_size,
+                                          int32_t name_type, const fevstunik_time *now, uint8_t *buffer, size_t buffer_size);
 
 /* Builds the error (the bytes of a KRB-ERROR) of a cause from its code alone, as fevstunik_acceptor_accept answered it: no handle
  * is needed, and no other request's cause can come into it. `service`, `name_type` and `now` are as for fevstunik_acceptor_error.
@@ -556,21 +643,21 @@ fevstunik_answer fevstunik_acceptor_error(fevstunik_acceptor *handle, const uint
 fevstunik_answer fevstunik_error(uint32_t code, const uint8_t *service, size_t service_size, int32_t name_type,
                                  const fevstunik_time *now, uint8_t *buffer, size_t buffer_size);
 
-/* Returns the number of requests that are remembered: none if the handle is empty. The handle stays as it is. It has no error.
+/* Returns the number of requests that are remembered: none if the handle is empty. It has no error.
  *
  *     printf("%zu remembered\n", fevstunik_acceptor_count(&service));
  */
-size_t fevstunik_acceptor_count(fevstunik_acceptor *handle);
+size_t fevstunik_acceptor_count(const fevstunik_acceptor *handle);
 
 /* Reads the latest moment that was handed in to fevstunik_acceptor_accept so far, by which the service decides. Calls that were
- * answered OUT_OF_MEMORY or BAD_MOMENT don't count. The handle stays as it is.
+ * answered OUT_OF_MEMORY or BAD_MOMENT don't count.
  *
  * FEVSTUNIK_EMPTY_HANDLE and FEVSTUNIK_NOTHING_THERE, and nothing is written; FEVSTUNIK_OK.
  *
  *     fevstunik_time latest;
  *     if (fevstunik_acceptor_latest(&service, &latest).code == FEVSTUNIK_OK) ...
  */
-fevstunik_answer fevstunik_acceptor_latest(fevstunik_acceptor *handle, fevstunik_time *latest);
+fevstunik_answer fevstunik_acceptor_latest(const fevstunik_acceptor *handle, fevstunik_time *latest);
 
 /* Frees what the handle holds, which is empty then, and may be used again. An empty handle stays so. It has no error.
  *
@@ -580,44 +667,65 @@ void fevstunik_acceptor_free(fevstunik_acceptor *handle);
 
 /* ---- the client's side ---- */
 
-/* Builds a request (the bytes of an AP-REQ) for a service with the first credential of a cache that fits: a ticket of the cache's default
- * principal for the service whose session key is usable, and that ends later than `at`, the client's clock. `cache` has the bytes of a
- * file of version 0x0504, `service` the service's name as text, as host/web@EX. `confounder` is 16 random bytes, new for each call.
- * `subkey` has the bytes of the subkey whose type is in `choice`; if that is 0 they aren't looked at.
+/* Reads a credential cache (the bytes of a file of version 0x0503 or 0x0504) and keeps it in the handle: it is read once, and serves for
+ * any number of requests. What the handle held is freed. The file's bytes aren't needed afterwards.
  *
- * The first that holds: FEVSTUNIK_FILE_VERSION, _FILE_HEADER, _FILE_BAD_ITEM and _TOO_LONG for the cache; FEVSTUNIK_NOT_UTF8, _BAD_TEXT and
- * _NO_REALM for the service; FEVSTUNIK_BAD_MOMENT; FEVSTUNIK_BAD_CONFOUNDER; FEVSTUNIK_KEY_TYPE and _KEY_LENGTH;
- * FEVSTUNIK_NO_CREDENTIAL, _NO_USABLE_KEY, _CREDENTIAL_EXPIRED, _BAD_TICKET and _TOO_LONG; or FEVSTUNIK_OUT_OF_MEMORY; and nothing is
- * written. FEVSTUNIK_OK; FEVSTUNIK_SHORT_BUFFER.
+ * The first that holds: FEVSTUNIK_FILE_VERSION, _FILE_HEADER, _FILE_BAD_ITEM, _TOO_LONG; or FEVSTUNIK_OUT_OF_MEMORY; and the handle is as
+ * before. FEVSTUNIK_OK.
+ *
+ *     fevstunik_cache cache = FEVSTUNIK_CACHE_INIT;
+ *     answer = fevstunik_cache_new(&cache, file, file_size);
+ */
+fevstunik_answer fevstunik_cache_new(fevstunik_cache *cache, const uint8_t *file, size_t file_size);
+
+/* Frees what the handle holds, which is empty then, and may be used again. An empty handle stays so. It has no error.
+ *
+ *     fevstunik_cache_free(&cache);
+ */
+void fevstunik_cache_free(fevstunik_cache *cache);
+
+/* Builds a request (the bytes of an AP-REQ) for a service with the first credential of a cache that fits: a ticket of the cache's default
+ * principal for the service whose session key is usable, and that ends later than `at`, the client's clock. `service` has the service's
+ * name as text, as host/web@EX. `confounder` is 16 random bytes, new for each call. `subkey` has the bytes of the subkey whose type is in
+ * `choice`; if that is 0 they aren't looked at.
+ *
+ * What is needed to read the reply is kept in the handle `pending`, also if the buffer is too short, and what that held is freed.
+ *
+ * The first that holds: FEVSTUNIK_EMPTY_HANDLE if `cache` is empty; FEVSTUNIK_NOT_UTF8, _BAD_TEXT and _NO_REALM for the service;
+ * FEVSTUNIK_BAD_MOMENT; FEVSTUNIK_BAD_CONFOUNDER; FEVSTUNIK_KEY_TYPE and _KEY_LENGTH; FEVSTUNIK_NO_CREDENTIAL, _NO_USABLE_KEY,
+ * _CREDENTIAL_EXPIRED, _BAD_TICKET and _TOO_LONG; or FEVSTUNIK_OUT_OF_MEMORY; and nothing is written, and `pending` is as before.
+ * FEVSTUNIK_OK; FEVSTUNIK_SHORT_BUFFER.
  *
  * A call that is made again for a short buffer is handed the same moment and confounder; no other request is made of that moment.
  *
+ *     fevstunik_pending pending = FEVSTUNIK_PENDING_INIT;
  *     fevstunik_choice choice = {0, 0, false, true};
- *     answer = fevstunik_request(file, file_size, (const uint8_t *)"host/web@EX", 11, &now, random, 16, &choice, random, 0,
+ *     answer = fevstunik_request(&cache, &pending, (const uint8_t *)"host/web@EX", 11, &now, random, 16, &choice, random, 0,
  *                                buffer, sizeof buffer);
  */
-fevstunik_answer fevstunik_request(const uint8_t *cache, size_t cache_size, const uint8_t *service, size_t service_size,
+fevstunik_answer fevstunik_request(const fevstunik_cache *cache, fevstunik_pending *pending, const uint8_t *service, size_t service_size,
                                    const fevstunik_time *at, const uint8_t *confounder, size_t confounder_size,
                                    const fevstunik_choice *choice, const uint8_t *subkey, size_t subkey_size, uint8_t *buffer,
                                    size_t buffer_size);
 
-/* Reads the reply (the bytes of an AP-REP) to the request that fevstunik_request builds of the same cache, service, moment and
- * choice, and hands out what both sides agree on. The buffer gets the client's text, the session key and the service's subkey,
- * one after the other, and `agreement` their places and the numbers. `agreement` is written even if the buffer is too short.
+/* Reads the reply (the bytes of an AP-REP) to the request that is kept in the handle, and hands out what both sides agree on. The buffer
+ * gets the client's text, the session key and the service's subkey, one after the other, and `agreement` their places and the numbers.
+ * `agreement` is written even if the buffer is too short. The request is awaited still: another reply may be read.
  *
- * The first that holds: FEVSTUNIK_FILE_VERSION, _FILE_HEADER, _FILE_BAD_ITEM and _TOO_LONG for the cache; FEVSTUNIK_NOT_UTF8, _BAD_TEXT and
- * _NO_REALM for the service; FEVSTUNIK_BAD_MOMENT; FEVSTUNIK_KEY_TYPE and _KEY_LENGTH; FEVSTUNIK_NO_CREDENTIAL, _NO_USABLE_KEY,
- * _CREDENTIAL_EXPIRED, _BAD_TICKET and _TOO_LONG, if there is no such request; FEVSTUNIK_REPLY_TYPE, _REPLY_MALFORMED, _REPLY_INTEGRITY,
- * _REPLY_MISMATCH; or FEVSTUNIK_OUT_OF_MEMORY; and nothing is written. FEVSTUNIK_OK; FEVSTUNIK_SHORT_BUFFER.
+ * The first that holds: FEVSTUNIK_EMPTY_HANDLE; FEVSTUNIK_REPLY_TYPE, _REPLY_MALFORMED, _REPLY_INTEGRITY, _REPLY_MISMATCH; or
+ * FEVSTUNIK_OUT_OF_MEMORY; and nothing is written. FEVSTUNIK_OK; FEVSTUNIK_SHORT_BUFFER.
  *
  *     fevstunik_agreement agreement;
- *     answer = fevstunik_finish(file, file_size, (const uint8_t *)"host/web@EX", 11, &now, &choice, random, 0, reply, reply_size,
- *                               &agreement, buffer, sizeof buffer);
+ *     answer = fevstunik_finish(&pending, reply, reply_size, &agreement, buffer, sizeof buffer);
  */
-fevstunik_answer fevstunik_finish(const uint8_t *cache, size_t cache_size, const uint8_t *service, size_t service_size,
-                                  const fevstunik_time *at, const fevstunik_choice *choice, const uint8_t *subkey, size_t subkey_size,
-                                  const uint8_t *reply, size_t reply_size, fevstunik_agreement *agreement, uint8_t *buffer,
-                                  size_t buffer_size);
+fevstunik_answer fevstunik_finish(const fevstunik_pending *pending, const uint8_t *reply, size_t reply_size,
+                                  fevstunik_agreement *agreement, uint8_t *buffer, size_t buffer_size);
+
+/* Frees what the handle holds, which is empty then, and may be used again. An empty handle stays so. It has no error.
+ *
+ *     fevstunik_pending_free(&pending);
+ */
+void fevstunik_pending_free(fevstunik_pending *pending);
 
 /* ---- texts (RFC 8009, sections 5 and 6) ---- */
 

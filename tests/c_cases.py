@@ -52,6 +52,21 @@ def for_another_service():
     return request(ticket(part, service=(b"a/b",), name_type=-3), der.authenticator(number=0))
 
 
+def typed(kind, data):
+    return der.sequence(der.field(0, der.integer(kind)), der.field(1, der.octets(data)))
+
+
+def with_lists():
+    """A request with addresses, with authorization data in ticket and authenticator, and with a checksum; one item has no bytes."""
+    addresses = der.sequence(typed(2, bytes([192, 0, 2, 1])), typed(24, bytes(range(0xF0, 0x100))))
+    data = der.sequence(typed(1, b"first"), typed(1, b""), typed(1, b"the third"))
+    part = der.element(0x63, der.element(0x30, der.ticket_part()[4:] + der.field(9, addresses) + der.field(10, data)))
+    head, tail = der.authenticator()[4:].split(der.field(4, der.integer(5)))
+    summed = head + der.field(3, typed(-138, bytes(range(0x50, 0x60)))) + der.field(4, der.integer(5)) + tail
+    auth = der.element(0x62, der.element(0x30, summed + der.field(8, der.sequence(typed(1, b"alone")))))
+    return request(ticket(part), auth)
+
+
 def refused():
     """Requests to the fixture's service, each with the name of its answer."""
     other_realm = b"\x1b\x02EX", b"\x1b\x02EY"

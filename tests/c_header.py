@@ -8,7 +8,9 @@ from pathlib import Path
 TOP = Path(__file__).resolve().parent.parent
 CRATE = TOP / "crates/krb_c"
 HEADER = TOP / "include/fevstunik.h"
-TYPES = {"u32": "uint32_t", "i16": "int16_t", "i32": "int32_t", "i64": "int64_t", "usize": "size_t", "bool": "bool", "Handle": "fevstunik_acceptor"}
+TYPES = {"u32": "uint32_t", "i16": "int16_t", "i32": "int32_t", "i64": "int64_t", "usize": "size_t", "bool": "bool",
+         "Handle": "fevstunik_acceptor", "Slot": "fevstunik_accepted", "CacheHandle": "fevstunik_cache", "PendingHandle": "fevstunik_pending"}
+HANDLES = {"Handle", "Slot", "CacheHandle", "PendingHandle"}
 
 
 def without_comments(text):
@@ -26,7 +28,14 @@ def header_functions():
 
 
 def header_codes():
-    return {name: int(value) for name, value in re.findall(r"\bFEVSTUNIK_(\w+) = (\d+)", without_comments(HEADER.read_text()))}
+    return {name: int(value) for name, value in re.findall(r"\bFEVSTUNIK_(?!LIST_)(\w+) = (\d+)", without_comments(HEADER.read_text()))}
+
+
+def lists():
+    """The numbers of lists are the crate's."""
+    header = dict(re.findall(r"\bFEVSTUNIK_LIST_(\w+) = (\d+)", without_comments(HEADER.read_text())))
+    crate = dict(re.findall(r"const (\w+): u32 = (\d+);", (CRATE / "src/items.rt").read_text()))
+    return differs(set(header.items()), set(crate.items()))
 
 
 def crate_codes():
@@ -44,7 +53,7 @@ def documented():
     numbers = header_codes()
     found = {}
     for function, (kind, text) in comments().items():
-        named = set(re.findall(r"\b(?:FEVSTUNIK)?_([A-Z][A-Z0-9_]*)\b", re.sub(r"\bFEVSTUNIK_\w+_INIT\b", "", text)))
+        named = set(re.findall(r"\b(?:FEVSTUNIK)?_([A-Z][A-Z0-9_]*)\b", re.sub(r"\bFEVSTUNIK_(\w+_INIT|LIST_\w+)\b", "", text)))
         for first, last in re.findall(r"from FEVSTUNIK_(\w+) to[\s*]+FEVSTUNIK_(\w+)", text):
             named |= {name for name, number in numbers.items() if numbers[first] <= number <= numbers[last]}
         if kind == "fevstunik_answer":
@@ -70,7 +79,7 @@ def differs(found, wanted):
 def names_and_texts():
     """fevstunik_code_name and fevstunik_code_text answer each code's name, and its comment without the code of RFC 4120."""
     found = {function: dict(re.findall(r'case FEVSTUNIK_(\w+): return "([^"]*)";', body)) for function, body in inline_functions().items()}
-    said = dict(re.findall(r"\bFEVSTUNIK_(\w+) = \d+,?\s*/\* (?:\d+: )?(.*?) \*/", HEADER.read_text()))
+    said = dict(re.findall(r"\bFEVSTUNIK_(?!LIST_)(\w+) = \d+,?\s*/\* (?:\d+: )?(.*?) \*/", HEADER.read_text()))
     wanted = {"fevstunik_code_name": {name: f"FEVSTUNIK_{name}" for name in header_codes()}, "fevstunik_code_text": said}
     return None if found == wanted and set(said) == set(header_codes()) else f"{found}, not {wanted}"
 
@@ -97,21 +106,23 @@ def crate_text():
 
 
 def structs():
-    """The header's structs have the crate's fields, in their order. (The handle is opaque.)"""
+    """The header's structs have the crate's fields, in their order. (Handles are opaque.)"""
     form = r"#\[repr\(C\)\]\n#\[derive\(Clone, Copy\)\]\npub struct (\w+) \{\n(.*?)\n\}"
     crate = {(c_type(name), tuple((c_type(of), field) for field, of in re.findall(r"^    pub (\w+): (\w+),$", body, re.M)))
              for name, body in re.findall(form, crate_text(), re.S)}
     form = r"typedef struct (\w+) \{\n(.*?)\n\}"
     header = {(name, tuple(re.findall(r"^    (\w+) (\w+);", body, re.M)))
-              for name, body in re.findall(form, without_comments(HEADER.read_text()), re.S) if name != "fevstunik_acceptor"}
+              for name, body in re.findall(form, without_comments(HEADER.read_text()), re.S) if name not in map(c_type, HANDLES)}
     return differs(header, crate)
 
 
-def c_parameters(name, of):
-    """How C hands in a parameter: a slice as a pointer and a size, a reference as a pointer, and no allocator."""
+def c_parameters(name, of, stays):
+    """How C hands in a parameter: a slice as a pointer and a size, a reference as a pointer, and no allocator. A handle is const where a
+    clause says that its value stays."""
     if of == "Global":
         return []
-    const, at = ("" if of.startswith("&mut ") else "const "), re.sub(r"^&(mut )?", "", of)
+    at = re.sub(r"^&(mut )?", "", of)
+    const = "" if of.startswith("&mut ") and not (stays and at in HANDLES) else "const "
     if at == "[u8]":
         return [f"{const}uint8_t *{name}", f"size_t {name}_size"]
     return [f"{const}{c_type(at)} *{name}"] if of.startswith("&") else [f"{c_type(of)} {name}"]
@@ -120,8 +131,9 @@ def c_parameters(name, of):
 def prototypes():
     """The header's prototypes are those of the crate's exports."""
     crate = set()
-    for name, words, answer in re.findall(r'pub extern "C" fn (\w+)\((.*?)\)(?: -> (\w+))?\n', crate_text(), re.S):
-        parameters = [it for word in re.findall(r"(\w+): ([^,]+?)(?:,|\s*$)", words) for it in c_parameters(*word)]
+    for name, words, answer, clauses in re.findall(r'pub extern "C" fn (\w+)\((.*?)\)(?: -> (\w+))?\n(.*?)^\{$', crate_text(), re.S | re.M):
+        stays = re.findall(r"ensures stays \{ (\w+)\.new\.value ≡ \1\.old\.value \}", clauses)
+        parameters = [it for name_of, of in re.findall(r"(\w+): ([^,]+?)(?:,|\s*$)", words) for it in c_parameters(name_of, of, name_of in stays)]
         crate.add(f"{c_type(answer) if answer else 'void'} {name}({', '.join(parameters) or 'void'})")
     header = re.findall(r"^((?:fevstunik_answer|size_t|uint32_t|void) fevstunik_\w+\([^;]*\));", without_comments(HEADER.read_text()), re.M)
     return differs({" ".join(it.split()) for it in header}, crate)
@@ -131,6 +143,7 @@ def header_checks():
     yield "the header's codes are the crate's", codes()
     yield "the codes' names and texts are those of the enum", names_and_texts()
     yield "the codes are in order", order()
+    yield "the header's numbers of lists are the crate's", lists()
     yield "the header's structs are the crate's", structs()
     yield "the header's prototypes are the crate's", prototypes()
     yield "each function has an example in the header", examples()

@@ -5,7 +5,7 @@ The header is compiled alone, as C99 and as C++; its functions are exactly those
 program (tests/c/library.c) runs the exchange that tests share, with exact answers, and so does examples/fevstunik.py over a shared
 object. tests/c/faults.c asks for each fault, and tests/c/memory.c lets each allocation fail in turn: together they see just the codes that
 the header names at each function. A service and a client (examples/service) talk over TCP, to each other and to a client and a service over
-MIT krb5 (tests/c_peers.py). tests/c/fuzz.c hands the library good and broken files and messages, some of them under valgrind.
+MIT krb5 (tests/c_peers.py). Threads share a service (tests/c/threads.c). tests/c/fuzz.c hands the library good and broken files and messages, some of them under valgrind.
 
     tests/c_library.py [--inputs N]     so many inputs, 50,000 if left out
 
@@ -145,7 +145,7 @@ def from_c(room, answered):
     yield "the C program is linked", wrong(built)
     if built.returncode == 0:
         messages = [fixture("request"), fixture(KEYED), fixture("reply"), fixture("reply with a subkey and a number"),
-                    fixture("error"), c_cases.two_credentials().hex(), c_cases.for_another_service().hex()]
+                    fixture("error"), c_cases.two_credentials().hex(), c_cases.for_another_service().hex(), c_cases.with_lists().hex()]
         yield from counted("the C program", answered, program, *files, *messages)
     program, built = watched(room, "faults")
     yield "the program of faults is linked", wrong(built)
@@ -168,13 +168,36 @@ def current_cache(now):
     return cache.replace(struct.pack(">4I", 1_700_000_000, 0, 1_700_036_000, 0), struct.pack(">4I", now, 0, now + 36_000, 0))
 
 
+def over_threads(room):
+    """Threads in C that share a service, each with a handle of its own for what is accepted (tests/c/threads.c)."""
+    program, caches = room / "threads", room / "caches"
+    built = linked(program, "-D_POSIX_C_SOURCE=200809L", "-pthread", ROOT / "tests/c/threads.c")
+    yield "the program of threads is linked", wrong(built)
+    if built.returncode == 0:
+        caches.write_text("".join(c_threads.cache_of(client).hex() + "\n" for client in c_threads.CLIENTS))
+        yield from counted("the program of threads", Answered(), program, ROOT / "examples/service.keytab", caches)
+
+
+def started_again(room, cache):
+    """A service that may have run before is quiet at first."""
+    service = subprocess.Popen([str(room / "service"), str(ROOT / "examples/service.keytab"), "host/web@EX", "1"], stdout=subprocess.PIPE, text=True)
+    try:
+        port = service.stdout.readline().strip()
+        run(room / "client", cache, "host/web@EX", port, "hello", timeout=60)
+        yield "a service that may have run before", differs(service.communicate(timeout=60)[0].splitlines(), ["refused FEVSTUNIK_JUST_STARTED"])
+    finally:
+        service.kill()
+        service.wait()
+
+
 def over_tcp(room):
     """A service and a client in C: a request is accepted once, the same one is refused, and a second client is accepted."""
     for name in ("service", "client"):
         yield f"the {name} is linked", wrong(linked(room / name, "-D_DEFAULT_SOURCE", ROOT / f"examples/service/{name}.c"))
     cache = room / "cache"
     cache.write_bytes(current_cache(int(time.time()) - 60))
-    service = subprocess.Popen([str(room / "service"), str(ROOT / "examples/service.keytab"), "host/web@EX", "3"], stdout=subprocess.PIPE, text=True)
+    yield from started_again(room, cache)
+    service = subprocess.Popen([str(room / "service"), str(ROOT / "examples/service.keytab"), "host/web@EX", "3", "first"], stdout=subprocess.PIPE, text=True)
     try:
         port = service.stdout.readline().strip()
         twice = run(room / "client", cache, "host/web@EX", port, "hello", "twice", timeout=60)
@@ -197,12 +220,15 @@ def from_python(room):
     if built.returncode:
         return
     plain, keyed = fixture("request"), fixture(KEYED)
-    ran = run(sys.executable, ROOT / "examples/fevstunik.py", shared, ROOT / "examples/service.keytab", "host/web@EX", "--at", "1700000100",
+    ran = run(sys.executable, ROOT / "examples/fevstunik.py", shared, ROOT / "examples/service.keytab", "host/web@EX", "--first", "--at", "1700000100",
               input="\n".join([plain, plain, keyed, "30", ""]) + "\n")
     lines = ran.stdout.splitlines()
     wanted = ["accepted alice@EX -", "refused 220 34", "refused 220 34", "refused 100 40", "refused 110 60"]
     yield "the Python service", None if lines == wanted else f"{lines} {ran.stderr[-1000:]}"
-    ran = run(sys.executable, ROOT / "examples/fevstunik.py", shared, ROOT / "examples/service.keytab", "host/web@EX", "--at", "1700000100", input=keyed + "\n")
+    ran = run(sys.executable, ROOT / "examples/fevstunik.py", shared, ROOT / "examples/service.keytab", "host/web@EX", "--at", "1700000100", input=plain + "\n")
+    yield "the Python service may have run before", differs(ran.stdout.splitlines(), ["refused 215 37"])
+    ran = run(sys.executable, ROOT / "examples/fevstunik.py", shared, ROOT / "examples/service.keytab", "host/web@EX", "--first", "--at", "1700000100",
+              input=keyed + "\n")
     yield from c_threads.checks(shared)
     yield "the Python service replies", None if re.fullmatch(r"accepted alice@EX 6f55[0-9a-f]{170}\n", ran.stdout) else ran.stdout + ran.stderr[-1000:]
 
@@ -253,6 +279,7 @@ def checks(inputs):
         room = pathlib.Path(name)
         yield from headers(room)
         yield from from_c(room, Answered())
+        yield from over_threads(room)
         yield from over_tcp(room)
         yield from c_peers.checks(room)
         yield from from_python(room)

@@ -69,7 +69,8 @@ def conversation(folder, realm, etype, client, service, keytab):
     name = f"{SERVICES[etype]}@{REALM}"
     programs = {"our": ("client", "service"), "MIT's": ("mit_client", "mit_service")}
     env = realm.environment("default", KRB5RCACHENAME=f"file2:{folder}/replays.{client}.{etype}.{keytab}".replace("'", ""))
-    return said([folder / programs[service][1], realm.folder / f"{keytab}.keytab", name, "2"],
+    first = ["first"] if service == "our" else []
+    return said([folder / programs[service][1], realm.folder / f"{keytab}.keytab", name, "2", *first],
                 [[folder / programs[client][0], realm.folder / "alice.ccache", name, "a text", "twice"]], env)
 
 

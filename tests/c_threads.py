@@ -28,11 +28,14 @@ def cache_of(client):
 
 def requests_of(lib, client):
     """Requests that the library makes for the client, each of another microsecond."""
-    cache, choice = cache_of(client), fevstunik.Choice()
+    file, cache, pending, choice = cache_of(client), fevstunik.Handle(), fevstunik.Handle(), fevstunik.Choice()
+    fevstunik.done(lib.fevstunik_cache_new(byref(cache), file, len(file)))
     for micros in range(EACH):
         at, confounder = fevstunik.Time(AT, micros), micros.to_bytes(16, "big")
         yield fevstunik.filled(lambda buffer, room: lib.fevstunik_request(
-            cache, len(cache), SERVICE, len(SERVICE), byref(at), confounder, 16, byref(choice), b"", 0, buffer, room))
+            byref(cache), byref(pending), SERVICE, len(SERVICE), byref(at), confounder, 16, byref(choice), b"", 0, buffer, room))
+    lib.fevstunik_pending_free(byref(pending))
+    lib.fevstunik_cache_free(byref(cache))
 
 
 def answer_of(service, request):
@@ -61,10 +64,14 @@ def checks(path):
     lib = fevstunik.library(str(path))
     text = (c_char_p, c_size_t)
     lib.fevstunik_request.restype = fevstunik.Answer
-    lib.fevstunik_request.argtypes = (*text, *text, c_void_p, *text, c_void_p, *text, c_void_p, c_size_t)
+    lib.fevstunik_request.argtypes = (c_void_p, c_void_p, *text, c_void_p, *text, c_void_p, *text, c_void_p, c_size_t)
+    lib.fevstunik_cache_new.restype = fevstunik.Answer
+    lib.fevstunik_cache_new.argtypes = (c_void_p, *text)
+    for free in (lib.fevstunik_cache_free, lib.fevstunik_pending_free):
+        free.restype, free.argtypes = None, (c_void_p,)
     made = [[(f"{client}@EX", request) for request in requests_of(lib, client)] for client in CLIENTS]
     sent = [it for row in zip(*made) for it in row]
-    service = fevstunik.Acceptor(lib, (TOP / "examples/service.keytab").read_bytes(), SERVICE.decode())
+    service = fevstunik.Acceptor(lib, (TOP / "examples/service.keytab").read_bytes(), SERVICE.decode(), started=None)
     found = Counter(served(service, sent, True))
     wanted = Counter({(f"{client}@EX", f"{client}@EX"): EACH for client in CLIENTS})
     yield "each of the threads' requests has its own client", None if found == wanted else f"{(found - wanted).most_common(5)}"

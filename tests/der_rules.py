@@ -6,7 +6,8 @@ The rules (X.690, sections 8.1, 8.3, 8.6, 8.7 and 10.1; RFC 4120, section 5.2):
 * An element is a tag byte, a length, and that many bytes of content. A length below 128 is one byte. Any other is the
   byte 80 + n (hexadecimal) with n from 1 to 4, and n bytes, the most significant first, of which the first is not 0; the
   number is at least 128.
-* Whole numbers are two's complement in the fewest bytes, and lie in the range of their kind.
+* Whole numbers are two's complement in the fewest bytes, and lie in the range of their kind. A sequence number may also be the
+  negative number of the same 32 bits, from -2147483648 on; it is read as the number that those bits are without a sign.
 * Flags are 00 and four bytes. A time is YYYYMMDDHHMMSSZ on the calendar, without a second 60.
 * An element with a tag round it has exactly that element as its content; a SEQUENCE has its fields in order, one that may be
   left out is there exactly where its tag is the next byte; a SEQUENCE OF has elements up to its end.
@@ -33,7 +34,7 @@ class Refused(Exception):
 
 
 CONSTANTS = {"five": 5, "fourteen": 14, "fifteen": 15, "thirty": 30}
-NUMBERS = ["int32", "uint32", "microseconds", *CONSTANTS]
+NUMBERS = ["int32", "uint32", "seq_number", "microseconds", *CONSTANTS]
 TAGS = {kind: 0x02 for kind in NUMBERS} | {"octets": 0x04, "string": 0x1B, "flags": 0x03, "time": 0x18}
 
 
@@ -92,7 +93,7 @@ def seconds(content):
     return 86400 * number + 3600 * hour + 60 * minute + second
 
 
-RANGES = {"int32": (-(2**31), 2**31 - 1), "uint32": (0, 2**32 - 1), "microseconds": (0, 999_999)}
+RANGES = {"int32": (-(2**31), 2**31 - 1), "uint32": (0, 2**32 - 1), "seq_number": (-(2**31), 2**32 - 1), "microseconds": (0, 999_999)}
 RANGES |= {kind: (value, value) for kind, value in CONSTANTS.items()}
 
 
@@ -115,6 +116,8 @@ def leaf_at(kind, data, at, end):
             raise Refused("Integer", at)
         if kind in CONSTANTS:
             return [], after
+        if kind == "seq_number":
+            value %= 2**32
     elif kind == "flags":
         if len(content) != 5 or content[0] != 0:
             raise Refused("Flags", at)
@@ -214,7 +217,7 @@ def cases():
     edges = sorted({s * v + d for v in [0] + [2 ** (8 * n - 1) for n in range(1, 6)] + [2 ** (8 * n) for n in range(1, 5)] for s in (1, -1) for d in (-1, 0, 1)})
     for value in edges:
         content = value.to_bytes(max(1, (value + (value < 0)).bit_length() // 8 + 1), "big", signed=True)
-        for kind in ("int32", "uint32"):
+        for kind in ("int32", "uint32", "seq_number"):
             yield kind, element(0x02, content)
     for value in (0, 1, 127, 128, 999_999, 1_000_000, -1):
         content = value.to_bytes(max(1, (value + (value < 0)).bit_length() // 8 + 1), "big", signed=True)
@@ -222,7 +225,7 @@ def cases():
     for content in ([5], [0, 5], [4], [6], [], [0, 0, 5]):
         yield "five", element(0x02, content)
     for content in ([], [0, 0], [0, 127], [0, 128], [255, 255], [255, 128], [255, 127], [0, 0, 128], [255, 255, 127], [0, 255, 255, 255, 255], [1, 0, 0, 0, 0], [0] * 6, [255] * 6, [127] * 6):
-        for kind in ("int32", "uint32"):
+        for kind in ("int32", "uint32", "seq_number"):
             yield kind, element(0x02, content)
     # lengths, in all five forms, good and bad, whole and cut off
     for length in (0, 1, 127, 128, 129, 255, 256, 257):

@@ -2,9 +2,10 @@
 
 What is answered is worked out here: of whole files by tests/reference.py, of readers by a second walk over a source that gives a few
 bytes a read. Nothing is taken from the program's sources. Fields are asked of a source one after another; the numbers after a
-session key's bytes, up to the flags, at once.
+session key's bytes, up to the flags, at once, and an encryption type that stands twice, too.
 """
 import hashlib
+import random
 import struct
 
 import reference
@@ -276,21 +277,24 @@ class Credentials:
     def credential(self):
         self.name()
         self.name()
-        self.take(2)
+        self.take(4 if self.found == reference.OLD else 2)
         self.data()
         self.take(21)
         self.list()
         self.list()
         self.data()
         self.data()
-        return reference.credential(Reader(self.hand.bytes()))
+        return reference.credential(Reader(self.hand.bytes()), self.found)
 
     def version(self):
         self.take(2)
-        if self.hand.bytes() != b"\5\4":
+        self.found = self.hand.bytes()
+        if self.found not in (reference.OLD, reference.NEW):
             raise Stop(False)
 
     def header(self):
+        if self.found == reference.OLD:
+            return []
         self.take(self.number(">H"))
         return reference.header_fields(self.hand.bytes()[2:])
 
@@ -395,7 +399,10 @@ def cache_case(name, file, piece=4_096):
     answers = [found, f"{found} {given}"]
     if found.startswith("ok"):
         lines.append(f"cache write {file.word}")
-        answers.append(f"ok {shown(data)}")
+        try:
+            answers.append(f"ok {shown(reference.convert_ccache(data))}")
+        except Fault as fault:
+            answers.append(fault_shown(fault))
     return PROGRAM, name, lines, answers
 
 
@@ -530,13 +537,101 @@ def unreal_ticket():
     return fixture.ticket(bytes((3 + 7 * it) % 256 for it in range(151)))
 
 
-def full_cache():
-    """A cache with a credential in which each field has a value of its own."""
+def full_credential(again=b""):
+    """A credential in which each field has a value of its own; with these bytes after its encryption type."""
     client, server = fixture.principal(3, b"EX", b"host", b"web"), fixture.principal(1, b"EX", b"alice")
     lists = struct.pack(">IHI", 1, 2, 4) + b"\x7f\0\0\1" + struct.pack(">IHI", 2, 1, 2) + b"ab" + struct.pack(">HI", 65_535, 0)
     numbers = struct.pack(">4IBI", 1, 2, 3, 4, 1, 0x4061_0000)
-    item = client + server + struct.pack(">h", -3) + fixture.data(b"\x09") + numbers + lists + fixture.data(b"t") + fixture.data(b"uv")
-    return b"\5\4\0\0" + server + item
+    key = struct.pack(">h", -3) + again + fixture.data(b"\x09")
+    return client + server + key + numbers + lists + fixture.data(b"t") + fixture.data(b"uv")
+
+
+def full_cache():
+    return b"\5\4\0\0" + fixture.principal(1, b"EX", b"alice") + full_credential()
+
+
+def bare_credential(again=b""):
+    """A credential without addresses, authorization data and a second ticket."""
+    client = fixture.principal(1, b"EX", b"alice")
+    return fixture.credential(client, fixture.principal(2, b"EX", b"krbtgt", b"EX"), 20, b"\x07\x08", (5, 6, 7, 8), b"tu", again)
+
+
+def two_credentials():
+    """Caches of both versions with two credentials, of which the first has all fields, or none of the lists and the second ticket."""
+    default = fixture.principal(1, b"EX", b"alice")
+    for version, start, again in (("0x0504", b"\5\4\0\0", b""), ("0x0503", b"\5\3", b"\0\x11")):
+        full, bare = full_credential(again), bare_credential(again)
+        yield f"two credentials of {version}, the first with all fields", start + default + full + bare
+        yield f"two credentials of {version}, the first without lists", start + default + bare + full
+
+
+def old_caches():
+    """Beginnings of caches of version 0x0503, one with each byte another, and sources that fail; and of caches with two credentials."""
+    files = dict(two_credentials())
+    files["the client's cache of 0x0503"] = fixture.old_cache(unreal_ticket())
+    for word, whole in files.items():
+        for length in range(len(whole) + 1):
+            file = Spelled(whole[:length])
+            for piece in (1, 7):
+                yield from each_call(credential_case, f"{length} bytes of {word}, {piece} a read", file, piece)
+            yield cache_case(f"{length} bytes of {word}, as a whole", file, 50)
+    whole = files["two credentials of 0x0503, the first with all fields"]
+    for at in range(len(whole)):
+        for value in (0, 1, 2, 4, 0xFF):
+            file = Spelled(whole[:at] + bytes([value]) + whole[at + 1 :])
+            yield from each_call(credential_case, f"{value} at {at} of a cache of 0x0503", file, 64)
+            yield cache_case(f"{value} at {at} of a cache of 0x0503, as a whole", file)
+    for piece in (7, 50):
+        for failing in range(1, 41):
+            yield from each_call(credential_case, f"a cache of 0x0503 of whose reads {failing} fails", Spelled(whole), piece, failing)
+    for again in (b"\0\0", b"\0\x12", b"\x13\0", b"\xff\xff"):
+        yield cache_case(f"a second encryption type of {again.hex()}", Spelled(fixture.old_cache(unreal_ticket(), again)))
+    for length in (LIMIT, LIMIT + 1):
+        size = length - 18
+        file = Spelled(b"\5\3" + struct.pack(">iIII", 1, 1, 0, size)) + run_of(7, size)
+        yield cache_case(f"a cache of 0x0503 of {length} bytes without credentials", file, 65_536)
+        yield credential_case(f"a cache of 0x0503 of {length} bytes without credentials, off a reader", file, 65_536)
+
+
+def drawn_text(draw, most):
+    return draw.randbytes(draw.randrange(most))
+
+
+def drawn_name(draw):
+    components = [drawn_text(draw, 6) for _ in range(draw.randrange(4))]
+    return fixture.principal(draw.randrange(-(2**31), 2**31), drawn_text(draw, 6), *components)
+
+
+def drawn_list(draw):
+    items = [struct.pack(">H", draw.randrange(2**16)) + fixture.data(drawn_text(draw, 6)) for _ in range(draw.randrange(3))]
+    return struct.pack(">I", len(items)) + b"".join(items)
+
+
+def drawn_cache(draw, is_old):
+    """The bytes of a cache of either version."""
+    fields = b"".join(struct.pack(">H", 2 + draw.randrange(9)) + data16(drawn_text(draw, 6)) for _ in range(draw.randrange(3)))
+    if draw.randrange(2):
+        fields += struct.pack(">HH", 1, 8) + draw.randbytes(8)
+    found = b"\5\3" if is_old else b"\5\4" + data16(fields)
+    found += drawn_name(draw)
+    for _ in range(draw.randrange(4)):
+        found += drawn_name(draw) + drawn_name(draw) + draw.randbytes(4 if is_old else 2) + fixture.data(drawn_text(draw, 20))
+        found += draw.randbytes(16) + bytes([draw.randrange(2)]) + draw.randbytes(4)
+        found += drawn_list(draw) + drawn_list(draw) + fixture.data(drawn_text(draw, 20)) + fixture.data(drawn_text(draw, 6))
+    return found
+
+
+def drawn_caches():
+    """500 caches of each version; one in three with a byte another."""
+    draw = random.Random("credential caches")
+    for number in range(1_000):
+        data = drawn_cache(draw, number % 2)
+        if draw.randrange(3) == 0:
+            at = draw.randrange(len(data))
+            data = data[:at] + draw.randbytes(1) + data[at + 1 :]
+        file, piece = Spelled(data), draw.randrange(1, 70)
+        yield cache_case(f"drawn cache {number}", file, piece)
+        yield credential_case(f"drawn cache {number}, off a reader", file, piece)
 
 
 def other_caches():
@@ -808,5 +903,5 @@ def names():
 
 
 def drawn():
-    for part in (names, keytabs_of_sizes, other_keytabs, caches_of_sizes, other_caches, sizes, claim_cases):
+    for part in (names, keytabs_of_sizes, other_keytabs, caches_of_sizes, other_caches, old_caches, drawn_caches, sizes, claim_cases):
         yield from part()

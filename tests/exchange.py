@@ -100,7 +100,7 @@ def ticket_part(draw, client, session):
 
 def authenticator(draw, client, seconds, micros):
     etype, key = some_key(draw)
-    subkey, number = draw.choice([None, der.key(etype, key)]), draw.choice([None, 0, 2**32 - 1])
+    subkey, number = draw.choice([None, der.key(etype, key)]), draw.choice([None, 0, 2**32 - 1, 2**31, -1, -(2**31)])
     checksum = draw.choice([None, der.key(-3, b"sum")])
     fields = [
         der.field(0, der.integer(5)), der.field(1, der.string(client[0])), der.field(2, der.name(draw.choice([0, 1, 7]), *client[1])),
@@ -148,7 +148,8 @@ def line_of(draw, data, now, confounder):
 def conversation(draw):
     """A keytab, the command's words, and lines, each with the answer of a second service."""
     seals, file, skew = model.Seals(), keytab(draw), draw.choice([300, 300, 300, 0, 1, 86_400])
-    service = model.Service(seals, file, skew)
+    started = draw.choice([None, None, BASE - skew - 1, BASE - skew, BASE, max(0, BASE - 2 * skew)])
+    service = model.Service(seals, file, skew, started)
     named = NAMED if draw.random() < 0.7 else None
     lines, answers, sent = [], [], []
     for _ in range(LINES):
@@ -159,6 +160,7 @@ def conversation(draw):
         lines.append(line_of(draw, data, now, confounder))
         answers.append(model.answered(service, data, now, confounder, named))
     words = ["accept", "f", "--skew", str(skew), *(["--service", "host/web@EX"] if named else [])]
+    words += [] if started is None else ["--started", str(started)]
     return file, words, lines, answers
 
 

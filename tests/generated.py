@@ -12,6 +12,7 @@ import reference
 
 sys.path.insert(0, str(Path(__file__).resolve().parent / "vectors"))
 
+import drawn_files  # noqa: E402
 import fixture  # noqa: E402
 
 TOP = Path(__file__).resolve().parent.parent
@@ -27,6 +28,7 @@ HOLED_KEYTAB = bytes.fromhex(
     "fffffff800000000ffffffff" "0000000011"
 )
 FIXTURE_CACHE = fixture.cache()
+OLD_CACHE = fixture.old_cache()
 CONFIGURED_CACHE = fixture.configured_cache()
 
 
@@ -114,17 +116,21 @@ def full_caches():
     yield converting("convert-ccache", "as many credentials as there is room for", full, lambda data: data)
     yield on_bytes("check-ccache", "one byte past the limit", over, reference.check_ccache)
     yield converting("convert-ccache", "one byte past the limit", over, reference.convert_ccache)
+    old = b"\x05\x03" + struct.pack(">iIII", 1, 1, 0, reference.LIMIT - 18) + bytes(reference.LIMIT - 18)
+    yield on_bytes("check-ccache", "version 0x0503, as long as may be", old, reference.check_ccache)
+    yield converting("convert-ccache", "version 0x0503, as long as may be", old, reference.convert_ccache)
 
 
 def cache_cases():
     real = {path.name: path.read_bytes() for path in sorted(EXAMPLES.glob("*.ccache"))}
-    small = {"fixture": FIXTURE_CACHE, "configured": CONFIGURED_CACHE}
+    small = {"fixture": FIXTURE_CACHE, "old fixture": OLD_CACHE, "configured": CONFIGURED_CACHE, **dict(drawn_files.two_credentials())}
     for name, data in {**real, **small}.items():
         yield from beginnings("list-ccache", name, data, reference.list_ccache)
         yield on_bytes("check-ccache", name, data, reference.check_ccache)
         yield converting("convert-ccache", name, data, reference.convert_ccache)
+    for name in ("fixture", "old fixture", "configured"):
+        yield from changes("list-ccache", name, small[name], reference.list_ccache)
     for name, data in small.items():
-        yield from changes("list-ccache", name, data, reference.list_ccache)
         yield from beginnings("check-ccache", name, data, reference.check_ccache)
         for size in range(len(data)):
             yield converting("convert-ccache", f"{name}, its first {size} bytes", data[:size], reference.convert_ccache)

@@ -19,7 +19,7 @@ KEY_LENGTHS = {19: 16, 20: 32}
 SHORTEST = {19: 32, 20: 40}
 CODES = {
     "MessageType": 40, "Malformed": 60, "UserToUser": 45, "TicketEtype": 14, "NotUs": 35, "NoKey": 45, "BadKeyVersion": 44,
-    "TicketIntegrity": 31, "SessionKey": 14, "AuthenticatorIntegrity": 31, "BadMatch": 36, "Skew": 37, "Repeat": 34, "NotYetValid": 33,
+    "TicketIntegrity": 31, "SessionKey": 14, "AuthenticatorIntegrity": 31, "BadMatch": 36, "Skew": 37, "JustStarted": 37, "Repeat": 34, "NotYetValid": 33,
     "Expired": 32, "Transited": 60, "Authorization": 60,
 }
 TICKET_USAGE, AUTHENTICATOR_USAGE, REPLY_USAGE = 2, 11, 12
@@ -109,10 +109,12 @@ def picked(entries, name, etype, kvno):
 
 
 class Service:
-    """A service that remembers all that it was shown."""
+    """A service that remembers all that it was shown. One that had an earlier life was started again at a second."""
 
-    def __init__(self, seals, keytab, skew):
+    def __init__(self, seals, keytab, skew, started=None):
         self.seals, self.entries, self.skew = seals, reference.keytab(keytab), skew * 1_000_000
+        # the last moment of its quiet start
+        self.quiet_until = None if started is None else 1_000_000 * started + self.skew
         self.latest, self.shown = None, set()
 
     def opened(self, data):
@@ -155,6 +157,9 @@ class Service:
         if abs(moment - self.latest) > self.skew:
             raise Refused("Skew")
         stamp = (request[3][1], tuple(request[3][2][1]), part[2], tuple(part[3][1]), moment)
+        if self.quiet_until is not None and min(self.latest, moment) <= self.quiet_until:
+            self.shown.add(stamp)
+            raise Refused("JustStarted")
         if stamp in self.shown:
             raise Refused("Repeat")
         self.shown.add(stamp)

@@ -10,6 +10,8 @@ of RFC 4120 (sections 5.2, 5.3, 5.5.1, 5.5.2 and 5.9.1), written out from that d
 * With one byte changed by xor 01 or xor 80, it is either a message still, with its fields, or has the fault that the rules tell.
 * Without one of its fields, or of the fields of its parts, the same; of each type a message without optional fields is taken.
 * As each other type it has the wrong tag.
+* Messages whose sequence numbers stand as negative numbers are read, and written again without them; beyond either end of the range
+  they are refused.
 * Messages with many components and elements, and with a part of many bytes, are written, read, copied and written again: none is refused
   for lack of memory, which no contract can say. Those at the limit are written, those above it refused.
 
@@ -90,7 +92,7 @@ AUTHENTICATOR = application(
     (4, "microseconds", "must"),
     (5, "time", "must"),
     (6, ENCRYPTION_KEY, "may"),
-    (7, "uint32", "may"),
+    (7, "seq_number", "may"),
     (8, AUTHORIZATION_DATA, "may"),
 )
 
@@ -103,7 +105,7 @@ ENC_AP_REP_PART = application(
     (0, "time", "must"),
     (1, "microseconds", "must"),
     (2, ENCRYPTION_KEY, "may"),
-    (3, "uint32", "may"),
+    (3, "seq_number", "may"),
 )
 
 # Section 5.9.1: pvno, msg-type, ctime, cusec, stime, susec, error-code, crealm, cname, realm, sname, e-text, e-data.
@@ -229,9 +231,9 @@ def of_value(title, word, data):
         yield f"{word} without a field", *zip(*(parse(kind, it) for it in lacking(data)))
 
 
-def message(kind, many, parts):
+def message(kind, many, parts, number=2**32 - 1):
     """A message whose names have so many components and lists so many elements, and with parts of so many bytes: a realm, a last component
-    of a name, what is sealed or a key, what stands beside it, a last element of a list, and one of a second list."""
+    of a name, what is sealed or a key, what stands beside it, a last element of a list, and one of a second list. A sequence number is this one."""
     realm, last, main, beside, one, two = (b"\x07" * it for it in parts)
 
     def named(content=last):
@@ -252,10 +254,10 @@ def message(kind, many, parts):
         "ap-req": (0x6E, [(0, integer(5)), (1, integer(14)), (2, flags(1 << 29)), (3, shared), (4, sealed(19, beside, 3))]),
         "authenticator": (0x62, [
             (0, integer(5)), (1, text_string(realm)), (2, named()), (3, typed(1, beside)), (4, integer(5)), (5, moment), (6, key),
-            (7, integer(2**32 - 1)), (8, listed(one)),
+            (7, integer(number)), (8, listed(one)),
         ]),
         "ap-rep": (0x6F, [(0, integer(5)), (1, integer(15)), (2, cipher)]),
-        "enc-ap-rep": (0x7B, [(0, moment), (1, integer(5)), (2, key), (3, integer(128))]),
+        "enc-ap-rep": (0x7B, [(0, moment), (1, integer(5)), (2, key), (3, integer(number))]),
         "krb-error": (0x7E, [
             (0, integer(5)), (1, integer(30)), (2, moment), (3, integer(5)), (4, moment), (5, integer(5)), (6, integer(37)), (7, text_string(one)),
             (8, named(two)), (9, text_string(realm)), (10, named()), (11, text_string(beside)), (12, octet_string(main)),
@@ -280,6 +282,21 @@ def many():
     for count in range(301):
         for kind in TYPES:
             yield f"{kind} with {count} components and elements", *written(kind, message(kind, count, [0] * 6))
+
+
+def of_negative_numbers():
+    """A message whose sequence number stands as a negative number has the value of the one that is written for it."""
+    for kind in ("authenticator", "enc-ap-rep"):
+        for number in (-(2**31), -(2**31) + 1, -32_769, -129, -128, -1):
+            signed, plain = (message(kind, 2, [0] * 6, it) for it in (number, number + 2**32))
+            expect(answer(TYPES[kind], signed), answer(TYPES[kind], plain), signed)
+            lines = [f"msg parse {kind} {packed(signed)}", f"msg again {kind} {packed(signed)}"]
+            yield f"{kind} with the sequence number {number}", lines, [answer(TYPES[kind], plain), packed(plain)]
+        for number in (-(2**31) - 1, 2**32):
+            data = message(kind, 2, [0] * 6, number)
+            line = parse(kind, data)
+            expect(line[1].split()[0], "Integer", data)
+            yield f"{kind} with the sequence number {number}", [line[0]], [line[1]]
 
 
 def long():
@@ -325,5 +342,5 @@ def drawn():
     for title, word, data in VALUES:
         for it in of_value(title, word, data):
             yield PROGRAM, it[0], list(it[1]), list(it[2])
-    for it in (*many(), *long(), *at_the_limit(), *with_elements_too_many()):
+    for it in (*many(), *of_negative_numbers(), *long(), *at_the_limit(), *with_elements_too_many()):
         yield PROGRAM, it[0], list(it[1]), list(it[2])

@@ -133,6 +133,10 @@ def convert_keytab(data):
     return within_limit(b"\x05\x02" + b"".join(record_of(it) for it in keytab(data)))
 
 
+# What credential caches begin with: the older version has no header, and each encryption type twice.
+OLD, NEW = b"\x05\x03", b"\x05\x04"
+
+
 def cache_principal(reader):
     name_type, count = reader.number("i"), reader.number("I")
     realm = reader.data32()
@@ -149,9 +153,12 @@ def typed_list(reader):
     return items
 
 
-def credential(reader):
+def credential(reader, version):
     item = {"client": cache_principal(reader), "server": cache_principal(reader)}
-    item["etype"], item["key"] = reader.number("h"), reader.data32()
+    item["etype"] = reader.number("h")
+    if version == OLD:
+        reader.take(2)
+    item["key"] = reader.data32()
     for word in ("authtime", "starttime", "endtime", "renew_till"):
         item[word] = reader.number("I")
     item["is_skey"] = reader.number("B")
@@ -177,11 +184,12 @@ def cache(data):
     """Header fields, default principal and credentials of a credential cache; raises its Fault."""
     if len(data) > LIMIT:
         raise Fault("TooLong")
-    if data[:2] != b"\x05\x04":
+    version = data[:2]
+    if version not in (OLD, NEW):
         raise Fault("Version")
     reader = Reader(data, 2)
     try:
-        fields = header_fields(reader.data16())
+        fields = header_fields(reader.data16()) if version == NEW else []
     except Short:
         raise Fault("Header") from None
     start = reader.at
@@ -190,7 +198,7 @@ def cache(data):
         credentials = []
         while reader.at < reader.end:
             start = reader.at
-            credentials.append(credential(reader))
+            credentials.append(credential(reader, version))
     except Short:
         raise Fault("BadItem", start) from None
     return fields, default, credentials
@@ -221,7 +229,29 @@ def check_ccache(data):
     return f"ok {len(cache(data)[2])}\n"
 
 
+def data32_of(text):
+    return struct.pack(">I", len(text)) + text
+
+
+def name_of(name):
+    components = b"".join(map(data32_of, name["components"]))
+    return struct.pack(">iI", name["name_type"], len(name["components"])) + data32_of(name["realm"]) + components
+
+
+def list_of(items):
+    return struct.pack(">I", len(items)) + b"".join(struct.pack(">H", kind) + data32_of(text) for kind, text in items)
+
+
+def credential_of(item):
+    front = name_of(item["client"]) + name_of(item["server"]) + struct.pack(">h", item["etype"]) + data32_of(item["key"])
+    times = [item[word] for word in ("authtime", "starttime", "endtime", "renew_till")]
+    lists = list_of(item["addresses"]) + list_of(item["authdata"])
+    return front + struct.pack(">4IBI", *times, item["is_skey"], item["flags"]) + lists + data32_of(item["ticket"]) + data32_of(item["second_ticket"])
+
+
 def convert_ccache(data):
-    """A cache that can be read is written as the same bytes."""
-    cache(data)
-    return data
+    """A cache that can be read is written as one of the newer version: if it is of that, as the same bytes."""
+    _, default, credentials = cache(data)
+    if data[:2] == NEW:
+        return data
+    return within_limit(NEW + bytes(2) + name_of(default) + b"".join(map(credential_of, credentials)))

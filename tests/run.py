@@ -8,8 +8,8 @@ Then it compares the tables of the crates' tests with the scripts that make them
 (tests/refused.py), and those of further calls of the library (tests/calls.py and tests/refused_lines.py, by the programs of the crates
 krb_calls and krb_calls_exchange), runs it within less and less memory (tests/limited.py), hands the calls of files lengths and counts that
 the bytes don't bear out (tests/claimed.py, by the program of the crate krb_calls_files), lets its reads and writes fail (tests/failing.py),
-compares it with a second client and service on generated input (tests/exchange.py), and ends with what MIT's tools say of files that the
-program wrote (tests/peers.py; Debian's package krb5-user).
+compares it with a second client and service on generated input (tests/exchange.py), starts a service again and again (tests/restarts.py),
+and ends with what MIT's tools say of files that the program wrote (tests/peers.py; Debian's package krb5-user).
 
 A case is a table [[case]] of a TOML file:
 
@@ -59,13 +59,14 @@ import limited  # noqa: E402
 import peers  # noqa: E402
 import refused  # noqa: E402
 import refused_lines  # noqa: E402
+import restarts  # noqa: E402
 import script  # noqa: E402
 import tables  # noqa: E402
 
 WORDS = """name args files folders links umask stdin output closed status stdout stdout_begins stdout_holds stderr stderr_begins
     after modes gone"""
 KEYS = set(WORDS.split())
-PARTS = (tables, documents, script, refused, calls, refused_lines, limited, claimed, failing, dialogue, exchange, peers)
+PARTS = (tables, documents, script, refused, calls, refused_lines, limited, claimed, failing, dialogue, exchange, restarts, peers)
 
 
 def content(text):

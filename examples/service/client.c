@@ -28,7 +28,9 @@ static int say(int peer, const char *text, const fevstunik_agreement *agreement,
 
 int main(int count, char **words)
 {
-    static struct bytes cache, request, reply;
+    static struct bytes file, request, reply;
+    fevstunik_cache cache = FEVSTUNIK_CACHE_INIT;
+    fevstunik_pending pending = FEVSTUNIK_PENDING_INIT;
     uint8_t confounder[16], subkey[SUBKEY_SIZE], bytes[4096];
     fevstunik_choice choice = {SUBKEY_TYPE, 0, false, true};
     fevstunik_agreement agreement;
@@ -38,12 +40,15 @@ int main(int count, char **words)
 
     if (count != 5 && count != 6)
         return 2;
-    read_file(words[1], &cache);
+    read_file(words[1], &file);
     at = clock_now();
     draw(confounder, sizeof confounder);
     draw(subkey, sizeof subkey);
-    answer = fevstunik_request(cache.at, cache.size, (const uint8_t *)words[2], strlen(words[2]), &at, confounder, sizeof confounder, &choice,
-                               subkey, sizeof subkey, request.at, sizeof request.at);
+    answer = fevstunik_cache_new(&cache, file.at, file.size);
+    if (answer.code == FEVSTUNIK_OK)
+        answer = fevstunik_request(&cache, &pending, (const uint8_t *)words[2], strlen(words[2]), &at, confounder, sizeof confounder, &choice,
+                                   subkey, sizeof subkey, request.at, sizeof request.at);
+    fevstunik_cache_free(&cache);
     if (answer.code != FEVSTUNIK_OK) {
         fprintf(stderr, "client: no request: %s\n", fevstunik_code_text(answer.code));
         return 2;
@@ -52,8 +57,7 @@ int main(int count, char **words)
         peer = connect_to(atoi(words[3]));
         if (!transmit(peer, request.at, answer.size) || !receive(peer, &reply))
             return 2;
-        if (fevstunik_finish(cache.at, cache.size, (const uint8_t *)words[2], strlen(words[2]), &at, &choice, subkey, sizeof subkey, reply.at,
-                             reply.size, &agreement, bytes, sizeof bytes).code != FEVSTUNIK_OK)
+        if (fevstunik_finish(&pending, reply.at, reply.size, &agreement, bytes, sizeof bytes).code != FEVSTUNIK_OK)
             printf("refused: %zu bytes of type %02x\n", reply.size, (unsigned)reply.at[0]);
         else if (say(peer, words[4], &agreement, bytes, subkey))
             printf("agreed as %.*s\n", (int)agreement.client.size, (const char *)bytes + agreement.client.at);
@@ -61,5 +65,6 @@ int main(int count, char **words)
             printf("no receipt\n");
         close(peer);
     }
+    fevstunik_pending_free(&pending);
     return 0;
 }

@@ -1,8 +1,10 @@
 /* A service over TCP on the loopback. It takes requests for mutual authentication, replies with a subkey of its own, opens the text that
  * the client sends under that key, and sends a receipt under the client's.
  *
- *     service KEYTAB NAME COUNT      NAME as host/web@EX; it ends after so many connections
+ *     service KEYTAB NAME COUNT [first]      NAME as host/web@EX; it ends after so many connections
  *
+ * It may have run before, so it is quiet at first: until the skew has passed, it refuses requests as FEVSTUNIK_JUST_STARTED. With `first`
+ * it had no earlier life, and accepts at once.
  * It prints its port first, and then a line for each connection: `CLIENT: TEXT`, or `refused CODE` with the code's name. */
 #include "sources.h"
 
@@ -30,7 +32,7 @@ static int confirm(int to, const fevstunik_known *known, const uint8_t *bytes, c
 }
 
 /* Replies to what was accepted, with a subkey of the session key's type, and reads a text under it. */
-static void converse(fevstunik_acceptor *service, int peer)
+static void converse(const fevstunik_accepted *accepted, int peer)
 {
     static struct bytes text;
     uint8_t confounder[16], subkey[32], bytes[4096], reply[256], plain[MOST];
@@ -38,12 +40,12 @@ static void converse(fevstunik_acceptor *service, int peer)
     fevstunik_known known;
     fevstunik_answer answer;
 
-    if (fevstunik_acceptor_accepted(service, &known, bytes, sizeof bytes).code != FEVSTUNIK_OK || !known.wants_reply)
+    if (fevstunik_accepted_known(accepted, &known, bytes, sizeof bytes).code != FEVSTUNIK_OK || !known.wants_reply)
         return;
     choice.subkey_type = known.session_type;
     draw(confounder, sizeof confounder);
     draw(subkey, sizeof subkey);
-    answer = fevstunik_acceptor_reply(service, confounder, sizeof confounder, &choice, subkey, known.session_key.size, reply, sizeof reply);
+    answer = fevstunik_accepted_reply(accepted, confounder, sizeof confounder, &choice, subkey, known.session_key.size, reply, sizeof reply);
     if (answer.code != FEVSTUNIK_OK || !transmit(peer, reply, answer.size) || !receive(peer, &text))
         return;
     answer = fevstunik_open(choice.subkey_type, subkey, known.session_key.size, TEXT_USAGE, text.at, text.size, plain, sizeof plain);
@@ -53,7 +55,7 @@ static void converse(fevstunik_acceptor *service, int peer)
         printf("a bent text\n");
 }
 
-static void serve(fevstunik_acceptor *service, const char *name, int peer)
+static void serve(fevstunik_acceptor *service, fevstunik_accepted *accepted, const char *name, int peer)
 {
     static struct bytes request;
     fevstunik_time now;
@@ -62,24 +64,37 @@ static void serve(fevstunik_acceptor *service, const char *name, int peer)
     if (!receive(peer, &request))
         return;
     now = clock_now();
-    answer = fevstunik_acceptor_accept(service, request.at, request.size, &now);
+    answer = fevstunik_acceptor_accept(service, accepted, request.at, request.size, &now);
     if (answer.code == FEVSTUNIK_OK)
-        converse(service, peer);
+        converse(accepted, peer);
     else
         refuse(name, peer, answer);
+}
+
+/* A service that may have run before, unless this is its first start. */
+static fevstunik_answer make_service(fevstunik_acceptor *service, const struct bytes *keytab, const char *name, int is_first)
+{
+    fevstunik_time start = clock_now();
+
+    if (is_first)
+        return fevstunik_acceptor_new(service, keytab->at, keytab->size, 300, (const uint8_t *)name, strlen(name));
+    return fevstunik_acceptor_started(service, keytab->at, keytab->size, 300, (const uint8_t *)name, strlen(name), &start);
 }
 
 int main(int count, char **words)
 {
     static struct bytes keytab;
     fevstunik_acceptor service = FEVSTUNIK_ACCEPTOR_INIT;
+    fevstunik_accepted accepted = FEVSTUNIK_ACCEPTED_INIT;
     fevstunik_answer made;
     int listener, peer, left;
 
-    if (count != 4)
+    if (count != 4 && (count != 5 || strcmp(words[4], "first") != 0))
         return 2;
     read_file(words[1], &keytab);
-    made = fevstunik_acceptor_new(&service, keytab.at, keytab.size, 300, (const uint8_t *)words[2], strlen(words[2]));
+    made = make_service(&service, &keytab, words[2], count == 5);
+    if (made.code == FEVSTUNIK_OK)
+        made = fevstunik_accepted_new(&accepted);
     if (made.code != FEVSTUNIK_OK) {
         fprintf(stderr, "service: no acceptor: %s\n", fevstunik_code_text(made.code));
         return 2;
@@ -87,10 +102,11 @@ int main(int count, char **words)
     listener = listen_on_any();
     for (left = atoi(words[3]); left > 0; left--) {
         peer = accept_from(listener);
-        serve(&service, words[2], peer);
+        serve(&service, &accepted, words[2], peer);
         fflush(stdout);
         close(peer);
     }
+    fevstunik_accepted_free(&accepted);
     fevstunik_acceptor_free(&service);
     return 0;
 }

@@ -2,7 +2,7 @@
  * the keytab and of the cache, and the reply in hex. Lines of standard input have what tests/c_cases.py makes:
  *
  *     request CODE KERBEROS HEX      a new service with the keytab answers this to the request
- *     cache CODE KERBEROS HEX        this is answered where a request is asked for with the cache, or its reply is finished */
+ *     cache CODE KERBEROS HEX        this is answered where a request is asked for with the cache */
 #include "checks.h"
 
 /* One byte more than a file may have, and than a message may have. */
@@ -29,17 +29,22 @@ static struct asked usual(void)
     return it;
 }
 
-/* The same fault prevents a request and its reply's being finished. */
+/* A fault prevents a request: of a cache's file that it is read, else that it is built. Nothing is awaited of it. */
 static void prevented(const char *what, struct asked it, unsigned code, size_t at)
 {
     fevstunik_choice choice = {0, 0, false, true};
-    fevstunik_agreement agreement;
+    fevstunik_cache held = FEVSTUNIK_CACHE_INIT;
+    fevstunik_pending pending = FEVSTUNIK_PENDING_INIT;
+    fevstunik_answer answer = fevstunik_cache_new(&held, it.cache, it.cache_size);
 
     choice.subkey_type = it.subkey_type;
-    is_answer(what, fevstunik_request(it.cache, it.cache_size, it.service, it.service_size, &it.at, cache.at, 16, &choice, cache.at,
-                                      it.subkey_size, buffer, sizeof buffer), code, 0, at, 0);
-    is_answer(what, fevstunik_finish(it.cache, it.cache_size, it.service, it.service_size, &it.at, &choice, cache.at, it.subkey_size, reply.at,
-                                     reply.size, &agreement, buffer, sizeof buffer), code, 0, at, 0);
+    is(what, held.opaque != NULL, answer.code == FEVSTUNIK_OK);
+    if (answer.code == FEVSTUNIK_OK)
+        answer = fevstunik_request(&held, &pending, it.service, it.service_size, &it.at, cache.at, 16, &choice, cache.at, it.subkey_size,
+                                   buffer, sizeof buffer);
+    is_answer(what, answer, code, 0, at, 0);
+    is("nothing is awaited", pending.opaque == NULL, 1);
+    fevstunik_cache_free(&held);
 }
 
 static struct asked named(const char *service)
@@ -174,11 +179,13 @@ static void services(void)
 static void is_refused(const char *what, const uint8_t *request, size_t size, unsigned code, int kerberos)
 {
     fevstunik_acceptor service = FEVSTUNIK_ACCEPTOR_INIT;
+    fevstunik_accepted accepted = FEVSTUNIK_ACCEPTED_INIT;
     fevstunik_choice choice = {0, 0, false, false};
 
     is_answer("new", fevstunik_acceptor_new(&service, keytab.at, keytab.size, 300, EACH_NAME), FEVSTUNIK_OK, 0, 0, 0);
-    is_answer(what, fevstunik_acceptor_accept(&service, request, size, &sent), code, kerberos, 0, 0);
-    is_answer("no reply", fevstunik_acceptor_reply(&service, request, 16, &choice, request, 0, buffer, sizeof buffer), FEVSTUNIK_NOTHING_THERE,
+    is_answer("ready", fevstunik_accepted_new(&accepted), FEVSTUNIK_OK, 0, 0, 0);
+    is_answer(what, fevstunik_acceptor_accept(&service, &accepted, request, size, &sent), code, kerberos, 0, 0);
+    is_answer("no reply", fevstunik_accepted_reply(&accepted, request, 16, &choice, request, 0, buffer, sizeof buffer), FEVSTUNIK_NOTHING_THERE,
               0, 0, 0);
     is_answer("a long name", fevstunik_acceptor_error(&service, long_name, sizeof long_name, 3, &sent, buffer, sizeof buffer),
               FEVSTUNIK_TOO_LONG, 0, 0, 0);
@@ -189,6 +196,7 @@ static void is_refused(const char *what, const uint8_t *request, size_t size, un
     is("an error by code", fevstunik_error(code, long_name + LONG_NAME - 1, 4, 3, &sent, buffer, sizeof buffer).code, FEVSTUNIK_OK);
     is("its code then", buffer[42], kerberos);
     fevstunik_acceptor_free(&service);
+    fevstunik_accepted_free(&accepted);
 }
 
 static void one(const char *line)

@@ -222,7 +222,7 @@ static void look(fevstunik_answer answer, size_t handed, size_t room, long at)
     counts[answer.code]++;
 }
 
-static void one(fevstunik_acceptor *service, long at)
+static void one(fevstunik_acceptor *service, fevstunik_accepted *accepted, long at)
 {
     static const fevstunik_choice nothing = {0, 0, false, false};
     static const fevstunik_key_parts parts = {1700000000, 3, 3, 19};
@@ -232,6 +232,9 @@ static void one(fevstunik_acceptor *service, long at)
     fevstunik_key_entry entry;
     fevstunik_cache_entry credential;
     fevstunik_owner owner;
+    int32_t kind;
+    fevstunik_cache held = FEVSTUNIK_CACHE_INIT;
+    fevstunik_pending pending = FEVSTUNIK_PENDING_INIT;
     fevstunik_acceptor other = FEVSTUNIK_ACCEPTOR_INIT;
     size_t room = below(3) ? ROOM : below(64);
 
@@ -240,7 +243,7 @@ static void one(fevstunik_acceptor *service, long at)
     case 0:
         bend(&keytab);
         look(fevstunik_acceptor_new(&other, bent.at, bent.size, below(86402), bent.at, below(20)), bent.size, ROOM, at);
-        look(fevstunik_acceptor_accept(&other, request.at, request.size, &now), request.size, ROOM, at);
+        look(fevstunik_acceptor_accept(&other, accepted, request.at, request.size, &now), request.size, ROOM, at);
         look(fevstunik_acceptor_error(&other, bent.at, bent.size, 3, &now, buffer, room), bent.size, room, at);
         look(fevstunik_error(below(300), bent.at, bent.size, 3, &now, buffer, room), bent.size, room, at);
         look(fevstunik_keytab_entry(bent.at, bent.size, below(3), &entry, buffer, room), bent.size, room, at);
@@ -251,31 +254,39 @@ static void one(fevstunik_acceptor *service, long at)
         break;
     case 1:
         bend(&cache);
-        look(fevstunik_request(bent.at, bent.size, (const uint8_t *)"host/web@EX", 11, &now, cache.at, 16, &nothing, cache.at, 0, buffer, room),
+        look(fevstunik_cache_new(&held, bent.at, bent.size), bent.size, ROOM, at);
+        look(fevstunik_request(&held, &pending, (const uint8_t *)"host/web@EX", 11, &now, cache.at, 16, &nothing, cache.at, 0, buffer, room),
              bent.size, room, at);
+        fevstunik_cache_free(&held);
         look(fevstunik_cache_credential(bent.at, bent.size, below(3), &credential, buffer, room), bent.size, room, at);
         look(fevstunik_cache_owner(bent.at, bent.size, &owner, buffer, room), bent.size, room, at);
         look(fevstunik_name_check(bent.at, bent.size), bent.size, ROOM, at);
         break;
     case 2:
         bend_message(&request);
-        look(fevstunik_acceptor_accept(service, bent.at, bent.size, &now), bent.size, ROOM, at);
-        look(fevstunik_acceptor_accepted(service, &known, buffer, room), 0, room, at);
-        look(fevstunik_acceptor_reply(service, cache.at, 16, &nothing, cache.at, 0, buffer, room), 0, room, at);
+        look(fevstunik_acceptor_accept(service, accepted, bent.at, bent.size, &now), bent.size, ROOM, at);
+        look(fevstunik_accepted_known(accepted, &known, buffer, room), 0, room, at);
+        look(fevstunik_accepted_count(accepted, below(6)), 0, ROOM, at);
+        look(fevstunik_accepted_item(accepted, below(6), below(3), &kind, buffer, room), 0, room, at);
+        look(fevstunik_accepted_reply(accepted, cache.at, 16, &nothing, cache.at, 0, buffer, room), 0, room, at);
         if (fevstunik_acceptor_count(service) > 1)
             wrong("what is remembered", at);
         break;
     default:
         bend_message(&reply);
-        look(fevstunik_finish(cache.at, cache.size, (const uint8_t *)"host/web@EX", 11, &now, &nothing, cache.at, 0, bent.at, bent.size,
-                              &agreement, buffer, room),
-             bent.size > cache.size ? bent.size : cache.size, room, at);
+        look(fevstunik_cache_new(&held, cache.at, cache.size), cache.size, ROOM, at);
+        look(fevstunik_request(&held, &pending, (const uint8_t *)"host/web@EX", 11, &now, cache.at, 16, &nothing, cache.at, 0, buffer, room),
+             cache.size, room, at);
+        look(fevstunik_finish(&pending, bent.at, bent.size, &agreement, buffer, room), bent.size, room, at);
+        fevstunik_cache_free(&held);
     }
+    fevstunik_pending_free(&pending);
 }
 
 int main(int count, char **words)
 {
     fevstunik_acceptor service = FEVSTUNIK_ACCEPTOR_INIT;
+    fevstunik_accepted accepted = FEVSTUNIK_ACCEPTED_INIT;
     long at, inputs;
 
     if (count != 7)
@@ -290,9 +301,15 @@ int main(int count, char **words)
         /* A new service now and then, which hasn't seen the request. */
         if (at % 8 == 0 && fevstunik_acceptor_new(&service, keytab.at, keytab.size, 300, (const uint8_t *)"host/web@EX", 11).code != FEVSTUNIK_OK)
             wrong("a new service", at);
-        one(&service, at);
+        /* And now and then nothing is ready for what is accepted, or what was accepted is freed. */
+        if (at % 64 == 0)
+            fevstunik_accepted_free(&accepted);
+        if (at % 64 == 8 && fevstunik_accepted_new(&accepted).code != FEVSTUNIK_OK)
+            wrong("a new place", at);
+        one(&service, &accepted, at);
     }
     fevstunik_acceptor_free(&service);
+    fevstunik_accepted_free(&accepted);
     for (at = 0; at < 64; at++)
         if (counts[at] > 0)
             printf("%ld: %ld\n", at, counts[at]);

@@ -18,6 +18,7 @@ static size_t digits(const char *text)
 int main(int count, char **words)
 {
     fevstunik_acceptor service = FEVSTUNIK_ACCEPTOR_INIT;
+    fevstunik_accepted accepted = FEVSTUNIK_ACCEPTED_INIT;
     fevstunik_time now = {1700000101, 0};
     fevstunik_known known;
     if (count != 4)
@@ -30,13 +31,16 @@ int main(int count, char **words)
     fevstunik_answer answer =
         fevstunik_acceptor_new(&service, keytab, size, 300, (const uint8_t *)words[2], strlen(words[2]));
     if (answer.code == FEVSTUNIK_OK)
-        answer = fevstunik_acceptor_accept(&service, request, digits(words[3]), &now);
+        answer = fevstunik_accepted_new(&accepted);
     if (answer.code == FEVSTUNIK_OK)
-        answer = fevstunik_acceptor_accepted(&service, &known, buffer, sizeof buffer);
+        answer = fevstunik_acceptor_accept(&service, &accepted, request, digits(words[3]), &now);
+    if (answer.code == FEVSTUNIK_OK)
+        answer = fevstunik_accepted_known(&accepted, &known, buffer, sizeof buffer);
     if (answer.code == FEVSTUNIK_OK)
         printf("%.*s\n", (int)known.client.size, (const char *)buffer + known.client.at);
     else
         printf("%s\n", fevstunik_code_name(answer.code));
+    fevstunik_accepted_free(&accepted);
     fevstunik_acceptor_free(&service);
     return 0;
 }

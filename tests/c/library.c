@@ -1,6 +1,6 @@
 /* Runs the library on the exchange that tests share (tests/vectors/fixture.py), with exact answers. The arguments are the files of the
  * keytab and of the cache, and in hex the request, the request with a subkey, the reply, the reply with a subkey, the error, a cache of
- * two credentials with an offset, and a request for another service (tests/c_cases.py). */
+ * two credentials with an offset, a request for another service, and a request with lists (tests/c_cases.py). */
 #include "checks.h"
 
 /* Where the credential begins in the cache: behind the version, an empty header and the default principal. */
@@ -12,8 +12,12 @@
 #define FAR ((size_t)1 << 32)
 #define FILLED ((size_t)0x5a5a5a5a5a5a5a5a)
 
-static struct bytes keytab, cache, request, keyed, reply, keyed_reply, error, two, other;
+static struct bytes keytab, cache, request, keyed, reply, keyed_reply, error, two, other, listed;
 static uint8_t buffer[4096];
+/* What is accepted is kept here, if not said otherwise; the fixture's cache; and what is awaited of its requests. */
+static fevstunik_accepted accepted = FEVSTUNIK_ACCEPTED_INIT;
+static fevstunik_cache credentials = FEVSTUNIK_CACHE_INIT;
+static fevstunik_pending pending = FEVSTUNIK_PENDING_INIT;
 static const fevstunik_choice nothing = {0, 0, false, false};
 
 /* An empty handle answers that it is empty, and stays so. */
@@ -23,10 +27,10 @@ static void empty_handles(void)
     fevstunik_time now = moment(1700000101, 0), bad = moment(0, 1000000);
     fevstunik_known known;
 
-    is_answer("accept of none", fevstunik_acceptor_accept(&service, request.at, request.size, &now), FEVSTUNIK_EMPTY_HANDLE, 0, 0, 0);
-    is_answer("a moment of none", fevstunik_acceptor_accept(&service, request.at, request.size, &bad), FEVSTUNIK_BAD_MOMENT, 0, 0, 0);
-    is_answer("accepted of none", fevstunik_acceptor_accepted(&service, &known, buffer, sizeof buffer), FEVSTUNIK_EMPTY_HANDLE, 0, 0, 0);
-    is_answer("reply of none", fevstunik_acceptor_reply(&service, request.at, 16, &nothing, request.at, 0, buffer, sizeof buffer),
+    is_answer("accept of none", fevstunik_acceptor_accept(&service, &accepted, request.at, request.size, &now), FEVSTUNIK_EMPTY_HANDLE, 0, 0, 0);
+    is_answer("a moment of none", fevstunik_acceptor_accept(&service, &accepted, request.at, request.size, &bad), FEVSTUNIK_BAD_MOMENT, 0, 0, 0);
+    is_answer("accepted of none", fevstunik_accepted_known(&accepted, &known, buffer, sizeof buffer), FEVSTUNIK_EMPTY_HANDLE, 0, 0, 0);
+    is_answer("reply of none", fevstunik_accepted_reply(&accepted, request.at, 16, &nothing, request.at, 0, buffer, sizeof buffer),
               FEVSTUNIK_EMPTY_HANDLE, 0, 0, 0);
     is_answer("error of none", fevstunik_acceptor_error(&service, request.at, 0, 3, &now, buffer, sizeof buffer),
               FEVSTUNIK_EMPTY_HANDLE, 0, 0, 0);
@@ -34,6 +38,94 @@ static void empty_handles(void)
     is("count of none", (long long)fevstunik_acceptor_count(&service), 0);
     fevstunik_acceptor_free(&service);
     is("empty", service.opaque == NULL, 1);
+    is_answer("ready", fevstunik_accepted_new(&accepted), FEVSTUNIK_OK, 0, 0, 0);
+    is("ready", accepted.opaque != NULL, 1);
+    is_answer("accept of none then", fevstunik_acceptor_accept(&service, &accepted, request.at, request.size, &now), FEVSTUNIK_EMPTY_HANDLE, 0,
+              0, 0);
+    is_answer("nothing kept", fevstunik_accepted_known(&accepted, &known, buffer, sizeof buffer), FEVSTUNIK_NOTHING_THERE, 0, 0, 0);
+}
+
+/* Where nothing is ready for what is accepted, nothing is decided. */
+static void unready(void)
+{
+    fevstunik_acceptor service = FEVSTUNIK_ACCEPTOR_INIT;
+    fevstunik_accepted none = FEVSTUNIK_ACCEPTED_INIT;
+    fevstunik_time now = moment(1700000101, 7), late = moment(1700000401, 0), bad = moment(0, 1000000), latest;
+
+    is_answer("new", fevstunik_acceptor_new(&service, keytab.at, keytab.size, 300, EACH_NAME), FEVSTUNIK_OK, 0, 0, 0);
+    is_answer("unready", fevstunik_acceptor_accept(&service, &none, request.at, request.size, &now), FEVSTUNIK_EMPTY_HANDLE, 0, 0, 0);
+    is("it stays so", none.opaque == NULL, 1);
+    is("nothing is seen", (long long)fevstunik_acceptor_count(&service), 0);
+    is_answer("no moment", fevstunik_acceptor_latest(&service, &latest), FEVSTUNIK_NOTHING_THERE, 0, 0, 0);
+    is_answer("late", fevstunik_acceptor_accept(&service, &accepted, keyed.at, keyed.size, &late), FEVSTUNIK_SKEW, 37, 0, 0);
+    is_answer("unready then", fevstunik_acceptor_accept(&service, &none, request.at, request.size, &now), FEVSTUNIK_EMPTY_HANDLE, 0, 0, 0);
+    is_answer("the cause stays", fevstunik_acceptor_error(&service, WEB, 3, &now, buffer, sizeof buffer), FEVSTUNIK_OK, 0, 0, error.size);
+    is_answer("unready, no moment", fevstunik_acceptor_accept(&service, &none, request.at, request.size, &bad), FEVSTUNIK_BAD_MOMENT, 0, 0, 0);
+    is_answer("the cause is gone", fevstunik_acceptor_error(&service, WEB, 3, &now, buffer, sizeof buffer), FEVSTUNIK_NOTHING_THERE, 0, 0, 0);
+    fevstunik_accepted_free(&none);
+    is("free of none", none.opaque == NULL, 1);
+    fevstunik_acceptor_free(&service);
+}
+
+/* What is handed out of a handle: the client's subkey's type and number, or that nothing is kept there. */
+static void is_kept(const char *what, const fevstunik_accepted *kept, int32_t subkey_type, uint32_t seq)
+{
+    fevstunik_known known;
+    size_t size = subkey_type == 20 ? 67 : 35;
+
+    is_answer(what, fevstunik_accepted_known(kept, &known, buffer, sizeof buffer), FEVSTUNIK_OK, 0, 0, size);
+    is_bytes(what, buffer + known.client.at, "alice@EX", 8);
+    is(what, known.subkey_type, subkey_type);
+    is(what, known.seq, seq);
+}
+
+/* Two requests of one service are kept side by side, also after the service is freed. */
+static void kept_apart(void)
+{
+    fevstunik_acceptor service = FEVSTUNIK_ACCEPTOR_INIT, none = FEVSTUNIK_ACCEPTOR_INIT;
+    fevstunik_accepted first = FEVSTUNIK_ACCEPTED_INIT, second = FEVSTUNIK_ACCEPTED_INIT;
+    fevstunik_time now = moment(1700000100, 5);
+    fevstunik_known known;
+
+    is_answer("new", fevstunik_acceptor_new(&service, keytab.at, keytab.size, 300, EACH_NAME), FEVSTUNIK_OK, 0, 0, 0);
+    is_answer("ready", fevstunik_accepted_new(&first), FEVSTUNIK_OK, 0, 0, 0);
+    is_answer("ready too", fevstunik_accepted_new(&second), FEVSTUNIK_OK, 0, 0, 0);
+    is_answer("the first", fevstunik_acceptor_accept(&service, &first, keyed.at, keyed.size, &now), FEVSTUNIK_OK, 0, 0, 0);
+    is_kept("the first is kept", &first, 20, 4294967295);
+    is_answer("not yet", fevstunik_accepted_known(&second, &known, buffer, sizeof buffer), FEVSTUNIK_NOTHING_THERE, 0, 0, 0);
+    is_answer("a repeat", fevstunik_acceptor_accept(&service, &second, keyed.at, keyed.size, &now), FEVSTUNIK_REPEAT, 34, 0, 0);
+    is_kept("the first stays", &first, 20, 4294967295);
+    fevstunik_acceptor_free(&service);
+    is_kept("without the service", &first, 20, 4294967295);
+    is_answer("another", fevstunik_acceptor_new(&service, keytab.at, keytab.size, 300, EACH_NAME), FEVSTUNIK_OK, 0, 0, 0);
+    is_answer("the second", fevstunik_acceptor_accept(&service, &second, request.at, request.size, &now), FEVSTUNIK_OK, 0, 0, 0);
+    is_kept("the second is kept", &second, 0, 0);
+    is_kept("and the first", &first, 20, 4294967295);
+    is_answer("into the first", fevstunik_acceptor_accept(&service, &first, request.at, request.size, &now), FEVSTUNIK_REPEAT, 34, 0, 0);
+    is_answer("that is empty", fevstunik_accepted_known(&first, &known, buffer, sizeof buffer), FEVSTUNIK_NOTHING_THERE, 0, 0, 0);
+    is_kept("the second stays", &second, 0, 0);
+    is_answer("of no service", fevstunik_acceptor_accept(&none, &second, request.at, request.size, &now), FEVSTUNIK_EMPTY_HANDLE, 0, 0, 0);
+    is_answer("nothing then", fevstunik_accepted_known(&second, &known, buffer, sizeof buffer), FEVSTUNIK_NOTHING_THERE, 0, 0, 0);
+    fevstunik_acceptor_free(&service);
+    fevstunik_accepted_free(&first);
+    is_answer("freed", fevstunik_accepted_known(&first, &known, buffer, sizeof buffer), FEVSTUNIK_EMPTY_HANDLE, 0, 0, 0);
+    is("freed", first.opaque == NULL, 1);
+    fevstunik_accepted_free(&second);
+}
+
+/* A handle that is made ready again has forgotten what it kept. */
+static void ready_again(void)
+{
+    fevstunik_acceptor service = FEVSTUNIK_ACCEPTOR_INIT;
+    fevstunik_time now = moment(1700000100, 5);
+    fevstunik_known known;
+
+    is_answer("new", fevstunik_acceptor_new(&service, keytab.at, keytab.size, 300, EACH_NAME), FEVSTUNIK_OK, 0, 0, 0);
+    is_answer("accept", fevstunik_acceptor_accept(&service, &accepted, keyed.at, keyed.size, &now), FEVSTUNIK_OK, 0, 0, 0);
+    is_kept("kept", &accepted, 20, 4294967295);
+    is_answer("ready again", fevstunik_accepted_new(&accepted), FEVSTUNIK_OK, 0, 0, 0);
+    is_answer("forgotten", fevstunik_accepted_known(&accepted, &known, buffer, sizeof buffer), FEVSTUNIK_NOTHING_THERE, 0, 0, 0);
+    fevstunik_acceptor_free(&service);
 }
 
 /* A service isn't made of what is no keytab, or with too great a skew, and one that was made stays. */
@@ -56,16 +148,19 @@ static void is_accepted(fevstunik_acceptor *service)
     fevstunik_known known;
 
     is_answer("no moment", fevstunik_acceptor_latest(service, &latest), FEVSTUNIK_NOTHING_THERE, 0, 0, 0);
-    is_answer("none yet", fevstunik_acceptor_accepted(service, &known, buffer, sizeof buffer), FEVSTUNIK_NOTHING_THERE, 0, 0, 0);
-    is_answer("accept", fevstunik_acceptor_accept(service, request.at, request.size, &now), FEVSTUNIK_OK, 0, 0, 0);
+    is_answer("ready", fevstunik_accepted_new(&accepted), FEVSTUNIK_OK, 0, 0, 0);
+    memset(&known, 0x5a, sizeof known);
+    is_answer("none yet", fevstunik_accepted_known(&accepted, &known, buffer, sizeof buffer), FEVSTUNIK_NOTHING_THERE, 0, 0, 0);
+    is("known stays", known.flags == 0x5a5a5a5a && known.client.size == FILLED && known.session_type == 0x5a5a5a5a, 1);
+    is_answer("accept", fevstunik_acceptor_accept(service, &accepted, request.at, request.size, &now), FEVSTUNIK_OK, 0, 0, 0);
     is("count", (long long)fevstunik_acceptor_count(service), 1);
     is_answer("latest", fevstunik_acceptor_latest(service, &latest), FEVSTUNIK_OK, 0, 0, 0);
     is("latest second", latest.seconds, 1700000101);
     is("latest micros", latest.micros, 7);
     memset(buffer, 0xaa, sizeof buffer);
-    is_answer("short", fevstunik_acceptor_accepted(service, &known, buffer, 34), FEVSTUNIK_SHORT_BUFFER, 0, 0, 35);
+    is_answer("short", fevstunik_accepted_known(&accepted, &known, buffer, 34), FEVSTUNIK_SHORT_BUFFER, 0, 0, 35);
     is("not written", buffer[0], 0xaa);
-    is_answer("told", fevstunik_acceptor_accepted(service, &known, buffer, 35), FEVSTUNIK_OK, 0, 0, 35);
+    is_answer("told", fevstunik_accepted_known(&accepted, &known, buffer, 35), FEVSTUNIK_OK, 0, 0, 35);
     is("behind", buffer[35], 0xaa);
     is("client at", (long long)known.client.at, 0);
     is("client size", (long long)known.client.size, 8);
@@ -91,7 +186,7 @@ static void is_accepted(fevstunik_acceptor *service)
     is("wants reply", known.wants_reply, 0);
 }
 
-static fevstunik_answer reply_of(fevstunik_acceptor *service, size_t confounder_size, int32_t type, size_t subkey_size, size_t room)
+static fevstunik_answer reply_of(size_t confounder_size, int32_t type, size_t subkey_size, size_t room)
 {
     uint8_t confounder[17], subkey[32];
     fevstunik_choice choice = nothing;
@@ -104,19 +199,19 @@ static fevstunik_answer reply_of(fevstunik_acceptor *service, size_t confounder_
     choice.subkey_type = type;
     choice.has_seq = type != 0;
     choice.seq = 128;
-    return fevstunik_acceptor_reply(service, confounder, confounder_size, &choice, subkey, subkey_size, buffer, room);
+    return fevstunik_accepted_reply(&accepted, confounder, confounder_size, &choice, subkey, subkey_size, buffer, room);
 }
 
 /* The replies are those of the fixture, to the byte; what isn't replied to says why. */
-static void replies(fevstunik_acceptor *service)
+static void replies(void)
 {
-    is_answer("confounder", reply_of(service, 17, 0, 0, sizeof buffer), FEVSTUNIK_BAD_CONFOUNDER, 0, 0, 0);
-    is_answer("type", reply_of(service, 16, 18, 32, sizeof buffer), FEVSTUNIK_KEY_TYPE, 0, 0, 0);
-    is_answer("length", reply_of(service, 16, 20, 16, sizeof buffer), FEVSTUNIK_KEY_LENGTH, 0, 0, 0);
-    is_answer("short reply", reply_of(service, 16, 0, 0, reply.size - 1), FEVSTUNIK_SHORT_BUFFER, 0, 0, reply.size);
-    is_answer("reply", reply_of(service, 16, 0, 0, sizeof buffer), FEVSTUNIK_OK, 0, 0, reply.size);
+    is_answer("confounder", reply_of(17, 0, 0, sizeof buffer), FEVSTUNIK_BAD_CONFOUNDER, 0, 0, 0);
+    is_answer("type", reply_of(16, 18, 32, sizeof buffer), FEVSTUNIK_KEY_TYPE, 0, 0, 0);
+    is_answer("length", reply_of(16, 20, 16, sizeof buffer), FEVSTUNIK_KEY_LENGTH, 0, 0, 0);
+    is_answer("short reply", reply_of(16, 0, 0, reply.size - 1), FEVSTUNIK_SHORT_BUFFER, 0, 0, reply.size);
+    is_answer("reply", reply_of(16, 0, 0, sizeof buffer), FEVSTUNIK_OK, 0, 0, reply.size);
     is_bytes("reply", buffer, reply.at, reply.size);
-    is_answer("keyed reply", reply_of(service, 16, 19, 16, sizeof buffer), FEVSTUNIK_OK, 0, 0, keyed_reply.size);
+    is_answer("keyed reply", reply_of(16, 19, 16, sizeof buffer), FEVSTUNIK_OK, 0, 0, keyed_reply.size);
     is_bytes("keyed reply", buffer, keyed_reply.at, keyed_reply.size);
 }
 
@@ -126,16 +221,16 @@ static void is_refused(fevstunik_acceptor *service)
     fevstunik_time now = moment(1700000101, 0), late = moment(1700000400, 6);
     fevstunik_known known;
 
-    is_answer("repeat", fevstunik_acceptor_accept(service, request.at, request.size, &now), FEVSTUNIK_REPEAT, 34, 0, 0);
-    is_answer("none then", fevstunik_acceptor_accepted(service, &known, buffer, sizeof buffer), FEVSTUNIK_NOTHING_THERE, 0, 0, 0);
-    is_answer("no reply then", reply_of(service, 16, 0, 0, sizeof buffer), FEVSTUNIK_NOTHING_THERE, 0, 0, 0);
-    is_answer("another message", fevstunik_acceptor_accept(service, reply.at, reply.size, &now), FEVSTUNIK_MESSAGE_TYPE, 40, 0, 0);
-    is_answer("no bytes", fevstunik_acceptor_accept(service, request.at, 0, &now), FEVSTUNIK_MALFORMED, 60, 0, 0);
-    is_answer("one byte", fevstunik_acceptor_accept(service, request.at, 1, &now), FEVSTUNIK_MALFORMED, 60, 1, 0);
+    is_answer("repeat", fevstunik_acceptor_accept(service, &accepted, request.at, request.size, &now), FEVSTUNIK_REPEAT, 34, 0, 0);
+    is_answer("none then", fevstunik_accepted_known(&accepted, &known, buffer, sizeof buffer), FEVSTUNIK_NOTHING_THERE, 0, 0, 0);
+    is_answer("no reply then", reply_of(16, 0, 0, sizeof buffer), FEVSTUNIK_NOTHING_THERE, 0, 0, 0);
+    is_answer("another message", fevstunik_acceptor_accept(service, &accepted, reply.at, reply.size, &now), FEVSTUNIK_MESSAGE_TYPE, 40, 0, 0);
+    is_answer("no bytes", fevstunik_acceptor_accept(service, &accepted, request.at, 0, &now), FEVSTUNIK_MALFORMED, 60, 0, 0);
+    is_answer("one byte", fevstunik_acceptor_accept(service, &accepted, request.at, 1, &now), FEVSTUNIK_MALFORMED, 60, 1, 0);
     request.at[request.size - 1] ^= 1;
-    is_answer("bent", fevstunik_acceptor_accept(service, request.at, request.size, &now), FEVSTUNIK_AUTHENTICATOR_INTEGRITY, 31, 0, 0);
+    is_answer("bent", fevstunik_acceptor_accept(service, &accepted, request.at, request.size, &now), FEVSTUNIK_AUTHENTICATOR_INTEGRITY, 31, 0, 0);
     request.at[request.size - 1] ^= 1;
-    is_answer("late", fevstunik_acceptor_accept(service, keyed.at, keyed.size, &late), FEVSTUNIK_SKEW, 37, 0, 0);
+    is_answer("late", fevstunik_acceptor_accept(service, &accepted, keyed.at, keyed.size, &late), FEVSTUNIK_SKEW, 37, 0, 0);
     is("count then", (long long)fevstunik_acceptor_count(service), 0);
 }
 
@@ -181,16 +276,16 @@ static void errors(void)
 
     is_answer("new", fevstunik_acceptor_new(&service, keytab.at, keytab.size, 300, EACH_NAME), FEVSTUNIK_OK, 0, 0, 0);
     is_answer("no error yet", error_of(&service, "host/web@EX", now, sizeof buffer), FEVSTUNIK_NOTHING_THERE, 0, 0, 0);
-    is_answer("accept", fevstunik_acceptor_accept(&service, request.at, request.size, &now), FEVSTUNIK_OK, 0, 0, 0);
+    is_answer("accept", fevstunik_acceptor_accept(&service, &accepted, request.at, request.size, &now), FEVSTUNIK_OK, 0, 0, 0);
     is_answer("no error of it", error_of(&service, "host/web@EX", now, sizeof buffer), FEVSTUNIK_NOTHING_THERE, 0, 0, 0);
-    is_answer("late", fevstunik_acceptor_accept(&service, keyed.at, keyed.size, &late), FEVSTUNIK_SKEW, 37, 0, 0);
+    is_answer("late", fevstunik_acceptor_accept(&service, &accepted, keyed.at, keyed.size, &late), FEVSTUNIK_SKEW, 37, 0, 0);
     memset(buffer, 0xaa, sizeof buffer);
     is_answer("short error", error_of(&service, "host/web@EX", now, error.size - 1), FEVSTUNIK_SHORT_BUFFER, 0, 0, error.size);
     is("not written", buffer[0], 0xaa);
     is_answer("error", error_of(&service, "host/web@EX", now, error.size), FEVSTUNIK_OK, 0, 0, error.size);
     is_bytes("error", buffer, error.at, error.size);
     is("behind it", buffer[error.size], 0xaa);
-    is_answer("another type", fevstunik_acceptor_accept(&service, reply.at, reply.size, &now), FEVSTUNIK_MESSAGE_TYPE, 40, 0, 0);
+    is_answer("another type", fevstunik_acceptor_accept(&service, &accepted, reply.at, reply.size, &now), FEVSTUNIK_MESSAGE_TYPE, 40, 0, 0);
     is_answer("its error", error_of(&service, "host/web@EX", now, sizeof buffer), FEVSTUNIK_OK, 0, 0, error.size);
     is("its code", buffer[42], 40);
     codes_errors(now);
@@ -213,14 +308,14 @@ static void wanted_services(void)
     for (i = 0; i < sizeof others / sizeof *others; i++) {
         is_answer("another", fevstunik_acceptor_new(&service, keytab.at, keytab.size, 300, (const uint8_t *)others[i], strlen(others[i])),
                   FEVSTUNIK_OK, 0, 0, 0);
-        is_answer(others[i], fevstunik_acceptor_accept(&service, request.at, request.size, &now), FEVSTUNIK_NOT_US, 35, 0, 0);
+        is_answer(others[i], fevstunik_acceptor_accept(&service, &accepted, request.at, request.size, &now), FEVSTUNIK_NOT_US, 35, 0, 0);
         is("nothing is seen", (long long)fevstunik_acceptor_count(&service), 0);
     }
     is_answer("this one", fevstunik_acceptor_new(&service, keytab.at, keytab.size, 300, WEB), FEVSTUNIK_OK, 0, 0, 0);
-    is_answer("accept", fevstunik_acceptor_accept(&service, request.at, request.size, &now), FEVSTUNIK_OK, 0, 0, 0);
-    is_answer("repeat", fevstunik_acceptor_accept(&service, request.at, request.size, &now), FEVSTUNIK_REPEAT, 34, 0, 0);
+    is_answer("accept", fevstunik_acceptor_accept(&service, &accepted, request.at, request.size, &now), FEVSTUNIK_OK, 0, 0, 0);
+    is_answer("repeat", fevstunik_acceptor_accept(&service, &accepted, request.at, request.size, &now), FEVSTUNIK_REPEAT, 34, 0, 0);
     is_answer("each", fevstunik_acceptor_new(&service, keytab.at, keytab.size, 300, EACH_NAME), FEVSTUNIK_OK, 0, 0, 0);
-    is_answer("accept anew", fevstunik_acceptor_accept(&service, request.at, request.size, &now), FEVSTUNIK_OK, 0, 0, 0);
+    is_answer("accept anew", fevstunik_acceptor_accept(&service, &accepted, request.at, request.size, &now), FEVSTUNIK_OK, 0, 0, 0);
     fevstunik_acceptor_free(&service);
 }
 
@@ -436,8 +531,8 @@ static void is_keyed(void)
     size_t i;
 
     is_answer("new", fevstunik_acceptor_new(&service, keytab.at, keytab.size, 0, EACH_NAME), FEVSTUNIK_OK, 0, 0, 0);
-    is_answer("keyed", fevstunik_acceptor_accept(&service, keyed.at, keyed.size, &now), FEVSTUNIK_OK, 0, 0, 0);
-    is_answer("told", fevstunik_acceptor_accepted(&service, &known, buffer, sizeof buffer), FEVSTUNIK_OK, 0, 0, 67);
+    is_answer("keyed", fevstunik_acceptor_accept(&service, &accepted, keyed.at, keyed.size, &now), FEVSTUNIK_OK, 0, 0, 0);
+    is_answer("told", fevstunik_accepted_known(&accepted, &known, buffer, sizeof buffer), FEVSTUNIK_OK, 0, 0, 67);
     is("type", known.subkey_type, 20);
     is("there", known.has_subkey, 1);
     is("at", (long long)known.subkey.at, 24);
@@ -453,6 +548,93 @@ static void is_keyed(void)
     fevstunik_acceptor_free(&service);
 }
 
+static fevstunik_answer item(uint32_t list, size_t index, int32_t *kind, size_t room)
+{
+    memset(buffer, 0xaa, sizeof buffer);
+    *kind = 77;
+    return fevstunik_accepted_item(&accepted, list, index, kind, buffer, room);
+}
+
+/* An item is handed out with room for it, and its type alone with a byte less. */
+static void is_item(const char *what, uint32_t list, size_t index, int32_t kind, const void *bytes, size_t size)
+{
+    int32_t found;
+
+    is_answer(what, item(list, index, &found, size), FEVSTUNIK_OK, 0, 0, size);
+    is(what, found, kind);
+    is_bytes(what, buffer, bytes, size);
+    is("behind it", buffer[size], 0xaa);
+    if (size == 0)
+        return;
+    is_answer(what, item(list, index, &found, size - 1), FEVSTUNIK_SHORT_BUFFER, 0, 0, size);
+    is(what, found, kind);
+    is("not written", buffer[0], 0xaa);
+}
+
+static void is_no_item(const char *what, uint32_t list, size_t index, unsigned code)
+{
+    int32_t kind;
+
+    is_answer(what, item(list, index, &kind, sizeof buffer), code, 0, 0, 0);
+    is("no type", kind, 77);
+    is("no byte", buffer[0], 0xaa);
+}
+
+/* How many items each list has; -1 if it isn't there. */
+static void are_counted(long long addresses, long long ticket, long long authenticator, long long checksum)
+{
+    const long long wanted[] = {-1, addresses, ticket, authenticator, checksum, -1};
+    uint32_t list;
+
+    for (list = 0; list < 6; list++)
+        if (wanted[list] < 0) {
+            is_answer("no list", fevstunik_accepted_count(&accepted, list), FEVSTUNIK_NO_SUCH_ENTRY, 0, 0, 0);
+            is_no_item("no list's item", list, 0, FEVSTUNIK_NO_SUCH_ENTRY);
+        } else {
+            is_answer("a list", fevstunik_accepted_count(&accepted, list), FEVSTUNIK_OK, 0, 0, (size_t)wanted[list]);
+            is_no_item("the item after the last", list, (size_t)wanted[list], FEVSTUNIK_NO_SUCH_ENTRY);
+            is_no_item("an item far on", list, FAR, FEVSTUNIK_NO_SUCH_ENTRY);
+        }
+}
+
+/* Addresses, authorization data and the checksum are handed out item by item. */
+static void lists(void)
+{
+    static const uint8_t near[] = {192, 0, 2, 1};
+    uint8_t sum[16], far[16];
+    fevstunik_accepted none = FEVSTUNIK_ACCEPTED_INIT;
+    fevstunik_acceptor service = FEVSTUNIK_ACCEPTOR_INIT;
+    fevstunik_time now = moment(1700000100, 5);
+    int32_t kind = 77;
+    size_t i;
+
+    for (i = 0; i < 16; i++) {
+        sum[i] = (uint8_t)(0x50 + i);
+        far[i] = (uint8_t)(0xf0 + i);
+    }
+    is_answer("count of none", fevstunik_accepted_count(&none, FEVSTUNIK_LIST_CHECKSUM), FEVSTUNIK_EMPTY_HANDLE, 0, 0, 0);
+    is_answer("item of none", fevstunik_accepted_item(&none, FEVSTUNIK_LIST_CHECKSUM, 0, &kind, buffer, sizeof buffer),
+              FEVSTUNIK_EMPTY_HANDLE, 0, 0, 0);
+    is("no type", kind, 77);
+    is_answer("ready", fevstunik_accepted_new(&accepted), FEVSTUNIK_OK, 0, 0, 0);
+    is_answer("nothing counted", fevstunik_accepted_count(&accepted, FEVSTUNIK_LIST_CHECKSUM), FEVSTUNIK_NOTHING_THERE, 0, 0, 0);
+    is_no_item("nothing there", FEVSTUNIK_LIST_CHECKSUM, 0, FEVSTUNIK_NOTHING_THERE);
+    is_answer("new", fevstunik_acceptor_new(&service, keytab.at, keytab.size, 300, EACH_NAME), FEVSTUNIK_OK, 0, 0, 0);
+    is_answer("accept", fevstunik_acceptor_accept(&service, &accepted, listed.at, listed.size, &now), FEVSTUNIK_OK, 0, 0, 0);
+    are_counted(2, 3, 1, 1);
+    is_item("an address", FEVSTUNIK_LIST_ADDRESSES, 0, 2, near, 4);
+    is_item("another", FEVSTUNIK_LIST_ADDRESSES, 1, 24, far, 16);
+    is_item("the ticket's first", FEVSTUNIK_LIST_TICKET_AUTHORIZATION, 0, 1, "first", 5);
+    is_item("of no bytes", FEVSTUNIK_LIST_TICKET_AUTHORIZATION, 1, 1, "", 0);
+    is_item("the third", FEVSTUNIK_LIST_TICKET_AUTHORIZATION, 2, 1, "the third", 9);
+    is_item("the authenticator's", FEVSTUNIK_LIST_AUTHENTICATOR_AUTHORIZATION, 0, 1, "alone", 5);
+    is_item("the checksum", FEVSTUNIK_LIST_CHECKSUM, 0, -138, sum, 16);
+    is_answer("new again", fevstunik_acceptor_new(&service, keytab.at, keytab.size, 300, EACH_NAME), FEVSTUNIK_OK, 0, 0, 0);
+    is_answer("accept one without", fevstunik_acceptor_accept(&service, &accepted, request.at, request.size, &now), FEVSTUNIK_OK, 0, 0, 0);
+    are_counted(-1, -1, -1, -1);
+    fevstunik_acceptor_free(&service);
+}
+
 /* The service is told as the ticket names it: one that the keytab has beside the fixture's, of another name type, and with a slash in a part. */
 static void another_service(void)
 {
@@ -463,8 +645,8 @@ static void another_service(void)
 
     is("two keys", both.code, FEVSTUNIK_OK);
     is_answer("new", fevstunik_acceptor_new(&service, buffer, both.size, 300, EACH_NAME), FEVSTUNIK_OK, 0, 0, 0);
-    is_answer("accept", fevstunik_acceptor_accept(&service, other.at, other.size, &now), FEVSTUNIK_OK, 0, 0, 0);
-    is_answer("told", fevstunik_acceptor_accepted(&service, &known, buffer, sizeof buffer), FEVSTUNIK_OK, 0, 0, 31);
+    is_answer("accept", fevstunik_acceptor_accept(&service, &accepted, other.at, other.size, &now), FEVSTUNIK_OK, 0, 0, 0);
+    is_answer("told", fevstunik_accepted_known(&accepted, &known, buffer, sizeof buffer), FEVSTUNIK_OK, 0, 0, 31);
     is("at", (long long)known.service.at, 24);
     is("size", (long long)known.service.size, 7);
     is_bytes("service", buffer + 24, "a\\/b@EX", 7);
@@ -474,8 +656,8 @@ static void another_service(void)
     is("authtime", known.authtime, 1700000000);
     is("numbered", known.has_seq, 1);
     is("number", known.seq, 0);
-    is_answer("the fixture's", fevstunik_acceptor_accept(&service, request.at, request.size, &now), FEVSTUNIK_OK, 0, 0, 0);
-    is_answer("told then", fevstunik_acceptor_accepted(&service, &known, buffer, sizeof buffer), FEVSTUNIK_OK, 0, 0, 35);
+    is_answer("the fixture's", fevstunik_acceptor_accept(&service, &accepted, request.at, request.size, &now), FEVSTUNIK_OK, 0, 0, 0);
+    is_answer("told then", fevstunik_accepted_known(&accepted, &known, buffer, sizeof buffer), FEVSTUNIK_OK, 0, 0, 35);
     is_bytes("its service", buffer + known.service.at, "host/web@EX", 11);
     is("its type", known.service_type, 3);
     fevstunik_acceptor_free(&service);
@@ -525,7 +707,7 @@ static fevstunik_answer asked(const char *service, fevstunik_time at, size_t con
     choice.subkey_type = type;
     choice.wants_reply = choice.has_seq = type != 0;
     choice.seq = 4294967295;
-    return fevstunik_request(cache.at, cache.size, (const uint8_t *)service, strlen(service), &at, confounder, confounder_size, &choice,
+    return fevstunik_request(&credentials, &pending, (const uint8_t *)service, strlen(service), &at, confounder, confounder_size, &choice,
                              subkey, sizeof subkey, buffer, room);
 }
 
@@ -548,29 +730,59 @@ static void requests(void)
     is_answer("type", asked("host/web@EX", at, 16, 1, sizeof buffer), FEVSTUNIK_KEY_TYPE, 0, 0, 0);
     is_answer("expired", asked("host/web@EX", moment(1700036000, 0), 16, 0, sizeof buffer), FEVSTUNIK_CREDENTIAL_EXPIRED, 0, 0, 0);
     is_answer("moment", asked("host/web@EX", moment(253402300800, 0), 16, 0, sizeof buffer), FEVSTUNIK_BAD_MOMENT, 0, 0, 0);
-    cache.size--;
-    is_answer("cut off", asked("host/web@EX", at, 16, 0, sizeof buffer), FEVSTUNIK_FILE_BAD_ITEM, 0, CREDENTIAL_AT, 0);
-    cache.size++;
-    cache.at[0]++;
-    is_answer("version", asked("host/web@EX", at, 16, 0, sizeof buffer), FEVSTUNIK_FILE_VERSION, 0, 0, 0);
-    cache.at[0]--;
+    is_answer("cut off", fevstunik_cache_new(&credentials, cache.at, cache.size - 1), FEVSTUNIK_FILE_BAD_ITEM, 0, CREDENTIAL_AT, 0);
+    is_answer("version", fevstunik_cache_new(&credentials, cache.at + 1, cache.size - 1), FEVSTUNIK_FILE_VERSION, 0, 0, 0);
+    is_answer("the cache stays", asked("host/web@EX", at, 16, 0, sizeof buffer), FEVSTUNIK_OK, 0, 0, request.size);
+    is_answer("a cache of none", fevstunik_cache_new(&credentials, cache.at, CREDENTIAL_AT), FEVSTUNIK_OK, 0, 0, 0);
+    is_answer("no credential", asked("host/web@EX", at, 16, 0, sizeof buffer), FEVSTUNIK_NO_CREDENTIAL, 0, 0, 0);
+    is_answer("the cache", fevstunik_cache_new(&credentials, cache.at, cache.size), FEVSTUNIK_OK, 0, 0, 0);
 }
 
-static fevstunik_answer finished(const struct bytes *bytes, fevstunik_time at, fevstunik_agreement *agreement, size_t room)
+/* Handles of the client's side that are empty answer so, and stay so; what is awaited stays where there is no request. */
+static void empty_askings(void)
 {
-    return fevstunik_finish(cache.at, cache.size, (const uint8_t *)"host/web@EX", 11, &at, &nothing, cache.at, 0, bytes->at, bytes->size,
-                            agreement, buffer, room);
+    fevstunik_cache none = FEVSTUNIK_CACHE_INIT;
+    fevstunik_pending nobody = FEVSTUNIK_PENDING_INIT;
+    fevstunik_time at = moment(1700000100, 5);
+    fevstunik_agreement told;
+    uint8_t confounder[16] = {0};
+
+    memset(buffer, 0xaa, sizeof buffer);
+    is_answer("of no cache", fevstunik_request(&none, &nobody, WEB, &at, confounder, 16, &nothing, confounder, 0, buffer, sizeof buffer),
+              FEVSTUNIK_EMPTY_HANDLE, 0, 0, 0);
+    is("nothing is awaited", none.opaque == NULL && nobody.opaque == NULL, 1);
+    is_answer("finish of none", fevstunik_finish(&nobody, reply.at, reply.size, &told, buffer, sizeof buffer), FEVSTUNIK_EMPTY_HANDLE, 0, 0, 0);
+    is("not written", buffer[0], 0xaa);
+    is_answer("no realm", fevstunik_request(&credentials, &nobody, confounder, 0, &at, confounder, 16, &nothing, confounder, 0, buffer,
+                                            sizeof buffer), FEVSTUNIK_NO_REALM, 0, 0, 0);
+    is("nothing is awaited yet", nobody.opaque == NULL, 1);
+    is_answer("short", fevstunik_request(&credentials, &nobody, WEB, &at, confounder, 16, &nothing, confounder, 0, buffer, 0),
+              FEVSTUNIK_SHORT_BUFFER, 0, 0, request.size);
+    is_answer("awaited", fevstunik_finish(&nobody, reply.at, reply.size, &told, buffer, sizeof buffer), FEVSTUNIK_OK, 0, 0, 24);
+    is_answer("no realm again", fevstunik_request(&credentials, &nobody, confounder, 0, &at, confounder, 16, &nothing, confounder, 0, buffer,
+                                                  sizeof buffer), FEVSTUNIK_NO_REALM, 0, 0, 0);
+    is_answer("awaited still", fevstunik_finish(&nobody, reply.at, reply.size, &told, buffer, sizeof buffer), FEVSTUNIK_OK, 0, 0, 24);
+    fevstunik_pending_free(&nobody);
+    fevstunik_pending_free(&nobody);
+    is("freed", nobody.opaque == NULL, 1);
+    fevstunik_cache_free(&none);
+    is("free of none", none.opaque == NULL, 1);
+}
+
+static fevstunik_answer finished(const struct bytes *bytes, fevstunik_agreement *agreement, size_t room)
+{
+    return fevstunik_finish(&pending, bytes->at, bytes->size, agreement, buffer, room);
 }
 
 /* What is agreed on by the fixture's replies, and why others are refused. */
 static void agreements(void)
 {
-    fevstunik_time at = moment(1700000100, 5);
     fevstunik_agreement told;
     struct bytes none;
     size_t i;
 
-    is_answer("finish", finished(&reply, at, &told, sizeof buffer), FEVSTUNIK_OK, 0, 0, 24);
+    is_answer("ask", asked("host/web@EX", moment(1700000100, 5), 16, 0, sizeof buffer), FEVSTUNIK_OK, 0, 0, request.size);
+    is_answer("finish", finished(&reply, &told, sizeof buffer), FEVSTUNIK_OK, 0, 0, 24);
     is_bytes("client", buffer + told.client.at, "alice@EX", told.client.size);
     is("client size", (long long)told.client.size, 8);
     is("key at", (long long)told.session_key.at, 8);
@@ -581,8 +793,8 @@ static void agreements(void)
     is("session type", told.session_type, 19);
     is("no subkey", told.has_service_subkey, 0);
     is("no number", told.has_service_seq, 0);
-    is_answer("finish short", finished(&keyed_reply, at, &told, 39), FEVSTUNIK_SHORT_BUFFER, 0, 0, 40);
-    is_answer("finish keyed", finished(&keyed_reply, at, &told, 40), FEVSTUNIK_OK, 0, 0, 40);
+    is_answer("finish short", finished(&keyed_reply, &told, 39), FEVSTUNIK_SHORT_BUFFER, 0, 0, 40);
+    is_answer("finish keyed", finished(&keyed_reply, &told, 40), FEVSTUNIK_OK, 0, 0, 40);
     is("subkey", told.has_service_subkey, 1);
     is("subkey type", told.service_subkey_type, 19);
     is("subkey at", (long long)told.service_subkey.at, 24);
@@ -591,14 +803,17 @@ static void agreements(void)
         is("subkey", buffer[24 + i], (long long)(0x40 + i));
     is("number", told.service_seq, 128);
     is("numbered", told.has_service_seq, 1);
-    is_answer("mismatch", finished(&reply, moment(1700000100, 6), &told, sizeof buffer), FEVSTUNIK_REPLY_MISMATCH, 46, 0, 0);
-    is_answer("a request", finished(&request, at, &told, sizeof buffer), FEVSTUNIK_REPLY_TYPE, 0, 0, 0);
+    memset(&told, 0x5a, sizeof told);
+    is_answer("a request", finished(&request, &told, sizeof buffer), FEVSTUNIK_REPLY_TYPE, 0, 0, 0);
+    is("the agreement stays", told.service_seq == 0x5a5a5a5a && told.client.size == FILLED && told.session_type == 0x5a5a5a5a, 1);
     none = reply;
     none.size = 1;
-    is_answer("one byte", finished(&none, at, &told, sizeof buffer), FEVSTUNIK_REPLY_MALFORMED, 0, 1, 0);
+    is_answer("one byte", finished(&none, &told, sizeof buffer), FEVSTUNIK_REPLY_MALFORMED, 0, 1, 0);
     none = reply;
     none.at[none.size - 1] ^= 1;
-    is_answer("bent", finished(&none, at, &told, sizeof buffer), FEVSTUNIK_REPLY_INTEGRITY, 0, 0, 0);
+    is_answer("bent", finished(&none, &told, sizeof buffer), FEVSTUNIK_REPLY_INTEGRITY, 0, 0, 0);
+    is_answer("ask later", asked("host/web@EX", moment(1700000100, 6), 16, 0, sizeof buffer), FEVSTUNIK_OK, 0, 0, request.size);
+    is_answer("mismatch", finished(&reply, &told, sizeof buffer), FEVSTUNIK_REPLY_MISMATCH, 46, 0, 0);
 }
 
 /* Files are looked at, and their entries counted. */
@@ -620,11 +835,6 @@ static void two_faults_of_requests(void)
 {
     fevstunik_time at = moment(1700000100, 5), bad = moment(253402300800, 0), late = moment(1700036000, 0);
 
-    cache.at[0]++;
-    is_answer("cache and name", asked("host/web", at, 16, 0, sizeof buffer), FEVSTUNIK_FILE_VERSION, 0, 0, 0);
-    is_answer("cache and moment", asked("host/web@EX", bad, 16, 0, sizeof buffer), FEVSTUNIK_FILE_VERSION, 0, 0, 0);
-    is_answer("cache and confounder", asked("host/web@EX", at, 15, 0, sizeof buffer), FEVSTUNIK_FILE_VERSION, 0, 0, 0);
-    cache.at[0]--;
     is_answer("name and moment", asked("a@b@c", bad, 16, 0, sizeof buffer), FEVSTUNIK_BAD_TEXT, 0, 3, 0);
     is_answer("bytes and moment", asked("\xff@b@c", bad, 16, 0, sizeof buffer), FEVSTUNIK_NOT_UTF8, 0, 0, 0);
     is_answer("name and confounder", asked("host/web", at, 15, 0, sizeof buffer), FEVSTUNIK_NO_REALM, 0, 0, 0);
@@ -644,7 +854,6 @@ static void two_faults(void)
     static uint8_t long_key[65536];
     struct bytes none = {{0}, 1};
     fevstunik_acceptor service = FEVSTUNIK_ACCEPTOR_INIT;
-    fevstunik_agreement agreement;
     fevstunik_time now = moment(1700000100, 7), bad = moment(0, 1000000);
 
     is_answer("seal type and confounder", fevstunik_seal(17, key, 16, 2, key, 15, key, 0, buffer, 64), FEVSTUNIK_KEY_TYPE, 0, 0, 0);
@@ -657,17 +866,16 @@ static void two_faults(void)
     is_answer("skew and keytab", fevstunik_acceptor_new(&service, none.at, none.size, 86401, EACH_NAME), FEVSTUNIK_BAD_SKEW, 0, 0, 0);
     is_answer("new", fevstunik_acceptor_new(&service, keytab.at, keytab.size, 300, EACH_NAME), FEVSTUNIK_OK, 0, 0, 0);
     is_answer("nothing and name", error_of(&service, "host/web", now, sizeof buffer), FEVSTUNIK_NOTHING_THERE, 0, 0, 0);
-    is_answer("accept", fevstunik_acceptor_accept(&service, request.at, request.size, &now), FEVSTUNIK_OK, 0, 0, 0);
-    is_answer("reply confounder and type", reply_of(&service, 17, 17, 32, sizeof buffer), FEVSTUNIK_BAD_CONFOUNDER, 0, 0, 0);
-    is_answer("reply confounder and length", reply_of(&service, 15, 20, 16, sizeof buffer), FEVSTUNIK_BAD_CONFOUNDER, 0, 0, 0);
-    is_answer("repeat", fevstunik_acceptor_accept(&service, request.at, request.size, &now), FEVSTUNIK_REPEAT, 34, 0, 0);
+    is_answer("accept", fevstunik_acceptor_accept(&service, &accepted, request.at, request.size, &now), FEVSTUNIK_OK, 0, 0, 0);
+    is_answer("reply confounder and type", reply_of(17, 17, 32, sizeof buffer), FEVSTUNIK_BAD_CONFOUNDER, 0, 0, 0);
+    is_answer("reply confounder and length", reply_of(15, 20, 16, sizeof buffer), FEVSTUNIK_BAD_CONFOUNDER, 0, 0, 0);
+    is_answer("repeat", fevstunik_acceptor_accept(&service, &accepted, request.at, request.size, &now), FEVSTUNIK_REPEAT, 34, 0, 0);
     is_answer("error name and moment", error_of(&service, "host/web", bad, sizeof buffer), FEVSTUNIK_NO_REALM, 0, 0, 0);
     is_answer("error bytes and moment", error_of(&service, "\xff@EX", bad, sizeof buffer), FEVSTUNIK_NOT_UTF8, 0, 0, 0);
     fevstunik_acceptor_free(&service);
     is_answer("add name and key", added(&none, "a", long_key, 65536, sizeof buffer), FEVSTUNIK_NO_REALM, 0, 0, 0);
     is_answer("add key and keytab", added(&none, "a@EX", long_key, 65536, sizeof buffer), FEVSTUNIK_TOO_LONG, 0, 0, 0);
     is_answer("name that is no text", fevstunik_name_check((const uint8_t *)" \xff@b@c", 6), FEVSTUNIK_NOT_UTF8, 0, 0, 0);
-    is_answer("finish moment and reply", finished(&none, bad, &agreement, sizeof buffer), FEVSTUNIK_BAD_MOMENT, 0, 0, 0);
 }
 
 /* A moment that is none lets go of what was accepted, and of why it was refused; what is remembered and the latest moment stay. */
@@ -678,26 +886,87 @@ static void bad_moments(void)
     fevstunik_known known;
 
     is_answer("new", fevstunik_acceptor_new(&service, keytab.at, keytab.size, 300, EACH_NAME), FEVSTUNIK_OK, 0, 0, 0);
-    is_answer("accept", fevstunik_acceptor_accept(&service, request.at, request.size, &now), FEVSTUNIK_OK, 0, 0, 0);
-    is_answer("no moment", fevstunik_acceptor_accept(&service, request.at, request.size, &bad), FEVSTUNIK_BAD_MOMENT, 0, 0, 0);
-    is_answer("none told", fevstunik_acceptor_accepted(&service, &known, buffer, sizeof buffer), FEVSTUNIK_NOTHING_THERE, 0, 0, 0);
-    is_answer("no reply", reply_of(&service, 16, 0, 0, sizeof buffer), FEVSTUNIK_NOTHING_THERE, 0, 0, 0);
+    is_answer("accept", fevstunik_acceptor_accept(&service, &accepted, request.at, request.size, &now), FEVSTUNIK_OK, 0, 0, 0);
+    is_answer("no moment", fevstunik_acceptor_accept(&service, &accepted, request.at, request.size, &bad), FEVSTUNIK_BAD_MOMENT, 0, 0, 0);
+    is_answer("none told", fevstunik_accepted_known(&accepted, &known, buffer, sizeof buffer), FEVSTUNIK_NOTHING_THERE, 0, 0, 0);
+    is_answer("no reply", reply_of(16, 0, 0, sizeof buffer), FEVSTUNIK_NOTHING_THERE, 0, 0, 0);
     is_answer("no error", error_of(&service, "host/web@EX", now, sizeof buffer), FEVSTUNIK_NOTHING_THERE, 0, 0, 0);
     is("count", (long long)fevstunik_acceptor_count(&service), 1);
     is_answer("latest", fevstunik_acceptor_latest(&service, &latest), FEVSTUNIK_OK, 0, 0, 0);
     is("latest second", latest.seconds, 1700000101);
     is("latest micros", latest.micros, 7);
-    is_answer("repeat", fevstunik_acceptor_accept(&service, request.at, request.size, &now), FEVSTUNIK_REPEAT, 34, 0, 0);
-    is_answer("no moment again", fevstunik_acceptor_accept(&service, request.at, request.size, &bad), FEVSTUNIK_BAD_MOMENT, 0, 0, 0);
+    is_answer("repeat", fevstunik_acceptor_accept(&service, &accepted, request.at, request.size, &now), FEVSTUNIK_REPEAT, 34, 0, 0);
+    is_answer("no moment again", fevstunik_acceptor_accept(&service, &accepted, request.at, request.size, &bad), FEVSTUNIK_BAD_MOMENT, 0, 0, 0);
     is_answer("no error of it", error_of(&service, "host/web@EX", now, sizeof buffer), FEVSTUNIK_NOTHING_THERE, 0, 0, 0);
     fevstunik_acceptor_free(&service);
+}
+
+/* NULL with size 0 is no bytes, wherever bytes are handed in or out. */
+static void no_bytes(void)
+{
+    static const uint8_t key[16] = {0};
+    static const fevstunik_key_parts parts = {1700000000, 3, 3, 19};
+    fevstunik_acceptor service = FEVSTUNIK_ACCEPTOR_INIT;
+    fevstunik_cache none = FEVSTUNIK_CACHE_INIT;
+    fevstunik_time now = moment(1700000100, 5);
+    fevstunik_known known;
+    fevstunik_agreement told;
+    fevstunik_key_entry entry;
+    fevstunik_cache_entry credential;
+    fevstunik_owner owner;
+    int32_t kind;
+    uint8_t tag[16];
+
+    is_answer("keytab", fevstunik_keytab_check(NULL, 0), FEVSTUNIK_FILE_VERSION, 0, 0, 0);
+    is_answer("cache", fevstunik_cache_check(NULL, 0), FEVSTUNIK_FILE_VERSION, 0, 0, 0);
+    is_answer("entry", fevstunik_keytab_entry(keytab.at, keytab.size, 0, &entry, NULL, 0), FEVSTUNIK_SHORT_BUFFER, 0, 0, 27);
+    is_answer("no entry", fevstunik_keytab_entry(NULL, 0, 0, &entry, NULL, 0), FEVSTUNIK_FILE_VERSION, 0, 0, 0);
+    is("credential", fevstunik_cache_credential(cache.at, cache.size, 0, &credential, NULL, 0).code, FEVSTUNIK_SHORT_BUFFER);
+    is_answer("no credential", fevstunik_cache_credential(NULL, 0, 0, &credential, NULL, 0), FEVSTUNIK_FILE_VERSION, 0, 0, 0);
+    is_answer("owner", fevstunik_cache_owner(cache.at, cache.size, &owner, NULL, 0), FEVSTUNIK_SHORT_BUFFER, 0, 0, 8);
+    is_answer("no owner", fevstunik_cache_owner(NULL, 0, &owner, NULL, 0), FEVSTUNIK_FILE_VERSION, 0, 0, 0);
+    is("a key of none", fevstunik_keytab_add(keytab.at, keytab.size, WEB, NULL, 0, &parts, buffer, sizeof buffer).code, FEVSTUNIK_OK);
+    is_answer("a name of none", fevstunik_keytab_add(keytab.at, keytab.size, NULL, 0, NULL, 0, &parts, NULL, 0), FEVSTUNIK_NO_REALM, 0, 0, 0);
+    is_answer("add to none", fevstunik_keytab_add(NULL, 0, WEB, key, 16, &parts, NULL, 0), FEVSTUNIK_FILE_VERSION, 0, 0, 0);
+    is_answer("remove", fevstunik_keytab_remove(NULL, 0, 0, NULL, 0), FEVSTUNIK_FILE_VERSION, 0, 0, 0);
+    is_answer("removed", fevstunik_keytab_remove(keytab.at, keytab.size, 0, NULL, 0), FEVSTUNIK_SHORT_BUFFER, 0, 0, keytab.size);
+    is_answer("write", fevstunik_keytab_write(NULL, 0, NULL, 0), FEVSTUNIK_FILE_VERSION, 0, 0, 0);
+    is_answer("name", fevstunik_name_check(NULL, 0), FEVSTUNIK_NO_REALM, 0, 0, 0);
+    is_answer("no service", fevstunik_acceptor_new(&service, NULL, 0, 300, NULL, 0), FEVSTUNIK_FILE_VERSION, 0, 0, 0);
+    is_answer("each name", fevstunik_acceptor_new(&service, keytab.at, keytab.size, 300, NULL, 0), FEVSTUNIK_OK, 0, 0, 0);
+    is_answer("no request", fevstunik_acceptor_accept(&service, &accepted, NULL, 0, &now), FEVSTUNIK_MALFORMED, 60, 0, 0);
+    is_answer("no name", fevstunik_acceptor_error(&service, NULL, 0, 3, &now, NULL, 0), FEVSTUNIK_NO_REALM, 0, 0, 0);
+    is_answer("an error", fevstunik_acceptor_error(&service, WEB, 3, &now, NULL, 0), FEVSTUNIK_SHORT_BUFFER, 0, 0, error.size);
+    is_answer("no name by code", fevstunik_error(FEVSTUNIK_SKEW, NULL, 0, 3, &now, NULL, 0), FEVSTUNIK_NO_REALM, 0, 0, 0);
+    is_answer("an error by code", fevstunik_error(FEVSTUNIK_SKEW, WEB, 3, &now, NULL, 0), FEVSTUNIK_SHORT_BUFFER, 0, 0, error.size);
+    is_answer("accept", fevstunik_acceptor_accept(&service, &accepted, listed.at, listed.size, &now), FEVSTUNIK_OK, 0, 0, 0);
+    is_answer("known", fevstunik_accepted_known(&accepted, &known, NULL, 0), FEVSTUNIK_SHORT_BUFFER, 0, 0, 35);
+    is_answer("of no bytes", fevstunik_accepted_item(&accepted, FEVSTUNIK_LIST_TICKET_AUTHORIZATION, 1, &kind, NULL, 0), FEVSTUNIK_OK, 0, 0, 0);
+    is_answer("no confounder", fevstunik_accepted_reply(&accepted, NULL, 0, &nothing, NULL, 0, NULL, 0), FEVSTUNIK_BAD_CONFOUNDER, 0, 0, 0);
+    is_answer("reply", fevstunik_accepted_reply(&accepted, key, 16, &nothing, NULL, 0, NULL, 0), FEVSTUNIK_SHORT_BUFFER, 0, 0, reply.size);
+    fevstunik_acceptor_free(&service);
+    is_answer("no cache", fevstunik_cache_new(&none, NULL, 0), FEVSTUNIK_FILE_VERSION, 0, 0, 0);
+    is_answer("no service", fevstunik_request(&credentials, &pending, NULL, 0, &now, NULL, 0, &nothing, NULL, 0, NULL, 0), FEVSTUNIK_NO_REALM,
+              0, 0, 0);
+    is_answer("ask", fevstunik_request(&credentials, &pending, WEB, &now, key, 16, &nothing, NULL, 0, NULL, 0), FEVSTUNIK_SHORT_BUFFER, 0, 0,
+              request.size);
+    is_answer("no reply", fevstunik_finish(&pending, NULL, 0, &told, NULL, 0), FEVSTUNIK_REPLY_MALFORMED, 0, 0, 0);
+    is_answer("finish", fevstunik_finish(&pending, reply.at, reply.size, &told, NULL, 0), FEVSTUNIK_SHORT_BUFFER, 0, 0, 24);
+    is_answer("no key", fevstunik_seal(19, NULL, 0, 2, NULL, 0, NULL, 0, NULL, 0), FEVSTUNIK_KEY_LENGTH, 0, 0, 0);
+    is_answer("seal", fevstunik_seal(19, key, 16, 2, key, 16, NULL, 0, buffer, sizeof buffer), FEVSTUNIK_OK, 0, 0, 32);
+    is_answer("open", fevstunik_open(19, key, 16, 2, buffer, 32, NULL, 0), FEVSTUNIK_OK, 0, 0, 0);
+    is_answer("open none", fevstunik_open(19, key, 16, 2, NULL, 0, NULL, 0), FEVSTUNIK_TEXT_SHORT, 0, 0, 0);
+    is_answer("tag", fevstunik_checksum(19, key, 16, 2, NULL, 0, tag, 16), FEVSTUNIK_OK, 0, 0, 16);
+    is_answer("its tag", fevstunik_checksum_check(19, key, 16, 2, NULL, 0, tag, 16), FEVSTUNIK_OK, 0, 0, 0);
+    is_answer("no tag", fevstunik_checksum_check(19, key, 16, 2, NULL, 0, NULL, 0), FEVSTUNIK_TEXT_INTEGRITY, 0, 0, 0);
+    is_answer("no room for it", fevstunik_checksum(19, key, 16, 2, NULL, 0, NULL, 0), FEVSTUNIK_SHORT_BUFFER, 0, 0, 16);
 }
 
 int main(int count, char **words)
 {
     fevstunik_acceptor service = FEVSTUNIK_ACCEPTOR_INIT;
 
-    if (count != 10)
+    if (count != 11)
         return 2;
     from_file(&keytab, words[1]);
     from_file(&cache, words[2]);
@@ -708,13 +977,17 @@ int main(int count, char **words)
     from_hex(&error, words[7]);
     from_hex(&two, words[8]);
     from_hex(&other, words[9]);
+    from_hex(&listed, words[10]);
     empty_handles();
+    unready();
+    kept_apart();
+    ready_again();
     wanted_services();
     constants();
     is_answer("new", fevstunik_acceptor_new(&service, keytab.at, keytab.size, 300, EACH_NAME), FEVSTUNIK_OK, 0, 0, 0);
     faulty_keytabs(&service);
     is_accepted(&service);
-    replies(&service);
+    replies();
     is_refused(&service);
     is_answer("new again", fevstunik_acceptor_new(&service, keytab.at, keytab.size, 300, EACH_NAME), FEVSTUNIK_OK, 0, 0, 0);
     is("count anew", (long long)fevstunik_acceptor_count(&service), 0);
@@ -723,6 +996,7 @@ int main(int count, char **words)
     is("freed", service.opaque == NULL, 1);
     is_keyed();
     another_service();
+    lists();
     errors();
     names();
     files();
@@ -731,12 +1005,18 @@ int main(int count, char **words)
     edits();
     additions();
     second_entry();
+    is_answer("cache", fevstunik_cache_new(&credentials, cache.at, cache.size), FEVSTUNIK_OK, 0, 0, 0);
     requests();
+    empty_askings();
     agreements();
     texts();
     two_faults_of_requests();
     two_faults();
     bad_moments();
+    no_bytes();
+    fevstunik_accepted_free(&accepted);
+    fevstunik_cache_free(&credentials);
+    fevstunik_pending_free(&pending);
     printf("%d passed, %d failed\n", passed, failed);
     return failed != 0;
 }

@@ -51,27 +51,35 @@ static const fevstunik_choice plain = {0, 0, false, true}, keyed = {19, 128, tru
 static const fevstunik_time now = {1700000100, 5};
 static const uint8_t *const service_name = (const uint8_t *)"host/web@EX";
 static fevstunik_acceptor service;
+static fevstunik_accepted accepted;
+static fevstunik_cache credentials;
+static fevstunik_pending pending;
 
 static fevstunik_answer making(void)
 {
     return fevstunik_acceptor_new(&service, keytab.at, keytab.size, 300, WEB);
 }
 
+static fevstunik_answer getting_ready(void)
+{
+    return fevstunik_accepted_new(&accepted);
+}
+
 static fevstunik_answer accepting(void)
 {
-    return fevstunik_acceptor_accept(&service, request.at, request.size, &now);
+    return fevstunik_acceptor_accept(&service, &accepted, request.at, request.size, &now);
 }
 
 static fevstunik_answer telling(void)
 {
     fevstunik_known known;
 
-    return fevstunik_acceptor_accepted(&service, &known, buffer, sizeof buffer);
+    return fevstunik_accepted_known(&accepted, &known, buffer, sizeof buffer);
 }
 
 static fevstunik_answer replying(void)
 {
-    return fevstunik_acceptor_reply(&service, cache.at, 16, &keyed, cache.at, 16, buffer, sizeof buffer);
+    return fevstunik_accepted_reply(&accepted, cache.at, 16, &keyed, cache.at, 16, buffer, sizeof buffer);
 }
 
 static fevstunik_answer refusing_by_code(void)
@@ -86,15 +94,19 @@ static fevstunik_answer refusing(void)
 
 static fevstunik_answer asking(void)
 {
-    return fevstunik_request(cache.at, cache.size, service_name, 11, &now, cache.at, 16, &keyed, cache.at, 16, buffer, sizeof buffer);
+    return fevstunik_request(&credentials, &pending, service_name, 11, &now, cache.at, 16, &keyed, cache.at, 16, buffer, sizeof buffer);
+}
+
+static fevstunik_answer reading_cache(void)
+{
+    return fevstunik_cache_new(&credentials, cache.at, cache.size);
 }
 
 static fevstunik_answer finishing(void)
 {
     fevstunik_agreement agreement;
 
-    return fevstunik_finish(cache.at, cache.size, service_name, 11, &now, &plain, cache.at, 0, reply.at, reply.size, &agreement, buffer,
-                            sizeof buffer);
+    return fevstunik_finish(&pending, reply.at, reply.size, &agreement, buffer, sizeof buffer);
 }
 
 static fevstunik_answer sealing(void)
@@ -186,7 +198,7 @@ static void is_told(const char *what, fevstunik_answer (*call)(void))
 {
     long at, before = held;
     size_t count = fevstunik_acceptor_count(&service), i;
-    void *opaque = service.opaque;
+    void *opaque = service.opaque, *kept = accepted.opaque, *read = credentials.opaque, *awaited = pending.opaque;
     fevstunik_time moment_before = latest();
     fevstunik_answer answer;
 
@@ -199,7 +211,8 @@ static void is_told(const char *what, fevstunik_answer (*call)(void))
         is_at(what, at, answer.code, FEVSTUNIK_OUT_OF_MEMORY);
         is_at("size", at, (long long)answer.size, 0);
         is_at("pieces held", at, held, before);
-        is_at("the handle", at, service.opaque == opaque, 1);
+        is_at("the handle", at, service.opaque == opaque && accepted.opaque == kept, 1);
+        is_at("the client's handles", at, credentials.opaque == read && pending.opaque == awaited, 1);
         is_at("what is remembered", at, (long long)fevstunik_acceptor_count(&service), (long long)count);
         is_at("the latest second", at, latest().seconds, moment_before.seconds);
         is_at("the latest microsecond", at, latest().micros, moment_before.micros);
@@ -231,8 +244,8 @@ static void refusals_without_memory(void)
 {
     is_at("new", 2, making().code, FEVSTUNIK_OK);
     left = 0;
-    is_at("another message", 0, fevstunik_acceptor_accept(&service, reply.at, reply.size, &now).code, FEVSTUNIK_MESSAGE_TYPE);
-    is_at("half a request", 0, fevstunik_acceptor_accept(&service, request.at, request.size / 2, &now).code, FEVSTUNIK_MALFORMED);
+    is_at("another message", 0, fevstunik_acceptor_accept(&service, &accepted, reply.at, reply.size, &now).code, FEVSTUNIK_MESSAGE_TYPE);
+    is_at("half a request", 0, fevstunik_acceptor_accept(&service, &accepted, request.at, request.size / 2, &now).code, FEVSTUNIK_MALFORMED);
     request.at[OPTIONS_AT] ^= 0x40;
     is_at("user to user", 0, accepting().code, FEVSTUNIK_USER_TO_USER);
     request.at[OPTIONS_AT] ^= 0x40;
@@ -259,18 +272,16 @@ static void faults_without_memory(void)
     is_at("cut off", 0, fevstunik_cache_check(cache.at, cache.size - 1).code, FEVSTUNIK_FILE_BAD_ITEM);
     is_at("credential", 0, fevstunik_cache_credential(cache.at, cache.size - 1, 0, &entry, buffer, sizeof buffer).code, FEVSTUNIK_FILE_BAD_ITEM);
     is_at("owner", 0, fevstunik_cache_owner(cache.at, 3, &owner, buffer, sizeof buffer).code, FEVSTUNIK_FILE_HEADER);
-    is_at("request", 0,
-       fevstunik_request(cache.at, 1, service_name, 11, &now, cache.at, 16, &plain, cache.at, 0, buffer, sizeof buffer).code,
-       FEVSTUNIK_FILE_VERSION);
+    is_at("cache", 0, fevstunik_cache_new(&credentials, cache.at, 1).code, FEVSTUNIK_FILE_VERSION);
     is_at("seal type", 0, fevstunik_seal(17, cache.at, 16, 2, cache.at, 16, cache.at, 5, buffer, sizeof buffer).code, FEVSTUNIK_KEY_TYPE);
     is_at("seal confounder", 0, fevstunik_seal(19, cache.at, 16, 2, cache.at, 15, cache.at, 5, buffer, sizeof buffer).code,
        FEVSTUNIK_BAD_CONFOUNDER);
     is_at("open length", 0, fevstunik_open(20, cache.at, 16, 2, cache.at, 64, buffer, sizeof buffer).code, FEVSTUNIK_KEY_LENGTH);
     is_at("open short", 0, fevstunik_open(19, cache.at, 16, 2, cache.at, 31, buffer, sizeof buffer).code, FEVSTUNIK_TEXT_SHORT);
     is_at("open tag", 0, fevstunik_open(19, cache.at, 16, 2, cache.at, 64, buffer, sizeof buffer).code, FEVSTUNIK_TEXT_INTEGRITY);
-    is_at("reply confounder", 0, fevstunik_acceptor_reply(&service, cache.at, 15, &plain, cache.at, 0, buffer, sizeof buffer).code,
+    is_at("reply confounder", 0, fevstunik_accepted_reply(&accepted, cache.at, 15, &plain, cache.at, 0, buffer, sizeof buffer).code,
        FEVSTUNIK_BAD_CONFOUNDER);
-    is_at("reply type", 0, fevstunik_acceptor_reply(&service, cache.at, 16, &other, cache.at, 16, buffer, sizeof buffer).code,
+    is_at("reply type", 0, fevstunik_accepted_reply(&accepted, cache.at, 16, &other, cache.at, 16, buffer, sizeof buffer).code,
        FEVSTUNIK_KEY_TYPE);
     is_at("none was asked for", 0, left, 0);
     left = -1;
@@ -286,15 +297,25 @@ int main(int count, char **words)
     from_hex(&request, words[3]);
     from_hex(&reply, words[4]);
     is_told("new", making);
+    is_told("ready", getting_ready);
     is_told("accept", accepting);
-    is_told("accepted", telling);
+    is_told("known", telling);
+    is_told("ready again", getting_ready);
+    is_at("a ready place", 0, telling().code, FEVSTUNIK_NOTHING_THERE);
+    is_at("new again", 0, making().code, FEVSTUNIK_OK);
+    is_told("accept again", accepting);
     is_told("reply", replying);
     is_at("a repeat", 0, accepting().code, FEVSTUNIK_REPEAT);
     is_told("error", refusing);
     is_told("error by code", refusing_by_code);
     fevstunik_acceptor_free(&service);
+    fevstunik_accepted_free(&accepted);
     is_at("freed", 0, held, 0);
+    is_at("ready", 1, getting_ready().code, FEVSTUNIK_OK);
+    is_told("cache", reading_cache);
+    is_told("cache again", reading_cache);
     is_told("request", asking);
+    is_told("request again", asking);
     is_told("finish", finishing);
     is_told("seal", sealing);
     (void)opening();
@@ -311,6 +332,9 @@ int main(int count, char **words)
     without_a_code();
     refusals_without_memory();
     faults_without_memory();
+    fevstunik_accepted_free(&accepted);
+    fevstunik_cache_free(&credentials);
+    fevstunik_pending_free(&pending);
     is_at("freed", 1, held, 0);
     printf("%d passed, %d failed\n", passed, failed);
     return failed != 0;

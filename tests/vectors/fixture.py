@@ -81,8 +81,8 @@ def principal(name_type, realm, *components):
     return struct.pack(">iI", name_type, len(components)) + data(realm) + b"".join(data(it) for it in components)
 
 
-def credential(client, server, etype, key, times, ticket_bytes):
-    return (client + server + struct.pack(">h", etype) + data(key) + struct.pack(">4I", *times)
+def credential(client, server, etype, key, times, ticket_bytes, second_etype=b""):
+    return (client + server + struct.pack(">h", etype) + second_etype + data(key) + struct.pack(">4I", *times)
             + struct.pack(">BI", 0, 0) + struct.pack(">II", 0, 0) + data(ticket_bytes) + data(b""))
 
 
@@ -97,6 +97,13 @@ def cache(of=None):
     client, server = principal(1, b"EX", b"alice"), principal(3, b"EX", b"host", b"web")
     times = (1_700_000_000, 0, 1_700_036_000, 0)
     return b"\x05\x04\x00\x00" + client + credential(client, server, 19, SESSION_KEY, times, of or ticket())
+
+
+def old_cache(of=None, second_etype=b"\x00\x13"):
+    """The same cache of version 0x0503: without a header, and with the encryption type twice."""
+    client, server = principal(1, b"EX", b"alice"), principal(3, b"EX", b"host", b"web")
+    times = (1_700_000_000, 0, 1_700_036_000, 0)
+    return b"\x05\x03" + client + credential(client, server, 19, SESSION_KEY, times, of or ticket(), second_etype)
 
 
 def configured_cache():

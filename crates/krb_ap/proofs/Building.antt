@@ -108,6 +108,16 @@ module _ (w : WritingFacts) (credential : Credential) (at : ℤ) (options : Requ
       (subst (λ (x : List ℕ). limit < size_of ap_req (request_for credential options ticket x)) f long))
       b.bytes_are
 
+  -- a request is one
+  pub one_built : Facts → (confounder a b : List ℕ) → IsBuilt credential at confounder options a → IsBuilt credential at confounder options b → a ≡ b
+  one_built facts confounder a b p q =
+      let e : p.ticket ≡ q.ticket = facts.one_value ticket_kind is_ticket p.ticket q.ticket credential.ticket p.ticket_is q.ticket_is in
+      let f : p.text ≡ q.text = one_text confounder p.text q.text p.text_is q.text_is in
+      w.one ap_req (request_for credential options q.ticket q.text) a b
+      (subst (λ (t : ValueOf ticket_kind). IsWritten ap_req (request_for credential options t q.text) a) e
+      (subst (λ (x : List ℕ). IsWritten ap_req (request_for credential options p.ticket x) a) f p.bytes_are)).written
+      q.bytes_are.written
+
 -- what is sealed, with the type of the credential's key
 pub told_type : (credential : Credential) (key : KeyValue) (text : List ℕ) → key ≡ credential_key credential
     → encrypted_value (record { etype = key.etype; kvno = None; cipher = text })

@@ -15,6 +15,7 @@ use Rattle.krb_ap.specs.Bit.{has_bit}
 use Rattle.krb_ap.specs.Setup.{Setup, Arrival, arrival}
 use Rattle.krb_ap.specs.Opened.{OpensAs, OpenedAs, authenticator_usage, session_key, stamp_at}
 use Rattle.krb_ap.specs.Times.{Near}
+use Rattle.krb_ap.specs.Quiet.{Settled}
 use Rattle.krb_ap.specs.History.{effective, IsShown}
 use Rattle.krb_ap.specs.Taken.{Taken, Accept, taken_from}
 use Rattle.krb_ap.specs.Written.{IsSealed}
@@ -106,6 +107,7 @@ module _ (facts : Facts) (setup : Setup) (history : List Arrival) (moment : ℤ)
     auth = auth;
     opened = opened has;
     near = subst (λ (t : ℤ). Near t (effective history moment) setup.skew) built.text_is.told.at_is may.near;
+    settled = subst (λ (t : ℤ). Settled setup (effective history moment) t) built.text_is.told.at_is may.settled;
     unshown = subst (λ (t : ℤ). ¬ IsShown setup history (stamp_at (ticket_service built.ticket) (part_client part) t)) built.text_is.told.at_is may.unshown;
     alive = may.alive;
     trusted = may.trusted;

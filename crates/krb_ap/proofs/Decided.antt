@@ -116,6 +116,9 @@ not_both a b h g = omega (arith, ints)
 pub order : (a b : ℤ) → Decided (a ≤ℤ b)
 order a b = elim (either a b) [ inl le ↦ inl le | inr lt ↦ inr (not_both a b lt) ]
 
+pub later : (a b : ℤ) → Decided (a <ℤ b)
+later a b = elim (either b a) [ inl le ↦ inr (λ lt. not_both b a lt le) | inr lt ↦ inl lt ]
+
 pub each : {X : Type 0} (P : X → Type 0) → ((x : X) → Decided (P x)) → (xs : List X) → Decided (All P xs)
 each P decide [] = inl (All-nil P)
 each P decide (x ∷ xs) = moved (P x × All P xs) (All P (x ∷ xs)) (λ h. All-cons P x xs h.0 h.1) (λ h. (All-head P x xs h, All-tail P x xs h))

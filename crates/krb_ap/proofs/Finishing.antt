@@ -1,6 +1,6 @@
 -- What a reply is refused for first, and what is agreed.
 use Rattle.krb_name.specs.declared.principal.Principal.{Principal}
-use Rattle.std.proofs.Common.{Option, ◌≡◌, ℕ, ◌<◌, ◌≤◌, List, sym, ◌∙◌, subst, ap, arith, lit≤, lit<}
+use Rattle.std.proofs.Common.{Option, Err, IsErrOf, ◌≡◌, ℕ, ◌<◌, ◌≤◌, List, sym, ◌∙◌, subst, ap, arith, lit≤, lit<}
 use Rattle.krb_der.specs.Kind.{ValueOf, leaf, octets}
 use Rattle.krb_der.specs.Fault.{IsFault}
 use Rattle.krb_der.specs.Spells.{IsMessage}
@@ -131,3 +131,7 @@ copied_agreement awaited part client key subkey seq service_subkey e f g h i =
     ∙ (ap (λ (x : Option KeyValue). agreement_by awaited.client awaited.key x seq service_subkey (reply_seq_number part)) g
     ∙ (ap (λ (x : Option ℕ). agreement_by awaited.client awaited.key awaited.subkey x service_subkey (reply_seq_number part)) h
     ∙ ap (λ (x : Option (ValueOf (typed (leaf octets)))). agreement_by awaited.client awaited.key awaited.subkey awaited.seq x (reply_seq_number part)) i)))
+
+-- a fault that is answered
+pub fault_of : {T : Type 0} (one other : FinishFault) → IsErrOf {T = T} (Err one) other → one ≡ other
+fault_of one other e = cc

@@ -10,6 +10,7 @@ use Rattle.krb_replay.specs.Stamp.{Stamp}
 use Rattle.krb_ap.specs.Setup.{Setup, Arrival}
 use Rattle.krb_ap.specs.Opened.{stamp_at}
 use Rattle.krb_ap.specs.Times.{Near, Alive, IsEarly, IsLate, second_at, start_of}
+use Rattle.krb_ap.specs.Quiet.{Settled}
 use Rattle.krb_ap.specs.History.{effective, IsShown, StandsFor}
 use Rattle.krb_ap.specs.Inner.Stages.{IsOfTimes, TimesRefuse}
 use Rattle.krb_ap.proofs.TurnedAway.{near_is_recent}
@@ -35,6 +36,9 @@ alive part now skew early late = record {
   begun = stable (second_at (start_of part)) (now +ℤ pos skew) (λ h. early (inl h));
   lasting = stable now (second_at (endtime_of part) +ℤ pos skew) late;
 }
+
+pub settled_by : (setup : Setup) (now moment sent at : ℤ) → now ≡ moment → sent ≡ at → Settled setup now sent → Settled setup moment at
+settled_by setup now moment sent at e f h = subst (λ (a : ℤ). Settled setup moment a) f (subst (λ (n : ℤ). Settled setup n sent) e h)
 
 -- the stamp of a tuple that was made of these names
 pub stamp_by : (tuple : Stamp) (server client one other : Principal) (time : ℤ) → tuple ≡ stamp_at server client time → server ≡ one

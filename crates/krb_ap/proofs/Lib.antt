@@ -25,3 +25,6 @@ pub mod Once
 pub mod Sending
 pub mod Worlds
 pub mod WorldsOnce
+pub mod Behind
+pub mod Entries
+pub mod SomeRequest

@@ -1,5 +1,6 @@
 -- An opened request: which row answers it, or that it is accepted.
-use Rattle.std.proofs.Common.{◌≡◌, ℕ, ℤ, pos, ◌+ℤ◌, ◌<◌, List, refl, sym, subst, inl, inr, ◌⊎◌, arith, lit<, Option, Some, None}
+use Rattle.std.proofs.Common.{◌≡◌, ◌≢◌, ℕ, ℤ, pos, ◌+ℤ◌, ◌<◌, List, refl, sym, subst, inl, inr, ◌⊎◌, arith, lit<, Option, Some, None}
+use Rattle.std.specs.Prelude.{◌<ℤ◌, IfSome}
 use Rattle.krb_der.specs.Kind.{ValueOf}
 use Rattle.krb_msg.specs.Bits.{invalid, transited_policy_checked}
 use Rattle.krb_msg.specs.Module.{ap_req, enc_ticket_part, authenticator, authorization_data}
@@ -8,6 +9,7 @@ use Rattle.krb_replay.specs.Stamp.{Stamp}
 use Rattle.krb_ap.specs.Setup.{Setup, Arrival, arrival}
 use Rattle.krb_ap.specs.Opened.{OpenedAs, sent_at, stamp_of}
 use Rattle.krb_ap.specs.Times.{Near, IsEarly, IsLate, IsPathTrusted, IsDataIgnorable, MayBeIgnored, second_at, start_of}
+use Rattle.krb_ap.specs.Quiet.{IsPast, Settled}
 use Rattle.krb_ap.specs.History.{effective, Shows, IsShown}
 use Rattle.krb_ap.specs.Taken.{Taken, taken_from, Accept}
 use Rattle.krb_ap.specs.Causes.{Cause, Holds, IsRemembered, OfOpened, place}
@@ -15,18 +17,21 @@ use Rattle.krb_ap.specs.Inner.Facts.{Facts}
 use Rattle.krb_ap.specs.Inner.Decisions.{Decisions}
 use Rattle.krb_ap.specs.Inner.Judging.{IsTurnedAway}
 use Rattle.krb_ap.specs.Inner.Stages.{IsOfTimes, TimesRefuse}
-use Rattle.krb_ap.proofs.Decided.{Decided, both, one_of, none_of, integers, texts, order, each}
+use Rattle.krb_ap.proofs.Decided.{Decided, both, one_of, none_of, integers, texts, order, later, each}
 use Rattle.krb_ap.proofs.Late.{alive}
 use Rattle.krb_ap.proofs.OneOpening.{of_opened}
 use Rattle.krb_ap.proofs.Stages.{opened}
 use Rattle.krb_ap.proofs.Table.{Clear, Next, pass}
 use Rattle.krb_ap.proofs.TurnedAway.{shown_near, shown_stamp, turned_away}
 use Rattle.krb_ap.specs.declared.refusal.Refusal.{Refusal}
-use Rattle.krb_ap.specs.declared.refusal.Refusal.TheVariants.{Skew, Repeat, NotYetValid, Expired, Transited, Authorization, OutOfMemory}
+use Rattle.krb_ap.specs.declared.refusal.Refusal.TheVariants.{Skew, JustStarted, Repeat, NotYetValid, Expired, Transited, Authorization, OutOfMemory}
 
 -- which row comes right after which
-after_skew : Next Skew Repeat
+after_skew : Next Skew JustStarted
 after_skew other below = grind arith
+
+after_just_started : Next JustStarted Repeat
+after_just_started other below = grind arith
 
 after_repeat : Next Repeat NotYetValid
 after_repeat other below = grind arith
@@ -47,6 +52,16 @@ pub near : (a now : ℤ) (skew : ℕ) → Decided (Near a now skew)
 near a now skew = elim (both _ _ (order a (now +ℤ pos skew)) (order now (a +ℤ pos skew))) [
   | inl h ↦ inl (record { not_after = h.0; not_before = h.1 })
   | inr none ↦ inr (λ h. none (h.not_after, h.not_before))
+]
+
+past : (start : Option ℤ) (moment : ℤ) (skew : ℕ) → Decided (IfSome start (λ start. (start +ℤ pos skew) <ℤ moment))
+past None moment skew = inl tt
+past (Some start) moment skew = later (start +ℤ pos skew) moment
+
+pub settled : (setup : Setup) (now sent : ℤ) → Decided (Settled setup now sent)
+settled setup now sent = elim (both _ _ (past setup.start now setup.skew) (past setup.start sent setup.skew)) [
+  | inl h ↦ inl (record { now_is = h.0; sent_is = h.1 })
+  | inr none ↦ inr (λ h. none (h.now_is, h.sent_is))
 ]
 
 module _ (facts : Facts) (setup : Setup) (history : List Arrival) (bytes : List ℕ) (moment : ℤ)
@@ -70,76 +85,90 @@ module _ (facts : Facts) (setup : Setup) (history : List Arrival) (bytes : List 
   }
 
   module _ (is_near : Near (sent_at auth) (effective history moment) setup.skew) where
-    past_skew : Clear setup history (arrival bytes moment) (place Repeat)
-    past_skew = pass setup history (arrival bytes moment) Skew Repeat after_skew
+    past_skew : Clear setup history (arrival bytes moment) (place JustStarted)
+    past_skew = pass setup history (arrival bytes moment) Skew JustStarted after_skew
         (opened facts setup history (arrival bytes moment) request part auth o)
         (not_so (λ r p a. ¬ Near (sent_at a) (effective history moment) setup.skew) (λ far. far is_near))
 
-    -- ---- shown before, or new
+    -- ---- just started, or settled
 
-    pub repeated : (Has : Stamp → Type 0) → IsShown setup history (stamp_of request part auth) → Has (stamp_of request part auth)
-        → IsTurnedAway setup history (arrival bytes moment) Has Repeat
-    repeated Has shown had = record {
-      cause = record { holds = so (λ r p a. IsShown setup history (stamp_of r p a)) shown; first = past_skew };
-      had = λ stamp shows. subst Has (sym (shown_stamp facts setup history bytes moment Has request part auth o (effective history moment) stamp shows)) had;
+    pub just_started : ¬ Settled setup (effective history moment) (sent_at auth) → Cause setup history (arrival bytes moment) JustStarted
+    just_started quiet = record {
+      holds = so (λ r p a. ¬ Settled setup (effective history moment) (sent_at a)) quiet;
+      first = past_skew;
     }
 
-    module _ (unshown : ¬ IsShown setup history (stamp_of request part auth)) where
-      past_repeat : Clear setup history (arrival bytes moment) (place NotYetValid)
-      past_repeat = pass setup history (arrival bytes moment) Repeat NotYetValid after_repeat past_skew
-          (not_so (λ r p a. IsShown setup history (stamp_of r p a)) unshown)
+    module _ (is_settled : Settled setup (effective history moment) (sent_at auth)) where
+      past_start : Clear setup history (arrival bytes moment) (place Repeat)
+      past_start = pass setup history (arrival bytes moment) JustStarted Repeat after_just_started past_skew
+          (not_so (λ r p a. ¬ Settled setup (effective history moment) (sent_at a)) (λ quiet. quiet is_settled))
 
-      -- ---- what is asked of the ticket
+      -- ---- shown before, or new
 
-      past_early : ¬ IsEarly part (effective history moment) setup.skew → Clear setup history (arrival bytes moment) (place Expired)
-      past_early early = pass setup history (arrival bytes moment) NotYetValid Expired after_not_yet_valid past_repeat
-          (not_so (λ r p a. IsEarly p (effective history moment) setup.skew) early)
+      pub repeated : (Has : Stamp → Type 0) → IsShown setup history (stamp_of request part auth) → Has (stamp_of request part auth)
+          → IsTurnedAway setup history (arrival bytes moment) Has Repeat
+      repeated Has shown had = record {
+        cause = record { holds = so (λ r p a. IsShown setup history (stamp_of r p a)) shown; first = past_start };
+        had = λ stamp shows. subst Has (sym (shown_stamp facts setup history bytes moment Has request part auth o (effective history moment) stamp shows)) had;
+      }
 
-      past_late : ¬ IsEarly part (effective history moment) setup.skew → ¬ IsLate part (effective history moment) setup.skew
-          → Clear setup history (arrival bytes moment) (place Transited)
-      past_late early late = pass setup history (arrival bytes moment) Expired Transited after_expired (past_early early)
-          (not_so (λ r p a. IsLate p (effective history moment) setup.skew) late)
+      module _ (unshown : ¬ IsShown setup history (stamp_of request part auth)) where
+        past_repeat : Clear setup history (arrival bytes moment) (place NotYetValid)
+        past_repeat = pass setup history (arrival bytes moment) Repeat NotYetValid after_repeat past_start
+            (not_so (λ r p a. IsShown setup history (stamp_of r p a)) unshown)
 
-      past_path : ¬ IsEarly part (effective history moment) setup.skew → ¬ IsLate part (effective history moment) setup.skew → IsPathTrusted request part
-          → Clear setup history (arrival bytes moment) (place Authorization)
-      past_path early late trusted = pass setup history (arrival bytes moment) Transited Authorization after_transited (past_late early late)
-          (not_so (λ r p a. ¬ IsPathTrusted r p) (λ untrusted. untrusted trusted))
+        -- ---- what is asked of the ticket
 
-      pub past_all : IsOfTimes setup.skew (effective history moment) request part auth → Clear setup history (arrival bytes moment) (place OutOfMemory)
-      past_all h = pass setup history (arrival bytes moment) Authorization OutOfMemory after_authorization (past_path h.early h.late h.trusted)
-          (not_so (λ r p a. ¬ IsDataIgnorable p a) (λ known. known h.ignorable))
+        past_early : ¬ IsEarly part (effective history moment) setup.skew → Clear setup history (arrival bytes moment) (place Expired)
+        past_early early = pass setup history (arrival bytes moment) NotYetValid Expired after_not_yet_valid past_repeat
+            (not_so (λ r p a. IsEarly p (effective history moment) setup.skew) early)
 
-      -- the first cause of those that are left
-      pub times_cause : (r : Refusal) → TimesRefuse setup.skew (effective history moment) request part auth r → Cause setup history (arrival bytes moment) r
-      times_cause r h = elim h [
-        | inl x ↦ of_cause (sym x.0) (record { holds = so (λ r p a. IsEarly p (effective history moment) setup.skew) x.1; first = past_repeat })
-        | inr rest ↦ elim rest [
-          | inl x ↦ of_cause (sym x.0) (record { holds = so (λ r p a. IsLate p (effective history moment) setup.skew) x.1.1; first = past_early x.1.0 })
-          | inr others ↦ elim others [
-            | inl x ↦ of_cause (sym x.0) (record { holds = so (λ r p a. ¬ IsPathTrusted r p) x.1.1.1; first = past_late x.1.0 x.1.1.0 })
-            | inr x ↦ of_cause (sym x.0)
-                (record { holds = so (λ r p a. ¬ IsDataIgnorable p a) x.1.1.1.1; first = past_path x.1.0 x.1.1.0 x.1.1.1.0 })
+        past_late : ¬ IsEarly part (effective history moment) setup.skew → ¬ IsLate part (effective history moment) setup.skew
+            → Clear setup history (arrival bytes moment) (place Transited)
+        past_late early late = pass setup history (arrival bytes moment) Expired Transited after_expired (past_early early)
+            (not_so (λ r p a. IsLate p (effective history moment) setup.skew) late)
+
+        past_path : ¬ IsEarly part (effective history moment) setup.skew → ¬ IsLate part (effective history moment) setup.skew → IsPathTrusted request part
+            → Clear setup history (arrival bytes moment) (place Authorization)
+        past_path early late trusted = pass setup history (arrival bytes moment) Transited Authorization after_transited (past_late early late)
+            (not_so (λ r p a. ¬ IsPathTrusted r p) (λ untrusted. untrusted trusted))
+
+        pub past_all : IsOfTimes setup.skew (effective history moment) request part auth → Clear setup history (arrival bytes moment) (place OutOfMemory)
+        past_all h = pass setup history (arrival bytes moment) Authorization OutOfMemory after_authorization (past_path h.early h.late h.trusted)
+            (not_so (λ r p a. ¬ IsDataIgnorable p a) (λ known. known h.ignorable))
+
+        -- the first cause of those that are left
+        pub times_cause : (r : Refusal) → TimesRefuse setup.skew (effective history moment) request part auth r → Cause setup history (arrival bytes moment) r
+        times_cause r h = elim h [
+          | inl x ↦ of_cause (sym x.0) (record { holds = so (λ r p a. IsEarly p (effective history moment) setup.skew) x.1; first = past_repeat })
+          | inr rest ↦ elim rest [
+            | inl x ↦ of_cause (sym x.0) (record { holds = so (λ r p a. IsLate p (effective history moment) setup.skew) x.1.1; first = past_early x.1.0 })
+            | inr others ↦ elim others [
+              | inl x ↦ of_cause (sym x.0) (record { holds = so (λ r p a. ¬ IsPathTrusted r p) x.1.1.1; first = past_late x.1.0 x.1.1.0 })
+              | inr x ↦ of_cause (sym x.0)
+                  (record { holds = so (λ r p a. ¬ IsDataIgnorable p a) x.1.1.1.1; first = past_path x.1.0 x.1.1.0 x.1.1.1.0 })
+            ]
           ]
         ]
-      ]
-        where
-          of_cause : {s : Refusal} → s ≡ r → Cause setup history (arrival bytes moment) s → Cause setup history (arrival bytes moment) r
-          of_cause same cause = subst (λ (x : Refusal). Cause setup history (arrival bytes moment) x) same cause
+          where
+            of_cause : {s : Refusal} → s ≡ r → Cause setup history (arrival bytes moment) s → Cause setup history (arrival bytes moment) r
+            of_cause same cause = subst (λ (x : Refusal). Cause setup history (arrival bytes moment) x) same cause
 
-      pub times_accept : (taken : Taken) → taken ≡ taken_from request part auth → IsOfTimes setup.skew (effective history moment) request part auth
-          → Accept setup history (arrival bytes moment) taken
-      times_accept taken e h = record {
-        request = request;
-        part = part;
-        auth = auth;
-        opened = o;
-        near = is_near;
-        unshown = unshown;
-        alive = alive part (effective history moment) setup.skew h.early h.late;
-        trusted = h.trusted;
-        ignorable = h.ignorable;
-        taken_is = e;
-      }
+        pub times_accept : (taken : Taken) → taken ≡ taken_from request part auth → IsOfTimes setup.skew (effective history moment) request part auth
+            → Accept setup history (arrival bytes moment) taken
+        times_accept taken e h = record {
+          request = request;
+          part = part;
+          auth = auth;
+          opened = o;
+          near = is_near;
+          settled = is_settled;
+          unshown = unshown;
+          alive = alive part (effective history moment) setup.skew h.early h.late;
+          trusted = h.trusted;
+          ignorable = h.ignorable;
+          taken_is = e;
+        }
 
   -- ---- one of them answers it
 
@@ -163,19 +192,19 @@ module _ (facts : Facts) (setup : Setup) (history : List Arrival) (bytes : List 
       | inr none ↦ inr (λ h. none (h.of_ticket, h.of_authenticator))
     ]
 
-    by_times : Near (sent_at auth) (effective history moment) setup.skew → ¬ IsShown setup history (stamp_of request part auth)
+    by_times : Near (sent_at auth) (effective history moment) setup.skew → Settled setup (effective history moment) (sent_at auth) → ¬ IsShown setup history (stamp_of request part auth)
         → ((t : Taken) × Accept setup history (arrival bytes moment) t) ⊎ ((r : Refusal) × Cause setup history (arrival bytes moment) r)
-    by_times is_near new = elim early [
-      | inl h ↦ inr (NotYetValid, times_cause is_near new NotYetValid (inl (refl, h)))
+    by_times is_near is_settled new = elim early [
+      | inl h ↦ inr (NotYetValid, times_cause is_near is_settled new NotYetValid (inl (refl, h)))
       | inr begun ↦ elim late [
-        | inl h ↦ inr (Expired, times_cause is_near new Expired (inr (inl (refl, (begun, h)))))
+        | inl h ↦ inr (Expired, times_cause is_near is_settled new Expired (inr (inl (refl, (begun, h)))))
         | inr lasting ↦ elim trusted [
-          | inr h ↦ inr (Transited, times_cause is_near new Transited (inr (inr (inl (refl, (begun, (lasting, h)))))))
+          | inr h ↦ inr (Transited, times_cause is_near is_settled new Transited (inr (inr (inl (refl, (begun, (lasting, h)))))))
           | inl path ↦ elim ignorable [
-            | inr h ↦ inr (Authorization, times_cause is_near new Authorization (inr (inr (inr (refl, (begun, (lasting, (path, h))))))))
+            | inr h ↦ inr (Authorization, times_cause is_near is_settled new Authorization (inr (inr (inr (refl, (begun, (lasting, (path, h))))))))
             | inl ignored ↦ inl (
               taken_from request part auth,
-              times_accept is_near new (taken_from request part auth) refl (record { early = begun; late = lasting; trusted = path; ignorable = ignored }),
+              times_accept is_near is_settled new (taken_from request part auth) refl (record { early = begun; late = lasting; trusted = path; ignorable = ignored }),
             )
           ]
         ]
@@ -187,9 +216,12 @@ module _ (facts : Facts) (setup : Setup) (history : List Arrival) (bytes : List 
         → ((t : Taken) × Accept setup history (arrival bytes moment) t) ⊎ ((r : Refusal) × Cause setup history (arrival bytes moment) r)
     answered shown = elim (near (sent_at auth) (effective history moment) setup.skew) [
       | inr h ↦ inr (Skew, (far (λ s. ⊥) h).cause)
-      | inl is_near ↦ elim shown [
-        | inl h ↦ inr (Repeat, (repeated is_near (λ s. IsShown setup history s) h h).cause)
-        | inr new ↦ by_times is_near new
+      | inl is_near ↦ elim (settled setup (effective history moment) (sent_at auth)) [
+        | inr h ↦ inr (JustStarted, just_started is_near h)
+        | inl is_settled ↦ elim shown [
+          | inl h ↦ inr (Repeat, (repeated is_near is_settled (λ s. IsShown setup history s) h h).cause)
+          | inr new ↦ by_times is_near is_settled new
+        ]
       ]
     ]
 
@@ -197,7 +229,7 @@ module _ (facts : Facts) (setup : Setup) (history : List Arrival) (bytes : List 
 pub accepted_is_clear : Facts → (setup : Setup) (history : List Arrival) (call : Arrival) (taken : Taken) → Accept setup history call taken
     → Clear setup history call (place OutOfMemory)
 accepted_is_clear facts setup history call taken a =
-    past_all facts setup history call.bytes call.moment a.request a.part a.auth a.opened a.near a.unshown
+    past_all facts setup history call.bytes call.moment a.request a.part a.auth a.opened a.near a.settled a.unshown
     (record { early = not_early; late = λ late. late a.alive.lasting; trusted = a.trusted; ignorable = a.ignorable })
   where
     not_early : ¬ IsEarly a.part (effective history call.moment) setup.skew
@@ -205,52 +237,66 @@ accepted_is_clear facts setup history call taken a =
 
 -- ---- which refusals remember a request
 
-late_of_these : (r : Refusal) → IsRemembered r → (r ≡ NotYetValid) ⊎ ((r ≡ Expired) ⊎ ((r ≡ Transited) ⊎ (r ≡ Authorization)))
+late_of_these : (r : Refusal) → IsRemembered r
+    → (r ≡ JustStarted) ⊎ ((r ≡ NotYetValid) ⊎ ((r ≡ Expired) ⊎ ((r ≡ Transited) ⊎ (r ≡ Authorization))))
 late_of_these r kept = grind arith
 
 early_of_these : (r : Refusal) → ¬ IsRemembered r → (place r < place Skew) ⊎ ((r ≡ Skew) ⊎ ((r ≡ Repeat) ⊎ (r ≡ OutOfMemory)))
 early_of_these r kept = grind arith
 
 module _ (facts : Facts) (setup : Setup) (history : List Arrival) (call : Arrival) where
-  -- where neither the clocks' row nor the row of repeats holds, the request is shown, and wasn't before
-  newly : (P : ValueOf ap_req → ValueOf enc_ticket_part → ValueOf authenticator → Type 0) → OfOpened setup call.bytes P
-      → ¬ Holds setup history call Skew → ¬ Holds setup history call Repeat
-      → (stamp : Stamp) × (Shows setup (effective history call.moment) call.bytes stamp × (¬ IsShown setup history stamp))
-  newly P x not_skew not_repeat = elim (near (sent_at x.auth) (effective history call.moment) setup.skew) [
-    | inl is_near ↦ (
-      stamp_of x.request x.part x.auth,
-      (
-        record { request = x.request; part = x.part; auth = x.auth; opened = x.opened; near = is_near; stamp_is = refl },
-        λ shown. not_repeat (record { request = x.request; part = x.part; auth = x.auth; opened = x.opened; holds = shown }),
-      ),
-    )
+  -- the request is shown
+  abbrev ShowsOne : (Stamp → Type 0) → Type 0
+  ShowsOne P = (stamp : Stamp) × (Shows setup (effective history call.moment) call.bytes stamp × P stamp)
+
+  -- where the clocks' row doesn't hold
+  shown_by : (P : ValueOf ap_req → ValueOf enc_ticket_part → ValueOf authenticator → Type 0) → (x : OfOpened setup call.bytes P)
+      → ¬ Holds setup history call Skew → Shows setup (effective history call.moment) call.bytes (stamp_of x.request x.part x.auth)
+  shown_by P x not_skew = elim (near (sent_at x.auth) (effective history call.moment) setup.skew) [
+    | inl is_near ↦ record { request = x.request; part = x.part; auth = x.auth; opened = x.opened; near = is_near; stamp_is = refl }
     | inr far ↦ absurd (not_skew (record { request = x.request; part = x.part; auth = x.auth; opened = x.opened; holds = far }))
   ]
 
-  pub remembers : (r : Refusal) → IsRemembered r → Cause setup history call r
-      → (stamp : Stamp) × (Shows setup (effective history call.moment) call.bytes stamp × (¬ IsShown setup history stamp))
+  -- and where that of repeats doesn't either, it wasn't shown before
+  newly : (P : ValueOf ap_req → ValueOf enc_ticket_part → ValueOf authenticator → Type 0) (r : Refusal) → OfOpened setup call.bytes P
+      → ¬ Holds setup history call Skew → ¬ Holds setup history call Repeat → ShowsOne (λ stamp. r ≢ JustStarted → ¬ IsShown setup history stamp)
+  newly P r x not_skew not_repeat = (
+    stamp_of x.request x.part x.auth,
+    (
+      shown_by P x not_skew,
+      λ other shown. not_repeat (record { request = x.request; part = x.part; auth = x.auth; opened = x.opened; holds = shown }),
+    ),
+  )
+
+  pub remembers : (r : Refusal) → IsRemembered r → Cause setup history call r → ShowsOne (λ stamp. r ≢ JustStarted → ¬ IsShown setup history stamp)
   remembers r kept cause = elim (late_of_these r kept) [
-    | inl is ↦ by (subst (λ (x : Refusal). Cause setup history call x) is cause)
-    | inr rest ↦ elim rest [
-      | inl is ↦ by_expired (subst (λ (x : Refusal). Cause setup history call x) is cause)
-      | inr others ↦ elim others [
-        | inl is ↦ by_transited (subst (λ (x : Refusal). Cause setup history call x) is cause)
-        | inr is ↦ by_authorization (subst (λ (x : Refusal). Cause setup history call x) is cause)
+    | inl is ↦ by_start is (subst (λ (x : Refusal). Cause setup history call x) is cause)
+    | inr those ↦ elim those [
+      | inl is ↦ by (subst (λ (x : Refusal). Cause setup history call x) is cause)
+      | inr rest ↦ elim rest [
+        | inl is ↦ by_expired (subst (λ (x : Refusal). Cause setup history call x) is cause)
+        | inr others ↦ elim others [
+          | inl is ↦ by_transited (subst (λ (x : Refusal). Cause setup history call x) is cause)
+          | inr is ↦ by_authorization (subst (λ (x : Refusal). Cause setup history call x) is cause)
+        ]
       ]
     ]
   ]
     where
-      by : Cause setup history call NotYetValid → (stamp : Stamp) × (Shows setup (effective history call.moment) call.bytes stamp × (¬ IsShown setup history stamp))
-      by c = newly _ c.holds (c.first Skew (lit< tt)) (c.first Repeat (lit< tt))
+      by_start : r ≡ JustStarted → Cause setup history call JustStarted → ShowsOne (λ stamp. r ≢ JustStarted → ¬ IsShown setup history stamp)
+      by_start is c = (stamp_of c.holds.request c.holds.part c.holds.auth, (shown_by _ c.holds (c.first Skew (lit< tt)), λ other. absurd (other is)))
 
-      by_expired : Cause setup history call Expired → (stamp : Stamp) × (Shows setup (effective history call.moment) call.bytes stamp × (¬ IsShown setup history stamp))
-      by_expired c = newly _ c.holds (c.first Skew (lit< tt)) (c.first Repeat (lit< tt))
+      by : Cause setup history call NotYetValid → ShowsOne (λ stamp. r ≢ JustStarted → ¬ IsShown setup history stamp)
+      by c = newly _ r c.holds (c.first Skew (lit< tt)) (c.first Repeat (lit< tt))
 
-      by_transited : Cause setup history call Transited → (stamp : Stamp) × (Shows setup (effective history call.moment) call.bytes stamp × (¬ IsShown setup history stamp))
-      by_transited c = newly _ c.holds (c.first Skew (lit< tt)) (c.first Repeat (lit< tt))
+      by_expired : Cause setup history call Expired → ShowsOne (λ stamp. r ≢ JustStarted → ¬ IsShown setup history stamp)
+      by_expired c = newly _ r c.holds (c.first Skew (lit< tt)) (c.first Repeat (lit< tt))
 
-      by_authorization : Cause setup history call Authorization → (stamp : Stamp) × (Shows setup (effective history call.moment) call.bytes stamp × (¬ IsShown setup history stamp))
-      by_authorization c = newly _ c.holds (c.first Skew (lit< tt)) (c.first Repeat (lit< tt))
+      by_transited : Cause setup history call Transited → ShowsOne (λ stamp. r ≢ JustStarted → ¬ IsShown setup history stamp)
+      by_transited c = newly _ r c.holds (c.first Skew (lit< tt)) (c.first Repeat (lit< tt))
+
+      by_authorization : Cause setup history call Authorization → ShowsOne (λ stamp. r ≢ JustStarted → ¬ IsShown setup history stamp)
+      by_authorization c = newly _ r c.holds (c.first Skew (lit< tt)) (c.first Repeat (lit< tt))
 
   pub adds_nothing : (r : Refusal) → ¬ IsRemembered r → Cause setup history call r → (stamp : Stamp)
       → Shows setup (effective history call.moment) call.bytes stamp → IsShown setup history stamp

@@ -41,7 +41,7 @@ none_has P credentials none h =
     holds_at (λ one. ¬ P one) h.before h.credential h.after (All-same (λ one. ¬ P one) _ _ (sym h.credentials_are) none) h.holds
 
 module _ (cache : Cache) (service : Principal) (at : ℤ) where
-  one_used : (c d : Credential) → IsUsed cache service at c → IsUsed cache service at d → c ≡ d
+  pub one_used : (c d : Credential) → IsUsed cache service at c → IsUsed cache service at d → c ≡ d
   one_used c d a b = one_first (IsFit cache service at) a.before c a.after b.before d b.after (sym a.credentials_are ∙ b.credentials_are) a.first a.fit b.first b.fit
 
   none_used : (c : Credential) (P : Credential → Type 0) → IsUsed cache service at c → All (λ one. ¬ P one) cache.credentials → P c → ⊥

@@ -1,81 +1,117 @@
 -- In every world that comes about no stamp is accepted twice, whatever the service's keys open.
-use Rattle.std.proofs.Common.{◌≡◌, ◌≢◌, ℕ, List, [], ◌∷◌, refl, sym, ◌∙◌, ap, subst, inl, inr}
-use Rattle.std.specs.Prelude.{All}
+use Rattle.std.proofs.Common.{◌≡◌, ◌≢◌, ℕ, ℤ, ◌≤◌, List, [], ◌∷◌, ◌++◌, refl, sym, ◌∙◌, ap, subst, inl, inr, ◌⊎◌, Some}
+use Rattle.std.specs.Prelude.{◌≤ℤ◌, All}
 use Rattle.krb_ccache.specs.declared.credential.Credential.{Credential}
 use Rattle.krb_replay.specs.Stamp.{Stamp}
 use Rattle.krb_ap.specs.Setup.{Setup, Arrival}
 use Rattle.krb_ap.specs.Opened.{stamp_of}
+use Rattle.krb_ap.specs.Quiet.{IsPast}
 use Rattle.krb_ap.specs.History.{IsShown}
 use Rattle.krb_ap.specs.Taken.{Taken, Accept}
 use Rattle.krb_ap.specs.Once.{HasStamp}
-use Rattle.krb_ap.specs.World.{Held, Replied, World, Event, sends, accepts, refuses, replies, ends, IsOf, Can, Comes, happens, nothing_yet, IsHeldAmong, HoldsOnce, IsHeldOnce}
+use Rattle.krb_ap.specs.World.{Held, Replied, World, Event, sends, accepts, refuses, replies, errs, ends, restarts, IsOf, Can, Comes, happens, nothing_yet, IsHeldAmong, HoldsOnce, IsHeldOnce}
 use Rattle.krb_ap.specs.Inner.Facts.{Facts}
 use Rattle.krb_ap.specs.declared.refusal.Refusal.{Refusal}
+use Rattle.krb_ap.proofs.Behind.{IsWithin, not_past, of_back, of_front, shown_within, wider}
+use Rattle.krb_ap.proofs.Entries.{has_stamp_by, opened_by}
 use Rattle.krb_ap.proofs.Once.{one_stamp, shown_behind}
 use Rattle.krb_ap.proofs.Worlds.{of_all}
 
 module _ (facts : Facts) (setup : Setup) (credential : Credential) where
+  -- what is held of a stamp was shown since the last start, or is of a time before it
+  abbrev IsOld : World → Stamp → Type 0
+  IsOld w stamp = IsShown w.setup w.history stamp ⊎ IsWithin w.earlier w.setup.skew stamp
+
   record IsSingle (w : World) : Type 0 where
+    entries : w.setup.entries ≡ setup.entries
+    begun : (a : Arrival) → IsOf w.earlier a → (start : ℤ) × ((w.setup.start ≡ Some start) × (a.moment ≤ℤ start))
     stamps : HoldsOnce setup w.held
     stamped : (h : Held) → IsOf w.held h → (stamp : Stamp) × HasStamp setup h.call.bytes stamp
-    shown : (stamp : Stamp) → IsHeldAmong setup w.held stamp → IsShown setup w.history stamp
+    old : (stamp : Stamp) → IsHeldAmong setup w.held stamp → IsOld w stamp
     replied : (r : Replied) → IsOf w.replied r → IsOf w.held r.held
     one_reply : (q r : Replied) → IsOf w.replied q → IsOf w.replied r → q.held ≡ r.held → q ≡ r
 
-  nothing : IsSingle nothing_yet
+  nothing : IsSingle (nothing_yet setup)
   nothing = record {
+    entries = refl;
+    begun = λ a o. absurd o;
     stamps = tt;
     stamped = λ h o. absurd o;
-    shown = λ stamp among. absurd among;
+    old = λ stamp among. absurd among;
     replied = λ r o. absurd o;
     one_reply = λ q r o p e. absurd o;
   }
 
-  -- ---- a packet is accepted
+  -- ---- a request is accepted
 
-  module _ (w : World) (single : IsSingle w) (call : Arrival) (taken : Taken) (accept : Accept setup w.history call taken) where
+  module _ (w : World) (single : IsSingle w) (call : Arrival) (taken : Taken) (accept : Accept w.setup w.history call taken) where
     abbrev new_held : Held
     new_held = record { call = call; taken = taken }
 
+    stamp_is : (stamp : Stamp) → HasStamp setup call.bytes stamp → stamp ≡ stamp_of accept.request accept.part accept.auth
+    stamp_is stamp here = one_stamp facts w.setup w.history call taken stamp accept (has_stamp_by setup w.setup (sym single.entries) call.bytes stamp here)
+
     new_stamp : (stamp : Stamp) → HasStamp setup call.bytes stamp → ¬ IsHeldAmong setup w.held stamp
-    new_stamp stamp here among = accept.unshown
-        (subst (λ (s : Stamp). IsShown setup w.history s) (one_stamp facts setup w.history call taken stamp accept here) (single.shown stamp among))
+    new_stamp stamp here among = elim (single.old stamp among) [
+      | inl shown ↦ accept.unshown (subst (λ (s : Stamp). IsShown w.setup w.history s) (stamp_is stamp here) shown)
+      | inr before ↦ not_past w.setup w.earlier stamp single.begun before
+          (subst (λ (s : Stamp). IsPast w.setup s.time) (sym (stamp_is stamp here)) accept.settled.sent_is)
+    ]
 
     stamped_after : (h : Held) → IsOf (new_held ∷ w.held) h → (stamp : Stamp) × HasStamp setup h.call.bytes stamp
     stamped_after h (inl e) = subst (λ (x : Held). (stamp : Stamp) × HasStamp setup x.call.bytes stamp) e (
       stamp_of accept.request accept.part accept.auth,
-      record { request = accept.request; part = accept.part; auth = accept.auth; opened = accept.opened; stamp_is = refl },
+      record {
+        request = accept.request;
+        part = accept.part;
+        auth = accept.auth;
+        opened = opened_by w.setup setup single.entries call.bytes accept.request accept.part accept.auth accept.opened;
+        stamp_is = refl;
+      },
     )
     stamped_after h (inr o) = single.stamped h o
 
-    shown_after : (stamp : Stamp) → IsHeldAmong setup (new_held ∷ w.held) stamp → IsShown setup (call ∷ w.history) stamp
-    shown_after stamp (inl here) = inl (record {
+    old_after : (stamp : Stamp) → IsHeldAmong setup (new_held ∷ w.held) stamp → IsOld (happens w (accepts call taken)) stamp
+    old_after stamp (inl here) = inl (inl (record {
       request = accept.request;
       part = accept.part;
       auth = accept.auth;
       opened = accept.opened;
       near = accept.near;
-      stamp_is = one_stamp facts setup w.history call taken stamp accept here;
-    })
-    shown_after stamp (inr among) = inr (single.shown stamp among)
+      stamp_is = stamp_is stamp here;
+    }))
+    old_after stamp (inr among) = elim (single.old stamp among) [ inl shown ↦ inl (inr shown) | inr before ↦ inr before ]
 
     after_accepting : IsSingle (happens w (accepts call taken))
     after_accepting = record {
+      entries = single.entries;
+      begun = single.begun;
       stamps = (new_stamp, single.stamps);
       stamped = stamped_after;
-      shown = shown_after;
+      old = old_after;
       replied = λ r o. inr (single.replied r o);
       one_reply = single.one_reply;
     }
 
-  after_refusing : (w : World) → IsSingle w → (call : Arrival) (refusal : Refusal) → IsSingle (happens w (refuses call refusal))
-  after_refusing w single call refusal = record {
-    stamps = single.stamps;
-    stamped = single.stamped;
-    shown = λ stamp among. shown_behind facts setup w.history call refusal stamp (single.shown stamp among);
-    replied = single.replied;
-    one_reply = single.one_reply;
-  }
+  -- ---- or refused
+
+  module _ (w : World) (single : IsSingle w) (call : Arrival) (refusal : Refusal) where
+    old_refused : (stamp : Stamp) → IsHeldAmong setup w.held stamp → IsOld (happens w (refuses call refusal)) stamp
+    old_refused stamp among = elim (single.old stamp among) [
+      | inl shown ↦ inl (shown_behind facts w.setup w.history call refusal stamp shown)
+      | inr before ↦ inr before
+    ]
+
+    after_refusing : IsSingle (happens w (refuses call refusal))
+    after_refusing = record {
+      entries = single.entries;
+      begun = single.begun;
+      stamps = single.stamps;
+      stamped = single.stamped;
+      old = old_refused;
+      replied = single.replied;
+      one_reply = single.one_reply;
+    }
 
   -- ---- a reply is sent
 
@@ -94,35 +130,73 @@ module _ (facts : Facts) (setup : Setup) (credential : Credential) where
 
     after_replying : IsSingle (happens w (replies r))
     after_replying = record {
+      entries = single.entries;
+      begun = single.begun;
       stamps = single.stamps;
       stamped = single.stamped;
-      shown = single.shown;
+      old = single.old;
       replied = replied_after;
       one_reply = one_after;
     }
 
+  -- ---- the service is started again
+
+  module _ (w : World) (single : IsSingle w) (start : ℤ) (skew : ℕ) (no_earlier : All (λ call. call.moment ≤ℤ start) (w.history ++ w.earlier))
+      (no_smaller : w.setup.skew ≤ skew) where
+    old_started : (stamp : Stamp) → IsHeldAmong setup w.held stamp → IsOld (happens w (restarts start skew)) stamp
+    old_started stamp among = elim (single.old stamp among) [
+      | inl shown ↦ inr (wider w.history (w.history ++ w.earlier) w.setup.skew skew stamp no_smaller (of_front w.history w.earlier)
+          (shown_within w.setup w.history stamp shown))
+      | inr before ↦ inr (wider w.earlier (w.history ++ w.earlier) w.setup.skew skew stamp no_smaller (of_back w.history w.earlier) before)
+    ]
+
+    after_starting : IsSingle (happens w (restarts start skew))
+    after_starting = record {
+      entries = single.entries;
+      begun = λ a o. (start, (refl, of_all (λ (x : Arrival). x.moment ≤ℤ start) (w.history ++ w.earlier) a no_earlier o));
+      stamps = single.stamps;
+      stamped = single.stamped;
+      old = old_started;
+      replied = single.replied;
+      one_reply = single.one_reply;
+    }
+
   -- ---- one event after another
 
-  after_event : (w : World) (event : Event) → IsSingle w → Can setup credential w event → IsSingle (happens w event)
+  after_event : (w : World) (event : Event) → IsSingle w → Can credential w event → IsSingle (happens w event)
   after_event w (sends s) single can = record {
+    entries = single.entries;
+    begun = single.begun;
     stamps = single.stamps;
     stamped = single.stamped;
-    shown = single.shown;
+    old = single.old;
     replied = single.replied;
     one_reply = single.one_reply;
   }
-  after_event w (accepts call taken) single can = after_accepting w single call taken can.1
+  after_event w (accepts call taken) single can = after_accepting w single call taken can
   after_event w (refuses call refusal) single can = after_refusing w single call refusal
-  after_event w (replies r) single can = after_replying w single r can.0 can.1.0
-  after_event w (ends bytes e) single can = record {
+  after_event w (replies r) single can = after_replying w single r can.0 can.1.1.0
+  after_event w (errs refusal now service bytes) single can = record {
+    entries = single.entries;
+    begun = single.begun;
     stamps = single.stamps;
     stamped = single.stamped;
-    shown = single.shown;
+    old = single.old;
     replied = single.replied;
     one_reply = single.one_reply;
   }
+  after_event w (ends bytes e) single can = record {
+    entries = single.entries;
+    begun = single.begun;
+    stamps = single.stamps;
+    stamped = single.stamped;
+    old = single.old;
+    replied = single.replied;
+    one_reply = single.one_reply;
+  }
+  after_event w (restarts start skew) single can = after_starting w single start skew can.0 can.1
 
-  comes : (w : World) (events : List Event) (end : World) → IsSingle w → Comes setup credential w events end → IsSingle end
+  comes : (w : World) (events : List Event) (end : World) → IsSingle w → Comes credential w events end → IsSingle end
   comes w [] end single c = subst IsSingle (sym c) single
   comes w (event ∷ events) end single c = comes (happens w event) events end (after_event w event single c.0) c.1
 
@@ -155,5 +229,5 @@ module _ (facts : Facts) (setup : Setup) (credential : Credential) where
       replied = λ q r o p same. single.one_reply q r o p (one_held q.held r.held (single.replied q o) (single.replied r p) same);
     }
 
-  pub in_each_world : (events : List Event) (end : World) → Comes setup credential nothing_yet events end → IsHeldOnce setup end
-  in_each_world events end c = held_once end (comes nothing_yet events end nothing c)
+  pub in_each_world : (events : List Event) (end : World) → Comes credential (nothing_yet setup) events end → IsHeldOnce setup end
+  in_each_world events end c = held_once end (comes (nothing_yet setup) events end nothing c)

@@ -14,9 +14,10 @@ use Rattle.krb_keytab.specs.Pick.{no_name, no_key, no_version}
 use Rattle.krb_ap.specs.Setup.{Setup, Arrival}
 use Rattle.krb_ap.specs.Opened.{Asks, Keyed, Ticketed, Authenticated, OpenedAs, OpensAs, OpensAuthenticator, SameClient, IsChoiceFor, sealed_ticket, session_key, entry_key, ticket_usage, sent_at, stamp_of}
 use Rattle.krb_ap.specs.Times.{Near, IsEarly, IsLate, IsPathTrusted, IsDataIgnorable}
+use Rattle.krb_ap.specs.Quiet.{Settled}
 use Rattle.krb_ap.specs.History.{effective, IsShown}
 use Rattle.krb_ap.specs.declared.refusal.Refusal.{Refusal}
-use Rattle.krb_ap.specs.declared.refusal.Refusal.TheVariants.{MessageType, Malformed, UserToUser, TicketEtype, NotUs, NoKey, BadKeyVersion, TicketIntegrity, SessionKey, AuthenticatorIntegrity, BadMatch, Skew, Repeat, NotYetValid, Expired, Transited, Authorization, OutOfMemory}
+use Rattle.krb_ap.specs.declared.refusal.Refusal.TheVariants.{MessageType, Malformed, UserToUser, TicketEtype, NotUs, NoKey, BadKeyVersion, TicketIntegrity, SessionKey, AuthenticatorIntegrity, BadMatch, Skew, JustStarted, Repeat, NotYetValid, Expired, Transited, Authorization, OutOfMemory}
 
 -- ---- what a cause says; each presupposes what the ones before it let through
 
@@ -125,6 +126,9 @@ row BadMatch = row_of 1_100 (codes "BadMatch") (kerberos 36) false
 -- KRB_AP_ERR_SKEW
 row Skew = row_of 1_200 (codes "Skew") (kerberos 37) false
     (λ setup history call. OfOpened setup call.bytes (λ request part auth. ¬ Near (sent_at auth) (effective history call.moment) setup.skew))
+-- KRB_AP_ERR_SKEW
+row JustStarted = row_of 1_250 (codes "JustStarted") (kerberos 37) true
+    (λ setup history call. OfOpened setup call.bytes (λ request part auth. ¬ Settled setup (effective history call.moment) (sent_at auth)))
 -- KRB_AP_ERR_REPEAT
 row Repeat = row_of 1_300 (codes "Repeat") (kerberos 34) false
     (λ setup history call. OfOpened setup call.bytes (λ request part auth. IsShown setup history (stamp_of request part auth)))

@@ -29,6 +29,12 @@ pub record IsOpenedReply (awaited : Awaited) (bytes : List ℕ) (part : ValueOf 
   pub message : IsMessage ap_rep reply bytes
   pub opens : OpensReply awaited.key reply part
 
+-- the bytes are a reply that is sealed for the session key's type
+pub record IsReplyOfType (awaited : Awaited) (bytes : List ℕ) : Type 0 where
+  pub reply : ValueOf ap_rep
+  pub message : IsMessage ap_rep reply bytes
+  pub same_type : etype_of (reply_enc_part reply) ≡ awaited.key.etype
+
 -- the client's moment, as the service repeats it
 abbrev pub repeated_at : ValueOf enc_ap_rep_part → ℤ
 repeated_at part = micros_of (reply_ctime part) (reply_cusec part)

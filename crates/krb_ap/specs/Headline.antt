@@ -15,6 +15,7 @@ use Rattle.krb_ccache.specs.declared.credential.Credential.{Credential}
 use Rattle.krb_ap.specs.Setup.{Setup, Arrival}
 use Rattle.krb_ap.specs.Opened.{OpensAs, entry_key, session_key, stamp_at, ticket_usage}
 use Rattle.krb_ap.specs.Times.{Near, Alive, MayBeIgnored}
+use Rattle.krb_ap.specs.Quiet.{Settled}
 use Rattle.krb_ap.specs.History.{effective, IsShown}
 use Rattle.krb_ap.specs.Taken.{Taken}
 use Rattle.krb_ap.specs.Written.{key_value}
@@ -30,13 +31,14 @@ pub record HasTicket (setup : Setup) (credential : Credential) (ticket : ValueOf
   pub client : SameName (part_client part) credential.client
   pub key : session_key part ≡ credential_key credential
 
--- after a history the request's moment and the ticket's times are good, nothing else is asked of the ticket, and no request of these
--- names and this moment was shown
+-- after a history the request's moment and the ticket's times are good, nothing else is asked of the ticket, no request of these
+-- names and this moment was shown, and the service has settled
 pub record MayBeTaken (setup : Setup) (history : List Arrival) (moment at : ℤ) (ticket : ValueOf ticket_kind) (part : ValueOf enc_ticket_part) : Type 0 where
   pub near : Near at (effective history moment) setup.skew
   pub alive : Alive part (effective history moment) setup.skew
   pub trusted : (crealm_of part ≡ realm_of ticket) ⊎ HasBit (flags_of part) transited_policy_checked
   pub ignorable : MayBeIgnored (authorization_of part)
+  pub settled : Settled setup (effective history moment) at
   pub unshown : ¬ IsShown setup history (stamp_at (ticket_service ticket) (part_client part) at)
 
 -- what the service knows is what the client awaits: its own name (of the ticket's name type), key, moment, subkey and sequence number

@@ -17,3 +17,4 @@ pub mod Reply
 pub mod Finish
 pub mod ErrorReply
 pub mod Inner
+pub mod Quiet

@@ -99,6 +99,13 @@ pub record HasBadTicket (cache : Cache) (service : Principal) (at : ℤ) : Type 
   pub used : IsUsed cache service at credential
   pub bad : (ticket : ValueOf ticket_kind) → ¬ IsMessage ticket_kind ticket credential.ticket
 
+-- they are a ticket
+pub record HasGoodTicket (cache : Cache) (service : Principal) (at : ℤ) : Type 0 where
+  pub credential : Credential
+  pub used : IsUsed cache service at credential
+  pub ticket : ValueOf ticket_kind
+  pub ticket_is : IsMessage ticket_kind ticket credential.ticket
+
 -- they are a ticket, but no bytes are the request: it, or its authenticator, would be longer than messages are
 pub record IsTooLong (cache : Cache) (service : Principal) (at : ℤ) (confounder : List ℕ) (options : RequestOptions) : Type 0 where
   pub credential : Credential

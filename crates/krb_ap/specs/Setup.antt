@@ -2,7 +2,7 @@
 use Rattle.std.specs.Prelude.{ℕ, ℤ, List, Option}
 use Rattle.krb_keytab.specs.Entry.{KeytabEntry}
 
--- the entries of its keytab, by how much a clock may be off, and room for when it was started (none: it doesn't count yet)
+-- the entries of its keytab, by how much a clock may be off, and when it was started again (none: it had no earlier life)
 pub record Setup : Type 0 where
   pub entries : List KeytabEntry
   pub skew : ℕ

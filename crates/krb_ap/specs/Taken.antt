@@ -10,6 +10,7 @@ use Rattle.krb_msg.specs.Fields.{options_of, part_client, flags_of, authtime_of,
 use Rattle.krb_ap.specs.Setup.{Setup, Arrival}
 use Rattle.krb_ap.specs.Opened.{OpenedAs, service_of, session_key, sent_at, stamp_of}
 use Rattle.krb_ap.specs.Times.{Near, Alive, IsPathTrusted, IsDataIgnorable}
+use Rattle.krb_ap.specs.Quiet.{Settled}
 use Rattle.krb_ap.specs.History.{effective, IsShown}
 
 -- what is known of a request that was accepted: the ticket's client and service (its realm and sname, whichever entry of the keytab
@@ -55,13 +56,14 @@ taken_from request part auth = record {
   wants_reply = is_mutual request;
 }
 
--- After a history, an arrival is accepted: it is opened, near, alive, trusted and not shown before. And what is then known.
+-- After a history, an arrival is accepted: it is opened, near, alive, trusted and not shown before, and the service has settled. And what is then known.
 pub record Accept (setup : Setup) (history : List Arrival) (call : Arrival) (taken : Taken) : Type 0 where
   pub request : ValueOf ap_req
   pub part : ValueOf enc_ticket_part
   pub auth : ValueOf authenticator
   pub opened : OpenedAs setup call.bytes request part auth
   pub near : Near (sent_at auth) (effective history call.moment) setup.skew
+  pub settled : Settled setup (effective history call.moment) (sent_at auth)
   pub unshown : ¬ IsShown setup history (stamp_of request part auth)
   pub alive : Alive part (effective history call.moment) setup.skew
   pub trusted : IsPathTrusted request part

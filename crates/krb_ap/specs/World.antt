@@ -1,8 +1,11 @@
--- A client that uses one credential, a service, and a network between them that loses, repeats and reorders what is sent. Only what was
--- sent is delivered; the client sends no two requests of one microsecond; and the service replies at most once to a request that it accepted.
-use Rattle.std.specs.Prelude.{◌≡◌, ◌≢◌, ◌⊎◌, ℕ, ℤ, List, [], ◌∷◌, All}
+-- A client that uses one credential; a service that may be started again, and to which anyone sends what they like; and a network that
+-- loses, repeats and reorders what the two send. Only what was sent reaches the client; it sends no two requests of one microsecond; the
+-- service replies at most once to a request that it accepted; and it is started again no earlier than its clock said before, with no
+-- smaller skew.
+use Rattle.std.specs.Prelude.{◌≡◌, ◌≢◌, ◌⊎◌, ◌≤◌, ◌≤ℤ◌, ℕ, ℤ, List, [], ◌∷◌, ◌++◌, All, Some}
 use Rattle.std.specs.Option.{option_map}
 use Rattle.krb_name.specs.Name.{SameName}
+use Rattle.krb_name.specs.declared.principal.Principal.{Principal}
 use Rattle.krb_der.specs.Kind.{ValueOf}
 use Rattle.krb_msg.specs.Module.{ticket as ticket_kind, enc_ticket_part}
 use Rattle.krb_ccache.specs.declared.credential.Credential.{Credential}
@@ -16,6 +19,7 @@ use Rattle.krb_ap.specs.Written.{key_value}
 use Rattle.krb_ap.specs.Request.{Awaited, IsBuilt, awaited_for}
 use Rattle.krb_ap.specs.Headline.{Agrees, HasTicket}
 use Rattle.krb_ap.specs.Reply.{IsReply}
+use Rattle.krb_ap.specs.ErrorReply.{IsErrorReply}
 use Rattle.krb_ap.specs.Finish.{Agreement, IsAgreed}
 use Rattle.krb_ap.specs.declared.request.RequestOptions.{RequestOptions}
 use Rattle.krb_ap.specs.declared.reply.ReplyOptions.{ReplyOptions}
@@ -48,28 +52,45 @@ pub record Ended : Type 0 where
   pub sent : Sent
   pub agreement : Agreement
 
--- All of it, newest first. The history is that of the service's calls.
+-- All of it, newest first. The setup is what the service decides by now; the history is that of its calls since it was last started, and
+-- the calls before that are the earlier ones.
 pub record World : Type 0 where
-  pub sent : List Sent
+  pub setup : Setup
+  pub earlier : List Arrival
   pub history : List Arrival
+  pub sent : List Sent
   pub held : List Held
   pub replied : List Replied
+  pub errors : List (List ℕ)
   pub ended : List Ended
 
-abbrev pub world : List Sent → List Arrival → List Held → List Replied → List Ended → World
-world sent history held replied ended = record { sent = sent; history = history; held = held; replied = replied; ended = ended }
+abbrev pub world : Setup → List Arrival → List Arrival → List Sent → List Held → List Replied → List (List ℕ) → List Ended → World
+world setup earlier history sent held replied errors ended = record {
+  setup = setup;
+  earlier = earlier;
+  history = history;
+  sent = sent;
+  held = held;
+  replied = replied;
+  errors = errors;
+  ended = ended;
+}
 
-abbrev pub nothing_yet : World
-nothing_yet = world [] [] [] [] []
+abbrev pub nothing_yet : Setup → World
+nothing_yet setup = world setup [] [] [] [] [] [] []
 
 -- it is one of these
 abbrev pub IsOf : {X : Type 0} → List X → X → Type 0
 IsOf [] x = ⊥
 IsOf (y ∷ ys) x = (y ≡ x) ⊎ IsOf ys x
 
--- the bytes were sent, by the client or by the service
+-- the client sent these bytes
+abbrev pub IsSent : World → List ℕ → Type 0
+IsSent w bytes = (s : Sent) × (IsOf w.sent s × (s.bytes ≡ bytes))
+
+-- the bytes were sent, by the client or by the service, which sends replies and errors
 abbrev pub IsPacket : World → List ℕ → Type 0
-IsPacket w bytes = ((s : Sent) × (IsOf w.sent s × (s.bytes ≡ bytes))) ⊎ ((r : Replied) × (IsOf w.replied r × (r.bytes ≡ bytes)))
+IsPacket w bytes = IsSent w bytes ⊎ (((r : Replied) × (IsOf w.replied r × (r.bytes ≡ bytes))) ⊎ IsOf w.errors bytes)
 
 -- what the client awaits of the reply to a request
 abbrev pub awaited_by : Credential → Sent → Awaited
@@ -82,29 +103,43 @@ pub data Event : Type 0 where
   accepts : Arrival → Taken → Event
   refuses : Arrival → Refusal → Event
   replies : Replied → Event
+  errs : Refusal → ℤ → Principal → List ℕ → Event
   ends : List ℕ → Ended → Event
+  restarts : ℤ → ℕ → Event
 
--- The client sends a request that is built with the credential; the service accepts a packet, or refuses it for the first cause or for
--- want of memory; it replies to what it accepted; the client agrees to a packet as the reply to a request.
-abbrev pub Can : Setup → Credential → World → Event → Type 0
-Can setup credential w (sends s) = IsBuilt credential s.at s.confounder s.options s.bytes × All (λ other. other.at ≢ s.at) w.sent
-Can setup credential w (accepts call taken) = IsPacket w call.bytes × Accept setup w.history call taken
-Can setup credential w (refuses call refusal) = IsPacket w call.bytes × (refusal ≢ OutOfMemory → Cause setup w.history call refusal)
-Can setup credential w (replies r) = IsOf w.held r.held × (All (λ other. other.held ≢ r.held) w.replied × IsReply r.held.taken r.confounder r.options r.bytes)
-Can setup credential w (ends bytes e) = IsOf w.sent e.sent × (IsPacket w bytes × IsAgreed (awaited_by credential e.sent) bytes e.agreement)
+-- started again with the same keytab
+abbrev pub started_again : Setup → ℤ → ℕ → Setup
+started_again setup start skew = record { entries = setup.entries; skew = skew; start = Some start }
 
--- the world after it
+-- The client sends a request that is built with the credential. The service accepts any bytes that come, a packet or what others send, or
+-- refuses them for the first cause or out of memory; it replies to what it accepted of the client's requests; it sends an error. The client
+-- agrees to a packet as the reply to a request. The service is started again.
+abbrev pub Can : Credential → World → Event → Type 0
+Can credential w (sends s) = IsBuilt credential s.at s.confounder s.options s.bytes × All (λ other. other.at ≢ s.at) w.sent
+Can credential w (accepts call taken) = Accept w.setup w.history call taken
+Can credential w (refuses call refusal) = refusal ≢ OutOfMemory → Cause w.setup w.history call refusal
+Can credential w (replies r) = IsOf w.held r.held × (IsSent w r.held.call.bytes
+    × (All (λ other. other.held ≢ r.held) w.replied × IsReply r.held.taken r.confounder r.options r.bytes))
+Can credential w (errs refusal now service bytes) = IsErrorReply refusal now service bytes
+Can credential w (ends bytes e) = IsOf w.sent e.sent × (IsPacket w bytes × IsAgreed (awaited_by credential e.sent) bytes e.agreement)
+Can credential w (restarts start skew) = All (λ call. call.moment ≤ℤ start) (w.history ++ w.earlier) × (w.setup.skew ≤ skew)
+
+-- the world after it; a service that is started again has forgotten its history
 abbrev pub happens : World → Event → World
-happens w (sends s) = world (s ∷ w.sent) w.history w.held w.replied w.ended
-happens w (accepts call taken) = world w.sent (call ∷ w.history) (record { call = call; taken = taken } ∷ w.held) w.replied w.ended
-happens w (refuses call refusal) = world w.sent (after_refusal w.history call refusal) w.held w.replied w.ended
-happens w (replies r) = world w.sent w.history w.held (r ∷ w.replied) w.ended
-happens w (ends bytes e) = world w.sent w.history w.held w.replied (e ∷ w.ended)
+happens w (sends s) = world w.setup w.earlier w.history (s ∷ w.sent) w.held w.replied w.errors w.ended
+happens w (accepts call taken) =
+    world w.setup w.earlier (call ∷ w.history) w.sent (record { call = call; taken = taken } ∷ w.held) w.replied w.errors w.ended
+happens w (refuses call refusal) = world w.setup w.earlier (after_refusal w.history call refusal) w.sent w.held w.replied w.errors w.ended
+happens w (replies r) = world w.setup w.earlier w.history w.sent w.held (r ∷ w.replied) w.errors w.ended
+happens w (errs refusal now service bytes) = world w.setup w.earlier w.history w.sent w.held w.replied (bytes ∷ w.errors) w.ended
+happens w (ends bytes e) = world w.setup w.earlier w.history w.sent w.held w.replied w.errors (e ∷ w.ended)
+happens w (restarts start skew) =
+    world (started_again w.setup start skew) (w.history ++ w.earlier) [] w.sent w.held w.replied w.errors w.ended
 
 -- events happen one after another, and this is the world then
-abbrev pub Comes : Setup → Credential → World → List Event → World → Type 0
-Comes setup credential w [] end = end ≡ w
-Comes setup credential w (event ∷ events) end = Can setup credential w event × Comes setup credential (happens w event) events end
+abbrev pub Comes : Credential → World → List Event → World → Type 0
+Comes credential w [] end = end ≡ w
+Comes credential w (event ∷ events) end = Can credential w event × Comes credential (happens w event) events end
 
 -- ---- what both hold then
 
@@ -135,7 +170,7 @@ abbrev pub IsHeldAmong : Setup → List Held → Stamp → Type 0
 IsHeldAmong setup [] stamp = ⊥
 IsHeldAmong setup (h ∷ held) stamp = HasStamp setup h.call.bytes stamp ⊎ IsHeldAmong setup held stamp
 
--- no stamp was accepted twice
+-- no stamp was accepted twice, by the service before and after it was started again together
 abbrev pub HoldsOnce : Setup → List Held → Type 0
 HoldsOnce setup [] = Unit {0}
 HoldsOnce setup (h ∷ held) = ((stamp : Stamp) → HasStamp setup h.call.bytes stamp → ¬ IsHeldAmong setup held stamp) × HoldsOnce setup held
@@ -155,5 +190,5 @@ pub record IsHeldToo (credential : Credential) (w : World) (sent : Sent) (agreem
 -- in each world in which this request was sent, and these bytes are a packet, the service holds what was agreed too
 abbrev pub IsHeldInEachWorld : Awaited → List ℕ → Agreement → Type 0
 IsHeldInEachWorld awaited bytes agreement = (setup : Setup) (credential : Credential) (ticket : ValueOf ticket_kind) (part : ValueOf enc_ticket_part)
-    (events : List Event) (w : World) (sent : Sent) → HasTicket setup credential ticket part → Comes setup credential nothing_yet events w
+    (events : List Event) (w : World) (sent : Sent) → HasTicket setup credential ticket part → Comes credential (nothing_yet setup) events w
     → IsOf w.sent sent → awaited_by credential sent ≡ awaited → IsPacket w bytes → IsHeldToo credential w sent agreement

@@ -37,24 +37,25 @@ pub struct Acceptor<M> {
     pub(crate) keytab: Keytab,
     pub(crate) skew: Skew,
     pub(crate) memory: M,
+    // When it was started again, if it had an earlier life.
+    pub(crate) start: Option<Moment>,
     // The keys for tickets of the service key that was used last, so that they needn't be derived again for the next ticket.
     pub(crate) ready: Option<UsageKey>,
 }
 
 impl<M> Model for Acceptor<M> {
-    ghost use Rattle.std.specs.Prelude.{None};
     ghost use Rattle.krb_ap.specs.Service.{Service};
 
     ghost Value = { Service M };
 
-    ghost view = { λ a. record { setup = record { entries = a.keytab; skew = a.skew; start = None }; memory = a.memory } };
+    ghost view = { λ a. record { setup = record { entries = a.keytab; skew = a.skew; start = a.start }; memory = a.memory } };
 }
 
 impl<M: ReplayMemory> Acceptor<M> {
     /// A service that decides by `keytab` and `skew`, and remembers in `memory`.
     ///
-    /// It is for a service that had no earlier life. One that lost its memory must refuse all requests until twice the skew has passed,
-    /// or it may accept a request again: one whose time was ahead by the skew stays near for that long (RFC 4120, section 3.2.3).
+    /// It is for a service that had no earlier life. For one that lost its memory use [`Acceptor::started`], or it may accept a request
+    /// again: one whose time was ahead by the skew stays near for twice the skew (RFC 4120, section 3.2.3).
     ///
     /// Condition: the memory is new. It has no tuple (`len()` is 0), and was told no moment (`latest()` is `None`).
     pub fn new(keytab: Keytab, skew: Skew, memory: M) -> Acceptor<M>
@@ -68,6 +69,31 @@ impl<M: ReplayMemory> Acceptor<M> {
             keytab,
             skew,
             memory,
+            start: None,
+            ready: None,
+        }
+    }
+
+    /// A service that was started again at `start`, by its clock, and has forgotten what it accepted before.
+    ///
+    /// It is quiet at first: it refuses a request as `JustStarted` if the latest moment or the authenticator's time isn't later than
+    /// `start` by more than the skew. So no request that was accepted before the start is accepted again, if no moment that was handed
+    /// in before is later than `start`, and the skew is no smaller than it was (RFC 4120, section 3.2.3). The start is no moment that
+    /// was handed in: `latest()` of the memory is `None` until the first call.
+    ///
+    /// Condition: the memory is new, as for [`Acceptor::new`].
+    pub fn started(keytab: Keytab, skew: Skew, memory: M, start: Moment) -> Acceptor<M>
+        requires latest { M.newest memory ≡ None }
+        requires empty { (stamp : Stamp) → M.has memory stamp → ⊥ }
+        ensures setup { result.setup ≡ record { entries = keytab; skew = skew; start = Some start } }
+        ensures memory { result.memory ≡ memory }
+        ensures stands { StandsFor result.setup (M.has result.memory) (M.newest result.memory) [] }
+    {
+        Acceptor {
+            keytab,
+            skew,
+            memory,
+            start: Some(start),
             ready: None,
         }
     }
@@ -82,8 +108,8 @@ impl<M: ReplayMemory> Acceptor<M> {
     /// Decides whether a request is accepted (RFC 4120, section 3.2.3), and remembers what has to be remembered of it.
     ///
     /// `now` is the service's clock. Time doesn't go back: what counts is the latest moment that was handed in so far. After each
-    /// answer but `OutOfMemory` that is the memory's latest moment. A request is remembered where it is accepted, and where
-    /// it is refused after the look-up of a repeat.
+    /// answer but `OutOfMemory` that is the memory's latest moment. A request is remembered if it is accepted, if
+    /// it is refused after the look-up of a repeat, and if it is refused as `JustStarted`.
     ///
     /// # Errors
     /// The first cause of [`Refusal`] that holds, in an order of our own; or `OutOfMemory`, and then nothing has changed.

@@ -1,6 +1,6 @@
 //! The client's side: a reply is read.
 
-ghost use Rattle.std.specs.Prelude.{◌≡◌, ◌≢◌, ◌≤◌, ◌↔◌, IfOk, IfErr, IfSome, IsTrue, OnOk, length};
+ghost use Rattle.std.specs.Prelude.{◌≡◌, ◌≢◌, ◌≤◌, ◌↔◌, IfOk, IfErr, IfSome, IsTrue, OnOk, length, IsErrOf};
 ghost use Rattle.krb_der.specs.Kind.{ValueOf};
 ghost use Rattle.krb_der.specs.Spells.{IsMessage};
 ghost use Rattle.krb_enc.specs.Key.{profile_of};
@@ -8,7 +8,7 @@ ghost use Rattle.krb_enc.specs.Opens.{Opens};
 ghost use Rattle.krb_msg.specs.Borrowed.{ap_rep_of, enc_ap_rep_part_of};
 ghost use Rattle.krb_msg.specs.Fields.{cipher_of, etype_of, reply_enc_part};
 ghost use Rattle.krb_msg.specs.Module.{ap_rep, enc_ap_rep_part};
-ghost use Rattle.krb_ap.specs.Finish.{FinishCause, IsAgreed, OpensReply, agreement_of, finish_offset_of, repeated_at};
+ghost use Rattle.krb_ap.specs.Finish.{FinishCause, IsAgreed, IsReplyOfType, OpensReply, agreement_of, finish_offset_of, repeated_at};
 ghost use Rattle.krb_ap.specs.Reply.{reply_usage};
 ghost use Rattle.krb_ap.specs.Request.{Awaited};
 ghost use Rattle.krb_ap.specs.World.{IsHeldInEachWorld};
@@ -60,6 +60,8 @@ impl Pending {
         ensures held { IfOk result (λ agreed. IsHeldInEachWorld self.now reply.now (agreement_of agreed)) }
         ensures fault { IfErr result (λ fault. fault ≢ OutOfMemory → FinishCause self.now reply.now fault) }
         ensures offset { IfErr result (λ fault. IfSome (finish_offset_of fault) (λ at. at ≤ length reply.now)) }
+        // Memory is asked for only to open a reply of the session key's type.
+        ensures memory { IsErrOf result OutOfMemory → IsReplyOfType self.now reply.now }
     {
         facts();
         krb_der::laws::within();
@@ -111,6 +113,7 @@ fn open_reply(alloc: Global, key: &Key, reply: &ApRepRef) -> Result<Vec<u8>, Fin
         Opens (profile_of key.now) key.now.bytes reply_usage (cipher_of (reply_enc_part (ap_rep_of reply.now))) plain.items) }
     ensures shut { IfErr result (λ fault. fault ≢ OutOfMemory → (fault ≡ Integrity)
         × ((part : ValueOf enc_ap_rep_part) → ¬ OpensReply key.now (ap_rep_of reply.now) part)) }
+    ensures memory { IsErrOf result OutOfMemory → etype_of (reply_enc_part (ap_rep_of reply.now)) ≡ key.now.etype }
 {
     if reply.enc_part.etype != key.etype() {
         return Err(FinishFault::Integrity);

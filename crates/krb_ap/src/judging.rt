@@ -1,12 +1,13 @@
 //! What a service decides of a request, before it remembers or answers anything.
 
-ghost use Rattle.std.specs.Prelude.{◌≡◌, ◌≢◌, ℕ, List, IfErr, IfOk, IsErrOf};
+ghost use Rattle.std.specs.Prelude.{◌≡◌, ◌≢◌, ◌↔◌, ℕ, List, IfErr, IfOk, IsErrOf, IsTrue};
 ghost use Rattle.std.specs.Option.{option_map};
 ghost use Rattle.krb_der.specs.Kind.{ValueOf};
 ghost use Rattle.krb_msg.specs.Borrowed.{ap_req_of, authenticator_of, enc_ticket_part_of, typed_of};
 ghost use Rattle.krb_msg.specs.Module.{ap_req};
 ghost use Rattle.krb_msg.specs.Owned.{owned_list_of, owned_typed_of};
 ghost use Rattle.krb_ap.specs.Opened.{Asks, AsksFor, OpenedAs, Ticketed, session_key as key_of_part, service_of};
+ghost use Rattle.krb_ap.specs.Quiet.{Settled};
 ghost use Rattle.krb_ap.specs.Taken.{taken_from};
 ghost use Rattle.krb_ap.specs.Answer.{taken_of};
 ghost use Rattle.krb_ap.specs.Inner.Judging.{IsPlacedWithin, IsPlaceless, Judges};
@@ -22,7 +23,7 @@ use crate::opening::{
 };
 use crate::refusal::Refusal;
 use crate::ticket_keys::{make_ready, open_ticket};
-use crate::times::{is_near, refusal_of_times};
+use crate::times::{is_near, is_past, refusal_of_times};
 use krb_enc::Key;
 use krb_msg::{
     ApReqRef, AuthenticatorRef, EncTicketRef, MUTUAL_REQUIRED, Moment, Principal, Typed,
@@ -155,7 +156,8 @@ impl<M: ReplayMemory> Acceptor<M> {
             → Judges self.now.setup (M.has self.now.memory) (M.newest self.now.memory) bytes now result }
     {
         facts();
-        if !is_near(Moment::at(auth.ctime, auth.cusec), now, self.skew) {
+        let sent = Moment::at(auth.ctime, auth.cusec);
+        if !is_near(sent, now, self.skew) {
             return Err(Refusal::Skew);
         }
         let client = match part.cname.to_principal(alloc, part.crealm) {
@@ -166,6 +168,12 @@ impl<M: ReplayMemory> Acceptor<M> {
             Ok(tuple) => tuple,
             Err(_) => return Err(Refusal::OutOfMemory),
         };
+        if !self.is_settled(now, sent) {
+            return Ok(Judged {
+                tuple,
+                answer: Err(Refusal::JustStarted),
+            });
+        }
         if self.memory.contains(&tuple) {
             return Err(Refusal::Repeat);
         }
@@ -182,6 +190,13 @@ impl<M: ReplayMemory> Acceptor<M> {
                 Err(_) => Err(Refusal::OutOfMemory),
             },
         }
+    }
+
+    // Whether no request of this moment can have been accepted before the service was started.
+    fn is_settled(&self, now: Moment, sent: Moment) -> bool
+        ensures { IsTrue result ↔ Settled self.now.setup now sent }
+    {
+        is_past(self.start, now, self.skew) && is_past(self.start, sent, self.skew)
     }
 }
 

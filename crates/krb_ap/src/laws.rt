@@ -1,6 +1,6 @@
 //! Laws over the definitions, for proofs to cite. Each function does nothing: its contract is the law.
 
-ghost use Rattle.std.specs.Prelude.{◌≡◌, ◌⊎◌, ℕ, ℤ, List, Result};
+ghost use Rattle.std.specs.Prelude.{◌≡◌, ◌≢◌, ◌⊎◌, ℕ, ℤ, List, Result};
 ghost use Rattle.krb_name.specs.declared.principal.Principal.{Principal};
 ghost use Rattle.krb_der.specs.Kind.{ValueOf};
 ghost use Rattle.krb_msg.specs.Module.{enc_ticket_part, ticket as ticket_kind};
@@ -23,8 +23,9 @@ ghost use Rattle.krb_ap.specs.World.{BothAgree, Comes, Event, IsHeldInEachWorld,
 ghost use Rattle.krb_ccache.specs.declared.credential.Credential.{Credential};
 ghost use Rattle.krb_ap.specs.declared.accepted.Accepted.{Accepted};
 ghost use Rattle.krb_ap.specs.declared.refusal.Refusal.{Refusal};
+ghost use Rattle.krb_ap.specs.declared.refusal.Refusal.TheVariants.{JustStarted};
 
-use crate::inner_laws::{decisions, facts};
+use crate::inner_laws::{decisions, facts, writing};
 
 /// Says that after each history a call has exactly one answer: it is accepted, or there is a first cause, and it isn't both; what is known
 /// of an accepted request is one, and so is the first cause (whatever fault a malformed request tells).
@@ -42,12 +43,13 @@ pub fn one_answer()
     decisions();
 }
 
-/// Says which calls add to what was shown: one that is refused for a cause whose row says that it is remembered shows a request, which
-/// wasn't shown before; and one that is refused for another cause shows none, or one that was shown before.
+/// Says which calls add to what was shown. One that is refused for a cause whose row says that it is remembered shows a request, which
+/// wasn't shown before unless the cause is `JustStarted`. One that is refused for another cause shows none, or one that was shown before.
 pub fn refused_is_remembered()
     ensures remembered { (setup : Setup) (history : List Arrival) (call : Arrival) (cause : Refusal)
         → Cause setup history call cause → IsRemembered cause
-        → (stamp : Stamp) × (Shows setup (effective history call.moment) call.bytes stamp × (¬ IsShown setup history stamp)) }
+        → (stamp : Stamp) × (Shows setup (effective history call.moment) call.bytes stamp
+        × (cause ≢ JustStarted → ¬ IsShown setup history stamp)) }
     ensures nothing { (setup : Setup) (history : List Arrival) (call : Arrival) (cause : Refusal)
         → Cause setup history call cause → ¬ IsRemembered cause
         → (stamp : Stamp) → Shows setup (effective history call.moment) call.bytes stamp → IsShown setup history stamp }
@@ -73,15 +75,26 @@ pub fn built_is_accepted()
     facts();
 }
 
-/// Says that where a client builds a request, nothing prevents it, and that what prevents one is one fault.
+/// Says that there is one request, or one fault that prevents it: if no bytes are a request, a fault prevents it; if some are, none does,
+/// and they are one, as is what the client awaits; and what prevents a request is one fault.
 pub fn built_or_prevented()
+    ensures some { (cache : Cache) (service : Principal) (at : ℤ) (confounder : List ℕ) (options : RequestOptions)
+        → ((bytes : List ℕ) (awaited : Awaited) → ¬ IsRequest cache service at confounder options bytes awaited)
+        → (fault : RequestFault) × Prevents cache service at confounder options fault }
+    ensures one { (cache : Cache) (service : Principal) (at : ℤ) (confounder : List ℕ) (options : RequestOptions)
+        (bytes others : List ℕ) (awaited other : Awaited) → IsRequest cache service at confounder options bytes awaited
+        → IsRequest cache service at confounder options others other → (bytes ≡ others) × (awaited ≡ other) }
     ensures apart { (cache : Cache) (service : Principal) (at : ℤ) (confounder : List ℕ) (options : RequestOptions) (bytes : List ℕ)
         (awaited : Awaited) (fault : RequestFault) → IsRequest cache service at confounder options bytes awaited
         → Prevents cache service at confounder options fault → ⊥ }
     ensures fault { (cache : Cache) (service : Principal) (at : ℤ) (confounder : List ℕ) (options : RequestOptions)
         (one other : RequestFault) → Prevents cache service at confounder options one
         → Prevents cache service at confounder options other → one ≡ other }
-{}
+{
+    facts();
+    decisions();
+    writing();
+}
 
 /// Says that to a reply a client has exactly one answer: it agrees, or there is a first cause to refuse the reply, and it isn't both;
 /// what it agrees on is one, and so is the first cause (whatever fault a malformed reply tells).
@@ -110,16 +123,18 @@ pub fn no_stamp_twice()
     facts();
 }
 
-/// Says that whatever the network loses, repeats or reorders, a client that agrees to a reply holds what the service holds for that
-/// request, of which there is something, and that all of it agrees. What may happen is said in `specs/World`: only what the two sent
-/// is delivered, no two requests are of one microsecond, and there is at most one reply for each acceptance; and the key that the
-/// keytab has opens the credential's ticket to its client and key. Clause `each` says it of one request and one reply. Clause `once`
-/// doesn't presuppose the ticket: no stamp is accepted twice, and what the service holds of a request is one, as is its reply.
+/// Says that whatever the network loses, repeats or reorders, whatever others send to the service, and however often it is started again,
+/// a client that agrees to a reply holds what the service holds for that request, of which there is something, and that all of it agrees.
+/// What may happen is said in `specs/World`: only what the two sent reaches the client, no two requests are of one microsecond, there is at
+/// most one reply for each acceptance, and no start is earlier than a moment that was handed in before, nor a skew smaller; and the key that
+/// the keytab has opens the credential's ticket to its client and key. Clause `each` says it of one request and one reply. Clause `once`
+/// doesn't presuppose the ticket: no stamp is accepted twice, by the service before and after its starts together, and what it holds of a
+/// request is one, as is its reply.
 pub fn both_agree()
     ensures once { (setup : Setup) (credential : Credential) (events : List Event) (end : World)
-        → Comes setup credential nothing_yet events end → IsHeldOnce setup end }
+        → Comes credential (nothing_yet setup) events end → IsHeldOnce setup end }
     ensures all { (setup : Setup) (credential : Credential) (ticket : ValueOf ticket_kind) (part : ValueOf enc_ticket_part) (events : List Event) (end : World)
-        → HasTicket setup credential ticket part → Comes setup credential nothing_yet events end → BothAgree credential end }
+        → HasTicket setup credential ticket part → Comes credential (nothing_yet setup) events end → BothAgree credential end }
     ensures each { (awaited : Awaited) (bytes : List ℕ) (agreement : Agreement)
         → IsAgreed awaited bytes agreement → IsHeldInEachWorld awaited bytes agreement }
 {

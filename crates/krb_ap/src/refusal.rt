@@ -47,6 +47,10 @@ pub enum Refusal {
     /// The authenticator's time is further than the skew from the latest moment that was handed in.
     #[error("the clocks differ by too much")]
     Skew,
+    /// The service was started again, and the latest moment or the authenticator's time isn't later than that start by more than the
+    /// skew: a request of this time may have been accepted before. The request is remembered.
+    #[error("the service has just started")]
+    JustStarted,
     /// A request of the same service, client and time was seen before, whatever its other bytes.
     #[error("the request is a repeat")]
     Repeat,
@@ -95,6 +99,7 @@ impl Refusal {
             Refusal::AuthenticatorIntegrity => row_of(1_000, "AuthenticatorIntegrity", 31),
             Refusal::BadMatch => row_of(1_100, "BadMatch", 36),
             Refusal::Skew => row_of(1_200, "Skew", 37),
+            Refusal::JustStarted => row_of(1_250, "JustStarted", 37),
             Refusal::Repeat => row_of(1_300, "Repeat", 34),
             Refusal::NotYetValid => row_of(1_400, "NotYetValid", 33),
             Refusal::Expired => row_of(1_500, "Expired", 32),

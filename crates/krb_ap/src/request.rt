@@ -1,12 +1,12 @@
 //! The client's side: a request is built.
 
-ghost use Rattle.std.specs.Prelude.{◌≡◌, ◌≢◌, ℕ, List, IfOk, IfErr};
+ghost use Rattle.std.specs.Prelude.{◌≡◌, ◌≢◌, ℕ, List, IfOk, IfErr, IsErrOf};
 ghost use Rattle.krb_enc.specs.Key.{IsUsable};
 ghost use Rattle.krb_der.specs.Spells.{IsMessage};
 ghost use Rattle.krb_msg.specs.Borrowed.{ticket_of};
 ghost use Rattle.krb_msg.specs.Module.{ticket as ticket_kind};
 ghost use Rattle.krb_ap.specs.Credentials.{credential_key};
-ghost use Rattle.krb_ap.specs.Request.{IsBuilt, IsPlain, IsRequest, Prevents, options_for};
+ghost use Rattle.krb_ap.specs.Request.{HasGoodTicket, IsBuilt, IsPlain, IsRequest, Prevents, options_for};
 ghost use Rattle.krb_ap.specs.declared.request_fault.RequestFault.TheVariants.{TooLong, OutOfMemory};
 
 use crate::credentials::used;
@@ -37,7 +37,8 @@ pub struct RequestOptions {
 /// Builds a request for `service` with the first credential of `cache` that fits: a ticket of the cache's default principal for
 /// the service (no configuration entry) whose session key is usable, and that ends later than `at`.
 ///
-/// `at` is the client's clock, and `confounder` is 16 random bytes, new for each call. The authenticator tells the credential's
+/// `at` is the client's clock: hand in no moment twice for one credential, since a service refuses the second request as a repeat, and
+/// the replies to two requests of one moment can't be told apart. `confounder` is 16 random bytes, new for each call. The authenticator tells the credential's
 /// client, `at`, and the options' subkey and sequence number. The request has the ticket, and no option but mutual-required.
 ///
 /// # Errors
@@ -60,6 +61,8 @@ pub fn make_request(
     ensures request { IfOk result (λ made. IsRequest cache.now service.now at confounder.now options made.0.items made.1) }
     ensures fault { IfErr result (λ fault. fault ≢ OutOfMemory
         → Prevents cache.now service.now at confounder.now options fault) }
+    // Memory is asked for only once a credential is chosen and its ticket was read.
+    ensures memory { IsErrOf result OutOfMemory → HasGoodTicket cache.now service.now at }
 {
     let credential = used(cache, service, at)?;
     let ticket = match TicketRef::parse(credential.ticket.as_slice()) {

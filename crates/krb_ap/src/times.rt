@@ -1,6 +1,6 @@
 //! Times of a request and its ticket, and what is asked of a ticket beside them.
 
-ghost use Rattle.std.specs.Prelude.{◌≡◌, ◌↔◌, ◌≤ℤ◌, ◌+ℤ◌, All, IsTrue, MatchOption, pos};
+ghost use Rattle.std.specs.Prelude.{◌≡◌, ◌↔◌, ◌≤ℤ◌, ◌<ℤ◌, ◌+ℤ◌, All, IfSome, IsTrue, MatchOption, pos};
 ghost use Rattle.krb_msg.specs.Fields.{type_of};
 ghost use Rattle.krb_msg.specs.Borrowed.{ap_req_of, authenticator_of, enc_ticket_part_of};
 ghost use Rattle.krb_ap.specs.Times.{Near, second_at, IsEarly, IsLate, IsPathTrusted, IsDataIgnorable, MayBeIgnored};
@@ -25,6 +25,16 @@ fn is_within(one: Moment, other: Moment, skew: Skew) -> bool
     ensures { IsTrue result ↔ (one ≤ℤ (other +ℤ pos skew)) }
 {
     one.micros() <= other.micros() + skew.micros()
+}
+
+/// Whether a moment is later than a service's start by more than the skew; without a start it is.
+pub(crate) fn is_past(start: Option<Moment>, moment: Moment, skew: Skew) -> bool
+    ensures { IsTrue result ↔ IfSome start (λ start. (start +ℤ pos skew) <ℤ moment) }
+{
+    match start {
+        Some(start) => !is_within(moment, start, skew),
+        None => true,
+    }
 }
 
 fn start_of(second: Seconds) -> Moment

@@ -1,4 +1,4 @@
--- The machine values of a `Handle`, and its two states. Assumes `Logic`.
+-- The machine values of a `Handle`, and the two states of each handle. Assumes `Logic`.
 use Rattle.std.proofs.Common.{◌≡◌, ℕ, List, [], ◌∷◌, ◌++◌, refl, subst, lit<}
 use seplogic.Ra.Ura.{Ura}
 use mir.Syntax.{impl, tnil, dnil}
@@ -36,7 +36,7 @@ use Rattle.krb_c.proofs.Values.{both}
 abbrev pub Z : RattleType
 Z = heap.the_row
 
-abbrev al : Al
+abbrev pub al : Al
 al = record { row = Z; laws = heap_laws.the_row_laws; g = ghosts; d = impl [] tnil dnil; drops = impl [] tnil dnil }
 
 pub handle_good : (p : Ptr) (h : Val) → Good (layout Z) h → Good (layout handle.the_row) (both (ptr_val p) h)
@@ -45,8 +45,8 @@ handle_good (block_ptr b o) h fits = (and_tt (has_ty (layout Z) h) fits.0, (tt, 
 
 module _ {M : Type 1} {𝓤 : Ura M} (𝓛 : Logic 𝓤) where
   -- a pointer that may be freed may be compared with null
-  tested : (a : Global) (p : Ptr) (x : V.Denot) → ent 𝓤 (sem 𝓛 (box_owns (ghosts.dealloc_token a) V p x)) (guard 𝓤 (Testable p) (sem 𝓛 (box_owns (ghosts.dealloc_token a) V p x)))
-  tested a p x = fact_use 𝓤 (Testable p) (via 𝓤 _ (snd∗ 𝓤 (sem 𝓛 (lies_at V full_share p x)) (sem 𝓛 (ghosts.dealloc_token a (bare (lone V.mir)) p))) (dealloc_token-Testable 𝓛 a (bare (lone V.mir)) p))
+  tested : (V : RattleType) (a : Global) (p : Ptr) (x : V.Denot) → ent 𝓤 (sem 𝓛 (box_owns (ghosts.dealloc_token a) V p x)) (guard 𝓤 (Testable p) (sem 𝓛 (box_owns (ghosts.dealloc_token a) V p x)))
+  tested V a p x = fact_use 𝓤 (Testable p) (via 𝓤 _ (snd∗ 𝓤 (sem 𝓛 (lies_at V full_share p x)) (sem 𝓛 (ghosts.dealloc_token a (bare (lone V.mir)) p))) (dealloc_token-Testable 𝓛 a (bare (lone V.mir)) p))
       (guard_i 𝓤 (Testable p) (sem 𝓛 (box_owns (ghosts.dealloc_token a) V p x)))
 
 module _ {M : Type 1} {𝓤 : Ura M} {𝓛 : Logic 𝓤} {K : Type 0} {Γ : List (Item 𝓤)} {G : Goal 𝓤 𝓛.H} where
@@ -63,10 +63,10 @@ module _ {M : Type 1} {𝓤 : Ura M} {𝓛 : Logic 𝓤} {K : Type 0} {Γ : List
       fsplit t $ fpick t (λ vss. fsplit t $ feq_l t (λ ev. fsplit t $ feq_l t (λ ep. fsplit t $ handle_tells al t d.alloc vss.1.0 (λ h ea fits. move t (1 ∷ []) $ drop t $ move t (1 ∷ []) $ k h
       (subst (λ (ws : List Val). vs ≡ vstruct (of_list (ptr_val d.at ∷ (ws ++ []))) ∷ []) ea (subst (λ (ps : List Val). vs ≡ vstruct (of_list (ps ++ (vss.1.0 ++ []))) ∷ []) ep ev)) fits))))
 
-  pub either : K → (a : Global) (p : Ptr) (x : Option V.Denot) → (p ≡ null_ptr → x ≡ None → Seq K 𝓛 Γ G)
+  pub either : (V : RattleType) → K → (a : Global) (p : Ptr) (x : Option V.Denot) → (p ≡ null_ptr → x ≡ None → Seq K 𝓛 Γ G)
       → ((b o : ℕ) (v : V.Denot) → p ≡ block_ptr b o → x ≡ Some v → Testable (block_ptr b o) → Seq K 𝓛 (‵ (box_owns (ghosts.dealloc_token a) V (block_ptr b o) v) ∷ Γ) G)
       → Seq K 𝓛 (‵ (handle_owns V a p x) ∷ Γ) G
-  either t a null_ptr None none some = drop t $ none refl refl
-  either t a null_ptr (Some v) none some = fpick t (λ e. absurd e)
-  either t a (block_ptr b o) None none some = fpick t (λ e. absurd e)
-  either t a (block_ptr b o) (Some v) none some = use1 𝓛 (given (Testable (block_ptr b o)) (‵ (box_owns (ghosts.dealloc_token a) V (block_ptr b o) v))) (tested 𝓛 a (block_ptr b o) v) $ learn t (λ e. some b o v refl refl e)
+  either V t a null_ptr None none some = drop t $ none refl refl
+  either V t a null_ptr (Some v) none some = fpick t (λ e. absurd e)
+  either V t a (block_ptr b o) None none some = fpick t (λ e. absurd e)
+  either V t a (block_ptr b o) (Some v) none some = use1 𝓛 (given (Testable (block_ptr b o)) (‵ (box_owns (ghosts.dealloc_token a) V (block_ptr b o) v))) (tested 𝓛 V a (block_ptr b o) v) $ learn t (λ e. some b o v refl refl e)

@@ -1,5 +1,8 @@
 mod Values
 mod Handles
+mod Slots
+mod CacheHandles
+mod PendingHandles
 mod Making
 mod Requests
 mod Truth

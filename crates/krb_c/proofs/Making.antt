@@ -1,5 +1,5 @@
 -- How files are read as the answers that they have, and how a keytab and a skew make a service.
-use Rattle.std.proofs.Common.{◌≡◌, ◌⊎◌, inl, inr, ℕ, List, [], ap, refl, subst, sym, ◌∙◌}
+use Rattle.std.proofs.Common.{◌≡◌, ◌⊎◌, inl, inr, ℕ, ℤ, Option, List, [], ap, refl, subst, sym, ◌∙◌}
 use Rattle.std.specs.Prelude.{Result, Ok, Err, None}
 use Rattle.krb_keytab.specs.Entry.{KeytabEntry}
 use Rattle.krb_ccache.specs.Format.{IsAnswerOf, IsFaultOf}
@@ -55,14 +55,14 @@ pub cache_there : (bytes : List ℕ) (f : CacheFault) (answer : Result Cache Cac
 cache_there bytes f (Ok cache) is faulty want = (cache, is)
 cache_there bytes f (Err fault) is faulty want = absurd (subst (IsFaultOf bytes) (sym (ap (fault_or f) (faulty fault is)) ∙ want) is)
 
-pub fresh_of : (a : Service Memory) (entries found : List KeytabEntry) (skew micros : ℕ) (memory : Memory)
-    → a.setup ≡ record { entries = found; skew = skew; start = None } → a.memory ≡ memory → memory ≡ record { stamps = []; latest = None }
-    → found ≡ entries → skew ≡ micros → ◌≡◌ {A = Login} (record { acceptor = a; last = None; refusal = None }) (fresh entries micros)
-fresh_of a entries found skew micros memory s m n e k =
-    λ i. record { acceptor = record { setup = (s ∙ (λ j. record { entries = e j; skew = k j; start = None })) i; memory = (m ∙ n) i }; last = None; refusal = None }
+pub fresh_of : (a : Service Memory) (entries found : List KeytabEntry) (skew micros : ℕ) (start : Option ℤ) (memory : Memory)
+    → a.setup ≡ record { entries = found; skew = skew; start = start } → a.memory ≡ memory → memory ≡ record { stamps = []; latest = None }
+    → found ≡ entries → skew ≡ micros → ◌≡◌ {A = Login} (record { acceptor = a; refusal = None }) (fresh entries micros start)
+fresh_of a entries found skew micros start memory s m n e k =
+    λ i. record { acceptor = record { setup = (s ∙ (λ j. record { entries = e j; skew = k j; start = start })) i; memory = (m ∙ n) i }; refusal = None }
 
-pub is_fresh : (a : Service Memory) (text : List ℕ) (entries found kept : List KeytabEntry) (skew micros : ℕ) (memory : Memory) (login : Login)
-    → a.setup ≡ record { entries = kept; skew = skew; start = None } → a.memory ≡ memory → memory ≡ record { stamps = []; latest = None }
-    → found ≡ entries → skew ≡ micros → Serves text found kept → login ≡ record { acceptor = a; last = None; refusal = None } → IsFresh text entries micros login
-is_fresh a text entries found kept skew micros memory login s m n e k serves made =
-    (kept, (subst (λ (es : List KeytabEntry). Serves text es kept) e serves, made ∙ fresh_of a kept kept skew micros memory s m n refl k))
+pub is_fresh : (a : Service Memory) (text : List ℕ) (entries found kept : List KeytabEntry) (skew micros : ℕ) (start : Option ℤ) (memory : Memory)
+    (login : Login) → a.setup ≡ record { entries = kept; skew = skew; start = start } → a.memory ≡ memory → memory ≡ record { stamps = []; latest = None }
+    → found ≡ entries → skew ≡ micros → Serves text found kept → login ≡ record { acceptor = a; refusal = None } → IsFresh text entries micros start login
+is_fresh a text entries found kept skew micros start memory login s m n e k serves made =
+    (kept, (subst (λ (es : List KeytabEntry). Serves text es kept) e serves, made ∙ fresh_of a kept kept skew micros start memory s m n refl k))

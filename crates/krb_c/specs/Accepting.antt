@@ -22,6 +22,7 @@ use Rattle.krb_c.specs.Answer.{plain, told}
 use Rattle.krb_c.specs.Codes.{nothing_there, ok}
 use Rattle.krb_c.specs.declared.answer.Answer.{Answer}
 use Rattle.krb_c.specs.declared.answer.Time.{Time}
+use Rattle.krb_c.specs.declared.kept.Kept.{Kept}
 use Rattle.krb_c.specs.declared.login.Login.{Login}
 
 -- what it has seen, and the latest moment that it was told
@@ -35,11 +36,11 @@ latest_of login = login.acceptor.memory.latest
 abbrev pub Stands : Login → List Arrival → Type 0
 Stands login history = StandsFor login.acceptor.setup (Remembers login) (latest_of login) history
 
--- it is new: it has these entries and a skew of so many microseconds, has seen nothing, and has accepted and refused nothing
-abbrev pub fresh : List KeytabEntry → ℕ → Login
-fresh entries skew = record {
-  acceptor = record { setup = record { entries = entries; skew = skew; start = None }; memory = record { stamps = []; latest = None } };
-  last = None;
+-- it is new: it has these entries, a skew of so many microseconds, and the moment at which it was started again, if it had an earlier
+-- life; it has seen nothing, and has refused nothing
+abbrev pub fresh : List KeytabEntry → ℕ → Option ℤ → Login
+fresh entries skew start = record {
+  acceptor = record { setup = record { entries = entries; skew = skew; start = start }; memory = record { stamps = []; latest = None } };
   refusal = None;
 }
 
@@ -49,8 +50,8 @@ Serves [] entries kept = kept ≡ entries
 Serves (byte ∷ text) entries kept = (name : Principal) × (IsReadAs (byte ∷ text) (Ok name) × KeepsOnly name entries kept)
 
 -- it is new, and decides by the entries of the wanted service
-abbrev pub IsFresh : List ℕ → List KeytabEntry → ℕ → Login → Type 0
-IsFresh text entries skew login = (kept : List KeytabEntry) × (Serves text entries kept × (login ≡ fresh kept skew))
+abbrev pub IsFresh : List ℕ → List KeytabEntry → ℕ → Option ℤ → Login → Type 0
+IsFresh text entries skew start login = (kept : List KeytabEntry) × (Serves text entries kept × (login ≡ fresh kept skew start))
 
 -- what a request that was accepted is remembered by
 abbrev pub stamp_told : Accepted → Stamp
@@ -66,16 +67,23 @@ abbrev pub refused_by : Result Accepted Refusal → Option Refusal
 refused_by (Ok accepted) = None
 refused_by (Err refusal) = Some refusal
 
--- it accepted nothing last, and refused nothing, and is else as before
+-- it refused nothing last, and is else as before
 abbrev pub cleared : Login → Login
-cleared login = record { acceptor = login.acceptor; last = None; refusal = None }
+cleared login = record { acceptor = login.acceptor; refusal = None }
+
+-- nothing that was accepted is kept
+abbrev pub nothing_kept : Kept
+nothing_kept = record { accepted = None }
+
+abbrev pub emptied : Kept → Kept
+emptied kept = nothing_kept
 
 -- these are a second of the years 0000 to 9999, and microseconds after it
 abbrev pub IsMomentOf : Time → Type 0
 IsMomentOf time = IsSeconds time.seconds × (time.micros < 1_000_000)
 
 -- a handle that was empty stays so, and of a filled one this holds before and after
-abbrev pub Turns : Option Login → Option Login → Type 0 → (Login → Login → Type 0) → Type 0
+abbrev pub Turns : {Held : Type 0} → Option Held → Option Held → Type 0 → (Held → Held → Type 0) → Type 0
 Turns None new Empty Filled = (new ≡ None) × Empty
 Turns (Some old) None Empty Filled = ⊥
 Turns (Some old) (Some new) Empty Filled = Filled old new
@@ -85,8 +93,8 @@ abbrev pub TellsLatest : Option ℤ → Time → Time → Answer → Type 0
 TellsLatest None old new answer = (answer ≡ plain nothing_there) × (new ≡ old)
 TellsLatest (Some at) old new answer = (answer ≡ plain ok) × ((at ≡ micros_of new.seconds new.micros) × (new.micros < 1_000_000))
 
--- A call is decided: this is the outcome, what is known afterwards, and what is answered.
-pub record Decides (old new : Login) (call : Arrival) (answer : Answer) : Type 0 where
+-- A call is decided: this is the outcome, what is known afterwards, what of it is kept, and what is answered.
+pub record Decides (old new : Login) (call : Arrival) (kept : Option Accepted) (answer : Answer) : Type 0 where
   pub outcome : Result Accepted Refusal
   pub answers : (history : List Arrival) → Stands old history → Answers old.acceptor.setup history call outcome
   pub goes_on : (history : List Arrival) → Stands old history → Stands new (after history call outcome)
@@ -97,8 +105,8 @@ pub record Decides (old new : Login) (call : Arrival) (answer : Answer) : Type 0
   pub offset : IfErr outcome (λ refusal. IfSome (offset_of refusal) (λ at. at ≤ length call.bytes))
   pub memory : IsErrOf outcome OutOfMemory → (request : ValueOf ap_req) × Asks call.bytes request
   pub unchanged : IsErrOf outcome OutOfMemory → SameStamps (Remembers old) (Remembers new) × (latest_of new ≡ latest_of old)
-  pub last : new.last ≡ accepted_by outcome
-  pub service : IfSome new.last (λ accepted. AsksFor call.bytes accepted.service)
-  pub remembered : (history : List Arrival) → Stands old history → IfSome new.last (λ accepted. Remembers new (stamp_told accepted))
+  pub kept_is : kept ≡ accepted_by outcome
+  pub service : IfSome kept (λ accepted. AsksFor call.bytes accepted.service)
+  pub remembered : (history : List Arrival) → Stands old history → IfSome kept (λ accepted. Remembers new (stamp_told accepted))
   pub refusal : new.refusal ≡ refused_by outcome
   pub told_is : answer ≡ told outcome

@@ -1,5 +1,5 @@
--- The client's side: a request for a cache's credential, and what is agreed on by the reply.
-use Rattle.std.specs.Prelude.{◌≡◌, ◌≢◌, ◌⊎◌, ℕ, ℤ, List, [], length, Ok, Err}
+-- The client's side: a cache that is kept, and a request for one of its credentials.
+use Rattle.std.specs.Prelude.{◌≡◌, ◌≢◌, ◌⊎◌, ℕ, ℤ, List, [], length, Option, Some, Ok, Err}
 use Rattle.std.specs.Str.{IsUtf8}
 use Rattle.krb_name.specs.Reading.{IsReadAs}
 use Rattle.krb_name.specs.declared.principal.Principal.{Principal}
@@ -15,7 +15,7 @@ use Rattle.krb_ap.specs.declared.request.RequestOptions.{RequestOptions}
 use Rattle.krb_ap.specs.declared.request_fault.RequestFault.{RequestFault}
 use Rattle.krb_ap.specs.declared.request_fault.RequestFault.TheVariants as request
 use Rattle.krb_c.specs.Accepting.{IsMomentOf}
-use Rattle.krb_c.specs.Answer.{plain, placed, sized}
+use Rattle.krb_c.specs.Answer.{Hands, plain, placed, sized}
 use Rattle.krb_c.specs.Choice.{IsChosen, IsConfounderFault, IsSubkeyFault, seq_of}
 use Rattle.krb_c.specs.Codes.{bad_moment, bad_text, bad_ticket, credential_expired, file_bad_item, file_header, file_version, no_credential, no_realm, no_usable_key, not_read, not_utf8, ok, out_of_memory, too_long}
 use Rattle.krb_c.specs.declared.answer.Answer.{Answer}
@@ -79,23 +79,22 @@ IsNameChecked bytes answer =
 
 -- ---- what is handed in
 
--- the file of a cache, the service's text, the moment, and what the client chooses
+-- a cache, the service's text, the moment, and what the client chooses
 pub record Ask : Type 0 where
-  pub file : List ℕ
+  pub cache : Cache
   pub service : List ℕ
   pub at : Time
   pub choice : Choice
   pub subkey : List ℕ
 
-abbrev pub ask : List ℕ → List ℕ → Time → Choice → List ℕ → Ask
-ask file service at choice subkey = record { file = file; service = service; at = at; choice = choice; subkey = subkey }
+abbrev pub ask : Cache → List ℕ → Time → Choice → List ℕ → Ask
+ask cache service at choice subkey = record { cache = cache; service = service; at = at; choice = choice; subkey = subkey }
 
 abbrev pub moment_of : Time → ℤ
 moment_of at = micros_of at.seconds at.micros
 
 -- what it is read as
-pub record IsAsked (a : Ask) (cache : Cache) (service : Principal) (options : RequestOptions) : Type 0 where
-  pub cache_is : IsCache a.file cache
+pub record IsAsked (a : Ask) (service : Principal) (options : RequestOptions) : Type 0 where
   pub service_is : IsReadAs a.service (Ok service)
   pub at_is : IsMomentOf a.at
   pub chosen : IsChosen a.choice.subkey_type a.subkey options.subkey
@@ -105,21 +104,19 @@ pub record IsAsked (a : Ask) (cache : Cache) (service : Principal) (options : Re
 -- ---- the request
 
 pub record Asks (a : Ask) (confounder bytes : List ℕ) (awaited : Awaited) : Type 0 where
-  pub cache : Cache
   pub service : Principal
   pub options : RequestOptions
-  pub asked : IsAsked a cache service options
+  pub asked : IsAsked a service options
   pub size : length confounder ≡ 16
-  pub request : IsRequest cache service (moment_of a.at) confounder options bytes awaited
+  pub request : IsRequest a.cache service (moment_of a.at) confounder options bytes awaited
 
 -- what is asked for has a fault
 pub record HasRequestFault (a : Ask) (confounder : List ℕ) (answer : Answer) : Type 0 where
-  pub cache : Cache
   pub service : Principal
   pub options : RequestOptions
-  pub asked : IsAsked a cache service options
+  pub asked : IsAsked a service options
   pub fault : RequestFault
-  pub prevents : fault ≢ request.OutOfMemory → Prevents cache service (moment_of a.at) confounder options fault
+  pub prevents : fault ≢ request.OutOfMemory → Prevents a.cache service (moment_of a.at) confounder options fault
   pub answer_is : answer ≡ request_answer fault
 
 abbrev pub IsMomentFault : Time → Answer → Type 0
@@ -128,9 +125,19 @@ IsMomentFault at answer = (¬ IsMomentOf at) × (answer ≡ plain bad_moment)
 -- there is no request: the first fault that holds
 abbrev pub IsAskFault : Ask → List ℕ → Answer → Type 0
 IsAskFault a confounder answer =
-    HasCacheFault a.file answer
-    ⊎ (HasCache a.file × (IsNameFault a.service answer
+    IsNameFault a.service answer
     ⊎ (HasName a.service × (IsMomentFault a.at answer
     ⊎ (IsMomentOf a.at × (IsConfounderFault confounder answer
     ⊎ ((length confounder ≡ 16) × (IsSubkeyFault a.choice a.subkey answer
-    ⊎ HasRequestFault a confounder answer))))))))
+    ⊎ HasRequestFault a confounder answer))))))
+
+-- a request is handed over, and what is awaited is kept; or it is told why not, and what was kept stays
+abbrev pub Sends : Ask → List ℕ → Option Awaited → Option Awaited → List ℕ → List ℕ → Answer → Type 0
+Sends a confounder was is old new answer =
+    ((bytes : List ℕ) × ((awaited : Awaited) × (Asks a confounder bytes awaited × ((is ≡ Some awaited) × Hands bytes old new answer))))
+    ⊎ (IsAskFault a confounder answer × ((is ≡ was) × (new ≡ old)))
+
+-- the bytes are a cache, which is kept; or it is told why not, and what was kept stays
+abbrev pub Keeps : List ℕ → Option Cache → Option Cache → Answer → Type 0
+Keeps bytes was is answer =
+    ((cache : Cache) × (IsCache bytes cache × ((answer ≡ plain ok) × (is ≡ Some cache)))) ⊎ (HasCacheFault bytes answer × (is ≡ was))

@@ -1,7 +1,7 @@
 -- The codes of answers. A number never moves: a cause that comes between two others takes one of the numbers between theirs.
 use Rattle.std.specs.Prelude.{ℕ}
 use Rattle.krb_ap.specs.declared.refusal.Refusal.{Refusal}
-use Rattle.krb_ap.specs.declared.refusal.Refusal.TheVariants.{MessageType, Malformed, UserToUser, TicketEtype, NotUs, NoKey, BadKeyVersion, TicketIntegrity, SessionKey, AuthenticatorIntegrity, BadMatch, Skew, Repeat, NotYetValid, Expired, Transited, Authorization, OutOfMemory}
+use Rattle.krb_ap.specs.declared.refusal.Refusal.TheVariants.{MessageType, Malformed, UserToUser, TicketEtype, NotUs, NoKey, BadKeyVersion, TicketIntegrity, SessionKey, AuthenticatorIntegrity, BadMatch, Skew, JustStarted, Repeat, NotYetValid, Expired, Transited, Authorization, OutOfMemory}
 
 abbrev pub ok : ℕ
 ok = 0
@@ -110,6 +110,7 @@ cause_code SessionKey = 180
 cause_code AuthenticatorIntegrity = 190
 cause_code BadMatch = 200
 cause_code Skew = 210
+cause_code JustStarted = 215
 cause_code Repeat = 220
 cause_code NotYetValid = 230
 cause_code Expired = 240

@@ -1,4 +1,4 @@
--- The client's side: what is agreed on by the reply to a request.
+-- The client's side: what is agreed on by the reply to a request that is awaited.
 use Rattle.std.specs.Prelude.{◌≡◌, ◌≢◌, ◌≤◌, ◌⊎◌, ℕ, pos, List, [], ◌++◌, length, IfSome}
 use Rattle.krb_name.specs.Text.{text_of}
 use Rattle.krb_ap.specs.Finish.{FinishCause, IsAgreed, agreement_of, finish_offset_of}
@@ -8,7 +8,6 @@ use Rattle.krb_ap.specs.declared.finish.Agreed.{Agreed}
 use Rattle.krb_ap.specs.declared.finish_fault.FinishFault.{FinishFault}
 use Rattle.krb_ap.specs.declared.finish_fault.FinishFault.TheVariants as reply
 use Rattle.krb_c.specs.Answer.{Hands, placed, plain}
-use Rattle.krb_c.specs.Asking.{Ask, Asks, IsAskFault}
 use Rattle.krb_c.specs.Codes.{out_of_memory, reply_integrity, reply_malformed, reply_mismatch, reply_type}
 use Rattle.krb_c.specs.Known.{is_there, key_bytes, key_type, number_or_zero, span}
 use Rattle.krb_c.specs.declared.answer.Answer.{Answer}
@@ -22,33 +21,17 @@ finish_answer reply.Integrity = plain reply_integrity
 finish_answer reply.Mismatch = record { code = reply_mismatch; kerberos = pos 46; at = 0; size = 0 }
 finish_answer reply.OutOfMemory = plain out_of_memory
 
--- the reply to the request that is asked for is read, and this is agreed on
-pub record Finishes (a : Ask) (bytes : List ℕ) (agreed : Agreed) : Type 0 where
-  pub confounder : List ℕ
-  pub request : List ℕ
-  pub awaited : Awaited
-  pub asks : Asks a confounder request awaited
+-- the reply to what is awaited is read, and this is agreed on
+pub record Finishes (awaited : Awaited) (bytes : List ℕ) (agreed : Agreed) : Type 0 where
   pub agreed_is : IsAgreed awaited bytes (agreement_of agreed)
   pub held : IsHeldInEachWorld awaited bytes (agreement_of agreed)
 
 -- it is refused
-pub record HasReplyFault (a : Ask) (bytes : List ℕ) (answer : Answer) : Type 0 where
-  pub confounder : List ℕ
-  pub request : List ℕ
-  pub awaited : Awaited
-  pub asks : Asks a confounder request awaited
+pub record HasReplyFault (awaited : Awaited) (bytes : List ℕ) (answer : Answer) : Type 0 where
   pub fault : FinishFault
   pub cause : fault ≢ reply.OutOfMemory → FinishCause awaited bytes fault
   pub offset : IfSome (finish_offset_of fault) (λ at. at ≤ length bytes)
   pub answer_is : answer ≡ finish_answer fault
-
-pub record HasAskFault (a : Ask) (answer : Answer) : Type 0 where
-  pub confounder : List ℕ
-  pub size : length confounder ≡ 16
-  pub fault : IsAskFault a confounder answer
-
-abbrev pub IsFinishFault : Ask → List ℕ → Answer → Type 0
-IsFinishFault a bytes answer = HasAskFault a answer ⊎ HasReplyFault a bytes answer
 
 -- the client's text, the session key and the service's subkey
 abbrev pub agreed_bytes : Agreed → List ℕ
@@ -73,7 +56,7 @@ TellsAgreed x was is old new answer =
     (Hands (agreed_bytes x) old new answer × (is ≡ agreement_told x)) ⊎ ((answer ≡ plain out_of_memory) × ((is ≡ was) × (new ≡ old)))
 
 -- something is agreed on, and told; or it is told why not
-abbrev pub Ends : Ask → List ℕ → Agreement → Agreement → List ℕ → List ℕ → Answer → Type 0
-Ends a bytes was is old new answer =
-    ((agreed : Agreed) × (Finishes a bytes agreed × TellsAgreed agreed was is old new answer))
-    ⊎ (IsFinishFault a bytes answer × ((is ≡ was) × (new ≡ old)))
+abbrev pub Ends : Awaited → List ℕ → Agreement → Agreement → List ℕ → List ℕ → Answer → Type 0
+Ends awaited bytes was is old new answer =
+    ((agreed : Agreed) × (Finishes awaited bytes agreed × TellsAgreed agreed was is old new answer))
+    ⊎ (HasReplyFault awaited bytes answer × ((is ≡ was) × (new ≡ old)))

@@ -3,6 +3,7 @@ pub mod Codes
 pub mod Answer
 pub mod Accepting
 pub mod Known
+pub mod Items
 pub mod Choice
 pub mod Asking
 pub mod Refusing

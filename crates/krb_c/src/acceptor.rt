@@ -1,30 +1,30 @@
 //! The service's side: a handle over a service that takes requests.
 
-ghost use Rattle.std.specs.Prelude.{◌≡◌, ◌≢◌, ◌<◌, ◌≤◌, ◌*◌, ◌↔◌, ◌⊎◌, List, [], None, Some, IfErr, IfOk, IsErrAnd, IsErrOf, IsSomeAnd, MatchResult};
+ghost use Rattle.std.specs.Prelude.{◌≡◌, ◌≢◌, ◌<◌, ◌≤◌, ◌*◌, ◌↔◌, ◌⊎◌, Contains, List, [], None, Some, IfErr, IfOk, IsErrAnd, IsErrOf, IsSomeAnd, MatchResult};
 ghost use Rattle.std.specs.Option.{MatchOption, option_map};
 ghost use Rattle.krb_msg.specs.Moments.{micros_of};
 ghost use Rattle.krb_replay.specs.Memory.{IsSizeOf};
+ghost use Rattle.krb_ap.specs.History.{StandsFor};
 ghost use Rattle.krb_ap.specs.Setup.{arrival};
 ghost use Rattle.krb_keytab.specs.Entry.{KeytabEntry};
 ghost use Rattle.krb_keytab.specs.Format.{IsFaultOf, IsKeytab};
 ghost use Rattle.krb_keytab.specs.declared.fault.KeytabFault.{KeytabFault};
-ghost use Rattle.krb_c.specs.Accepting.{Decides, IsFresh, IsMomentOf, Remembers, Serves, Stands, TellsLatest, Turns, cleared, latest_of};
+ghost use Rattle.krb_c.specs.Accepting.{Decides, IsFresh, IsMomentOf, Remembers, Serves, Stands, TellsLatest, Turns, cleared, emptied, latest_of, nothing_kept};
 ghost use Rattle.krb_c.specs.Asking.{IsUnnamed};
-ghost use Rattle.krb_c.specs.Choice.{TellsReply};
-ghost use Rattle.krb_c.specs.Known.{TellsKnown};
 ghost use Rattle.krb_c.specs.Refusing.{TellsError};
 ghost use Rattle.krb_c.specs.Answer.{keytab_answer, plain};
 ghost use Rattle.krb_c.specs.Codes.{bad_moment, bad_skew, empty_handle, ok, out_of_memory};
 
 use crate::answer::{Answer, Time};
 use crate::asking::name_of;
-use crate::choice::Choice;
 use crate::code;
 use crate::handle::Handle;
-use crate::known::Known;
+use crate::kept::Kept;
 use crate::login::Login;
+use crate::slot::Slot;
 use krb_ap::Acceptor;
 use krb_keytab::Keytab;
+use krb_msg::Moment;
 use krb_replay::{ReplayMemory, Skew, TimedMemory};
 use std::alloc::Global;
 
@@ -41,14 +41,14 @@ pub extern "C" fn fevstunik_acceptor_new(
 ) -> Answer
     ensures skew { (result ≡ plain bad_skew) ↔ (86_400 < skew) }
     ensures made { (entries : List KeytabEntry) → skew ≤ 86_400 → IsKeytab keytab.now entries
-        → ((result ≡ plain ok) × IsSomeAnd handle.new.value (λ login. IsFresh service.now entries (1_000_000 * skew) login))
+        → ((result ≡ plain ok) × IsSomeAnd handle.new.value (λ login. IsFresh service.now entries (1_000_000 * skew) None login))
         ⊎ (IsUnnamed service.now result ⊎ (result ≡ plain out_of_memory)) }
     ensures stands { result ≡ plain ok → IsSomeAnd handle.new.value (λ login. Stands login []) }
     ensures fault { (fault : KeytabFault) → skew ≤ 86_400 → IsFaultOf keytab.now fault
         → (result ≡ keytab_answer fault) ⊎ (result ≡ plain out_of_memory) }
     ensures unchanged { result ≢ plain ok → handle.new.value ≡ handle.old.value }
 {
-    match service_of(alloc, keytab, skew, service) {
+    match service_of(alloc, keytab, skew, service, None) {
         Ok(login) => {
             *handle = Handle::of(login);
             Answer::plain(code::OK)
@@ -57,10 +57,51 @@ pub extern "C" fn fevstunik_acceptor_new(
     }
 }
 
-fn service_of(alloc: Global, keytab: &[u8], skew: u32, service: &[u8]) -> Result<Box<Login>, Answer>
+/// Makes the handle hold a service as `fevstunik_acceptor_new` does, for one that was started again at a moment and has forgotten what it
+/// accepted before: it refuses requests as `JustStarted` until its clock and the client's are later than that by more than the skew.
+#[unsafe(no_mangle)]
+pub extern "C" fn fevstunik_acceptor_started(
+    handle: &mut Handle,
+    alloc: Global,
+    keytab: &[u8],
+    skew: u32,
+    service: &[u8],
+    start: &Time,
+) -> Answer
+    ensures moment { ¬ IsMomentOf start.now → result ≡ plain bad_moment }
+    ensures skew { IsMomentOf start.now → ((result ≡ plain bad_skew) ↔ (86_400 < skew)) }
+    ensures made { (entries : List KeytabEntry) → IsMomentOf start.now → skew ≤ 86_400 → IsKeytab keytab.now entries
+        → ((result ≡ plain ok) × IsSomeAnd handle.new.value
+        (λ login. IsFresh service.now entries (1_000_000 * skew) (Some (micros_of start.now.seconds start.now.micros)) login))
+        ⊎ (IsUnnamed service.now result ⊎ (result ≡ plain out_of_memory)) }
+    ensures stands { result ≡ plain ok → IsSomeAnd handle.new.value (λ login. Stands login []) }
+    ensures fault { (fault : KeytabFault) → IsMomentOf start.now → skew ≤ 86_400 → IsFaultOf keytab.now fault
+        → (result ≡ keytab_answer fault) ⊎ (result ≡ plain out_of_memory) }
+    ensures unchanged { result ≢ plain ok → handle.new.value ≡ handle.old.value }
+{
+    let start = match start.moment() {
+        Some(start) => start,
+        None => return Answer::plain(code::BAD_MOMENT),
+    };
+    match service_of(alloc, keytab, skew, service, Some(start)) {
+        Ok(login) => {
+            *handle = Handle::of(login);
+            Answer::plain(code::OK)
+        }
+        Err(answer) => answer,
+    }
+}
+
+fn service_of(
+    alloc: Global,
+    keytab: &[u8],
+    skew: u32,
+    service: &[u8],
+    start: Option<Moment>,
+) -> Result<Box<Login>, Answer>
     ensures skew { IsErrOf result (plain bad_skew) ↔ (86_400 < skew) }
     ensures made { (entries : List KeytabEntry) → skew ≤ 86_400 → IsKeytab keytab.now entries
-        → MatchResult result (λ login. IsFresh service.now entries (1_000_000 * skew) login.value)
+        → MatchResult result (λ login. IsFresh service.now entries (1_000_000 * skew) start login.value)
         (λ answer. IsUnnamed service.now answer ⊎ (answer ≡ plain out_of_memory)) }
     ensures fault { (fault : KeytabFault) → skew ≤ 86_400 → IsFaultOf keytab.now fault
         → IsErrAnd result (λ answer. (answer ≡ keytab_answer fault) ⊎ (answer ≡ plain out_of_memory)) }
@@ -79,15 +120,31 @@ fn service_of(alloc: Global, keytab: &[u8], skew: u32, service: &[u8]) -> Result
         Ok(keytab) => keytab,
         Err(answer) => return Err(answer),
     };
-    let acceptor = Acceptor::new(keytab, skew, TimedMemory::new(alloc));
     let login = Login {
-        acceptor,
-        last: None,
+        acceptor: acceptor_of(alloc, keytab, skew, start),
         refusal: None,
     };
     match Box::new(alloc, login) {
         Ok(login) => Ok(login),
         Err(_) => Err(Answer::plain(code::OUT_OF_MEMORY)),
+    }
+}
+
+// A service of these entries that has seen nothing.
+fn acceptor_of(
+    alloc: Global,
+    keytab: Keytab,
+    skew: Skew,
+    start: Option<Moment>,
+) -> Acceptor<TimedMemory>
+    ensures setup { result.setup ≡ record { entries = keytab; skew = skew; start = start } }
+    ensures memory { result.memory ≡ record { stamps = []; latest = None } }
+    ensures stands { StandsFor result.setup (Contains result.memory.stamps) result.memory.latest [] }
+{
+    let memory = TimedMemory::new(alloc);
+    match start {
+        Some(start) => Acceptor::started(keytab, skew, memory, start),
+        None => Acceptor::new(keytab, skew, memory),
     }
 }
 
@@ -108,36 +165,63 @@ fn wanted(alloc: Global, keytab: Keytab, service: &[u8]) -> Result<Keytab, Answe
 }
 
 /// Decides whether a request is accepted at a moment of the service's clock, and remembers what has to be remembered of it. What is
-/// accepted is kept until the next call, also one with a moment that is none, and is told by `fevstunik_acceptor_accepted`.
+/// accepted is kept in the handle `accepted`, which `fevstunik_accepted_new` made; after any other answer nothing is kept in it.
 #[unsafe(no_mangle)]
 pub extern "C" fn fevstunik_acceptor_accept(
     handle: &mut Handle,
+    accepted: &mut Slot,
     alloc: Global,
     request: &[u8],
     now: &Time,
 ) -> Answer
-    ensures moment { ¬ IsMomentOf now.now → (result ≡ plain bad_moment) × (handle.new.value ≡ option_map cleared handle.old.value) }
-    ensures decided { IsMomentOf now.now → Turns handle.old.value handle.new.value (result ≡ plain empty_handle)
-        (λ old new. Decides old new (arrival request.now (micros_of now.now.seconds now.now.micros)) result) }
+    ensures moment { ¬ IsMomentOf now.now → (result ≡ plain bad_moment)
+        × ((handle.new.value ≡ option_map cleared handle.old.value) × (accepted.new.value ≡ option_map emptied accepted.old.value)) }
+    ensures decided { IsMomentOf now.now → Turns accepted.old.value accepted.new.value ((result ≡ plain empty_handle) × (handle.new.value ≡ handle.old.value))
+        (λ before kept. Turns handle.old.value handle.new.value ((result ≡ plain empty_handle) × (kept ≡ nothing_kept))
+        (λ old new. Decides old new (arrival request.now (micros_of now.now.seconds now.now.micros)) kept.accepted result)) }
 {
     let now = match now.moment() {
         Some(now) => now,
         None => {
             clear(handle, alloc);
+            forget(accepted, alloc);
             return Answer::plain(code::BAD_MOMENT);
         }
     };
-    match handle.take(alloc) {
-        Some(mut login) => {
-            let answer = login.decide(alloc, request, now);
-            *handle = Handle::of(login);
+    match accepted.take(alloc) {
+        Some(mut kept) => {
+            let answer = decided(handle, alloc, &mut kept, request, now);
+            *accepted = Slot::of(kept);
             answer
         }
         None => Answer::plain(code::EMPTY_HANDLE),
     }
 }
 
-// Nothing is told as accepted or refused afterwards.
+fn decided(
+    handle: &mut Handle,
+    alloc: Global,
+    kept: &mut Kept,
+    request: &[u8],
+    now: Moment,
+) -> Answer
+    ensures { Turns handle.old.value handle.new.value ((result ≡ plain empty_handle) × (kept.new ≡ nothing_kept))
+        (λ old new. Decides old new (arrival request.now now) kept.new.accepted result) }
+{
+    match handle.take(alloc) {
+        Some(mut login) => {
+            let answer = login.decide(alloc, kept, request, now);
+            *handle = Handle::of(login);
+            answer
+        }
+        None => {
+            kept.clear();
+            Answer::plain(code::EMPTY_HANDLE)
+        }
+    }
+}
+
+// Nothing is told as refused afterwards.
 fn clear(handle: &mut Handle, alloc: Global)
     ensures { handle.new.value ≡ option_map cleared handle.old.value }
 {
@@ -150,51 +234,16 @@ fn clear(handle: &mut Handle, alloc: Global)
     }
 }
 
-/// Tells what the last call of `fevstunik_acceptor_accept` accepted: in the buffer the client's text, the session key, the client's
-/// subkey and the text of the service that was asked for, and in `known` where they stand, and the numbers. The places are told also
-/// where the buffer is too short.
-#[unsafe(no_mangle)]
-pub extern "C" fn fevstunik_acceptor_accepted(
-    handle: &mut Handle,
-    alloc: Global,
-    known: &mut Known,
-    buffer: &mut [u8],
-) -> Answer
-    ensures told { MatchOption handle.old.value ((result ≡ plain empty_handle) × ((known.new ≡ known.old) × (buffer.new ≡ buffer.old)))
-        (λ login. TellsKnown login.last known.old known.new buffer.old buffer.new result) }
-    ensures stays { handle.new.value ≡ handle.old.value }
+// Nothing is told as accepted afterwards.
+fn forget(accepted: &mut Slot, alloc: Global)
+    ensures { accepted.new.value ≡ option_map emptied accepted.old.value }
 {
-    match handle.take(alloc) {
-        Some(login) => {
-            let answer = login.tell(alloc, known, buffer);
-            *handle = Handle::of(login);
-            answer
+    match accepted.take(alloc) {
+        Some(mut kept) => {
+            kept.clear();
+            *accepted = Slot::of(kept);
         }
-        None => Answer::plain(code::EMPTY_HANDLE),
-    }
-}
-
-/// Builds the reply to what the last call of `fevstunik_acceptor_accept` accepted. The confounder is 16 random bytes, new for each call.
-#[unsafe(no_mangle)]
-pub extern "C" fn fevstunik_acceptor_reply(
-    handle: &mut Handle,
-    alloc: Global,
-    confounder: &[u8],
-    choice: &Choice,
-    subkey: &[u8],
-    buffer: &mut [u8],
-) -> Answer
-    ensures reply { MatchOption handle.old.value ((result ≡ plain empty_handle) × (buffer.new ≡ buffer.old))
-        (λ login. TellsReply login.last confounder.now choice.now subkey.now buffer.old buffer.new result) }
-    ensures stays { handle.new.value ≡ handle.old.value }
-{
-    match handle.take(alloc) {
-        Some(login) => {
-            let answer = login.reply(alloc, confounder, choice, subkey, buffer);
-            *handle = Handle::of(login);
-            answer
-        }
-        None => Answer::plain(code::EMPTY_HANDLE),
+        None => {}
     }
 }
 

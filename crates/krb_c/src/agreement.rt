@@ -1,15 +1,16 @@
 //! The client's side: what is agreed on by a reply.
 
-ghost use Rattle.std.specs.Prelude.{◌≡◌, IfErr, IfOk};
-ghost use Rattle.krb_c.specs.Asking.{ask};
-ghost use Rattle.krb_c.specs.Finishing.{Ends, Finishes, IsFinishFault, TellsAgreed, agreed_bytes, agreement_told, finish_answer};
+ghost use Rattle.std.specs.Prelude.{◌≡◌, IfOk};
+ghost use Rattle.std.specs.Option.{MatchOption};
+ghost use Rattle.krb_c.specs.Answer.{plain};
+ghost use Rattle.krb_c.specs.Codes.{empty_handle};
+ghost use Rattle.krb_c.specs.Finishing.{Ends, TellsAgreed, agreed_bytes, agreement_told, finish_answer};
 
-use crate::answer::{Answer, Time, hand_over};
-use crate::asking::asked;
-use crate::choice::Choice;
+use crate::answer::{Answer, hand_over};
 use crate::code;
 use crate::known::{Span, append, bytes_of, has_key, has_number, number, type_of};
-use krb_ap::{Agreed, FinishFault};
+use crate::pending_handle::PendingHandle;
+use krb_ap::{Agreed, FinishFault, Pending};
 use std::alloc::{AllocError, Global};
 
 /// What a client and a service agreed on. Texts and keys stand in the buffer.
@@ -36,47 +37,42 @@ pub struct Agreement {
     pub has_service_seq: bool,
 }
 
-/// Reads the reply to the request that `fevstunik_request` builds of the same cache, service, moment and choice, and tells what both sides
-/// agree on (`krb_ap::Pending::finish`).
+/// Reads the reply to the request that `fevstunik_request` built with this handle, and hands out what both sides agree on
+/// (`krb_ap::Pending::finish`). The request still waits afterwards.
 #[unsafe(no_mangle)]
 pub extern "C" fn fevstunik_finish(
+    pending: &mut PendingHandle,
     alloc: Global,
-    cache: &[u8],
-    service: &[u8],
-    at: &Time,
-    choice: &Choice,
-    subkey: &[u8],
     reply: &[u8],
     agreement: &mut Agreement,
     buffer: &mut [u8],
 ) -> Answer
-    ensures { Ends (ask cache.now service.now at.now choice.now subkey.now) reply.now agreement.old agreement.new buffer.old buffer.new result }
+    ensures ends { MatchOption pending.old.value ((result ≡ plain empty_handle) × ((agreement.new ≡ agreement.old) × (buffer.new ≡ buffer.old)))
+        (λ awaited. Ends awaited reply.now agreement.old agreement.new buffer.old buffer.new result) }
+    ensures stays { pending.new.value ≡ pending.old.value }
 {
-    match finished(alloc, cache, service, at, choice, subkey, reply) {
-        Ok(agreed) => tell_agreed(alloc, &agreed, agreement, buffer),
-        Err(answer) => answer,
+    match pending.take(alloc) {
+        Some(held) => {
+            let answer = finish(alloc, &held, reply, agreement, buffer);
+            *pending = PendingHandle::of(held);
+            answer
+        }
+        None => Answer::plain(code::EMPTY_HANDLE),
     }
 }
 
-fn finished(
+fn finish(
     alloc: Global,
-    cache: &[u8],
-    service: &[u8],
-    at: &Time,
-    choice: &Choice,
-    subkey: &[u8],
+    pending: &Pending,
     reply: &[u8],
-) -> Result<Agreed, Answer>
-    ensures agreed { IfOk result (λ agreed. Finishes (ask cache.now service.now at.now choice.now subkey.now) reply.now agreed) }
-    ensures fault { IfErr result (λ answer. IsFinishFault (ask cache.now service.now at.now choice.now subkey.now) reply.now answer) }
+    agreement: &mut Agreement,
+    buffer: &mut [u8],
+) -> Answer
+    ensures { Ends pending.now reply.now agreement.old agreement.new buffer.old buffer.new result }
 {
-    let made = match asked(alloc, cache, service, at, &[0; 16], choice, subkey) {
-        Ok(made) => made,
-        Err(answer) => return Err(answer),
-    };
-    match made.1.finish(alloc, reply) {
-        Ok(agreed) => Ok(agreed),
-        Err(fault) => Err(finish_told(fault)),
+    match pending.finish(alloc, reply) {
+        Ok(agreed) => tell_agreed(alloc, &agreed, agreement, buffer),
+        Err(fault) => finish_told(fault),
     }
 }
 

@@ -120,6 +120,7 @@ fn code_of(refusal: &Refusal) -> u32
         Refusal::AuthenticatorIntegrity => code::AUTHENTICATOR_INTEGRITY,
         Refusal::BadMatch => code::BAD_MATCH,
         Refusal::Skew => code::SKEW,
+        Refusal::JustStarted => code::JUST_STARTED,
         Refusal::Repeat => code::REPEAT,
         Refusal::NotYetValid => code::NOT_YET_VALID,
         Refusal::Expired => code::EXPIRED,

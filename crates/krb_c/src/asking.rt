@@ -1,26 +1,68 @@
 //! The client's side: a request for a cache's credential.
 
-ghost use Rattle.std.specs.Prelude.{◌≡◌, IfErr, IfOk, Ok};
-ghost use Rattle.krb_ap.specs.Request.{Awaited};
+ghost use Rattle.std.specs.Prelude.{◌≡◌, IfErr, IfOk, None, Ok};
+ghost use Rattle.std.specs.Option.{MatchOption};
 ghost use Rattle.krb_ccache.specs.Format.{IsCache};
 ghost use Rattle.krb_name.specs.Reading.{IsReadAs};
-ghost use Rattle.krb_c.specs.Answer.{Delivers};
-ghost use Rattle.krb_c.specs.Asking.{Asks, HasCacheFault, IsAskFault, IsNameFault, ask, cache_answer, name_answer, request_answer};
+ghost use Rattle.krb_c.specs.Answer.{plain};
+ghost use Rattle.krb_c.specs.Asking.{Asks, HasCacheFault, IsAskFault, IsNameFault, Keeps, Sends, ask, cache_answer, name_answer, request_answer};
+ghost use Rattle.krb_c.specs.Codes.{empty_handle};
 
 use crate::answer::{Answer, Time, hand_over};
+use crate::cache_handle::CacheHandle;
 use crate::choice::{Choice, block_of};
 use crate::code;
+use crate::pending_handle::PendingHandle;
 use krb_ap::{Pending, RequestFault, RequestOptions, make_request};
 use krb_ccache::laws::each_file_has_one_answer;
 use krb_ccache::{CCache, CacheFault};
 use krb_name::{Principal, TextFault};
 use std::alloc::Global;
 
-/// Builds a request for a service with the first credential of a cache that fits (`krb_ap::make_request`).
+/// Reads a credential cache off the bytes of its file, and keeps it in the handle. What the handle held is freed; if no cache is read, it
+/// stays.
+#[unsafe(no_mangle)]
+pub extern "C" fn fevstunik_cache_new(cache: &mut CacheHandle, alloc: Global, file: &[u8]) -> Answer
+    ensures { Keeps file.now cache.old.value cache.new.value result }
+{
+    match kept_of(alloc, file) {
+        Ok(kept) => {
+            *cache = CacheHandle::of(kept);
+            Answer::plain(code::OK)
+        }
+        Err(answer) => answer,
+    }
+}
+
+fn kept_of(alloc: Global, file: &[u8]) -> Result<Box<CCache>, Answer>
+    ensures cache { IfOk result (λ kept. IsCache file.now kept.value) }
+    ensures fault { IfErr result (λ answer. HasCacheFault file.now answer) }
+{
+    let cache = match cache_of(alloc, file) {
+        Ok(cache) => cache,
+        Err(answer) => return Err(answer),
+    };
+    match Box::new(alloc, cache) {
+        Ok(kept) => Ok(kept),
+        Err(_) => Err(cache_told(CacheFault::OutOfMemory)),
+    }
+}
+
+/// Frees what the handle holds, which is empty then.
+#[unsafe(no_mangle)]
+pub extern "C" fn fevstunik_cache_free(cache: &mut CacheHandle, alloc: Global)
+    ensures { cache.new.value ≡ None }
+{
+    *cache = CacheHandle::empty(alloc);
+}
+
+/// Builds a request for a service with the first credential of a cache that fits (`krb_ap::make_request`), and keeps in the handle
+/// `pending` what is awaited of the reply. What that held is freed; if there is no request, it stays.
 #[unsafe(no_mangle)]
 pub extern "C" fn fevstunik_request(
+    cache: &mut CacheHandle,
+    pending: &mut PendingHandle,
     alloc: Global,
-    cache: &[u8],
     service: &[u8],
     at: &Time,
     confounder: &[u8],
@@ -28,32 +70,58 @@ pub extern "C" fn fevstunik_request(
     subkey: &[u8],
     buffer: &mut [u8],
 ) -> Answer
-    ensures { Delivers (λ bytes. (awaited : Awaited) × Asks (ask cache.now service.now at.now choice.now subkey.now) confounder.now bytes awaited)
-        (λ answer. IsAskFault (ask cache.now service.now at.now choice.now subkey.now) confounder.now answer) buffer.old buffer.new result }
+    ensures sent { MatchOption cache.old.value
+        ((result ≡ plain empty_handle) × ((pending.new.value ≡ pending.old.value) × (buffer.new ≡ buffer.old)))
+        (λ held. Sends (ask held service.now at.now choice.now subkey.now) confounder.now pending.old.value pending.new.value buffer.old buffer.new result) }
+    ensures stays { cache.new.value ≡ cache.old.value }
 {
-    match asked(alloc, cache, service, at, confounder, choice, subkey) {
-        Ok((bytes, _)) => hand_over(bytes.as_slice(), buffer),
-        Err(answer) => answer,
+    match cache.take(alloc) {
+        Some(held) => {
+            let answer = send(
+                alloc, &held, pending, service, at, confounder, choice, subkey, buffer,
+            );
+            *cache = CacheHandle::of(held);
+            answer
+        }
+        None => Answer::plain(code::EMPTY_HANDLE),
     }
 }
 
-/// The request and what is kept of it.
-pub(crate) fn asked(
+fn send(
     alloc: Global,
-    cache: &[u8],
+    cache: &CCache,
+    pending: &mut PendingHandle,
     service: &[u8],
     at: &Time,
     confounder: &[u8],
     choice: &Choice,
     subkey: &[u8],
-) -> Result<(Vec<u8>, Pending), Answer>
-    ensures asks { IfOk result (λ made. Asks (ask cache.now service.now at.now choice.now subkey.now) confounder.now made.0.items made.1) }
+    buffer: &mut [u8],
+) -> Answer
+    ensures { Sends (ask cache.now service.now at.now choice.now subkey.now) confounder.now pending.old.value pending.new.value buffer.old buffer.new result }
+{
+    match asked(alloc, cache, service, at, confounder, choice, subkey) {
+        Ok((bytes, kept)) => {
+            *pending = PendingHandle::of(kept);
+            hand_over(bytes.as_slice(), buffer)
+        }
+        Err(answer) => answer,
+    }
+}
+
+// The request and what is kept of it.
+fn asked(
+    alloc: Global,
+    cache: &CCache,
+    service: &[u8],
+    at: &Time,
+    confounder: &[u8],
+    choice: &Choice,
+    subkey: &[u8],
+) -> Result<(Vec<u8>, Box<Pending>), Answer>
+    ensures asks { IfOk result (λ made. Asks (ask cache.now service.now at.now choice.now subkey.now) confounder.now made.0.items made.1.value) }
     ensures fault { IfErr result (λ answer. IsAskFault (ask cache.now service.now at.now choice.now subkey.now) confounder.now answer) }
 {
-    let cache = match cache_of(alloc, cache) {
-        Ok(cache) => cache,
-        Err(answer) => return Err(answer),
-    };
     let service = match name_of(alloc, service) {
         Ok(service) => service,
         Err(answer) => return Err(answer),
@@ -75,10 +143,22 @@ pub(crate) fn asked(
         subkey,
         seq: choice.seq(),
     };
-    match make_request(alloc, &cache, &service, now, &confounder, options) {
-        Ok(made) => Ok(made),
-        Err(fault) => Err(request_told(fault)),
+    let (bytes, pending) = match make_request(alloc, cache, &service, now, &confounder, options) {
+        Ok(made) => made,
+        Err(fault) => return Err(request_told(fault)),
+    };
+    match Box::new(alloc, pending) {
+        Ok(pending) => Ok((bytes, pending)),
+        Err(_) => Err(request_told(RequestFault::OutOfMemory)),
     }
+}
+
+/// Frees what the handle holds, which is empty then.
+#[unsafe(no_mangle)]
+pub extern "C" fn fevstunik_pending_free(pending: &mut PendingHandle, alloc: Global)
+    ensures { pending.new.value ≡ None }
+{
+    *pending = PendingHandle::empty(alloc);
 }
 
 /// Reads a cache off the bytes of its file.

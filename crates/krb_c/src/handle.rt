@@ -1,4 +1,4 @@
-//! The handle of C.
+//! The handle of a service.
 
 ghost use Rattle.std.specs.Prelude.{◌≡◌, Option, Some, None};
 ghost use Rattle.std.specs.Option.{option_map, MatchOption};

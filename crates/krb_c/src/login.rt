@@ -1,8 +1,6 @@
-//! What a filled handle holds.
+//! What a service's handle holds.
 
 ghost use Rattle.std.specs.Prelude.{◌≡◌, IfErr, IfOk, None, Some};
-ghost use Rattle.krb_c.specs.Choice.{IsReplyFault, Replied, TellsReply};
-ghost use Rattle.krb_c.specs.Known.{TellsKnown};
 ghost use Rattle.krb_ap.specs.Setup.{arrival};
 ghost use Rattle.krb_c.specs.Accepting.{Decides, TellsLatest, cleared, latest_of};
 ghost use Rattle.krb_c.specs.Answer.{plain, refused};
@@ -11,56 +9,61 @@ ghost use Rattle.krb_c.specs.Refusing.{Errors, IsErrorFault, TellsError, error_a
 
 use crate::answer::{Answer, Time, hand_over};
 use crate::asking::typed_name_of;
-use crate::choice::{Choice, block_of};
 use crate::code;
-use crate::known::{Known, tell};
-use krb_ap::{Accepted, Acceptor, Refusal, ReplyFault, ReplyOptions, error_reply};
+use crate::kept::Kept;
+use krb_ap::{Accepted, Acceptor, Refusal, ReplyFault, error_reply};
 use krb_msg::Moment;
 use krb_replay::{ReplayMemory, TimedMemory};
 use std::alloc::Global;
 
-/// A service that takes requests, and what it accepted last, or why it refused.
+/// A service that takes requests, and why it refused the last one, if it did.
 #[derive(Drop)]
 pub struct Login {
     pub acceptor: Acceptor<TimedMemory>,
-    pub last: Option<Accepted>,
     pub refusal: Option<Refusal>,
 }
 
 impl Login {
     /// Decides a request, and keeps what is accepted, or why it is refused.
-    pub(crate) fn decide(&mut self, alloc: Global, bytes: &[u8], now: Moment) -> Answer
-        ensures { Decides self.old self.new (arrival bytes.now now) result }
+    pub(crate) fn decide(
+        &mut self,
+        alloc: Global,
+        kept: &mut Kept,
+        bytes: &[u8],
+        now: Moment,
+    ) -> Answer
+        ensures { Decides self.old self.new (arrival bytes.now now) kept.new.accepted result }
     {
         match self.acceptor.accept(alloc, bytes, now) {
-            Ok(accepted) => self.keep(accepted),
-            Err(refusal) => self.refuse(refusal),
+            Ok(accepted) => self.keep(kept, accepted),
+            Err(refusal) => self.refuse(kept, refusal),
         }
     }
 
-    fn keep(&mut self, accepted: Accepted) -> Answer
-        ensures kept { self.new ≡ record { acceptor = self.old.acceptor; last = Some accepted; refusal = None } }
+    fn keep(&mut self, kept: &mut Kept, accepted: Accepted) -> Answer
+        ensures login { self.new ≡ record { acceptor = self.old.acceptor; refusal = None } }
+        ensures kept { kept.new ≡ record { accepted = Some accepted } }
         ensures answer { result ≡ plain ok }
     {
-        self.last = Some(accepted);
+        kept.accepted = Some(accepted);
         self.refusal = None;
         Answer::plain(code::OK)
     }
 
-    fn refuse(&mut self, refusal: Refusal) -> Answer
-        ensures kept { self.new ≡ record { acceptor = self.old.acceptor; last = None; refusal = Some refusal } }
+    fn refuse(&mut self, kept: &mut Kept, refusal: Refusal) -> Answer
+        ensures login { self.new ≡ record { acceptor = self.old.acceptor; refusal = Some refusal } }
+        ensures kept { kept.new ≡ record { accepted = None } }
         ensures answer { result ≡ refused refusal }
     {
-        self.last = None;
+        kept.accepted = None;
         self.refusal = Some(refusal);
         Answer::refused(&refusal)
     }
 
-    /// Lets go of what was accepted last, or why it was refused.
+    /// Discards why the last request was refused.
     pub(crate) fn clear(&mut self)
         ensures { self.new ≡ cleared self.old }
     {
-        self.last = None;
         self.refusal = None;
     }
 
@@ -81,22 +84,6 @@ impl Login {
         }
     }
 
-    /// Tells what was accepted last.
-    pub(crate) fn tell(&self, alloc: Global, known: &mut Known, buffer: &mut [u8]) -> Answer
-        ensures { TellsKnown self.now.last known.old known.new buffer.old buffer.new result }
-    {
-        match &self.last {
-            Some(accepted) => match tell(alloc, accepted) {
-                Ok((bytes, told)) => {
-                    *known = told;
-                    hand_over(bytes.as_slice(), buffer)
-                }
-                Err(_) => Answer::plain(code::OUT_OF_MEMORY),
-            },
-            None => Answer::plain(code::NOTHING_THERE),
-        }
-    }
-
     /// Builds the error that tells why the last request was refused.
     pub(crate) fn error(
         &self,
@@ -110,26 +97,6 @@ impl Login {
     {
         match &self.refusal {
             Some(refusal) => match error_of(alloc, refusal, service, name_type, now) {
-                Ok(bytes) => hand_over(bytes.as_slice(), buffer),
-                Err(answer) => answer,
-            },
-            None => Answer::plain(code::NOTHING_THERE),
-        }
-    }
-
-    /// Builds the reply to what was accepted last.
-    pub(crate) fn reply(
-        &self,
-        alloc: Global,
-        confounder: &[u8],
-        choice: &Choice,
-        subkey: &[u8],
-        buffer: &mut [u8],
-    ) -> Answer
-        ensures { TellsReply self.now.last confounder.now choice.now subkey.now buffer.old buffer.new result }
-    {
-        match &self.last {
-            Some(accepted) => match replied(alloc, accepted, confounder, choice, subkey) {
                 Ok(bytes) => hand_over(bytes.as_slice(), buffer),
                 Err(answer) => answer,
             },
@@ -170,34 +137,5 @@ fn error_told(fault: ReplyFault) -> Answer
         ReplyFault::NoCode => Answer::plain(code::NO_CODE),
         ReplyFault::TooLong => Answer::plain(code::TOO_LONG),
         ReplyFault::OutOfMemory => Answer::plain(code::OUT_OF_MEMORY),
-    }
-}
-
-/// The reply to what was accepted.
-pub(crate) fn replied(
-    alloc: Global,
-    accepted: &Accepted,
-    confounder: &[u8],
-    choice: &Choice,
-    subkey: &[u8],
-) -> Result<Vec<u8>, Answer>
-    ensures reply { IfOk result (λ bytes. Replied accepted.now confounder.now choice.now subkey.now bytes.items) }
-    ensures fault { IfErr result (λ answer. IsReplyFault confounder.now choice.now subkey.now answer) }
-{
-    let confounder = match block_of(confounder) {
-        Ok(confounder) => confounder,
-        Err(answer) => return Err(answer),
-    };
-    let subkey = match choice.subkey(subkey) {
-        Ok(subkey) => subkey,
-        Err(answer) => return Err(answer),
-    };
-    let options = ReplyOptions {
-        subkey,
-        seq: choice.seq(),
-    };
-    match accepted.reply(alloc, &confounder, options) {
-        Ok(bytes) => Ok(bytes),
-        Err(_) => Err(Answer::plain(code::OUT_OF_MEMORY)),
     }
 }

@@ -54,6 +54,7 @@ fn cause_of(code: u32) -> Option<Refusal>
         code::AUTHENTICATOR_INTEGRITY => Some(Refusal::AuthenticatorIntegrity),
         code::BAD_MATCH => Some(Refusal::BadMatch),
         code::SKEW => Some(Refusal::Skew),
+        code::JUST_STARTED => Some(Refusal::JustStarted),
         code::REPEAT => Some(Refusal::Repeat),
         code::NOT_YET_VALID => Some(Refusal::NotYetValid),
         code::EXPIRED => Some(Refusal::Expired),

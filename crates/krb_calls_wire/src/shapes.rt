@@ -3,7 +3,7 @@
 use crate::words::{Answer, Words};
 use krb_der::{Constant, Cursor, Fault, Field, Flags, Maybe, Octets, Seconds, Text};
 
-/// The kinds are those of `der_rules`: int32, uint32, microseconds, five, octets, string, flags, time; and tagged, nested, pair, options,
+/// The kinds are those of `der_rules`: int32, uint32, seq_number, microseconds, five, octets, string, flags, time; and tagged, nested, pair, options,
 /// mixed, texts and name.
 pub(crate) fn read(words: &mut Words, out: &mut Answer) -> Option<()> {
     let kind = words.next()?;
@@ -31,6 +31,10 @@ pub(crate) fn element(cursor: &mut Cursor, kind: &str, out: &mut Answer) -> Opti
             Err(fault) => refused(fault, out),
         },
         "uint32" => match cursor.uint32() {
+            Ok(found) => number(i64::from(found), out),
+            Err(fault) => refused(fault, out),
+        },
+        "seq_number" => match cursor.seq_number() {
             Ok(found) => number(i64::from(found), out),
             Err(fault) => refused(fault, out),
         },

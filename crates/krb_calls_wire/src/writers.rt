@@ -2,7 +2,8 @@
 
 use crate::words::{Answer, Words};
 use krb_der::{
-    Constant, EncodeFault, Flags, Microseconds, Octets, Seconds, Text, TextList, Writer, encoded,
+    Constant, EncodeFault, Flags, Microseconds, Octets, Seconds, SeqNumber, Text, TextList, Writer,
+    encoded,
 };
 use std::alloc::{AllocError, Global};
 
@@ -80,7 +81,7 @@ fn wrapped(out: &mut Writer, tag: u8, start: usize) -> Option<Result<(), AllocEr
 }
 
 /// ```text
-/// der encoded int32|uint32|microseconds|flags|time NUMBER
+/// der encoded int32|uint32|seq_number|microseconds|flags|time NUMBER
 /// der encoded five
 /// der encoded octets|string BYTES
 /// der encoded numbers NUMBER..             a list
@@ -103,6 +104,7 @@ fn encoded_number(kind: &str, words: &mut Words) -> Option<Result<Vec<u8>, Encod
     match kind {
         "int32" => Some(encoded(alloc, &words.int32()?)),
         "uint32" => Some(encoded(alloc, &words.uint32()?)),
+        "seq_number" => Some(encoded(alloc, &SeqNumber(words.uint32()?))),
         "microseconds" => Some(encoded(alloc, &Microseconds::new(words.uint32()?)?)),
         "flags" => Some(encoded(alloc, &Flags(words.uint32()?))),
         "time" => Some(encoded(alloc, &Seconds::new(words.int64()?)?)),

@@ -1,27 +1,29 @@
 -- What is read of a file, part by part, is what the file says.
-use Rattle.std.proofs.Common.{◌≡◌, ℕ, ◌<◌, ◌≤◌, List, [], ◌∷◌, ◌++◌, length, Some, None, refl, sym, ap, subst, ◌∙◌, append_assoc, append-nil, arith, inl, inr}
-use Rattle.std.specs.Int.{w16, w32}
-use Rattle.std.specs.Prelude.{IfSome}
+use Rattle.std.proofs.Common.{◌≡◌, ℕ, ◌<◌, ◌≤◌, List, [], ◌∷◌, ◌++◌, length, map, Some, None, refl, sym, ap, subst, ◌∙◌, append_assoc, arith, inl, inr}
+use Rattle.std.specs.Prelude.{All, IfSome}
 use Rattle.std.specs.List.{flat_map}
-use Rattle.std.proofs.lemmas.List.{length-append, drop_at}
-use Rattle.krb_name.specs.Cursor.{Place, number_bytes, signed_bytes, data_bytes}
+use Rattle.std.proofs.lemmas.List.{length-append}
+use Rattle.std.proofs.lemmas.List.Elements.{recursion_from_All}
+use Rattle.krb_name.specs.Cursor.{Place}
 use Rattle.krb_name.specs.Field.{IsBytes}
-use Rattle.krb_name.proofs.CursorLaws.{IsBytes-drop}
 use Rattle.krb_name.specs.declared.principal.Principal.{Principal}
 use Rattle.krb_ccache.specs.declared.credential.HeaderField.{HeaderField}
 use Rattle.krb_ccache.specs.declared.credential.Credential.{Credential}
-use Rattle.krb_ccache.specs.Spelling.{header_bytes, name_bytes, flag_bytes, list_bytes, credential_bytes}
-use Rattle.krb_ccache.specs.Value.{Cache, FitsHeader, FitsName, FitsCredential, Fits}
+use Rattle.krb_ccache.specs.declared.layout.Layout.{Layout}
+use Rattle.krb_ccache.specs.declared.layout.Layout.TheVariants.{Version3, Version4}
+use Rattle.krb_ccache.specs.Spelling.{name_bytes}
+use Rattle.krb_ccache.specs.Value.{Cache, FitsName, FitsCredential}
 use Rattle.krb_ccache.specs.Fault.{offset_of}
 use Rattle.krb_name.specs.File.{file_limit}
-use Rattle.krb_ccache.specs.Format.{version, start_bytes, written}
-use Rattle.krb_ccache.specs.Inner.Version4.{IsCache4, IsFaultOf4}
+use Rattle.krb_ccache.specs.Format.{version_of, head_bytes, FitsHead, start_bytes, Spelled, Spells, IsReached, IsCache, IsFaultOf}
 use Rattle.krb_ccache.specs.declared.fault.CacheFault.{CacheFault}
 use Rattle.krb_ccache.specs.declared.fault.CacheFault.TheVariants.{Version, Header, BadItem, TooLong, Read, OutOfMemory}
-use Rattle.krb_ccache.specs.Inner.Reading.{name_at, credential_at}
-use Rattle.krb_ccache.specs.Inner.Standing.{Lies, Reaches, IsMissing, StopsBy}
-use Rattle.krb_ccache.proofs.PartLaws.{IsField-name, IsField-credential}
+use Rattle.krb_ccache.specs.Inner.Reading.{name_at, credential_at, spelled_at}
+use Rattle.krb_ccache.specs.Inner.Standing.{bytes_of, Lies, Reaches, IsMissing, StopsBy}
+use Rattle.krb_ccache.specs.Inner.Stepping.{spelled_as}
+use Rattle.krb_ccache.proofs.PartLaws.{IsField-name, IsField-spelled, spelled_some, spelled_none}
 use Rattle.krb_ccache.proofs.Repeats.{missing_where, reach_none, reach_more}
+use Rattle.krb_ccache.proofs.LayoutLaws.{credential_some, credential_in, all_fit, map_more, read_cache, is_reached, reached_within}
 
 -- ---- the default principal
 
@@ -33,134 +35,138 @@ name_missing place none = missing_where name_at name_bytes FitsName IsField-name
 
 -- ---- a loop over the credentials
 
-pub name_some : (name : Principal) → 0 < length (name_bytes name)
-name_some name =
-    omega (arith, length-append (signed_bytes w32 name.name_type) (number_bytes w32 (length name.components) ++ (data_bytes w32 name.realm ++ flat_map (data_bytes w32) name.components)))
+pub spelled_bytes_some : (layout : Layout) (one : Spelled) → Spells layout one → 0 < length one.bytes
+spelled_bytes_some layout one h = omega (arith, credential_some one.credential h.second, ap length h.bytes_are)
 
-pub credential_some : (credential : Credential) → 0 < length (credential_bytes credential)
-credential_some c =
-    let others : List ℕ =
-    name_bytes c.server ++ (signed_bytes w16 c.etype ++ (data_bytes w32 c.key ++ (number_bytes w32 c.authtime ++ (number_bytes w32 c.starttime ++ (number_bytes w32 c.endtime ++ (number_bytes w32 c.renew_till
-    ++ (flag_bytes c.is_skey ++ (number_bytes w32 c.ticket_flags ++ (list_bytes c.addresses ++ (list_bytes c.authdata ++ (data_bytes w32 c.ticket ++ data_bytes w32 c.second_ticket))))))))))) in
-    omega (arith, name_some c.client, length-append (name_bytes c.client) others)
+pub none_reached : (layout : Layout) (start place : Place) → IsBytes start.rest → place ≡ start → Reaches bytes_of (Spells layout) start [] place
+none_reached layout start place fits e = rw e (reach_none (spelled_at layout) bytes_of (Spells layout) (IsField-spelled layout) start fits)
 
-pub none_reached : (start place : Place) (credentials : List Credential) → IsBytes start.rest → place ≡ start → credentials ≡ [] → Reaches credential_bytes FitsCredential start credentials place
-none_reached start place credentials fits e f = rw (e, f) (reach_none credential_at credential_bytes FitsCredential IsField-credential start fits)
-
-pub record Goes (start place : Place) (credentials : List Credential) (behind : Place) : Type 0 where
-  pub reaches : Reaches credential_bytes FitsCredential start credentials behind
+-- one credential more
+pub record Goes (layout : Layout) (start place : Place) (spelled : List Spelled) (credential : Credential) (behind : Place) : Type 0 where
+  pub bytes : List ℕ
+  pub reaches : Reaches bytes_of (Spells layout) start (spelled ++ spelled_as bytes credential ∷ []) behind
   pub smaller : length behind.rest < length place.rest
 
-pub credential_goes : (start place : Place) (credentials : List Credential) (credential : Credential) (behind : Place) → Reaches credential_bytes FitsCredential start credentials place
-    → credential_at place ≡ Some (credential, behind) → Goes start place (credentials ++ credential ∷ []) behind
-credential_goes start place credentials credential behind reaches e =
-    let t = IsField-credential.takes place credential behind reaches.takes.rest_fits e in
+pub credential_goes : (layout : Layout) (start place : Place) (spelled : List Spelled) (credential : Credential) (behind : Place) → Reaches bytes_of (Spells layout) start spelled place
+    → credential_at layout place ≡ Some (credential, behind) → Goes layout start place spelled credential behind
+credential_goes layout start place spelled credential behind reaches e =
+    let some = spelled_some layout place credential behind e in
+    let one : Spelled = spelled_as some.0 credential in
+    let t = (IsField-spelled layout).takes place one behind reaches.takes.rest_fits some.1 in
     record {
-      reaches = reach_more credential_at credential_bytes FitsCredential IsField-credential start credentials place credential behind reaches e;
-      smaller = omega (arith, credential_some credential, ap length t.0.parts, length-append (credential_bytes credential) behind.rest);
+      bytes = some.0;
+      reaches = reach_more (spelled_at layout) bytes_of (Spells layout) (IsField-spelled layout) start spelled place one behind reaches some.1;
+      smaller = omega (arith, spelled_bytes_some layout one t.1, ap length t.0.parts, length-append some.0 behind.rest);
     }
 
-pub stops : (start place : Place) (credentials : List Credential) (fault : CacheFault) → Reaches credential_bytes FitsCredential start credentials place → (place.rest ≡ [] → ⊥)
-    → (fault ≡ BadItem place.at) × (credential_at place ≡ None) → StopsBy start fault
-stops start place credentials fault reaches more h =
-    subst (StopsBy start) (sym h.0) (record {
-      credentials = credentials;
-      behind = place;
-      reaches = reaches;
-      at_is = refl;
-      more = more;
-      missing = missing_where credential_at credential_bytes FitsCredential IsField-credential place h.1;
-    })
+pub credential_missing : (layout : Layout) (place : Place) → credential_at layout place ≡ None → IsMissing bytes_of (Spells layout) place.rest
+credential_missing layout place none = missing_where (spelled_at layout) bytes_of (Spells layout) (IsField-spelled layout) place (spelled_none layout place none)
+
+pub stops : (layout : Layout) (start place : Place) (spelled : List Spelled) (fault : CacheFault) → Reaches bytes_of (Spells layout) start spelled place → (place.rest ≡ [] → ⊥)
+    → (fault ≡ BadItem place.at) × (credential_at layout place ≡ None) → StopsBy layout start fault
+stops layout start place spelled fault reaches more h =
+    subst (StopsBy layout start) (sym h.0) (record { credentials = spelled; behind = place; reaches = reaches; at_is = refl; more = more; missing = credential_missing layout place h.1 })
+
+-- the credentials so far, with their spellings
+pub record ReadTo (layout : Layout) (start place : Place) (credentials : List Credential) : Type 0 where
+  pub spelled : List Spelled
+  pub reaches : Reaches bytes_of (Spells layout) start spelled place
+  pub are : credentials ≡ map credential_in spelled
+
+pub read_none : (layout : Layout) (start place : Place) (credentials : List Credential) → IsBytes start.rest → place ≡ start → credentials ≡ [] → ReadTo layout start place credentials
+read_none layout start place credentials fits e none = record { spelled = []; reaches = none_reached layout start place fits e; are = none }
+
+pub read_more : (layout : Layout) (start place : Place) (credentials : List Credential) (credential : Credential) (behind : Place) → ReadTo layout start place credentials
+    → credential_at layout place ≡ Some (credential, behind) → ReadTo layout start behind (credentials ++ credential ∷ [])
+read_more layout start place credentials credential behind so_far e =
+    let goes = credential_goes layout start place so_far.spelled credential behind so_far.reaches e in
+    let one : Spelled = spelled_as goes.bytes credential in
+    record { spelled = so_far.spelled ++ one ∷ []; reaches = goes.reaches; are = ap (λ (t : List Credential). t ++ credential ∷ []) so_far.are ∙ sym (map_more so_far.spelled one) }
+
+pub read_fit : (layout : Layout) (start place : Place) (credentials : List Credential) → ReadTo layout start place credentials → All FitsCredential credentials
+read_fit layout start place credentials so_far =
+    subst (All FitsCredential) (sym so_far.are) (all_fit layout so_far.spelled (recursion_from_All (Spells layout) so_far.spelled so_far.reaches.fit))
 
 -- ---- the file so far
 
-pub record Begun (bytes : List ℕ) (place : Place) : Type 0 where
+pub record Begun (layout : Layout) (bytes : List ℕ) (place : Place) : Type 0 where
   pub limit : length bytes ≤ file_limit
   pub at : place.at ≡ 2
-  pub rest : bytes ≡ version ++ place.rest
+  pub rest : bytes ≡ version_of layout ++ place.rest
 
-pub record HasStart (bytes : List ℕ) (header : List HeaderField) (place : Place) : Type 0 where
+pub record HasStart (layout : Layout) (bytes : List ℕ) (header : List HeaderField) (place : Place) : Type 0 where
   pub limit : length bytes ≤ file_limit
-  pub fits : FitsHeader header
-  pub bytes_are : bytes ≡ start_bytes header ++ place.rest
-  pub at : place.at ≡ length (start_bytes header)
+  pub fits : FitsHead layout header
+  pub bytes_are : bytes ≡ start_bytes layout header ++ place.rest
+  pub at : place.at ≡ length (start_bytes layout header)
 
-pub record HasCache (bytes : List ℕ) (cache : Cache) (place : Place) : Type 0 where
-  pub limit : length bytes ≤ file_limit
-  pub fits : Fits cache
-  pub bytes_are : bytes ≡ written cache ++ place.rest
-  pub at : place.at ≡ length (written cache)
+version_length : (layout : Layout) → length (version_of layout) ≡ 2
+version_length Version3 = refl
+version_length Version4 = refl
 
-pub header_read : (bytes : List ℕ) (place : Place) (header : List HeaderField) (behind : Place) → Begun bytes place → Lies header_bytes FitsHeader place header behind → HasStart bytes header behind
-header_read bytes place header behind begun lies = record {
-  limit = begun.limit;
-  fits = lies.fits;
-  bytes_are = begun.rest ∙ ap (λ (t : List ℕ). version ++ t) lies.takes.parts ∙ sym (append_assoc version (header_bytes header) behind.rest);
-  at = omega (arith, begun.at, lies.takes.at, length-append version (header_bytes header));
-}
+module _ (layout : Layout) where
+  pub header_read : (bytes : List ℕ) (place : Place) (header : List HeaderField) (behind : Place) → Begun layout bytes place → Lies (head_bytes layout) (FitsHead layout) place header behind → HasStart layout bytes header behind
+  header_read bytes place header behind begun lies = record {
+    limit = begun.limit;
+    fits = lies.fits;
+    bytes_are = begun.rest ∙ ap (λ (t : List ℕ). version_of layout ++ t) lies.takes.parts ∙ sym (append_assoc (version_of layout) (head_bytes layout header) behind.rest);
+    at = omega (arith, begun.at, lies.takes.at, version_length layout, length-append (version_of layout) (head_bytes layout header));
+  }
 
-pub cache_read : (bytes : List ℕ) (header : List HeaderField) (place : Place) (name : Principal) (middle : Place) (credentials : List Credential) (behind : Place) → HasStart bytes header place
-    → Lies name_bytes FitsName place name middle → Reaches credential_bytes FitsCredential middle credentials behind
-    → HasCache bytes (record { header = header; default_principal = name; credentials = credentials }) behind
-cache_read bytes header place name middle credentials behind start lies reaches =
-    let s : List ℕ = start_bytes header in
-    let n : List ℕ = name_bytes name in
-    let c : List ℕ = flat_map credential_bytes credentials in
-    let parts : place.rest ≡ n ++ (c ++ behind.rest) = lies.takes.parts ∙ ap (λ (t : List ℕ). n ++ t) reaches.takes.parts in
-    let grouped : (s ++ (n ++ c)) ++ behind.rest ≡ s ++ (n ++ (c ++ behind.rest)) = append_assoc s (n ++ c) behind.rest ∙ ap (λ (t : List ℕ). s ++ t) (append_assoc n c behind.rest) in
-    record {
-      limit = start.limit;
-      fits = record { header = start.fits; default_principal = lies.fits; credentials = reaches.fit };
-      bytes_are = start.bytes_are ∙ ap (λ (t : List ℕ). s ++ t) parts ∙ sym grouped;
-      at = omega (arith, start.at, lies.takes.at, reaches.takes.at, length-append s (n ++ c), length-append n c);
-    }
+  pub cache_read : (bytes : List ℕ) (header : List HeaderField) (place : Place) (name : Principal) (middle : Place) (spelled : List Spelled) (behind : Place) → HasStart layout bytes header place
+      → Lies name_bytes FitsName place name middle → Reaches bytes_of (Spells layout) middle spelled behind → IsReached layout bytes behind.at (read_cache header name spelled) behind.rest
+  cache_read bytes header place name middle spelled behind start lies reaches =
+      let s : List ℕ = start_bytes layout header in
+      let n : List ℕ = name_bytes name in
+      let c : List ℕ = flat_map bytes_of spelled in
+      let parts : place.rest ≡ n ++ (c ++ behind.rest) = lies.takes.parts ∙ ap (λ (t : List ℕ). n ++ t) reaches.takes.parts in
+      let grouped : (s ++ (n ++ c)) ++ behind.rest ≡ s ++ (n ++ (c ++ behind.rest)) = append_assoc s (n ++ c) behind.rest ∙ ap (λ (t : List ℕ). s ++ t) (append_assoc n c behind.rest) in
+      is_reached layout bytes behind.at header name spelled behind.rest start.fits lies.fits reaches.fit (start.bytes_are ∙ ap (λ (t : List ℕ). s ++ t) parts ∙ sym grouped)
+      (omega (arith, start.at, lies.takes.at, reaches.takes.at, length-append s (n ++ c), length-append n c))
 
-pub cache_found : (bytes : List ℕ) (cache : Cache) (place : Place) → HasCache bytes cache place → place.rest ≡ [] → IsCache4 bytes cache
-cache_found bytes cache place has end = record {
-  limit = has.limit;
-  fits = has.fits;
-  bytes_are = has.bytes_are ∙ ap (λ (t : List ℕ). written cache ++ t) end ∙ append-nil (written cache);
-}
+  pub cache_found : (bytes : List ℕ) (at : ℕ) (cache : Cache) (rest : List ℕ) → length bytes ≤ file_limit → IsReached layout bytes at cache rest → rest ≡ [] → IsCache bytes cache
+  cache_found bytes at cache rest limit reached end = record { limit = limit; layout = layout; at = at; reached = subst (IsReached layout bytes at cache) end reached }
 
-pub header_fault : (bytes : List ℕ) (place : Place) → Begun bytes place → IsMissing header_bytes FitsHeader place.rest → IsFaultOf4 bytes Header
-header_fault bytes place begun missing = record { limit = begun.limit; behind = place.rest; bytes_are = begun.rest; missing = missing }
+  -- the whole file, with the credentials that were read
+  pub all_read : (bytes : List ℕ) (header : List HeaderField) (place : Place) (name : Principal) (middle : Place) (credentials : List Credential) (behind : Place) → HasStart layout bytes header place
+      → Lies name_bytes FitsName place name middle → ReadTo layout middle behind credentials → behind.rest ≡ [] → IsCache bytes (record { header = header; default_principal = name; credentials = credentials })
+  all_read bytes header place name middle credentials behind start lies so_far end =
+      let has = cache_read bytes header place name middle so_far.spelled behind start lies so_far.reaches in
+      subst (λ (cs : List Credential). IsCache bytes (record { header = header; default_principal = name; credentials = cs })) (sym so_far.are) (cache_found bytes behind.at (read_cache header name so_far.spelled) behind.rest start.limit has end)
 
-pub default_fault : (bytes : List ℕ) (header : List HeaderField) (place : Place) (fault : CacheFault) → HasStart bytes header place → (fault ≡ BadItem place.at) × IsMissing name_bytes FitsName place.rest → IsFaultOf4 bytes fault
-default_fault bytes header place fault start h =
-    subst (IsFaultOf4 bytes) (sym h.0) (inl (record { limit = start.limit; header = header; behind = place.rest; fits = start.fits; bytes_are = start.bytes_are; at_is = start.at; missing = h.1 }))
+  pub header_fault : (bytes : List ℕ) (place : Place) → Begun layout bytes place → IsMissing (head_bytes layout) (FitsHead layout) place.rest → IsFaultOf bytes Header
+  header_fault bytes place begun missing = record { limit = begun.limit; layout = layout; behind = place.rest; bytes_are = begun.rest; missing = missing }
 
-pub credential_fault : (bytes : List ℕ) (header : List HeaderField) (place : Place) (name : Principal) (middle : Place) (fault : CacheFault) → HasStart bytes header place → Lies name_bytes FitsName place name middle → StopsBy middle fault
-    → IsFaultOf4 bytes fault
-credential_fault bytes header place name middle (BadItem at) start lies s =
-    let has = cache_read bytes header place name middle s.credentials s.behind start lies s.reaches in
-    inr (record {
-      limit = has.limit;
-      cache = record { header = header; default_principal = name; credentials = s.credentials };
-      behind = s.behind.rest;
-      fits = has.fits;
-      bytes_are = has.bytes_are;
-      at_is = s.at_is ∙ has.at;
-      more = s.more;
-      missing = s.missing;
-    })
-credential_fault bytes header place name middle Version start lies s = absurd s
-credential_fault bytes header place name middle Header start lies s = absurd s
-credential_fault bytes header place name middle TooLong start lies s = absurd s
-credential_fault bytes header place name middle Read start lies s = absurd s
-credential_fault bytes header place name middle OutOfMemory start lies s = absurd s
+  pub default_fault : (bytes : List ℕ) (header : List HeaderField) (place : Place) (fault : CacheFault) → HasStart layout bytes header place → (fault ≡ BadItem place.at) × IsMissing name_bytes FitsName place.rest → IsFaultOf bytes fault
+  default_fault bytes header place fault start h =
+      subst (IsFaultOf bytes) (sym h.0) (inl (record { limit = start.limit; layout = layout; header = header; behind = place.rest; header_fits = start.fits; bytes_are = start.bytes_are; at_is = start.at; missing = h.1 }))
+
+  pub credential_fault : (bytes : List ℕ) (header : List HeaderField) (place : Place) (name : Principal) (middle : Place) (fault : CacheFault) → HasStart layout bytes header place → Lies name_bytes FitsName place name middle → StopsBy layout middle fault
+      → IsFaultOf bytes fault
+  credential_fault bytes header place name middle (BadItem at) start lies s =
+      let has = cache_read bytes header place name middle s.credentials s.behind start lies s.reaches in
+      inr (record {
+        limit = start.limit;
+        layout = layout;
+        cache = read_cache header name s.credentials;
+        behind = s.behind.rest;
+        reached = subst (λ (n : ℕ). IsReached layout bytes n (read_cache header name s.credentials) s.behind.rest) (sym s.at_is) has;
+        more = s.more;
+        missing = s.missing;
+      })
+  credential_fault bytes header place name middle Version start lies s = absurd s
+  credential_fault bytes header place name middle Header start lies s = absurd s
+  credential_fault bytes header place name middle TooLong start lies s = absurd s
+  credential_fault bytes header place name middle Read start lies s = absurd s
+  credential_fault bytes header place name middle OutOfMemory start lies s = absurd s
 
 -- ---- an offset lies within the file
 
-pub fault_within : (bytes : List ℕ) (fault : CacheFault) → IsFaultOf4 bytes fault → IfSome (offset_of fault) (λ at. at ≤ length bytes)
-fault_within bytes (BadItem at) (inl f) = omega (arith, f.at_is, ap length f.bytes_are, length-append (start_bytes f.header) f.behind)
-fault_within bytes (BadItem at) (inr f) = omega (arith, f.at_is, ap length f.bytes_are, length-append (written f.cache) f.behind)
+pub fault_within : (bytes : List ℕ) (fault : CacheFault) → IsFaultOf bytes fault → IfSome (offset_of fault) (λ at. at ≤ length bytes)
+fault_within bytes (BadItem at) (inl f) = omega (arith, f.at_is, ap length f.bytes_are, length-append (start_bytes f.layout f.header) f.behind)
+fault_within bytes (BadItem at) (inr f) = reached_within f.layout bytes at f.cache f.behind f.reached
 fault_within bytes Version f = tt
 fault_within bytes Header f = tt
 fault_within bytes TooLong f = tt
 fault_within bytes Read f = tt
 fault_within bytes OutOfMemory f = tt
-
--- ---- the bytes behind the version
-
-pub begun_fits : (bytes rest : List ℕ) → IsBytes bytes → bytes ≡ version ++ rest → IsBytes rest
-begun_fits bytes rest fits e = subst IsBytes (drop_at version rest 2 refl) (IsBytes-drop 2 (version ++ rest) (subst IsBytes e fits))

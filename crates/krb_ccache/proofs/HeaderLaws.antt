@@ -1,26 +1,29 @@
--- The header of a cache, and its version as a number.
-use Rattle.std.proofs.Common.{◌≡◌, ◌⊎◌, ℕ, ◌<◌, ◌^◌, Bool, true, false, eqb, List, [], ◌∷◌, ◌++◌, length, Some, None, refl, sym, ap, subst, ◌∙◌, append-nil, arith, inl, inr}
+-- The header of a cache, and its version.
+use Rattle.std.proofs.Common.{◌≡◌, ◌⊎◌, ℕ, ◌+◌, ◌<◌, ◌^◌, Bool, true, false, eqb, List, [], ◌∷◌, ◌++◌, length, Some, None, refl, sym, ap, subst, ◌∙◌, append-nil, arith, inl, inr}
 use Rattle.std.specs.Int.{w16}
 use Rattle.std.specs.Prelude.{All}
 use Rattle.std.proofs.lemmas.Bool.{eqb-true, eq-eqb}
 use Rattle.std.proofs.lemmas.List.{length-append}
 use Rattle.std.proofs.lemmas.List.Elements.{recursion_from_All}
-use Rattle.krb_name.specs.Cursor.{Place, number_at, data_at, number_bytes, data_bytes}
+use Rattle.krb_name.specs.Cursor.{Place, data_at, number_bytes, data_bytes}
 use Rattle.krb_name.specs.Field.{IsBytes, Takes}
-use Rattle.krb_name.proofs.CursorLaws.{some_is, IsField-u16, IsField-data16}
+use Rattle.krb_name.proofs.CursorLaws.{IsField-data16}
 use Rattle.krb_ccache.specs.declared.credential.HeaderField.{HeaderField}
 use Rattle.krb_ccache.specs.Spelling.{field_bytes, fields_bytes, header_bytes}
 use Rattle.krb_ccache.specs.Value.{FitsHeader}
-use Rattle.krb_ccache.specs.Format.{version}
-use Rattle.krb_ccache.specs.Inner.Reading.{is_field, field_at}
+use Rattle.krb_ccache.specs.declared.layout.Layout.{Layout}
+use Rattle.krb_ccache.specs.declared.layout.Layout.TheVariants.{Version3, Version4}
+use Rattle.krb_ccache.specs.Format.{version_of, head_bytes, FitsHead}
+use Rattle.krb_ccache.specs.Inner.Stepping.{Any}
+use Rattle.krb_ccache.specs.Inner.Reading.{is_field, field_at, layout_at}
 use Rattle.krb_ccache.specs.Inner.Standing.{Lies, Reaches, IsMissing, Fills}
-use Rattle.krb_ccache.proofs.PartLaws.{Short16, FitsField, IsField-field}
+use Rattle.krb_ccache.proofs.PartLaws.{Short16, FitsField, IsField-field, IsField-layout}
 use Rattle.krb_ccache.proofs.Repeats.{same_front, missing_where, same_things, reach_none, reach_more}
 
 -- ---- the fields
 
-pub field_some : (field : HeaderField) → 0 < length (field_bytes field)
-field_some field = omega (arith, length-append (number_bytes w16 field.tag) (data_bytes w16 field.value))
+pub field_some : (field : HeaderField) → FitsField field → 0 < length (field_bytes field)
+field_some field fits = omega (arith, length-append (number_bytes w16 field.tag) (data_bytes w16 field.value))
 
 offset_length : (field : HeaderField) → is_field field ≡ true → field.tag ≡ 1 → length field.value ≡ 8
 offset_length field passes tag = tested (eqb (length field.value) 8) refl
@@ -60,7 +63,7 @@ field_goes body place fields field behind reaches e =
     let t = IsField-field.takes place field behind reaches.takes.rest_fits e in
     record {
       reaches = reach_more field_at field_bytes FitsField IsField-field (record { at = 0; rest = body }) fields place field behind reaches e;
-      smaller = omega (arith, field_some field, ap length t.0.parts, length-append (field_bytes field) behind.rest);
+      smaller = omega (arith, field_some field t.1, ap length t.0.parts, length-append (field_bytes field) behind.rest);
     }
 
 pub filled : (body : List ℕ) (place : Place) (fields : List HeaderField) → length body < 2 ^ 16 → Reaches field_bytes FitsField (record { at = 0; rest = body }) fields place → place.rest ≡ [] → Fills body fields
@@ -96,23 +99,27 @@ header_wrong place body behind fits e wrong header others h f =
     let same = same_front (data_at w16) (data_bytes w16) Short16 IsField-data16 body (fields_bytes header) behind.rest others t.1 h.lengths.whole (sym t.0.parts ∙ f) in
     wrong header (record { fits = h; whole = same.0 })
 
+-- ---- the header of a layout
+
+pub no_head : (place : Place) (header : List HeaderField) → IsBytes place.rest → header ≡ [] → Lies (head_bytes Version3) (FitsHead Version3) place header place
+no_head place header fits none = record { fits = none; takes = record { parts = refl; at = omega arith; text_fits = λ i. omega arith; rest_fits = fits } }
+
 -- ---- the version
 
-pub record Opens (bytes : List ℕ) (place : Place) : Type 0 where
+pub record Opens (layout : Layout) (bytes : List ℕ) (place : Place) : Type 0 where
   pub at : place.at ≡ 2
-  pub rest : bytes ≡ version ++ place.rest
+  pub rest : bytes ≡ version_of layout ++ place.rest
   pub fits : IsBytes place.rest
 
-pub opened : (bytes : List ℕ) (start place : Place) (number : ℕ) → IsBytes bytes → start ≡ record { at = 0; rest = bytes } → number_at w16 start ≡ Some (number, place) → number ≡ 0x0504 → Opens bytes place
-opened bytes start place number fits e read is =
-    let t = IsField-u16.takes (record { at = 0; rest = bytes }) 0x0504 place fits (rw (e, is) at read) in
-    record { at = t.0.at; rest = t.0.parts; fits = t.0.rest_fits }
+pub opened : (layout : Layout) (bytes : List ℕ) (start place : Place) → IsBytes bytes → start ≡ record { at = 0; rest = bytes } → layout_at start ≡ Some (layout, place) → Opens layout bytes place
+opened layout bytes start place fits e read =
+    let t = IsField-layout.takes (record { at = 0; rest = bytes }) layout place fits (subst (λ (p : Place). layout_at p ≡ Some (layout, place)) e read) in
+    record { at = t.0.at ∙ two layout; rest = t.0.parts; fits = t.0.rest_fits }
+  where
+    two : (l : Layout) → 0 + length (version_of l) ≡ 2
+    two Version3 = refl
+    two Version4 = refl
 
-start_read : (bytes others : List ℕ) (start : Place) → start ≡ record { at = 0; rest = bytes } → bytes ≡ version ++ others → number_at w16 start ≡ Some (0x0504, record { at = 2; rest = others })
-start_read bytes others start e f = ap (number_at w16) e ∙ ap (λ (t : List ℕ). number_at w16 (record { at = 0; rest = t })) f ∙ IsField-u16.again 0 0x0504 others (omega arith)
-
-pub too_few : (bytes others : List ℕ) (start : Place) → start ≡ record { at = 0; rest = bytes } → number_at w16 start ≡ None → bytes ≡ version ++ others → ⊥
-too_few bytes others start e none f = let read = start_read bytes others start e f in cc
-
-pub other_number : (bytes others : List ℕ) (start place : Place) (number : ℕ) → start ≡ record { at = 0; rest = bytes } → number_at w16 start ≡ Some (number, place) → (number ≡ 0x0504 → ⊥) → bytes ≡ version ++ others → ⊥
-other_number bytes others start place number e read other f = other (ap (λ (x : ℕ × Place). x.0) (some_is (number, place) (0x0504, record { at = 2; rest = others }) (sym read ∙ start_read bytes others start e f)))
+pub no_version : (bytes : List ℕ) (start : Place) → start ≡ record { at = 0; rest = bytes } → layout_at start ≡ None → (layout : Layout) (others : List ℕ) → bytes ≡ version_of layout ++ others → ⊥
+no_version bytes start e none layout others is =
+    missing_where layout_at version_of Any IsField-layout (record { at = 0; rest = bytes }) (subst (λ (p : Place). layout_at p ≡ None) e none) layout others tt is

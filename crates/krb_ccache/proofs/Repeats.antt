@@ -24,13 +24,13 @@ module _ {X : Type 0} (r : Place → Option (X × Place)) (s : X → List ℕ) (
       let read : r place ≡ Some (x, record { at = place.at + length (s x); rest = others }) = ap (λ (t : List ℕ). r (record { at = place.at; rest = t })) e ∙ f.again place.at x others p in
       cc
 
-  module _ (some : (x : X) → 0 < length (s x)) where
+  module _ (some : (x : X) → P x → 0 < length (s x)) where
     -- there are no bytes, or nothing stands there
     abbrev pub Ends : List ℕ → Type 0
     Ends bytes = (bytes ≡ []) ⊎ IsMissing s P bytes
 
     not_ended : (x : X) (others bytes : List ℕ) → P x → Ends bytes → bytes ≡ s x ++ others → ⊥
-    not_ended x others bytes p (inl none) e = let some_bytes : 0 < length (s x) = some x in omega (arith, ap length (sym none ∙ e), length-append (s x) others)
+    not_ended x others bytes p (inl none) e = let some_bytes : 0 < length (s x) = some x p in omega (arith, ap length (sym none ∙ e), length-append (s x) others)
     not_ended x others bytes p (inr missing) e = missing x others p e
 
     parts_of : (x : X) (xs : List X) (bytes : List ℕ) → flat_map s (x ∷ xs) ++ bytes ≡ s x ++ (flat_map s xs ++ bytes)
@@ -68,13 +68,13 @@ module _ {X : Type 0} (r : Place → Option (X × Place)) (s : X → List ℕ) (
     pub reach : Reaches s P place xs behind
     pub end : (behind.rest ≡ []) ⊎ IsMissing s P behind.rest
 
-  module _ (some : (x : X) → 0 < length (s x)) where
+  module _ (some : (x : X) → P x → 0 < length (s x)) where
     step_from : (place : Place) (xs : List X) (middle : Place) → Reaches s P place xs middle → ((x : X) (behind : Place) → Reaches s P place (xs ++ x ∷ []) behind → length behind.rest < length middle.rest → Ended place)
         → (read : Option (X × Place)) → r middle ≡ read → Ended place
     step_from place xs middle so_far next None e = record { xs = xs; behind = middle; reach = so_far; end = inr (missing_where middle e) }
     step_from place xs middle so_far next (Some (x, behind)) e =
         let t = f.takes middle x behind so_far.takes.rest_fits e in
-        let first : 0 < length (s x) = some x in
+        let first : 0 < length (s x) = some x t.1 in
         next x behind (reach_more place xs middle x behind so_far e) (omega (arith, ap length t.0.parts, length-append (s x) behind.rest))
 
     run_from : (most : ℕ) (place : Place) (xs : List X) (middle : Place) → Reaches s P place xs middle → length middle.rest ≤ most → Ended place

@@ -8,7 +8,7 @@ use Rattle.krb_name.specs.File.{file_limit, IsGiven, LeavesTail, ReadsFile}
 use Rattle.krb_ccache.specs.Format.{IsCache, IsAnswerOf, IsFaultOf}
 use Rattle.std.specs.Io.KnownBytes.{IsAtEnd}
 use Rattle.std.proofs.KnownBytes.{Consumes-trans}
-use Rattle.krb_ccache.proofs.LayoutLaws.{the_answer}
+use Rattle.krb_ccache.proofs.AnswerLaws.{one_answer}
 use Rattle.krb_ccache.specs.declared.fault.CacheFault.{CacheFault}
 use Rattle.krb_ccache.specs.declared.fault.CacheFault.TheVariants.{Version, Header, BadItem, TooLong, Read, OutOfMemory}
 
@@ -70,7 +70,7 @@ fault_whole from to fault f memory read = let g = f memory read in answer_known 
 
 -- the one answer for all the bytes
 only_given : (to : Option (List ℕ)) (bytes whole : List ℕ) (result answer : Result Cache CacheFault) → IsGiven (Some whole) to bytes → IsAnswerOf bytes result → IsAnswerOf whole answer → result ≡ answer
-only_given to bytes whole result answer g r a = the_answer bytes result answer r (answer_of_given whole bytes to answer g a)
+only_given to bytes whole result answer g r a = one_answer bytes result answer r (answer_of_given whole bytes to answer g a)
 
 pub only_whole : (from to : Option (List ℕ)) (result : Result Cache CacheFault) → IfOk result (Found from to) → IfErr result (Faulty from to) → (whole : List ℕ) (answer : Result Cache CacheFault) → from ≡ Some whole → IsAnswerOf whole answer
     → (result ≡ answer) ⊎ ((result ≡ Err OutOfMemory) ⊎ (result ≡ Err Read))

@@ -1,7 +1,7 @@
 -- What one step of a reader takes of its source.
 use Rattle.std.proofs.Common.{◌≡◌, ℕ, ◌+◌, ◌≤◌, true, List, [], ◌++◌, length, Option, Some, None, Result, Ok, Err, refl, sym, ap, subst, ◌∙◌, append_assoc, append-nil, arith, inl, inr}
 use Rattle.std.specs.Io.KnownBytes.{Consumes}
-use Rattle.std.proofs.KnownBytes.{Consumes-trans}
+use Rattle.std.proofs.KnownBytes.{Consumes-trans, Consumes-nil}
 use Rattle.std.proofs.lemmas.List.{length-append, nil_from_length}
 use Rattle.krb_name.specs.Cursor.{Place}
 use Rattle.krb_name.specs.Window.{AtHand, Keeps}
@@ -12,15 +12,17 @@ use Rattle.krb_ccache.specs.declared.item_fault.ItemFault.TheVariants as item
 use Rattle.krb_ccache.specs.declared.walking.Stop.{Stop}
 use Rattle.krb_ccache.specs.declared.walking.Stop.TheVariants as stop
 use Rattle.krb_ccache.specs.Reader.{HeldPart, passed}
+use Rattle.krb_ccache.specs.declared.layout.Layout.{Layout}
+use Rattle.krb_ccache.specs.declared.layout.Layout.TheVariants.{Version3, Version4}
 use Rattle.krb_ccache.specs.Value.{FitsCredential}
 use Rattle.krb_ccache.specs.declared.credential.Credential.{Credential}
-use Rattle.krb_ccache.specs.Inner.Standing.{IsMissing}
-use Rattle.krb_ccache.specs.Inner.Walking.{Walks, Halts, FitsMarked, whole}
-use Rattle.krb_ccache.specs.Inner.Stepping.{item_stop, Stands, cleared, Comes, Gives, Runs, IsTold, Lacks, Misses, IsStep}
+use Rattle.krb_ccache.specs.Inner.Standing.{bytes_of, IsMissing}
+use Rattle.krb_ccache.specs.Inner.Walking.{Walks, Halts, FitsKeyed, whole}
+use Rattle.krb_ccache.specs.Inner.Stepping.{item_stop, Stands, cleared, Comes, Gives, Runs, IsTold, Lacks, Misses, MissesOne, spelled_as, IsStep, IsAtHand}
 use Rattle.std.specs.Prelude.{◌≢◌}
-use Rattle.krb_ccache.specs.Spelling.{credential_bytes}
 use Rattle.krb_ccache.specs.declared.fault.CacheFault.TheVariants.{BadItem, OutOfMemory}
-use Rattle.krb_ccache.specs.Format.{version, Layout, version_4, version_of}
+use Rattle.krb_ccache.specs.Format.{version_of, head_bytes, FitsHead, second_size, Spelled, Spells}
+use Rattle.krb_ccache.specs.declared.credential.HeaderField.{HeaderField}
 use Rattle.krb_ccache.specs.Inner.Stepping.{Any}
 use Rattle.krb_name.specs.Field.{IsBytes, IsField}
 use Rattle.krb_name.proofs.CursorLaws.{some_is}
@@ -139,51 +141,63 @@ module _ {X S : Type 0} (s : X → List ℕ) (P : X → Type 0) (left : S → Op
 
 -- ---- no credential came
 
-module _ {S : Type 0} (left : S → Option (List ℕ)) (old middle new : AtHand S) (stop : Stop) (at : ℕ) (told : CacheFault) (here : at ≡ old.given) (halts : Halts credential_bytes FitsCredential left (cleared old) middle stop)
+module _ (layout : Layout) {S : Type 0} (left : S → Option (List ℕ)) (old middle new : AtHand S) (stop : Stop) (at : ℕ) (told : CacheFault) (here : at ≡ old.given) (halts : Halts bytes_of (Spells layout) left (cleared old) middle stop)
     (is_told : IsTold left middle new stop (BadItem at) told) where
-  none_came : Misses credential_bytes FitsCredential left old new (BadItem old.given) told
-  none_came = subst (λ (f : CacheFault). Misses credential_bytes FitsCredential left old new f told) (ap BadItem here) (misses credential_bytes FitsCredential left old middle new stop (BadItem at) told halts is_told)
+  none_came : MissesOne layout left old new told
+  none_came = subst (λ (f : CacheFault). Misses bytes_of (Spells layout) left old new f told) (ap BadItem here) (misses bytes_of (Spells layout) left old middle new stop (BadItem at) told halts is_told)
 
-  pub fault_step : (told ≡ BadItem at → new.given ≢ at) → IsStep left old new (Err told)
+  pub fault_step : (told ≡ BadItem at → new.given ≢ at) → IsStep layout left old new (Err told)
   fault_step more = (none_came, subst (λ (n : ℕ). told ≡ BadItem n → new.given ≢ n) here more)
 
-  pub end_step : told ≡ BadItem at → new.given ≡ at → IsStep left old new (Ok None)
-  end_step is same = (subst (Misses credential_bytes FitsCredential left old new (BadItem old.given)) (is ∙ ap BadItem here) none_came, same ∙ here)
+  pub end_step : told ≡ BadItem at → new.given ≡ at → IsStep layout left old new (Ok None)
+  end_step is same = (subst (MissesOne layout left old new) (is ∙ ap BadItem here) none_came, same ∙ here)
 
 -- ---- what a step leaves
 
-module _ {S : Type 0} (left : S → Option (List ℕ)) (old new : AtHand S) where
-  tail_of : (answer : Result (Option Credential) CacheFault) → IsStep left old new answer → LeavesTail (left old.source) (left new.source)
-  tail_of (Ok (Some credential)) step = comes_tail credential_bytes FitsCredential left old new credential step
-  tail_of (Ok None) step = misses_tail credential_bytes FitsCredential left old new (BadItem old.given) (BadItem old.given) step.0
-  tail_of (Err fault) step = misses_tail credential_bytes FitsCredential left old new (BadItem old.given) fault step.0
+module _ (layout : Layout) {S : Type 0} (left : S → Option (List ℕ)) (old new : AtHand S) where
+  tail_of : (answer : Result (Option Credential) CacheFault) → IsStep layout left old new answer → LeavesTail (left old.source) (left new.source)
+  tail_of (Ok (Some credential)) step = (step.0, step.1.consumed)
+  tail_of (Ok None) step = misses_tail bytes_of (Spells layout) left old new (BadItem old.given) (BadItem old.given) step.0
+  tail_of (Err fault) step = misses_tail bytes_of (Spells layout) left old new (BadItem old.given) fault step.0
 
-  pub step_tail : (from : Option (List ℕ)) (answer : Result (Option Credential) CacheFault) → LeavesTail from (left old.source) → IsStep left old new answer → LeavesTail from (left new.source)
+  pub step_tail : (from : Option (List ℕ)) (answer : Result (Option Credential) CacheFault) → LeavesTail from (left old.source) → IsStep layout left old new answer → LeavesTail from (left new.source)
   step_tail from answer tail step = tail_then from (left old.source) (left new.source) tail (tail_of answer step)
 
 -- ---- a credential that was passed
 
 -- there was no room for it
-pub not_made : {S : Type 0} (left : S → Option (List ℕ)) (old new : AtHand S) (answer : Result (Option Credential) CacheFault) → Ok true ≡ passed answer → IsStep left old new answer → IsStep left old new (Err OutOfMemory)
-not_made left old new (Ok None) there step = absurd cc
-not_made left old new (Err fault) there step = absurd cc
-not_made left old new (Ok (Some credential)) there step = (
-  record {
-    some = (
-      credential_bytes credential,
+pub not_made : (layout : Layout) {S : Type 0} (left : S → Option (List ℕ)) (old new : AtHand S) (answer : Result (Option Credential) CacheFault) → Ok true ≡ passed answer → IsStep layout left old new answer
+    → IsStep layout left old new (Err OutOfMemory)
+not_made layout left old new (Ok None) there step = absurd cc
+not_made layout left old new (Err fault) there step = absurd cc
+not_made layout left old new (Ok (Some credential)) there step =
+    let one = step.1 in (
       record {
-        consumed = step.consumed;
-        given = step.given;
-        grows = omega (arith, step.peak);
-        peak = omega (arith, step.peak);
-        limit = λ old_limit. omega (arith, step.peak, step.given, step.within, old_limit);
+        some = (
+          step.0,
+          record {
+            consumed = one.consumed;
+            given = one.given;
+            grows = omega (arith, one.peak);
+            peak = omega (arith, one.peak);
+            limit = λ old_limit. omega (arith, one.peak, one.given, one.within, old_limit);
+          },
+        );
+        lacks = λ read memory. absurd (memory refl);
+        tells = λ memory. absurd (memory refl);
       },
-    );
-    lacks = λ read memory. absurd (memory refl);
-    tells = λ memory. absurd (memory refl);
-  },
-  λ e. absurd cc,
-)
+      λ e. absurd cc,
+    )
+
+-- it was made of the bytes at hand
+pub was_made : (layout : Layout) {S : Type 0} (left : S → Option (List ℕ)) (old new : AtHand S) (answer : Result (Option Credential) CacheFault) (bytes : List ℕ) (made : Credential) → Ok true ≡ passed answer → IsStep layout left old new answer
+    → IsAtHand layout new.bytes answer → bytes ≡ new.bytes → ((one : Spelled) → Stands bytes_of (Spells layout) bytes one → made ≡ one.credential) → IsStep layout left old new (Ok (Some made))
+was_made layout left old new (Ok None) bytes made there step hand same is = absurd cc
+was_made layout left old new (Err fault) bytes made there step hand same is = absurd cc
+was_made layout left old new (Ok (Some credential)) bytes made there step hand same is =
+    let one : Spelled = spelled_as hand.0 credential in
+    let stands = subst (λ (t : List ℕ). Stands bytes_of (Spells layout) t one) (sym same) hand.1 in
+    subst (λ (x : Credential). IsStep layout left old new (Ok (Some x))) (sym (is one stands)) step
 
 -- ---- a field
 
@@ -207,19 +221,21 @@ pub version_walks : {S : Type 0} (left : S → Option (List ℕ)) (old new : AtH
 version_walks left old new w = part_walks left (λ (x : List ℕ). x) (λ (x : List ℕ). length x ≡ 2) version_of Any two old new w
   where
     two : (layout : Layout) → Any layout → length (version_of layout) ≡ 2
-    two version_4 any = refl
+    two Version3 any = refl
+    two Version4 any = refl
 
-pub not_version : (bytes : List ℕ) → length bytes ≡ 2 → (bytes ≡ version → ⊥) → IsMissing version_of Any bytes
-not_version bytes len not version_4 others any e =
-    let none : others ≡ [] = nil_from_length others (omega (arith, len, ap length e, length-append version others)) in
-    not (e ∙ ap (λ (t : List ℕ). version ++ t) none)
+-- ---- no header
+
+pub no_head_comes : {S : Type 0} (left : S → Option (List ℕ)) (old : AtHand S) (header : List HeaderField) → header ≡ [] → old.given ≤ file_limit → Comes (head_bytes Version3) (FitsHead Version3) left old old header
+no_head_comes left old header none within = record { fits = none; consumed = Consumes-nil (left old.source); given = omega arith; within = within; peak = omega arith }
 
 -- ---- how much of a credential was at hand
 
-module _ {S : Type 0} (left : S → Option (List ℕ)) where
+module _ (layout : Layout) {S : Type 0} (left : S → Option (List ℕ)) where
   part_kept : (old start new : AtHand S) (piece : List ℕ) → Keeps (left start.source) (left new.source) start new piece → start ≡ cleared old
-      → ((credential : Credential) (mark : ℕ) (more others : List ℕ) → FitsCredential credential → piece ++ more ≡ whole (credential, mark) ++ others → length piece ≤ length (whole (credential, mark)))
-      → HeldPart (left old.source) (left new.source) old.peak new.peak
+      → ((credential : Credential) (second : List ℕ) (mark : ℕ) (more others : List ℕ) → FitsCredential credential → length second ≡ second_size layout
+      → piece ++ more ≡ whole (record { credential = credential; second = second; mark = mark }) ++ others → length piece ≤ length (whole (record { credential = credential; second = second; mark = mark })))
+      → HeldPart layout (left old.source) (left new.source) old.peak new.peak
   part_kept old start new piece keeps e no_longer =
       let k = subst (λ (t : AtHand S). Keeps (left t.source) (left new.source) t new piece) e keeps in
       record {
@@ -230,15 +246,17 @@ module _ {S : Type 0} (left : S → Option (List ℕ)) where
         held = omega (arith, k.peak, ap length k.bytes);
       }
 
-  pub part_walked : (old start new : AtHand S) → Walks whole FitsMarked left start new → start ≡ cleared old → HeldPart (left old.source) (left new.source) old.peak new.peak
-  part_walked old start new w e = part_kept old start new w.piece w.keeps e (λ credential mark more others p same. omega (arith, w.spans (credential, mark) more others p same))
+  pub part_walked : (old start new : AtHand S) → Walks whole (FitsKeyed layout) left start new → start ≡ cleared old → HeldPart layout (left old.source) (left new.source) old.peak new.peak
+  part_walked old start new w e =
+      part_kept old start new w.piece w.keeps e (λ credential second mark more others p size same. omega (arith, w.spans (record { credential = credential; second = second; mark = mark }) more others (p, size) same))
 
-  pub part_halted : (old start new : AtHand S) (stop : Stop) → Halts whole FitsMarked left start new stop → start ≡ cleared old → HeldPart (left old.source) (left new.source) old.peak new.peak
-  part_halted old start new stop h e = part_kept old start new h.piece h.keeps e (λ credential mark more others p same. omega (arith, h.wants (credential, mark) more others p same))
+  pub part_halted : (old start new : AtHand S) (stop : Stop) → Halts whole (FitsKeyed layout) left start new stop → start ≡ cleared old → HeldPart layout (left old.source) (left new.source) old.peak new.peak
+  part_halted old start new stop h e =
+      part_kept old start new h.piece h.keeps e (λ credential second mark more others p size same. omega (arith, h.wants (record { credential = credential; second = second; mark = mark }) more others (p, size) same))
 
-  pub part_told : (old middle new : AtHand S) (stop : Stop) (fault told : CacheFault) → HeldPart (left old.source) (left middle.source) old.peak middle.peak → IsTold left middle new stop fault told
-      → HeldPart (left old.source) (left new.source) old.peak new.peak
-  part_told old middle new stop.End fault told h t = subst (λ (w : AtHand S). HeldPart (left old.source) (left w.source) old.peak w.peak) (sym t.1) h
+  pub part_told : (old middle new : AtHand S) (stop : Stop) (fault told : CacheFault) → HeldPart layout (left old.source) (left middle.source) old.peak middle.peak → IsTold left middle new stop fault told
+      → HeldPart layout (left old.source) (left new.source) old.peak new.peak
+  part_told old middle new stop.End fault told h t = subst (λ (w : AtHand S). HeldPart layout (left old.source) (left w.source) old.peak w.peak) (sym t.1) h
   part_told old middle new stop.Long fault told h t = record {
     part = h.part;
     after = h.after ++ t.0.piece;
@@ -247,5 +265,5 @@ module _ {S : Type 0} (left : S → Option (List ℕ)) where
     no_longer = h.no_longer;
     held = omega (arith, h.held, t.0.skips.peak);
   }
-  part_told old middle new stop.Read fault told h t = subst (λ (w : AtHand S). HeldPart (left old.source) (left w.source) old.peak w.peak) (sym t.1) h
-  part_told old middle new stop.OutOfMemory fault told h t = subst (λ (w : AtHand S). HeldPart (left old.source) (left w.source) old.peak w.peak) (sym t.1) h
+  part_told old middle new stop.Read fault told h t = subst (λ (w : AtHand S). HeldPart layout (left old.source) (left w.source) old.peak w.peak) (sym t.1) h
+  part_told old middle new stop.OutOfMemory fault told h t = subst (λ (w : AtHand S). HeldPart layout (left old.source) (left w.source) old.peak w.peak) (sym t.1) h

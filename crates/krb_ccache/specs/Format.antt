@@ -1,62 +1,68 @@
--- The credential cache file, version 0x0504 (MIT krb5, "Credential cache file format"): which bytes are which cache, and what is wrong with the others.
+-- The credential cache file, of versions 0x0503 and 0x0504 (MIT krb5, "Credential cache file format"): which bytes are which cache, and what is wrong with the others.
 use Rattle.std.specs.Prelude.{◌≡◌, ◌≢◌, ◌⊎◌, ℕ, ◌<◌, ◌≤◌, ◌+◌, List, [], ◌∷◌, ◌++◌, length, map, All, Result, Ok, Err}
 use Rattle.std.specs.List.{flat_map}
 use Rattle.krb_name.specs.declared.principal.Principal.{Principal}
 use Rattle.krb_name.specs.File.{file_limit}
 use Rattle.krb_ccache.specs.declared.credential.HeaderField.{HeaderField}
 use Rattle.krb_ccache.specs.declared.credential.Credential.{Credential}
-use Rattle.krb_ccache.specs.Spelling.{header_bytes, name_bytes, credential_bytes}
+use Rattle.krb_ccache.specs.declared.layout.Layout.{Layout}
+use Rattle.krb_ccache.specs.declared.layout.Layout.TheVariants.{Version3, Version4}
+use Rattle.krb_ccache.specs.Spelling.{header_bytes, name_bytes, keyed_bytes, credential_bytes}
 use Rattle.krb_ccache.specs.Value.{Cache, FitsHeader, FitsName, FitsCredential}
 use Rattle.krb_ccache.specs.declared.fault.CacheFault.{CacheFault}
 use Rattle.krb_ccache.specs.declared.fault.CacheFault.TheVariants.{Version, Header, BadItem, TooLong}
 
--- what a cache begins with
-abbrev pub version : List ℕ
-version = 0x05 ∷ 0x04 ∷ []
+-- ---- where the versions differ
 
--- what stands before the default principal
-abbrev pub start_bytes : List HeaderField → List ℕ
-start_bytes header = version ++ header_bytes header
+-- what a file begins with
+abbrev pub version_of : Layout → List ℕ
+version_of Version3 = 0x05 ∷ 0x03 ∷ []
+version_of Version4 = 0x05 ∷ 0x04 ∷ []
 
--- what is written of a cache: the whole file
-abbrev pub written : Cache → List ℕ
-written cache =
-    start_bytes cache.header
-    ++ (name_bytes cache.default_principal
-    ++ flat_map credential_bytes cache.credentials)
+-- what stands between the version and the default principal
+abbrev pub head_bytes : Layout → List HeaderField → List ℕ
+head_bytes Version3 header = []
+head_bytes Version4 header = header_bytes header
+
+abbrev pub FitsHead : Layout → List HeaderField → Type 0
+FitsHead Version3 header = header ≡ []
+FitsHead Version4 header = FitsHeader header
+
+-- how many bytes a key's encryption type takes the second time; they may be any
+abbrev pub second_size : Layout → ℕ
+second_size Version3 = 2
+second_size Version4 = 0
 
 -- ---- which bytes are which cache
 
--- how a file is laid out: in one way
-pub data Layout : Type 0 where
-  version_4 : Layout
-
--- the version that tells a layout
-abbrev pub version_of : Layout → List ℕ
-version_of version_4 = version
-
--- with these bytes before its default principal a file has this header
-abbrev pub Starts : Layout → List ℕ → List HeaderField → Type 0
-Starts version_4 start header = FitsHeader header × (start ≡ start_bytes header)
-
-abbrev pub SpellsCredential : Layout → List ℕ → Credential → Type 0
-SpellsCredential version_4 bytes credential = FitsCredential credential × (bytes ≡ credential_bytes credential)
+-- what stands before the default principal
+abbrev pub start_bytes : Layout → List HeaderField → List ℕ
+start_bytes layout header = version_of layout ++ head_bytes layout header
 
 -- bytes, and the credential that they spell
 pub record Spelled : Type 0 where
   pub bytes : List ℕ
   pub credential : Credential
 
+pub record Spells (layout : Layout) (one : Spelled) : Type 0 where
+  pub fits : FitsCredential one.credential
+  pub second : List ℕ
+  pub size : length second ≡ second_size layout
+  pub bytes_are : one.bytes ≡ keyed_bytes one.credential second
+
+-- how many bytes spell a credential
+abbrev pub credential_length : Layout → Credential → ℕ
+credential_length layout credential = length (credential_bytes credential) + second_size layout
+
 -- up to an offset the bytes are a start, a default principal and whole credentials, of this cache; these bytes lie behind it
 pub record IsReached (layout : Layout) (bytes : List ℕ) (at : ℕ) (cache : Cache) (behind : List ℕ) : Type 0 where
-  pub start : List ℕ
-  pub spelled : List Spelled
-  pub starts : Starts layout start cache.header
+  pub header_fits : FitsHead layout cache.header
   pub name_fits : FitsName cache.default_principal
-  pub spell : All (λ one. SpellsCredential layout one.bytes one.credential) spelled
+  pub spelled : List Spelled
+  pub spell : All (Spells layout) spelled
   pub credentials_are : cache.credentials ≡ map (λ one. one.credential) spelled
-  pub bytes_are : bytes ≡ start ++ (name_bytes cache.default_principal ++ (flat_map (λ one. one.bytes) spelled ++ behind))
-  pub at_is : at ≡ length start + (length (name_bytes cache.default_principal) + length (flat_map (λ one. one.bytes) spelled))
+  pub bytes_are : bytes ≡ start_bytes layout cache.header ++ (name_bytes cache.default_principal ++ (flat_map (λ one. one.bytes) spelled ++ behind))
+  pub at_is : at ≡ length (start_bytes layout cache.header) + (length (name_bytes cache.default_principal) + length (flat_map (λ one. one.bytes) spelled))
 
 -- the bytes are a cache of this value
 pub record IsCache (bytes : List ℕ) (cache : Cache) : Type 0 where
@@ -65,6 +71,14 @@ pub record IsCache (bytes : List ℕ) (cache : Cache) : Type 0 where
   pub at : ℕ
   pub reached : IsReached layout bytes at cache []
 
+-- ---- what is written of a cache: a whole file of version 0x0504
+
+abbrev pub written : Cache → List ℕ
+written cache =
+    start_bytes Version4 cache.header
+    ++ (name_bytes cache.default_principal
+    ++ flat_map credential_bytes cache.credentials)
+
 -- ---- faults
 
 -- within the limit, and no version
@@ -72,24 +86,23 @@ pub record LacksVersion (bytes : List ℕ) : Type 0 where
   pub limit : length bytes ≤ file_limit
   pub missing : (layout : Layout) (others : List ℕ) → bytes ≢ version_of layout ++ others
 
--- a version, and nothing that a file starts with
+-- a version, and no header behind it
 pub record LacksHeader (bytes : List ℕ) : Type 0 where
   pub limit : length bytes ≤ file_limit
   pub layout : Layout
   pub behind : List ℕ
   pub bytes_are : bytes ≡ version_of layout ++ behind
-  pub missing : (header : List HeaderField) (start others : List ℕ) → Starts layout start header → bytes ≢ start ++ others
+  pub missing : (header : List HeaderField) (others : List ℕ) → FitsHead layout header → behind ≢ head_bytes layout header ++ others
 
 -- a start, and no principal behind it
 pub record LacksDefault (bytes : List ℕ) (at : ℕ) : Type 0 where
   pub limit : length bytes ≤ file_limit
   pub layout : Layout
   pub header : List HeaderField
-  pub start : List ℕ
   pub behind : List ℕ
-  pub starts : Starts layout start header
-  pub bytes_are : bytes ≡ start ++ behind
-  pub at_is : at ≡ length start
+  pub header_fits : FitsHead layout header
+  pub bytes_are : bytes ≡ start_bytes layout header ++ behind
+  pub at_is : at ≡ length (start_bytes layout header)
   pub missing : (name : Principal) (others : List ℕ) → FitsName name → behind ≢ name_bytes name ++ others
 
 -- a cache, and behind it more bytes with no credential at their front
@@ -100,7 +113,7 @@ pub record LacksCredential (bytes : List ℕ) (at : ℕ) : Type 0 where
   pub behind : List ℕ
   pub reached : IsReached layout bytes at cache behind
   pub more : behind ≢ []
-  pub missing : (credential : Credential) (spelling others : List ℕ) → SpellsCredential layout spelling credential → behind ≢ spelling ++ others
+  pub missing : (one : Spelled) (others : List ℕ) → Spells layout one → behind ≢ one.bytes ++ others
 
 -- why the bytes are no cache; an offset is that of the principal or credential that isn't there
 abbrev pub IsFaultOf : List ℕ → CacheFault → Type 0

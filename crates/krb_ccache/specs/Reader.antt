@@ -6,16 +6,18 @@ use Rattle.krb_name.specs.Cursor.{number_bytes}
 use Rattle.krb_name.specs.declared.principal.Principal.{Principal}
 use Rattle.krb_ccache.specs.declared.credential.HeaderField.{HeaderField}
 use Rattle.krb_ccache.specs.declared.credential.Credential.{Credential}
-use Rattle.krb_ccache.specs.Spelling.{credential_bytes, marked_bytes}
+use Rattle.krb_ccache.specs.declared.layout.Layout.{Layout}
+use Rattle.krb_ccache.specs.Spelling.{marked_bytes}
 use Rattle.krb_ccache.specs.Value.{Cache, cache_of, FitsCredential}
 use Rattle.krb_name.specs.File.{file_limit}
-use Rattle.krb_ccache.specs.Format.{Layout, IsReached}
+use Rattle.krb_ccache.specs.Format.{second_size, Spelled, Spells, credential_length, IsReached}
 use Rattle.krb_ccache.specs.declared.fault.CacheFault.{CacheFault}
 
--- a reader: its source; the header and the default principal; how many bytes the source has given; how many were at hand at
+-- a reader: its source; the layout, the header and the default principal; how many bytes the source has given; how many were at hand at
 -- once, at most; and the last answer, once it was given: the end or a fault
 pub record Reading (S : Type 0) : Type 0 where
   pub source : S
+  pub layout : Layout
   pub header : List HeaderField
   pub default_principal : Principal
   pub given : ℕ
@@ -43,8 +45,7 @@ last_answer (Ok _) = Ok None
 last_answer (Err fault) = Err fault
 
 -- the source gave these bytes of a file up to an offset: a start, a default principal and whole credentials, of this cache
-pub record HasTaken (from to : Option (List ℕ)) (at : ℕ) (cache : Cache) : Type 0 where
-  pub layout : Layout
+pub record HasTaken (layout : Layout) (from to : Option (List ℕ)) (at : ℕ) (cache : Cache) : Type 0 where
   pub bytes : List ℕ
   pub taken : Consumes from to bytes
   pub reached : IsReached layout bytes at cache []
@@ -56,7 +57,7 @@ with_credential cache credential = cache_of cache.header cache.default_principal
 -- a reader that hasn't ended has taken the bytes of this cache, off a source that had these to come
 pub record HasRead {S : Type 0} (left : S → Option (List ℕ)) (from : Option (List ℕ)) (reader : Reading S) (cache : Cache) : Type 0 where
   pub going : reader.ended ≡ None
-  pub taken : HasTaken from (left reader.source) reader.given cache
+  pub taken : HasTaken reader.layout from (left reader.source) reader.given cache
 
 -- the source gave some bytes, of which at most all were at hand at once
 pub record Gave {S : Type 0} (from to : Option (List ℕ)) (old new : Reading S) : Type 0 where
@@ -74,24 +75,24 @@ pub record StaysAtEnd {S : Type 0} (to : Option (List ℕ)) (old new : Reading S
 
 -- a beginning of what the source gave was at hand; it is no longer than any credential that begins with it, whichever byte is
 -- its `is_skey`
-pub record HeldPart (from to : Option (List ℕ)) (old new : ℕ) : Type 0 where
+pub record HeldPart (layout : Layout) (from to : Option (List ℕ)) (old new : ℕ) : Type 0 where
   pub part : List ℕ
   pub after : List ℕ
   pub given : Consumes from to (part ++ after)
-  pub no_longer : (credential : Credential) (mark : ℕ) (more others : List ℕ) → FitsCredential credential → part ++ more ≡ marked_bytes credential (number_bytes w8 mark) ++ others
-      → length part ≤ length (marked_bytes credential (number_bytes w8 mark))
+  pub no_longer : (credential : Credential) (second : List ℕ) (mark : ℕ) (more others : List ℕ) → FitsCredential credential → length second ≡ second_size layout
+      → part ++ more ≡ marked_bytes credential second (number_bytes w8 mark) ++ others → length part ≤ length (marked_bytes credential second (number_bytes w8 mark))
   pub held : new ≤ max old (length part)
 
 -- the source gave the bytes of a credential, and no more in all than a file has
-pub record GaveOne (old new : ℕ) (credential : Credential) : Type 0 where
-  pub given : new ≡ old + length (credential_bytes credential)
+pub record GaveOne (layout : Layout) (old new : ℕ) (credential : Credential) : Type 0 where
+  pub given : new ≡ old + credential_length layout credential
   pub some : old < new
   pub limit : new ≤ file_limit
 
 -- a credential was passed: its bytes were given and were at hand, and it is read behind those before
 pub record PassedOne {S : Type 0} (left : S → Option (List ℕ)) (old new : Reading S) (credential : Credential) : Type 0 where
-  pub gave : GaveOne old.given new.given credential
-  pub held : new.held ≡ max old.held (length (credential_bytes credential))
+  pub gave : GaveOne old.layout old.given new.given credential
+  pub held : new.held ≡ max old.held (credential_length old.layout credential)
   pub read : (from : Option (List ℕ)) (cache : Cache) → HasRead left from old cache → HasRead left from new (with_credential cache credential)
 
 -- the bytes are a start, a default principal and whole credentials, of this cache; and behind them stands none that ends within
@@ -102,5 +103,4 @@ pub record GoesTo (bytes : List ℕ) (cache : Cache) : Type 0 where
   pub behind : List ℕ
   pub reached : IsReached layout bytes at cache behind
   pub within : at ≤ file_limit
-  pub missing : (credential : Credential) (others : List ℕ) → FitsCredential credential → at + length (credential_bytes credential) ≤ file_limit
-      → behind ≢ credential_bytes credential ++ others
+  pub missing : (one : Spelled) (others : List ℕ) → Spells layout one → at + length one.bytes ≤ file_limit → behind ≢ one.bytes ++ others

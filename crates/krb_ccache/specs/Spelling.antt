@@ -1,5 +1,5 @@
 -- How the parts of a credential cache are spelled (MIT krb5, "Credential cache file format"). Numbers are big-endian, signed ones in two's complement.
-use Rattle.std.specs.Prelude.{ℕ, Bool, true, false, List, ◌++◌, length}
+use Rattle.std.specs.Prelude.{ℕ, Bool, true, false, List, [], ◌++◌, length}
 use Rattle.std.specs.Int.{w8, w16, w32}
 use Rattle.std.specs.List.{flat_map}
 use Rattle.krb_name.specs.Cursor.{number_bytes, signed_bytes, data_bytes}
@@ -40,12 +40,13 @@ typed_bytes element = number_bytes w16 element.kind ++ data_bytes w32 element.by
 abbrev pub list_bytes : List TypedBytes → List ℕ
 list_bytes list = number_bytes w32 (length list) ++ flat_map typed_bytes list
 
--- with these bytes for `is_skey`
-abbrev pub marked_bytes : Credential → List ℕ → List ℕ
-marked_bytes credential mark =
+-- with these bytes after the encryption type, and these for `is_skey`
+abbrev pub marked_bytes : Credential → List ℕ → List ℕ → List ℕ
+marked_bytes credential second mark =
     name_bytes credential.client
     ++ (name_bytes credential.server
     ++ (signed_bytes w16 credential.etype
+    ++ (second
     ++ (data_bytes w32 credential.key
     ++ (number_bytes w32 credential.authtime
     ++ (number_bytes w32 credential.starttime
@@ -56,7 +57,12 @@ marked_bytes credential mark =
     ++ (list_bytes credential.addresses
     ++ (list_bytes credential.authdata
     ++ (data_bytes w32 credential.ticket
-    ++ data_bytes w32 credential.second_ticket))))))))))))
+    ++ data_bytes w32 credential.second_ticket)))))))))))))
 
+-- with these bytes after the encryption type
+abbrev pub keyed_bytes : Credential → List ℕ → List ℕ
+keyed_bytes credential second = marked_bytes credential second (flag_bytes credential.is_skey)
+
+-- in version 0x0504: the encryption type stands once
 abbrev pub credential_bytes : Credential → List ℕ
-credential_bytes credential = marked_bytes credential (flag_bytes credential.is_skey)
+credential_bytes credential = keyed_bytes credential []

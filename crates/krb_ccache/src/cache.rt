@@ -1,32 +1,32 @@
 //! A credential cache.
 
-ghost use Rattle.std.specs.Prelude.{◌≡◌, ◌≢◌, ◌⊎◌, ◌≤◌, ◌<◌, ◌^◌, ◌-◌, ◌+◌, ◌++◌, ℕ, ℤ, List, [], All, IsTrue, ◌↔◌, IfOk, IfErr, IfSome, IfNone, OnOk, OnErr, Some, Ok, Err, Result, SomeIff, None, length};
+ghost use Rattle.std.specs.Prelude.{◌≡◌, ◌≢◌, ◌⊎◌, ◌≤◌, ◌<◌, ◌^◌, ◌-◌, ◌+◌, ◌++◌, ℕ, ℤ, List, [], All, IsTrue, ◌↔◌, IfOk, IfErr, IfSome, IfNone, OnOk, OnErr, Some, Ok, Err, Result, SomeIff, None, length, map};
 ghost use Rattle.std.specs.List.{flat_map};
 ghost use Rattle.std.specs.Io.KnownBytes.{IsAtEnd};
 ghost use Rattle.krb_name.specs.Field.{IsBytes};
-ghost use Rattle.krb_ccache.specs.Spelling.{name_bytes, credential_bytes};
+ghost use Rattle.krb_ccache.specs.Spelling.{name_bytes};
 ghost use Rattle.krb_ccache.specs.Value.{Cache, cache_of, HasLengths, Fits, FitsName, FitsCredential};
 ghost use Rattle.krb_ccache.specs.declared.fault.CacheFault.{CacheFault as CacheFaultValue};
 ghost use Rattle.krb_ccache.specs.Configuration.{HoldsOffset, IsConfiguration};
 ghost use Rattle.krb_ccache.specs.Fault.{offset_of, failed_reads};
 ghost use Rattle.krb_name.specs.File.{file_limit, IsGiven, LeavesTail, ReadsFile};
-ghost use Rattle.krb_ccache.specs.Format.{written, IsCache, IsFaultOf, IsAnswerOf};
+ghost use Rattle.krb_ccache.specs.Format.{written, Spelled, Spells, IsCache, IsFaultOf, IsAnswerOf};
 ghost use Rattle.krb_ccache.specs.Offset.{clock_offset};
 ghost use Rattle.krb_ccache.specs.Inner.Reading.{credential_at};
 ghost use Rattle.krb_ccache.specs.Inner.Room.{Leaves};
-ghost use Rattle.krb_ccache.specs.Inner.Version4.{IsCache4, IsFaultOf4};
-ghost use Rattle.krb_ccache.specs.Inner.Standing.{Lies, Reaches, IsMissing, StopsBy};
+ghost use Rattle.krb_ccache.specs.Inner.Standing.{bytes_of, Lies, Reaches, IsMissing, StopsBy};
 
 use crate::checking::check;
 use crate::configuration::{first_offset, is_entry};
 use crate::credential::{Credential, HeaderField};
 use crate::fault::CacheFault;
 use crate::fits::{all_fit, header_fits, name_fits};
-use crate::header::{VERSION, open, read_header};
+use crate::header::{open, read_head};
 use crate::item_fault::ItemFault;
 use crate::items::{read_credential, read_name};
+use crate::layout::{Layout, VERSION_4};
 use crate::room::{behind_credentials, behind_header, behind_name};
-use crate::stepping::{begin, steps};
+use crate::stepping::{Start, begin, steps};
 use crate::writing::{write_credentials, write_header, write_name, write_u16};
 use krb_name::{FILE_LIMIT, FileCursor, Principal, Source, Window};
 use std::alloc::{AllocError, Global};
@@ -94,13 +94,15 @@ impl CCache {
     /// `OutOfMemory` where the bytes are a cache and there was no room for a part; else the first that
     /// holds:
     /// - `TooLong`: there are more than 16,777,216 bytes.
-    /// - `Version`: they don't begin with 0x05 0x04.
-    /// - `Header`: the header is cut off, fields don't fill it exactly, or a field of tag 1 hasn't 8
-    ///   bytes.
-    /// - `BadItem`, with the offset behind the header where no principal stands there, or else with
-    ///   that of the first credential that isn't whole, or whose `is_skey` byte is neither 0 nor 1.
+    /// - `Version`: they don't begin with 0x05 0x04 or 0x05 0x03.
+    /// - `Header`: in a file of version 0x0504 the header is cut off, fields don't fill it exactly, or a
+    ///   field of tag 1 hasn't 8 bytes.
+    /// - `BadItem`: with the offset after the header (2 if the version is 0x0503, which has none) if no
+    ///   principal stands there, or else with that of the first credential that isn't whole, or whose
+    ///   `is_skey` byte is neither 0 nor 1.
     ///
-    /// Source: MIT krb5, "Credential cache file format", version 4.
+    /// Source: MIT krb5, "Credential cache file format", version 4; of version 3 the layout that
+    /// docs/FORMATS.md gives.
     pub fn parse(alloc: Global, bytes: &[u8]) -> Result<CCache, CacheFault>
         ensures found { IfOk result (λ cache. IsCache bytes.now cache) }
         ensures fault { IfErr result (λ fault.
@@ -127,7 +129,7 @@ impl CCache {
     ///   answer.
     /// - Those of `parse`, for all the bytes that were still to come of the source.
     ///
-    /// Source: MIT krb5, "Credential cache file format", version 4.
+    /// Source: MIT krb5, "Credential cache file format", versions 3 and 4.
     pub fn read<S: Source>(alloc: Global, source: &mut S) -> Result<CCache, CacheFault>
         requires { S.failure_count source.old < 2 ^ 64 - 1 }
         ensures reads { ReadsFile IsAnswerOf CacheFault.OutOfMemory CacheFault.Read
@@ -168,8 +170,12 @@ impl CCache {
             ≡ S.failure_count window.old.source + failed_reads result }
         ensures lent { S.lender window.new.source ≡ S.lender window.old.source }
     {
-        let (header, default_principal) = begin(alloc, window)?;
-        let credentials = steps(alloc, window)?;
+        let Start {
+            layout,
+            header,
+            default_principal,
+        } = begin(alloc, window)?;
+        let credentials = steps(alloc, layout, window)?;
         Ok(CCache {
             header,
             default_principal,
@@ -178,18 +184,18 @@ impl CCache {
     }
 
     fn of_parts(alloc: Global, bytes: &[u8]) -> Result<CCache, CacheFault>
-        ensures found { IfOk result (λ cache. IsCache4 bytes.now cache) }
+        ensures found { IfOk result (λ cache. IsCache bytes.now cache) }
         ensures fault { IfErr result (λ fault.
-            fault ≢ CacheFault.OutOfMemory → IsFaultOf4 bytes.now fault) }
+            fault ≢ CacheFault.OutOfMemory → IsFaultOf bytes.now fault) }
     {
-        let mut cursor = open(bytes)?;
-        let header = match read_header(alloc, &mut cursor) {
+        let (layout, mut cursor) = open(bytes)?;
+        let header = match read_head(alloc, layout, &mut cursor) {
             Ok(header) => header,
             Err(ItemFault::Missing) => return Err(CacheFault::Header),
             Err(ItemFault::OutOfMemory) => return Err(CacheFault::OutOfMemory),
         };
         let default_principal = read_default(alloc, &mut cursor)?;
-        let credentials = read_credentials(alloc, &mut cursor)?;
+        let credentials = read_credentials(alloc, layout, &mut cursor)?;
         Ok(CCache {
             header,
             default_principal,
@@ -215,7 +221,8 @@ impl CCache {
         is_entry(credential)
     }
 
-    /// Writes the bytes of the file.
+    /// Writes the bytes of a file of version 0x0504, whichever version the cache was read of. They read
+    /// back to the same cache, and are the bytes that were read if those were of version 0x0504.
     ///
     /// How many there will be is found first, and room is made for them at once.
     ///
@@ -253,7 +260,7 @@ impl CCache {
         ensures fits { OnOk result (Fits self.now) }
     {
         let mut bytes = Vec::with_capacity(alloc, size)?;
-        write_u16(&mut bytes, VERSION)?;
+        write_u16(&mut bytes, VERSION_4)?;
         write_header(&mut bytes, self.header.as_slice())?;
         write_name(&mut bytes, &self.default_principal)?;
         write_credentials(&mut bytes, self.credentials.as_slice())?;
@@ -291,14 +298,18 @@ fn read_default(alloc: Global, cursor: &mut FileCursor<'_>) -> Result<Principal,
 }
 
 // Reads the credential that begins here, and stands behind it.
-fn read_one(alloc: Global, cursor: &mut FileCursor<'_>) -> Result<Credential, CacheFault>
+fn read_one(
+    alloc: Global,
+    layout: Layout,
+    cursor: &mut FileCursor<'_>,
+) -> Result<Credential, CacheFault>
     ensures read { IfOk result (λ credential.
-        credential_at cursor.old ≡ Some (credential, cursor.new)) }
+        credential_at layout cursor.old ≡ Some (credential, cursor.new)) }
     ensures missing { IfErr result (λ fault. fault ≢ CacheFault.OutOfMemory
-        → (fault ≡ CacheFault.BadItem cursor.old.at) × (credential_at cursor.old ≡ None)) }
+        → (fault ≡ CacheFault.BadItem cursor.old.at) × (credential_at layout cursor.old ≡ None)) }
 {
     let at = cursor.at();
-    match read_credential(alloc, cursor) {
+    match read_credential(alloc, layout, cursor) {
         Ok(credential) => Ok(credential),
         Err(ItemFault::Missing) => Err(CacheFault::BadItem { at }),
         Err(ItemFault::OutOfMemory) => Err(CacheFault::OutOfMemory),
@@ -308,18 +319,21 @@ fn read_one(alloc: Global, cursor: &mut FileCursor<'_>) -> Result<Credential, Ca
 // Reads the credentials from here to the end.
 fn read_credentials(
     alloc: Global,
+    layout: Layout,
     cursor: &mut FileCursor<'_>,
 ) -> Result<Vec<Credential>, CacheFault>
     requires { IsBytes cursor.old.rest }
-    ensures read { IfOk result (λ credentials.
-        Reaches credential_bytes FitsCredential cursor.old credentials.items cursor.new) }
+    ensures read { IfOk result (λ credentials. (spelled : List Spelled)
+        × Reaches bytes_of (Spells layout) cursor.old spelled cursor.new
+        × (credentials.items ≡ map (λ one. one.credential) spelled)) }
+    ensures fits { IfOk result (λ credentials. All FitsCredential credentials.items) }
     ensures end { OnOk result (cursor.new.rest ≡ []) }
     ensures missing { IfErr result (λ fault.
-        fault ≢ CacheFault.OutOfMemory → StopsBy cursor.old fault) }
+        fault ≢ CacheFault.OutOfMemory → StopsBy layout cursor.old fault) }
 {
     let mut credentials = Vec::new(alloc);
     while !cursor.is_at_end() {
-        credentials.push(read_one(alloc, cursor)?)?;
+        credentials.push(read_one(alloc, layout, cursor)?)?;
     }
     Ok(credentials)
 }

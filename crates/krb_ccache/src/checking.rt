@@ -5,16 +5,16 @@ ghost use Rattle.std.specs.Int.{w32};
 ghost use Rattle.krb_name.specs.Cursor.{data_at, times_at};
 ghost use Rattle.krb_name.specs.Field.{IsBytes};
 ghost use Rattle.krb_ccache.specs.declared.credential.HeaderField.{HeaderField as HeaderFieldValue};
-ghost use Rattle.krb_ccache.specs.declared.credential.Credential.{Credential as CredentialValue};
-ghost use Rattle.krb_ccache.specs.Spelling.{header_bytes, credential_bytes};
-ghost use Rattle.krb_ccache.specs.Value.{Cache, FitsHeader, FitsCredential};
-ghost use Rattle.krb_ccache.specs.Inner.Version4.{IsCache4, IsFaultOf4};
+ghost use Rattle.krb_ccache.specs.Spelling.{header_bytes};
+ghost use Rattle.krb_ccache.specs.Value.{Cache, FitsHeader};
+ghost use Rattle.krb_ccache.specs.Format.{head_bytes, FitsHead, Spelled, Spells, IsCache, IsFaultOf};
 ghost use Rattle.krb_ccache.specs.Inner.Reading.{name_at, typed_at, list_at, credential_at};
-ghost use Rattle.krb_ccache.specs.Inner.Standing.{Lies, Reaches, IsMissing, Fills, StopsBy, IsBehind};
+ghost use Rattle.krb_ccache.specs.Inner.Standing.{bytes_of, Lies, Reaches, IsMissing, Fills, StopsBy, IsBehind};
 
 use crate::fault::CacheFault;
 use crate::header::{open, read_field};
 use crate::items::read_flag;
+use crate::layout::Layout;
 use krb_name::{FileCursor, Short};
 
 /// Answers `Ok` where the bytes are a cache.
@@ -22,11 +22,11 @@ use krb_name::{FileCursor, Short};
 /// # Errors
 /// Those of `CCache::parse`, but for `OutOfMemory`.
 pub(crate) fn check(bytes: &[u8]) -> Result<(), CacheFault>
-    ensures ok { OnOk result ((cache : Cache) × IsCache4 bytes.now cache) }
-    ensures fault { IfErr result (IsFaultOf4 bytes.now) }
+    ensures ok { OnOk result ((cache : Cache) × IsCache bytes.now cache) }
+    ensures fault { IfErr result (IsFaultOf bytes.now) }
 {
-    let mut cursor = open(bytes)?;
-    match check_header(&mut cursor) {
+    let (layout, mut cursor) = open(bytes)?;
+    match check_head(layout, &mut cursor) {
         Ok(()) => {}
         Err(Short) => return Err(CacheFault::Header),
     }
@@ -35,8 +35,21 @@ pub(crate) fn check(bytes: &[u8]) -> Result<(), CacheFault>
         Ok(()) => {}
         Err(Short) => return Err(CacheFault::BadItem { at }),
     }
-    check_credentials(&mut cursor)?;
+    check_credentials(layout, &mut cursor)?;
     Ok(())
+}
+
+// Stands behind the header that begins here, if the layout has one.
+fn check_head(layout: Layout, cursor: &mut FileCursor<'_>) -> Result<(), Short>
+    requires { IsBytes cursor.old.rest }
+    ensures ok { OnOk result ((header : List HeaderFieldValue)
+        × Lies (head_bytes layout) (FitsHead layout) cursor.old header cursor.new) }
+    ensures missing { OnErr result (IsMissing (head_bytes layout) (FitsHead layout) cursor.old.rest) }
+{
+    match layout {
+        Layout::Version3 => Ok(()),
+        Layout::Version4 => check_header(cursor),
+    }
 }
 
 // Stands behind the header that begins here.
@@ -65,16 +78,16 @@ fn check_fields(body: &[u8]) -> Result<(), Short>
 }
 
 // Stands behind the credentials from here to the end.
-fn check_credentials(cursor: &mut FileCursor<'_>) -> Result<(), CacheFault>
+fn check_credentials(layout: Layout, cursor: &mut FileCursor<'_>) -> Result<(), CacheFault>
     requires { IsBytes cursor.old.rest }
-    ensures ok { OnOk result ((credentials : List CredentialValue)
-        × Reaches credential_bytes FitsCredential cursor.old credentials cursor.new) }
+    ensures ok { OnOk result ((credentials : List Spelled)
+        × Reaches bytes_of (Spells layout) cursor.old credentials cursor.new) }
     ensures end { OnOk result (cursor.new.rest ≡ []) }
-    ensures missing { IfErr result (StopsBy cursor.old) }
+    ensures missing { IfErr result (StopsBy layout cursor.old) }
 {
     while !cursor.is_at_end() {
         let at = cursor.at();
-        match skip_credential(cursor) {
+        match skip_credential(layout, cursor) {
             Ok(()) => {}
             Err(Short) => return Err(CacheFault::BadItem { at }),
         }
@@ -85,13 +98,14 @@ fn check_credentials(cursor: &mut FileCursor<'_>) -> Result<(), CacheFault>
 // Each call stands behind the part that begins here. Where it doesn't stand here the place is no matter.
 
 #[tactic(auto, unfolding(crate::specs::Inner::Reading::credential_at))]
-pub(crate) fn skip_credential(cursor: &mut FileCursor<'_>) -> Result<(), Short>
-    ensures ok { OnOk result (IsBehind (credential_at cursor.old) cursor.new) }
-    ensures short { OnErr result (credential_at cursor.old ≡ None) }
+pub(crate) fn skip_credential(layout: Layout, cursor: &mut FileCursor<'_>) -> Result<(), Short>
+    ensures ok { OnOk result (IsBehind (credential_at layout cursor.old) cursor.new) }
+    ensures short { OnErr result (credential_at layout cursor.old ≡ None) }
 {
     skip_name(cursor)?;
     skip_name(cursor)?;
     cursor.read_i16()?;
+    cursor.read_bytes(layout.second_size())?;
     cursor.read_data32()?;
     cursor.read_u32()?;
     cursor.read_u32()?;

@@ -14,11 +14,11 @@ use thiserror::Error;
 /// that of the item's first byte, and is at most the length of the file.
 #[derive(Clone, Copy, Debug, PartialEq, Eq, Error)]
 pub enum CacheFault {
-    /// The file doesn't begin with 0x05 0x04.
-    #[error("the file isn't a credential cache of version 0x0504")]
+    /// The file doesn't begin with 0x05 0x04 or 0x05 0x03.
+    #[error("the file isn't a credential cache of version 0x0503 or 0x0504")]
     Version,
-    /// The file ends before its header does, fields don't fill the header, or a field of tag 1
-    /// hasn't 8 bytes.
+    /// The file is of version 0x0504, and ends before its header does, fields don't fill the header, or
+    /// a field of tag 1 hasn't 8 bytes.
     #[error("the header of the file is malformed")]
     Header,
     /// No principal or credential stands here.

@@ -6,20 +6,17 @@ ghost use Rattle.krb_ccache.specs.declared.credential.HeaderField.{HeaderField a
 ghost use Rattle.krb_ccache.specs.Spelling.{header_bytes};
 ghost use Rattle.krb_ccache.specs.Value.{FitsHeader};
 ghost use Rattle.krb_name.specs.File.{file_limit};
-ghost use Rattle.krb_ccache.specs.Format.{version};
-ghost use Rattle.krb_ccache.specs.Inner.Version4.{IsFaultOf4};
+ghost use Rattle.krb_ccache.specs.Format.{version_of, head_bytes, FitsHead, IsFaultOf};
 ghost use Rattle.krb_ccache.specs.Inner.Reading.{field_at};
 ghost use Rattle.krb_ccache.specs.Inner.Standing.{Lies, IsMissing, Fills};
 
 use crate::credential::HeaderField;
 use crate::fault::CacheFault;
 use crate::item_fault::ItemFault;
+use crate::layout::{Layout, read_layout};
 use krb_name::{Bytes, FILE_LIMIT, FileCursor, Short};
 use std::alloc::{AllocError, Global};
 use std::marker::Model;
-
-/// The version of the format.
-pub(crate) const VERSION: u16 = 0x0504;
 
 // The tag of the KDC's clock offset, and how many bytes it has.
 pub(crate) const OFFSET_TAG: u16 = 1;
@@ -30,23 +27,43 @@ pub(crate) const OFFSET_LENGTH: usize = 8;
 ///
 /// # Errors
 /// `TooLong` or `Version`.
-pub(crate) fn open<'a>(bytes: &'a [u8]) -> Result<FileCursor<'a>, CacheFault>
-    ensures limit { IfOk result (λ cursor. length bytes.now ≤ file_limit) }
-    ensures at { IfOk result (λ cursor. cursor.at ≡ 2) }
-    ensures rest { IfOk result (λ cursor. bytes.now ≡ version ++ cursor.rest) }
-    ensures fault { IfErr result (λ fault. IsFaultOf4 bytes.now fault) }
+pub(crate) fn open<'a>(bytes: &'a [u8]) -> Result<(Layout, FileCursor<'a>), CacheFault>
+    ensures limit { IfOk result (λ opened. length bytes.now ≤ file_limit) }
+    ensures at { IfOk result (λ opened. opened.1.at ≡ 2) }
+    ensures rest { IfOk result (λ opened. bytes.now ≡ version_of opened.0 ++ opened.1.rest) }
+    ensures bytes { IfOk result (λ opened. IsBytes opened.1.rest) }
+    ensures fault { IfErr result (IsFaultOf bytes.now) }
 {
     if bytes.len() > FILE_LIMIT {
         return Err(CacheFault::TooLong);
     }
     let mut cursor = FileCursor::new(bytes);
-    match cursor.read_u16() {
-        Ok(VERSION) => Ok(cursor),
-        _ => Err(CacheFault::Version),
+    match read_layout(&mut cursor) {
+        Ok(layout) => Ok((layout, cursor)),
+        Err(Short) => Err(CacheFault::Version),
     }
 }
 
-/// Reads the header that begins here, and stands behind it.
+/// Reads the header that begins here, if the layout has one, and stands behind it.
+pub(crate) fn read_head(
+    alloc: Global,
+    layout: Layout,
+    cursor: &mut FileCursor<'_>,
+) -> Result<Vec<HeaderField>, ItemFault>
+    requires { IsBytes cursor.old.rest }
+    ensures read { IfOk result (λ header.
+        Lies (head_bytes layout) (FitsHead layout) cursor.old header.items cursor.new) }
+    ensures fits { IfOk result (λ header. FitsHeader header.items) }
+    ensures missing { result ≡ Err ItemFault.Missing
+        → IsMissing (head_bytes layout) (FitsHead layout) cursor.old.rest }
+{
+    match layout {
+        Layout::Version3 => Ok(Vec::new(alloc)),
+        Layout::Version4 => read_header(alloc, cursor),
+    }
+}
+
+// Reads the header that begins here, and stands behind it.
 pub(crate) fn read_header(
     alloc: Global,
     cursor: &mut FileCursor<'_>,

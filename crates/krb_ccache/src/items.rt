@@ -7,6 +7,7 @@ ghost use Rattle.krb_ccache.specs.Inner.Reading.{name_at, flag_at, typed_at, lis
 
 use crate::credential::Credential;
 use crate::item_fault::ItemFault;
+use crate::layout::Layout;
 use crate::typed::{TypedBytes, TypedList};
 use krb_name::{Bytes, Components, FileCursor, Principal, Short};
 use std::alloc::Global;
@@ -106,16 +107,21 @@ fn read_elements(
 #[tactic(auto, unfolding(crate::specs::Inner::Reading::credential_at))]
 pub(crate) fn read_credential(
     alloc: Global,
+    layout: Layout,
     cursor: &mut FileCursor<'_>,
 ) -> Result<Credential, ItemFault>
     ensures read { IfOk result (λ credential.
-        credential_at cursor.old ≡ Some (credential, cursor.new)) }
-    ensures missing { result ≡ Err ItemFault.Missing → credential_at cursor.old ≡ None }
+        credential_at layout cursor.old ≡ Some (credential, cursor.new)) }
+    ensures missing { result ≡ Err ItemFault.Missing → credential_at layout cursor.old ≡ None }
 {
+    let client = read_name(alloc, cursor)?;
+    let server = read_name(alloc, cursor)?;
+    let etype = cursor.read_i16()?;
+    cursor.read_bytes(layout.second_size())?;
     Ok(Credential {
-        client: read_name(alloc, cursor)?,
-        server: read_name(alloc, cursor)?,
-        etype: cursor.read_i16()?,
+        client,
+        server,
+        etype,
         key: read_data(alloc, cursor)?,
         authtime: cursor.read_u32()?,
         starttime: cursor.read_u32()?,

@@ -1,12 +1,13 @@
 //! Laws over the definitions, for proofs to cite. Each function does nothing: its contract is the law.
 
-ghost use Rattle.std.specs.Prelude.{◌≡◌, ◌≢◌, ◌≤◌, ℕ, ℤ, All, IfSome, List, None, Option, Some, Result, length};
+ghost use Rattle.std.specs.Prelude.{◌≡◌, ◌≢◌, ◌≤◌, ◌++◌, ℕ, ℤ, All, IfSome, List, None, Option, Some, Result, length};
 ghost use Rattle.krb_name.specs.Field.{IsBytes};
 ghost use Rattle.krb_ccache.specs.declared.credential.HeaderField.{HeaderField};
 ghost use Rattle.krb_ccache.specs.declared.fault.CacheFault.{CacheFault};
 ghost use Rattle.krb_ccache.specs.Configuration.{HoldsOffset};
 ghost use Rattle.krb_name.specs.File.{file_limit, IsGiven};
-ghost use Rattle.krb_ccache.specs.Format.{written, IsCache, IsAnswerOf, IsFaultOf};
+ghost use Rattle.krb_ccache.specs.Format.{version_of, written, IsCache, IsAnswerOf, IsFaultOf};
+ghost use Rattle.krb_ccache.specs.declared.layout.Layout.TheVariants.{Version4};
 ghost use Rattle.krb_ccache.specs.Fault.{offset_of};
 ghost use Rattle.krb_ccache.specs.Offset.{clock_offset};
 ghost use Rattle.krb_ccache.specs.Reader.{GoesTo};
@@ -22,12 +23,15 @@ pub fn each_file_has_one_answer()
 {}
 
 /// Says that bytes are a cache of one value only; that what is written of a cache, within the limit, is
-/// one of that value; and that two caches of which the same is written are one.
+/// one of that value; that a cache of version 0x0504 has the bytes that are written of its value; and
+/// that two caches of which the same is written are one.
 pub fn each_value_has_one_spelling()
     ensures value { (bytes : List ℕ) (one other : Cache)
         → IsCache bytes one → IsCache bytes other → one ≡ other }
     ensures written { (cache : Cache) → Fits cache → length (written cache) ≤ file_limit
         → IsCache (written cache) cache }
+    ensures again { (bytes others : List ℕ) (cache : Cache) → IsCache bytes cache
+        → bytes ≡ version_of Version4 ++ others → bytes ≡ written cache }
     ensures spelling { (one other : Cache) → Fits one → Fits other
         → written one ≡ written other → one ≡ other }
 {}

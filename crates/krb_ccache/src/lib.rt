@@ -1,8 +1,8 @@
 //! Credential caches: the files that hold a client's tickets.
 //!
-//! A [`CCache`] is the value of a file in MIT krb5's format, version 0x0504: the fields of its
-//! header, its default principal and its credentials. It is parsed of bytes, read of a `Source` or
-//! made of its parts, and written back as bytes. A [`CredentialReader`] gives the credentials one at a
+//! A [`CCache`] is the value of a file in MIT krb5's format, version 0x0503 or 0x0504: the fields of
+//! its header, its default principal and its credentials. It is parsed of bytes, read of a `Source` or
+//! made of its parts, and written as bytes of version 0x0504. A [`CredentialReader`] gives the credentials one at a
 //! time, with the bytes of one at hand. A [`Credential`] is a ticket with its session key,
 //! or a configuration entry.
 //!
@@ -30,6 +30,7 @@ mod header;
 mod item_fault;
 mod items;
 pub mod laws;
+mod layout;
 mod reader;
 mod room;
 mod stepping;

@@ -4,17 +4,18 @@ ghost use Rattle.std.specs.Prelude.{◌≡◌, ◌≢◌, ◌+◌, ◌-◌, ◌^
 ghost use Rattle.krb_ccache.specs.Configuration.{HoldsOffset, IsConfiguration};
 ghost use Rattle.krb_ccache.specs.Fault.{failed_reads};
 ghost use Rattle.krb_name.specs.File.{file_limit, IsGiven, LeavesTail};
-ghost use Rattle.krb_ccache.specs.Format.{IsCache, IsFaultOf};
+ghost use Rattle.krb_ccache.specs.Format.{head_bytes, credential_length, IsCache, IsFaultOf};
 ghost use Rattle.krb_ccache.specs.Offset.{clock_offset};
 ghost use Rattle.krb_ccache.specs.Reader.{ended_by as ended_by_answer, ended_passed, passed, last_answer, with_credential, HasRead, Gave, GaveOne, PassedOne, HeldPart, StaysAtEnd, GoesTo};
-ghost use Rattle.krb_ccache.specs.Spelling.{header_bytes, name_bytes, credential_bytes};
+ghost use Rattle.krb_ccache.specs.Spelling.{name_bytes};
 ghost use Rattle.krb_ccache.specs.Value.{Cache, cache_of};
 ghost use Rattle.krb_ccache.specs.declared.credential.Credential.{Credential as CredentialValue};
 
 use crate::configuration::{first_offset, is_entry};
 use crate::credential::{Credential, HeaderField};
 use crate::fault::CacheFault;
-use crate::stepping::{begin, step, step_past};
+use crate::layout::Layout;
+use crate::stepping::{Start, begin, step, step_past};
 use krb_name::{Principal, Source, Window};
 use std::alloc::Global;
 use std::marker::Model;
@@ -26,6 +27,7 @@ use std::marker::Model;
 #[derive(Drop)]
 pub struct CredentialReader<S> {
     window: Window<S>,
+    layout: Layout,
     header: Vec<HeaderField>,
     default_principal: Principal,
     ended: Option<Result<(), CacheFault>>,
@@ -41,6 +43,7 @@ impl<S> Model for CredentialReader<S> {
 
     ghost view = { λ r. record {
       source = r.window.source;
+      layout = r.layout;
       header = r.header.items;
       default_principal = r.default_principal;
       given = r.window.given;
@@ -53,7 +56,8 @@ impl<S> Model for CredentialReader<S> {
 }
 
 impl<S: Source> CredentialReader<S> {
-    /// Reads the version, the header and the default principal of `source`, and not a byte more.
+    /// Reads the version, the header if it has one and the default principal of `source`, and not a byte
+    /// more.
     ///
     /// Condition: fewer than 18,446,744,073,709,551,615 reads of the source have failed so far.
     ///
@@ -64,13 +68,13 @@ impl<S: Source> CredentialReader<S> {
     /// - `TooLong`, `Version`, `Header` or `BadItem`, as `CCache::parse` answers for all that was to come
     ///   of the source: it was read to its end first, or to one byte past 16,777,216.
     ///
-    /// Source: MIT krb5, "Credential cache file format", version 4.
+    /// Source: MIT krb5, "Credential cache file format", versions 3 and 4.
     pub fn open(alloc: Global, source: S) -> Result<CredentialReader<S>, (S, CacheFault)>
         requires { S.failure_count source < 2 ^ 64 - 1 }
         ensures read { IfOk result (λ reader. HasRead S.remaining (S.remaining source) reader
             (cache_of reader.header reader.default_principal [])) }
         ensures held { IfOk result (λ reader. reader.held
-            ≡ max (length (header_bytes reader.header)) (length (name_bytes reader.default_principal))) }
+            ≡ max (length (head_bytes reader.layout reader.header)) (length (name_bytes reader.default_principal))) }
         ensures fault { IfErr result (λ back.
             back.1 ≢ CacheFault.OutOfMemory → back.1 ≢ CacheFault.Read
             → (bytes : List ℕ) × IsGiven (S.remaining source) (S.remaining back.0) bytes
@@ -90,8 +94,15 @@ impl<S: Source> CredentialReader<S> {
     {
         let mut window = Window::new(alloc, source);
         match begin(alloc, &mut window) {
-            Ok((header, default_principal)) => Ok(CredentialReader {
+            Ok(
+                Start {
+                    layout,
+                    header,
+                    default_principal,
+                },
+            ) => Ok(CredentialReader {
                 window,
+                layout,
                 header,
                 default_principal,
                 ended: None,
@@ -143,13 +154,14 @@ impl<S: Source> CredentialReader<S> {
             → IfSome from (λ bytes. GoesTo bytes cache)) }
 
         ensures given { Gave (S.remaining self.old.source) (S.remaining self.new.source) self.old self.new }
+        ensures layout { self.new.layout ≡ self.old.layout }
         ensures header { self.new.header ≡ self.old.header }
         ensures default { self.new.default_principal ≡ self.old.default_principal }
         ensures more { self.old.ended ≡ None → IfOk result (λ next. IfSome next (λ credential.
-            GaveOne self.old.given self.new.given credential)) }
+            GaveOne self.old.layout self.old.given self.new.given credential)) }
         ensures held { self.old.ended ≡ None → IfOk result (λ next. IfSome next (λ credential.
-            self.new.held ≡ max self.old.held (length (credential_bytes credential)))) }
-        ensures part { self.old.ended ≡ None → OnErr result (HeldPart (S.remaining self.old.source)
+            self.new.held ≡ max self.old.held (credential_length self.old.layout credential))) }
+        ensures part { self.old.ended ≡ None → OnErr result (HeldPart self.old.layout (S.remaining self.old.source)
             (S.remaining self.new.source) self.old.held self.new.held) }
         ensures failed { self.old.ended ≡ None → S.failure_count self.new.source
             ≡ S.failure_count self.old.source + failed_reads result }
@@ -158,7 +170,7 @@ impl<S: Source> CredentialReader<S> {
         if let Some(ended) = self.ended {
             return ended.map(|()| None);
         }
-        let answer = step(alloc, &mut self.window);
+        let answer = step(alloc, self.layout, &mut self.window);
         self.ended = ended_by(is_there(&answer));
         answer
     }
@@ -174,7 +186,7 @@ impl<S: Source> CredentialReader<S> {
     /// # Errors
     /// Those of `next`; `OutOfMemory` only where there was no room for the bytes.
     ///
-    /// Source: MIT krb5, "Credential cache file format", version 4.
+    /// Source: MIT krb5, "Credential cache file format", versions 3 and 4.
     pub fn pass(&mut self) -> Result<bool, CacheFault>
         requires { S.failure_count self.old.source < 2 ^ 64 - 1 }
 
@@ -201,9 +213,10 @@ impl<S: Source> CredentialReader<S> {
             → IfErr result (λ fault. fault ≢ CacheFault.OutOfMemory → fault ≢ CacheFault.Read
             → IfSome from (λ bytes. GoesTo bytes cache)) }
         ensures given { Gave (S.remaining self.old.source) (S.remaining self.new.source) self.old self.new }
+        ensures layout { self.new.layout ≡ self.old.layout }
         ensures header { self.new.header ≡ self.old.header }
         ensures default { self.new.default_principal ≡ self.old.default_principal }
-        ensures part { self.old.ended ≡ None → OnErr result (HeldPart (S.remaining self.old.source)
+        ensures part { self.old.ended ≡ None → OnErr result (HeldPart self.old.layout (S.remaining self.old.source)
             (S.remaining self.new.source) self.old.held self.new.held) }
         ensures failed { self.old.ended ≡ None → S.failure_count self.new.source
             ≡ S.failure_count self.old.source + failed_reads result }
@@ -212,7 +225,7 @@ impl<S: Source> CredentialReader<S> {
         if let Some(ended) = self.ended {
             return ended.map(|()| false);
         }
-        let answer = step_past(&mut self.window);
+        let answer = step_past(self.layout, &mut self.window);
         self.ended = ended_by(answer);
         answer
     }
@@ -241,6 +254,7 @@ impl<S: Source> CredentialReader<S> {
     {
         let CredentialReader {
             window,
+            layout: _,
             header: _,
             default_principal: _,
             ended: _,

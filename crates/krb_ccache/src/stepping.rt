@@ -3,15 +3,15 @@
 ghost use Rattle.std.specs.Prelude.{All, Option, ℕ, List, [], length, max, ◌≡◌, ◌≢◌, ◌+◌, ◌-◌, ◌≤◌, ◌<◌, ◌^◌, IfOk, IfErr, OnOk, OnErr, Result, Err};
 ghost use Rattle.krb_ccache.specs.Fault.{failed_reads};
 ghost use Rattle.krb_name.specs.File.{file_limit, IsGiven, LeavesTail};
-ghost use Rattle.krb_ccache.specs.Format.{version_of, version_4, IsCache, IsFaultOf};
+ghost use Rattle.krb_ccache.specs.Format.{version_of, head_bytes, FitsHead, Spelled, Spells, IsCache, IsFaultOf};
 ghost use Rattle.krb_ccache.specs.Reader.{HasTaken, HeldPart, passed};
-ghost use Rattle.krb_ccache.specs.Spelling.{header_bytes, name_bytes, credential_bytes};
+ghost use Rattle.krb_ccache.specs.Spelling.{header_bytes, name_bytes};
 ghost use Rattle.krb_ccache.specs.Value.{cache_of, FitsHeader, FitsName, FitsCredential};
 ghost use Rattle.krb_name.specs.declared.principal.Principal.{Principal as PrincipalValue};
 ghost use Rattle.krb_ccache.specs.declared.credential.Credential.{Credential as CredentialValue};
 ghost use Rattle.krb_ccache.specs.declared.credential.HeaderField.{HeaderField as HeaderFieldValue};
 ghost use Rattle.krb_ccache.specs.declared.fault.CacheFault.TheVariants.{Version, Header, BadItem};
-ghost use Rattle.krb_ccache.specs.Inner.Standing.{IsMissing};
+ghost use Rattle.krb_ccache.specs.Inner.Standing.{bytes_of, IsMissing};
 ghost use Rattle.krb_ccache.specs.Inner.Walking.{Halts, stop_reads, stopped_reads};
 ghost use Rattle.krb_ccache.specs.Inner.Stepping.{Stands, cleared, Any, Comes, IsTold, Misses, IsStep, IsAtHand};
 
@@ -21,11 +21,20 @@ use crate::fault::CacheFault;
 use crate::header::read_header;
 use crate::item_fault::ItemFault;
 use crate::items::{read_credential, read_name};
+use crate::layout::{Layout, read_layout};
 use crate::walking::{Stop, take, take_credential, take_header, take_name};
 use krb_name::{FILE_LIMIT, FileCursor, Principal, Short, Source, Window};
 use std::alloc::{AllocError, Global};
 
-const VERSION_BYTES: &[u8] = &[0x05, 0x04];
+/// What stands before the credentials of a file.
+pub(crate) struct Start {
+    /// How the file is laid out.
+    pub(crate) layout: Layout,
+    /// The fields of its header.
+    pub(crate) header: Vec<HeaderField>,
+    /// Its default principal.
+    pub(crate) default_principal: Principal,
+}
 
 impl From<ItemFault> for Stop {
     ghost use Rattle.krb_ccache.specs.Inner.Stepping.{item_stop};
@@ -41,6 +50,14 @@ impl From<ItemFault> for Stop {
 }
 
 // Each call reads the part at the front of the bytes.
+
+fn layout_of(bytes: &[u8]) -> Result<Layout, Short>
+    ensures read { IfOk result (Stands version_of Any bytes.now) }
+    ensures missing { OnErr result (IsMissing version_of Any bytes.now) }
+{
+    let mut cursor = FileCursor::new(bytes);
+    read_layout(&mut cursor)
+}
 
 fn header_of(alloc: Global, bytes: &[u8]) -> Result<Vec<HeaderField>, ItemFault>
     ensures read { IfOk result (λ header. Stands header_bytes FitsHeader bytes.now header.items) }
@@ -60,24 +77,23 @@ fn name_of(alloc: Global, bytes: &[u8]) -> Result<Principal, ItemFault>
 }
 
 // Whether a credential is at the front of the bytes.
-fn has_credential(bytes: &[u8]) -> Result<(), Short>
-    ensures found { OnOk result ((credential : CredentialValue)
-        × Stands credential_bytes FitsCredential bytes.now credential) }
-    ensures missing { OnErr result (IsMissing credential_bytes FitsCredential bytes.now) }
+fn has_credential(layout: Layout, bytes: &[u8]) -> Result<(), Short>
+    ensures found { OnOk result ((one : Spelled)
+        × Stands bytes_of (Spells layout) bytes.now one) }
+    ensures missing { OnErr result (IsMissing bytes_of (Spells layout) bytes.now) }
 {
     let mut cursor = FileCursor::new(bytes);
-    skip_credential(&mut cursor)
+    skip_credential(layout, &mut cursor)
 }
 
 // Makes the credential that is at the front of the bytes.
-fn credential_of(alloc: Global, bytes: &[u8]) -> Result<Credential, AllocError>
-    requires { (credential : CredentialValue)
-        × Stands credential_bytes FitsCredential bytes.now credential }
-    ensures { (credential : CredentialValue) → Stands credential_bytes FitsCredential bytes.now credential
-        → IfOk result (λ made. made ≡ credential) }
+fn credential_of(alloc: Global, layout: Layout, bytes: &[u8]) -> Result<Credential, AllocError>
+    requires { (one : Spelled) × Stands bytes_of (Spells layout) bytes.now one }
+    ensures { (one : Spelled) → Stands bytes_of (Spells layout) bytes.now one
+        → IfOk result (λ made. made ≡ one.credential) }
 {
     let mut cursor = FileCursor::new(bytes);
-    match read_credential(alloc, &mut cursor) {
+    match read_credential(alloc, layout, &mut cursor) {
         Ok(credential) => Ok(credential),
         Err(ItemFault::Missing) => unreachable!(),
         Err(ItemFault::OutOfMemory) => Err(AllocError),
@@ -86,11 +102,10 @@ fn credential_of(alloc: Global, bytes: &[u8]) -> Result<Credential, AllocError>
 
 // Each call takes the bytes of a part, and no more, and reads it off them.
 
-fn come_version<S: Source>(window: &mut Window<S>) -> Result<(), Stop>
+fn come_version<S: Source>(window: &mut Window<S>) -> Result<Layout, Stop>
     requires reads { S.failure_count window.old.source < 2 ^ 64 - 1 }
     requires within { window.old.given ≤ file_limit }
-    ensures comes { OnOk result
-        (Comes version_of Any S.remaining window.old window.new version_4) }
+    ensures comes { IfOk result (Comes version_of Any S.remaining window.old window.new) }
     ensures halts { IfErr result (Halts version_of Any S.remaining (cleared window.old) window.new) }
     ensures failed { S.failure_count window.new.source
         ≡ S.failure_count window.old.source + stopped_reads result }
@@ -98,10 +113,31 @@ fn come_version<S: Source>(window: &mut Window<S>) -> Result<(), Stop>
 {
     window.clear();
     take(window, 2)?;
-    if window.bytes() == VERSION_BYTES {
-        Ok(())
-    } else {
-        Err(Stop::Long)
+    match layout_of(window.bytes()) {
+        Ok(layout) => Ok(layout),
+        Err(Short) => Err(Stop::Long),
+    }
+}
+
+// Takes nothing if the layout has no header.
+fn come_head<S: Source>(
+    alloc: Global,
+    layout: Layout,
+    window: &mut Window<S>,
+) -> Result<Vec<HeaderField>, Stop>
+    requires reads { S.failure_count window.old.source < 2 ^ 64 - 1 }
+    requires within { window.old.given ≤ file_limit }
+    ensures comes { IfOk result (λ header.
+        Comes (head_bytes layout) (FitsHead layout) S.remaining window.old window.new header.items) }
+    ensures halts { IfErr result
+        (Halts (head_bytes layout) (FitsHead layout) S.remaining (cleared window.old) window.new) }
+    ensures failed { S.failure_count window.new.source
+        ≡ S.failure_count window.old.source + stopped_reads result }
+    ensures lent { S.lender window.new.source ≡ S.lender window.old.source }
+{
+    match layout {
+        Layout::Version3 => Ok(Vec::new(alloc)),
+        Layout::Version4 => come_header(alloc, window),
     }
 }
 
@@ -141,23 +177,23 @@ fn come_name<S: Source>(alloc: Global, window: &mut Window<S>) -> Result<Princip
 }
 
 // Takes the bytes of a credential, and no more, and answers only whether they are one.
-fn come_past<S: Source>(window: &mut Window<S>) -> Result<(), Stop>
+fn come_past<S: Source>(layout: Layout, window: &mut Window<S>) -> Result<(), Stop>
     requires reads { S.failure_count window.old.source < 2 ^ 64 - 1 }
     requires within { window.old.given ≤ file_limit }
-    ensures comes { OnOk result ((credential : CredentialValue)
-        × Comes credential_bytes FitsCredential S.remaining window.old window.new credential
-        × Stands credential_bytes FitsCredential window.new.bytes credential) }
+    ensures comes { OnOk result ((one : Spelled)
+        × Comes bytes_of (Spells layout) S.remaining window.old window.new one
+        × Stands bytes_of (Spells layout) window.new.bytes one) }
     ensures halts { IfErr result
-        (Halts credential_bytes FitsCredential S.remaining (cleared window.old) window.new) }
-    ensures part { HeldPart (S.remaining window.old.source) (S.remaining window.new.source)
+        (Halts bytes_of (Spells layout) S.remaining (cleared window.old) window.new) }
+    ensures part { HeldPart layout (S.remaining window.old.source) (S.remaining window.new.source)
         window.old.peak window.new.peak }
     ensures failed { S.failure_count window.new.source
         ≡ S.failure_count window.old.source + stopped_reads result }
     ensures lent { S.lender window.new.source ≡ S.lender window.old.source }
 {
     window.clear();
-    take_credential(window)?;
-    match has_credential(window.bytes()) {
+    take_credential(layout, window)?;
+    match has_credential(layout, window.bytes()) {
         Ok(()) => Ok(()),
         Err(Short) => Err(Stop::Long),
     }
@@ -187,11 +223,10 @@ fn told<S: Source>(window: &mut Window<S>, stop: Stop, fault: CacheFault) -> Cac
 
 // Each call takes a part, or reads the source out and answers why there is none.
 
-fn step_version<S: Source>(window: &mut Window<S>) -> Result<(), CacheFault>
+fn step_version<S: Source>(window: &mut Window<S>) -> Result<Layout, CacheFault>
     requires reads { S.failure_count window.old.source < 2 ^ 64 - 1 }
     requires within { window.old.given ≤ file_limit }
-    ensures comes { OnOk result
-        (Comes version_of Any S.remaining window.old window.new version_4) }
+    ensures comes { IfOk result (Comes version_of Any S.remaining window.old window.new) }
     ensures misses { IfErr result
         (Misses version_of Any S.remaining window.old window.new Version) }
     ensures failed { S.failure_count window.new.source
@@ -199,26 +234,27 @@ fn step_version<S: Source>(window: &mut Window<S>) -> Result<(), CacheFault>
     ensures lent { S.lender window.new.source ≡ S.lender window.old.source }
 {
     match come_version(window) {
-        Ok(()) => Ok(()),
+        Ok(layout) => Ok(layout),
         Err(stop) => Err(told(window, stop, CacheFault::Version)),
     }
 }
 
-fn step_header<S: Source>(
+fn step_head<S: Source>(
     alloc: Global,
+    layout: Layout,
     window: &mut Window<S>,
 ) -> Result<Vec<HeaderField>, CacheFault>
     requires reads { S.failure_count window.old.source < 2 ^ 64 - 1 }
     requires within { window.old.given ≤ file_limit }
     ensures comes { IfOk result (λ header.
-        Comes header_bytes FitsHeader S.remaining window.old window.new header.items) }
+        Comes (head_bytes layout) (FitsHead layout) S.remaining window.old window.new header.items) }
     ensures misses { IfErr result
-        (Misses header_bytes FitsHeader S.remaining window.old window.new Header) }
+        (Misses (head_bytes layout) (FitsHead layout) S.remaining window.old window.new Header) }
     ensures failed { S.failure_count window.new.source
         ≡ S.failure_count window.old.source + failed_reads result }
     ensures lent { S.lender window.new.source ≡ S.lender window.old.source }
 {
-    match come_header(alloc, window) {
+    match come_head(alloc, layout, window) {
         Ok(header) => Ok(header),
         Err(stop) => Err(told(window, stop, CacheFault::Header)),
     }
@@ -242,18 +278,16 @@ fn step_name<S: Source>(alloc: Global, window: &mut Window<S>) -> Result<Princip
 }
 
 /// Takes the version, the header and the default principal.
-pub(crate) fn begin<S: Source>(
-    alloc: Global,
-    window: &mut Window<S>,
-) -> Result<(Vec<HeaderField>, Principal), CacheFault>
+pub(crate) fn begin<S: Source>(alloc: Global, window: &mut Window<S>) -> Result<Start, CacheFault>
     requires reads { S.failure_count window.old.source < 2 ^ 64 - 1 }
     requires start { window.old.given ≡ 0 }
-    ensures taken { IfOk result (λ begun. HasTaken (S.remaining window.old.source)
-        (S.remaining window.new.source) window.new.given (cache_of begun.0.items begun.1 [])) }
+    ensures taken { IfOk result (λ begun. HasTaken begun.layout (S.remaining window.old.source)
+        (S.remaining window.new.source) window.new.given (cache_of begun.header.items begun.default_principal [])) }
     ensures peak { IfOk result (λ begun. window.new.peak ≡ max window.old.peak
-        (max (length (header_bytes begun.0.items)) (length (name_bytes begun.1)))) }
+        (max (length (head_bytes begun.layout begun.header.items)) (length (name_bytes begun.default_principal)))) }
     ensures within { OnOk result (window.new.given ≤ file_limit) }
-    ensures fits { IfOk result (λ begun. FitsHeader begun.0.items × FitsName begun.1) }
+    ensures fits { IfOk result (λ begun.
+        FitsHeader begun.header.items × FitsName begun.default_principal) }
     ensures limit { OnOk result (window.old.peak ≤ file_limit → window.new.peak ≤ file_limit) }
     ensures fault { IfErr result (λ fault.
         fault ≢ CacheFault.OutOfMemory → fault ≢ CacheFault.Read
@@ -264,28 +298,33 @@ pub(crate) fn begin<S: Source>(
         ≡ S.failure_count window.old.source + failed_reads result }
     ensures lent { S.lender window.new.source ≡ S.lender window.old.source }
 {
-    step_version(window)?;
-    let header = step_header(alloc, window)?;
+    let layout = step_version(window)?;
+    let header = step_head(alloc, layout, window)?;
     let name = step_name(alloc, window)?;
-    Ok((header, name))
+    Ok(Start {
+        layout,
+        header,
+        default_principal: name,
+    })
 }
 
 /// Takes the next credential, or finds that the source is at its end.
 pub(crate) fn step<S: Source>(
     alloc: Global,
+    layout: Layout,
     window: &mut Window<S>,
 ) -> Result<Option<Credential>, CacheFault>
     requires reads { S.failure_count window.old.source < 2 ^ 64 - 1 }
     requires within { window.old.given ≤ file_limit }
-    ensures step { IsStep S.remaining window.old window.new result }
-    ensures part { OnErr result (HeldPart (S.remaining window.old.source) (S.remaining window.new.source)
+    ensures step { IsStep layout S.remaining window.old window.new result }
+    ensures part { OnErr result (HeldPart layout (S.remaining window.old.source) (S.remaining window.new.source)
         window.old.peak window.new.peak) }
     ensures failed { S.failure_count window.new.source
         ≡ S.failure_count window.old.source + failed_reads result }
     ensures lent { S.lender window.new.source ≡ S.lender window.old.source }
 {
-    if step_past(window)? {
-        Ok(Some(credential_of(alloc, window.bytes())?))
+    if step_past(layout, window)? {
+        Ok(Some(credential_of(alloc, layout, window.bytes())?))
     } else {
         Ok(None)
     }
@@ -293,19 +332,22 @@ pub(crate) fn step<S: Source>(
 
 /// Takes the bytes of the next credential, which are then at hand, and answers whether there is one; there is
 /// none where the source is at its end.
-pub(crate) fn step_past<S: Source>(window: &mut Window<S>) -> Result<bool, CacheFault>
+pub(crate) fn step_past<S: Source>(
+    layout: Layout,
+    window: &mut Window<S>,
+) -> Result<bool, CacheFault>
     requires reads { S.failure_count window.old.source < 2 ^ 64 - 1 }
     requires within { window.old.given ≤ file_limit }
     ensures step { (answer : Result (Option CredentialValue) CacheFault) × (result ≡ passed answer)
-        × IsStep S.remaining window.old window.new answer × IsAtHand window.new.bytes answer }
-    ensures part { HeldPart (S.remaining window.old.source) (S.remaining window.new.source)
+        × IsStep layout S.remaining window.old window.new answer × IsAtHand layout window.new.bytes answer }
+    ensures part { HeldPart layout (S.remaining window.old.source) (S.remaining window.new.source)
         window.old.peak window.new.peak }
     ensures failed { S.failure_count window.new.source
         ≡ S.failure_count window.old.source + failed_reads result }
     ensures lent { S.lender window.new.source ≡ S.lender window.old.source }
 {
     let at = window.given();
-    match come_past(window) {
+    match come_past(layout, window) {
         Ok(()) => Ok(true),
         Err(stop) => {
             let fault = told(window, stop, CacheFault::BadItem { at });
@@ -330,20 +372,21 @@ fn end_or(fault: CacheFault, at: usize, given: usize) -> Result<(), CacheFault>
 /// Takes the credentials to the end of the source.
 pub(crate) fn steps<S: Source>(
     alloc: Global,
+    layout: Layout,
     window: &mut Window<S>,
 ) -> Result<Vec<Credential>, CacheFault>
     requires reads { S.failure_count window.old.source < 2 ^ 64 - 1 }
     requires within { window.old.given ≤ file_limit }
     ensures end { IfOk result (λ credentials.
         (from : Option (List ℕ)) (header : List HeaderFieldValue) (name : PrincipalValue)
-        → HasTaken from (S.remaining window.old.source) window.old.given (cache_of header name [])
+        → HasTaken layout from (S.remaining window.old.source) window.old.given (cache_of header name [])
         → (bytes : List ℕ) × IsGiven from (S.remaining window.new.source) bytes
         × IsCache bytes (cache_of header name credentials.items)) }
     ensures fits { IfOk result (λ credentials. All FitsCredential credentials.items) }
     ensures fault { IfErr result (λ fault.
         fault ≢ CacheFault.OutOfMemory → fault ≢ CacheFault.Read
         → (from : Option (List ℕ)) (header : List HeaderFieldValue) (name : PrincipalValue)
-        → HasTaken from (S.remaining window.old.source) window.old.given (cache_of header name [])
+        → HasTaken layout from (S.remaining window.old.source) window.old.given (cache_of header name [])
         → (bytes : List ℕ) × IsGiven from (S.remaining window.new.source) bytes
         × IsFaultOf bytes fault) }
     ensures tail { LeavesTail (S.remaining window.old.source) (S.remaining window.new.source) }
@@ -352,7 +395,7 @@ pub(crate) fn steps<S: Source>(
     ensures lent { S.lender window.new.source ≡ S.lender window.old.source }
 {
     let mut credentials = Vec::new(alloc);
-    while let Some(credential) = step(alloc, window)? {
+    while let Some(credential) = step(alloc, layout, window)? {
         credentials.push(credential)?;
     }
     Ok(credentials)

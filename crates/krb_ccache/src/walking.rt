@@ -8,8 +8,9 @@ ghost use Rattle.krb_name.specs.Cursor.{data_bytes};
 ghost use Rattle.krb_name.specs.File.{file_limit};
 ghost use Rattle.krb_ccache.specs.Spelling.{header_bytes, name_bytes, typed_bytes, list_bytes};
 ghost use Rattle.krb_ccache.specs.Value.{FitsHeader, FitsName, FitsList};
-ghost use Rattle.krb_ccache.specs.Inner.Walking.{IsWalk, Counted, last_number, stopped_reads, FitsMarked, whole, from_key, from_times, from_ticket};
+ghost use Rattle.krb_ccache.specs.Inner.Walking.{IsWalk, Counted, last_number, stopped_reads, FitsMarked, FitsKeyed, whole, from_key, from_times, from_ticket};
 
+use crate::layout::Layout;
 use krb_name::{FILE_LIMIT, ReadFault, Source, Window};
 
 // How many bytes the times of a credential have, with `is_skey` and the flags.
@@ -213,10 +214,10 @@ fn take_elements<S: Source>(window: &mut Window<S>, count: u32) -> Result<(), St
     Ok(())
 }
 
-pub(crate) fn take_credential<S: Source>(window: &mut Window<S>) -> Result<(), Stop>
+pub(crate) fn take_credential<S: Source>(layout: Layout, window: &mut Window<S>) -> Result<(), Stop>
     requires reads { S.failure_count window.old.source < 2 ^ 64 - 1 }
     requires within { window.old.given ≤ file_limit }
-    ensures walk { IsWalk whole FitsMarked
+    ensures walk { IsWalk whole (FitsKeyed layout)
         S.remaining window.old window.new result }
     ensures failed { S.failure_count window.new.source
         ≡ S.failure_count window.old.source + stopped_reads result }
@@ -224,19 +225,19 @@ pub(crate) fn take_credential<S: Source>(window: &mut Window<S>) -> Result<(), S
 {
     take_name(window)?;
     take_name(window)?;
-    take_from_key(window)
+    take_from_key(layout, window)
 }
 
-fn take_from_key<S: Source>(window: &mut Window<S>) -> Result<(), Stop>
+fn take_from_key<S: Source>(layout: Layout, window: &mut Window<S>) -> Result<(), Stop>
     requires reads { S.failure_count window.old.source < 2 ^ 64 - 1 }
     requires within { window.old.given ≤ file_limit }
-    ensures walk { IsWalk from_key FitsMarked
+    ensures walk { IsWalk from_key (FitsKeyed layout)
         S.remaining window.old window.new result }
     ensures failed { S.failure_count window.new.source
         ≡ S.failure_count window.old.source + stopped_reads result }
     ensures lent { S.lender window.new.source ≡ S.lender window.old.source }
 {
-    take(window, 2)?;
+    take(window, 2 + layout.second_size())?;
     take_data(window)?;
     take_from_times(window)
 }

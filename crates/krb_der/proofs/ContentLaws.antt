@@ -1,20 +1,20 @@
 -- The contents of elements without parts: each is read exactly where one is spelled, and a value has one.
-use Rattle.std.proofs.Common.{◌≡◌, ℕ, ◌^◌, ◌<◌, ◌≤◌, ℤ, pos, negsuc, ◌&&◌, ltb, eqb, List, [], ◌∷◌, length, Some, refl, sym, ap, subst, ◌∙◌, arith, lit≤}
+use Rattle.std.proofs.Common.{◌≡◌, inl, inr, ℕ, ◌+◌, ◌-◌, ◌^◌, ◌<◌, ◌≤◌, ℤ, pos, negsuc, ◌-ℤ◌, ◌&&◌, ltb, eqb, List, [], ◌∷◌, length, Some, refl, sym, ap, subst, ◌∙◌, arith, lit≤}
 use Rattle.std.specs.Int.{w32}
 use Rattle.std.specs.Prelude.{FitsSigned}
 use Rattle.std.proofs.lemmas.Bool.{lt-ltb, ltb-true, eqb-true, eq-eqb, and_parts}
 use Rattle.std.proofs.lemmas.Option.{cond_some}
 use Rattle.std.proofs.lemmas.Int.{ints}
-use Rattle.krb_der.specs.Kind.{Content, int32, uint32, microseconds, constant, octets, string, flags, time, ContentValue}
-use Rattle.krb_der.specs.Content.{number, AreFlags, IsInteger, IsNatural, Elementary}
+use Rattle.krb_der.specs.Kind.{Content, int32, uint32, seq_number, microseconds, constant, octets, string, flags, time, ContentValue}
+use Rattle.krb_der.specs.Content.{number, AreFlags, IsInteger, IsNatural, IsUnsigned, IsNegative, IsSeqNumber, ElementaryBy, Elementary, Written}
 use Rattle.krb_der.specs.Spells.{Contents}
 use Rattle.krb_der.specs.Computed.Steps.{◌>>?◌}
-use Rattle.krb_der.specs.Computed.Whole.{are_bytes, whole_of, natural_below, int32_within, constant_at, flags_of}
+use Rattle.krb_der.specs.Computed.Whole.{are_bytes, whole_of, natural_below, int32_within, seq_number_within, constant_at, flags_of}
 use Rattle.krb_der.specs.Computed.Read.{content_of, LeafReader}
 use Rattle.krb_der.proofs.Numbers.{AreBytes-true}
 use Rattle.krb_der.proofs.WholeSteps.{flags_of-some}
 use Rattle.krb_der.proofs.LengthLaws.{number_injective}
-use Rattle.krb_der.proofs.IntegerLaws.{natural_read, negative_read, whole_of-read, natural_unique, integer_unique, bind_some, same_some, none_some}
+use Rattle.krb_der.proofs.IntegerLaws.{natural_read, negative_read, negative_value, whole_of-read, natural_unique, integer_unique, bind_some, same_some, none_some}
 use Rattle.krb_der.proofs.ClockLaws.{time_read, time_of-read, time_unique}
 
 -- reading of contents that gives a value exactly where it is spelled
@@ -82,6 +82,33 @@ int32_only (negsuc m) content h =
     let lt : m < 2 ^ 31 = omega (arith, ints, h.0) in
     ap (λ o. o >>? int32_within) (negative_read m content h.1 (omega arith)) ∙ rw (lt-ltb m (2 ^ 31) lt) refl
 
+seq_number_found : (n : ℕ) (content : List ℕ) → (whole_of content >>? seq_number_within) ≡ Some n → IsSeqNumber n content
+seq_number_found n content e =
+    let b = bind_some (whole_of content) seq_number_within n e in
+    within b.0 (whole_of-read content b.0 b.1) b.2
+  where
+    within : (z : ℤ) → IsInteger z content → seq_number_within z ≡ Some n → IsSeqNumber n content
+    within (pos k) h f = inl (natural-below (2 ^ 32) n (pos k) content h f)
+    within (negsuc m) h f =
+        let p = cond_some (ltb m (2 ^ 31)) (2 ^ 32 - (m + 1)) n f in
+        let lt = ltb-true m (2 ^ 31) p.0 in
+        let same = negative_value n (2 ^ 32) m (omega (arith, lt, p.1)) in
+        inr (omega (arith, lt, p.1), omega (arith, lt, p.1), subst (λ (z : ℤ). IsInteger z content) (sym same) h)
+
+-- n is 2^32 less m and 1 more
+negative_only : (m n : ℕ) (content : List ℕ) → m < 2 ^ 31 → n + m + 1 ≡ 2 ^ 32 → IsInteger (negsuc m) content → (whole_of content >>? seq_number_within) ≡ Some n
+negative_only m n content lt e h =
+    let value : 2 ^ 32 - (m + 1) ≡ n = omega (arith, e) in
+    ap (λ o. o >>? seq_number_within) (negative_read m content h (omega (arith, lt))) ∙ rw (lt-ltb m (2 ^ 31) lt) (ap Some value)
+
+seq_number_only : (n : ℕ) (content : List ℕ) → IsSeqNumber n content → (whole_of content >>? seq_number_within) ≡ Some n
+seq_number_only n content (inl h) =
+    ap (λ o. o >>? seq_number_within) (natural_read n content h.1 (omega (arith, h.0))) ∙ rw (lt-ltb n (2 ^ 32) h.0) refl
+seq_number_only n content (inr h) =
+    let m = 2 ^ 32 - (n + 1) in
+    let sum : n + m + 1 ≡ 2 ^ 32 = omega (arith, h.1) in
+    negative_only m n content (omega (arith, h.0, h.1)) sum (subst (λ (z : ℤ). IsInteger z content) (negative_value n (2 ^ 32) m sum) h.2)
+
 constant_found : (n : ℕ) (v : Unit {0}) (content : List ℕ) → (whole_of content >>? constant_at n) ≡ Some v → (n < 2 ^ 32) × IsNatural n content
 constant_found n v content e =
     let b = bind_some (whole_of content) (constant_at n) v e in
@@ -103,6 +130,7 @@ constant_only n v content h =
 found : (c : Content) (v : ContentValue c) (content : List ℕ) → content_of c content ≡ Some v → Elementary c v content
 found int32 v content e = int32_found v content e
 found uint32 v content e = below_found (2 ^ 32) v content e
+found seq_number v content e = seq_number_found v content e
 found microseconds v content e = below_found 1_000_000 v content e
 found (constant n) v content e = constant_found n v content e
 found octets v content e = same_some content v e
@@ -113,6 +141,7 @@ found time v content e = time_of-read content v e
 only : (c : Content) (v : ContentValue c) (content : List ℕ) → Elementary c v content → content_of c content ≡ Some v
 only int32 v content h = int32_only v content h
 only uint32 v content h = below_only (2 ^ 32) v content (lit≤ tt) h
+only seq_number v content h = seq_number_only v content h
 only microseconds v content h = below_only 1_000_000 v content (lit≤ tt) h
 only (constant n) v content h = constant_only n v content h
 only octets v content h = ap Some h
@@ -123,12 +152,19 @@ only time v content h = time_read v content h
 pub elementary_read : AreRead Elementary content_of
 elementary_read = record { found = found; only = only }
 
-pub elementary_unique : AreUnique Elementary
-elementary_unique int32 v a b h k = integer_unique v a b h.1 k.1
-elementary_unique uint32 v a b h k = natural_unique v a b h.1 k.1
-elementary_unique microseconds v a b h k = natural_unique v a b h.1 k.1
-elementary_unique (constant n) v a b h k = natural_unique n a b h.1 k.1
-elementary_unique octets v a b h k = h ∙ sym k
-elementary_unique string v a b h k = h ∙ sym k
-elementary_unique flags v a b h k = flags_unique v a b h k
-elementary_unique time v a b h k = time_unique v a b h k
+by_unique : (IsNumber : ℕ → List ℕ → Type 0) → ((n : ℕ) (a b : List ℕ) → IsNumber n a → IsNumber n b → a ≡ b) → AreUnique (ElementaryBy IsNumber)
+by_unique IsNumber one int32 v a b h k = integer_unique v a b h.1 k.1
+by_unique IsNumber one uint32 v a b h k = natural_unique v a b h.1 k.1
+by_unique IsNumber one seq_number v a b h k = one v a b h k
+by_unique IsNumber one microseconds v a b h k = natural_unique v a b h.1 k.1
+by_unique IsNumber one (constant n) v a b h k = natural_unique n a b h.1 k.1
+by_unique IsNumber one octets v a b h k = h ∙ sym k
+by_unique IsNumber one string v a b h k = h ∙ sym k
+by_unique IsNumber one flags v a b h k = flags_unique v a b h k
+by_unique IsNumber one time v a b h k = time_unique v a b h k
+
+pub written_unique : AreUnique Written
+written_unique = by_unique IsUnsigned (λ n a b h k. natural_unique n a b h.1 k.1)
+
+pub negative_unique : AreUnique (ElementaryBy IsNegative)
+negative_unique = by_unique IsNegative (λ n a b h k. integer_unique (pos n -ℤ pos (2 ^ 32)) a b h.2 k.2)

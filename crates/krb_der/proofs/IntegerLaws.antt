@@ -166,7 +166,7 @@ natural_read n content h lt =
     ∙ ap (λ b. Some (cond b (pos (number content) -ℤ pos (256 ^ length content)) (pos (number content)))) (not_negative content h.shortest)
     ∙ ap (λ k. Some (pos k)) h.value
 
-negative_value : (a b m : ℕ) → a + m + 1 ≡ b → pos a -ℤ pos b ≡ negsuc m
+pub negative_value : (a b m : ℕ) → a + m + 1 ≡ b → pos a -ℤ pos b ≡ negsuc m
 negative_value a b m e = omega (arith, ints)
 
 pub negative_read : (m : ℕ) (content : List ℕ) → IsInteger (negsuc m) content → m < 2 ^ 39 → whole_of content ≡ Some (negsuc m)

@@ -13,6 +13,7 @@ pub mod ElementFound
 pub mod ElementLaws
 pub mod FaultLaws
 pub mod Unique
+pub mod Spellings
 pub mod Reading
 pub mod HeadLaws
 pub mod ShortestLaws

@@ -4,10 +4,9 @@ use Rattle.std.proofs.lemmas.List.{take_more, take_all, take-append-drop, map-ap
 use Rattle.std.proofs.Math.Seq.{drop-cons}
 use Rattle.krb_der.specs.declared.fault.EncodeFault.{EncodeFault}
 use Rattle.krb_der.specs.Kind.{Kind, each, ValueOf}
-use Rattle.krb_der.specs.Content.{Elementary}
-use Rattle.krb_der.specs.Spells.{ForEach, SpellsFields, Spells}
+use Rattle.krb_der.specs.Spells.{ForEach}
 use Rattle.krb_der.specs.Size.{sizes_of, size_of}
-use Rattle.krb_der.specs.Writing.{Appends, Encodes}
+use Rattle.krb_der.specs.Writing.{Writes, WritesFields, Appends, Encodes}
 use Rattle.krb_der.specs.Inner.Limited.{limited_of, settled}
 use Rattle.krb_der.proofs.EncodeLaws.{before_appended, encodes-limited, row_size}
 
@@ -29,7 +28,7 @@ sizes_of-append size (v ∷ vs) ws = omega (arith, sizes_of-append size vs ws)
 module _ {X : Type 0} (k : Kind) (view : X → ValueOf k) (items : List X) where
   -- the spellings of these items
   abbrev pub Items : List X → List ℕ → Type 0
-  Items xs = SpellsFields Elementary (each k) (map view xs)
+  Items xs = WritesFields (each k) (map view xs)
 
   -- and how long they are
   abbrev pub items_size : List X → ℕ
@@ -45,14 +44,14 @@ module _ {X : Type 0} (k : Kind) (view : X → ValueOf k) (items : List X) where
         ∙ ap (λ y. take i items ++ (y ∷ drop (suc i) items)) (sym here)
 
     -- one more
-    pub items_more : (old mid end : List ℕ) → Appends (Items (take i items)) old mid → Appends (Spells k (view x)) mid end → Appends (Items (take (i + 1) items)) old end
+    pub items_more : (old mid end : List ℕ) → Appends (Items (take i items)) old mid → Appends (Writes k (view x)) mid end → Appends (Items (take (i + 1) items)) old end
     items_more old mid end a b =
         record {
           bytes = a.bytes ++ b.bytes;
           is =
               subst (λ (l : List X). Items l (a.bytes ++ b.bytes)) (sym front_is)
-              (subst (λ (l : List (ValueOf k)). SpellsFields Elementary (each k) l (a.bytes ++ b.bytes)) (sym (map-append view (take i items) (x ∷ [])))
-              (each-append (Spells k) (map view (take i items)) (view x ∷ []) a.bytes b.bytes a.is
+              (subst (λ (l : List (ValueOf k)). WritesFields (each k) l (a.bytes ++ b.bytes)) (sym (map-append view (take i items) (x ∷ [])))
+              (each-append (Writes k) (map view (take i items)) (view x ∷ []) a.bytes b.bytes a.is
               (record { front = b.bytes; back = []; first = b.is; rest = refl; whole = sym (append-nil b.bytes) })));
           whole = b.whole ∙ ap (λ (l : List ℕ). l ++ b.bytes) a.whole ∙ append_assoc old a.bytes b.bytes;
         }
@@ -64,7 +63,7 @@ module _ {X : Type 0} (k : Kind) (view : X → ValueOf k) (items : List X) where
 
     -- one that is refused
     pub items_refused : (f : EncodeFault) (r : Result (Unit {0}) EncodeFault) (start : ℕ) (old mid end new : List ℕ) → start ≡ length old → Appends (Items (take i items)) old mid
-        → Encodes (Spells k (view x)) (size_of k (view x)) (Err f) mid end → r ≡ Err f → new ≡ settled r start end → Encodes (Items items) (items_size items) r old new
+        → Encodes (Writes k (view x)) (size_of k (view x)) (Err f) mid end → r ≡ Err f → new ≡ settled r start end → Encodes (Items items) (items_size items) r old new
     items_refused f r start old mid end new at a e same left =
         subst (λ y. Encodes (Items items) (items_size items) y old new) (sym same)
         (record {

@@ -1,20 +1,22 @@
 -- Whole messages.
-use Rattle.std.proofs.Common.{◌≡◌, ◌⊎◌, inl, inr, ℕ, ◌<◌, ◌≤◌, true, List, [], ◌++◌, length, Result, Ok, Err, refl, sym, ap, subst, ◌∙◌, arith}
+use Rattle.std.proofs.Common.{◌≡◌, ◌⊎◌, inl, inr, ℕ, ◌<◌, ◌≤◌, true, List, [], ◌++◌, length, take, Result, Ok, Err, refl, sym, ap, subst, ◌∙◌, arith}
 use Rattle.std.specs.Prelude.{◌↔◌, IfOk, IfErr, IsOkAnd}
 use Rattle.krb_der.specs.Computed.Gives.{Fills}
 use Rattle.std.proofs.lemmas.Bool.{le-ltb, lt-ltb, cases_lt}
-use Rattle.std.proofs.lemmas.List.{append-nil}
+use Rattle.std.proofs.lemmas.List.{append-nil, take_at}
 use Rattle.krb_der.specs.declared.fault.Fault.{Fault}
 use Rattle.krb_der.specs.declared.fault.FaultKind.TheVariants.{TooLong}
 use Rattle.krb_der.specs.Kind.{Kind, ends, must, ValueOf}
-use Rattle.krb_der.specs.Content.{Elementary}
-use Rattle.krb_der.specs.Place.{begin_at}
+use Rattle.krb_der.specs.Content.{IsNegative, ElementaryBy, Elementary, Written}
+use Rattle.krb_der.specs.Place.{Place, begin_at}
 use Rattle.krb_der.specs.Spells.{Spells, IsMessage, limit}
+use Rattle.krb_der.specs.Numbers.{SpellsNegative}
+use Rattle.krb_der.specs.Writing.{Writes}
 use Rattle.krb_der.specs.Fault.{IsFault, IsFaulty, too_long, faulty, start, after_element}
 use Rattle.krb_der.specs.Computed.Steps.{◌>>=◌}
 use Rattle.krb_der.specs.Clear.{is_clear}
 use Rattle.krb_der.specs.Computed.Read.{fault_at, element_at, content_of, finish_at, message_of, message_by}
-use Rattle.krb_der.proofs.ContentLaws.{elementary_read, elementary_unique}
+use Rattle.krb_der.proofs.ContentLaws.{elementary_read, written_unique, negative_unique}
 use Rattle.krb_der.proofs.LengthLaws.{no_value, same_error}
 use Rattle.krb_der.proofs.ElementSteps.{bind_ok, bind_err, bind_at, same_ok, finish_at-read, finish_at-fault, finish_at-end}
 use Rattle.krb_der.proofs.ElementFound.{answer}
@@ -35,13 +37,17 @@ pub no_prefix : (k : Kind) → is_clear k ≡ true → (v w : ValueOf k) (a b x 
 no_prefix k clear v w a b x y s t e =
     let both = answer v w (record { at = length a; rest = x }) (record { at = length b; rest = y })
     (sym (reads k v a x clear s) ∙ ap (λ (l : List ℕ). element_at k (begin_at l)) e ∙ reads k w b y clear t) in
-    (spelling_unique Elementary elementary_unique k v a b s (subst (λ u. Spells k u b) (sym both.0) t), both.0)
+    let long : length a ≡ length b = ap (λ (p : Place). p.at) both.1 in
+    (sym (take_at a x (length a) refl) ∙ ap (take (length a)) e ∙ take_at b y (length a) (sym long), both.0)
 
 pub one_value : (k : Kind) → is_clear k ≡ true → (v w : ValueOf k) (bytes : List ℕ) → Spells k v bytes → Spells k w bytes → v ≡ w
 one_value k clear v w bytes s t = (no_prefix k clear v w bytes bytes [] [] s t refl).1
 
-pub one_spelling : (k : Kind) (v : ValueOf k) (a b : List ℕ) → Spells k v a → Spells k v b → a ≡ b
-one_spelling k v a b s t = spelling_unique Elementary elementary_unique k v a b s t
+pub one_written : (k : Kind) (v : ValueOf k) (a b : List ℕ) → Writes k v a → Writes k v b → a ≡ b
+one_written k v a b s t = spelling_unique Written written_unique k v a b s t
+
+pub one_negative : (k : Kind) (v : ValueOf k) (a b : List ℕ) → SpellsNegative k v a → SpellsNegative k v b → a ≡ b
+one_negative k v a b s t = spelling_unique (ElementaryBy IsNegative) negative_unique k v a b s.0 t.0
 
 -- ---- reading a whole message
 message-short : (k : Kind) (bytes : List ℕ) → length bytes ≤ limit → message_of k bytes ≡ (element_at k (begin_at bytes) >>= λ x. finish_at x.1 >>= λ _. Ok x.0)

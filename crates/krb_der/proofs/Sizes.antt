@@ -3,8 +3,8 @@ use Rattle.std.proofs.Common.{◌≡◌, ℕ, zero, suc, ◌+◌, ◌*◌, ◌^�
 use Rattle.std.proofs.lemmas.Bool.{le-ltb, lt-ltb}
 use Rattle.std.proofs.lemmas.Int.{ints}
 use Rattle.std.proofs.Math.Nat.{mul-le-mul_right}
-use Rattle.krb_der.specs.Kind.{Content, int32, uint32, microseconds, constant, octets, string, flags, time, Kind, leaf, wrapped, sequence, Fields, ends, must, may, each, tag_of, ContentValue, ValueOf, FieldsOf}
-use Rattle.krb_der.specs.Content.{AreBytes, number, IsShortest, IsNatural, Elementary}
+use Rattle.krb_der.specs.Kind.{Content, int32, uint32, seq_number, microseconds, constant, octets, string, flags, time, Kind, leaf, wrapped, sequence, Fields, ends, must, may, each, tag_of, ContentValue, ValueOf, FieldsOf}
+use Rattle.krb_der.specs.Content.{AreBytes, number, IsShortest, IsNatural, Written}
 use Rattle.krb_der.specs.Spells.{IsLength, short, long, IsElement, IsJoined, IfPresent, ForEach, Contents, SpellsContent, SpellsFields, SpellsBy}
 use Rattle.krb_der.specs.Size.{length_size, element_size, natural_size, leaf_size, size_if, sizes_of, content_size, fields_size, size_of}
 use Rattle.krb_der.proofs.Numbers.{number_below}
@@ -60,16 +60,17 @@ natural_sized n content h lt = by content h.bytes h.shortest h.value (natural_fe
 abbrev pub AreSized : Contents → Type 0
 AreSized Leaf = (c : Content) (v : ContentValue c) (content : List ℕ) → Leaf c v content → length content ≡ leaf_size c v
 
-pub elementary_sized : AreSized Elementary
-elementary_sized int32 (pos n) content h = natural_sized n content h.1 (omega (arith, ints, h.0))
-elementary_sized int32 (negsuc m) content h = sym (length-turned content) ∙ natural_sized m _ h.1.1 (omega (arith, ints, h.0))
-elementary_sized uint32 v content h = natural_sized v content h.1 (omega (arith, h.0))
-elementary_sized microseconds v content h = natural_sized v content h.1 (omega (arith, h.0))
-elementary_sized (constant n) v content h = natural_sized n content h.1 (omega (arith, h.0))
-elementary_sized octets v content h = ap length h
-elementary_sized string v content h = ap length h
-elementary_sized flags v content h = ap length h.whole ∙ omega (arith, h.four)
-elementary_sized time v content h = ap length h.whole
+pub written_sized : AreSized Written
+written_sized int32 (pos n) content h = natural_sized n content h.1 (omega (arith, ints, h.0))
+written_sized int32 (negsuc m) content h = sym (length-turned content) ∙ natural_sized m _ h.1.1 (omega (arith, ints, h.0))
+written_sized uint32 v content h = natural_sized v content h.1 (omega (arith, h.0))
+written_sized seq_number v content h = natural_sized v content h.1 (omega (arith, h.0))
+written_sized microseconds v content h = natural_sized v content h.1 (omega (arith, h.0))
+written_sized (constant n) v content h = natural_sized n content h.1 (omega (arith, h.0))
+written_sized octets v content h = ap length h
+written_sized string v content h = ap length h
+written_sized flags v content h = ap length h.whole ∙ omega (arith, h.four)
+written_sized time v content h = ap length h.whole
 
 -- ---- elements and fields
 -- each spelling of a part has so many bytes

@@ -1,11 +1,11 @@
--- Each value whose numbers are in range, and whose size a length can tell, has a spelling.
+-- For each value whose numbers are in range, and whose size a length can tell, there is something to be written.
 use Rattle.std.proofs.Common.{inl, inr, ℕ, ◌^◌, ◌<◌, ◌≤◌, ℤ, pos, negsuc, List, [], ◌∷◌, ◌++◌, length, Option, Some, None, refl, subst, arith}
 use Rattle.std.specs.Prelude.{FitsSigned, IfSome}
 use Rattle.std.specs.Int.{w32, to_be_bytes}
 use Rattle.std.proofs.lemmas.Bool.{cases_lt}
 use Rattle.std.proofs.lemmas.Int.{ints}
-use Rattle.krb_der.specs.Kind.{Content, int32, uint32, microseconds, constant, octets, string, flags, time, Kind, leaf, wrapped, sequence, Fields, ends, must, may, each, tag_of, ContentValue, ValueOf, FieldsOf}
-use Rattle.krb_der.specs.Content.{IsInteger, IsNatural, Elementary}
+use Rattle.krb_der.specs.Kind.{Content, int32, uint32, seq_number, microseconds, constant, octets, string, flags, time, Kind, leaf, wrapped, sequence, Fields, ends, must, may, each, tag_of, ContentValue, ValueOf, FieldsOf}
+use Rattle.krb_der.specs.Content.{IsInteger, IsNatural, Elementary, Written}
 use Rattle.krb_der.specs.Spells.{IsElement, IsJoined, IfPresent, ForEach, Contents, SpellsContent, SpellsFields, SpellsBy, Spells, limit}
 use Rattle.krb_der.specs.Size.{size_if, sizes_of, content_size, fields_size, size_of, LeafFits, ForAll, NumbersFit, FieldsFit}
 use Rattle.krb_der.specs.Time.{IsSeconds}
@@ -15,7 +15,7 @@ use Rattle.krb_der.proofs.HeadLaws.{head-1, head-2, head-3, head-4, head-5}
 use Rattle.krb_der.proofs.ShortestLaws.{integer_be, flags_be}
 use Rattle.krb_der.proofs.Numbers.{number_within}
 use Rattle.krb_der.proofs.Dates.{civil_range, time_made}
-use Rattle.krb_der.proofs.Sizes.{AreSized, HasSize, content_sized, elementary_sized}
+use Rattle.krb_der.proofs.Sizes.{AreSized, HasSize, content_sized, written_sized}
 
 -- some bytes are such a part
 abbrev pub Some_of : (List ℕ → Type 0) → Type 0
@@ -67,15 +67,16 @@ integer_made (negsuc m) fits = (_, integer_be (negsuc m) (omega (arith, ints, fi
 natural_made : (n : ℕ) → n < 2 ^ 32 → Some_of (IsNatural n)
 natural_made n lt = (_, integer_be (pos n) (omega (arith, ints, lt)))
 
-elementary_made : AreMade Elementary
-elementary_made int32 z fits = let made = integer_made z fits in (made.0, (fits, made.1))
-elementary_made uint32 n fits = let made = natural_made n fits in (made.0, (fits, made.1))
-elementary_made microseconds n fits = let made = natural_made n (omega (arith, fits)) in (made.0, (fits, made.1))
-elementary_made (constant n) v fits = let made = natural_made n fits in (made.0, (fits, made.1))
-elementary_made octets v fits = (v, refl)
-elementary_made string v fits = (v, refl)
-elementary_made flags n fits = (_, flags_be n fits (to_be_bytes w32 n) refl)
-elementary_made time s fits = time_made s fits
+written_made : AreMade Written
+written_made int32 z fits = let made = integer_made z fits in (made.0, (fits, made.1))
+written_made uint32 n fits = let made = natural_made n fits in (made.0, (fits, made.1))
+written_made seq_number n fits = let made = natural_made n fits in (made.0, (fits, made.1))
+written_made microseconds n fits = let made = natural_made n (omega (arith, fits)) in (made.0, (fits, made.1))
+written_made (constant n) v fits = let made = natural_made n fits in (made.0, (fits, made.1))
+written_made octets v fits = (v, refl)
+written_made string v fits = (v, refl)
+written_made flags n fits = (_, flags_be n fits (to_be_bytes w32 n) refl)
+written_made time s fits = time_made s fits
 
 -- ---- all kinds
 module _ (Leaf : Contents) (leaves : AreSized Leaf) (made : AreMade Leaf) where
@@ -105,12 +106,14 @@ module _ (Leaf : Contents) (leaves : AreSized Leaf) (made : AreMade Leaf) where
   one_made k v fits small = around k v (content_made k v fits) small
 
 pub written_exists : (k : Kind) (v : ValueOf k) → NumbersFit k v → size_of k v ≤ limit → (bytes : List ℕ) × Writes k v bytes
-written_exists k v fits small = one_made Elementary elementary_sized elementary_made k v fits (omega (arith, small))
+written_exists k v fits small = one_made Written written_sized written_made k v fits (omega (arith, small))
 
 -- ---- what is spelled is in range
 leaf_fits : (c : Content) (v : ContentValue c) (content : List ℕ) → Elementary c v content → LeafFits c v
 leaf_fits int32 v content h = h.0
 leaf_fits uint32 v content h = h.0
+leaf_fits seq_number v content (inl h) = h.0
+leaf_fits seq_number v content (inr h) = h.1
 leaf_fits microseconds v content h = h.0
 leaf_fits (constant n) v content h = h.0
 leaf_fits octets v content h = tt

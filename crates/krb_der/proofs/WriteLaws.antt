@@ -2,9 +2,9 @@
 use Rattle.std.proofs.Common.{◌≡◌, ℕ, List, Result, Ok, Err}
 use Rattle.std.specs.Prelude.{OnOk, OnErr}
 use Rattle.krb_der.specs.Kind.{Kind, ValueOf, tag_of}
-use Rattle.krb_der.specs.Content.{Elementary}
-use Rattle.krb_der.specs.Spells.{IsElement, SpellsContent, Spells}
-use Rattle.krb_der.specs.Writing.{Appends, AppendsElement}
+use Rattle.krb_der.specs.Content.{Written}
+use Rattle.krb_der.specs.Spells.{IsElement, SpellsContent}
+use Rattle.krb_der.specs.Writing.{Writes, Appends, AppendsElement}
 
 pub element-map : (tag : ℕ) (P Q : List ℕ → Type 0) → ((c : List ℕ) → P c → Q c) → (bytes : List ℕ) → IsElement tag P bytes → IsElement tag Q bytes
 element-map tag P Q f bytes h = record { size = h.size; content = h.content; length_is = h.length_is; content_is = f h.content h.content_is; whole = h.whole }
@@ -13,7 +13,7 @@ pub appends-map : (P Q : List ℕ → Type 0) → ((b : List ℕ) → P b → Q 
 appends-map P Q f old new h = record { bytes = h.bytes; is = f h.bytes h.is; whole = h.whole }
 
 pub writes : {E : Type 0} (k : Kind) (v : ValueOf k) (P : List ℕ → Type 0) (r : Result (Unit {0}) E) (old new : List ℕ)
-    → ((c : List ℕ) → P c → SpellsContent Elementary k v c) → OnOk r (Appends (IsElement (tag_of k) P) old new) → OnErr r (new ≡ old) → AppendsElement k v r old new
+    → ((c : List ℕ) → P c → SpellsContent Written k v c) → OnOk r (Appends (IsElement (tag_of k) P) old new) → OnErr r (new ≡ old) → AppendsElement k v r old new
 writes k v P (Ok u) old new f ok kept =
-    record { ok = appends-map (IsElement (tag_of k) P) (Spells k v) (element-map (tag_of k) P (SpellsContent Elementary k v) f) old new ok; kept = tt }
+    record { ok = appends-map (IsElement (tag_of k) P) (Writes k v) (element-map (tag_of k) P (SpellsContent Written k v) f) old new ok; kept = tt }
 writes k v P (Err e) old new f ok kept = record { ok = tt; kept = kept }

@@ -1,7 +1,7 @@
 -- The contents of elements without parts (X.690, sections 8.3, 8.6 and 8.7; RFC 4120, section 5.2).
-use Rattle.std.specs.Prelude.{◌≡◌, ℕ, ◌+◌, ◌-◌, ◌*◌, ◌^◌, ◌<◌, ◌≤◌, ℤ, pos, negsuc, List, [], ◌∷◌, length, map, FitsSigned}
+use Rattle.std.specs.Prelude.{◌≡◌, ℕ, ◌+◌, ◌-◌, ◌*◌, ◌^◌, ◌<◌, ◌≤◌, ℤ, pos, negsuc, ◌-ℤ◌, ◌⊎◌, List, [], ◌∷◌, length, map, FitsSigned}
 use Rattle.std.specs.Int.{w32}
-use Rattle.krb_der.specs.Kind.{Content, int32, uint32, microseconds, constant, octets, string, flags, time, ContentValue}
+use Rattle.krb_der.specs.Kind.{Content, int32, uint32, seq_number, microseconds, constant, octets, string, flags, time, ContentValue}
 use Rattle.krb_der.specs.Time.{IsTime}
 
 abbrev pub AreBytes : List ℕ → Type 0
@@ -41,13 +41,35 @@ pub record AreFlags (n : ℕ) (content : List ℕ) : Type 0 where
   pub value : number bits ≡ n
   pub whole : content ≡ 0 ∷ bits
 
--- which contents spell which values; a number outside its range has no spelling (RFC 4120, section 5.2.4)
+-- a sequence number as it is (RFC 4120, sections 5.2.4 and 5.5.1)
+abbrev pub IsUnsigned : ℕ → List ℕ → Type 0
+IsUnsigned n content = (n < 2 ^ 32) × IsNatural n content
+
+-- a sequence number above 2147483647 as the negative number of the same 32 bits, as some senders write it
+abbrev pub IsNegative : ℕ → List ℕ → Type 0
+IsNegative n content = (2 ^ 31 ≤ n) × (n < 2 ^ 32) × IsInteger (pos n -ℤ pos (2 ^ 32)) content
+
+-- either
+abbrev pub IsSeqNumber : ℕ → List ℕ → Type 0
+IsSeqNumber n content = IsUnsigned n content ⊎ IsNegative n content
+
+-- Which contents spell which values, for contents of sequence numbers; a number outside its range has no spelling (RFC 4120,
+-- section 5.2.4).
+abbrev pub ElementaryBy : (ℕ → List ℕ → Type 0) → (c : Content) → ContentValue c → List ℕ → Type 0
+ElementaryBy IsNumber int32 z content = FitsSigned w32 z × IsInteger z content
+ElementaryBy IsNumber uint32 n content = (n < 2 ^ 32) × IsNatural n content
+ElementaryBy IsNumber seq_number n content = IsNumber n content
+ElementaryBy IsNumber microseconds n content = (n < 1_000_000) × IsNatural n content
+ElementaryBy IsNumber (constant n) v content = (n < 2 ^ 32) × IsNatural n content
+ElementaryBy IsNumber octets v content = content ≡ v
+ElementaryBy IsNumber string v content = content ≡ v
+ElementaryBy IsNumber flags n content = AreFlags n content
+ElementaryBy IsNumber time s content = IsTime s content
+
+-- the contents that are read
 abbrev pub Elementary : (c : Content) → ContentValue c → List ℕ → Type 0
-Elementary int32 z content = FitsSigned w32 z × IsInteger z content
-Elementary uint32 n content = (n < 2 ^ 32) × IsNatural n content
-Elementary microseconds n content = (n < 1_000_000) × IsNatural n content
-Elementary (constant n) v content = (n < 2 ^ 32) × IsNatural n content
-Elementary octets v content = content ≡ v
-Elementary string v content = content ≡ v
-Elementary flags n content = AreFlags n content
-Elementary time s content = IsTime s content
+Elementary = ElementaryBy IsSeqNumber
+
+-- the contents that are written
+abbrev pub Written : (c : Content) → ContentValue c → List ℕ → Type 0
+Written = ElementaryBy IsUnsigned

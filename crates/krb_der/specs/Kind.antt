@@ -3,7 +3,7 @@ use Rattle.std.specs.Prelude.{ℕ, ◌+◌, ℤ, List, Option}
 
 -- what stands in an element without parts
 pub data Content : Type 0 where
-  int32 uint32 microseconds octets string flags time : Content
+  int32 uint32 seq_number microseconds octets string flags time : Content
   -- this whole number alone
   constant : ℕ → Content
 
@@ -33,6 +33,7 @@ application n k = wrapped (0x60 + n) k
 abbrev pub content_tag : Content → ℕ
 content_tag int32 = 0x02
 content_tag uint32 = 0x02
+content_tag seq_number = 0x02
 content_tag microseconds = 0x02
 content_tag (constant n) = 0x02
 content_tag octets = 0x04
@@ -50,6 +51,7 @@ tag_of (sequence fs) = 0x30
 abbrev pub ContentValue : Content → Type 0
 ContentValue int32 = ℤ
 ContentValue uint32 = ℕ
+ContentValue seq_number = ℕ
 ContentValue microseconds = ℕ
 ContentValue (constant n) = Unit {0}
 ContentValue octets = List ℕ

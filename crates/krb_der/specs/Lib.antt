@@ -9,5 +9,6 @@ pub mod Fault
 pub mod Reading
 pub mod Writing
 pub mod Clear
+pub mod Numbers
 pub mod Computed
 pub mod Inner

@@ -1,7 +1,7 @@
--- How many bytes the spelling of a value has (X.690, sections 8.1.3, 8.3 and 10.1), and which values have one.
+-- How many bytes are written for a value (X.690, sections 8.1.3, 8.3 and 10.1), and for which values there are any.
 use Rattle.std.specs.Prelude.{ℕ, ◌+◌, ◌^◌, ◌<◌, ℤ, pos, negsuc, nat_lt, if◌then◌else◌, FitsSigned, List, [], ◌∷◌, length, Option, Some, None, IfSome}
 use Rattle.std.specs.Int.{w32}
-use Rattle.krb_der.specs.Kind.{Content, int32, uint32, microseconds, constant, octets, string, flags, time, Kind, leaf, wrapped, sequence, Fields, ends, must, may, each, ContentValue, ValueOf, FieldsOf}
+use Rattle.krb_der.specs.Kind.{Content, int32, uint32, seq_number, microseconds, constant, octets, string, flags, time, Kind, leaf, wrapped, sequence, Fields, ends, must, may, each, ContentValue, ValueOf, FieldsOf}
 use Rattle.krb_der.specs.Time.{IsSeconds}
 
 -- of a length: one byte below 128, else one and as few as the number needs
@@ -27,6 +27,7 @@ integer_size (negsuc m) = natural_size m
 abbrev pub leaf_size : (c : Content) → ContentValue c → ℕ
 leaf_size int32 z = integer_size z
 leaf_size uint32 n = natural_size n
+leaf_size seq_number n = natural_size n
 leaf_size microseconds n = natural_size n
 leaf_size (constant n) v = natural_size n
 leaf_size octets v = length v
@@ -65,6 +66,7 @@ size_of k v = element_size (content_size k v)
 abbrev pub LeafFits : (c : Content) → ContentValue c → Type 0
 LeafFits int32 z = FitsSigned w32 z
 LeafFits uint32 n = n < 2 ^ 32
+LeafFits seq_number n = n < 2 ^ 32
 LeafFits microseconds n = n < 1_000_000
 LeafFits (constant n) v = n < 2 ^ 32
 LeafFits octets v = Unit {0}

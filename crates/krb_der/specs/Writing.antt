@@ -3,17 +3,17 @@ use Rattle.std.specs.Prelude.{◌≡◌, ℕ, ◌+◌, ◌<◌, ◌≤◌, List,
 use Rattle.krb_der.specs.declared.fault.EncodeFault.{EncodeFault}
 use Rattle.krb_der.specs.declared.fault.EncodeFault.TheVariants.{TooLong}
 use Rattle.krb_der.specs.Kind.{Kind, Fields, ValueOf, FieldsOf}
-use Rattle.krb_der.specs.Content.{Elementary}
-use Rattle.krb_der.specs.Spells.{IsElement, Spells, SpellsFields, IsMessage, limit}
+use Rattle.krb_der.specs.Content.{Written}
+use Rattle.krb_der.specs.Spells.{IsElement, SpellsBy, SpellsFields, IsMessage, limit}
 use Rattle.krb_der.specs.Size.{fields_size, size_of}
 
--- the bytes are those that are written for the value: its spelling, of which there is one
+-- the bytes are those that are written for the value: its spelling without a negative sequence number, of which there is one
 abbrev pub Writes : (k : Kind) → ValueOf k → List ℕ → Type 0
-Writes k v bytes = Spells k v bytes
+Writes k v bytes = SpellsBy Written k v bytes
 
 -- the same of fields
 abbrev pub WritesFields : (fs : Fields) → FieldsOf fs → List ℕ → Type 0
-WritesFields fs v bytes = SpellsFields Elementary fs v bytes
+WritesFields fs v bytes = SpellsFields Written fs v bytes
 
 -- new is old with such bytes at its end
 pub record Appends (Part : List ℕ → Type 0) (old new : List ℕ) : Type 0 where

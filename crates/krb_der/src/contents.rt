@@ -1,11 +1,13 @@
 //! Elements without parts, read call by call.
 
-ghost use Rattle.krb_der.specs.Kind.{leaf, int32, uint32, microseconds, constant, octets, string, flags, time};
+ghost use Rattle.krb_der.specs.Kind.{leaf, int32, uint32, seq_number, microseconds, constant, octets, string, flags, time};
 ghost use Rattle.krb_der.specs.Reading.{Reads};
 ghost use Rattle.krb_der.specs.Computed.Gives.{Gives};
 ghost use Rattle.krb_der.specs.Computed.Read.{element_at};
 
-use crate::{Constant, Cursor, Element, Fault, Flags, Microseconds, Octets, Seconds, Text};
+use crate::{
+    Constant, Cursor, Element, Fault, Flags, Microseconds, Octets, Seconds, SeqNumber, Text,
+};
 
 impl<'a> Cursor<'a> {
     /// Reads a whole number from -2,147,483,648 to 2,147,483,647 (RFC 4120, section 5.2.4).
@@ -23,6 +25,21 @@ impl<'a> Cursor<'a> {
         ensures { Reads (leaf uint32) (λ n. n) result self.old self.new }
     {
         self.read::<u32>()
+    }
+
+    /// Reads a sequence number: a whole number from -2,147,483,648 to 4,294,967,295, of which a negative one is read as the
+    /// number of the same 32 bits, 4,294,967,296 more (RFC 4120, sections 5.2.4 and 5.5.1). Errors as of [`int32`](Self::int32).
+    pub fn seq_number(&mut self) -> Result<u32, Fault>
+        ensures { Reads (leaf seq_number) (λ n. n) result self.old self.new }
+    {
+        self.seq_number_here()
+    }
+
+    fn seq_number_here(&mut self) -> Result<u32, Fault>
+        ensures { Gives (λ n. n) result self.old self.new (element_at (leaf seq_number) self.old) }
+    {
+        let number = SeqNumber::read(self)?;
+        Ok(number.0)
     }
 
     /// Reads a whole number from 0 to 999,999 (RFC 4120, section 5.2.4). Errors as of [`int32`](Self::int32).

@@ -1,10 +1,10 @@
 //! What can be written as one element.
 
-ghost use Rattle.krb_der.specs.Kind.{Kind, ValueOf, leaf, int32, uint32, microseconds, constant, octets, string, flags, time};
+ghost use Rattle.krb_der.specs.Kind.{Kind, ValueOf, leaf, int32, uint32, seq_number, microseconds, constant, octets, string, flags, time};
 ghost use Rattle.krb_der.specs.Writing.{EncodesValue, IsEncoded};
 
 use crate::cursor::LIMIT;
-use crate::{Constant, EncodeFault, Flags, Microseconds, Octets, Seconds, Text, Writer};
+use crate::{Constant, EncodeFault, Flags, Microseconds, Octets, Seconds, SeqNumber, Text, Writer};
 use std::alloc::Global;
 
 /// A type whose values are written as one kind of element.
@@ -53,6 +53,18 @@ impl Encode for u32 {
     fn write(&self, out: &mut Writer) -> Result<(), EncodeFault> {
         let start = out.len();
         let written = out.uint32(*self);
+        out.limited(start, written)
+    }
+}
+
+impl Encode for SeqNumber {
+    ghost kind = { leaf seq_number };
+
+    ghost view = { λ s. s.0 };
+
+    fn write(&self, out: &mut Writer) -> Result<(), EncodeFault> {
+        let start = out.len();
+        let written = out.uint32(self.0);
         out.limited(start, written)
     }
 }

@@ -11,6 +11,7 @@ ghost use Rattle.krb_der.specs.Writing.{Writes};
 ghost use Rattle.krb_der.specs.Fault.{IsFault, IsFaulty, IsElementFault, IsHeadFault};
 ghost use Rattle.krb_der.specs.Flags.{HasBit};
 ghost use Rattle.krb_der.specs.Clear.{is_clear, are_clear};
+ghost use Rattle.krb_der.specs.Numbers.{numbers_in, HasHigh, SpellsNegative};
 ghost use Rattle.krb_der.specs.Computed.Read.{element_at, fields_at, message_of};
 
 /// A spelling has one value.
@@ -19,9 +20,17 @@ pub fn one_value()
         → Spells k v bytes → Spells k w bytes → v ≡ w }
 {}
 
-/// A value has at most one spelling.
+/// A value has at most one spelling without a negative sequence number, which is the one that is written, and at most one with
+/// each of its sequence numbers negative. There is no other spelling of a value with at most one sequence number, and the
+/// negative one is there only if that number is above 2,147,483,647.
 pub fn one_spelling()
-    ensures { (k : Kind) (v : ValueOf k) (a b : List ℕ) → Spells k v a → Spells k v b → a ≡ b }
+    ensures written { (k : Kind) (v : ValueOf k) (a b : List ℕ) → Writes k v a → Writes k v b → a ≡ b }
+    ensures negative { (k : Kind) (v : ValueOf k) (a b : List ℕ)
+        → SpellsNegative k v a → SpellsNegative k v b → a ≡ b }
+    ensures either { (k : Kind) → numbers_in k ≤ 1 → (v : ValueOf k) (bytes : List ℕ)
+        → Spells k v bytes → Writes k v bytes ⊎ SpellsNegative k v bytes }
+    ensures spells { (k : Kind) (v : ValueOf k) (bytes : List ℕ) → SpellsNegative k v bytes → Spells k v bytes }
+    ensures high { (k : Kind) → numbers_in k ≡ 0 → (v : ValueOf k) → HasHigh k v → ⊥ }
 {}
 
 /// What is written for a value is one of its spellings, and has the value's size. There is one for each value whose numbers are in

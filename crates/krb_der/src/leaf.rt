@@ -1,12 +1,12 @@
 //! Elements without parts.
 
 ghost use Rattle.std.specs.Prelude.{◌≡◌, refl};
-ghost use Rattle.krb_der.specs.Kind.{leaf, int32, uint32, microseconds, constant, octets, string, flags, time};
+ghost use Rattle.krb_der.specs.Kind.{leaf, int32, uint32, seq_number, microseconds, constant, octets, string, flags, time};
 
 use crate::element::Element;
 use crate::time::{Seconds, time_in};
-use crate::value::{Constant, Flags, Microseconds, Octets, Text};
-use crate::whole::{flags_in, int32_in, is_number, micros_in, uint32_in};
+use crate::value::{Constant, Flags, Microseconds, Octets, SeqNumber, Text};
+use crate::whole::{flags_in, int32_in, is_number, micros_in, seq_number_in, uint32_in};
 use crate::{Cursor, Fault, FaultKind, tag};
 
 impl<'a> Element<'a> for i32 {
@@ -38,6 +38,22 @@ impl<'a> Element<'a> for u32 {
         let value = uint32_in(content.rest()).ok_or(cursor.fault(FaultKind::Integer))?;
         *cursor = after;
         Ok(value)
+    }
+}
+
+impl<'a> Element<'a> for SeqNumber {
+    ghost kind = { leaf seq_number };
+
+    ghost view = { λ s. s.0 };
+
+    ghost clear = { refl };
+
+    #[tactic(auto, unfolding(crate::specs::Computed::Read::element_at, crate::specs::Computed::Read::element_by))]
+    fn read(cursor: &mut Cursor<'a>) -> Result<SeqNumber, Fault> {
+        let (content, after) = cursor.head(tag::INTEGER)?;
+        let number = seq_number_in(content.rest()).ok_or(cursor.fault(FaultKind::Integer))?;
+        *cursor = after;
+        Ok(SeqNumber(number))
     }
 }
 

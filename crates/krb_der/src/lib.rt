@@ -24,8 +24,11 @@
 //! (elements without parts), `element`, `parts` and `row` (those with parts), `message`, `fault`. Writing: `writer`, `encoding`,
 //! `encoding_rows`. Both: `list`, `value`, `time`.
 //!
-//! `specs::Size` says how many bytes the spelling of a value has, and so which values are too long for a message; `specs::Flags`
+//! `specs::Size` says how many bytes are written for a value, and so which values are too long for a message; `specs::Flags`
 //! which bit of flags is which.
+//!
+//! Each value has one spelling, but for sequence numbers ([`SeqNumber`]) above 2,147,483,647: those are read also as the negative
+//! numbers of the same 32 bits, and never written so. `specs::Numbers` says which spelling of a value that is.
 //!
 //! Slices that reading answers are of the input; only writing takes memory. No call runs longer than linear in its bytes, times the depth of its elements where it writes.
 #![tactic(auto)]
@@ -59,5 +62,5 @@ pub use list::TextList;
 pub use message::{Message, parse};
 pub use row::{Field, Maybe, MaybeRef, Row};
 pub use time::Seconds;
-pub use value::{Constant, Flags, Microseconds, Octets, Text};
+pub use value::{Constant, Flags, Microseconds, Octets, SeqNumber, Text};
 pub use writer::Writer;

@@ -60,6 +60,10 @@ impl Flags {
     }
 }
 
+/// A sequence number (RFC 4120, section 5.5.1), which some senders write as the negative number of the same 32 bits.
+#[derive(Clone, Copy, Debug, PartialEq, Eq)]
+pub struct SeqNumber(pub u32);
+
 /// The microseconds of a time: 0 to 999,999 (RFC 4120, section 5.2.4).
 #[derive(Clone, Copy, Debug, PartialEq, Eq, PartialOrd, Ord, Hash)]
 pub struct Microseconds {

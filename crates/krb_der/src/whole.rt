@@ -1,7 +1,7 @@
 //! Contents that are whole numbers or flags (X.690, sections 8.3 and 8.6).
 
 ghost use Rattle.std.specs.Prelude.{◌≡◌, ◌<◌, ◌≤◌, ◌^◌, length, is_some};
-ghost use Rattle.krb_der.specs.Kind.{int32, uint32, microseconds, constant};
+ghost use Rattle.krb_der.specs.Kind.{int32, uint32, seq_number, microseconds, constant};
 ghost use Rattle.krb_der.specs.Content.{number};
 ghost use Rattle.krb_der.specs.Computed.Read.{content_of};
 ghost use Rattle.krb_der.specs.Inner.Shortest.{shortest_of};
@@ -96,6 +96,22 @@ pub fn uint32_in(content: &[u8]) -> Option<u32>
     ensures { result ≡ content_of uint32 content.now }
 {
     u32::try_from(whole(content)?).ok()
+}
+
+/// The sequence number that the content is; a negative number is the one of the same 32 bits.
+pub fn seq_number_in(content: &[u8]) -> Option<u32>
+    ensures { result ≡ content_of seq_number content.now }
+{
+    let number = whole(content)?;
+    if number < i64::from(i32::MIN) {
+        return None;
+    }
+    u32::try_from(if number < 0 {
+        number + 0x1_0000_0000
+    } else {
+        number
+    })
+    .ok()
 }
 
 /// The microseconds that the content is.

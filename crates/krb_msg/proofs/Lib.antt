@@ -1,2 +1,3 @@
 pub mod Messages
 pub mod ReplySizes
+pub mod HighNumbers

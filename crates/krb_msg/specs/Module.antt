@@ -1,6 +1,6 @@
 -- The messages of Kerberos 5 as kinds of elements (RFC 4120, sections 5.2 to 5.9 and appendix A): each field with its number, and
 -- whether it may be left out.
-use Rattle.krb_der.specs.Kind.{Kind, leaf, sequence, ends, must, may, each, field, application, int32, uint32, microseconds, constant, octets, string, flags, time}
+use Rattle.krb_der.specs.Kind.{Kind, leaf, sequence, ends, must, may, each, field, application, int32, uint32, seq_number, microseconds, constant, octets, string, flags, time}
 
 -- SEQUENCE OF
 abbrev pub sequence_of : Kind → Kind
@@ -59,7 +59,7 @@ authenticator = application 2 (sequence
     (must (field 4 (leaf microseconds))
     (must (field 5 (leaf time))
     (may (field 6 encryption_key)
-    (may (field 7 (leaf uint32))
+    (may (field 7 (leaf seq_number))
     (may (field 8 authorization_data) ends))))))))))
 
 -- flags, key, crealm, cname, transited, authtime, starttime, endtime, renew-till, caddr and authorization-data (section 5.3)
@@ -99,7 +99,7 @@ enc_ap_rep_part = application 27 (sequence
     (must (field 0 (leaf time))
     (must (field 1 (leaf microseconds))
     (may (field 2 encryption_key)
-    (may (field 3 (leaf uint32)) ends)))))
+    (may (field 3 (leaf seq_number)) ends)))))
 
 -- pvno, msg-type, ctime, cusec, stime, susec, error-code, crealm, cname, realm, sname, e-text and e-data (section 5.9.1)
 abbrev pub krb_error : Kind

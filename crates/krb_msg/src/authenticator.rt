@@ -2,7 +2,7 @@
 
 ghost use Rattle.std.specs.Prelude.{refl, ◌≡◌, ◌<◌, IfOk};
 ghost use Rattle.std.specs.Option.{option_map};
-ghost use Rattle.krb_der.specs.Kind.{leaf, must, may, ends, field, microseconds, time, uint32};
+ghost use Rattle.krb_der.specs.Kind.{leaf, must, may, ends, field, microseconds, seq_number, time};
 ghost use Rattle.krb_der.specs.Reading.{Parses};
 ghost use Rattle.krb_der.specs.Writing.{IsEncoded};
 ghost use Rattle.krb_msg.specs.Borrowed.{authenticator_of, typed_of, key_of};
@@ -11,10 +11,11 @@ ghost use Rattle.krb_msg.specs.Owned.{owned_authenticator_of};
 
 use crate::key::{KeyRef, RawKey, owned_key};
 use crate::name::{NameIn, NameRef};
+use crate::seq_number::{seq_number_in, seq_number_of};
 use crate::typed::{Typed, TypedListRef, TypedRef, owned_list, owned_typed};
 use krb_der::{
     Constant, Cursor, Element, Encode, EncodeFault, Fault, Field, Maybe, MaybeRef, Message,
-    Microseconds, Row, Seconds, Text, Writer, write_application,
+    Microseconds, Row, Seconds, SeqNumber, Text, Writer, write_application,
 };
 use krb_name::Principal;
 use std::alloc::{AllocError, Global};
@@ -92,7 +93,7 @@ type AuthenticatorTailRow<'a> = (
             Field<0xa5, Seconds>,
             (
                 Maybe<0xa6, KeyRef<'a>>,
-                (Maybe<0xa7, u32>, (Maybe<0xa8, TypedListRef<'a>>, ())),
+                (Maybe<0xa7, SeqNumber>, (Maybe<0xa8, TypedListRef<'a>>, ())),
             ),
         ),
     ),
@@ -100,7 +101,7 @@ type AuthenticatorTailRow<'a> = (
 
 impl<'a> Row<'a> for AuthenticatorTail<'a> {
     ghost fields = { may (field 3 checksum) (must (field 4 (leaf microseconds)) (must (field 5 (leaf time))
-        (may (field 6 encryption_key) (may (field 7 (leaf uint32)) (may (field 8 authorization_data) ends))))) };
+        (may (field 6 encryption_key) (may (field 7 (leaf seq_number)) (may (field 8 authorization_data) ends))))) };
 
     ghost view = { λ t. (
       option_map typed_of t.checksum,
@@ -122,7 +123,7 @@ impl<'a> Row<'a> for AuthenticatorTail<'a> {
                     cusec: cusec.0,
                     ctime: ctime.0,
                     subkey: subkey.0,
-                    seq_number: seq_number.0,
+                    seq_number: seq_number_of(seq_number.0),
                     authorization: authorization.0,
                 })
             }
@@ -199,10 +200,7 @@ type AuthenticatorOutTail<'a> = (
         Field<0xa5, Seconds>,
         (
             MaybeRef<'a, 0xa6, RawKey>,
-            (
-                MaybeRef<'a, 0xa7, u32>,
-                (MaybeRef<'a, 0xa8, Vec<Typed>>, ()),
-            ),
+            (Maybe<0xa7, SeqNumber>, (MaybeRef<'a, 0xa8, Vec<Typed>>, ())),
         ),
     ),
 );
@@ -214,7 +212,7 @@ impl Encode for Authenticator {
 
     fn write(&self, out: &mut Writer) -> Result<(), EncodeFault> {
         let rest = (
-            MaybeRef(&self.seq_number),
+            Maybe(seq_number_in(self.seq_number)),
             (MaybeRef(&self.authorization), ()),
         );
         let rest = (Field(self.ctime), (MaybeRef(&self.subkey), rest));

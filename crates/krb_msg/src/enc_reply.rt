@@ -8,9 +8,10 @@ ghost use Rattle.krb_msg.specs.Module.{enc_ap_rep_part};
 ghost use Rattle.krb_msg.specs.Owned.{owned_enc_ap_rep_part_of};
 
 use crate::key::{KeyRef, RawKey, owned_key};
+use crate::seq_number::{seq_number_in, seq_number_of};
 use krb_der::{
     Cursor, Element, Encode, EncodeFault, Fault, Field, Maybe, MaybeRef, Message, Microseconds,
-    Seconds, Writer, write_application,
+    Seconds, SeqNumber, Writer, write_application,
 };
 use std::alloc::{AllocError, Global};
 use std::marker::PhantomData;
@@ -34,7 +35,7 @@ type EncApRepRow<'a> = (
     Field<0xa0, Seconds>,
     (
         Field<0xa1, Microseconds>,
-        (Maybe<0xa2, KeyRef<'a>>, (Maybe<0xa3, u32>, ())),
+        (Maybe<0xa2, KeyRef<'a>>, (Maybe<0xa3, SeqNumber>, ())),
     ),
 );
 
@@ -52,7 +53,7 @@ impl<'a> Element<'a> for EncApRepRef<'a> {
                 ctime: ctime.0,
                 cusec: cusec.0,
                 subkey: subkey.0,
-                seq_number: seq_number.0,
+                seq_number: seq_number_of(seq_number.0),
                 input: PhantomData,
             }),
             Err(fault) => Err(fault),
@@ -108,12 +109,15 @@ impl Encode for EncApRepPart {
     ghost view = { owned_enc_ap_rep_part_of };
 
     fn write(&self, out: &mut Writer) -> Result<(), EncodeFault> {
-        let rest = (MaybeRef(&self.subkey), (MaybeRef(&self.seq_number), ()));
+        let rest = (
+            MaybeRef(&self.subkey),
+            (Maybe(seq_number_in(self.seq_number)), ()),
+        );
         let row: (
             Field<0xa0, Seconds>,
             (
                 Field<0xa1, Microseconds>,
-                (MaybeRef<0xa2, RawKey>, (MaybeRef<0xa3, u32>, ())),
+                (MaybeRef<0xa2, RawKey>, (Maybe<0xa3, SeqNumber>, ())),
             ),
         ) = (Field(self.ctime), (Field(self.cusec), rest));
         write_application(&row, 0x7b, out)

@@ -6,7 +6,10 @@ ghost use Rattle.krb_der.specs.Kind.{Kind, ValueOf};
 ghost use Rattle.krb_der.specs.Fault.{IsFault};
 ghost use Rattle.krb_der.specs.Spells.{Spells, IsMessage};
 ghost use Rattle.krb_der.specs.Size.{size_of};
+ghost use Rattle.krb_der.specs.Writing.{Writes};
+ghost use Rattle.krb_der.specs.Numbers.{SpellsNegative};
 ghost use Rattle.krb_msg.specs.Fields.{bytes_of, cipher_of, reply_enc_part, reply_subkey};
+ghost use Rattle.krb_msg.specs.Numbers.{HasHighNumber};
 ghost use Rattle.krb_msg.specs.Module.{IsMessageKind, ap_req, ap_rep, enc_ap_rep_part, encryption_key};
 
 /// A spelling of a message has one value.
@@ -17,10 +20,17 @@ pub fn one_value()
     krb_der::laws::one_value()
 }
 
-/// A value has at most one spelling. So it is the one that `encode` writes.
+/// A value has at most one spelling without a negative sequence number, which is the one that `encode` writes, and at most one with
+/// a negative sequence number, and that only if its sequence number is above 2,147,483,647. It has no other.
 pub fn one_spelling()
-    ensures { (k : Kind) → IsMessageKind k → (v : ValueOf k) (a b : List ℕ)
-        → Spells k v a → Spells k v b → a ≡ b }
+    ensures written { (k : Kind) → IsMessageKind k → (v : ValueOf k) (a b : List ℕ)
+        → Writes k v a → Writes k v b → a ≡ b }
+    ensures negative { (k : Kind) → IsMessageKind k → (v : ValueOf k) (a b : List ℕ)
+        → SpellsNegative k v a → SpellsNegative k v b → a ≡ b }
+    ensures high { (k : Kind) → IsMessageKind k → (v : ValueOf k) (bytes : List ℕ)
+        → SpellsNegative k v bytes → HasHighNumber k v }
+    ensures either { (k : Kind) → IsMessageKind k → (v : ValueOf k) (bytes : List ℕ)
+        → Spells k v bytes → Writes k v bytes ⊎ SpellsNegative k v bytes }
 {
     krb_der::laws::one_spelling()
 }

@@ -6,7 +6,8 @@
 //! fault and its offset. It takes no memory.
 //!
 //! An owned message, as [`Ticket`], holds copies: `to_owned` of a view makes one of the same value, and `encode` writes a spelling
-//! of that value. [`laws`] says that a value has at most one spelling, and a spelling one value.
+//! of that value. [`laws`] says that a spelling has one value, and a value one spelling, but for sequence numbers above
+//! 2,147,483,647: those are read also as the negative numbers of the same 32 bits, as some senders write them. `encode` never does.
 //!
 //! ```rust
 //! let request = ApReqRef::parse(bytes)?;
@@ -42,6 +43,7 @@ mod moment;
 mod name;
 mod reply;
 mod request;
+mod seq_number;
 mod texts;
 mod ticket;
 mod typed;

@@ -31,6 +31,10 @@ needed_number id greatest = record (needed_option id) { parser = Some (Unsigned 
 abbrev pub free_option : Text → Rule
 free_option id = record (new_rule id) { long = Some id }
 
+-- one that may be left out, with a whole number from 0 to some greatest one
+abbrev pub free_number : Text → ℕ → Rule
+free_number id greatest = record (free_option id) { parser = Some (Unsigned 0 greatest) }
+
 -- an option without a value
 abbrev pub flag : Text → Rule
 flag id = record (new_rule id) { long = Some id; action = Some SetTrue }
@@ -53,15 +57,18 @@ request_moment = with_rule (with_rule request_operands (needed_number (codes "ti
 abbrev pub request : App
 request = with_rule (with_rule request_moment (needed_option (codes "confounder"))) (flag (codes "mutual"))
 
--- accept KEYTAB [--skew SECONDS] [--service NAME] [--only NAME]
+-- accept KEYTAB [--skew SECONDS] [--started SECONDS] [--service NAME] [--only NAME]
 abbrev pub accept_operands : App
 accept_operands = with_rule (new_app (codes "accept")) (operand (codes "KEYTAB"))
 
 abbrev pub accept_with_skew : App
 accept_with_skew = with_rule accept_operands (number_option (codes "skew") 86_400 (codes "300"))
 
+abbrev pub accept_with_times : App
+accept_with_times = with_rule accept_with_skew (free_number (codes "started") 253_402_300_799)
+
 abbrev pub accept : App
-accept = with_rule (with_rule accept_with_skew (free_option (codes "service"))) (free_option (codes "only"))
+accept = with_rule (with_rule accept_with_times (free_option (codes "service"))) (free_option (codes "only"))
 
 -- an app with two more subcommands
 abbrev pub with_two : App → App → App → App
@@ -117,6 +124,7 @@ HasOption rows id value = first_of id rows ≡ option_map (λ s. s.now) value
 pub record AsksAcceptance (rows : List Row) (words : AcceptWords) : Type 0 where
   pub keytab : HasOperand rows (codes "KEYTAB") words.keytab.now
   pub skew : HasOperand rows (codes "skew") words.skew.now
+  pub started : HasOption rows (codes "started") words.started
   pub service : HasOption rows (codes "service") words.service
   pub only : HasOption rows (codes "only") words.only
 

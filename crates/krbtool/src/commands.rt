@@ -3,7 +3,7 @@
 ghost use Rattle.std.specs.Prelude.{◌≡◌, false, IfOk, codes};
 ghost use Rattle.clap.specs.Words.{app_of, rule_of};
 ghost use Rattle.clap.specs.declared.builder.command.Command.TheViews.{out-Command};
-ghost use Rattle.krbtool.specs.CommandLine.{krbtool, accept, accept_operands, bare, flag, free_option, needed_number, needed_option, number_option, operand, request, request_operands, request_moment, with_two, with_lists, with_checks, with_conversions, of_file, of_file_and_out};
+ghost use Rattle.krbtool.specs.CommandLine.{krbtool, accept, accept_operands, accept_with_times, bare, flag, free_number, free_option, needed_number, needed_option, number_option, operand, request, request_operands, request_moment, with_two, with_lists, with_checks, with_conversions, of_file, of_file_and_out};
 
 use clap::builder::ValueParser;
 use clap::{Arg, ArgAction, Command};
@@ -77,7 +77,7 @@ const CONVERT_KEYTAB: Help<'static> = Help {
 };
 
 const CONVERT_CCACHE: Help<'static> = Help {
-    about: "Writes a credential cache anew",
+    about: "Writes a credential cache again, as one of version 0x0504",
     file: CCACHE,
     end: of_faulty_file!("It prints 'wrote COUNT', of bytes."),
 };
@@ -138,6 +138,14 @@ fn number_arg<'a>(
         .value_parser(ValueParser::unsigned(0, greatest))
         .default_value(default)
         .help(help)
+}
+
+// An option with a whole number up to some greatest one, which may be left out.
+fn free_number_arg<'a>(alloc: Global, name: &'a str, greatest: u64, help: &'a str) -> Arg<'a>
+    ensures rule { rule_of result ≡ free_number name.entry.now greatest }
+    ensures local { result.global ≡ false }
+{
+    free_arg(alloc, name, help).value_parser(ValueParser::unsigned(0, greatest))
 }
 
 // An option with a whole number up to some greatest one, which has to be there.
@@ -227,8 +235,9 @@ fn free_arg<'a>(alloc: Global, name: &'a str, help: &'a str) -> Arg<'a>
     Arg::new(alloc, name).long(name).help(help)
 }
 
-fn accept_command<'a>(alloc: Global) -> Result<Command<'a>, AllocError>
-    ensures app { IfOk result (λ c. app_of c ≡ accept) }
+// And with its times.
+fn accept_with_times<'a>(alloc: Global) -> Result<Command<'a>, AllocError>
+    ensures app { IfOk result (λ c. app_of c ≡ accept_with_times) }
     ensures local { IfOk result (λ c. (out-Command c).has_globals ≡ false) }
 {
     let skew = number_arg(
@@ -238,6 +247,19 @@ fn accept_command<'a>(alloc: Global) -> Result<Command<'a>, AllocError>
         "300",
         "By how many seconds clocks may differ: 0 to 86400",
     );
+    let started = free_number_arg(
+        alloc,
+        "started",
+        253_402_300_799,
+        "The service was started again at this second since 1970-01-01 and has forgotten what it accepted: until the skew has passed, requests are refused as JustStarted",
+    );
+    accept_with_operand(alloc)?.arg(skew)?.arg(started)
+}
+
+fn accept_command<'a>(alloc: Global) -> Result<Command<'a>, AllocError>
+    ensures app { IfOk result (λ c. app_of c ≡ accept) }
+    ensures local { IfOk result (λ c. (out-Command c).has_globals ≡ false) }
+{
     let service = free_arg(
         alloc,
         "service",
@@ -248,10 +270,7 @@ fn accept_command<'a>(alloc: Global) -> Result<Command<'a>, AllocError>
         "only",
         "The one name for which requests are accepted; those for other names of the keytab are refused as NotUs",
     );
-    accept_with_operand(alloc)?
-        .arg(skew)?
-        .arg(service)?
-        .arg(only)
+    accept_with_times(alloc)?.arg(service)?.arg(only)
 }
 
 // The command with two more subcommands.

@@ -90,15 +90,15 @@ fn write_keytab<T: Sink>(alloc: Global, keytab: &Keytab, sink: &mut T) -> Result
     Ok(bytes.len())
 }
 
-/// Writes a credential cache anew, and answers how many bytes that took. Nothing of its value is lost, so
-/// these are the bytes that were read.
+/// Writes a credential cache as one of version 0x0504, and returns how many bytes that took. Nothing of
+/// its value is lost; if it was of that version, these are the bytes that were read.
 ///
 /// The whole source is read before a byte is written, so a fault of the content leaves the sink as it
 /// was.
 ///
 /// # Errors
 /// - `Cache`: what was read is no credential cache, or couldn't be read, or there was no room for it or for
-///   what is written.
+///   what is written; `TooLong` also if that would have more than 16,777,216 bytes.
 /// - `Write`: the sink failed; it took a beginning of the bytes.
 ///
 /// Condition: fewer than 18,446,744,073,709,551,615 reads and writes have failed so far.

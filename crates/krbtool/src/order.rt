@@ -37,7 +37,7 @@ pub enum Order<'a> {
     },
     /// `request FILE SERVICE --time S --usec U --confounder H [--mutual]`: a request in hexadecimal.
     Request(RequestWords<'a>),
-    /// `accept KEYTAB [--skew SECONDS] [--service NAME] [--only NAME]`: the lines of standard input answered by a service.
+    /// `accept KEYTAB [--skew SECONDS] [--started SECONDS] [--service NAME] [--only NAME]`: the lines of standard input answered by a service.
     Accept(AcceptWords<'a>),
 }
 
@@ -48,6 +48,8 @@ pub struct AcceptWords<'a> {
     pub keytab: &'a str,
     /// By how many seconds clocks may differ, in decimal: 0 to 86400.
     pub skew: &'a str,
+    /// When the service was started again, if it had an earlier life: seconds since 1970-01-01, in decimal: 0 to 253402300799.
+    pub started: Option<&'a str>,
     /// The name that errors carry, if they are asked for.
     pub service: Option<&'a str>,
     /// The one name for which requests are accepted; of any name of the keytab if absent.

@@ -8,6 +8,7 @@ use crate::request::read_service;
 use crate::run::{complain, complain_of, source_of};
 use krb_ap::Acceptor;
 use krb_keytab::Keytab;
+use krb_msg::Moment;
 use krb_name::{Principal, ReadSource, TextFault, WriteSink};
 use krb_replay::{Skew, TimedMemory};
 use std::alloc::Global;
@@ -16,12 +17,22 @@ use std::io;
 use std::io::{Input, Read};
 use std::rt::Files;
 
+// By how much clocks may differ, and when the service was started again.
+#[derive(Clone, Copy)]
+struct Times {
+    skew: Skew,
+    start: Option<Moment>,
+}
+
 /// Answers the lines of standard input by the keytab, and answers the exit status.
 pub(crate) fn run_accept<R: AllocGlobal + Files + Input + Print + Eprint>(
     rt: &R,
     words: AcceptWords<'_>,
 ) -> u8 {
     let Some(skew) = skew_of(words.skew) else {
+        return WRONG_WORDS;
+    };
+    let Some(start) = start_of(words.started) else {
         return WRONG_WORDS;
     };
     let service = match service_of(rt.alloc(), words.service) {
@@ -32,7 +43,8 @@ pub(crate) fn run_accept<R: AllocGlobal + Files + Input + Print + Eprint>(
         Ok(only) => only,
         Err(fault) => return complain(rt, name_line("only", &fault), service_status(&fault)),
     };
-    match accepted(rt, words.keytab, only.as_ref(), skew, service.as_ref()) {
+    let times = Times { skew, start };
+    match accepted(rt, words.keytab, only.as_ref(), times, service.as_ref()) {
         Some(Ok(status)) => status,
         Some(Err(fault)) => complain_of(rt, &fault, words.keytab, "accept"),
         None => complain(rt, file_line(words.keytab), FAILED),
@@ -44,12 +56,12 @@ fn accepted<R: AllocGlobal + Files + Input + Print>(
     rt: &R,
     path: &str,
     only: Option<&Principal>,
-    skew: Skew,
+    times: Times,
     service: Option<&Principal>,
 ) -> Option<Result<u8, EngineFault>> {
     let opened = File::open(rt, path).ok()?;
     Some(match read_keytab(rt.alloc(), opened, only) {
-        Ok(keytab) => answered(rt, keytab, skew, service),
+        Ok(keytab) => answered(rt, keytab, times, service),
         Err(fault) => Err(fault),
     })
 }
@@ -73,6 +85,14 @@ fn skew_of(seconds: &str) -> Option<Skew> {
     Skew::new(seconds.parse::<u32>().ok()?)
 }
 
+// Likewise.
+fn start_of(seconds: Option<&str>) -> Option<Option<Moment>> {
+    match seconds {
+        Some(seconds) => Some(Some(Moment::new(seconds.parse::<i64>().ok()?, 0)?)),
+        None => Some(None),
+    }
+}
+
 fn service_of(alloc: Global, text: Option<&str>) -> Result<Option<Principal>, TextFault> {
     match text {
         Some(text) => Ok(Some(read_service(alloc, text)?)),
@@ -84,10 +104,14 @@ fn service_of(alloc: Global, text: Option<&str>) -> Result<Option<Principal>, Te
 fn answered<R: AllocGlobal + Input + Print>(
     rt: &R,
     keytab: Keytab,
-    skew: Skew,
+    times: Times,
     service: Option<&Principal>,
 ) -> Result<u8, EngineFault> {
-    let mut acceptor = Acceptor::new(keytab, skew, TimedMemory::new(rt.alloc()));
+    let memory = TimedMemory::new(rt.alloc());
+    let mut acceptor = match times.start {
+        Some(start) => Acceptor::started(keytab, times.skew, memory, start),
+        None => Acceptor::new(keytab, times.skew, memory),
+    };
     let mut source = ReadSource::new(rt.reader());
     let mut sink = WriteSink::new(io::writer(rt));
     accept_lines(rt.alloc(), &mut acceptor, &mut source, &mut sink, service)

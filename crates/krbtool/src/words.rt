@@ -28,18 +28,20 @@ fn files_of<'a>(matches: &ArgMatches<'a>) -> Option<(&'a str, &'a str)>
     Some((file, out))
 }
 
-// The values of KEYTAB, and of skew, service and only.
+// The values of KEYTAB, and of skew, started, service and only.
 #[tactic(auto, using(crate::proofs::Getters::getters))]
 fn acceptance_of<'a>(matches: &ArgMatches<'a>) -> Option<AcceptWords<'a>>
     ensures { IfSome result (λ words. AsksAcceptance (rows_of (found_of matches.now)) words) }
 {
     let keytab = matches.get_str("KEYTAB")?;
     let skew = matches.get_str("skew")?;
+    let started = matches.get_str("started");
     let service = matches.get_str("service");
     let only = matches.get_str("only");
     Some(AcceptWords {
         keytab,
         skew,
+        started,
         service,
         only,
     })

@@ -1,11 +1,15 @@
 -- What is read of the parts of a cache, and the place behind it; nothing, where they don't stand there.
 use Rattle.std.specs.Prelude.{ℕ, ◌==◌, ◌&&◌, not, Bool, true, false, ℤ, List, length, Option, Some, None, if◌then◌else◌}
 use Rattle.std.specs.Int.{w8, w16, w32}
-use Rattle.krb_name.specs.Cursor.{Place, ◌>>=◌, number_at, signed_at, data_at, times_at}
+use Rattle.krb_name.specs.Cursor.{Place, ◌>>=◌, bytes_at, number_at, signed_at, data_at, times_at}
 use Rattle.krb_name.specs.declared.principal.Principal.{Principal}
 use Rattle.krb_ccache.specs.declared.typed.TypedBytes.{TypedBytes}
 use Rattle.krb_ccache.specs.declared.credential.HeaderField.{HeaderField}
 use Rattle.krb_ccache.specs.declared.credential.Credential.{Credential}
+use Rattle.krb_ccache.specs.declared.layout.Layout.{Layout}
+use Rattle.krb_ccache.specs.declared.layout.Layout.TheVariants.{Version3, Version4}
+use Rattle.krb_ccache.specs.Spelling.{keyed_bytes}
+use Rattle.krb_ccache.specs.Format.{second_size, Spelled}
 
 -- ---- ways to join readings
 
@@ -35,6 +39,15 @@ counted_at read place = do
   times_at read count.0 count.1
 
 -- ---- the parts
+
+abbrev pub layout_of : ℕ → Option Layout
+layout_of number = if number == 0x0503 then Some Version3 else (if number == 0x0504 then Some Version4 else None)
+
+unfoldable pub layout_at : Place → Option (Layout × Place)
+layout_at place = do
+  number ← number_at w16 place
+  layout ← layout_of number.0
+  Some (layout, number.1)
 
 abbrev pub field_of : ℕ × List ℕ → HeaderField
 field_of parts = record { tag = parts.0; value = parts.1 }
@@ -72,13 +85,13 @@ typed_at place = made_at typed_of (both_at (number_at w16) (data_at w32)) place
 unfoldable pub list_at : Place → Option (List TypedBytes × Place)
 list_at place = counted_at typed_at place
 
--- a credential's fields in their order
+-- a credential's fields in their order, and the bytes that come after its encryption type
 abbrev pub Parts : Type 0
 Parts =
-    Principal × (Principal × (ℤ × (List ℕ × (ℕ × (ℕ × (ℕ × (ℕ × (Bool × (ℕ × (List TypedBytes × (List TypedBytes × (List ℕ × List ℕ))))))))))))
+    Principal × (Principal × (ℤ × (List ℕ × (List ℕ × (ℕ × (ℕ × (ℕ × (ℕ × (Bool × (ℕ × (List TypedBytes × (List TypedBytes × (List ℕ × List ℕ)))))))))))))
 
 abbrev pub credential_of : Parts → Credential
-credential_of (client, (server, (etype, (key, (authtime, (starttime, (endtime, (renew_till, (is_skey, (ticket_flags, (addresses, (authdata, (ticket, second_ticket))))))))))))) = record {
+credential_of (client, (server, (etype, (second, (key, (authtime, (starttime, (endtime, (renew_till, (is_skey, (ticket_flags, (addresses, (authdata, (ticket, second_ticket)))))))))))))) = record {
   client = client;
   server = server;
   etype = etype;
@@ -95,11 +108,15 @@ credential_of (client, (server, (etype, (key, (authtime, (starttime, (endtime, (
   second_ticket = second_ticket;
 }
 
-abbrev pub parts_at : Place → Option (Parts × Place)
-parts_at =
+abbrev pub spelled_of : Parts → Spelled
+spelled_of parts = record { bytes = keyed_bytes (credential_of parts) parts.1.1.1.0; credential = credential_of parts }
+
+abbrev pub parts_at : Layout → Place → Option (Parts × Place)
+parts_at layout =
     both_at name_at
     (both_at name_at
     (both_at (signed_at w16)
+    (both_at (bytes_at (second_size layout))
     (both_at (data_at w32)
     (both_at (number_at w32)
     (both_at (number_at w32)
@@ -109,7 +126,11 @@ parts_at =
     (both_at (number_at w32)
     (both_at list_at
     (both_at list_at
-    (both_at (data_at w32) (data_at w32)))))))))))))
+    (both_at (data_at w32) (data_at w32))))))))))))))
 
-unfoldable pub credential_at : Place → Option (Credential × Place)
-credential_at place = made_at credential_of parts_at place
+unfoldable pub credential_at : Layout → Place → Option (Credential × Place)
+credential_at layout place = made_at credential_of (parts_at layout) place
+
+-- the same, with its bytes
+unfoldable pub spelled_at : Layout → Place → Option (Spelled × Place)
+spelled_at layout place = made_at spelled_of (parts_at layout) place

@@ -4,9 +4,10 @@ use Rattle.std.specs.List.{flat_map}
 use Rattle.krb_name.specs.Cursor.{Place}
 use Rattle.krb_name.specs.Field.{Takes}
 use Rattle.krb_ccache.specs.declared.credential.HeaderField.{HeaderField}
-use Rattle.krb_ccache.specs.declared.credential.Credential.{Credential}
-use Rattle.krb_ccache.specs.Spelling.{fields_bytes, credential_bytes}
-use Rattle.krb_ccache.specs.Value.{FitsHeader, FitsCredential}
+use Rattle.krb_ccache.specs.declared.layout.Layout.{Layout}
+use Rattle.krb_ccache.specs.Spelling.{fields_bytes}
+use Rattle.krb_ccache.specs.Value.{FitsHeader}
+use Rattle.krb_ccache.specs.Format.{Spelled, Spells}
 use Rattle.krb_ccache.specs.declared.fault.CacheFault.{CacheFault}
 use Rattle.krb_ccache.specs.declared.fault.CacheFault.TheVariants.{BadItem}
 
@@ -33,15 +34,18 @@ pub record Fills (body : List ℕ) (header : List HeaderField) : Type 0 where
   pub fits : FitsHeader header
   pub whole : body ≡ fields_bytes header
 
+abbrev pub bytes_of : Spelled → List ℕ
+bytes_of one = one.bytes
+
 -- behind whole credentials there are bytes, and no credential at their front
-pub record StopsAt (place : Place) (at : ℕ) : Type 0 where
-  pub credentials : List Credential
+pub record StopsAt (layout : Layout) (place : Place) (at : ℕ) : Type 0 where
+  pub credentials : List Spelled
   pub behind : Place
-  pub reaches : Reaches credential_bytes FitsCredential place credentials behind
+  pub reaches : Reaches bytes_of (Spells layout) place credentials behind
   pub at_is : at ≡ behind.at
   pub more : behind.rest ≢ []
-  pub missing : IsMissing credential_bytes FitsCredential behind.rest
+  pub missing : IsMissing bytes_of (Spells layout) behind.rest
 
-abbrev pub StopsBy : Place → CacheFault → Type 0
-StopsBy place (BadItem at) = StopsAt place at
-StopsBy place _ = ⊥
+abbrev pub StopsBy : Layout → Place → CacheFault → Type 0
+StopsBy layout place (BadItem at) = StopsAt layout place at
+StopsBy layout place _ = ⊥

@@ -3,8 +3,8 @@ use Rattle.std.specs.Prelude.{◌≡◌, ◌≢◌, ◌⊎◌, ℕ, ◌+◌, ◌
 use Rattle.std.specs.Io.KnownBytes.{Consumes, IsAtEnd}
 use Rattle.krb_name.specs.Window.{AtHand, Skips}
 use Rattle.krb_ccache.specs.declared.credential.Credential.{Credential}
-use Rattle.krb_ccache.specs.Spelling.{credential_bytes}
-use Rattle.krb_ccache.specs.Value.{FitsCredential}
+use Rattle.krb_ccache.specs.declared.layout.Layout.{Layout}
+use Rattle.krb_ccache.specs.Format.{Spelled, Spells}
 use Rattle.krb_name.specs.File.{file_limit}
 use Rattle.krb_ccache.specs.declared.fault.CacheFault.{CacheFault}
 use Rattle.krb_ccache.specs.declared.fault.CacheFault.TheVariants.{BadItem, TooLong, Read, OutOfMemory}
@@ -12,6 +12,7 @@ use Rattle.krb_ccache.specs.declared.item_fault.ItemFault.{ItemFault}
 use Rattle.krb_ccache.specs.declared.item_fault.ItemFault.TheVariants as item
 use Rattle.krb_ccache.specs.declared.walking.Stop.{Stop}
 use Rattle.krb_ccache.specs.declared.walking.Stop.TheVariants as stop
+use Rattle.krb_ccache.specs.Inner.Standing.{bytes_of}
 
 abbrev pub item_stop : ItemFault → Stop
 item_stop item.Missing = stop.Long
@@ -79,13 +80,21 @@ pub record Misses {X S : Type 0} (spelled : X → List ℕ) (InRange : X → Typ
   pub lacks : told ≢ Read → told ≢ OutOfMemory → Lacks spelled InRange left old new
   pub tells : told ≢ OutOfMemory → Tells left new fault told
 
+-- these bytes, that spell this credential
+abbrev pub spelled_as : List ℕ → Credential → Spelled
+spelled_as bytes credential = record { bytes = bytes; credential = credential }
+
+-- no credential came
+abbrev pub MissesOne : {S : Type 0} → Layout → (S → Option (List ℕ)) → AtHand S → AtHand S → CacheFault → Type 0
+MissesOne layout left old new told = Misses bytes_of (Spells layout) left old new (BadItem old.given) told
+
 -- a credential came; or there is none more; or none stands there
-abbrev pub IsStep : {S : Type 0} → (S → Option (List ℕ)) → AtHand S → AtHand S → Result (Option Credential) CacheFault → Type 0
-IsStep left old new (Ok (Some credential)) = Comes credential_bytes FitsCredential left old new credential
-IsStep left old new (Ok None) = Misses credential_bytes FitsCredential left old new (BadItem old.given) (BadItem old.given) × (new.given ≡ old.given)
-IsStep left old new (Err fault) = Misses credential_bytes FitsCredential left old new (BadItem old.given) fault × (fault ≡ BadItem old.given → new.given ≢ old.given)
+abbrev pub IsStep : {S : Type 0} → Layout → (S → Option (List ℕ)) → AtHand S → AtHand S → Result (Option Credential) CacheFault → Type 0
+IsStep layout left old new (Ok (Some credential)) = (bytes : List ℕ) × Comes bytes_of (Spells layout) left old new (spelled_as bytes credential)
+IsStep layout left old new (Ok None) = MissesOne layout left old new (BadItem old.given) × (new.given ≡ old.given)
+IsStep layout left old new (Err fault) = MissesOne layout left old new fault × (fault ≡ BadItem old.given → new.given ≢ old.given)
 
 -- the credential of an answer is spelled at the front of the bytes at hand
-abbrev pub IsAtHand : List ℕ → Result (Option Credential) CacheFault → Type 0
-IsAtHand bytes (Ok (Some credential)) = Stands credential_bytes FitsCredential bytes credential
-IsAtHand bytes _ = Unit {0}
+abbrev pub IsAtHand : Layout → List ℕ → Result (Option Credential) CacheFault → Type 0
+IsAtHand layout bytes (Ok (Some credential)) = (front : List ℕ) × Stands bytes_of (Spells layout) bytes (spelled_as front credential)
+IsAtHand layout bytes _ = Unit {0}

@@ -8,7 +8,9 @@ use Rattle.krb_name.specs.declared.reading.ReadFault.{ReadFault}
 use Rattle.krb_name.specs.declared.reading.ReadFault.TheVariants as source
 use Rattle.krb_name.specs.Cursor.{number_bytes, signed_bytes, data_bytes}
 use Rattle.krb_ccache.specs.declared.credential.Credential.{Credential}
+use Rattle.krb_ccache.specs.declared.layout.Layout.{Layout}
 use Rattle.krb_ccache.specs.Spelling.{list_bytes, marked_bytes}
+use Rattle.krb_ccache.specs.Format.{second_size}
 use Rattle.krb_ccache.specs.Value.{FitsCredential}
 use Rattle.krb_name.specs.File.{file_limit}
 use Rattle.krb_ccache.specs.declared.walking.Stop.{Stop}
@@ -70,31 +72,37 @@ stopped_reads (Err stop) = stop_reads stop
 abbrev pub last_number : Width → List ℕ → List ℕ → ℕ
 last_number w before now = from_be_bytes w (drop (length before) now)
 
--- ---- a credential from one of its fields on, with any byte for `is_skey`
+-- ---- a credential from one of its fields on, with any bytes after its encryption type and any byte for `is_skey`
 
-abbrev pub Marked : Type 0
-Marked = Credential × ℕ
+pub record Marked : Type 0 where
+  pub credential : Credential
+  pub second : List ℕ
+  pub mark : ℕ
 
 abbrev pub FitsMarked : Marked → Type 0
-FitsMarked marked = FitsCredential marked.0
+FitsMarked marked = FitsCredential marked.credential
+
+-- with as many bytes after its encryption type as the layout has
+abbrev pub FitsKeyed : Layout → Marked → Type 0
+FitsKeyed layout marked = FitsMarked marked × (length marked.second ≡ second_size layout)
 
 abbrev pub whole : Marked → List ℕ
-whole marked = marked_bytes marked.0 (number_bytes w8 marked.1)
+whole marked = marked_bytes marked.credential marked.second (number_bytes w8 marked.mark)
 
 abbrev pub from_ticket : Marked → List ℕ
-from_ticket marked = data_bytes w32 marked.0.ticket ++ data_bytes w32 marked.0.second_ticket
+from_ticket marked = data_bytes w32 marked.credential.ticket ++ data_bytes w32 marked.credential.second_ticket
 
 abbrev pub from_times : Marked → List ℕ
 from_times marked =
-    number_bytes w32 marked.0.authtime
-    ++ (number_bytes w32 marked.0.starttime
-    ++ (number_bytes w32 marked.0.endtime
-    ++ (number_bytes w32 marked.0.renew_till
-    ++ (number_bytes w8 marked.1
-    ++ (number_bytes w32 marked.0.ticket_flags
-    ++ (list_bytes marked.0.addresses
-    ++ (list_bytes marked.0.authdata
+    number_bytes w32 marked.credential.authtime
+    ++ (number_bytes w32 marked.credential.starttime
+    ++ (number_bytes w32 marked.credential.endtime
+    ++ (number_bytes w32 marked.credential.renew_till
+    ++ (number_bytes w8 marked.mark
+    ++ (number_bytes w32 marked.credential.ticket_flags
+    ++ (list_bytes marked.credential.addresses
+    ++ (list_bytes marked.credential.authdata
     ++ from_ticket marked)))))))
 
 abbrev pub from_key : Marked → List ℕ
-from_key marked = signed_bytes w16 marked.0.etype ++ (data_bytes w32 marked.0.key ++ from_times marked)
+from_key marked = signed_bytes w16 marked.credential.etype ++ (marked.second ++ (data_bytes w32 marked.credential.key ++ from_times marked))

@@ -3,13 +3,13 @@ use Rattle.std.specs.Prelude.{ℕ, zero, suc, ◌+◌, ◌-◌, ◌^◌, Bool, n
 use Rattle.krb_der.specs.declared.fault.Fault.{Fault}
 use Rattle.krb_der.specs.declared.fault.FaultKind.{FaultKind}
 use Rattle.krb_der.specs.declared.fault.FaultKind.TheVariants.{Truncated, Tag, Length, Trailing, TooLong}
-use Rattle.krb_der.specs.Kind.{Content, int32, uint32, microseconds, constant, octets, string, flags, time, Kind, leaf, wrapped, sequence, Fields, ends, must, may, each, tag_of, content_tag, ContentValue, ValueOf, FieldsOf}
+use Rattle.krb_der.specs.Kind.{Content, int32, uint32, seq_number, microseconds, constant, octets, string, flags, time, Kind, leaf, wrapped, sequence, Fields, ends, must, may, each, tag_of, content_tag, ContentValue, ValueOf, FieldsOf}
 use Rattle.krb_der.specs.Content.{number}
 use Rattle.krb_der.specs.Place.{Place, begin_at, end_of, begins}
 use Rattle.krb_der.specs.Fault.{content_fault}
 use Rattle.krb_der.specs.Spells.{limit}
 use Rattle.krb_der.specs.Computed.Steps.{◌>>=◌, ◌>>?◌}
-use Rattle.krb_der.specs.Computed.Whole.{are_bytes, whole_of, natural_below, int32_within, constant_at, flags_of}
+use Rattle.krb_der.specs.Computed.Whole.{are_bytes, whole_of, natural_below, int32_within, seq_number_within, constant_at, flags_of}
 use Rattle.krb_der.specs.Computed.Clock.{time_of}
 
 abbrev pub fault_at : {A : Type 0} → FaultKind → ℕ → Result A Fault
@@ -69,6 +69,7 @@ may_enter tag p = if begins tag p.rest then (enter_at tag p >>= λ e. Ok (Some e
 abbrev pub content_of : (c : Content) → List ℕ → Option (ContentValue c)
 content_of int32 content = whole_of content >>? int32_within
 content_of uint32 content = whole_of content >>? natural_below (2 ^ 32)
+content_of seq_number content = whole_of content >>? seq_number_within
 content_of microseconds content = whole_of content >>? natural_below 1_000_000
 content_of (constant n) content = whole_of content >>? constant_at n
 content_of octets content = Some content

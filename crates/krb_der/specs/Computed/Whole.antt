@@ -1,5 +1,5 @@
 -- Whole numbers and flags, read.
-use Rattle.std.specs.Prelude.{ℕ, ◌^◌, ℤ, pos, negsuc, ◌-ℤ◌, Bool, true, false, ◌&&◌, ◌||◌, not, ◌==◌, nat_lt, nat_le, if◌then◌else◌, List, [], ◌∷◌, length, Option, Some, None}
+use Rattle.std.specs.Prelude.{ℕ, ◌+◌, ◌-◌, ◌^◌, ℤ, pos, negsuc, ◌-ℤ◌, Bool, true, false, ◌&&◌, ◌||◌, not, ◌==◌, nat_lt, nat_le, if◌then◌else◌, List, [], ◌∷◌, length, Option, Some, None}
 use Rattle.krb_der.specs.Content.{number}
 use Rattle.krb_der.specs.Computed.Steps.{◌>>?◌, only_if}
 
@@ -36,6 +36,11 @@ natural_below bound (negsuc m) = None
 abbrev pub int32_within : ℤ → Option ℤ
 int32_within (pos n) = only_if (nat_lt n (2 ^ 31)) (pos n)
 int32_within (negsuc m) = only_if (nat_lt m (2 ^ 31)) (negsuc m)
+
+-- a negative number is the one above 2147483647 of the same 32 bits
+abbrev pub seq_number_within : ℤ → Option ℕ
+seq_number_within (pos n) = only_if (nat_lt n (2 ^ 32)) n
+seq_number_within (negsuc m) = only_if (nat_lt m (2 ^ 31)) (2 ^ 32 - (m + 1))
 
 abbrev pub constant_at : ℕ → ℤ → Option (Unit {0})
 constant_at wanted (pos n) = only_if ((n == wanted) && nat_lt wanted (2 ^ 32)) tt

@@ -33,3 +33,19 @@ returns-clause-request c = record {
   built = c.in-Ok-build.ensures.built;
   awaited_is = copied_awaited c.in_ok-credential.credential.now c.args.at c.args.options _ _ c.in_ok-clone.ensures.cases c.session_key-key.ensures;
 }
+
+pub returns-in-Err-build-clause-memory : goal.returns-in-Err-build-clause-memory
+returns-in-Err-build-clause-memory c = λ memory. record {
+  credential = c.in_ok-credential.credential.now;
+  used = c.in_ok-credential.ensures.used;
+  ticket = ticket_of c.in-Ok.ticket;
+  ticket_is = subst (λ (b : List ℕ). IsMessage ticket_kind (ticket_of c.in-Ok.ticket) b) c.as_slice.ensures c.in-Ok.ensures.found;
+}
+
+pub returns-in_err-clone-clause-memory : goal.returns-in_err-clone-clause-memory
+returns-in_err-clone-clause-memory c = λ memory. record {
+  credential = c.in_ok-credential.credential.now;
+  used = c.in_ok-credential.ensures.used;
+  ticket = ticket_of c.in-Ok.ticket;
+  ticket_is = subst (λ (b : List ℕ). IsMessage ticket_kind (ticket_of c.in-Ok.ticket) b) c.as_slice.ensures c.in-Ok.ensures.found;
+}

@@ -1,4 +1,4 @@
-use Rattle.std.proofs.Common.{List, inr}
+use Rattle.std.proofs.Common.{List, inr, refl}
 use Rattle.std.specs.Prelude.{Ok, Err}
 use Rattle.krb_keytab.specs.Entry.{KeytabEntry}
 use Rattle.krb_keytab.specs.declared.fault.KeytabFault.{KeytabFault}
@@ -20,8 +20,8 @@ returns-in-Err-wanted-clause-fault c = λ fault low faulty.
     absurd (no_fault (List KeytabEntry) KeytabFault OutOfMemory keytab_answer c.in-Ok.keytab fault (c.in-Ok.ensures.only (Err fault) faulty))
 
 pub returns-in-Ok-new-clause-made : goal.returns-in-Ok-new-clause-made
-returns-in-Ok-new-clause-made c = λ entries low keytab. is_fresh c.new-acceptor.result c.args.service.now entries c.in-Ok.keytab c.in-Ok-wanted.keytab c.in-Some.skew _ c.new-2.result _
-    c.new-acceptor.ensures.setup c.new-acceptor.ensures.memory c.new-2.ensures.value
+returns-in-Ok-new-clause-made c = λ entries low keytab. is_fresh c.acceptor_of.result c.args.service.now entries c.in-Ok.keytab c.in-Ok-wanted.keytab c.in-Some.skew _ c.args.start _ _
+    c.acceptor_of.ensures.setup refl c.acceptor_of.ensures.memory
     (same_value (List KeytabEntry) KeytabFault OutOfMemory keytab_answer c.in-Ok.keytab entries (c.in-Ok.ensures.only (Ok entries) keytab)) c.in-Some.ensures.1
     c.in-Ok-wanted.ensures.wanted c.in-Ok-new.ensures.ok
 

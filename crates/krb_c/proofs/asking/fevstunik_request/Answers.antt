@@ -1,15 +1,18 @@
-use Rattle.std.proofs.Common.{inl, inr, refl, subst, List, ℕ}
-use Rattle.krb_c.specs.Answer.{Hands}
+use Rattle.std.proofs.Common.{◌≡◌, subst, sym}
+use Rattle.std.specs.Prelude.{Option}
+use Rattle.std.specs.Option.{MatchOption}
+use Rattle.krb_ccache.specs.Value.{Cache}
+use Rattle.krb_c.specs.Answer.{plain}
+use Rattle.krb_c.specs.Asking.{Sends, ask}
+use Rattle.krb_c.specs.Codes.{empty_handle}
 use Rattle.krb_c.proofs.asking.fevstunik_request.Goals as goal
 
-pub returns-in-Ok : goal.returns-in-Ok
-returns-in-Ok c = inl (
-  c.in-Ok.bytes.items,
-  (
-    (c.in-Ok.field-0-1, c.in-Ok.ensures.asks),
-    subst (λ (bytes : List ℕ). Hands bytes c.args.buffer.now c.hand_over.new.buffer c.hand_over.result) c.as_slice.ensures.value c.hand_over.ensures,
-  ),
-)
-
-pub returns : goal.returns
-returns c = inr (c.in-Err.ensures.fault, refl)
+pub returns-in-Some-clause-sent : goal.returns-in-Some-clause-sent
+returns-in-Some-clause-sent c = subst (λ (value : Option Cache). MatchOption value
+    ((c.send-answer.result ≡ plain empty_handle) × ((c.send-answer.new.pending.value ≡ c.args.pending.now.value) × (c.send-answer.new.buffer ≡ c.args.buffer.now)))
+    (λ held. Sends (ask held c.args.service.now c.args.at.now c.args.choice.now c.args.subkey.now) c.args.confounder.now c.args.pending.now.value
+    c.send-answer.new.pending.value c.args.buffer.now c.send-answer.new.buffer c.send-answer.result))
+    (sym c.in-Some.ensures.held)
+    (subst (λ (cache : Cache). Sends (ask cache c.args.service.now c.args.at.now c.args.choice.now c.args.subkey.now) c.args.confounder.now c.args.pending.now.value
+    c.send-answer.new.pending.value c.args.buffer.now c.send-answer.new.buffer c.send-answer.result)
+    c.deref.ensures c.send-answer.ensures)

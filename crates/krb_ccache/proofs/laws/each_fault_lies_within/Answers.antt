@@ -1,5 +1,5 @@
-use Rattle.krb_ccache.proofs.LayoutLaws.{lies_within}
+use Rattle.krb_ccache.proofs.FileLaws.{fault_within}
 use Rattle.krb_ccache.proofs.laws.each_fault_lies_within.Goals as goal
 
 pub returns : goal.returns
-returns c = lies_within
+returns c = fault_within

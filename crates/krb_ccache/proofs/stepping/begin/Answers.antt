@@ -1,54 +1,61 @@
 use Rattle.std.proofs.lemmas.Result.{err_from_is_err_and}
-use Rattle.krb_ccache.specs.Spelling.{header_bytes, name_bytes}
-use Rattle.krb_ccache.specs.Value.{FitsHeader, FitsName}
-use Rattle.krb_ccache.specs.Format.{version_of, version_4}
+use Rattle.krb_ccache.specs.Spelling.{name_bytes}
+use Rattle.krb_ccache.specs.Value.{FitsName}
+use Rattle.krb_ccache.specs.Format.{version_of, head_bytes, FitsHead}
 use Rattle.krb_ccache.specs.declared.fault.CacheFault.TheVariants.{Header, BadItem}
 use Rattle.krb_ccache.specs.Inner.Stepping.{Any}
 use Rattle.krb_ccache.proofs.SourceLaws.{tail_then}
 use Rattle.krb_ccache.proofs.StepLaws.{comes_tail, misses_tail}
-use Rattle.krb_ccache.proofs.ReaderLaws.{version_fault, header_fault, name_fault, begun}
+use Rattle.krb_ccache.proofs.ReaderLaws.{version_fault, header_fault, name_fault, begun, begun_peak}
+use Rattle.krb_ccache.proofs.LayoutLaws.{head_fits}
 use Rattle.krb_ccache.proofs.stepping.begin.Goals as goal
 
-pub returns-in_err-step_version-clause-fault : goal.returns-in_err-step_version-clause-fault
-returns-in_err-step_version-clause-fault g c =
+pub returns-in_err-layout-clause-fault : goal.returns-in_err-layout-clause-fault
+returns-in_err-layout-clause-fault g c =
     let p = err_from_is_err_and c.from_residual.result c.from_residual.ensures.1 in
-    rw (p.1, p.2) (version_fault g.S.Source.remaining c.args.window.now c.step_version.new.window c.in_err-step_version.field-0.0 c.requires.start c.in_err-step_version.ensures.misses)
+    rw (p.1, p.2) (version_fault g.S.Source.remaining c.args.window.now c.step_version.new.window c.in_err-layout.field-0.0 c.requires.start c.in_err-layout.ensures.misses)
 
 pub returns-in_err-header-clause-fault : goal.returns-in_err-header-clause-fault
 returns-in_err-header-clause-fault g c =
     let p = err_from_is_err_and c.from_residual-in_err-header.result c.from_residual-in_err-header.ensures.1 in
-    rw (p.1, p.2) (header_fault g.S.Source.remaining c.args.window.now c.step_version.new.window c.step_header.new.window c.in_err-header.field-0.0 c.requires.start c.in_ok-step_version.ensures.comes c.in_err-header.ensures.misses)
+    rw (p.1, p.2) (header_fault g.S.Source.remaining c.in_ok-layout.layout c.args.window.now c.step_version.new.window c.step_head.new.window c.in_err-header.field-0.0 c.requires.start c.in_ok-layout.ensures.comes c.in_err-header.ensures.misses)
 
 pub returns-in_err-name-clause-fault : goal.returns-in_err-name-clause-fault
 returns-in_err-name-clause-fault g c =
     let p = err_from_is_err_and c.from_residual-in_err-name.result c.from_residual-in_err-name.ensures.1 in
-    rw (p.1, p.2) (name_fault g.S.Source.remaining c.args.window.now c.step_version.new.window c.step_header.new.window c.step_name.new.window c.in_ok-header.header.items c.in_err-name.field-0.0 c.requires.start c.in_ok-step_version.ensures.comes c.in_ok-header.ensures.comes c.in_err-name.ensures.misses)
+    rw (p.1, p.2) (name_fault g.S.Source.remaining c.in_ok-layout.layout c.args.window.now c.step_version.new.window c.step_head.new.window c.step_name.new.window c.in_ok-header.header.items c.in_err-name.field-0.0 c.requires.start c.in_ok-layout.ensures.comes c.in_ok-header.ensures.comes c.in_err-name.ensures.misses)
 
 pub returns-clause-taken : goal.returns-clause-taken
-returns-clause-taken g c = begun g.S.Source.remaining c.args.window.now c.step_version.new.window c.step_header.new.window c.step_name.new.window c.in_ok-header.header.items c.in_ok-name.name c.requires.start c.in_ok-step_version.ensures.comes c.in_ok-header.ensures.comes c.in_ok-name.ensures.comes
+returns-clause-taken g c = begun g.S.Source.remaining c.in_ok-layout.layout c.args.window.now c.step_version.new.window c.step_head.new.window c.step_name.new.window c.in_ok-header.header.items c.in_ok-name.name c.requires.start c.in_ok-layout.ensures.comes c.in_ok-header.ensures.comes c.in_ok-name.ensures.comes
 
 pub returns-in_err-header-clause-tail : goal.returns-in_err-header-clause-tail
 returns-in_err-header-clause-tail g c =
     let left = g.S.Source.remaining in
     let old = c.args.window.now in
     let first = c.step_version.new.window in
-    let new = c.step_header.new.window in
-    tail_then (left old.source) (left first.source) (left new.source) (comes_tail version_of Any left old first version_4 c.in_ok-step_version.ensures.comes)
-    (misses_tail header_bytes FitsHeader left first new Header c.in_err-header.field-0.0 c.in_err-header.ensures.misses)
+    let new = c.step_head.new.window in
+    tail_then (left old.source) (left first.source) (left new.source) (comes_tail version_of Any left old first c.in_ok-layout.layout c.in_ok-layout.ensures.comes)
+    (misses_tail (head_bytes c.in_ok-layout.layout) (FitsHead c.in_ok-layout.layout) left first new Header c.in_err-header.field-0.0 c.in_err-header.ensures.misses)
 
 pub returns-in_err-name-clause-tail : goal.returns-in_err-name-clause-tail
 returns-in_err-name-clause-tail g c =
     let left = g.S.Source.remaining in
     let old = c.args.window.now in
     let first = c.step_version.new.window in
-    let middle = c.step_header.new.window in
+    let middle = c.step_head.new.window in
     let new = c.step_name.new.window in
-    tail_then (left old.source) (left first.source) (left new.source) (comes_tail version_of Any left old first version_4 c.in_ok-step_version.ensures.comes)
-    (tail_then (left first.source) (left middle.source) (left new.source) (comes_tail header_bytes FitsHeader left first middle c.in_ok-header.header.items c.in_ok-header.ensures.comes)
+    tail_then (left old.source) (left first.source) (left new.source) (comes_tail version_of Any left old first c.in_ok-layout.layout c.in_ok-layout.ensures.comes)
+    (tail_then (left first.source) (left middle.source) (left new.source) (comes_tail (head_bytes c.in_ok-layout.layout) (FitsHead c.in_ok-layout.layout) left first middle c.in_ok-header.header.items c.in_ok-header.ensures.comes)
     (misses_tail name_bytes FitsName left middle new (BadItem middle.given) c.in_err-name.field-0.0 c.in_err-name.ensures.misses))
 
 pub returns-clause-tail : goal.returns-clause-tail
 returns-clause-tail g c =
     let left = g.S.Source.remaining in
-    let begun = begun left c.args.window.now c.step_version.new.window c.step_header.new.window c.step_name.new.window c.in_ok-header.header.items c.in_ok-name.name c.requires.start c.in_ok-step_version.ensures.comes c.in_ok-header.ensures.comes c.in_ok-name.ensures.comes in
+    let begun = begun left c.in_ok-layout.layout c.args.window.now c.step_version.new.window c.step_head.new.window c.step_name.new.window c.in_ok-header.header.items c.in_ok-name.name c.requires.start c.in_ok-layout.ensures.comes c.in_ok-header.ensures.comes c.in_ok-name.ensures.comes in
     (begun.bytes, begun.taken)
+
+pub returns-clause-peak : goal.returns-clause-peak
+returns-clause-peak g c = begun_peak g.S.Source.remaining c.in_ok-layout.layout c.args.window.now c.step_version.new.window c.step_head.new.window c.step_name.new.window c.in_ok-header.header.items c.in_ok-name.name c.in_ok-layout.ensures.comes c.in_ok-header.ensures.comes c.in_ok-name.ensures.comes
+
+pub returns-clause-fits : goal.returns-clause-fits
+returns-clause-fits g c = (head_fits c.in_ok-layout.layout c.in_ok-header.header.items c.in_ok-header.ensures.comes.fits, c.in_ok-name.ensures.comes.fits)

@@ -1,13 +1,17 @@
-use Rattle.std.proofs.Common.{refl, ap, length, arith}
+use Rattle.std.proofs.Common.{refl, subst}
 use Rattle.krb_ccache.specs.declared.walking.Stop.TheVariants as stop
-use Rattle.krb_name.specs.Window.{AtHand}
 use Rattle.krb_ccache.specs.Format.{version_of}
+use Rattle.krb_ccache.specs.Inner.Standing.{IsMissing}
 use Rattle.krb_ccache.specs.Inner.Stepping.{Any}
 use Rattle.krb_ccache.specs.declared.item_fault.ItemFault.TheVariants as item
-use Rattle.krb_ccache.proofs.StepLaws.{not_read, version_walks, not_version}
+use Rattle.krb_ccache.proofs.StepLaws.{came, not_read, version_walks}
 use Rattle.krb_ccache.proofs.stepping.come_version.Goals as goal
 
-pub returns-else-eq-clause-halts : goal.returns-else-eq-clause-halts
-returns-else-eq-clause-halts g c =
+pub returns-in-Ok-clause-comes : goal.returns-in-Ok-clause-comes
+returns-in-Ok-clause-comes g c =
+    came version_of Any g.S.Source.remaining c.args.window.now c.clear.new.self c.take.new.window c.bytes.result.now c.in-Ok.layout (version_walks g.S.Source.remaining c.clear.new.self c.take.new.window c.in_ok-take.ensures.walk) c.clear.ensures c.bytes.ensures c.in-Ok.ensures.read
+
+pub returns-in-Err-clause-halts : goal.returns-in-Err-clause-halts
+returns-in-Err-clause-halts g c =
     not_read version_of Any g.S.Source.remaining c.args.window.now c.clear.new.self c.take.new.window item.Missing stop.Long (version_walks g.S.Source.remaining c.clear.new.self c.take.new.window c.in_ok-take.ensures.walk) c.clear.ensures refl
-    (λ m. not_version c.take.new.window.bytes (omega (arith, c.in_ok-take.ensures.count, ap (λ (w : AtHand g.row.S.Denot). length w.bytes) c.clear.ensures)) (λ e. let same = rw (c.bytes.ensures, e) at c.if-eq.ensures in absurd cc))
+    (λ m. subst (IsMissing version_of Any) c.bytes.ensures c.in-Err.ensures.missing)

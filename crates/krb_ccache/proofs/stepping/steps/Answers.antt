@@ -5,7 +5,7 @@ use Rattle.std.proofs.lemmas.List.Elements.{All-push}
 use Rattle.krb_ccache.specs.declared.credential.Credential.{Credential}
 use Rattle.krb_ccache.specs.Reader.{HasTaken}
 use Rattle.krb_ccache.specs.Value.{cache_of, FitsCredential}
-use Rattle.krb_ccache.specs.Inner.Stepping.{IsStep}
+use Rattle.krb_ccache.specs.Inner.Stepping.{spelled_as, IsStep}
 use Rattle.krb_ccache.proofs.StepLaws.{step_tail}
 use Rattle.krb_ccache.proofs.ReaderLaws.{item_taken, end_taken, item_fault}
 use Rattle.krb_ccache.proofs.stepping.steps.Goals as goal
@@ -14,27 +14,27 @@ pub returns-in_err-credential-clause-fault : goal.returns-in_err-credential-clau
 returns-in_err-credential-clause-fault g c =
     let p = err_from_is_err_and c.from_residual.result c.from_residual.ensures.1 in
     rw (p.1, p.2) (λ memory read from header name start.
-    item_fault g.S.Source.remaining from c.loop-credentials.window c.step.new.window (cache_of header name c.loop-credentials.credentials.items) c.in_err-credential.field-0.0 (c.loop-credentials.invariant.taken from header name start)
+    item_fault g.S.Source.remaining c.args.layout from c.loop-credentials.window c.step.new.window (cache_of header name c.loop-credentials.credentials.items) c.in_err-credential.field-0.0 (c.loop-credentials.invariant.taken from header name start)
     c.in_err-credential.ensures.step.0 c.in_err-credential.ensures.step.1 memory read)
 
 pub loop-credentials-preserved : goal.loop-credentials-preserved
 loop-credentials-preserved g c =
-    let comes = subst (λ (next : Option Credential). IsStep g.S.Source.remaining c.loop-credentials.window c.step.new.window (Ok next)) c.in-Some.is c.in_ok-credential.ensures.step in
+    let comes = subst (λ (next : Option Credential). IsStep c.args.layout g.S.Source.remaining c.loop-credentials.window c.step.new.window (Ok next)) c.in-Some.is c.in_ok-credential.ensures.step in
     record {
-      within = comes.within;
+      within = comes.1.within;
       failures = omega (arith, c.in_ok-credential.ensures.failed, c.loop-credentials.invariant.failures);
-      fits = subst (All FitsCredential) (sym c.in_ok-push.ensures.items) (All-push FitsCredential c.loop-credentials.credentials.items c.in-Some.credential c.loop-credentials.invariant.fits comes.fits);
+      fits = subst (All FitsCredential) (sym c.in_ok-push.ensures.items) (All-push FitsCredential c.loop-credentials.credentials.items c.in-Some.credential c.loop-credentials.invariant.fits comes.1.fits.fits);
       lent = c.in_ok-credential.ensures.lent ∙ c.loop-credentials.invariant.lent;
-      tail = step_tail g.S.Source.remaining c.loop-credentials.window c.step.new.window (g.S.Source.remaining c.args.window.now.source) (Ok (Some c.in-Some.credential)) c.loop-credentials.invariant.tail comes;
+      tail = step_tail c.args.layout g.S.Source.remaining c.loop-credentials.window c.step.new.window (g.S.Source.remaining c.args.window.now.source) (Ok (Some c.in-Some.credential)) c.loop-credentials.invariant.tail comes;
       taken = λ from header name start.
-          subst (λ (credentials : List Credential). HasTaken from (g.S.Source.remaining c.step.new.window.source) c.step.new.window.given (cache_of header name credentials)) (sym c.in_ok-push.ensures.items)
-          (item_taken g.S.Source.remaining from c.loop-credentials.window c.step.new.window (cache_of header name c.loop-credentials.credentials.items) c.in-Some.credential (c.loop-credentials.invariant.taken from header name start) comes);
+          subst (λ (credentials : List Credential). HasTaken c.args.layout from (g.S.Source.remaining c.step.new.window.source) c.step.new.window.given (cache_of header name credentials)) (sym c.in_ok-push.ensures.items)
+          (item_taken g.S.Source.remaining c.args.layout from c.loop-credentials.window c.step.new.window (cache_of header name c.loop-credentials.credentials.items) (spelled_as comes.0 c.in-Some.credential) (c.loop-credentials.invariant.taken from header name start) comes.1);
     }
 
 pub returns-clause-end : goal.returns-clause-end
 returns-clause-end g c = λ from header name start.
-    let ends = subst (λ (next : Option Credential). IsStep g.S.Source.remaining c.loop-credentials.window c.step.new.window (Ok next)) c.in_default.is c.in_ok-credential.ensures.step in
-    end_taken g.S.Source.remaining from c.loop-credentials.window c.step.new.window (cache_of header name c.loop-credentials.credentials.items) (c.loop-credentials.invariant.taken from header name start) ends.0 ends.1
+    let ends = subst (λ (next : Option Credential). IsStep c.args.layout g.S.Source.remaining c.loop-credentials.window c.step.new.window (Ok next)) c.in_default.is c.in_ok-credential.ensures.step in
+    end_taken g.S.Source.remaining c.args.layout from c.loop-credentials.window c.step.new.window (cache_of header name c.loop-credentials.credentials.items) (c.loop-credentials.invariant.taken from header name start) ends.0 ends.1
 
 pub returns-in_err-push-clause-fault : goal.returns-in_err-push-clause-fault
 returns-in_err-push-clause-fault g c =
@@ -43,8 +43,8 @@ returns-in_err-push-clause-fault g c =
 
 pub returns-in_err-credential-clause-tail : goal.returns-in_err-credential-clause-tail
 returns-in_err-credential-clause-tail g c =
-    step_tail g.S.Source.remaining c.loop-credentials.window c.step.new.window (g.S.Source.remaining c.args.window.now.source) (Err c.in_err-credential.field-0.0) c.loop-credentials.invariant.tail c.in_err-credential.ensures.step
+    step_tail c.args.layout g.S.Source.remaining c.loop-credentials.window c.step.new.window (g.S.Source.remaining c.args.window.now.source) (Err c.in_err-credential.field-0.0) c.loop-credentials.invariant.tail c.in_err-credential.ensures.step
 
 pub returns-in_err-push-clause-tail : goal.returns-in_err-push-clause-tail
 returns-in_err-push-clause-tail g c =
-    step_tail g.S.Source.remaining c.loop-credentials.window c.step.new.window (g.S.Source.remaining c.args.window.now.source) (Ok c.in_ok-credential.field-0) c.loop-credentials.invariant.tail c.in_ok-credential.ensures.step
+    step_tail c.args.layout g.S.Source.remaining c.loop-credentials.window c.step.new.window (g.S.Source.remaining c.args.window.now.source) (Ok c.in_ok-credential.field-0) c.loop-credentials.invariant.tail c.in_ok-credential.ensures.step

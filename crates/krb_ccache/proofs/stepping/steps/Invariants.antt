@@ -14,8 +14,8 @@ invariant-loop-credentials g l = record {
   fits : All FitsCredential l.credentials.items;
   lent : g.S.Source.lender l.window.source ≡ g.S.Source.lender l.fn.window.source;
   tail : LeavesTail (g.S.Source.remaining l.fn.window.source) (g.S.Source.remaining l.window.source);
-  taken : (from : Option (List ℕ)) (header : List HeaderField) (name : Principal) → HasTaken from (g.S.Source.remaining l.fn.window.source) l.fn.window.given (cache_of header name [])
-      → HasTaken from (g.S.Source.remaining l.window.source) l.window.given (cache_of header name l.credentials.items);
+  taken : (from : Option (List ℕ)) (header : List HeaderField) (name : Principal) → HasTaken l.layout from (g.S.Source.remaining l.fn.window.source) l.fn.window.given (cache_of header name [])
+      → HasTaken l.layout from (g.S.Source.remaining l.window.source) l.window.given (cache_of header name l.credentials.items);
 }
 
 abbrev pub decreases-loop-credentials : goal.decreases-loop-credentials

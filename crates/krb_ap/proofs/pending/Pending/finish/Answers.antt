@@ -1,14 +1,16 @@
-use Rattle.std.proofs.Common.{ap, sym, subst, ◌∙◌}
+use Rattle.std.proofs.Common.{◌≡◌, Err, ap, sym, subst, ◌∙◌}
 use Rattle.std.specs.Option.{option_map}
 use Rattle.krb_der.specs.Kind.{ValueOf}
 use Rattle.krb_msg.specs.Borrowed.{ap_rep_of, enc_ap_rep_part_of}
 use Rattle.krb_msg.specs.Module.{enc_ap_rep_part}
+use Rattle.krb_msg.specs.Fields.{etype_of, reply_enc_part}
 use Rattle.krb_msg.specs.Owned.{owned_key_of}
 use Rattle.krb_ap.specs.Request.{Awaited}
 use Rattle.krb_ap.specs.Finish.{FinishCause, OpensReply}
 use Rattle.krb_ap.specs.declared.finish_fault.FinishFault.{FinishFault}
+use Rattle.krb_ap.specs.declared.finish_fault.FinishFault.TheVariants.{OutOfMemory}
 use Rattle.krb_ap.proofs.Truth.{is_so, is_not}
-use Rattle.krb_ap.proofs.Finishing.{reply_shut, of_another, opens_reply, opens_to_other, copied_agreement}
+use Rattle.krb_ap.proofs.Finishing.{fault_of, reply_shut, of_another, opens_reply, opens_to_other, copied_agreement}
 use Rattle.krb_ap.proofs.Offsets.{finish_within, shut_within}
 use Rattle.krb_ap.proofs.pending.Pending.finish.Goals as goal
 
@@ -68,3 +70,23 @@ returns-clause-agreed c = record {
 
 pub returns-clause-held : goal.returns-clause-held
 returns-clause-held c = c.both_agree.ensures.each c.args.self.now c.args.reply.now _ (returns-clause-agreed c)
+
+pub returns-in-Err-clause-memory : goal.returns-in-Err-clause-memory
+returns-in-Err-clause-memory c = λ memory.
+    absurd (subst (λ (f : FinishFault). FinishCause c.args.self.now c.args.reply.now f) (fault_of c.in-Err.fault OutOfMemory memory)
+    (c.in-Err.ensures.refused c.args.self.now)).holds
+
+pub returns-in-Err-open_reply-clause-memory : goal.returns-in-Err-open_reply-clause-memory
+returns-in-Err-open_reply-clause-memory c = λ memory. record {
+  reply = ap_rep_of c.in-Ok.message;
+  message = c.in-Ok.ensures.read;
+  same_type = subst (λ (a : Awaited). etype_of (reply_enc_part (ap_rep_of c.in-Ok.message)) ≡ a.key.etype) c.self.view_is
+      (c.in-Err-open_reply.ensures.memory (ap Err (fault_of c.in-Err-open_reply.fault OutOfMemory memory)));
+}
+
+pub returns-in_err-clone-clause-memory : goal.returns-in_err-clone-clause-memory
+returns-in_err-clone-clause-memory c = λ memory. record {
+  reply = ap_rep_of c.in-Ok.message;
+  message = c.in-Ok.ensures.read;
+  same_type = subst (λ (a : Awaited). etype_of (reply_enc_part (ap_rep_of c.in-Ok.message)) ≡ a.key.etype) c.self.view_is c.in-Ok-open_reply.ensures.same_type;
+}

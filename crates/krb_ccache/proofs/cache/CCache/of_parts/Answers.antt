@@ -1,16 +1,27 @@
-use Rattle.std.proofs.Common.{arith}
 use Rattle.std.proofs.lemmas.Result.{err_from_is_err_and}
-use Rattle.krb_ccache.proofs.FileLaws.{begun_fits, header_read, credential_fault}
+use Rattle.krb_ccache.proofs.FileLaws.{header_read, all_read, default_fault, credential_fault}
 use Rattle.krb_ccache.proofs.cache.CCache.of_parts.Goals as goal
 
-pub read_header-requires : goal.read_header-requires
-read_header-requires c = begun_fits c.args.bytes.now c.in_ok-cursor.cursor.rest (λ i. omega (arith, c.type_inv.bytes i)) c.in_ok-cursor.ensures.rest
+pub returns-in_err-default_principal-clause-fault : goal.returns-in_err-default_principal-clause-fault
+returns-in_err-default_principal-clause-fault c =
+    let opened = c.in_ok-layout in
+    let start = header_read opened.layout c.args.bytes.now opened.cursor c.in-Ok.header.items c.read_head.new.cursor (record { limit = opened.ensures.limit; at = opened.ensures.at; rest = opened.ensures.rest }) c.in-Ok.ensures.read in
+    let p = err_from_is_err_and c.from_residual-in_err-default_principal.result c.from_residual-in_err-default_principal.ensures.1 in
+    rw (p.1, p.2) (λ other. default_fault opened.layout c.args.bytes.now c.in-Ok.header.items c.read_head.new.cursor c.in_err-default_principal.field-0.0 start (c.in_err-default_principal.ensures.missing other))
 
 pub returns-in_err-credentials-clause-fault : goal.returns-in_err-credentials-clause-fault
 returns-in_err-credentials-clause-fault c =
+    let opened = c.in_ok-layout in
+    let start = header_read opened.layout c.args.bytes.now opened.cursor c.in-Ok.header.items c.read_head.new.cursor (record { limit = opened.ensures.limit; at = opened.ensures.at; rest = opened.ensures.rest }) c.in-Ok.ensures.read in
     let p = err_from_is_err_and c.from_residual-in_err-credentials.result c.from_residual-in_err-credentials.ensures.1 in
-    let start = header_read c.args.bytes.now c.in_ok-cursor.cursor c.in-Ok.header.items c.read_header.new.cursor (record { limit = c.in_ok-cursor.ensures.limit; at = c.in_ok-cursor.ensures.at; rest = c.in_ok-cursor.ensures.rest })
-    c.in-Ok.ensures.read in
     rw (p.1, p.2) (λ other.
-    credential_fault c.args.bytes.now c.in-Ok.header.items c.read_header.new.cursor c.in_ok-default_principal.default_principal c.read_default.new.cursor c.in_err-credentials.field-0.0 start c.in_ok-default_principal.ensures.read
+    credential_fault opened.layout c.args.bytes.now c.in-Ok.header.items c.read_head.new.cursor c.in_ok-default_principal.default_principal c.read_default.new.cursor c.in_err-credentials.field-0.0 start c.in_ok-default_principal.ensures.read
     (c.in_err-credentials.ensures.missing other))
+
+pub returns-clause-found : goal.returns-clause-found
+returns-clause-found c =
+    let opened = c.in_ok-layout in
+    let start = header_read opened.layout c.args.bytes.now opened.cursor c.in-Ok.header.items c.read_head.new.cursor (record { limit = opened.ensures.limit; at = opened.ensures.at; rest = opened.ensures.rest }) c.in-Ok.ensures.read in
+    let so_far = c.in_ok-credentials.ensures.read in
+    all_read opened.layout c.args.bytes.now c.in-Ok.header.items c.read_head.new.cursor c.in_ok-default_principal.default_principal c.read_default.new.cursor c.in_ok-credentials.credentials.items c.read_credentials.new.cursor start
+    c.in_ok-default_principal.ensures.read (record { spelled = so_far.0; reaches = so_far.1; are = so_far.2 }) c.in_ok-credentials.ensures.end

@@ -6,31 +6,31 @@ use Rattle.krb_ccache.proofs.reader.CredentialReader.pass.Goals as goal
 pub returns-clause-item : goal.returns-clause-item
 returns-clause-item g c = λ going there.
     let step = c.step_past-answer.ensures.step in
-    rw (← c.self.view_is) (passed_one g.S.Source.remaining _ _ c.self.inside.window c.step_past-answer.new.window step.0 c.step_past-answer.result step.2 step.1 there refl refl refl refl refl refl c.ended_by-self-inside.ensures)
+    rw (← c.self.view_is) (passed_one g.S.Source.remaining c.self.inside.layout _ _ c.self.inside.window c.step_past-answer.new.window step.0 c.step_past-answer.result step.2 step.1 there refl refl refl refl refl refl refl refl c.ended_by-self-inside.ensures)
 
 pub returns-clause-end : goal.returns-clause-end
 returns-clause-end g c = λ from cache h end.
     let step = c.step_past-answer.ensures.step in
-    next_end g.S.Source.remaining from c.self.inside.window c.step_past-answer.new.window cache step.0 step.2 (subst (λ (reader : Reading g.row.S.Denot). HasRead g.S.Source.remaining from reader cache) (sym c.self.view_is) h).taken
-    (passed_end g.S.Source.remaining step.0 c.step_past-answer.result step.1 end)
+    next_end g.S.Source.remaining c.self.inside.layout from c.self.inside.window c.step_past-answer.new.window cache step.0 step.2 (subst (λ (reader : Reading g.row.S.Denot). HasRead g.S.Source.remaining from reader cache) (sym c.self.view_is) h).taken
+    (passed_end g.S.Source.remaining c.self.inside.layout step.0 c.step_past-answer.result step.1 end)
 
 pub returns-clause-stays : goal.returns-clause-stays
 returns-clause-stays g c = λ going end.
     let step = c.step_past-answer.ensures.step in
-    rw (← c.self.view_is) (stays g.S.Source.remaining _ _ c.self.inside.window c.step_past-answer.new.window step.0 step.2 (passed_end g.S.Source.remaining step.0 c.step_past-answer.result step.1 end) refl refl refl refl refl)
+    rw (← c.self.view_is) (stays g.S.Source.remaining c.self.inside.layout _ _ c.self.inside.window c.step_past-answer.new.window step.0 step.2 (passed_end g.S.Source.remaining c.self.inside.layout step.0 c.step_past-answer.result step.1 end) refl refl refl refl refl)
 
 pub returns-clause-fault : goal.returns-clause-fault
 returns-clause-fault g c = λ from cache h.
     let step = c.step_past-answer.ensures.step in
-    passed_err g.S.Source.remaining step.0 c.step_past-answer.result _ step.1
-    (next_fault g.S.Source.remaining from c.self.inside.window c.step_past-answer.new.window cache step.0 step.2 (subst (λ (reader : Reading g.row.S.Denot). HasRead g.S.Source.remaining from reader cache) (sym c.self.view_is) h).taken)
+    passed_err g.S.Source.remaining c.self.inside.layout step.0 c.step_past-answer.result _ step.1
+    (next_fault g.S.Source.remaining c.self.inside.layout from c.self.inside.window c.step_past-answer.new.window cache step.0 step.2 (subst (λ (reader : Reading g.row.S.Denot). HasRead g.S.Source.remaining from reader cache) (sym c.self.view_is) h).taken)
 
 pub returns-clause-stops : goal.returns-clause-stops
 returns-clause-stops g c = λ from cache h.
     let step = c.step_past-answer.ensures.step in
     let started = subst (λ (reader : Reading g.row.S.Denot). HasRead g.S.Source.remaining from reader cache) (sym c.self.view_is) h in
-    passed_err g.S.Source.remaining step.0 c.step_past-answer.result _ step.1
-    (next_stops g.S.Source.remaining from c.self.inside.window c.step_past-answer.new.window cache step.0 step.2 started.taken (c.self.invariant.2 started.going))
+    passed_err g.S.Source.remaining c.self.inside.layout step.0 c.step_past-answer.result _ step.1
+    (next_stops g.S.Source.remaining c.self.inside.layout from c.self.inside.window c.step_past-answer.new.window cache step.0 step.2 started.taken (c.self.invariant.2 started.going))
 
 pub returns-clause-part : goal.returns-clause-part
-returns-clause-part g c = λ going. rw (← c.self.view_is) (on_err g.S.Source.remaining c.step_past-answer.result _ c.step_past-answer.ensures.part)
+returns-clause-part g c = λ going. rw (← c.self.view_is) (on_err g.S.Source.remaining c.self.inside.layout c.step_past-answer.result _ c.step_past-answer.ensures.part)

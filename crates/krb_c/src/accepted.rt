@@ -1,0 +1,129 @@
+//! A request that was accepted: a handle of its own, which one call of the service fills.
+
+ghost use Rattle.std.specs.Prelude.{◌≡◌, ◌⊎◌, None, Some};
+ghost use Rattle.std.specs.Option.{MatchOption};
+ghost use Rattle.krb_c.specs.Accepting.{nothing_kept};
+ghost use Rattle.krb_c.specs.Choice.{TellsReply};
+ghost use Rattle.krb_c.specs.Items.{Counts, TellsItem};
+ghost use Rattle.krb_c.specs.Known.{TellsKnown};
+ghost use Rattle.krb_c.specs.Answer.{plain};
+ghost use Rattle.krb_c.specs.Codes.{empty_handle, ok, out_of_memory};
+
+use crate::answer::Answer;
+use crate::choice::Choice;
+use crate::code;
+use crate::items::{count, hand_item};
+use crate::kept::Kept;
+use crate::known::Known;
+use crate::slot::Slot;
+use std::alloc::Global;
+
+/// Makes a handle in which `fevstunik_acceptor_accept` keeps what it accepts. Nothing is kept in it yet. What the handle held is freed; if
+/// memory runs out, it stays.
+#[unsafe(no_mangle)]
+pub extern "C" fn fevstunik_accepted_new(accepted: &mut Slot, alloc: Global) -> Answer
+    ensures { ((result ≡ plain ok) × (accepted.new.value ≡ Some nothing_kept)) ⊎ ((result ≡ plain out_of_memory) × (accepted.new.value ≡ accepted.old.value)) }
+{
+    match Box::new(alloc, Kept { accepted: None }) {
+        Ok(kept) => {
+            *accepted = Slot::of(kept);
+            Answer::plain(code::OK)
+        }
+        Err(_) => Answer::plain(code::OUT_OF_MEMORY),
+    }
+}
+
+/// Hands out what was accepted: in the buffer the client's text, the session key, the client's subkey and the text of the service that was
+/// asked for, and in `known` where they stand, and the numbers. The places are handed out also if the buffer is too short.
+#[unsafe(no_mangle)]
+pub extern "C" fn fevstunik_accepted_known(
+    accepted: &mut Slot,
+    alloc: Global,
+    known: &mut Known,
+    buffer: &mut [u8],
+) -> Answer
+    ensures told { MatchOption accepted.old.value ((result ≡ plain empty_handle) × ((known.new ≡ known.old) × (buffer.new ≡ buffer.old)))
+        (λ kept. TellsKnown kept.accepted known.old known.new buffer.old buffer.new result) }
+    ensures stays { accepted.new.value ≡ accepted.old.value }
+{
+    match accepted.take(alloc) {
+        Some(kept) => {
+            let answer = kept.tell(alloc, known, buffer);
+            *accepted = Slot::of(kept);
+            answer
+        }
+        None => Answer::plain(code::EMPTY_HANDLE),
+    }
+}
+
+/// Counts the items of a list of what was accepted: 1 its addresses, 2 the ticket's authorization data, 3 the authenticator's, 4 its checksum.
+#[unsafe(no_mangle)]
+pub extern "C" fn fevstunik_accepted_count(accepted: &mut Slot, alloc: Global, list: u32) -> Answer
+    ensures count { MatchOption accepted.old.value (result ≡ plain empty_handle) (λ kept. Counts kept.accepted list result) }
+    ensures stays { accepted.new.value ≡ accepted.old.value }
+{
+    match accepted.take(alloc) {
+        Some(kept) => {
+            let answer = count(&kept.accepted, list);
+            *accepted = Slot::of(kept);
+            answer
+        }
+        None => Answer::plain(code::EMPTY_HANDLE),
+    }
+}
+
+/// Hands out the item of an index, counted from 0, of a list of what was accepted: its type in `kind`, and its bytes in the buffer.
+#[unsafe(no_mangle)]
+pub extern "C" fn fevstunik_accepted_item(
+    accepted: &mut Slot,
+    alloc: Global,
+    list: u32,
+    index: usize,
+    kind: &mut i32,
+    buffer: &mut [u8],
+) -> Answer
+    ensures item { MatchOption accepted.old.value ((result ≡ plain empty_handle) × ((kind.new ≡ kind.old) × (buffer.new ≡ buffer.old)))
+        (λ kept. TellsItem kept.accepted list index kind.old kind.new buffer.old buffer.new result) }
+    ensures stays { accepted.new.value ≡ accepted.old.value }
+{
+    match accepted.take(alloc) {
+        Some(kept) => {
+            let answer = hand_item(&kept.accepted, list, index, kind, buffer);
+            *accepted = Slot::of(kept);
+            answer
+        }
+        None => Answer::plain(code::EMPTY_HANDLE),
+    }
+}
+
+/// Builds the reply to what was accepted. The confounder is 16 random bytes, new for each call.
+#[unsafe(no_mangle)]
+pub extern "C" fn fevstunik_accepted_reply(
+    accepted: &mut Slot,
+    alloc: Global,
+    confounder: &[u8],
+    choice: &Choice,
+    subkey: &[u8],
+    buffer: &mut [u8],
+) -> Answer
+    ensures reply { MatchOption accepted.old.value ((result ≡ plain empty_handle) × (buffer.new ≡ buffer.old))
+        (λ kept. TellsReply kept.accepted confounder.now choice.now subkey.now buffer.old buffer.new result) }
+    ensures stays { accepted.new.value ≡ accepted.old.value }
+{
+    match accepted.take(alloc) {
+        Some(kept) => {
+            let answer = kept.reply(alloc, confounder, choice, subkey, buffer);
+            *accepted = Slot::of(kept);
+            answer
+        }
+        None => Answer::plain(code::EMPTY_HANDLE),
+    }
+}
+
+/// Frees what the handle holds, which is empty then.
+#[unsafe(no_mangle)]
+pub extern "C" fn fevstunik_accepted_free(accepted: &mut Slot, alloc: Global)
+    ensures { accepted.new.value ≡ None }
+{
+    *accepted = Slot::empty(alloc);
+}
