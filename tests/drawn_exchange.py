@@ -25,7 +25,7 @@ FIXTURE = Made()
 # What is answered to requests, and to what a client asks for and is sent.
 SERVICE_ANSWERS = [
     "MessageType", "Malformed", "UserToUser", "TicketEtype", "NotUs", "NoKey", "BadKeyVersion", "TicketIntegrity", "SessionKey",
-    "AuthenticatorIntegrity", "BadMatch", "Skew", "Repeat", "NotYetValid", "Expired", "Transited", "Authorization", "accepted",
+    "AuthenticatorIntegrity", "BadMatch", "Skew", "JustStarted", "Repeat", "NotYetValid", "Expired", "Transited", "Authorization", "accepted",
 ]
 CLIENT_ANSWERS = ["NoCredential", "NoUsableKey", "Expired", "BadTicket", "MessageType", "Malformed", "Integrity", "Mismatch", "agreed"]
 MICROS = 1_000_000
@@ -66,8 +66,8 @@ def accepted(request, part, shown):
 class Told:
     """A second service, and what it says."""
 
-    def __init__(self, seals, file, skew):
-        self.service, self.taken = model.Service(seals, file, skew), None
+    def __init__(self, seals, file, skew, started=None):
+        self.service, self.taken = model.Service(seals, file, skew, started), None
 
     def answer(self, data, now):
         try:
@@ -114,8 +114,10 @@ def some_calls(draw, seals, told, sent):
 def conversation(draw):
     """Lines and answers of a service; the lists are of both memories where these differ."""
     seals, file, skew = model.Seals(), exchange.keytab(draw), draw.choice([300, 300, 300, 0, 1, 86_400])
-    told, sent = Told(seals, file, skew), []
-    lines, answers = [[f"service {it} {skew} {file.hex()}" for it in MEMORIES]], ["service"]
+    started = draw.choice([None, None, BASE - skew - 1, BASE - skew, BASE])
+    told, sent = Told(seals, file, skew, started), []
+    start = "" if started is None else f" {started} 0"
+    lines, answers = [[f"service {it} {skew} {file.hex()}{start}" for it in MEMORIES]], ["service"]
     for _ in range(LINES):
         calls = list(some_calls(draw, seals, told, sent))
         said = [told.answer(data, now) for data, now in calls]
@@ -183,7 +185,7 @@ def some_reply(draw, seals, asked):
     credential, moment = asked
     etype, key = credential["etype"], credential["key"]
     moment = exchange.often(draw, moment, moment + 1, moment - 1, moment + MICROS)
-    choice = draw.choice([some_choice(draw), (f"{draw.choice([18, -1])}/{draw.randbytes(5).hex()}", 9)])
+    choice = draw.choice([some_choice(draw), (f"{draw.choice([18, -1])}/{draw.randbytes(5).hex()}", draw.choice([9, -1, -(2**31), -(2**31) - 1]))])
     plain = exchange_made.reply_part(Replied(seconds=moment // MICROS, micros=moment % MICROS, subkey=choice[0], number=choice[1]))
     usage = exchange.often(draw, model.REPLY_USAGE, model.AUTHENTICATOR_USAGE, model.TICKET_USAGE)
     cipher = seals.seal(etype, key, usage, draw.randbytes(16), exchange.bent(draw, plain))

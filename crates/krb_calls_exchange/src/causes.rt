@@ -11,7 +11,7 @@ const CUT: Fault = Fault {
     at: 7,
 };
 
-static CAUSES: [Refusal; 18] = [
+static CAUSES: [Refusal; 19] = [
     Refusal::MessageType,
     Refusal::Malformed(CUT),
     Refusal::UserToUser,
@@ -24,6 +24,7 @@ static CAUSES: [Refusal; 18] = [
     Refusal::AuthenticatorIntegrity,
     Refusal::BadMatch,
     Refusal::Skew,
+    Refusal::JustStarted,
     Refusal::Repeat,
     Refusal::NotYetValid,
     Refusal::Expired,

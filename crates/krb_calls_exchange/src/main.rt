@@ -8,8 +8,8 @@
 //! A MESSAGE is BYTES, or `made:INDEX`, a request that was made, counted from 0 on, or `replied`, the last reply.
 //!
 //! ```text
-//! service list|timed SKEW BYTES         a service over this keytab, with a new memory: `service`, the keytab's fault, or `none` where
-//!                                       there is no such skew
+//! service list|timed SKEW BYTES [TIME]  a service over this keytab, with a new memory, which was started again at that time: `service`,
+//!                                       the keytab's fault, or `none` where there is no such skew
 //! accept TIME MESSAGE                   what it answers to a request: `refused CAUSE [FAULT]`, or `accepted CLIENT SERVICE KEY FLAGS
 //!                                       AUTHTIME ENDTIME ADDRESSES AUTHORIZATION CTIME CUSEC SUBKEY NUMBER CHECKSUM AUTHORIZATION
 //!                                       mutual|plain`, first of the ticket's data, then of the authenticator's

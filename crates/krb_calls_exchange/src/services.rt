@@ -56,29 +56,64 @@ fn start(served: &mut Served, words: &mut Words, out: &mut Answer) -> Option<()>
     let kind = words.next()?;
     let skew = Skew::new(words.number()?);
     let file = words.bytes()?;
+    let start = start_of(words)?;
     let Some(skew) = skew else {
         return out.word("none");
     };
     match Keytab::parse(words.alloc, &file) {
         Ok(keytab) => {
-            served.service = Some(new_service(words.alloc, kind, keytab, skew)?);
+            served.service = Some(new_service(words.alloc, kind, keytab, skew, start)?);
             out.word("service")
         }
         Err(fault) => out.named(fault),
     }
 }
 
-fn new_service(alloc: Global, kind: &str, keytab: Keytab, skew: Skew) -> Option<Service> {
+// When the service was started again, if the line says so.
+fn start_of(words: &mut Words) -> Option<Option<Moment>> {
+    if words.is_at_end() {
+        return Some(None);
+    }
+    Some(Some(words.moment()?))
+}
+
+fn new_service(
+    alloc: Global,
+    kind: &str,
+    keytab: Keytab,
+    skew: Skew,
+    start: Option<Moment>,
+) -> Option<Service> {
     match kind {
-        "list" => {
-            let memory = ListMemory::new(alloc);
-            Some(Service::List(Acceptor::new(keytab, skew, memory)))
-        }
-        "timed" => {
-            let memory = TimedMemory::new(alloc);
-            Some(Service::Timed(Acceptor::new(keytab, skew, memory)))
-        }
+        "list" => Some(Service::List(with_list(alloc, keytab, skew, start))),
+        "timed" => Some(Service::Timed(with_timed(alloc, keytab, skew, start))),
         _ => None,
+    }
+}
+
+fn with_list(
+    alloc: Global,
+    keytab: Keytab,
+    skew: Skew,
+    start: Option<Moment>,
+) -> Acceptor<ListMemory> {
+    let memory = ListMemory::new(alloc);
+    match start {
+        Some(start) => Acceptor::started(keytab, skew, memory, start),
+        None => Acceptor::new(keytab, skew, memory),
+    }
+}
+
+fn with_timed(
+    alloc: Global,
+    keytab: Keytab,
+    skew: Skew,
+    start: Option<Moment>,
+) -> Acceptor<TimedMemory> {
+    let memory = TimedMemory::new(alloc);
+    match start {
+        Some(start) => Acceptor::started(keytab, skew, memory, start),
+        None => Acceptor::new(keytab, skew, memory),
     }
 }
 
