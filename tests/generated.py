@@ -1,10 +1,11 @@
-"""Cases that are made and not stored: each beginning of a file, each file with one byte changed, files at the limit, and each way of
-closing the standard streams.
+"""Cases that are made and not stored: each beginning of a file, each file with one byte changed, files at the limit, each way of closing
+the standard streams, and a service that was started long ago.
 
 What is expected comes from tests/reference.py. A case is made when it is asked for.
 """
 import struct
 import sys
+import tomllib
 from itertools import combinations
 from pathlib import Path
 
@@ -190,7 +191,17 @@ def request_cases():
         yield {"name": f"request: {name}", "args": words, "files": {"f": fixture.cache(ticket)}, **wanted}
 
 
+def started_cases():
+    """The stored cases of `accept` again, for a service that was started so long ago that it answers as one without an earlier life."""
+    with open(TOP / "tests/cases/accept.toml", "rb") as file:
+        for case in tomllib.load(file)["case"]:
+            words = case["args"]
+            if case.get("status") != 2 and "--help" not in words:
+                yield {**case, "name": f"{case['name']}, started long ago", "args": [words[0], "--started=0", *words[1:]]}
+
+
 def cases():
+    yield from started_cases()
     yield from keytab_cases()
     yield from cache_cases()
     yield from request_cases()
