@@ -517,8 +517,9 @@ fevstunik_answer fevstunik_acceptor_new(fevstunik_acceptor *handle, const uint8_
  * later than the start by more than the skew. No request that was accepted before is accepted again, if no time that was handed
  * in before is later than `start`, and the skew is no smaller than it was.
  *
- * FEVSTUNIK_BAD_MOMENT if `start` isn't a moment of the years 0000 to 9999, and the handle is as before; else as
- * fevstunik_acceptor_new.
+ * The first that holds: FEVSTUNIK_BAD_MOMENT if `start` isn't one of the years 0000 to 9999; FEVSTUNIK_BAD_SKEW; FEVSTUNIK_TOO_LONG,
+ * _FILE_VERSION, _FILE_TRUNCATED, _FILE_BAD_ITEM for the keytab; FEVSTUNIK_NOT_UTF8, _BAD_TEXT and _NO_REALM for the service; or
+ * FEVSTUNIK_OUT_OF_MEMORY; and the handle is as before. FEVSTUNIK_OK.
  *
  *     fevstunik_time start = {time(NULL), 0};
  *     answer = fevstunik_acceptor_started(&service, file, file_size, 300, (const uint8_t *)"host/web@EX", 11, &start);

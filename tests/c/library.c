@@ -12,7 +12,7 @@
 #define FAR ((size_t)1 << 32)
 #define FILLED ((size_t)0x5a5a5a5a5a5a5a5a)
 
-static struct bytes keytab, cache, request, keyed, reply, keyed_reply, error, two, other, listed;
+static struct bytes keytab, cache, request, keyed, reply, keyed_reply, error, two, other, listed, negative, negative_reply;
 static uint8_t buffer[4096];
 /* What is accepted is kept here, if not said otherwise; the fixture's cache; and what is awaited of its requests. */
 static fevstunik_accepted accepted = FEVSTUNIK_ACCEPTED_INIT;
@@ -64,6 +64,59 @@ static void unready(void)
     is_answer("the cause is gone", fevstunik_acceptor_error(&service, WEB, 3, &now, buffer, sizeof buffer), FEVSTUNIK_NOTHING_THERE, 0, 0, 0);
     fevstunik_accepted_free(&none);
     is("free of none", none.opaque == NULL, 1);
+    fevstunik_acceptor_free(&service);
+}
+
+/* A service that was started again is quiet until its clock and the client's are later than the start by more than the skew. */
+static void started_again(void)
+{
+    fevstunik_acceptor service = FEVSTUNIK_ACCEPTOR_INIT;
+    fevstunik_accepted kept = FEVSTUNIK_ACCEPTED_INIT;
+    fevstunik_time bad = moment(253402300800, 0), start = moment(1699999800, 5), before = moment(1699999800, 4);
+    fevstunik_time now = moment(1700000100, 5), later = moment(1700000100, 6), latest;
+    void *held;
+
+    is_answer("a start that is no moment", fevstunik_acceptor_started(&service, keytab.at, keytab.size, 86401, EACH_NAME, &bad),
+              FEVSTUNIK_BAD_MOMENT, 0, 0, 0);
+    is("none is made", service.opaque == NULL, 1);
+    is_answer("the skew then", fevstunik_acceptor_started(&service, keytab.at, 1, 86401, EACH_NAME, &start), FEVSTUNIK_BAD_SKEW, 0, 0, 0);
+    is_answer("ready", fevstunik_accepted_new(&kept), FEVSTUNIK_OK, 0, 0, 0);
+    is_answer("started", fevstunik_acceptor_started(&service, keytab.at, keytab.size, 300, WEB, &start), FEVSTUNIK_OK, 0, 0, 0);
+    held = service.opaque;
+    is_answer("a bad start", fevstunik_acceptor_started(&service, keytab.at, keytab.size, 300, WEB, &bad), FEVSTUNIK_BAD_MOMENT, 0, 0, 0);
+    is("it stays", service.opaque == held, 1);
+    is_answer("the start is no moment of its", fevstunik_acceptor_latest(&service, &latest), FEVSTUNIK_NOTHING_THERE, 0, 0, 0);
+    is_answer("at the skew", fevstunik_acceptor_accept(&service, &kept, request.at, request.size, &now), FEVSTUNIK_JUST_STARTED, 37, 0, 0);
+    is_answer("by the client's clock", fevstunik_acceptor_accept(&service, &kept, request.at, request.size, &later), FEVSTUNIK_JUST_STARTED,
+              37, 0, 0);
+    is("it is remembered", (long long)fevstunik_acceptor_count(&service), 1);
+    is_answer("latest", fevstunik_acceptor_latest(&service, &latest), FEVSTUNIK_OK, 0, 0, 0);
+    is("its microseconds", latest.micros, 6);
+    is_answer("another start", fevstunik_acceptor_started(&service, keytab.at, keytab.size, 300, WEB, &before), FEVSTUNIK_OK, 0, 0, 0);
+    is("nothing is remembered", (long long)fevstunik_acceptor_count(&service), 0);
+    is_answer("later than the skew", fevstunik_acceptor_accept(&service, &kept, request.at, request.size, &now), FEVSTUNIK_OK, 0, 0, 0);
+    is_answer("a name that isn't served", fevstunik_acceptor_started(&service, keytab.at, keytab.size, 300, (const uint8_t *)"host/a@EX", 9, &start),
+              FEVSTUNIK_OK, 0, 0, 0);
+    is_answer("not us", fevstunik_acceptor_accept(&service, &kept, request.at, request.size, &now), FEVSTUNIK_NOT_US, 35, 0, 0);
+    fevstunik_accepted_free(&kept);
+    fevstunik_acceptor_free(&service);
+}
+
+/* A sequence number that stands as a negative number is told as the one above 2147483647. */
+static void negative_number(void)
+{
+    fevstunik_acceptor service = FEVSTUNIK_ACCEPTOR_INIT;
+    fevstunik_accepted kept = FEVSTUNIK_ACCEPTED_INIT;
+    fevstunik_time now = moment(1700000100, 5);
+    fevstunik_known known;
+
+    is_answer("new", fevstunik_acceptor_new(&service, keytab.at, keytab.size, 300, EACH_NAME), FEVSTUNIK_OK, 0, 0, 0);
+    is_answer("ready", fevstunik_accepted_new(&kept), FEVSTUNIK_OK, 0, 0, 0);
+    is_answer("negative", fevstunik_acceptor_accept(&service, &kept, negative.at, negative.size, &now), FEVSTUNIK_OK, 0, 0, 0);
+    is("its size", fevstunik_accepted_known(&kept, &known, buffer, sizeof buffer).code, FEVSTUNIK_OK);
+    is("a number", known.has_seq, 1);
+    is("the number", known.seq, 4294967295);
+    fevstunik_accepted_free(&kept);
     fevstunik_acceptor_free(&service);
 }
 
@@ -774,6 +827,17 @@ static fevstunik_answer finished(const struct bytes *bytes, fevstunik_agreement 
     return fevstunik_finish(&pending, bytes->at, bytes->size, agreement, buffer, room);
 }
 
+/* And so is that of a reply. */
+static void negative_answer(void)
+{
+    fevstunik_agreement told;
+
+    is_answer("ask", asked("host/web@EX", moment(1700000100, 5), 16, 0, sizeof buffer), FEVSTUNIK_OK, 0, 0, request.size);
+    is("finish", finished(&negative_reply, &told, sizeof buffer).code, FEVSTUNIK_OK);
+    is("a number", told.has_service_seq, 1);
+    is("the number", told.service_seq, 2147483648);
+}
+
 /* What is agreed on by the fixture's replies, and why others are refused. */
 static void agreements(void)
 {
@@ -966,7 +1030,7 @@ int main(int count, char **words)
 {
     fevstunik_acceptor service = FEVSTUNIK_ACCEPTOR_INIT;
 
-    if (count != 11)
+    if (count != 13)
         return 2;
     from_file(&keytab, words[1]);
     from_file(&cache, words[2]);
@@ -978,7 +1042,11 @@ int main(int count, char **words)
     from_hex(&two, words[8]);
     from_hex(&other, words[9]);
     from_hex(&listed, words[10]);
+    from_hex(&negative, words[11]);
+    from_hex(&negative_reply, words[12]);
     empty_handles();
+    started_again();
+    negative_number();
     unready();
     kept_apart();
     ready_again();
@@ -1007,6 +1075,7 @@ int main(int count, char **words)
     second_entry();
     is_answer("cache", fevstunik_cache_new(&credentials, cache.at, cache.size), FEVSTUNIK_OK, 0, 0, 0);
     requests();
+    negative_answer();
     empty_askings();
     agreements();
     texts();

@@ -60,6 +60,13 @@ static fevstunik_answer making(void)
     return fevstunik_acceptor_new(&service, keytab.at, keytab.size, 300, WEB);
 }
 
+static fevstunik_answer starting(void)
+{
+    static const fevstunik_time start = {1699999799, 0};
+
+    return fevstunik_acceptor_started(&service, keytab.at, keytab.size, 300, WEB, &start);
+}
+
 static fevstunik_answer getting_ready(void)
 {
     return fevstunik_accepted_new(&accepted);
@@ -308,6 +315,8 @@ int main(int count, char **words)
     is_at("a repeat", 0, accepting().code, FEVSTUNIK_REPEAT);
     is_told("error", refusing);
     is_told("error by code", refusing_by_code);
+    is_told("started", starting);
+    is_told("accept then", accepting);
     fevstunik_acceptor_free(&service);
     fevstunik_accepted_free(&accepted);
     is_at("freed", 0, held, 0);
