@@ -132,8 +132,7 @@ pub one_request : Facts → WritingFacts → (cache : Cache) (service : Principa
     (a b : List ℕ) (one other : Awaited) → IsRequest cache service at confounder options a one → IsRequest cache service at confounder options b other
     → (a ≡ b) × (one ≡ other)
 one_request facts w cache service at confounder options a b one other p q =
-    let same : p.credential ≡ q.credential = one_used cache service at p.credential q.credential p.used q.used in
-    (
+    let same : p.credential ≡ q.credential = one_used cache service at p.credential q.credential p.used q.used in (
       one_built w q.credential at options facts confounder a b (subst (λ (c : Credential). IsBuilt c at confounder options a) same p.built) q.built,
       p.awaited_is ∙ (ap (λ (c : Credential). awaited_for c at options) same ∙ sym q.awaited_is),
     )

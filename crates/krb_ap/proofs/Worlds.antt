@@ -168,11 +168,10 @@ module _ (facts : Facts) (separate : Apart) (setup : Setup) (credential : Creden
         })
 
     ended_same : Endings other
-    ended_same e o = (let old : IsOf w.sent e.sent × ((r : Replied) × IsEnd w e r) = good.ended e (subst (λ (l : List Ended). IsOf l e) ended o) in
-        (
-          subst (λ (l : List Sent). IsOf l e.sent) (sym sent) old.0,
-          (old.1.0, record { replied = subst (λ (l : List Replied). IsOf l old.1.0) (sym replied) old.1.1.replied; same = old.1.1.same; both = old.1.1.both }),
-        ))
+    ended_same e o = (let old : IsOf w.sent e.sent × ((r : Replied) × IsEnd w e r) = good.ended e (subst (λ (l : List Ended). IsOf l e) ended o) in (
+      subst (λ (l : List Sent). IsOf l e.sent) (sym sent) old.0,
+      (old.1.0, record { replied = subst (λ (l : List Replied). IsOf l old.1.0) (sym replied) old.1.1.replied; same = old.1.1.same; both = old.1.1.both }),
+    ))
 
     unchanged : ((bytes : List ℕ) → IsOf other.errors bytes → IsErrorOf bytes) → Good other
     unchanged errors = record {

@@ -27,6 +27,7 @@ pub(crate) const AUTHENTICATOR_INTEGRITY: u32 = 190;
 pub(crate) const BAD_MATCH: u32 = 200;
 
 pub(crate) const SKEW: u32 = 210;
+
 pub(crate) const JUST_STARTED: u32 = 215;
 
 pub(crate) const REPEAT: u32 = 220;
