@@ -46,8 +46,10 @@ def example_output():
 # What stands around a block of C, so that it compiles.
 AROUND = """#include <stdio.h>
 #include "fevstunik.h"
-void example(const uint8_t *keytab, size_t keytab_size, const uint8_t *request, size_t request_size, fevstunik_time now);
-void example(const uint8_t *keytab, size_t keytab_size, const uint8_t *request, size_t request_size, fevstunik_time now)
+void example(const uint8_t *keytab, size_t keytab_size, const uint8_t *request, size_t request_size, fevstunik_time start,
+             fevstunik_time now);
+void example(const uint8_t *keytab, size_t keytab_size, const uint8_t *request, size_t request_size, fevstunik_time start,
+             fevstunik_time now)
 {
 %s}
 """
