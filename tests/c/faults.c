@@ -131,7 +131,7 @@ static void files(void)
     is_no_keytab("a record without an entry", no_entry, sizeof no_entry, FEVSTUNIK_FILE_BAD_ITEM, 2);
     long_file[1] = 4;
     is_no_cache("a long cache", long_file, LONG_FILE, FEVSTUNIK_TOO_LONG, 0);
-    is_no_cache("an old cache", (const uint8_t *)"\5\3", 2, FEVSTUNIK_FILE_VERSION, 0);
+    is_no_cache("an old cache", (const uint8_t *)"\5\2", 2, FEVSTUNIK_FILE_VERSION, 0);
     is_no_cache("a cache without a header", cache.at, 3, FEVSTUNIK_FILE_HEADER, 0);
     is_no_cache("a cache without a principal", no_principal, sizeof no_principal, FEVSTUNIK_FILE_BAD_ITEM, 4);
     is_no_cache("a cache cut off", cache.at, cache.size - 1, FEVSTUNIK_FILE_BAD_ITEM, 27);

@@ -244,7 +244,7 @@ static void one(fevstunik_acceptor *service, fevstunik_accepted *accepted, long 
         bend(&keytab);
         look(fevstunik_acceptor_new(&other, bent.at, bent.size, below(86402), bent.at, below(20)), bent.size, ROOM, at);
         look(fevstunik_acceptor_accept(&other, accepted, request.at, request.size, &now), request.size, ROOM, at);
-        look(fevstunik_acceptor_started(&other, keytab.at, keytab.size, below(86402), bent.at, below(20), &now), bent.size, ROOM, at);
+        look(fevstunik_acceptor_started(&other, keytab.at, keytab.size, below(86402), bent.at, below(20), &now), 20, ROOM, at);
         look(fevstunik_acceptor_error(&other, bent.at, bent.size, 3, &now, buffer, room), bent.size, room, at);
         look(fevstunik_error(below(300), bent.at, bent.size, 3, &now, buffer, room), bent.size, room, at);
         look(fevstunik_keytab_entry(bent.at, bent.size, below(3), &entry, buffer, room), bent.size, room, at);

@@ -310,7 +310,7 @@ static void codes_errors(fevstunik_time now)
     for (code = 0; code < 1000; code++)
         if (error_by(code, "host/web@EX", now, sizeof buffer).code == FEVSTUNIK_OK)
             errors++;
-    is("causes", errors, 17);
+    is("causes", errors, 18);
     memset(buffer, 0xaa, sizeof buffer);
     is_answer("short by code", error_by(FEVSTUNIK_SKEW, "host/web@EX", now, error.size - 1), FEVSTUNIK_SHORT_BUFFER, 0, 0, error.size);
     is_answer("no cause's code", error_by(FEVSTUNIK_OUT_OF_MEMORY, "host/web", now, sizeof buffer), FEVSTUNIK_NO_CODE, 0, 0, 0);
