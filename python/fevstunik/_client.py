@@ -67,7 +67,12 @@ class Pending:
             found.service_seq if found.has_service_seq else None, found.name_type)
 
     def close(self) -> None:
-        """Free what the library holds of it. A second time it does nothing."""
+        """Free what the library holds of it. A second time it does nothing.
+
+        >>> from fevstunik import CredentialCache, make_request
+        >>> request, pending = make_request(CredentialCache.read("examples/client.ccache"), "host/web@EX", now=1_700_000_100)
+        >>> pending.close()
+        """
         self._handle.close()
 
     def __enter__(self) -> Pending:

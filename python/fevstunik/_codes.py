@@ -74,7 +74,11 @@ class Code(enum.IntEnum):
 
     @property
     def text(self) -> str:
-        """What the code says."""
+        """What the code says.
+
+        >>> Code.SKEW.text
+        'the clocks differ by more than the skew'
+        """
         return _TEXTS.get(self, "a code that this version doesn't know")
 
 

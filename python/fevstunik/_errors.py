@@ -11,6 +11,13 @@ class Error(Exception):
     name      its name, as ``"REPEAT"``
     kerberos  the error code of RFC 4120, section 7.5.9, that goes with it, or 0
     offset    the place of a fault, in bytes from the start of what was handed in, or 0 where the fault has no place
+
+    >>> from fevstunik import Error, check_name
+    >>> try:
+    ...     check_name("host/web")
+    ... except Error as error:
+    ...     print(error.name, error.code.value, error.kerberos, error.offset)
+    NO_REALM 811 0 0
     """
 
     def __init__(self, code: int, kerberos: int = 0, offset: int = 0) -> None:

