@@ -3,9 +3,10 @@
 
 The header is compiled alone, as C99 and as C++; its functions are exactly those of the archive, and its codes those of the crate. A C
 program (tests/c/library.c) runs the exchange that tests share, with exact answers, and so do examples/serve.py and the tests of the Python
-package (tests/python), over a shared object. tests/c/faults.c asks for each fault, and tests/c/memory.c lets each allocation fail in turn: together they see just the codes that
-the header names at each function. A service and a client (examples/service) talk over TCP, to each other and to a client and a service over
-MIT krb5 (tests/c_peers.py). Threads share a service (tests/c/threads.c). tests/c/fuzz.c hands the library good and broken files and messages, some of them under valgrind.
+package (tests/python), over a shared object. tests/c/faults.c asks for each fault, and tests/c/memory.c lets each allocation fail in turn:
+together they see just the codes that the header names at each function. A service and a client (examples/service) talk over TCP, to each
+other and to a client and a service over MIT krb5 (tests/c_peers.py). Threads share a service (tests/c/threads.c). tests/c/fuzz.c hands the
+library good and broken files and messages, some of them under valgrind.
 
     tests/c_library.py [--inputs N]     so many inputs, 50,000 if left out
 
