@@ -80,20 +80,17 @@ def test_it_is_not_there(tmp_path):
     assert fevstunik.version()[0] == 0
 
 
-def test_the_process_ends_in_a_call():
-    """A thread that runs on when the process ends finds its handles as they were."""
-    ended = python("""
-import threading, time
-from fevstunik import Acceptor, Keytab, Refused
+@pytest.mark.parametrize("last, wanted", [("", []), ("del service", ["acceptor_free"]), ("service.close()", ["acceptor_free"])])
+def test_what_is_freed(last, wanted):
+    """What nobody uses any more is freed, but nothing at the end of the process, when threads may be in a call still."""
+    ended = python(f"""
+from fevstunik import Acceptor, Keytab, _library
+call = _library.Library.call
 service = Acceptor(Keytab.read("examples/service.keytab"), "host/web@EX", started=None)
-def work():
-    while True:
-        try: service.accept(b"n" * 1_000_000)
-        except Refused: pass
-for _ in range(8): threading.Thread(target=work, daemon=True).start()
-time.sleep(0.2)
+_library.Library.call = lambda self, name, *words: (print(name, flush=True), call(self, name, *words))[1]
+{last}
 """, FEVSTUNIK_LIBRARY=os.environ["FEVSTUNIK_LIBRARY"])
-    assert (ended.returncode, ended.stderr) == (0, "")
+    assert (ended.returncode, ended.stderr, ended.stdout.split()) == (0, "", wanted)
 
 
 def public():
