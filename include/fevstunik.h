@@ -76,7 +76,7 @@ typedef enum fevstunik_code {
     FEVSTUNIK_AUTHENTICATOR_INTEGRITY = 190, /* 31: the session key doesn't open the authenticator */
     FEVSTUNIK_BAD_MATCH = 200,               /* 36: the authenticator names another client than the ticket */
     FEVSTUNIK_SKEW = 210,                    /* 37: the clocks differ by more than the skew */
-    FEVSTUNIK_JUST_STARTED = 215,            /* 37: the service was started again, and isn't past its start by more than the skew */
+    FEVSTUNIK_JUST_STARTED = 215,            /* 37: the service has just started */
     FEVSTUNIK_REPEAT = 220,                  /* 34: a request of this service, client and time was seen before */
     FEVSTUNIK_NOT_YET_VALID = 230,           /* 33: the ticket begins later, or is marked invalid */
     FEVSTUNIK_EXPIRED = 240,                 /* 32: the ticket has ended */
@@ -97,7 +97,7 @@ typedef enum fevstunik_code {
     FEVSTUNIK_NO_CODE = 415,        /* there is no error to send: the request was refused because memory ran out */
 
     /* What is wrong with a file. */
-    FEVSTUNIK_FILE_VERSION = 500,   /* the file doesn't begin with 05 02 (a keytab) or with 05 04 (a cache) */
+    FEVSTUNIK_FILE_VERSION = 500,   /* the file doesn't begin with 05 02 (a keytab), or with 05 03 or 05 04 (a cache) */
     FEVSTUNIK_FILE_HEADER = 501,    /* the header of the cache is malformed */
     FEVSTUNIK_FILE_TRUNCATED = 502, /* the keytab ends before the record at `at` does */
     FEVSTUNIK_FILE_BAD_ITEM = 503,  /* the record at `at` holds no entry, or no principal or credential is at `at` */
@@ -220,7 +220,7 @@ static inline const char *fevstunik_code_text(uint32_t code)
     case FEVSTUNIK_KEY_TYPE: return "the key's encryption type isn't 19 or 20";
     case FEVSTUNIK_KEY_LENGTH: return "the key isn't 16 bytes long (type 19) or 32 (type 20)";
     case FEVSTUNIK_NO_CODE: return "there is no error to send: the request was refused because memory ran out";
-    case FEVSTUNIK_FILE_VERSION: return "the file doesn't begin with 05 02 (a keytab) or with 05 04 (a cache)";
+    case FEVSTUNIK_FILE_VERSION: return "the file doesn't begin with 05 02 (a keytab), or with 05 03 or 05 04 (a cache)";
     case FEVSTUNIK_FILE_HEADER: return "the header of the cache is malformed";
     case FEVSTUNIK_FILE_TRUNCATED: return "the keytab ends before the record at `at` does";
     case FEVSTUNIK_FILE_BAD_ITEM: return "the record at `at` holds no entry, or no principal or credential is at `at`";

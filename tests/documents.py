@@ -1,10 +1,12 @@
 """Holds the documents to what is there: their code is a program's, their commands are run, what they name as proved has these names, and
-their files exist.
+their files exist. The manual page of the library is what its script makes, and mandoc finds nothing wrong with either page.
 
 Each check is a pair: its name, and what is wrong, or None.
 """
 import re
+import shutil
 import subprocess
+import sys
 import tempfile
 from pathlib import Path
 
@@ -89,6 +91,24 @@ def options(program):
     return f"not there: {sorted(lacking)}" if lacking or len(words) < 12 else None
 
 
+def manual():
+    """The manual page of the library is what its script makes of the header."""
+    with tempfile.TemporaryDirectory(prefix="manual-") as folder:
+        page = Path(folder) / "fevstunik.3"
+        ran = subprocess.run([sys.executable, TOP / "packaging/manual.py", page], capture_output=True, text=True)
+        if ran.returncode:
+            return ran.stderr[-500:]
+        return None if page.read_text() == text_of("docs/man/fevstunik.3") else "make it by packaging/manual.py"
+
+
+def well_formed(path):
+    """What mandoc says of a manual page, if it is there. (Whether other pages are installed depends on the machine.)"""
+    if not shutil.which("mandoc"):
+        return None
+    said = subprocess.run(["mandoc", "-T", "lint", path], capture_output=True, text=True).stdout.splitlines()
+    return "\n".join(it for it in said if "referenced manual not found" not in it) or None
+
+
 def links(path):
     """The files that a document links to are there."""
     found = re.findall(r"\]\(([^)#]+)(?:#[^)]*)?\)", path.read_text())
@@ -159,6 +179,9 @@ def checks(program):
     yield "README.md: its Python is Python", python_code("README.md")
     yield "docs/PROOFS.md: what is proved has these names", names()
     yield "the manual and KRBTOOL.md: commands and options", options(program)
+    yield "docs/man/fevstunik.3: what its script makes", manual()
+    for path in sorted((TOP / "docs/man").iterdir()):
+        yield f"{path.relative_to(TOP)}: mandoc", well_formed(path)
     yield "README.md: its length", None if len(text_of("README.md").splitlines()) <= LINES else f"more than {LINES} lines"
     for name in LAID_OUT:
         yield f"{name}: its layout", layout(name)

@@ -7,7 +7,8 @@ use Rattle.krb_ap.specs.Setup.{Setup}
 abbrev pub IsPast : Setup → ℤ → Type 0
 IsPast setup moment = IfSome setup.start (λ start. (start +ℤ pos setup.skew) <ℤ moment)
 
--- both the moment that counts and the client's are: no request of this moment can have been accepted before the start
+-- both the moment that counts and the client's are; no request of such a time was accepted before, if the start isn't earlier than the
+-- moments of the calls before, and the skew no smaller
 pub record Settled (setup : Setup) (now sent : ℤ) : Type 0 where
   pub now_is : IsPast setup now
   pub sent_is : IsPast setup sent

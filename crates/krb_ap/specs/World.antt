@@ -1,7 +1,7 @@
 -- A client that uses one credential; a service that may be started again, and to which anyone sends what they like; and a network that
--- loses, repeats and reorders what the two send. Only what was sent reaches the client; it sends no two requests of one microsecond; the
--- service replies at most once to a request that it accepted; and it is started again no earlier than its clock said before, with no
--- smaller skew.
+-- loses, repeats and reorders what the two send. Only what the two sent to each other reaches the client, and no reply to what others
+-- sent; the client sends no two requests of one microsecond; the service replies at most once to a request that it accepted; and it is
+-- started again with the same keytab, no earlier than the moments of its calls before, and with no smaller skew.
 use Rattle.std.specs.Prelude.{◌≡◌, ◌≢◌, ◌⊎◌, ◌≤◌, ◌≤ℤ◌, ℕ, ℤ, List, [], ◌∷◌, ◌++◌, All, Some}
 use Rattle.std.specs.Option.{option_map}
 use Rattle.krb_name.specs.Name.{SameName}

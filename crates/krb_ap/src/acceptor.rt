@@ -30,8 +30,8 @@ use std::marker::Model;
 /// The service's side of the exchange (RFC 4120, section 3.2.3): a keytab, a skew and a memory of what was seen.
 ///
 /// It keeps the keys that it derived for tickets under the service key that it used last, in place, so that the next ticket under
-/// that key costs no derivation. A contract sees the entries and the skew, by which it decides, and the memory: no answer depends
-/// on what is kept.
+/// that key costs no derivation. A contract sees the entries, the skew and the start, by which it decides, and the memory: no answer
+/// depends on what is kept.
 #[derive(Drop)]
 pub struct Acceptor<M> {
     pub(crate) keytab: Keytab,
@@ -71,9 +71,9 @@ impl<M: ReplayMemory> Acceptor<M> {
     /// A service that was started again at `start`, by its clock, and has forgotten what it accepted before.
     ///
     /// It is quiet at first: it refuses a request as `JustStarted` if the latest moment or the authenticator's time isn't later than
-    /// `start` by more than the skew. So no request that was accepted before the start is accepted again, if no moment that was handed
-    /// in before is later than `start`, and the skew is no smaller than it was (RFC 4120, section 3.2.3). The start is no moment that
-    /// was handed in: `latest()` of the memory is `None` until the first call.
+    /// `start` by more than the skew. So no request that was accepted before the start is accepted again, if the keytab is the same, no
+    /// moment that was handed in before is later than `start`, and the skew is no smaller than it was (RFC 4120, section 3.2.3). The
+    /// start is no moment that was handed in: `latest()` of the memory is `None` until the first call.
     ///
     /// Condition: the memory is new, as for [`Acceptor::new`].
     pub fn started(keytab: Keytab, skew: Skew, memory: M, start: Moment) -> Acceptor<M>

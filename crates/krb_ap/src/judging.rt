@@ -192,7 +192,7 @@ impl<M: ReplayMemory> Acceptor<M> {
         }
     }
 
-    // Whether no request of this moment can have been accepted before the service was started.
+    // Whether both the moment that counts and the client's are past the quiet start.
     fn is_settled(&self, now: Moment, sent: Moment) -> bool
         ensures { IsTrue result ↔ Settled self.now.setup now sent }
     {

@@ -125,9 +125,9 @@ pub fn no_stamp_twice()
 
 /// Says that whatever the network loses, repeats or reorders, whatever others send to the service, and however often it is started again,
 /// a client that agrees to a reply holds what the service holds for that request, of which there is something, and that all of it agrees.
-/// What may happen is said in `specs/World`: only what the two sent reaches the client, no two requests are of one microsecond, there is at
-/// most one reply for each acceptance, and no start is earlier than a moment that was handed in before, nor a skew smaller; and the key that
-/// the keytab has opens the credential's ticket to its client and key. Clause `each` says it of one request and one reply. Clause `once`
+/// What may happen is said in `specs/World`: only what the two sent to each other reaches the client, and no reply to what others sent; no
+/// two requests are of one microsecond; there is at most one reply for each acceptance; the keytab stays, no start is earlier than the
+/// moment of a call before, and no skew smaller; and the key that the keytab has opens the credential's ticket to its client and key. Clause `each` says it of one request and one reply. Clause `once`
 /// doesn't presuppose the ticket: no stamp is accepted twice, by the service before and after its starts together, and what it holds of a
 /// request is one, as is its reply.
 pub fn both_agree()

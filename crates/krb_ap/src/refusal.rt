@@ -48,7 +48,7 @@ pub enum Refusal {
     #[error("the clocks differ by too much")]
     Skew,
     /// The service was started again, and the latest moment or the authenticator's time isn't later than that start by more than the
-    /// skew: a request of this time may have been accepted before. The request is remembered.
+    /// skew. The request is remembered.
     #[error("the service has just started")]
     JustStarted,
     /// A request of the same service, client and time was seen before, whatever its other bytes.
