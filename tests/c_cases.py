@@ -90,6 +90,16 @@ def refused():
     ]
 
 
+# Clients with a cache each, for tests with threads.
+CLIENTS = [f"c{number:04d}" for number in range(40)]
+
+
+def cache_of(client):
+    """The fixture's cache for another client of five letters."""
+    part = der.ticket_part().replace(b"alice", client.encode())
+    return der.cache(der.ticket(der.sealed(19, der.SERVICE_KEY, 2, bytes(range(16)), part))).replace(b"alice", client.encode())
+
+
 def client_and_server():
     return der.principal(1, b"EX", b"alice"), der.principal(3, b"EX", b"host", b"web")
 

@@ -2,10 +2,11 @@
 """Builds the library for C (crates/krb_c) and runs it from C and from Python.
 
 The header is compiled alone, as C99 and as C++; its functions are exactly those of the archive, and its codes those of the crate. A C
-program (tests/c/library.c) runs the exchange that tests share, with exact answers, and so does examples/fevstunik.py over a shared
-object. tests/c/faults.c asks for each fault, and tests/c/memory.c lets each allocation fail in turn: together they see just the codes that
-the header names at each function. A service and a client (examples/service) talk over TCP, to each other and to a client and a service over
-MIT krb5 (tests/c_peers.py). Threads share a service (tests/c/threads.c). tests/c/fuzz.c hands the library good and broken files and messages, some of them under valgrind.
+program (tests/c/library.c) runs the exchange that tests share, with exact answers, and so do examples/serve.py and the tests of the Python
+package (tests/python), over a shared object. tests/c/faults.c asks for each fault, and tests/c/memory.c lets each allocation fail in turn:
+together they see just the codes that the header names at each function. A service and a client (examples/service) talk over TCP, to each
+other and to a client and a service over MIT krb5 (tests/c_peers.py). Threads share a service (tests/c/threads.c). tests/c/fuzz.c hands the
+library good and broken files and messages, some of them under valgrind.
 
     tests/c_library.py [--inputs N]     so many inputs, 50,000 if left out
 
@@ -21,12 +22,12 @@ import subprocess
 import sys
 import tempfile
 import time
+from xml.etree import ElementTree
 
 ROOT = pathlib.Path(__file__).resolve().parent.parent
 sys.path += [str(ROOT / "tests"), str(ROOT / "tests/vectors")]
 import c_cases  # noqa: E402
 import c_peers  # noqa: E402
-import c_threads  # noqa: E402
 from c_header import HEADER, differs, documented, header_checks, header_codes, header_functions, kerberos_codes  # noqa: E402
 import edits  # noqa: E402
 import fixture as shared  # noqa: E402
@@ -175,7 +176,7 @@ def over_threads(room):
     built = linked(program, "-D_POSIX_C_SOURCE=200809L", "-pthread", ROOT / "tests/c/threads.c")
     yield "the program of threads is linked", wrong(built)
     if built.returncode == 0:
-        caches.write_text("".join(c_threads.cache_of(client).hex() + "\n" for client in c_threads.CLIENTS))
+        caches.write_text("".join(c_cases.cache_of(client).hex() + "\n" for client in c_cases.CLIENTS))
         yield from counted("the program of threads", Answered(), program, ROOT / "examples/service.keytab", caches)
 
 
@@ -214,24 +215,50 @@ def over_tcp(room):
         service.wait()
 
 
-def from_python(room):
-    shared = room / "libfevstunik.so"
-    built = run("gcc", "-shared", "-o", shared, "-Wl,--whole-archive", ARCHIVE, "-Wl,--no-whole-archive", toolchain())
-    yield "the shared object is linked", wrong(built)
-    if built.returncode:
-        return
+def served(path, *words, lines):
+    """What examples/serve.py answers to requests: the first two words of each line, and the bytes of the third in hex."""
+    where = {**os.environ, "FEVSTUNIK_LIBRARY": str(path), "PYTHONPATH": str(ROOT / "python")}
+    ran = run(sys.executable, "-B", ROOT / "examples/serve.py", ROOT / "examples/service.keytab", "host/web@EX", *words, "--at", "1700000100",
+              input="".join(f"{line}\n" for line in lines), env=where)
+    found = [line.rsplit(" ", 1) for line in ran.stdout.splitlines()]
+    return [line for line, _ in found], [last for _, last in found], ran.stderr[-1000:]
+
+
+def example_in_python(path):
     plain, keyed = fixture("request"), fixture(KEYED)
-    ran = run(sys.executable, ROOT / "examples/fevstunik.py", shared, ROOT / "examples/service.keytab", "host/web@EX", "--first", "--at", "1700000100",
-              input="\n".join([plain, plain, keyed, "30", ""]) + "\n")
-    lines = ran.stdout.splitlines()
-    wanted = ["accepted alice@EX -", "refused 220 34", "refused 220 34", "refused 100 40", "refused 110 60"]
-    yield "the Python service", None if lines == wanted else f"{lines} {ran.stderr[-1000:]}"
-    ran = run(sys.executable, ROOT / "examples/fevstunik.py", shared, ROOT / "examples/service.keytab", "host/web@EX", "--at", "1700000100", input=plain + "\n")
-    yield "the Python service may have run before", differs(ran.stdout.splitlines(), ["refused 215 37"])
-    ran = run(sys.executable, ROOT / "examples/fevstunik.py", shared, ROOT / "examples/service.keytab", "host/web@EX", "--first", "--at", "1700000100",
-              input=keyed + "\n")
-    yield from c_threads.checks(shared)
-    yield "the Python service replies", None if re.fullmatch(r"accepted alice@EX 6f55[0-9a-f]{170}\n", ran.stdout) else ran.stdout + ran.stderr[-1000:]
+    lines, last, said = served(path, "--first", lines=[plain, plain, keyed, "30", ""])
+    wanted = ["accepted alice@EX", "refused REPEAT", "refused REPEAT", "refused MESSAGE_TYPE", "refused MALFORMED"]
+    yield "the Python service", differs((lines, said), (wanted, ""))
+    yield "the Python service's error", differs(last[:2], ["-", error_of(34)])
+    lines, _, said = served(path, lines=[plain])
+    yield "the Python service may have run before", differs((lines, said), (["refused JUST_STARTED"], ""))
+    lines, last, said = served(path, "--first", lines=[keyed])
+    yield "the Python service replies", None if last and re.fullmatch(r"6f55[0-9a-f]{170}", last[0]) else f"{lines} {last} {said}"
+
+
+def error_of(code):
+    """The fixture's error, but without microseconds."""
+    return shared.error(code).replace(shared.field(5, shared.integer(7)), shared.field(5, shared.integer(0))).hex()
+
+
+def package_tests(room, path):
+    """Each test of the Python package (tests/python), by Debian's Python, which has pytest."""
+    report = room / "python.xml"
+    ran = run("/usr/bin/python3", "-B", "-m", "pytest", "-q", "-p", "no:cacheprovider", f"--junit-xml={report}", ROOT / "tests/python",
+              env={**os.environ, "FEVSTUNIK_LIBRARY": str(path)})
+    yield "the tests of the Python package end", wrong(ran)
+    for case in ElementTree.parse(report).iter("testcase") if report.exists() else []:
+        fault = next((it for it in case if it.tag in ("failure", "error", "skipped")), None)
+        yield f"python: {case.get('name')}", None if fault is None else f"{fault.get('message')} {(fault.text or '')[-1000:]}"
+
+
+def from_python(room):
+    path = room / "libfevstunik.so"
+    built = run("gcc", "-shared", "-o", path, "-Wl,--whole-archive", ARCHIVE, "-Wl,--no-whole-archive", toolchain())
+    yield "the shared object is linked", wrong(built)
+    if built.returncode == 0:
+        yield from example_in_python(path)
+        yield from package_tests(room, path)
 
 
 def fuzzed(room, inputs):

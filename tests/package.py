@@ -27,7 +27,8 @@ INSTALLED = {
     f"{LIBDIR}/glibc-hwcaps/x86-64-v2/libfevstunik.so.0.1.0", "usr/share/man/man1/krbtool.1",
     "usr/share/man/man3/fevstunik.3",
 }
-PACKAGES = {"krbtool": "usr/bin/", "libfevstunik0": f"{LIBDIR}/", "libfevstunik-dev": f"{LIBDIR}/"}
+PACKAGES = {"krbtool": "usr/bin/", "libfevstunik0": f"{LIBDIR}/", "libfevstunik-dev": f"{LIBDIR}/",
+            "python3-fevstunik": "usr/lib/python3/dist-packages/fevstunik/py.typed"}
 
 
 def run(*words, **more):
@@ -103,6 +104,23 @@ def packed(room):
         name = it.name.split("_")[0]
         has = PACKAGES.get(name, "no such package")
         yield f"what {name} has", None if f"./{has}" in run("dpkg-deb", "-c", it).stdout else has
+        yield f"{name} is unpacked", wrong(run("dpkg-deb", "-x", it, room / "root"))
+    yield from of_python(room / "root")
+
+
+IN_PYTHON = """import sys
+from fevstunik import Acceptor, Keytab
+service = Acceptor(Keytab.read(sys.argv[1]), "host/web@EX", started=None)
+print(service.accept(bytes.fromhex(sys.argv[2]), now=1_700_000_100).client)
+"""
+
+
+def of_python(root):
+    """The packed Python module over the packed library, which the loader finds by its name."""
+    where = {**os.environ, "LD_LIBRARY_PATH": str(root / LIBDIR), "PYTHONPATH": str(root / "usr/lib/python3/dist-packages")}
+    where.pop("FEVSTUNIK_LIBRARY", None)
+    ran = run("/usr/bin/python3", "-B", "-c", IN_PYTHON, ROOT / "examples/service.keytab", fixture.request().hex(), env=where)
+    yield "from Python: a request", wrong(ran) or differs(ran.stdout, "alice@EX\n")
 
 
 def checks():

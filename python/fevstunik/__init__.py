@@ -1,0 +1,43 @@
+"""The application exchange of Kerberos 5 (RFC 4120, section 3.2), with the encryption types of RFC 8009.
+
+A service makes one Acceptor of its Keytab, and asks it about each request:
+
+>>> from fevstunik import Acceptor, CredentialCache, Keytab, Refused, make_request
+>>> service = Acceptor(Keytab.read("examples/service.keytab"), "host/web@EX", started=None)
+
+(`started` is time.time() for each service that may have run before.) A client makes a request from the tickets of its CredentialCache:
+
+>>> cache = CredentialCache.read("examples/client.ccache")
+>>> request, pending = make_request(cache, "host/web@EX", now=1_700_000_100)
+
+The service accepts it, or says why not, and the client reads the reply:
+
+>>> try:
+...     accepted = service.accept(request, now=1_700_000_100)
+... except Refused as refused:
+...     print("go away:", refused.cause.name)
+>>> accepted.client
+'alice@EX'
+>>> pending.finish(accepted.reply()).client
+'alice@EX'
+
+All of it is done by the shared library libfevstunik, whose functions are proved. What the package adds is tested, not proved. Keys aren't
+wiped from memory, and nothing is promised about how long a call takes.
+"""
+from ._client import Agreed, Pending, make_request
+from ._codes import Code
+from ._errors import Error, Fault, LibraryError
+from ._files import Credential, CredentialCache, Keytab, KeytabEntry, Owner
+from ._library import load, version
+from ._service import Accepted, Acceptor, Refused
+from ._values import Key, Moment, TicketFlags, TypedData, When, check_name
+
+__all__ = [
+    "Accepted", "Acceptor", "Agreed", "Code", "Credential", "CredentialCache", "Error", "Fault", "Key", "Keytab", "KeytabEntry",
+    "LibraryError", "Moment", "Owner", "Pending", "Refused", "TicketFlags", "TypedData", "When", "check_name", "load", "make_request",
+    "version",
+]
+for _name in __all__:
+    if isinstance(globals()[_name], type):
+        globals()[_name].__module__ = __name__
+del _name

@@ -1,0 +1,109 @@
+"""The client's side: requests, and the replies to them."""
+from __future__ import annotations
+
+import os
+from ctypes import byref
+from dataclasses import dataclass
+from types import TracebackType
+
+from . import _library
+from ._files import CredentialCache
+from ._library import Bytes, Handle, filled, octets, read
+from ._values import CONFOUNDER, Key, When, chosen, clock
+
+
+@dataclass(frozen=True)
+class Agreed:
+    """What a client and a service agreed on.
+
+    client          the client, as ``alice@EX``
+    session_key     the key that client and service share
+    service_subkey  the key that the service chose, or None; of any type and length
+    service_seq     the service's first sequence number, or None
+    client_type     the type of the client's name
+
+    >>> Agreed("alice@EX", Key(19, bytes(16)), None, 7, 1)
+    Agreed(client='alice@EX', session_key=Key(kind=19), service_subkey=None, service_seq=7, client_type=1)
+    """
+
+    client: str
+    session_key: Key
+    service_subkey: Key | None
+    service_seq: int | None
+    client_type: int
+
+
+class Pending:
+    """A request whose reply is awaited: make_request makes it.
+
+    It is a context manager: at its end, or by close(), what the library holds of it is freed, and it takes no further reply.
+
+    >>> from fevstunik import CredentialCache, make_request
+    >>> with CredentialCache.read("examples/client.ccache") as cache:
+    ...     request, pending = make_request(cache, "host/web@EX", now=1_700_000_100)
+    >>> pending.close()
+    """
+
+    def __init__(self, handle: Handle) -> None:
+        self._handle = handle
+
+    def finish(self, reply: Bytes) -> Agreed:
+        """Read the bytes of the reply. Those of another reply are a Fault, and the request is awaited still.
+
+        >>> from fevstunik import Acceptor, CredentialCache, Keytab, make_request
+        >>> cache = CredentialCache.read("examples/client.ccache")
+        >>> request, pending = make_request(cache, "host/web@EX", now=1_700_000_100)
+        >>> service = Acceptor(Keytab.read("examples/service.keytab"), "host/web@EX", started=None)
+        >>> reply = service.accept(request, now=1_700_000_100).reply(subkey=Key.random(20))
+        >>> pending.finish(reply)
+        Agreed(client='alice@EX', session_key=Key(kind=19), service_subkey=Key(kind=20), service_seq=None, client_type=1)
+        """
+        reply = octets(reply)
+        with self._handle.used() as pointer:
+            found, data = read(_library.Agreement, lambda *into: self._handle.library.call("finish", pointer, reply, len(reply), *into))
+        return Agreed(
+            found.client.text(data), Key(found.session_type, found.session_key.of(data)),
+            Key(found.service_subkey_type, found.service_subkey.of(data)) if found.has_service_subkey else None,
+            found.service_seq if found.has_service_seq else None, found.name_type)
+
+    def close(self) -> None:
+        """Free what the library holds of it. A second time it does nothing.
+
+        >>> from fevstunik import CredentialCache, make_request
+        >>> request, pending = make_request(CredentialCache.read("examples/client.ccache"), "host/web@EX", now=1_700_000_100)
+        >>> pending.close()
+        """
+        self._handle.close()
+
+    def __enter__(self) -> Pending:
+        return self
+
+    def __exit__(self, kind: type[BaseException] | None, fault: BaseException | None, trace: TracebackType | None) -> None:
+        self.close()
+
+
+def make_request(cache: CredentialCache, service: str, *, now: When | None = None, subkey: Key | None = None, seq: int | None = None,
+                 wants_reply: bool = True) -> tuple[bytes, Pending]:
+    """Return the bytes of a request for a service, and what its reply is read with.
+
+    cache        has a ticket of its owner for the service
+    service      the service's name, as ``host/web@EX``
+    now          the client's clock: the machine's if it is left out. No two requests are made of one moment
+    subkey       a key that the client chooses, as Key.random(20), or None
+    seq          the client's first sequence number, or None
+    wants_reply  whether the service is asked for a reply
+
+    If the cache has no ticket that fits, that is a Fault: NO_CREDENTIAL, NO_USABLE_KEY, CREDENTIAL_EXPIRED or BAD_TICKET.
+
+    >>> from fevstunik import CredentialCache, make_request
+    >>> with CredentialCache.read("examples/client.ccache") as cache:
+    ...     request, pending = make_request(cache, "host/web@EX", now=1_700_000_100)
+    >>> request[0] == 0x6e
+    True
+    """
+    name, at, confounder, choice = service.encode(), clock(now), os.urandom(CONFOUNDER), chosen(subkey, seq, wants_reply)
+    pending = Handle("pending")
+    with cache._handle.used() as held, pending.used() as pointer:
+        request = filled(lambda *into: pending.library.call(
+            "request", held, pointer, name, len(name), byref(at), confounder, CONFOUNDER, *choice, *into))
+    return request, Pending(pending)

@@ -1,0 +1,134 @@
+"""The codes of answers, as include/fevstunik.h has them."""
+from __future__ import annotations
+
+import enum
+
+
+class Code(enum.IntEnum):
+    """What the library answers. A number never changes its meaning.
+
+    A number that this version doesn't know is a member too, with a name like ``CODE_299``: a later library may have more of them.
+
+    >>> Code(220)
+    <Code.REPEAT: 220>
+    >>> Code.REPEAT.text
+    'a request of this service, client and time was seen before'
+    """
+
+    OK = 0
+    MESSAGE_TYPE = 100
+    MALFORMED = 110
+    USER_TO_USER = 120
+    TICKET_ETYPE = 130
+    NOT_US = 140
+    NO_KEY = 150
+    BAD_KEY_VERSION = 160
+    TICKET_INTEGRITY = 170
+    SESSION_KEY = 180
+    AUTHENTICATOR_INTEGRITY = 190
+    BAD_MATCH = 200
+    SKEW = 210
+    JUST_STARTED = 215
+    REPEAT = 220
+    NOT_YET_VALID = 230
+    EXPIRED = 240
+    TRANSITED = 250
+    AUTHORIZATION = 260
+    OUT_OF_MEMORY = 400
+    SHORT_BUFFER = 401
+    EMPTY_HANDLE = 402
+    NOTHING_THERE = 403
+    TOO_LONG = 404
+    BAD_SKEW = 410
+    BAD_MOMENT = 411
+    BAD_CONFOUNDER = 412
+    KEY_TYPE = 413
+    KEY_LENGTH = 414
+    NO_CODE = 415
+    FILE_VERSION = 500
+    FILE_HEADER = 501
+    FILE_TRUNCATED = 502
+    FILE_BAD_ITEM = 503
+    NO_SUCH_ENTRY = 504
+    NO_CREDENTIAL = 600
+    NO_USABLE_KEY = 601
+    CREDENTIAL_EXPIRED = 602
+    BAD_TICKET = 603
+    REPLY_TYPE = 700
+    REPLY_MALFORMED = 701
+    REPLY_INTEGRITY = 702
+    REPLY_MISMATCH = 703
+    TEXT_SHORT = 800
+    TEXT_INTEGRITY = 801
+    BAD_TEXT = 810
+    NO_REALM = 811
+    NOT_UTF8 = 812
+
+    @classmethod
+    def _missing_(cls, value: object) -> Code | None:
+        if not isinstance(value, int):
+            return None
+        member = int.__new__(cls, value)
+        member._name_, member._value_ = f"CODE_{value}", value
+        return member
+
+    @property
+    def text(self) -> str:
+        """What the code says.
+
+        >>> Code.SKEW.text
+        'the clocks differ by more than the skew'
+        """
+        return _TEXTS.get(self, "a code that this version doesn't know")
+
+
+_TEXTS = {
+    Code.OK: "all is well",
+    Code.MESSAGE_TYPE: "the first byte isn't that of a request",
+    Code.MALFORMED: "the bytes are no request; `at` is the place of the fault",
+    Code.USER_TO_USER: "the option use-session-key is set",
+    Code.TICKET_ETYPE: "the ticket's encryption type isn't 19 or 20",
+    Code.NOT_US: "the ticket is for another service than those that are served",
+    Code.NO_KEY: "no key of the ticket's encryption type is usable",
+    Code.BAD_KEY_VERSION: "no such key has the ticket's version number",
+    Code.TICKET_INTEGRITY: "the key doesn't open the ticket",
+    Code.SESSION_KEY: "the ticket's session key isn't usable",
+    Code.AUTHENTICATOR_INTEGRITY: "the session key doesn't open the authenticator",
+    Code.BAD_MATCH: "the authenticator names another client than the ticket",
+    Code.SKEW: "the clocks differ by more than the skew",
+    Code.JUST_STARTED: "the service has just started",
+    Code.REPEAT: "a request of this service, client and time was seen before",
+    Code.NOT_YET_VALID: "the ticket begins later, or is marked invalid",
+    Code.EXPIRED: "the ticket has ended",
+    Code.TRANSITED: "the client is of another realm, and no KDC checked the realms between",
+    Code.AUTHORIZATION: "there is authorization data that may not be ignored",
+    Code.OUT_OF_MEMORY: "out of memory: malloc or realloc returned NULL",
+    Code.SHORT_BUFFER: "the buffer is too short: `size` bytes are needed",
+    Code.EMPTY_HANDLE: "the handle is empty",
+    Code.NOTHING_THERE: "nothing was accepted, or nothing was refused, or there is no moment yet",
+    Code.TOO_LONG: "a file, a request, an error, a name or a key is longer than its limit",
+    Code.BAD_SKEW: "the skew is more than 86,400 seconds",
+    Code.BAD_MOMENT: "the moment is outside the years 0000 to 9999, or has 1,000,000 microseconds or more",
+    Code.BAD_CONFOUNDER: "the confounder isn't 16 bytes long",
+    Code.KEY_TYPE: "the key's encryption type isn't 19 or 20",
+    Code.KEY_LENGTH: "the key isn't 16 bytes long (type 19) or 32 (type 20)",
+    Code.NO_CODE: "there is no error to send: the request was refused because memory ran out",
+    Code.FILE_VERSION: "the file doesn't begin with 05 02 (a keytab), or with 05 03 or 05 04 (a cache)",
+    Code.FILE_HEADER: "the header of the cache is malformed",
+    Code.FILE_TRUNCATED: "the keytab ends before the record at `at` does",
+    Code.FILE_BAD_ITEM: "the record at `at` holds no entry, or no principal or credential is at `at`",
+    Code.NO_SUCH_ENTRY: "the file or the request has no item of this index",
+    Code.NO_CREDENTIAL: "the cache has no ticket of its default principal for the service",
+    Code.NO_USABLE_KEY: "no ticket for the service has a usable session key",
+    Code.CREDENTIAL_EXPIRED: "no usable ticket for the service ends later than the moment",
+    Code.BAD_TICKET: "the bytes that the credential has for a ticket are none",
+    Code.REPLY_TYPE: "the first byte isn't that of a reply",
+    Code.REPLY_MALFORMED: "the bytes are no reply; `at` is the place of the fault",
+    Code.REPLY_INTEGRITY: "the session key doesn't open the reply",
+    Code.REPLY_MISMATCH: "the reply's time isn't the request's",
+    Code.TEXT_SHORT: "the text has fewer bytes than a sealed empty text: 32 (type 19) or 40 (type 20)",
+    Code.TEXT_INTEGRITY: "the tag is wrong",
+    Code.BAD_TEXT: "the text isn't a name's from `at` on",
+    Code.NO_REALM: "the text has no `@` without a backslash before it",
+    Code.NOT_UTF8: "the text isn't UTF-8",
+}

@@ -1,0 +1,55 @@
+"""What is raised."""
+from __future__ import annotations
+
+from ._codes import Code
+
+
+class Error(Exception):
+    """An answer of the library other than that all is well.
+
+    code      what was answered
+    name      its name, as ``"REPEAT"``
+    kerberos  the error code of RFC 4120, section 7.5.9, that goes with it, or 0
+    offset    the place of a fault, in bytes from the start of what was handed in, or 0 where the fault has no place
+
+    >>> from fevstunik import Error, check_name
+    >>> try:
+    ...     check_name("host/web")
+    ... except Error as error:
+    ...     print(error.name, error.code.value, error.kerberos, error.offset)
+    NO_REALM 811 0 0
+    """
+
+    def __init__(self, code: int, kerberos: int = 0, offset: int = 0) -> None:
+        super().__init__(code, kerberos, offset)
+        self.code = Code(code)
+        self.name = self.code.name
+        self.kerberos = kerberos
+        self.offset = offset
+
+    def __str__(self) -> str:
+        place = f", at {self.offset}" if self.offset else ""
+        return f"{self.name}: {self.code.text}{place}"
+
+
+class Fault(Error):
+    """Something is wrong with a file, a name, a key, a number or a reply, or there is no ticket for a request.
+
+    >>> from fevstunik import Fault, Keytab
+    >>> try:
+    ...     Keytab(bytes.fromhex("0502 00000005 00"))
+    ... except Fault as fault:
+    ...     print(fault.name, fault.code.value, fault.offset)
+    FILE_TRUNCATED 502 2
+    """
+
+
+class LibraryError(OSError):
+    """The shared library isn't there, or isn't one that this package knows.
+
+    >>> import fevstunik
+    >>> fevstunik.load("/nowhere/libfevstunik.so.0")
+    Traceback (most recent call last):
+        ...
+    fevstunik.LibraryError: the shared library /nowhere/libfevstunik.so.0 can't be loaded: ...
+    """

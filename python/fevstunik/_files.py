@@ -1,0 +1,249 @@
+"""Keytabs and credential caches."""
+from __future__ import annotations
+
+import os
+from ctypes import byref
+from dataclasses import dataclass, field
+from functools import cached_property
+from types import TracebackType
+
+from . import _library
+from ._library import Bytes, Handle, done, filled, fitting, library, octets, read
+from ._values import Key, TicketFlags
+
+# How long a file may be. One byte more is read, so that the library sees that a longer file is too long.
+LIMIT = 16_777_216
+
+
+def content(path: str | os.PathLike[str]) -> bytes:
+    with open(path, "rb") as file:
+        return file.read(LIMIT + 1)
+
+
+@dataclass(frozen=True)
+class KeytabEntry:
+    """An entry of a keytab.
+
+    name       whose key it is, as ``host/web@EX``
+    key        its key, of any type
+    kvno       the key's version number
+    timestamp  when the entry was written, in seconds
+    name_type  the type of the name (RFC 4120, section 6.2; 3 is a service on a host)
+
+    >>> KeytabEntry("host/web@EX", Key(19, bytes(16)), 3)
+    KeytabEntry(name='host/web@EX', key=Key(kind=19), kvno=3, timestamp=0, name_type=3)
+    """
+
+    name: str
+    key: Key
+    kvno: int
+    timestamp: int = 0
+    name_type: int = 3
+
+
+class Keytab:
+    """The keytab in the bytes of a file of version 0x0502. Bytes that are none are a Fault, with an offset.
+
+    >>> keytab = Keytab.read("examples/service.keytab")
+    >>> keytab
+    <Keytab of 1 entries>
+    >>> keytab.entries
+    (KeytabEntry(name='host/web@EX', key=Key(kind=19), kvno=3, timestamp=1700000000, name_type=3),)
+    """
+
+    def __init__(self, data: Bytes) -> None:
+        self._data = octets(data)
+        self._count = done(library().call("keytab_check", self._data, len(self._data))).size
+
+    @classmethod
+    def read(cls, path: str | os.PathLike[str]) -> Keytab:
+        """Return the keytab in a file.
+
+        >>> len(Keytab.read("examples/mit-holes.keytab").entries)
+        4
+        """
+        return cls(content(path))
+
+    @property
+    def data(self) -> bytes:
+        """The bytes of the file, with its keys.
+
+        >>> Keytab(bytes.fromhex("0502")).data
+        b'\\x05\\x02'
+        """
+        return self._data
+
+    @property
+    def entries(self) -> tuple[KeytabEntry, ...]:
+        """The entries, in the file's order. They are read when they are first asked for; the time for it grows with the square of the size.
+
+        >>> [entry.kvno for entry in Keytab.read("examples/mit-holes.keytab").entries]
+        [2, 2, 4, 4]
+        """
+        return self._entries
+
+    @cached_property
+    def _entries(self) -> tuple[KeytabEntry, ...]:
+        return tuple(map(self._entry, range(self._count)))
+
+    def _entry(self, index: int) -> KeytabEntry:
+        entry, data = read(_library.KeyEntry, lambda struct, *into: library().call(
+            "keytab_entry", self._data, len(self._data), index, struct, *into))
+        return KeytabEntry(entry.name.text(data), Key(entry.key_type, entry.key.of(data)), entry.kvno, entry.timestamp, entry.name_type)
+
+    def added(self, entry: KeytabEntry) -> Keytab:
+        """Return a keytab with one more entry, in the first hole that is long enough, or at the end.
+
+        >>> entry = KeytabEntry("host/web@EX", Key.random(20), 4)
+        >>> Keytab(bytes.fromhex("0502")).added(entry).entries == (entry,)
+        True
+        """
+        name, key = entry.name.encode(), octets(entry.key.data)
+        parts = _library.KeyParts(fitting(entry.timestamp, 32), fitting(entry.kvno, 32), fitting(entry.name_type, 32, signed=True),
+                                  fitting(entry.key.kind, 16, signed=True))
+        return Keytab(filled(lambda *into: library().call(
+            "keytab_add", self._data, len(self._data), name, len(name), key, len(key), byref(parts), *into)))
+
+    def removed(self, index: int) -> Keytab:
+        """Return a keytab without the entry of an index, whose place becomes a hole of zeros.
+
+        >>> Keytab.read("examples/service.keytab").removed(0).entries
+        ()
+        """
+        return Keytab(filled(lambda *into: library().call("keytab_remove", self._data, len(self._data), fitting(index, 64), *into)))
+
+    def compacted(self) -> Keytab:
+        """Return a keytab of the same entries, without holes.
+
+        >>> keytab = Keytab.read("examples/mit-holes.keytab")
+        >>> len(keytab.data), len(keytab.compacted().data)
+        (476, 318)
+        """
+        return Keytab(filled(lambda *into: library().call("keytab_write", self._data, len(self._data), *into)))
+
+    def __repr__(self) -> str:
+        return f"<Keytab of {self._count} entries>"
+
+
+@dataclass(frozen=True)
+class Owner:
+    """Whose cache it is: the default principal, and the offset of its KDC's clock as (seconds, microseconds), if the cache has one.
+
+    >>> CredentialCache.read("examples/client.ccache").owner
+    Owner(name='alice@EX', name_type=1, clock_offset=None)
+    """
+
+    name: str
+    name_type: int
+    clock_offset: tuple[int, int] | None
+
+
+@dataclass(frozen=True)
+class Credential:
+    """A credential of a cache. `repr` leaves out its key and its ticket.
+
+    client      whose ticket it is
+    server      for which service; if its realm is X-CACHECONF: the credential is a configuration entry
+    key         the session key, of any type
+    ticket      the bytes of the ticket, or the value of a configuration entry
+    authtime    when the client was authenticated, in seconds
+    starttime   when the ticket begins, in seconds, or 0
+    endtime     when it ends, in seconds
+    renew_till  until when it can be renewed, in seconds, or 0
+    is_skey     whether the ticket is sealed under the session key of another
+
+    >>> credential, = CredentialCache.read("examples/client.ccache").credentials
+    >>> credential.server, credential.endtime, credential.key
+    ('host/web@EX', 1700036000, Key(kind=19))
+    """
+
+    client: str
+    server: str
+    key: Key
+    ticket: bytes = field(repr=False)
+    authtime: int
+    starttime: int
+    endtime: int
+    renew_till: int
+    flags: TicketFlags
+    client_type: int
+    server_type: int
+    is_skey: bool
+
+
+class CredentialCache:
+    """The credential cache in the bytes of a file of version 0x0503 or 0x0504. Bytes that are none are a Fault, with an offset.
+
+    It is a context manager: at its end, or by close(), what the library holds of it is freed, and no further request is made with it.
+
+    >>> with CredentialCache.read("examples/client.ccache") as cache:
+    ...     cache
+    <CredentialCache of alice@EX>
+    """
+
+    def __init__(self, data: Bytes) -> None:
+        self._data = octets(data)
+        self._count = done(library().call("cache_check", self._data, len(self._data))).size
+        self._handle = Handle("cache")
+        with self._handle.used() as pointer:
+            done(self._handle.library.call("cache_new", pointer, self._data, len(self._data)))
+
+    @classmethod
+    def read(cls, path: str | os.PathLike[str]) -> CredentialCache:
+        """Return the cache in a file.
+
+        >>> len(CredentialCache.read("examples/mit-tickets.ccache").credentials)
+        9
+        """
+        return cls(content(path))
+
+    @property
+    def owner(self) -> Owner:
+        """Whose cache it is.
+
+        >>> CredentialCache.read("examples/client.ccache").owner.name
+        'alice@EX'
+        """
+        return self._owner
+
+    @cached_property
+    def _owner(self) -> Owner:
+        owner, data = read(_library.Owner, lambda struct, *into: library().call("cache_owner", self._data, len(self._data), struct, *into))
+        return Owner(owner.name.text(data), owner.name_type, (owner.offset_seconds, owner.offset_micros) if owner.has_offset else None)
+
+    @property
+    def credentials(self) -> tuple[Credential, ...]:
+        """The credentials, with the configuration entries, in the file's order. They are read when they are first asked for.
+
+        >>> [credential.server for credential in CredentialCache.read("examples/client.ccache").credentials]
+        ['host/web@EX']
+        """
+        return self._credentials
+
+    @cached_property
+    def _credentials(self) -> tuple[Credential, ...]:
+        return tuple(map(self._credential, range(self._count)))
+
+    def _credential(self, index: int) -> Credential:
+        entry, data = read(_library.CacheEntry, lambda struct, *into: library().call(
+            "cache_credential", self._data, len(self._data), index, struct, *into))
+        return Credential(
+            entry.client.text(data), entry.server.text(data), Key(entry.key_type, entry.key.of(data)), entry.ticket.of(data),
+            entry.authtime, entry.starttime, entry.endtime, entry.renew_till, TicketFlags(entry.flags), entry.client_type,
+            entry.server_type, entry.is_skey)
+
+    def close(self) -> None:
+        """Free what the library holds of the cache. A second time it does nothing.
+
+        >>> CredentialCache.read("examples/client.ccache").close()
+        """
+        self._handle.close()
+
+    def __enter__(self) -> CredentialCache:
+        return self
+
+    def __exit__(self, kind: type[BaseException] | None, fault: BaseException | None, trace: TracebackType | None) -> None:
+        self.close()
+
+    def __repr__(self) -> str:
+        return f"<CredentialCache of {self.owner.name}>"

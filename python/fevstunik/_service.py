@@ -1,0 +1,283 @@
+"""The service's side: requests are accepted or refused."""
+from __future__ import annotations
+
+import enum
+import os
+from ctypes import byref, c_int32
+from dataclasses import dataclass, field
+from types import TracebackType
+
+from . import _library
+from ._codes import Code
+from ._errors import Error
+from ._files import Keytab
+from ._library import Answer, Bytes, Handle, done, filled, fitting, library, octets, read
+from ._values import CONFOUNDER, Key, Moment, TicketFlags, TypedData, When, chosen, clock
+
+FIRST_CAUSE, AFTER_CAUSES = 100, 400
+
+
+class Refused(Error):
+    """A request isn't accepted.
+
+    cause     why: the first that holds, as ``Code.REPEAT``
+    code      the same
+    kerberos  the error code of RFC 4120, section 7.5.9, that goes with it
+    offset    the place of the fault, where the cause is MALFORMED
+
+    >>> from fevstunik import Acceptor, Keytab, Refused
+    >>> with Acceptor(Keytab.read("examples/service.keytab"), "host/web@EX", started=None) as service:
+    ...     try:
+    ...         service.accept(b"hello")
+    ...     except Refused as refused:
+    ...         print(refused.cause.name, refused.code.value, refused.kerberos)
+    MESSAGE_TYPE 100 40
+    """
+
+    def __init__(self, code: int, kerberos: int = 0, offset: int = 0) -> None:
+        super().__init__(code, kerberos, offset)
+        self.cause = self.code
+
+    def error(self, service: str, *, now: When | None = None, name_type: int = 3) -> bytes:
+        """Return the bytes of the KRB-ERROR that tells the client why.
+
+        service    the service's name, as ``host/web@EX``
+        now        the service's time: the machine's clock if it is left out
+        name_type  the type of the service's name (RFC 4120, section 6.2; 3 is a service on a host)
+
+        It isn't sealed: anyone could have written it.
+
+        >>> len(Refused(Code.REPEAT).error("host/web@EX", now=1_700_000_100))
+        73
+        """
+        name, at = service.encode(), clock(now)
+        return filled(lambda *into: library().call(
+            "error", fitting(self.code, 32), name, len(name), fitting(name_type, 32, signed=True), byref(at), *into))
+
+
+class _List(enum.IntEnum):
+    ADDRESSES = 1
+    TICKET_AUTHORIZATION = 2
+    AUTHENTICATOR_AUTHORIZATION = 3
+    CHECKSUM = 4
+
+
+@dataclass(frozen=True)
+class Accepted:
+    """A request that was accepted.
+
+    client                       the client, as ``alice@EX``
+    service                      the service that was asked for, as ``host/web@EX``
+    time                         the client's time
+    authtime                     when the client was authenticated, in seconds
+    endtime                      until when the ticket is valid, in seconds
+    flags                        the ticket's flags
+    session_key                  the key that client and service share
+    subkey                       the key that the client chose, or None; of any type and length
+    seq                          the client's first sequence number, or None
+    wants_reply                  whether the client asks for a reply
+    client_type                  the type of the client's name
+    service_type                 the type of the service's name, as the ticket has it
+    addresses                    the ticket's addresses, which were compared with nothing
+    authorization                the ticket's authorization data; each item is of type 1 (AD-IF-RELEVANT)
+    authenticator_authorization  the authenticator's, likewise
+    checksum                     the authenticator's checksum, which wasn't verified, or None
+
+    It is a context manager: at its end, or by close(), what the library holds of it is freed, and there is no further reply.
+
+    >>> from fevstunik import Acceptor, Keytab
+    >>> request = bytes.fromhex(open("examples/calls.txt").readline().split()[2])
+    >>> with Acceptor(Keytab.read("examples/service.keytab"), "host/web@EX", started=None) as service:
+    ...     accepted = service.accept(request, now=1_700_000_100)
+    >>> accepted.client, accepted.time, accepted.session_key, accepted.wants_reply
+    ('alice@EX', Moment(seconds=1700000100, micros=5), Key(kind=19), False)
+    """
+
+    client: str
+    service: str
+    time: Moment
+    authtime: int
+    endtime: int
+    flags: TicketFlags
+    session_key: Key
+    subkey: Key | None
+    seq: int | None
+    wants_reply: bool
+    client_type: int
+    service_type: int
+    addresses: tuple[TypedData, ...]
+    authorization: tuple[TypedData, ...]
+    authenticator_authorization: tuple[TypedData, ...]
+    checksum: TypedData | None
+    _handle: Handle = field(repr=False, compare=False)
+
+    def reply(self, *, subkey: Key | None = None, seq: int | None = None) -> bytes:
+        """Return the bytes of the reply, which the client waits for if `wants_reply` is true.
+
+        subkey  a key that the service chooses, as Key.random(20), or None
+        seq     the service's first sequence number, or None
+
+        >>> from fevstunik import Acceptor, CredentialCache, Keytab, make_request
+        >>> cache = CredentialCache.read("examples/client.ccache")
+        >>> request, pending = make_request(cache, "host/web@EX", now=1_700_000_100)
+        >>> service = Acceptor(Keytab.read("examples/service.keytab"), "host/web@EX", started=None)
+        >>> reply = service.accept(request, now=1_700_000_100).reply(seq=7)
+        >>> pending.finish(reply).service_seq
+        7
+        """
+        confounder, choice = os.urandom(CONFOUNDER), chosen(subkey, seq, False)
+        with self._handle.used() as pointer:
+            return filled(lambda *into: self._handle.library.call("accepted_reply", pointer, confounder, CONFOUNDER, *choice, *into))
+
+    def close(self) -> None:
+        """Free what the library holds of it. What was read stays. A second time it does nothing.
+
+        >>> from fevstunik import Acceptor, Keytab
+        >>> request = bytes.fromhex(open("examples/calls.txt").readline().split()[2])
+        >>> service = Acceptor(Keytab.read("examples/service.keytab"), "host/web@EX", started=None)
+        >>> service.accept(request, now=1_700_000_100).close()
+        """
+        self._handle.close()
+
+    def __enter__(self) -> Accepted:
+        return self
+
+    def __exit__(self, kind: type[BaseException] | None, fault: BaseException | None, trace: TracebackType | None) -> None:
+        self.close()
+
+
+def _accepted(handle: Handle) -> Accepted:
+    """What the handle holds, read as values."""
+    with handle.used() as pointer:
+        known, data = read(_library.Known, lambda *words: handle.library.call("accepted_known", pointer, *words))
+        lists = {which: _items(handle, pointer, which) for which in _List}
+    checksums = lists[_List.CHECKSUM]
+    return Accepted(
+        client=known.client.text(data), service=known.service.text(data), time=Moment(known.ctime, known.cusec),
+        authtime=known.authtime, endtime=known.endtime, flags=TicketFlags(known.flags),
+        session_key=Key(known.session_type, known.session_key.of(data)),
+        subkey=Key(known.subkey_type, known.subkey.of(data)) if known.has_subkey else None,
+        seq=known.seq if known.has_seq else None, wants_reply=known.wants_reply,
+        client_type=known.name_type, service_type=known.service_type, addresses=lists[_List.ADDRESSES],
+        authorization=lists[_List.TICKET_AUTHORIZATION], authenticator_authorization=lists[_List.AUTHENTICATOR_AUTHORIZATION],
+        checksum=checksums[0] if checksums else None, _handle=handle)
+
+
+def _items(handle: Handle, pointer: object, which: _List) -> tuple[TypedData, ...]:
+    answer = handle.library.call("accepted_count", pointer, which)
+    if answer.code == Code.NO_SUCH_ENTRY:
+        return ()
+    return tuple(_item(handle, pointer, which, index) for index in range(done(answer).size))
+
+
+def _item(handle: Handle, pointer: object, which: _List, index: int) -> TypedData:
+    kind = c_int32()
+    data = filled(lambda *into: handle.library.call("accepted_item", pointer, which, index, byref(kind), *into))
+    return TypedData(kind.value, data)
+
+
+class Acceptor:
+    """A service that takes requests, and remembers what it accepted.
+
+    keytab   its keys
+    service  the name that is served, as ``host/web@EX``, or None for each name of the keytab. Name it if the keytab has keys of several:
+             the name in a ticket isn't sealed, so with two names under one key a recorded request is accepted once for each
+    skew     by how many seconds clocks may differ
+    started  the service's clock at this start, as time.time(). It has forgotten what it accepted before, so it is quiet at first: until the
+             skew has passed, requests are refused for the cause JUST_STARTED. None is for a service that never ran before, and for no other:
+             it accepts at once, and would accept again what an earlier life has accepted
+
+    Make one and keep it. Any thread may call it: a lock lets in one decision at a time, and what was accepted is read without that lock. An
+    Acceptor belongs to the process that made it: after a fork the child's calls raise RuntimeError.
+
+    It is a context manager: at its end, or by close(), what the library holds of it is freed, and it decides nothing more.
+
+    >>> import time
+    >>> from fevstunik import Acceptor, Keytab
+    >>> with Acceptor(Keytab.read("examples/service.keytab"), "host/web@EX", started=time.time()) as service:
+    ...     service.remembered
+    0
+    """
+
+    def __init__(self, keytab: Keytab, service: str | None, skew: int = 300, *, started: When | None) -> None:
+        name = b"" if service is None else service.encode()
+        if service == "":
+            raise ValueError("the service's name is empty: None stands for each name of the keytab")
+        words = keytab.data, len(keytab.data), fitting(skew, 32), name, len(name)
+        self._handle = Handle("acceptor")
+        with self._handle.used() as pointer:
+            if started is None:
+                done(self._handle.library.call("acceptor_new", pointer, *words))
+            else:
+                done(self._handle.library.call("acceptor_started", pointer, *words, byref(clock(started))))
+
+    def accept(self, request: Bytes, now: When | None = None) -> Accepted:
+        """Decide on the bytes of a request, at a moment: that of the machine's clock if it is left out.
+
+        Time doesn't go back: what counts is the latest moment that was handed in so far. A request that isn't accepted raises Refused.
+
+        >>> from fevstunik import Acceptor, Keytab
+        >>> request = bytes.fromhex(open("examples/calls.txt").readline().split()[2])
+        >>> service = Acceptor(Keytab.read("examples/service.keytab"), "host/web@EX", started=None)
+        >>> service.accept(request, now=1_700_000_100).client
+        'alice@EX'
+        >>> service.accept(request, now=1_700_000_100)
+        Traceback (most recent call last):
+            ...
+        fevstunik.Refused: REPEAT: a request of this service, client and time was seen before
+        """
+        request, accepted = octets(request), Handle("accepted")
+        with accepted.used() as into:
+            done(self._handle.library.call("accepted_new", into))
+            with self._handle.used() as pointer:
+                at = clock(now)
+                answer = self._handle.library.call("acceptor_accept", pointer, into, request, len(request), byref(at))
+        _decided(answer)
+        return _accepted(accepted)
+
+    @property
+    def remembered(self) -> int:
+        """The number of requests that are remembered.
+
+        >>> from fevstunik import Acceptor, Keytab
+        >>> Acceptor(Keytab.read("examples/service.keytab"), "host/web@EX", started=None).remembered
+        0
+        """
+        with self._handle.used() as pointer:
+            return int(self._handle.library.call("acceptor_count", pointer))
+
+    @property
+    def latest(self) -> Moment | None:
+        """The latest moment that was handed in so far, by which the service decides, or None.
+
+        >>> from fevstunik import Acceptor, Keytab
+        >>> print(Acceptor(Keytab.read("examples/service.keytab"), "host/web@EX", started=None).latest)
+        None
+        """
+        latest = _library.Time()
+        with self._handle.used() as pointer:
+            answer = self._handle.library.call("acceptor_latest", pointer, byref(latest))
+        if answer.code == Code.NOTHING_THERE:
+            return None
+        done(answer)
+        return Moment(latest.seconds, latest.micros)
+
+    def close(self) -> None:
+        """Free what the library holds of it, and with it what is remembered. A second time it does nothing.
+
+        >>> from fevstunik import Acceptor, Keytab
+        >>> Acceptor(Keytab.read("examples/service.keytab"), "host/web@EX", started=None).close()
+        """
+        self._handle.close()
+
+    def __enter__(self) -> Acceptor:
+        return self
+
+    def __exit__(self, kind: type[BaseException] | None, fault: BaseException | None, trace: TracebackType | None) -> None:
+        self.close()
+
+
+def _decided(answer: Answer) -> None:
+    if FIRST_CAUSE <= answer.code < AFTER_CAUSES:
+        raise Refused(answer.code, answer.kerberos, answer.at)
+    done(answer)

@@ -1,0 +1,201 @@
+"""What is handed in and out: moments, keys, flags, and data with a type."""
+from __future__ import annotations
+
+import enum
+import os
+import time
+from ctypes import byref
+from dataclasses import dataclass, field
+from typing import Union
+
+from . import _library
+from ._codes import Code
+from ._library import Bytes, done, filled, fitting, library, octets
+
+CONFOUNDER = 16
+FIRST_SECOND, LAST_SECOND = -62_167_219_200, 253_402_300_799
+
+
+@dataclass(frozen=True, order=True)
+class Moment:
+    """A moment: seconds from 1970-01-01T00:00:00Z on, and microseconds after them, of the years 0000 to 9999.
+
+    >>> Moment(1_700_000_100, 5) < Moment(1_700_000_101)
+    True
+    >>> Moment(1_700_000_100, 1_000_000)
+    Traceback (most recent call last):
+        ...
+    ValueError: a moment has 0 to 999999 microseconds, not 1000000
+    """
+
+    seconds: int
+    micros: int = 0
+
+    def __post_init__(self) -> None:
+        if not FIRST_SECOND <= self.seconds <= LAST_SECOND:
+            raise ValueError(f"a moment is of the years 0000 to 9999, which {self.seconds} seconds aren't")
+        if not 0 <= self.micros < 1_000_000:
+            raise ValueError(f"a moment has 0 to 999999 microseconds, not {self.micros}")
+
+    @classmethod
+    def now(cls) -> Moment:
+        """Return the moment of the machine's clock.
+
+        >>> Moment.now() > Moment(1_700_000_000)
+        True
+        """
+        return cls(*divmod(time.time_ns() // 1000, 1_000_000))
+
+    @classmethod
+    def of(cls, when: When) -> Moment:
+        """Return the moment of a number of seconds, as time.time() returns it.
+
+        >>> Moment.of(1_700_000_100.5)
+        Moment(seconds=1700000100, micros=500000)
+        """
+        if isinstance(when, Moment):
+            return when
+        if isinstance(when, int):
+            return cls(when)
+        seconds = int(when // 1)
+        return cls(seconds, min(int((when - seconds) * 1_000_000), 999_999))
+
+
+When = Union[Moment, int, float]
+
+
+def clock(when: When | None) -> _library.Time:
+    """The moment as the library takes it: the machine's clock if there is none."""
+    moment = Moment.now() if when is None else Moment.of(when)
+    return _library.Time(moment.seconds, moment.micros)
+
+
+class TicketFlags(enum.IntFlag):
+    """The flags of a ticket (RFC 4120, section 5.3).
+
+    >>> TicketFlags.INITIAL in TicketFlags(0x40600000)
+    True
+    """
+
+    FORWARDABLE = 1 << 30
+    FORWARDED = 1 << 29
+    PROXIABLE = 1 << 28
+    PROXY = 1 << 27
+    MAY_POSTDATE = 1 << 26
+    POSTDATED = 1 << 25
+    INVALID = 1 << 24
+    RENEWABLE = 1 << 23
+    INITIAL = 1 << 22
+    PRE_AUTHENT = 1 << 21
+    HW_AUTHENT = 1 << 20
+    TRANSITED_POLICY_CHECKED = 1 << 19
+    OK_AS_DELEGATE = 1 << 18
+
+
+@dataclass(frozen=True)
+class TypedData:
+    """An address, an item of authorization data or a checksum: the number of its type, and its bytes.
+
+    >>> TypedData(2, bytes([192, 0, 2, 1]))
+    TypedData(kind=2, data=b'\\xc0\\x00\\x02\\x01')
+    """
+
+    kind: int
+    data: bytes
+
+
+@dataclass(frozen=True)
+class Key:
+    """A key: the number of its encryption type, and its bytes, which `repr` leaves out.
+
+    Keys of the types 19 (16 bytes) and 20 (32 bytes) seal and open texts, and make checksums (RFC 8009), for a usage (RFC 4120, section
+    7.5.1). A key of another type or length is a Fault there.
+
+    >>> Key(19, bytes(16))
+    Key(kind=19)
+    """
+
+    kind: int
+    data: bytes = field(repr=False)
+
+    @classmethod
+    def random(cls, kind: int) -> Key:
+        """Return a new random key of type 19 or 20.
+
+        >>> len(Key.random(20).data)
+        32
+        """
+        if kind not in (19, 20):
+            raise ValueError(f"random keys are of type 19 or 20, not {kind}")
+        return cls(kind, os.urandom(16 if kind == 19 else 32))
+
+    def seal(self, usage: int, plain: Bytes) -> bytes:
+        """Return a plain text, sealed with a new random confounder.
+
+        >>> len(Key.random(19).seal(1024, b"hello"))
+        37
+        """
+        confounder, plain = os.urandom(CONFOUNDER), octets(plain)
+        return filled(lambda *into: library().call("seal", *self._words(usage), confounder, CONFOUNDER, plain, len(plain), *into))
+
+    def open(self, usage: int, sealed: Bytes) -> bytes:
+        """Return the plain text of a sealed one. The Fault TEXT_INTEGRITY says that it wasn't sealed under this key for this usage.
+
+        >>> key = Key.random(19)
+        >>> key.open(1024, key.seal(1024, b"hello"))
+        b'hello'
+        >>> key.open(1025, key.seal(1024, b"hello"))
+        Traceback (most recent call last):
+            ...
+        fevstunik.Fault: TEXT_INTEGRITY: the tag is wrong
+        """
+        sealed = octets(sealed)
+        return filled(lambda *into: library().call("open", *self._words(usage), sealed, len(sealed), *into))
+
+    def checksum(self, usage: int, text: Bytes) -> bytes:
+        """Return the checksum of a text: 16 bytes (type 19) or 24 (type 20).
+
+        >>> len(Key.random(20).checksum(1025, b"hello"))
+        24
+        """
+        text = octets(text)
+        return filled(lambda *into: library().call("checksum", *self._words(usage), text, len(text), *into))
+
+    def verify(self, usage: int, text: Bytes, tag: Bytes) -> bool:
+        """Return whether a tag is the whole checksum of a text.
+
+        >>> key = Key.random(20)
+        >>> key.verify(1025, b"hello", key.checksum(1025, b"hello")), key.verify(1025, b"hello", bytes(24))
+        (True, False)
+        """
+        text, tag = octets(text), octets(tag)
+        answer = library().call("checksum_check", *self._words(usage), text, len(text), tag, len(tag))
+        if answer.code == Code.TEXT_INTEGRITY:
+            return False
+        done(answer)
+        return True
+
+    def _words(self, usage: int) -> tuple[int, bytes, int, int]:
+        data = octets(self.data)
+        return fitting(self.kind, 32, signed=True), data, len(data), fitting(usage, 32)
+
+
+def chosen(subkey: Key | None, seq: int | None, wants_reply: bool) -> tuple[object, bytes, int]:
+    """What a side chooses for its message, as the library takes it."""
+    kind, data = (0, b"") if subkey is None else (fitting(subkey.kind, 32, signed=True), octets(subkey.data))
+    choice = _library.Choice(kind, 0 if seq is None else fitting(seq, 32), seq is not None, wants_reply)
+    return byref(choice), data, len(data)
+
+
+def check_name(text: str) -> int:
+    """Check that a text is that of a name, as ``host/web@EX``, and return the number of its components.
+
+    >>> check_name("host/web@EX")
+    2
+    >>> check_name("host/web")
+    Traceback (most recent call last):
+        ...
+    fevstunik.Fault: NO_REALM: the text has no `@` without a backslash before it
+    """
+    data = text.encode()
+    return int(done(library().call("name_check", data, len(data))).size)
