@@ -24,16 +24,17 @@ pub record IsNatural (n : ℕ) (content : List ℕ) : Type 0 where
   pub shortest : IsShortest content
   pub value : number content ≡ n
 
--- each bit turned
+-- each bit inverted
 abbrev pub turned : List ℕ → List ℕ
 turned bytes = map (λ b. 255 - b) bytes
 
--- two's complement (X.690, section 8.3.3): -(m + 1), here negsuc m, is m with each bit turned
+-- two's complement (X.690, section 8.3.3): -(m + 1), here negsuc m, is m with each bit inverted
 abbrev pub IsInteger : ℤ → List ℕ → Type 0
 IsInteger (pos n) content = IsNatural n content
 IsInteger (negsuc m) content = AreBytes content × IsNatural m (turned content)
 
--- no unused bits, and 32 bits of which the first is the most significant (X.690, section 8.6; RFC 4120, section 5.2.8)
+-- no unused bits, and 32 bits, the first of which is the most significant (X.690, section 8.6; RFC
+-- 4120, section 5.2.8)
 pub record AreFlags (n : ℕ) (content : List ℕ) : Type 0 where
   pub bits : List ℕ
   pub bytes : AreBytes bits
@@ -45,7 +46,8 @@ pub record AreFlags (n : ℕ) (content : List ℕ) : Type 0 where
 abbrev pub IsUnsigned : ℕ → List ℕ → Type 0
 IsUnsigned n content = (n < 2 ^ 32) × IsNatural n content
 
--- a sequence number above 2147483647 as the negative number of the same 32 bits, as some senders write it
+-- a sequence number above 2147483647 as the negative number of the same 32 bits, as some senders
+-- write it
 abbrev pub IsNegative : ℕ → List ℕ → Type 0
 IsNegative n content = (2 ^ 31 ≤ n) × (n < 2 ^ 32) × IsInteger (pos n -ℤ pos (2 ^ 32)) content
 
@@ -53,8 +55,8 @@ IsNegative n content = (2 ^ 31 ≤ n) × (n < 2 ^ 32) × IsInteger (pos n -ℤ p
 abbrev pub IsSeqNumber : ℕ → List ℕ → Type 0
 IsSeqNumber n content = IsUnsigned n content ⊎ IsNegative n content
 
--- Which contents spell which values, for contents of sequence numbers; a number outside its range has no spelling (RFC 4120,
--- section 5.2.4).
+-- Which contents spell which values, given the contents of sequence numbers. A number outside its
+-- range has no spelling (RFC 4120, section 5.2.4).
 abbrev pub ElementaryBy : (ℕ → List ℕ → Type 0) → (c : Content) → ContentValue c → List ℕ → Type 0
 ElementaryBy IsNumber int32 z content = FitsSigned w32 z × IsInteger z content
 ElementaryBy IsNumber uint32 n content = (n < 2 ^ 32) × IsNatural n content

@@ -1,4 +1,5 @@
--- What is wrong with bytes that are no message: which places are reached, and which rules are broken there.
+-- What is wrong with bytes that aren't a message: which places are reached, and which rules are
+-- broken there.
 use Rattle.std.specs.Prelude.{◌≡◌, ◌≢◌, ℕ, ◌+◌, ◌<◌, ◌≤◌, true, false, List, [], ◌∷◌, ◌++◌, length, ◌⊎◌}
 use Rattle.krb_der.specs.declared.fault.Fault.{Fault}
 use Rattle.krb_der.specs.declared.fault.FaultKind.{FaultKind}
@@ -8,8 +9,8 @@ use Rattle.krb_der.specs.Content.{Elementary}
 use Rattle.krb_der.specs.Place.{Place, begin_at, end_of, begins}
 use Rattle.krb_der.specs.Spells.{IsLength, Contents, StandsAt, limit}
 
--- An element with this tag begins at the place, its head is good, and its content ends within what encloses the place:
--- where the content stands, and where the element ends.
+-- An element with this tag begins at the place, its head is good, and its content ends within the
+-- enclosing element. The fields are where the content begins, and where the element ends.
 pub record HasHead (tag : ℕ) (here inside after : Place) : Type 0 where
   pub size : List ℕ
   pub length_is : IsLength (length inside.rest) size
@@ -17,23 +18,25 @@ pub record HasHead (tag : ℕ) (here inside after : Place) : Type 0 where
   pub inside_at : inside.at ≡ here.at + (1 + length size)
   pub after_at : after.at ≡ inside.at + length inside.rest
 
--- The bytes of a length are cut off: there are none, or fewer than the first of them, 81 to 84, tells.
+-- The bytes of a length are cut off: there are none, or fewer than the first of them, 81 to 84,
+-- says.
 abbrev pub IsCutLength : List ℕ → Type 0
 IsCutLength [] = Unit {0}
 IsCutLength (f ∷ bytes) = (0x81 ≤ f) × (f ≤ 0x84) × (0x80 + length bytes < f)
 
--- a first byte that tells how many bytes of a number follow, one to four, and those bytes
+-- a first byte that says how many bytes of a number follow, one to four, and those bytes
 abbrev pub IsLongForm : List ℕ → Type 0
 IsLongForm [] = ⊥
 IsLongForm (f ∷ digits) = (f ≡ 0x80 + length digits) × (1 ≤ length digits) × (length digits ≤ 4)
 
--- The bytes of a length are there, and are none: the first is 80 or above 84, or the number has a shorter form.
+-- The bytes of a length are there, but invalid: the first is 80 or above 84, or the number has a
+-- shorter form.
 pub data IsBadLength (bytes : List ℕ) : Type 0 where
   no_form : (f : ℕ) (rest : List ℕ) → bytes ≡ f ∷ rest → (f ≡ 0x80) ⊎ (0x84 < f) → IsBadLength bytes
   not_shortest : (size rest : List ℕ) → bytes ≡ size ++ rest → IsLongForm size → ((n : ℕ) → IsLength n size → ⊥)
       → IsBadLength bytes
 
--- which fault it is where a content spells no value
+-- which fault it is if a content spells no value
 abbrev pub content_fault : Content → FaultKind
 content_fault int32 = Integer
 content_fault uint32 = Integer
@@ -46,8 +49,9 @@ content_fault flags = Flags
 content_fault time = Time
 
 module _ (Leaf : Contents) where
-  -- From a place where some fields must come, up to the end of what encloses it, other places are reached: the content of
-  -- an element whose head is good, what is behind an element that is spelled, and each field that may come or come again.
+  -- From a place at which some fields are required, up to the end of the enclosing element, other
+  -- places are reached: the content of an element whose head is good, what comes after an element
+  -- that is spelled, and each field that may come or come again.
   pub data Reached (from : Fields) (begin : Place) : Fields → Place → Type 0 where
     start : Reached from begin from begin
     inside_wrapped : {tag : ℕ} {inner : Kind} {fs : Fields} {here inside after : Place}
@@ -65,7 +69,7 @@ module _ (Leaf : Contents) where
     one_more : {e : Kind} {here : Place}
         → Reached from begin (each e) here → here.rest ≢ [] → Reached from begin (must e (each e)) here
 
-  -- the rule that is broken where these fields must come, which fault that is, and where
+  -- the rule that is broken where these fields are required, which fault that is, and where
   pub data IsBroken : Fields → Place → Fault → Type 0 where
     nothing : {e : Kind} {fs : Fields} {here : Place}
         → here.rest ≡ [] → IsBroken (must e fs) here (record { kind = Truncated; at = end_of here })
@@ -93,15 +97,15 @@ module _ (Leaf : Contents) where
     pub reached : Reached from begin expected here
     pub broken : IsBroken expected here fault
 
-  -- a fault of an element that must stand at the place, whatever may come behind it
+  -- a fault of an element that is required at the place, whatever may come after it
   abbrev pub IsElementFault : Kind → Place → Fault → Type 0
   IsElementFault k here fault = (fs : Fields) → IsFaulty (must k fs) here fault
 
-  -- a fault of the head of an element with the tag that must stand at the place
+  -- a fault of the head of an element with the tag that is required at the place
   abbrev pub IsHeadFault : ℕ → Place → Fault → Type 0
   IsHeadFault tag here fault = (k : Kind) (fs : Fields) → IsBroken (must (wrapped tag k) fs) here fault
 
-  -- a fault of a whole message: TooLong goes before all else
+  -- a fault of a whole message: TooLong comes before all others
   pub data IsMessageFault (k : Kind) (bytes : List ℕ) (fault : Fault) : Type 0 where
     too_long : limit < length bytes → fault ≡ record { kind = TooLong; at = 0 } → IsMessageFault k bytes fault
     faulty : length bytes ≤ limit → IsFaulty (must k ends) (begin_at bytes) fault → IsMessageFault k bytes fault

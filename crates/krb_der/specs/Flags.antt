@@ -1,4 +1,5 @@
--- 32 flags as a number, of which bit 0 is the most significant (X.690, section 8.6; RFC 4120, section 5.2.8).
+-- 32 flags as a number. Bit 0 is the most significant (X.690, section 8.6; RFC 4120, section
+-- 5.2.8).
 use Rattle.std.specs.Prelude.{◌≡◌, ℕ, ◌-◌, ◌/◌, ◌%◌, ◌^◌, ◌<◌}
 
 -- what bit n weighs in the number: bit 0 weighs 2^31, bit 31 weighs 1

@@ -1,14 +1,16 @@
--- The kinds of elements (X.690, section 8.1), and what a message is made of: a schema that reads like a module of ASN.1.
+-- The kinds of elements (X.690, section 8.1), and what a message is made of: a schema that reads
+-- like a module of ASN.1.
 use Rattle.std.specs.Prelude.{ℕ, ◌+◌, ℤ, List, Option}
 
--- what stands in an element without parts
+-- what an element without parts contains
 pub data Content : Type 0 where
   int32 uint32 seq_number microseconds octets string flags time : Content
   -- this whole number alone
   constant : ℕ → Content
 
--- An element without parts, one with a tag round one other element, and a SEQUENCE of fields.
--- Fields are those that still come: none, one that must come or may come and others, or one kind again and again.
+-- An element without parts, one with a tag around one other element, or a SEQUENCE of fields.
+-- Fields are those that still come: none, one that must come or may come and others, or one kind
+-- again and again.
 mutual
   pub data Kind : Type 0 where
     leaf : Content → Kind
@@ -25,7 +27,7 @@ mutual
 abbrev pub field : ℕ → Kind → Kind
 field n k = wrapped (0xa0 + n) k
 
--- [APPLICATION n] round an element
+-- [APPLICATION n] around an element
 abbrev pub application : ℕ → Kind → Kind
 application n k = wrapped (0x60 + n) k
 
@@ -46,8 +48,8 @@ tag_of (leaf c) = content_tag c
 tag_of (wrapped tag k) = tag
 tag_of (sequence fs) = 0x30
 
--- Numbers are numbers, texts are lists of bytes, flags are a number of 32 bits whose bit 0 is the most significant,
--- and a time is the seconds from 1970-01-01T00:00:00Z.
+-- Numbers are numbers, texts are lists of bytes, flags are a number of 32 bits whose bit 0 is the
+-- most significant, and a time is the seconds since 1970-01-01T00:00:00Z.
 abbrev pub ContentValue : Content → Type 0
 ContentValue int32 = ℤ
 ContentValue uint32 = ℕ

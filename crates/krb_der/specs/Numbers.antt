@@ -1,10 +1,12 @@
--- Sequence numbers in kinds and in values, and the second spelling of a value that has one above 2147483647.
+-- Sequence numbers in kinds and in values, and the second spelling of a value that has one above
+-- 2147483647.
 use Rattle.std.specs.Prelude.{ℕ, ◌+◌, ◌*◌, ◌^◌, ◌≤◌, List, [], ◌∷◌, IsSomeAnd, ◌⊎◌}
 use Rattle.krb_der.specs.Kind.{seq_number, Kind, leaf, wrapped, sequence, Fields, ends, must, may, each, ValueOf, FieldsOf}
 use Rattle.krb_der.specs.Content.{IsNegative, ElementaryBy}
 use Rattle.krb_der.specs.Spells.{SpellsBy}
 
--- how many sequence numbers an element of the kind can hold; two for each of those that may come again and again
+-- how many sequence numbers an element of the kind can hold; two for each of those that may come
+-- again and again
 abbrev mutual
   pub numbers_in : Kind → ℕ
   numbers_in (leaf seq_number) = 1

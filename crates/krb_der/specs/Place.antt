@@ -1,4 +1,5 @@
--- A place in a message: the offset of a byte, and the bytes from it to the end of what encloses it.
+-- A place in a message: the offset of a byte, and the bytes from it to the end of the enclosing
+-- element.
 use Rattle.std.specs.Prelude.{ℕ, ◌+◌, List, [], ◌∷◌, length, Bool, false, ◌==◌}
 
 pub record Place : Type 0 where
@@ -9,7 +10,7 @@ pub record Place : Type 0 where
 abbrev pub begin_at : List ℕ → Place
 begin_at bytes = record { at = 0; rest = bytes }
 
--- the offset of the end of what encloses a place
+-- the offset of the end of the enclosing element
 abbrev pub end_of : Place → ℕ
 end_of p = p.at + length p.rest
 

@@ -1,4 +1,5 @@
--- How many bytes are written for a value (X.690, sections 8.1.3, 8.3 and 10.1), and for which values there are any.
+-- How many bytes are written for a value (X.690, sections 8.1.3, 8.3 and 10.1), and for which
+-- values bytes are written.
 use Rattle.std.specs.Prelude.{ℕ, ◌+◌, ◌^◌, ◌<◌, ℤ, pos, negsuc, nat_lt, if◌then◌else◌, FitsSigned, List, [], ◌∷◌, length, Option, Some, None, IfSome}
 use Rattle.std.specs.Int.{w32}
 use Rattle.krb_der.specs.Kind.{Content, int32, uint32, seq_number, microseconds, constant, octets, string, flags, time, Kind, leaf, wrapped, sequence, Fields, ends, must, may, each, ContentValue, ValueOf, FieldsOf}
@@ -13,12 +14,13 @@ length_size n =
 abbrev pub element_size : ℕ → ℕ
 element_size n = 1 + length_size n + n
 
--- of the content of a whole number from 0 on: one bit for the sign, and as few whole bytes as the number needs
+-- of the content of a whole number from 0 on: one bit for the sign, and as few whole bytes as the
+-- number needs
 abbrev pub natural_size : ℕ → ℕ
 natural_size n =
     if nat_lt n (2 ^ 7) then 1 else if nat_lt n (2 ^ 15) then 2 else if nat_lt n (2 ^ 23) then 3 else if nat_lt n (2 ^ 31) then 4 else 5
 
--- negsuc m is -(m + 1), whose bits are those of m, turned
+-- negsuc m is -(m + 1), whose bits are those of m, inverted
 abbrev pub integer_size : ℤ → ℕ
 integer_size (pos n) = natural_size n
 integer_size (negsuc m) = natural_size m
@@ -35,7 +37,7 @@ leaf_size string v = length v
 leaf_size flags n = 5
 leaf_size time s = 15
 
--- of a part that may be left out
+-- of an optional part
 abbrev pub size_if : {V : Type 0} → (V → ℕ) → Option V → ℕ
 size_if size None = 0
 size_if size (Some v) = size v
@@ -46,7 +48,7 @@ sizes_of size [] = 0
 sizes_of size (v ∷ vs) = size v + sizes_of size vs
 
 abbrev mutual
-  -- of the content of an element, and of the fields that stand in one
+  -- of the content of an element, and of the fields in it
   pub content_size : (k : Kind) → ValueOf k → ℕ
   content_size (leaf c) v = leaf_size c v
   content_size (wrapped tag k) v = element_size (content_size k v)

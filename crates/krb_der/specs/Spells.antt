@@ -4,8 +4,9 @@ use Rattle.krb_der.specs.Kind.{Content, Kind, leaf, wrapped, sequence, Fields, e
 use Rattle.krb_der.specs.Place.{Place, begins}
 use Rattle.krb_der.specs.Content.{Elementary, AreBytes, number}
 
--- The bytes of a length (X.690, sections 8.1.3 and 10.1): below 128 the number itself. Else the count of its bytes with the
--- top bit set, and those bytes, of which there are at most four and as few as do.
+-- The bytes of a length (X.690, sections 8.1.3 and 10.1): below 128 the number itself. Otherwise
+-- the count of its bytes with the top bit set, and those bytes: at most four, and as few as
+-- possible.
 pub data IsLength (n : ℕ) (size : List ℕ) : Type 0 where
   short : n < 128 → size ≡ n ∷ [] → IsLength n size
   long : (digits : List ℕ) → size ≡ (0x80 + length digits) ∷ digits → length digits ≤ 4 → AreBytes digits
@@ -43,7 +44,7 @@ Contents = (c : Content) → ContentValue c → List ℕ → Type 0
 
 module _ (Leaf : Contents) where
   abbrev mutual
-    -- the content of an element, and the fields that stand in one
+    -- the content of an element, and the fields in it
     pub SpellsContent : (k : Kind) → ValueOf k → List ℕ → Type 0
     SpellsContent (leaf c) v = Leaf c v
     SpellsContent (wrapped tag k) v = IsElement (tag_of k) (SpellsContent k v)
@@ -59,7 +60,7 @@ module _ (Leaf : Contents) where
   abbrev pub SpellsBy : (k : Kind) → ValueOf k → List ℕ → Type 0
   SpellsBy k v = IsElement (tag_of k) (SpellsContent k v)
 
-  -- an element of the kind with this value stands at the place, and what is behind it
+  -- an element of the kind with this value is at the place, and what comes after it
   pub record StandsAt (k : Kind) (v : ValueOf k) (here after : Place) : Type 0 where
     pub front : List ℕ
     pub spelled : SpellsBy k v front
@@ -70,7 +71,7 @@ module _ (Leaf : Contents) where
 abbrev pub Spells : (k : Kind) → ValueOf k → List ℕ → Type 0
 Spells k v bytes = SpellsBy Elementary k v bytes
 
--- the most bytes that a message has
+-- the greatest length of a message, in bytes
 abbrev pub limit : ℕ
 limit = 1_048_576
 

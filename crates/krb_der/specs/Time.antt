@@ -1,7 +1,8 @@
--- Times (RFC 4120, section 5.2.3): GeneralizedTime in UTC, without a fraction, on the calendar of ISO 8601 with years from 0000 to 9999.
+-- Times (RFC 4120, section 5.2.3): GeneralizedTime in UTC, without a fraction, on the calendar of
+-- ISO 8601 with years from 0000 to 9999.
 use Rattle.std.specs.Prelude.{◌≡◌, ℕ, zero, suc, ◌+◌, ◌-◌, ◌*◌, ◌/◌, ◌%◌, ◌<◌, ◌≤◌, ℤ, pos, neg_ℤ, ◌+ℤ◌, ◌-ℤ◌, ◌*ℤ◌, ◌≤ℤ◌, Bool, not, ◌&&◌, ◌||◌, ◌==◌, if◌then◌else◌, List, [], ◌∷◌, ◌++◌}
 
--- every fourth year, but of the centuries only every fourth
+-- every fourth year, but only every fourth of the centuries
 abbrev pub is_leap_year : ℕ → Bool
 is_leap_year y = (y % 4 == 0) && (not (y % 100 == 0) || (y % 400 == 0))
 

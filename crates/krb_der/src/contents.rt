@@ -13,22 +13,25 @@ impl<'a> Cursor<'a> {
     /// Reads a whole number from -2,147,483,648 to 2,147,483,647 (RFC 4120, section 5.2.4).
     ///
     /// # Errors
-    /// Those of [`enter`](Self::enter), then `Integer` here: empty, not in its shortest form, or out of range.
+    /// Those of [`enter`](Self::enter), then `Integer` here: empty, not in its shortest form, or
+    /// out of range.
     pub fn int32(&mut self) -> Result<i32, Fault>
         ensures { Reads (leaf int32) (λ z. z) result self.old self.new }
     {
         self.read::<i32>()
     }
 
-    /// Reads a whole number from 0 to 4,294,967,295 (RFC 4120, section 5.2.4). Errors as of [`int32`](Self::int32).
+    /// Reads a whole number from 0 to 4,294,967,295 (RFC 4120, section 5.2.4). Errors as of
+    /// [`int32`](Self::int32).
     pub fn uint32(&mut self) -> Result<u32, Fault>
         ensures { Reads (leaf uint32) (λ n. n) result self.old self.new }
     {
         self.read::<u32>()
     }
 
-    /// Reads a sequence number: a whole number from -2,147,483,648 to 4,294,967,295, of which a negative one is read as the
-    /// number of the same 32 bits, 4,294,967,296 more (RFC 4120, sections 5.2.4 and 5.5.1). Errors as of [`int32`](Self::int32).
+    /// Reads a sequence number: a whole number from -2,147,483,648 to 4,294,967,295. A negative one
+    /// is read as the number of the same 32 bits, which is 4,294,967,296 more (RFC 4120, sections
+    /// 5.2.4 and 5.5.1). Errors as of [`int32`](Self::int32).
     pub fn seq_number(&mut self) -> Result<u32, Fault>
         ensures { Reads (leaf seq_number) (λ n. n) result self.old self.new }
     {
@@ -42,21 +45,24 @@ impl<'a> Cursor<'a> {
         Ok(number.0)
     }
 
-    /// Reads a whole number from 0 to 999,999 (RFC 4120, section 5.2.4). Errors as of [`int32`](Self::int32).
+    /// Reads a whole number from 0 to 999,999 (RFC 4120, section 5.2.4). Errors as of
+    /// [`int32`](Self::int32).
     pub fn microseconds(&mut self) -> Result<Microseconds, Fault>
         ensures { Reads (leaf microseconds) (λ n. n) result self.old self.new }
     {
         self.read::<Microseconds>()
     }
 
-    /// Reads the whole number `N`. Errors as of [`int32`](Self::int32); `Integer` also for any other number.
+    /// Reads the whole number `N`. Errors as of [`int32`](Self::int32), and `Integer` for any other
+    /// number.
     pub fn constant<const N: u32>(&mut self) -> Result<Constant<N>, Fault>
         ensures { Reads (leaf (constant N)) (λ _. tt) result self.old self.new }
     {
         self.read::<Constant<N>>()
     }
 
-    /// Reads an OCTET STRING: answers a slice of the input. Errors as of [`enter`](Self::enter).
+    /// Reads an OCTET STRING, and returns a slice of the input. Errors as of
+    /// [`enter`](Self::enter).
     pub fn octets(&mut self) -> Result<&'a [u8], Fault>
         ensures { Reads (leaf octets) (λ s. s.now) result self.old self.new }
     {
@@ -70,7 +76,8 @@ impl<'a> Cursor<'a> {
         Ok(octets.0)
     }
 
-    /// Reads a GeneralString, of any bytes: answers a slice of the input. Errors as of [`enter`](Self::enter).
+    /// Reads a GeneralString of any bytes, and returns a slice of the input. Errors as of
+    /// [`enter`](Self::enter).
     pub fn string(&mut self) -> Result<&'a [u8], Fault>
         ensures { Reads (leaf string) (λ s. s.now) result self.old self.new }
     {
@@ -97,7 +104,7 @@ impl<'a> Cursor<'a> {
     /// Reads a GeneralizedTime of the form `YYYYMMDDHHMMSSZ` (RFC 4120, section 5.2.3).
     ///
     /// # Errors
-    /// Those of [`enter`](Self::enter), then `Time` here: not of the form, or not of the calendar.
+    /// Those of [`enter`](Self::enter), then `Time` here: not of the form, or not in the calendar.
     pub fn time(&mut self) -> Result<Seconds, Fault>
         ensures { Reads (leaf time) (λ s. s) result self.old self.new }
     {

@@ -13,10 +13,10 @@ use crate::{Element, Fault, FaultKind};
 use std::fmt;
 use std::marker::Model;
 
-/// The most bytes that a message has.
+/// The greatest length of a message, in bytes.
 pub const LIMIT: usize = 1_048_576;
 
-/// A place in a message: an offset, and the bytes from it to the end of what encloses it.
+/// A place in a message: an offset, and the bytes from there to the end of the enclosing element.
 #[derive(Drop)]
 pub struct Cursor<'a> {
     at: usize,
@@ -43,10 +43,10 @@ impl<'a> Model for Cursor<'a> {
 }
 
 impl<'a> Cursor<'a> {
-    /// The start of a message.
+    /// Starts at the first byte of a message.
     ///
     /// # Errors
-    /// `TooLong` at 0 above 1,048,576 bytes.
+    /// `TooLong` at offset 0 above 1,048,576 bytes.
     pub fn new(bytes: &'a [u8]) -> Result<Cursor<'a>, Fault>
         ensures ok { IsOk result ↔ (length bytes.entry.now ≤ limit) }
         ensures start { IfOk result (λ c. c ≡ begin_at bytes.entry.now) }
@@ -61,7 +61,7 @@ impl<'a> Cursor<'a> {
         Ok(Cursor { at: 0, rest: bytes })
     }
 
-    /// A second cursor at this place.
+    /// Returns a second cursor at this place.
     pub fn again(&self) -> Cursor<'a>
         ensures { result ≡ self.now }
     {
@@ -71,17 +71,31 @@ impl<'a> Cursor<'a> {
         }
     }
 
-    /// Whether nothing is left of what encloses the place.
+    /// Returns whether nothing is left of the enclosing element.
     pub fn is_at_end(&self) -> bool
         ensures { IsTrue result ↔ (self.now.rest ≡ []) }
     {
         self.rest.is_empty()
     }
 
-    /// Reads the element of the type's kind that stands next.
+    /// Returns the offset of this place in the message.
+    pub fn at(&self) -> usize
+        ensures { result ≡ self.now.at }
+    {
+        self.at
+    }
+
+    /// Returns the bytes that are left of the enclosing element.
+    pub fn rest(&self) -> &'a [u8]
+        ensures { result.now ≡ self.now.rest }
+    {
+        self.rest
+    }
+
+    /// Reads the next element, which must be of the type's kind.
     ///
     /// # Errors
-    /// A fault of the element, by the rules of `specs::Fault`. The cursor then stays.
+    /// A fault of the element, by the rules of `specs::Fault`. The cursor is then unchanged.
     pub fn read<T: Element<'a>>(&mut self) -> Result<T, Fault>
         ensures { Reads T.kind T.view result self.old self.new }
     {
@@ -89,12 +103,14 @@ impl<'a> Cursor<'a> {
         T::read(self)
     }
 
-    /// Enters the element with this tag that stands next: answers a cursor over its content, and goes behind it.
+    /// Enters the next element, which must have this tag: returns a cursor over its content, and
+    /// moves past the element.
     ///
     /// # Errors
-    /// - `Truncated` at the end of what encloses the place: no byte is left, or the length or the content is cut off.
-    /// - `Tag` here: another byte stands here.
-    /// - `Length` behind the tag: the length is no length, or not in its shortest form.
+    /// - `Truncated` at the end of the enclosing element: no byte is left, or the length or the
+    ///   content is cut off.
+    /// - `Tag` here: the next byte is another.
+    /// - `Length` after the tag: the length is invalid, or not in its shortest form.
     pub fn enter(&mut self, tag: u8) -> Result<Cursor<'a>, Fault>
         ensures { Enters tag result self.old self.new }
     {
@@ -123,10 +139,10 @@ impl<'a> Cursor<'a> {
         Ok(())
     }
 
-    /// Enters the element with this tag where its tag is the next byte; answers `None` where it isn't.
+    /// Enters the next element if it has this tag; returns `None` if it doesn't.
     ///
     /// # Errors
-    /// Those of [`enter`](Self::enter) where its tag is the next byte.
+    /// Those of [`enter`](Self::enter), if the tag is the next byte.
     pub fn optional(&mut self, tag: u8) -> Result<Option<Cursor<'a>>, Fault>
         ensures { MayEnter tag result self.old self.new }
     {
@@ -161,13 +177,6 @@ impl<'a> Cursor<'a> {
         self.finish()
     }
 
-    /// The bytes that are left.
-    pub(crate) fn rest(&self) -> &'a [u8]
-        ensures { result.now ≡ self.now.rest }
-    {
-        self.rest
-    }
-
     /// The fault of this kind of the element that begins here.
     pub(crate) fn fault(&self, kind: FaultKind) -> Fault
         ensures { result ≡ record { kind = kind; at = self.now.at } }
@@ -175,7 +184,7 @@ impl<'a> Cursor<'a> {
         Fault { kind, at: self.at }
     }
 
-    /// The content of the element with this tag that begins here, and what is behind it.
+    /// The content of the element with this tag that begins here, and what comes after the element.
     pub(crate) fn head(&self, tag: u8) -> Result<(Cursor<'a>, Cursor<'a>), Fault>
         ensures { result ≡ enter_at tag self.now }
     {
@@ -214,7 +223,7 @@ impl<'a> Cursor<'a> {
         }
     }
 
-    /// The first bytes of `rest`, which is what is left here, and those behind them.
+    /// The first bytes of `rest`, which is what is left here, and those after them.
     fn split(&self, len: usize, rest: &'a [u8]) -> Result<(Cursor<'a>, Cursor<'a>), Fault>
         requires { length rest.now ≤ length self.now.rest }
         ensures { result ≡ split_at self.now len rest.now }

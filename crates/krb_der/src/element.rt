@@ -14,11 +14,11 @@ pub trait Element<'a>: Sized {
 
     ghost view: { Self → ValueOf kind };
 
-    /// Reads the element that stands next, as `specs::Computed` has it. A refused call leaves the cursor.
+    /// Reads the next element, as `specs::Computed` has it. On an error the cursor is unchanged.
     fn read(cursor: &mut Cursor<'a>) -> Result<Self, Fault>
         ensures { Gives view result cursor.old cursor.new (element_at kind cursor.old) };
 
-    // Each optional field can be told from what may follow it.
+    // Each optional field can be told apart from what may follow it.
     ghost clear: { is_clear kind ≡ true };
 }
 

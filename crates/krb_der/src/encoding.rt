@@ -13,12 +13,12 @@ pub trait Encode {
 
     ghost view: { Self → ValueOf kind };
 
-    /// Writes what is written for the value.
+    /// Writes the bytes of the value.
     ///
     /// # Errors
-    /// The writer then stays.
+    /// The writer is then unchanged.
     /// - `TooLong`: it would hold more than 1,048,576 bytes.
-    /// - `OutOfMemory`: there was no room.
+    /// - `OutOfMemory`: there is no memory.
     fn write(&self, out: &mut Writer) -> Result<(), EncodeFault>
         ensures { EncodesValue kind (view self.now) result out.old out.new };
 }
@@ -147,13 +147,13 @@ impl Encode for Text<'_> {
     }
 }
 
-/// The room that a message gets at first, in bytes: most messages need no more.
+/// The first capacity of a message, in bytes. Most messages need no more.
 const FIRST_ROOM: usize = 512;
 
-/// The message that the value is.
+/// Returns the message that has this value.
 ///
 /// # Errors
-/// `TooLong` where it would have more than 1,048,576 bytes; `OutOfMemory`.
+/// `TooLong` if it would have more than 1,048,576 bytes; `OutOfMemory`.
 pub fn encoded<T: Encode>(alloc: Global, value: &T) -> Result<Vec<u8>, EncodeFault>
     ensures { IsEncoded T.kind (T.view value.now) result }
 {

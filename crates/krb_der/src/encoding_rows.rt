@@ -18,7 +18,7 @@ pub trait EncodeRow {
         ensures { EncodesFields fields (view self.now) result out.old out.new };
 }
 
-/// Writes an element with this tag round it.
+/// Writes an element with this tag around the value.
 fn write_wrapped<T: Encode>(value: &T, tag: u8, out: &mut Writer) -> Result<(), EncodeFault>
     ensures { EncodesValue (wrapped tag T.kind) (T.view value.now) result out.old out.new }
 {
@@ -38,7 +38,7 @@ pub fn write_sequence<R: EncodeRow>(row: &R, out: &mut Writer) -> Result<(), Enc
     out.limited(start, written)
 }
 
-/// Writes a SEQUENCE of these fields with this tag round it. Errors as of [`Encode::write`].
+/// Writes a SEQUENCE of these fields with this tag around it. Errors as of [`Encode::write`].
 pub fn write_application<R: EncodeRow>(
     row: &R,
     tag: u8,
@@ -86,7 +86,7 @@ impl<const TAG: u8, T: Encode, R: EncodeRow> EncodeRow for (Field<TAG, T>, R) {
     }
 }
 
-/// Writes an element with this tag round it where there is one, and then the rest of the row.
+/// Writes an element with this tag around the value, if there is one, and then the rest of the row.
 fn write_maybe<T: Encode, R: EncodeRow>(
     maybe: &Option<T>,
     tag: u8,

@@ -1,4 +1,4 @@
-//! Why bytes are no message, and why a value was not encoded.
+//! Why bytes aren't a message, and why a value wasn't encoded.
 
 ghost use Rattle.std.specs.Prelude.{◌≡◌};
 
@@ -10,39 +10,39 @@ use thiserror::Error;
 pub enum FaultKind {
     /// The bytes end before the element does.
     Truncated,
-    /// Another element must stand here.
+    /// Another element is required here.
     Tag,
-    /// The length is no length, or not the shortest form of one.
+    /// The length is invalid, or not in its shortest form.
     Length,
     /// A whole number is empty, not in its shortest form, out of its range, or not the constant.
     Integer,
-    /// A time is not of the form or not of the calendar.
+    /// A time isn't of the form, or not in the calendar.
     Time,
-    /// Flags are not 32 bits.
+    /// Flags aren't 32 bits.
     Flags,
-    /// Bytes stand after the last element.
+    /// There are bytes after the last element.
     Trailing,
     /// The message has more than 1,048,576 bytes.
     TooLong,
 }
 
-/// What is wrong with the bytes, and at which of them. Shown as `Truncated at 12`.
+/// What is wrong with the bytes, and at which offset. Displayed as `Truncated at 12`.
 #[derive(Clone, Copy, Debug, PartialEq, Eq, Error)]
 #[error("{kind:?} at {at}")]
 pub struct Fault {
-    /// The rule that is broken.
+    /// The broken rule.
     pub kind: FaultKind,
     /// An offset in the input, at most its length.
     pub at: usize,
 }
 
-/// Why a value was not encoded.
+/// Why a value wasn't encoded.
 #[derive(Debug, Drop, Error)]
 pub enum EncodeFault {
     /// The message would have more than 1,048,576 bytes.
     #[error("the message would be longer than 1048576 bytes")]
     TooLong,
-    /// There was no room.
+    /// There is no memory.
     #[error("out of memory")]
     OutOfMemory,
 }

@@ -1,4 +1,5 @@
-//! Laws of the definitions, for all kinds at once. Each function is its contract: its body does nothing.
+//! Laws of the definitions, for all kinds at once. Each function has an empty body: its contract is
+//! the law.
 
 ghost use Rattle.std.specs.Prelude.{◌≡◌, ℕ, ◌≤◌, ◌++◌, ◌∷◌, ◌⊎◌, ◌↔◌, List, [], length, true};
 ghost use Rattle.krb_der.specs.declared.fault.Fault.{Fault};
@@ -14,15 +15,16 @@ ghost use Rattle.krb_der.specs.Clear.{is_clear, are_clear};
 ghost use Rattle.krb_der.specs.Numbers.{numbers_in, HasHigh, SpellsNegative};
 ghost use Rattle.krb_der.specs.Computed.Read.{element_at, fields_at, message_of};
 
-/// A spelling has one value.
+/// A spelling has only one value.
 pub fn one_value()
     ensures { (k : Kind) → is_clear k ≡ true → (v w : ValueOf k) (bytes : List ℕ)
         → Spells k v bytes → Spells k w bytes → v ≡ w }
 {}
 
-/// A value has at most one spelling without a negative sequence number, which is the one that is written, and at most one with
-/// each of its sequence numbers negative. There is no other spelling of a value with at most one sequence number, and the
-/// negative one is there only if that number is above 2,147,483,647.
+/// A value has at most one spelling without a negative sequence number, which is the one that is
+/// written, and at most one with each of its sequence numbers negative. A value with at most one
+/// sequence number has no other spelling. It has the negative one only if that number is above
+/// 2,147,483,647.
 pub fn one_spelling()
     ensures written { (k : Kind) (v : ValueOf k) (a b : List ℕ) → Writes k v a → Writes k v b → a ≡ b }
     ensures negative { (k : Kind) (v : ValueOf k) (a b : List ℕ)
@@ -33,8 +35,8 @@ pub fn one_spelling()
     ensures high { (k : Kind) → numbers_in k ≡ 0 → (v : ValueOf k) → HasHigh k v → ⊥ }
 {}
 
-/// What is written for a value is one of its spellings, and has the value's size. There is one for each value whose numbers are in
-/// their ranges and whose size is within the limit of a message.
+/// What is written for a value is one of its spellings, and has the value's size. It exists for
+/// each value whose numbers are in their ranges and whose size is within the limit of a message.
 pub fn written()
     ensures exists { (k : Kind) (v : ValueOf k) → NumbersFit k v → size_of k v ≤ limit
         → (bytes : List ℕ) × Writes k v bytes }
@@ -43,24 +45,24 @@ pub fn written()
     ensures size { (k : Kind) (v : ValueOf k) (bytes : List ℕ) → Writes k v bytes → length bytes ≡ size_of k v }
 {}
 
-/// The numbers of what is spelled are in their ranges.
+/// The numbers of a value that is spelled are in their ranges.
 pub fn in_range()
     ensures { (k : Kind) (v : ValueOf k) (bytes : List ℕ) → Spells k v bytes → NumbersFit k v }
 {}
 
-/// No spelling begins another.
+/// No spelling is a proper prefix of another.
 pub fn no_prefix()
     ensures { (k : Kind) → is_clear k ≡ true → (v w : ValueOf k) (a b x y : List ℕ)
         → Spells k v a → Spells k w b → a ++ x ≡ b ++ y → (a ≡ b) × (v ≡ w) }
 {}
 
-/// Bytes are a message of a kind, or they are none.
+/// Whether bytes are a message of a kind is decidable.
 pub fn decided()
     ensures { (k : Kind) → is_clear k ≡ true → (bytes : List ℕ)
         → ((v : ValueOf k) × IsMessage k v bytes) ⊎ ((v : ValueOf k) → IsMessage k v bytes → ⊥) }
 {}
 
-/// Bytes that are no message of a kind have a fault by the rules.
+/// Bytes that aren't a message of a kind have a fault by the rules.
 pub fn faulty()
     ensures { (k : Kind) → is_clear k ≡ true → (bytes : List ℕ)
         → ((v : ValueOf k) → IsMessage k v bytes → ⊥) → (fault : Fault) × IsFault k bytes fault }
@@ -71,12 +73,13 @@ pub fn bit_decided()
     ensures { (flags n : ℕ) → HasBit flags n ⊎ (HasBit flags n → ⊥) }
 {}
 
-/// A fault lies within the message: at one of its bytes, or at its end.
+/// The offset of a fault is that of a byte of the message, or its end.
 pub fn within()
     ensures { (k : Kind) (bytes : List ℕ) (fault : Fault) → IsFault k bytes fault → fault.at ≤ length bytes }
 {}
 
-/// So does a fault of an element, of its head, or of fields that must stand at a place: within what encloses the place.
+/// The same holds for a fault of an element, of its head, or of fields that are required at a
+/// place: its offset is within the enclosing element.
 pub fn within_a_place()
     ensures element { (k : Kind) (here : Place) (fault : Fault)
         → IsElementFault Elementary k here fault → fault.at ≤ end_of here }
@@ -86,44 +89,46 @@ pub fn within_a_place()
         → IsFaulty Elementary fs here fault → fault.at ≤ end_of here }
 {}
 
-/// Reading an element, as `specs::Computed` has it, gives a value and a place exactly where that value's spelling stands and
-/// that place is behind it.
+/// Reading an element, as `specs::Computed` has it, gives a value and a place exactly if that
+/// value's spelling comes next and the place is after it.
 pub fn element_read()
     ensures { (k : Kind) → is_clear k ≡ true → (v : ValueOf k) (here after : Place)
         → (element_at k here ≡ Ok (v, after)) ↔ StandsAt Elementary k v here after }
 {}
 
-/// Else it gives a fault of that element by the rules.
+/// Otherwise it gives a fault of that element by the rules.
 pub fn element_refused()
     ensures { (k : Kind) (here : Place) (fault : Fault)
         → element_at k here ≡ Err fault → IsElementFault Elementary k here fault }
 {}
 
-/// Reading fields, as `specs::Computed` has it, gives their values exactly where all that is left spells them.
+/// Reading fields, as `specs::Computed` has it, gives their values exactly if everything that is
+/// left spells them.
 pub fn fields_read()
     ensures { (fs : Fields) → are_clear fs ≡ true → (v : FieldsOf fs) (here : Place)
         → (fields_at fs here ≡ Ok v) ↔ SpellsFields Elementary fs v here.rest }
 {}
 
-/// Else it gives a fault of what is left by the rules.
+/// Otherwise it gives a fault of what is left by the rules.
 pub fn fields_refused()
     ensures { (fs : Fields) (here : Place) (fault : Fault)
         → fields_at fs here ≡ Err fault → IsFaulty Elementary fs here fault }
 {}
 
-/// Reading a message, as `specs::Computed` has it, gives a value exactly where the bytes are a message with that value.
+/// Reading a message, as `specs::Computed` has it, gives a value exactly if the bytes are a message
+/// with that value.
 pub fn message_read()
     ensures { (k : Kind) → is_clear k ≡ true → (v : ValueOf k) (bytes : List ℕ)
         → (message_of k bytes ≡ Ok v) ↔ IsMessage k v bytes }
 {}
 
-/// Else it gives a fault of the bytes by the rules.
+/// Otherwise it gives a fault of the bytes by the rules.
 pub fn message_refused()
     ensures { (k : Kind) (bytes : List ℕ) (fault : Fault)
         → message_of k bytes ≡ Err fault → IsFault k bytes fault }
 {}
 
-/// What is left as elements of one kind is nothing, or one element and others.
+/// What is left as elements of one kind is either nothing, or one element and others.
 pub fn list_next()
     ensures { (k : Kind) (here : Place) (vs : List (ValueOf k)) → fields_at (each k) here ≡ Ok vs
         → ((here.rest ≡ []) × (vs ≡ [])) ⊎ ((v : ValueOf k) × (after : Place) × (ws : List (ValueOf k))

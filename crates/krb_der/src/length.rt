@@ -7,7 +7,7 @@ ghost use Rattle.krb_der.specs.Inner.LengthView.{plain_length};
 use crate::FaultKind;
 use crate::whole::number;
 
-/// The length that the next `count` bytes are, and the bytes behind it.
+/// The length that the next `count` bytes give, and the bytes after it.
 #[tactic(auto, unfolding(crate::specs::Computed::Read::long_of))]
 fn long(count: usize, bytes: &[u8]) -> Result<(usize, &[u8]), FaultKind>
     requires few { count ≤ 4 }
@@ -26,7 +26,7 @@ fn long(count: usize, bytes: &[u8]) -> Result<(usize, &[u8]), FaultKind>
     Ok((length as usize, rest))
 }
 
-/// The length that the bytes begin with, and the bytes behind it.
+/// The length that the bytes begin with, and the bytes after it.
 #[tactic(auto, unfolding(crate::specs::Computed::Read::length_of))]
 pub fn length(bytes: &[u8]) -> Result<(usize, &[u8]), FaultKind>
     ensures value { plain_length result ≡ length_of bytes.now }

@@ -1,36 +1,45 @@
-//! DER (X.690) as Kerberos uses it (RFC 4120, section 5.1): reading by a [`Cursor`], writing by a [`Writer`], and whole messages.
+//! DER (X.690) as Kerberos uses it (RFC 4120, section 5.1): reading with a [`Cursor`], writing with
+//! a [`Writer`], and whole messages.
 //!
-//! A kind of element is a value of `specs::Kind`, a schema that reads like a module of ASN.1. `specs::Spells` says which bytes
-//! spell which value of a kind, and `specs::Fault` what is wrong with other bytes, and where. Times are whole seconds of the
-//! years 0000 to 9999 in Zulu time, flags have 32 bits, numbers are below 2^32, and a message has at most 1,048,576 bytes.
+//! A kind of element is a value of `specs::Kind`, a schema that reads like a module of ASN.1.
+//! `specs::Spells` says which bytes spell which value of a kind, and `specs::Fault` what is wrong
+//! with other bytes, and at which offset. Times are whole seconds of the years 0000 to 9999 in Zulu
+//! time, flags have 32 bits, numbers are below 2^32, and a message has at most 1,048,576 bytes.
 //!
-//! - Call by call: `Cursor::new`, `enter(tag)` and `optional(tag)` for the content of an element with parts, `int32` and its
-//!   kin for one without, `finish` at the end of each content. Writing: `Writer::new`, the calls of the same names, and
-//!   `wrap(tag, start)` round what was written from `start` on.
-//! - As rows of fields: a type with [`Element`] names its kind, and its `read` asks `cursor.sequence()` for nested pairs of
-//!   [`Field`] and [`Maybe`]. With [`Message`] too, [`parse`] reads it. Bind the answer of `sequence` with its type and match
-//!   on it: `?` there is refused for rows that hold both a slice and a time. With [`Encode`], whose `write` hands such a row to
-//!   [`write_sequence`], [`encoded`] writes it. A field that is an `i32` goes into that row as `Field(&self.number)`.
-//!   A field that may be left out goes there as `MaybeRef(&self.field)`.
-//! - A SEQUENCE OF is read by `cursor.list::<T>()` as a cursor over its content, and that by `next::<T>()`; a slice or a vector
-//!   is written as one, and texts that aren't of this crate as [`TextList`].
+//! - Call by call. Reading: `Cursor::new`; `enter(tag)` and `optional(tag)` for the content of an
+//!   element with parts; `int32` and similar calls for an element without parts; `finish` at the
+//!   end of each content. Writing: `Writer::new`; the calls of the same names; and
+//!   `wrap(tag, start)` around what was written from `start` on.
+//! - As rows of fields. A type with [`Element`] names its kind, and its `read` asks
+//!   `cursor.sequence()` for nested pairs of [`Field`] and [`Maybe`]. If the type has [`Message`]
+//!   too, [`parse`] reads it. Bind the result of `sequence` with its type and match on it: `?` is
+//!   refused there for rows that hold both a slice and a time. If the type has [`Encode`], whose
+//!   `write` passes such a row to [`write_sequence`], [`encoded`] writes it. A field that is an
+//!   `i32` goes into that row as `Field(&self.number)`. An optional field goes there as
+//!   `MaybeRef(&self.field)`.
+//! - A SEQUENCE OF is read by `cursor.list::<T>()` as a cursor over its content, and that cursor is
+//!   read by `next::<T>()`. A slice or a vector is written as a SEQUENCE OF. Texts of types of
+//!   other crates are written as [`TextList`].
 //!
-//! What `Element::read` and `Row::read_row` answer is `specs::Computed`'s reading from left to right, of which [`laws`] says that
-//! it gives exactly what `specs::Spells` and `specs::Fault` say.
-//! A private call whose name ends in `_here` has the body of the public call of that name, and says of it what `specs::Computed` gives;
-//! the public one says what the bytes spell.
+//! `Element::read` and `Row::read_row` return what `specs::Computed` reads from left to right.
+//! [`laws`] states that this is exactly what `specs::Spells` and `specs::Fault` say. A private call
+//! whose name ends in `_here` has the body of the public call of that name. Its contract says what
+//! `specs::Computed` gives; that of the public call says what the bytes spell.
 //!
-//! Its files by what they do. Reading: `head`, `length` and `tag` (an element's first bytes), `cursor`, `contents`, `leaf` and `whole`
-//! (elements without parts), `element`, `parts` and `row` (those with parts), `message`, `fault`. Writing: `writer`, `encoding`,
-//! `encoding_rows`. Both: `list`, `value`, `time`.
+//! The files by what they do. Reading: `head`, `length` and `tag` (an element's first bytes),
+//! `cursor`, `contents`, `leaf` and `whole` (elements without parts), `element`, `parts` and `row`
+//! (those with parts), `message`, `fault`. Writing: `writer`, `encoding`, `encoding_rows`. Both:
+//! `list`, `value`, `time`.
 //!
-//! `specs::Size` says how many bytes are written for a value, and so which values are too long for a message; `specs::Flags`
-//! which bit of flags is which.
+//! `specs::Size` says how many bytes are written for a value, and so which values are too long for
+//! a message. `specs::Flags` says which bit of flags is which.
 //!
-//! Each value has one spelling, but for sequence numbers ([`SeqNumber`]) above 2,147,483,647: those are read also as the negative
-//! numbers of the same 32 bits, and never written so. `specs::Numbers` says which spelling of a value that is.
+//! Each value has one spelling, except for sequence numbers ([`SeqNumber`]) above 2,147,483,647:
+//! those are also read as the negative numbers of the same 32 bits, but never written so.
+//! `specs::Numbers` says which spelling of a value that is.
 //!
-//! Slices that reading answers are of the input; only writing takes memory. No call runs longer than linear in its bytes, times the depth of its elements where it writes.
+//! Reading returns slices of the input; only writing allocates memory. Each call runs in time
+//! linear in its bytes, and for writing, times the depth of its elements.
 #![tactic(auto)]
 
 mod contents;

@@ -16,7 +16,8 @@ use crate::{Cursor, Element, Encode, EncodeFault, Fault, Text, Writer, tag};
 use std::convert::AsSlice;
 
 impl<'a> Cursor<'a> {
-    /// Checks that all that is left are elements of the type's kind, one after another, as in a SEQUENCE OF. The cursor stays.
+    /// Checks that everything that is left are elements of the type's kind, one after another, as
+    /// in a SEQUENCE OF. The cursor is unchanged.
     ///
     /// # Errors
     /// A fault of what is left, by the rules of `specs::Fault`.
@@ -41,10 +42,12 @@ impl<'a> Cursor<'a> {
         Ok(())
     }
 
-    /// Reads a SEQUENCE OF elements of the type's kind: answers a cursor over its content, for [`next`](Self::next).
+    /// Reads a SEQUENCE OF elements of the type's kind: returns a cursor over its content, for
+    /// [`next`](Self::next).
     ///
     /// # Errors
-    /// As of [`read`](Self::read): also the fault of one of the elements. The cursor then stays.
+    /// As of [`read`](Self::read), and the fault of one of the elements. The cursor is then
+    /// unchanged.
     pub fn list<T: Element<'a> + Drop>(&mut self) -> Result<Cursor<'a>, Fault>
         ensures reads { Reads (sequence (each T.kind)) (listed T.kind) result self.old self.new }
         ensures inside { IfOk result (λ content. HasHead 0x30 self.old content self.new) }
@@ -67,7 +70,8 @@ impl<'a> Cursor<'a> {
         Ok(content)
     }
 
-    /// Reads the next element of a [`list`](Self::list) and goes behind it; `None` at the end.
+    /// Reads the next element of a [`list`](Self::list) and moves past it; returns `None` at the
+    /// end.
     pub fn next<T: Element<'a>>(&mut self) -> Option<T>
         requires { AreListed T.kind self.old }
         ensures end { IfNone result ((listed T.kind self.old ≡ []) × (self.new ≡ self.old)) }
@@ -141,7 +145,7 @@ impl<T: Encode> Encode for Vec<T> {
     }
 }
 
-/// Texts that stand somewhere, to be written as a SEQUENCE OF GeneralString.
+/// Texts of another type, to be written as a SEQUENCE OF GeneralString.
 #[derive(Clone, Copy, Debug)]
 pub struct TextList<'a, T>(pub &'a [T]);
 

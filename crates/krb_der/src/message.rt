@@ -10,10 +10,11 @@ use crate::{Cursor, Element, Fault};
 /// A type whose values are those of one kind of message.
 pub trait Message<'a>: Element<'a> {}
 
-/// Reads a message, which is all of the bytes.
+/// Reads a message that takes up all of the bytes.
 ///
 /// # Errors
-/// `TooLong` at 0 above 1,048,576 bytes. Else a fault by the rules of `specs::Fault`, at its offset.
+/// `TooLong` at offset 0 above 1,048,576 bytes. Otherwise a fault by the rules of `specs::Fault`,
+/// at its offset.
 pub fn parse<'a, T: Message<'a> + Drop>(bytes: &'a [u8]) -> Result<T, Fault>
     ensures { Parses T.kind T.view result bytes.entry.now }
 {

@@ -30,8 +30,8 @@ impl<'a> Cursor<'a> {
         Ok(row)
     }
 
-    /// Reads a SEQUENCE of these fields with this tag round it, as that of `[APPLICATION 2]` is 62 (hexadecimal). Errors as of
-    /// [`read`](Self::read).
+    /// Reads a SEQUENCE of these fields with this tag around it; the tag of `[APPLICATION 2]` is 62
+    /// (hexadecimal). Errors as of [`read`](Self::read).
     pub fn application<R: Row<'a> + Drop>(&mut self, tag: u8) -> Result<R, Fault>
         ensures reads { are_clear R.fields ≡ true → Reads (wrapped tag (sequence R.fields)) R.view result self.old self.new }
         ensures computed { Gives R.view result self.old self.new (element_at (wrapped tag (sequence R.fields)) self.old) }
@@ -50,7 +50,7 @@ impl<'a> Cursor<'a> {
         Ok(row)
     }
 
-    /// Reads an element with this tag round it. Errors as of [`read`](Self::read).
+    /// Reads an element with this tag around it. Errors as of [`read`](Self::read).
     pub fn wrapped<T: Element<'a> + Drop>(&mut self, tag: u8) -> Result<T, Fault>
         ensures reads { Reads (wrapped tag T.kind) T.view result self.old self.new }
         ensures computed { Gives T.view result self.old self.new (element_at (wrapped tag T.kind) self.old) }

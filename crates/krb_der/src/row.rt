@@ -9,7 +9,7 @@ ghost use Rattle.krb_der.specs.Computed.Read.{element_at, fields_at};
 use crate::{Cursor, Element, Fault};
 use std::fmt;
 
-/// An element with the tag `TAG` round it.
+/// An element with the tag `TAG` around it.
 #[derive(Clone, Copy, PartialEq, Eq)]
 pub struct Field<const TAG: u8, T>(pub T);
 
@@ -20,7 +20,7 @@ impl<const TAG: u8, T> fmt::Debug for Field<TAG, T> {
     }
 }
 
-/// The same, where it may be left out.
+/// The same, if it is optional.
 #[derive(Clone, Copy, PartialEq, Eq)]
 pub struct Maybe<const TAG: u8, T>(pub Option<T>);
 
@@ -30,7 +30,7 @@ impl<const TAG: u8, T> fmt::Debug for Maybe<TAG, T> {
     }
 }
 
-/// The same, for writing it where it stands.
+/// The same, by reference, for writing.
 #[derive(Clone, Copy, PartialEq, Eq)]
 pub struct MaybeRef<'a, const TAG: u8, T>(pub &'a Option<T>);
 

@@ -31,7 +31,7 @@ impl Model for Seconds {
 }
 
 impl Seconds {
-    /// That second, or `None` outside the years 0000 to 9999.
+    /// Returns that second, or `None` outside the years 0000 to 9999.
     pub fn new(seconds: i64) -> Option<Self>
         ensures { SomeIff result (IsSeconds seconds) seconds }
     {
@@ -41,7 +41,7 @@ impl Seconds {
         Some(Seconds { seconds })
     }
 
-    /// The seconds from 1970-01-01T00:00:00Z.
+    /// Returns the seconds since 1970-01-01T00:00:00Z.
     pub fn get(self) -> i64
         ensures value { result ≡ self }
         ensures range { IsSeconds result }
@@ -73,7 +73,7 @@ fn pair(tens: u8, ones: u8) -> Option<u8>
     }
 }
 
-/// The number that the two digits from there on are.
+/// The number that the two digits at this place are.
 fn pair_in(content: &[u8], at: usize) -> Option<u8>
     requires { at + 1 < length content.now }
     ensures value { result ≡ pair_at at content.now }

@@ -21,12 +21,12 @@ impl fmt::Debug for Octets<'_> {
 #[derive(Clone, Copy, Debug, PartialEq, Eq)]
 pub struct Text<'a>(pub &'a [u8]);
 
-/// 32 flags, of which bit 0 is the most significant (RFC 4120, section 5.2.8).
+/// 32 flags. Bit 0 is the most significant (RFC 4120, section 5.2.8).
 #[derive(Clone, Copy, Debug, PartialEq, Eq)]
 pub struct Flags(pub u32);
 
 impl Flags {
-    /// No bit is set.
+    /// Returns flags with no bit set.
     pub fn none() -> Self
         ensures value { result.0 ≡ 0 }
         ensures clear { (n : ℕ) → HasBit result.0 n → ⊥ }
@@ -34,7 +34,7 @@ impl Flags {
         Flags(0)
     }
 
-    /// The bit of this number alone is set, of 0 to 31; from 32 on none.
+    /// Returns flags with only the bit of this number set, 0 to 31; from 32 on with none.
     pub fn only(bit: u32) -> Self
         ensures value { bit < 32 → result.0 ≡ weight bit }
         ensures set { (n : ℕ) → HasBit result.0 n ↔ ((n ≡ bit) × (n < 32)) }
@@ -45,14 +45,14 @@ impl Flags {
         Flags(1 << (31 - bit))
     }
 
-    /// Whether the bit of this number is set; from 32 on none is.
+    /// Returns whether the bit of this number is set; from 32 on none is.
     pub fn has(self, bit: u32) -> bool
         ensures { IsTrue result ↔ HasBit self.0 bit }
     {
         bit < 32 && (self.0 >> (31 - bit)) % 2 == 1
     }
 
-    /// The flags as a number.
+    /// Returns the flags as a number.
     pub fn bits(self) -> u32
         ensures { result ≡ self.0 }
     {
@@ -60,7 +60,8 @@ impl Flags {
     }
 }
 
-/// A sequence number (RFC 4120, section 5.5.1), which some senders write as the negative number of the same 32 bits.
+/// A sequence number (RFC 4120, section 5.5.1), which some senders write as the negative number of
+/// the same 32 bits.
 #[derive(Clone, Copy, Debug, PartialEq, Eq)]
 pub struct SeqNumber(pub u32);
 
@@ -83,7 +84,7 @@ impl Model for Microseconds {
 }
 
 impl Microseconds {
-    /// That many microseconds, or `None` from 1,000,000 on.
+    /// Returns that many microseconds, or `None` from 1,000,000 on.
     pub fn new(micros: u32) -> Option<Self>
         ensures { SomeIff result (micros < 1_000_000) micros }
     {
@@ -93,7 +94,7 @@ impl Microseconds {
         Some(Microseconds { micros })
     }
 
-    /// The number of microseconds.
+    /// Returns the number of microseconds.
     pub fn get(self) -> u32
         ensures value { result ≡ self }
         ensures range { result < 1_000_000 }
@@ -102,6 +103,6 @@ impl Microseconds {
     }
 }
 
-/// The whole number `N`, in a place where no other may stand.
+/// The whole number `N`, at a place at which no other is allowed.
 #[derive(Clone, Copy, Debug, PartialEq, Eq)]
 pub struct Constant<const N: u32>;

@@ -128,7 +128,7 @@ pub fn is_number(content: &[u8], number: u32) -> bool
     whole(content) == Some(i64::from(number))
 }
 
-/// The bytes without those in front that the whole number doesn't need.
+/// The bytes without the leading ones that the whole number doesn't need.
 pub fn shortest(bytes: &[u8]) -> &[u8]
     ensures value { result.now ≡ shortest_of bytes.now }
     ensures shorter { length result.now ≤ length bytes.now }

@@ -1,6 +1,6 @@
 //! Writing elements.
 
-ghost use Rattle.std.specs.Prelude.{◌≡◌, ◌+◌, ◌-◌, ◌≤◌, ◌<◌, ◌^◌, ◌↔◌, [], length, drop, IsTrue, IfOk, OnOk, OnErr};
+ghost use Rattle.std.specs.Prelude.{◌≡◌, ◌+◌, ◌-◌, ◌≤◌, ◌<◌, ◌^◌, ◌↔◌, [], ◌++◌, length, drop, IsTrue, IfOk, OnOk, OnErr};
 ghost use Rattle.krb_der.specs.Kind.{leaf, int32, uint32, microseconds, constant, octets, string, flags, time};
 ghost use Rattle.krb_der.specs.Content.{IsInteger};
 ghost use Rattle.krb_der.specs.Spells.{IsElement};
@@ -39,7 +39,7 @@ impl Model for Writer {
 }
 
 impl Writer {
-    /// Nothing written yet. Takes no memory.
+    /// Makes an empty writer. Allocates no memory.
     pub fn new(alloc: Global) -> Self
         ensures { result ≡ [] }
     {
@@ -47,7 +47,7 @@ impl Writer {
         Writer { bytes }
     }
 
-    /// Nothing written yet, with room for that many bytes.
+    /// Makes an empty writer with room for that many bytes.
     pub(crate) fn with_room(alloc: Global, bytes: usize) -> Result<Self, AllocError>
         ensures { IfOk result (λ made. made ≡ []) }
     {
@@ -55,26 +55,37 @@ impl Writer {
         Ok(Writer { bytes })
     }
 
-    /// How many bytes were written.
+    /// Returns how many bytes were written.
     pub fn len(&self) -> usize
         ensures { result ≡ length self.now }
     {
         self.bytes.len()
     }
 
-    /// Whether nothing was written.
+    /// Returns whether nothing was written.
     pub fn is_empty(&self) -> bool
         ensures { IsTrue result ↔ (self.now ≡ []) }
     {
         self.bytes.is_empty()
     }
 
-    /// The bytes that were written.
+    /// Returns the bytes that were written.
     pub fn into_bytes(self) -> Vec<u8>
         ensures { result.items ≡ self }
     {
         let Writer { bytes } = self;
         bytes
+    }
+
+    /// Writes `bytes` as they are.
+    ///
+    /// # Errors
+    /// There is no memory. The writer is then unchanged.
+    pub fn raw(&mut self, bytes: &[u8]) -> Result<(), AllocError>
+        ensures ok { OnOk result (self.new ≡ self.old ++ bytes.now) }
+        ensures kept { OnErr result (self.new ≡ self.old) }
+    {
+        self.bytes.extend_from_slice(bytes)
     }
 
     /// Writes an element with this tag and content.
@@ -86,7 +97,8 @@ impl Writer {
         append_element(&mut self.bytes, tag, content)
     }
 
-    /// What becomes of a call that wrote from `start` on: nothing stays of what was refused or passes the limit of a message.
+    /// Finishes a call that wrote from `start` on: removes what was refused or passes the limit of
+    /// a message.
     pub(crate) fn limited(
         &mut self,
         start: usize,
@@ -100,7 +112,7 @@ impl Writer {
         self.settle(start, written)
     }
 
-    /// Takes back what was written from `start` on where it was refused.
+    /// Removes what was written from `start` on, if it was refused.
     pub(crate) fn settle(
         &mut self,
         start: usize,
@@ -135,7 +147,7 @@ impl Writer {
     /// Writes a whole number from -2,147,483,648 to 2,147,483,647.
     ///
     /// # Errors
-    /// There was no room, as of every call here. The writer then stays.
+    /// There is no memory, as of every call here. The writer is then unchanged.
     pub fn int32(&mut self, value: i32) -> Result<(), AllocError>
         ensures { AppendsElement (leaf int32) value result self.old self.new }
     {
@@ -171,7 +183,7 @@ impl Writer {
         self.element(tag::INTEGER, shortest(&bytes))
     }
 
-    /// Writes an OCTET STRING of `bytes`, which are at most 4,294,967,295.
+    /// Writes an OCTET STRING of `bytes`, at most 4,294,967,295 of them.
     pub fn octets(&mut self, bytes: &[u8]) -> Result<(), AllocError>
         requires { length bytes.now < 2 ^ 32 }
         ensures { AppendsElement (leaf octets) bytes.now result self.old self.new }
@@ -179,7 +191,7 @@ impl Writer {
         self.element(tag::OCTET_STRING, bytes)
     }
 
-    /// Writes a GeneralString of `bytes`, which are any bytes, at most 4,294,967,295.
+    /// Writes a GeneralString of `bytes`, any bytes and at most 4,294,967,295 of them.
     pub fn string(&mut self, bytes: &[u8]) -> Result<(), AllocError>
         requires { length bytes.now < 2 ^ 32 }
         ensures { AppendsElement (leaf string) bytes.now result self.old self.new }
@@ -202,11 +214,12 @@ impl Writer {
         self.element(tag::GENERALIZED_TIME, &text_of(value))
     }
 
-    /// Makes what was written from `start` on the content of an element with this tag: puts the tag and the shortest
-    /// length before it. `start` is at most [`len`](Self::len), and there are at most 4,294,967,295 bytes from it on.
+    /// Makes what was written from `start` on the content of an element with this tag: puts the tag
+    /// and the shortest length before it. `start` is at most [`len`](Self::len), and there are at
+    /// most 4,294,967,295 bytes from it on.
     ///
     /// # Errors
-    /// There was no room. The writer then stays.
+    /// There is no memory. The writer is then unchanged.
     pub fn wrap(&mut self, tag: u8, start: usize) -> Result<(), AllocError>
         requires within { start ≤ length self.old }
         requires fits { length (drop start self.old) < 2 ^ 32 }

@@ -1,5 +1,5 @@
--- What a call returned is what reading gives: the value, of which view is what clauses see, and the new place, or the fault and
--- the old place.
+-- What a call returned is what reading gives: the value (view is what clauses see of it) and the
+-- new place, or the fault and the old place.
 use Rattle.std.specs.Prelude.{◌≡◌, Result, Ok, Err}
 use Rattle.krb_der.specs.declared.fault.Fault.{Fault}
 use Rattle.krb_der.specs.Place.{Place}
@@ -8,12 +8,12 @@ abbrev pub Gives : {X V : Type 0} → (X → V) → Result X Fault → Place →
 Gives view (Ok x) old new read = read ≡ Ok (view x, new)
 Gives view (Err f) old new read = (read ≡ Err f) × (new ≡ old)
 
--- the same of a call that reads up to the end of its place
+-- the same for a call that reads up to the end of its place
 abbrev pub Fills : {X V : Type 0} → (X → V) → Result X Fault → Result V Fault → Type 0
 Fills view (Ok x) read = read ≡ Ok (view x)
 Fills view (Err f) read = read ≡ Err f
 
--- what reading gives where its value is dropped
+-- what reading gives if its value is dropped
 abbrev pub checked : {V : Type 0} → Result V Fault → Result (Unit {0}) Fault
 checked (Ok v) = Ok tt
 checked (Err f) = Err f

@@ -5,7 +5,7 @@ use Rattle.krb_der.specs.Kind.{Kind, each, ValueOf}
 use Rattle.krb_der.specs.Place.{Place}
 use Rattle.krb_der.specs.Computed.Read.{fields_at}
 
--- all that is left are elements of the kind
+-- everything that is left are elements of the kind
 abbrev pub AreListed : Kind → Place → Type 0
 AreListed k here = IsOk (fields_at (each k) here)
 

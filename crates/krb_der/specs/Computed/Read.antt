@@ -1,4 +1,4 @@
--- Reading from left to right, which gives the value and the place behind it, or the first fault.
+-- Reading from left to right, which gives the value and the place after it, or the first fault.
 use Rattle.std.specs.Prelude.{ℕ, zero, suc, ◌+◌, ◌-◌, ◌^◌, Bool, not, ◌&&◌, ◌==◌, nat_lt, nat_le, if◌then◌else◌, List, [], ◌∷◌, length, take, drop, Option, Some, None, Result, Ok, Err}
 use Rattle.krb_der.specs.declared.fault.Fault.{Fault}
 use Rattle.krb_der.specs.declared.fault.FaultKind.{FaultKind}
@@ -15,7 +15,7 @@ use Rattle.krb_der.specs.Computed.Clock.{time_of}
 abbrev pub fault_at : {A : Type 0} → FaultKind → ℕ → Result A Fault
 fault_at kind at = Err (record { kind = kind; at = at })
 
--- ---- the length: its number, and the bytes behind it
+-- ---- the length: its number, and the bytes after it
 abbrev pub Sized : Type 0
 Sized = Result (ℕ × List ℕ) FaultKind
 
@@ -36,7 +36,7 @@ length_of (f ∷ bytes) =
     else if nat_le 0x81 f && nat_le f 0x84 then long_of (f - 0x80) bytes
     else Err Length
 
--- ---- the head: where the content stands, and what is behind it
+-- ---- the head: where the content begins, and what comes after it
 unfoldable pub split_at : Place → ℕ → List ℕ → Result (Place × Place) Fault
 split_at p n bytes =
     if nat_lt (length bytes) n then fault_at Truncated (end_of p)
@@ -61,7 +61,7 @@ head_from tag p (b ∷ bytes) = if b == tag then sized_at p (length_of bytes) el
 unfoldable pub enter_at : ℕ → Place → Result (Place × Place) Fault
 enter_at tag p = head_from tag p p.rest
 
--- the same of an element that may stand next
+-- the same for an optional element
 unfoldable pub may_enter : ℕ → Place → Result (Option Place × Place) Fault
 may_enter tag p = if begins tag p.rest then (enter_at tag p >>= λ e. Ok (Some e.0, e.1)) else Ok (None, p)
 
@@ -99,7 +99,7 @@ wrapped_at tag read p = enter_at tag p >>= λ e. read e.0 >>= λ x. finish_at x.
 abbrev pub sequence_at : {A : Type 0} → (Place → Result A Fault) → Place → Result (A × Place) Fault
 sequence_at read p = enter_at 0x30 p >>= λ e. read e.0 >>= λ v. Ok (v, e.1)
 
--- ---- fields, up to the end of what encloses the place
+-- ---- fields, up to the end of the enclosing element
 abbrev pub must_at : {A B : Type 0} → (Place → Result (A × Place) Fault) → (Place → Result B Fault) → Place → Result (A × B) Fault
 must_at first others p = first p >>= λ x. others x.1 >>= λ y. Ok (x.0, y)
 

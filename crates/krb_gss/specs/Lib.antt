@@ -1,0 +1,5 @@
+pub mod Mechanism
+pub mod Token
+pub mod Fault
+pub mod Opening
+pub mod Inner

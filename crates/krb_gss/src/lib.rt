@@ -1,0 +1,31 @@
+//! Tokens of GSS-API: what clients wrap a request in.
+//!
+//! [`open_token`] opens the first token of a client: a token of Kerberos (RFC 2743, section 3.1; RFC 4121, section 4.1), or a
+//! negotiation whose first mechanism is Kerberos (SPNEGO: RFC 4178, section 4.2) and that holds such a token. It returns the
+//! request as a slice of the bytes, what the request was wrapped in, and the name that the token gives Kerberos. Otherwise it
+//! returns a [`TokenFault`], with the offset of the byte at fault.
+//!
+//! ```rust
+//! match open_token(bytes) {
+//!     Ok(opened) => show_opened(alloc, opened, text),
+//!     Err(fault) => write!(text, "refused {fault}").ok(),
+//! }
+//! ```
+//!
+//! `specs::Token` says which bytes are a token, in places of the bytes: where an element stands, where its content does, and what
+//! is after it. `specs::Fault` says which rule other bytes break, and where. `specs::Mechanism` lists the names.
+//!
+//! Nothing is allocated. DER is strict: lengths have their shortest form, and nothing follows the token. What the fields reqFlags
+//! and mechListMIC of a negotiation hold isn't looked at. No call runs longer than linear in its bytes.
+#![tactic(auto)]
+
+mod fault;
+mod framing;
+mod mechanism;
+mod negotiation;
+mod opening;
+mod parts;
+
+pub use fault::TokenFault;
+pub use mechanism::{Foreign, Mechanism};
+pub use opening::{Opened, Wrapping, open_token};
