@@ -1,8 +1,14 @@
 -- The faults of a file that an engine passes on.
 use Rattle.krbtool.specs.declared.fault.EngineFault.{EngineFault}
 use Rattle.krb_ap.specs.declared.request_fault.RequestFault.{RequestFault}
-use Rattle.krbtool.specs.declared.fault.EngineFault.TheVariants.{Request, Input, Write, OutOfMemory}
-use Rattle.std.proofs.Common.{◌≡◌, ◌⊎◌, Result, Ok, Err, ap, ◌∙◌, sym, inl, inr}
+use Rattle.krb_ap.specs.declared.finish_fault.FinishFault.{FinishFault}
+use Rattle.krbtool.specs.declared.fault.PickFault.{PickFault}
+use Rattle.krbtool.specs.declared.fault.EngineFault.TheVariants.{Cache, Request, Pick, Finish, Input, Write, OutOfMemory}
+use Rattle.std.specs.Prelude.{IfOk, IfErr, IfSome, Option, Some, None, ◌≢◌}
+use Rattle.krb_ccache.specs.declared.fault.CacheFault.{CacheFault}
+use Rattle.krb_ap.specs.declared.finish_fault.FinishFault.TheVariants as finish
+use Rattle.krbtool.specs.Engine.{finish_fault}
+use Rattle.std.proofs.Common.{◌≡◌, ◌⊎◌, Result, Ok, Err, ap, ◌∙◌, sym, subst, inl, inr}
 
 -- the answer is this fault, or one of two others
 abbrev pub IsOneOf : {X F : Type 0} → Result X F → F → F → F → Type 0
@@ -65,3 +71,51 @@ not_input fault which e = elim which [ inl write ↦ cc | inr memory ↦ cc ]
 pub not_written : {X : Type 0} (result : Result X EngineFault) (fault : RequestFault) → result ≡ Err (Request fault)
     → (result ≡ Err Write) ⊎ (result ≡ Err OutOfMemory) → ⊥
 not_written result fault is which = elim which [ inl write ↦ cc | inr memory ↦ cc ]
+
+-- nor is a fault of the choice
+pub not_picked : {X : Type 0} (result : Result X EngineFault) (fault : PickFault) → result ≡ Err (Pick fault)
+    → (result ≡ Err Write) ⊎ (result ≡ Err OutOfMemory) → ⊥
+not_picked result fault is which = elim which [ inl write ↦ cc | inr memory ↦ cc ]
+
+-- nor one of the reply
+pub not_finished : {X : Type 0} (result : Result X EngineFault) (fault : FinishFault) → result ≡ Err (Finish fault)
+    → (result ≡ Err Write) ⊎ (result ≡ Err OutOfMemory) → ⊥
+not_finished result fault is which = elim which [ inl write ↦ cc | inr memory ↦ cc ]
+
+-- what holds of each such value, or fault, holds of one that is there
+pub if_ok_map : {X F : Type 0} {P Q : X → Type 0} (result : Result X F) → ((value : X) → P value → Q value) → IfOk result P → IfOk result Q
+if_ok_map (Ok value) f holds = f value holds
+if_ok_map (Err fault) f holds = tt
+
+pub if_err_map : {X F : Type 0} {P Q : F → Type 0} (result : Result X F) → ((fault : F) → P fault → Q fault) → IfErr result P → IfErr result Q
+if_err_map (Ok value) f holds = tt
+if_err_map (Err fault) f holds = f fault holds
+
+pub if_some_map : {X : Type 0} {P Q : X → Type 0} (option : Option X) → ((value : X) → P value → Q value) → IfSome option P → IfSome option Q
+if_some_map None f holds = tt
+if_some_map (Some value) f holds = f value holds
+
+-- what is answered isn't a fault of a cache
+pub not_of_cache : {X : Type 0} (result : Result X EngineFault) (other : EngineFault) → result ≡ Err other
+    → ((fault : CacheFault) → other ≡ Cache fault → ⊥) → IfErr result (λ e. (fault : CacheFault) → e ≡ Cache fault → ⊥)
+not_of_cache (Ok value) other is apart = tt
+not_of_cache (Err e) other is apart = λ fault same. apart fault (sym (same_err e other is) ∙ same)
+
+pub memory_apart : (fault : CacheFault) → OutOfMemory ≡ Cache fault → ⊥
+memory_apart fault e = cc
+
+pub write_apart : (fault : CacheFault) → Write ≡ Cache fault → ⊥
+write_apart fault e = cc
+
+-- what holds of a fault of the reply holds of the one that is passed on, unless memory ran out
+pub of_finish : (P : FinishFault → Type 0) (met : FinishFault) → (met ≢ finish.OutOfMemory → P met) → IfSome (finish_fault (Finish met)) P
+of_finish P finish.MessageType holds = holds (λ e. cc)
+of_finish P (finish.Malformed fault) holds = holds (λ e. cc)
+of_finish P finish.Integrity holds = holds (λ e. cc)
+of_finish P finish.Mismatch holds = holds (λ e. cc)
+of_finish P finish.OutOfMemory holds = tt
+
+pub of_reply : {X : Type 0} (P : FinishFault → Type 0) (result : Result X EngineFault) (met : FinishFault) → result ≡ Err (Finish met)
+    → (met ≢ finish.OutOfMemory → P met) → IfErr result (λ e. IfSome (finish_fault e) P)
+of_reply P (Ok value) met is holds = tt
+of_reply P (Err e) met is holds = subst (λ (x : EngineFault). IfSome (finish_fault x) P) (sym (same_err e (Finish met) is)) (of_finish P met holds)

@@ -7,3 +7,4 @@ pub mod GoingLaws
 pub mod CountLaws
 pub mod EndLaws
 pub mod CommandLaws
+pub mod PickLaws

@@ -7,13 +7,19 @@ use Rattle.clap.specs.declared.builder.action.ArgAction.TheVariants.{SetTrue}
 use Rattle.std.specs.Borrow.{Bor}
 use Rattle.std.specs.Option.{option_map}
 use Rattle.krbtool.specs.declared.order.AcceptWords.{AcceptWords}
+use Rattle.krbtool.specs.declared.order.FinishWords.{FinishWords}
+use Rattle.krbtool.specs.declared.order.PickWords.{PickWords}
 use Rattle.krbtool.specs.declared.order.RequestWords.{RequestWords}
 use Rattle.krbtool.specs.declared.order.Order.{Order}
-use Rattle.krbtool.specs.declared.order.Order.TheVariants.{ListKeytab, ListCcache, CheckKeytab, CheckCcache, ConvertKeytab, ConvertCcache, Request, Accept}
+use Rattle.krbtool.specs.declared.order.Order.TheVariants.{ListKeytab, ListCcache, CheckKeytab, CheckCcache, ConvertKeytab, ConvertCcache, Request, Accept, Finish, PickKey}
 
 -- an operand that has to be there
 abbrev pub operand : Text → Rule
 operand id = record (new_rule id) { required = true }
+
+-- one with a whole number from 0 to some greatest one
+abbrev pub number_operand : Text → ℕ → Rule
+number_operand id greatest = record (operand id) { parser = Some (Unsigned 0 greatest) }
 
 -- an option with a whole number from 0 to some greatest one, which has a value where it is left out
 abbrev pub number_option : Text → ℕ → Text → Rule
@@ -47,22 +53,37 @@ of_file name = with_rule (new_app name) (operand (codes "FILE"))
 abbrev pub of_file_and_out : Text → App
 of_file_and_out name = with_rule (of_file name) (operand (codes "OUT"))
 
+-- NAME FILE SERVICE
+abbrev pub of_service : Text → App
+of_service name = with_rule (of_file name) (operand (codes "SERVICE"))
+
+-- NAME FILE SERVICE --time S --usec U
+abbrev pub of_moment : Text → App
+of_moment name = with_rule (with_rule (of_service name) (needed_number (codes "time") 253_402_300_799)) (needed_number (codes "usec") 999_999)
+
 -- request FILE SERVICE --time S --usec U --confounder H [--mutual]
-abbrev pub request_operands : App
-request_operands = with_rule (of_file (codes "request")) (operand (codes "SERVICE"))
-
-abbrev pub request_moment : App
-request_moment = with_rule (with_rule request_operands (needed_number (codes "time") 253_402_300_799)) (needed_number (codes "usec") 999_999)
-
 abbrev pub request : App
-request = with_rule (with_rule request_moment (needed_option (codes "confounder"))) (flag (codes "mutual"))
+request = with_rule (with_rule (of_moment (codes "request")) (needed_option (codes "confounder"))) (flag (codes "mutual"))
+
+-- finish FILE SERVICE --time S --usec U --reply HEX
+abbrev pub finish : App
+finish = with_rule (of_moment (codes "finish")) (needed_option (codes "reply"))
+
+-- NAME KEYTAB
+abbrev pub of_keytab : Text → App
+of_keytab name = with_rule (new_app name) (operand (codes "KEYTAB"))
+
+-- pick-key KEYTAB NAME ETYPE [--kvno N]
+abbrev pub pick_operands : App
+pick_operands =
+    with_rule (with_rule (of_keytab (codes "pick-key")) (operand (codes "NAME"))) (number_operand (codes "ETYPE") 2_147_483_647)
+
+abbrev pub pick_key : App
+pick_key = with_rule pick_operands (free_number (codes "kvno") 4_294_967_295)
 
 -- accept KEYTAB [--skew SECONDS] [--started SECONDS] [--service NAME] [--only NAME]
-abbrev pub accept_operands : App
-accept_operands = with_rule (new_app (codes "accept")) (operand (codes "KEYTAB"))
-
 abbrev pub accept_with_skew : App
-accept_with_skew = with_rule accept_operands (number_option (codes "skew") 86_400 (codes "300"))
+accept_with_skew = with_rule (of_keytab (codes "accept")) (number_option (codes "skew") 86_400 (codes "300"))
 
 abbrev pub accept_with_times : App
 accept_with_times = with_rule accept_with_skew (free_number (codes "started") 253_402_300_799)
@@ -87,8 +108,11 @@ with_checks = with_two with_lists (of_file (codes "check-keytab")) (of_file (cod
 abbrev pub with_conversions : App
 with_conversions = with_two with_checks (of_file_and_out (codes "convert-keytab")) (of_file_and_out (codes "convert-ccache"))
 
+abbrev pub with_exchange : App
+with_exchange = with_two with_conversions request accept
+
 unfoldable pub krbtool : App
-krbtool = with_two with_conversions request accept
+krbtool = with_two with_exchange finish pick_key
 
 -- an operand or an option has this value
 abbrev pub HasOperand : List Row → Text → Text → Type 0
@@ -116,6 +140,14 @@ pub record AsksRequest (rows : List Row) (words : RequestWords) : Type 0 where
   pub confounder : HasOperand rows (codes "confounder") words.confounder.now
   pub reply : HasFlag rows (codes "mutual") words.mutual
 
+-- the operands and options of finish
+pub record AsksFinish (rows : List Row) (words : FinishWords) : Type 0 where
+  pub file : HasFile rows words.file.now
+  pub service : HasOperand rows (codes "SERVICE") words.service.now
+  pub time : HasOperand rows (codes "time") words.time.now
+  pub usec : HasOperand rows (codes "usec") words.usec.now
+  pub reply : HasOperand rows (codes "reply") words.reply.now
+
 -- an option has this value, or is left out
 abbrev pub HasOption : List Row → Text → Option (Bor Text) → Type 0
 HasOption rows id value = first_of id rows ≡ option_map (λ s. s.now) value
@@ -128,6 +160,13 @@ pub record AsksAcceptance (rows : List Row) (words : AcceptWords) : Type 0 where
   pub service : HasOption rows (codes "service") words.service
   pub only : HasOption rows (codes "only") words.only
 
+-- the operands and the option of pick-key
+pub record AsksPick (rows : List Row) (words : PickWords) : Type 0 where
+  pub keytab : HasOperand rows (codes "KEYTAB") words.keytab.now
+  pub name : HasOperand rows (codes "NAME") words.name.now
+  pub etype : HasOperand rows (codes "ETYPE") words.etype.now
+  pub kvno : HasOption rows (codes "kvno") words.kvno
+
 -- the order is the subcommand's, with the values that its entries have
 abbrev pub IsOrder : Order → Option (Text × List Row) → Type 0
 IsOrder order None = ⊥
@@ -139,3 +178,5 @@ IsOrder (ConvertKeytab file out) (Some (name, rows)) = (name ≡ codes "convert-
 IsOrder (ConvertCcache file out) (Some (name, rows)) = (name ≡ codes "convert-ccache") × HasFiles rows file.now out.now
 IsOrder (Request words) (Some (name, rows)) = (name ≡ codes "request") × AsksRequest rows words
 IsOrder (Accept words) (Some (name, rows)) = (name ≡ codes "accept") × AsksAcceptance rows words
+IsOrder (Finish words) (Some (name, rows)) = (name ≡ codes "finish") × AsksFinish rows words
+IsOrder (PickKey words) (Some (name, rows)) = (name ≡ codes "pick-key") × AsksPick rows words

@@ -6,8 +6,11 @@ use Rattle.krb_ccache.specs.declared.fault.CacheFault.{CacheFault}
 use Rattle.krb_ccache.specs.declared.fault.CacheFault.TheVariants as cache
 use Rattle.krb_ap.specs.declared.request_fault.RequestFault.{RequestFault}
 use Rattle.krb_ap.specs.declared.request_fault.RequestFault.TheVariants as request
+use Rattle.krb_ap.specs.declared.finish_fault.FinishFault.{FinishFault}
+use Rattle.krb_ap.specs.declared.finish_fault.FinishFault.TheVariants as finish
+use Rattle.krbtool.specs.declared.fault.PickFault.{PickFault}
 use Rattle.krbtool.specs.declared.fault.EngineFault.{EngineFault}
-use Rattle.krbtool.specs.declared.fault.EngineFault.TheVariants.{Keytab, Cache, Request, Write, OutOfMemory}
+use Rattle.krbtool.specs.declared.fault.EngineFault.TheVariants.{Keytab, Cache, Request, Pick, Finish, Write, OutOfMemory}
 
 -- the bytes that were to come, where the source tells them, are a file with some value, of which this holds
 abbrev pub OfFile : {V : Type 0} → (List ℕ → V → Type 0) → Option (List ℕ) → (V → Type 0) → Type 0
@@ -33,6 +36,17 @@ request_fault (Request request.OutOfMemory) = None
 request_fault (Request fault) = Some fault
 request_fault _ = None
 
+-- why no entry is picked
+abbrev pub pick_fault : EngineFault → Option PickFault
+pick_fault (Pick fault) = Some fault
+pick_fault _ = None
+
+-- why a reply is refused, other than for want of memory
+abbrev pub finish_fault : EngineFault → Option FinishFault
+finish_fault (Finish finish.OutOfMemory) = None
+finish_fault (Finish fault) = Some fault
+finish_fault _ = None
+
 -- the faults that an engine over a keytab answers: its own, a failed sink, and want of memory
 abbrev pub IsOfKeytab : EngineFault → Type 0
 IsOfKeytab (Keytab fault) = Unit {0}
@@ -47,10 +61,20 @@ IsOfCache Write = Unit {0}
 IsOfCache OutOfMemory = Unit {0}
 IsOfCache _ = ⊥
 
--- and of one that builds a request with it
+-- of one that builds a request with it
 abbrev pub IsOfRequest : EngineFault → Type 0
 IsOfRequest (Request fault) = Unit {0}
 IsOfRequest fault = IsOfCache fault
+
+-- of one that reads the reply to it
+abbrev pub IsOfFinish : EngineFault → Type 0
+IsOfFinish (Finish fault) = Unit {0}
+IsOfFinish fault = IsOfRequest fault
+
+-- and of one that picks an entry of a keytab
+abbrev pub IsOfPick : EngineFault → Type 0
+IsOfPick (Pick fault) = Unit {0}
+IsOfPick fault = IsOfKeytab fault
 
 -- the answer is this fault of the keytab, unless its source or memory failed
 abbrev pub FailsWith : {X : Type 0} → Result X EngineFault → KeytabFault → Type 0

@@ -11,8 +11,13 @@ use Rattle.krb_name.specs.declared.text_fault.TextFault.{TextFault}
 use Rattle.krb_name.specs.declared.text_fault.TextFault.TheVariants as text
 use Rattle.krb_ap.specs.declared.request_fault.RequestFault.{RequestFault}
 use Rattle.krb_ap.specs.declared.request_fault.RequestFault.TheVariants as request
+use Rattle.krb_ap.specs.Finish.{finish_offset_of}
+use Rattle.krb_ap.specs.declared.finish_fault.FinishFault.{FinishFault}
+use Rattle.krb_ap.specs.declared.finish_fault.FinishFault.TheVariants as finish
+use Rattle.krbtool.specs.declared.fault.PickFault.{PickFault}
+use Rattle.krbtool.specs.declared.fault.PickFault.TheVariants as pick
 use Rattle.krbtool.specs.declared.fault.EngineFault.{EngineFault}
-use Rattle.krbtool.specs.declared.fault.EngineFault.TheVariants.{Keytab, Cache, Request, Input, Write, OutOfMemory}
+use Rattle.krbtool.specs.declared.fault.EngineFault.TheVariants.{Keytab, Cache, Request, Pick, Finish, Input, Write, OutOfMemory}
 
 abbrev pub keytab_name : KeytabFault → List ℕ
 keytab_name keytab.Version = codes "Version"
@@ -39,10 +44,24 @@ request_name request.BadTicket = codes "BadTicket"
 request_name request.TooLong = codes "TooLong"
 request_name request.OutOfMemory = codes "OutOfMemory"
 
+abbrev pub pick_name : PickFault → List ℕ
+pick_name pick.NoName = codes "NoName"
+pick_name pick.NoKey = codes "NoKey"
+pick_name pick.NoVersion = codes "NoVersion"
+
+abbrev pub finish_name : FinishFault → List ℕ
+finish_name finish.MessageType = codes "MessageType"
+finish_name (finish.Malformed fault) = codes "Malformed"
+finish_name finish.Integrity = codes "Integrity"
+finish_name finish.Mismatch = codes "Mismatch"
+finish_name finish.OutOfMemory = codes "OutOfMemory"
+
 abbrev pub name_of : EngineFault → List ℕ
 name_of (Keytab fault) = keytab_name fault
 name_of (Cache fault) = cache_name fault
 name_of (Request fault) = request_name fault
+name_of (Pick fault) = pick_name fault
+name_of (Finish fault) = finish_name fault
 name_of Input = codes "Read"
 name_of Write = codes "Write"
 name_of OutOfMemory = codes "OutOfMemory"
@@ -51,6 +70,8 @@ abbrev pub place_of : EngineFault → Option ℕ
 place_of (Keytab fault) = offset_of fault
 place_of (Cache fault) = in_cache.offset_of fault
 place_of (Request fault) = None
+place_of (Pick fault) = None
+place_of (Finish fault) = finish_offset_of fault
 place_of Input = None
 place_of Write = None
 place_of OutOfMemory = None

@@ -4,6 +4,8 @@ pub mod Status
 pub mod Engine
 pub mod FaultText
 pub mod Requesting
+pub mod Finishing
+pub mod Picking
 pub mod CallLine
 pub mod Tails
 pub mod Answering

@@ -5,8 +5,9 @@ use Rattle.krb_ccache.specs.declared.fault.CacheFault.TheVariants as cache
 use Rattle.krb_name.specs.declared.text_fault.TextFault.{TextFault}
 use Rattle.krb_name.specs.declared.text_fault.TextFault.TheVariants as text
 use Rattle.krb_ap.specs.declared.request_fault.RequestFault.TheVariants as request
+use Rattle.krb_ap.specs.declared.finish_fault.FinishFault.TheVariants as finish
 use Rattle.krbtool.specs.declared.fault.EngineFault.{EngineFault}
-use Rattle.krbtool.specs.declared.fault.EngineFault.TheVariants.{Keytab, Cache, Request, Input, Write, OutOfMemory}
+use Rattle.krbtool.specs.declared.fault.EngineFault.TheVariants.{Keytab, Cache, Request, Pick, Finish, Input, Write, OutOfMemory}
 
 -- 1: the content is refused. 3: a file, the output or memory failed
 abbrev pub status_of : EngineFault → ℕ
@@ -18,6 +19,9 @@ status_of (Cache cache.OutOfMemory) = 3
 status_of (Cache _) = 1
 status_of (Request request.OutOfMemory) = 3
 status_of (Request _) = 1
+status_of (Pick _) = 1
+status_of (Finish finish.OutOfMemory) = 3
+status_of (Finish _) = 1
 status_of Input = 3
 status_of Write = 3
 status_of OutOfMemory = 3

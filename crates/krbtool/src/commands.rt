@@ -3,7 +3,7 @@
 ghost use Rattle.std.specs.Prelude.{◌≡◌, false, IfOk, codes};
 ghost use Rattle.clap.specs.Words.{app_of, rule_of};
 ghost use Rattle.clap.specs.declared.builder.command.Command.TheViews.{out-Command};
-ghost use Rattle.krbtool.specs.CommandLine.{krbtool, accept, accept_operands, accept_with_times, bare, flag, free_number, free_option, needed_number, needed_option, number_option, operand, request, request_operands, request_moment, with_two, with_lists, with_checks, with_conversions, of_file, of_file_and_out};
+ghost use Rattle.krbtool.specs.CommandLine.{krbtool, accept, accept_with_times, bare, finish, flag, free_number, free_option, needed_number, needed_option, number_operand, number_option, operand, pick_key, pick_operands, request, with_two, with_lists, with_checks, with_conversions, with_exchange, of_file, of_file_and_out, of_keytab, of_moment, of_service};
 
 use clap::builder::ValueParser;
 use clap::{Arg, ArgAction, Command};
@@ -91,6 +91,33 @@ const REQUEST: Help<'static> = Help {
     ),
 };
 
+const FINISH: Help<'static> = Help {
+    about: "Reads the reply to a request that was built with a credential cache, and says what client and service agree on",
+    file: CCACHE,
+    end: with_statuses!(
+        "It prints one line: agreed CLIENT ENCTYPE [seq N] [subkey ENCTYPE], the encryption types of the session key and of the service's key.",
+        "if the file is faulty, there is no request, or the reply is refused"
+    ),
+};
+
+const ACCEPT: Help<'static> = Help {
+    about: "Answers requests: for each line SECONDS MICROS HEX [CONFOUNDER] of standard input, whether a service accepts it",
+    file: "The service's keytab",
+    end: with_statuses!(
+        "A line of input: the service's clock (seconds since 1970-01-01, and microseconds), the request in hexadecimal (- for no bytes), and a confounder for the reply (32 digits). Its answer:\n  accepted CLIENT ENCTYPE SECONDS MICROS plain|mutual [reply HEX]\n  refused CODE NAME [error HEX]\n  bad line",
+        "if the keytab is faulty, or a request or a line is refused"
+    ),
+};
+
+const PICK_KEY: Help<'static> = Help {
+    about: "Prints the entry of a keytab that a ticket would be opened with",
+    file: KEYTAB,
+    end: with_statuses!(
+        "It prints the entry's line: KVNO ENCTYPE TIMESTAMP PRINCIPAL. Without an entry it says on standard error NoName, NoKey or NoVersion: which of the three no entry has.",
+        "if the file is faulty, or no entry is picked"
+    ),
+};
+
 // A command whose one operand is a file.
 fn of_file_command<'a>(
     alloc: Global,
@@ -164,20 +191,28 @@ fn needed_arg<'a>(alloc: Global, name: &'a str, help: &'a str) -> Arg<'a>
     Arg::new(alloc, name).long(name).required(true).help(help)
 }
 
-// The command `request` with its operands.
-fn request_with_operands<'a>(alloc: Global) -> Result<Command<'a>, AllocError>
-    ensures app { IfOk result (λ c. app_of c ≡ request_operands) }
+// A command whose operands are a credential cache and a service.
+fn of_service_command<'a>(
+    alloc: Global,
+    name: &'a str,
+    help: &Help<'a>,
+) -> Result<Command<'a>, AllocError>
+    ensures app { IfOk result (λ c. app_of c ≡ of_service name.entry.now) }
     ensures local { IfOk result (λ c. (out-Command c).has_globals ≡ false) }
 {
     let service = Arg::new(alloc, "SERVICE")
         .required(true)
         .help("The service's name, as host/web@EXAMPLE.COM");
-    of_file_command(alloc, "request", &REQUEST)?.arg(service)
+    of_file_command(alloc, name, help)?.arg(service)
 }
 
-// And with the moment.
-fn request_with_moment<'a>(alloc: Global) -> Result<Command<'a>, AllocError>
-    ensures app { IfOk result (λ c. app_of c ≡ request_moment) }
+// One that has the request's moment too.
+fn of_moment_command<'a>(
+    alloc: Global,
+    name: &'a str,
+    help: &Help<'a>,
+) -> Result<Command<'a>, AllocError>
+    ensures app { IfOk result (λ c. app_of c ≡ of_moment name.entry.now) }
     ensures local { IfOk result (λ c. (out-Command c).has_globals ≡ false) }
 {
     let time = needed_number_arg(
@@ -187,7 +222,7 @@ fn request_with_moment<'a>(alloc: Global) -> Result<Command<'a>, AllocError>
         "The client's clock: seconds since 1970-01-01",
     );
     let usec = needed_number_arg(alloc, "usec", 999_999, "The microseconds of that second");
-    request_with_operands(alloc)?.arg(time)?.arg(usec)
+    of_service_command(alloc, name, help)?.arg(time)?.arg(usec)
 }
 
 fn request_command<'a>(alloc: Global) -> Result<Command<'a>, AllocError>
@@ -203,28 +238,76 @@ fn request_command<'a>(alloc: Global) -> Result<Command<'a>, AllocError>
         .long("mutual")
         .action(ArgAction::SetTrue)
         .help("Asks the service for a reply");
-    request_with_moment(alloc)?.arg(confounder)?.arg(mutual)
+    of_moment_command(alloc, "request", &REQUEST)?
+        .arg(confounder)?
+        .arg(mutual)
 }
 
-const ACCEPT_END: &str = with_statuses!(
-    "A line of input: the service's clock (seconds since 1970-01-01, and microseconds), the request in hexadecimal (- for no bytes), and a confounder for the reply (32 digits). Its answer:\n  accepted CLIENT ENCTYPE SECONDS MICROS plain|mutual [reply HEX]\n  refused CODE NAME [error HEX]\n  bad line",
-    "if the keytab is faulty, or a request or a line is refused"
-);
-
-// The command `accept` with its operand.
-fn accept_with_operand<'a>(alloc: Global) -> Result<Command<'a>, AllocError>
-    ensures app { IfOk result (λ c. app_of c ≡ accept_operands) }
+fn finish_command<'a>(alloc: Global) -> Result<Command<'a>, AllocError>
+    ensures app { IfOk result (λ c. app_of c ≡ finish) }
     ensures local { IfOk result (λ c. (out-Command c).has_globals ≡ false) }
 {
-    let keytab = Arg::new(alloc, "KEYTAB")
-        .required(true)
-        .help("The service's keytab");
-    Command::new(alloc, "accept")
-        .about(
-            "Answers requests: for each line SECONDS MICROS HEX [CONFOUNDER] of standard input, whether a service accepts it",
-        )
-        .after_help(ACCEPT_END)
+    let reply = needed_arg(alloc, "reply", "The service's reply, in hexadecimal");
+    of_moment_command(alloc, "finish", &FINISH)?.arg(reply)
+}
+
+// A command whose operand is a keytab.
+fn of_keytab_command<'a>(
+    alloc: Global,
+    name: &'a str,
+    help: &Help<'a>,
+) -> Result<Command<'a>, AllocError>
+    ensures app { IfOk result (λ c. app_of c ≡ of_keytab name.entry.now) }
+    ensures local { IfOk result (λ c. (out-Command c).has_globals ≡ false) }
+{
+    let keytab = Arg::new(alloc, "KEYTAB").required(true).help(help.file);
+    Command::new(alloc, name)
+        .about(help.about)
+        .after_help(help.end)
         .arg(keytab)
+}
+
+// An operand with a whole number up to some greatest one.
+fn number_operand<'a>(alloc: Global, name: &'a str, greatest: u64, help: &'a str) -> Arg<'a>
+    ensures rule { rule_of result ≡ number_operand name.entry.now greatest }
+    ensures local { result.global ≡ false }
+{
+    Arg::new(alloc, name)
+        .required(true)
+        .value_parser(ValueParser::unsigned(0, greatest))
+        .help(help)
+}
+
+// The command `pick-key` with its operands.
+fn pick_key_with_operands<'a>(alloc: Global) -> Result<Command<'a>, AllocError>
+    ensures app { IfOk result (λ c. app_of c ≡ pick_operands) }
+    ensures local { IfOk result (λ c. (out-Command c).has_globals ≡ false) }
+{
+    let name = Arg::new(alloc, "NAME")
+        .required(true)
+        .help("The service's name, as host/web@EXAMPLE.COM");
+    let etype = number_operand(
+        alloc,
+        "ETYPE",
+        2_147_483_647,
+        "The number of the encryption type that the ticket is sealed with: 19 or 20",
+    );
+    of_keytab_command(alloc, "pick-key", &PICK_KEY)?
+        .arg(name)?
+        .arg(etype)
+}
+
+fn pick_key_command<'a>(alloc: Global) -> Result<Command<'a>, AllocError>
+    ensures app { IfOk result (λ c. app_of c ≡ pick_key) }
+    ensures local { IfOk result (λ c. (out-Command c).has_globals ≡ false) }
+{
+    let kvno = free_number_arg(
+        alloc,
+        "kvno",
+        4_294_967_295,
+        "The version number of the key that the ticket is sealed with; the highest one if left out",
+    );
+    pick_key_with_operands(alloc)?.arg(kvno)
 }
 
 // An option that may be left out.
@@ -235,7 +318,7 @@ fn free_arg<'a>(alloc: Global, name: &'a str, help: &'a str) -> Arg<'a>
     Arg::new(alloc, name).long(name).help(help)
 }
 
-// And with its times.
+// The command `accept` with its keytab and its times.
 fn accept_with_times<'a>(alloc: Global) -> Result<Command<'a>, AllocError>
     ensures app { IfOk result (λ c. app_of c ≡ accept_with_times) }
     ensures local { IfOk result (λ c. (out-Command c).has_globals ≡ false) }
@@ -253,7 +336,9 @@ fn accept_with_times<'a>(alloc: Global) -> Result<Command<'a>, AllocError>
         253_402_300_799,
         "The service was started again at this second since 1970-01-01 and has forgotten what it accepted: until the skew has passed, requests are refused as JustStarted",
     );
-    accept_with_operand(alloc)?.arg(skew)?.arg(started)
+    of_keytab_command(alloc, "accept", &ACCEPT)?
+        .arg(skew)?
+        .arg(started)
 }
 
 fn accept_command<'a>(alloc: Global) -> Result<Command<'a>, AllocError>
@@ -319,11 +404,19 @@ fn command_with_conversions<'a>(alloc: Global) -> Result<Command<'a>, AllocError
     with_two(command_with_checks(alloc)?, keytab, ccache)
 }
 
-#[tactic(auto, unfolding(crate::specs::CommandLine::krbtool))]
-pub(crate) fn krbtool_command<'a>(alloc: Global) -> Result<Command<'a>, AllocError>
-    ensures { IfOk result (λ c. app_of c ≡ krbtool) }
+fn command_with_exchange<'a>(alloc: Global) -> Result<Command<'a>, AllocError>
+    ensures { IfOk result (λ c. app_of c ≡ with_exchange) }
 {
     let request = request_command(alloc)?;
     let accept = accept_command(alloc)?;
     with_two(command_with_conversions(alloc)?, request, accept)
+}
+
+#[tactic(auto, unfolding(crate::specs::CommandLine::krbtool))]
+pub(crate) fn krbtool_command<'a>(alloc: Global) -> Result<Command<'a>, AllocError>
+    ensures { IfOk result (λ c. app_of c ≡ krbtool) }
+{
+    let finish = finish_command(alloc)?;
+    let pick_key = pick_key_command(alloc)?;
+    with_two(command_with_exchange(alloc)?, finish, pick_key)
 }

@@ -1,11 +1,12 @@
 //! Why an engine ended early, what the program says of it, and its exit status.
 
 ghost use Rattle.std.specs.Prelude.{◌≡◌};
-ghost use Rattle.krbtool.specs.FaultText.{keytab_name, cache_name, request_name, name_of, place_of};
+ghost use Rattle.krb_ap.specs.Finish.{finish_offset_of};
+ghost use Rattle.krbtool.specs.FaultText.{keytab_name, cache_name, request_name, pick_name, finish_name, name_of, place_of};
 ghost use Rattle.krbtool.specs.Status.{status_of, service_status};
-ghost use Rattle.krbtool.specs.declared.fault.EngineFault.TheVariants.{Keytab, Cache, Request, Input, OutOfMemory, Write};
+ghost use Rattle.krbtool.specs.declared.fault.EngineFault.TheVariants.{Keytab, Cache, Request, Pick, Finish, Input, OutOfMemory, Write};
 
-use krb_ap::RequestFault;
+use krb_ap::{FinishFault, RequestFault};
 use krb_ccache::CacheFault;
 use krb_keytab::KeytabFault;
 use krb_name::{SinkFailed, SourceFailed, TextFault};
@@ -25,15 +26,35 @@ pub enum EngineFault {
     /// No request is built with the credential cache, or there was no room for it.
     #[error("{0}")]
     Request(RequestFault),
+    /// No entry of the keytab is picked.
+    #[error("{0}")]
+    Pick(PickFault),
+    /// The reply is refused, or there was no room for it.
+    #[error("{0}")]
+    Finish(FinishFault),
     /// The lines of an input couldn't be read, or there were more of them than is taken.
     #[error("the input could not be read")]
     Input,
     /// The sink couldn't be written.
     #[error("the output could not be written")]
     Write,
-    /// There was no room, other than for the keytab, the credential cache or the request.
+    /// There was no room, other than for the keytab, the credential cache, the request or the reply.
     #[error("out of memory")]
     OutOfMemory,
+}
+
+/// Why no entry of a keytab is picked: the first that holds.
+#[derive(Clone, Copy, Debug, PartialEq, Eq, Error)]
+pub enum PickFault {
+    /// No entry has the name.
+    #[error("no entry has the name")]
+    NoName,
+    /// No entry of that name has the encryption type, and a key that is usable with it.
+    #[error("no entry of the name has a usable key of the encryption type")]
+    NoKey,
+    /// None of these entries has the version number.
+    #[error("no such key has the version number")]
+    NoVersion,
 }
 
 impl From<KeytabFault> for EngineFault {
@@ -57,6 +78,22 @@ impl From<RequestFault> for EngineFault {
 
     fn from(fault: RequestFault) -> EngineFault {
         EngineFault::Request(fault)
+    }
+}
+
+impl From<PickFault> for EngineFault {
+    ghost from_gives = { λ pick fault. fault ≡ Pick pick };
+
+    fn from(fault: PickFault) -> EngineFault {
+        EngineFault::Pick(fault)
+    }
+}
+
+impl From<FinishFault> for EngineFault {
+    ghost from_gives = { λ finish fault. fault ≡ Finish finish };
+
+    fn from(fault: FinishFault) -> EngineFault {
+        EngineFault::Finish(fault)
     }
 }
 
@@ -93,6 +130,8 @@ impl EngineFault {
             EngineFault::Keytab(fault) => keytab_name(fault),
             EngineFault::Cache(fault) => cache_name(fault),
             EngineFault::Request(fault) => request_name(fault),
+            EngineFault::Pick(fault) => pick_name(fault),
+            EngineFault::Finish(fault) => finish_name(fault),
             EngineFault::Input => "Read",
             EngineFault::Write => "Write",
             EngineFault::OutOfMemory => "OutOfMemory",
@@ -106,7 +145,8 @@ impl EngineFault {
         match self {
             EngineFault::Keytab(fault) => fault.at(),
             EngineFault::Cache(fault) => fault.at(),
-            EngineFault::Request(_) => None,
+            EngineFault::Finish(fault) => finish_place(fault),
+            EngineFault::Request(_) | EngineFault::Pick(_) => None,
             EngineFault::Input | EngineFault::Write | EngineFault::OutOfMemory => None,
         }
     }
@@ -152,6 +192,38 @@ fn request_name(fault: &RequestFault) -> &'static str
     }
 }
 
+fn pick_name(fault: &PickFault) -> &'static str
+    ensures { result.now ≡ pick_name fault.now }
+{
+    match fault {
+        PickFault::NoName => "NoName",
+        PickFault::NoKey => "NoKey",
+        PickFault::NoVersion => "NoVersion",
+    }
+}
+
+fn finish_name(fault: &FinishFault) -> &'static str
+    ensures { result.now ≡ finish_name fault.now }
+{
+    match fault {
+        FinishFault::MessageType => "MessageType",
+        FinishFault::Malformed(_) => "Malformed",
+        FinishFault::Integrity => "Integrity",
+        FinishFault::Mismatch => "Mismatch",
+        FinishFault::OutOfMemory => "OutOfMemory",
+    }
+}
+
+// The place in the reply that a fault tells.
+fn finish_place(fault: &FinishFault) -> Option<usize>
+    ensures { result ≡ finish_offset_of fault.now }
+{
+    match fault {
+        FinishFault::Malformed(fault) => Some(fault.at),
+        _ => None,
+    }
+}
+
 /// Answers the exit status for a fault: 3 where a file, an output or memory failed, 1 where the
 /// content is refused.
 pub fn status(fault: &EngineFault) -> u8
@@ -161,8 +233,9 @@ pub fn status(fault: &EngineFault) -> u8
         EngineFault::Keytab(KeytabFault::Read | KeytabFault::OutOfMemory) => FAILED,
         EngineFault::Cache(CacheFault::Read | CacheFault::OutOfMemory) => FAILED,
         EngineFault::Request(RequestFault::OutOfMemory) => FAILED,
+        EngineFault::Finish(FinishFault::OutOfMemory) => FAILED,
         EngineFault::Keytab(_) | EngineFault::Cache(_) => REFUSED,
-        EngineFault::Request(_) => REFUSED,
+        EngineFault::Request(_) | EngineFault::Pick(_) | EngineFault::Finish(_) => REFUSED,
         EngineFault::Input | EngineFault::Write | EngineFault::OutOfMemory => FAILED,
     }
 }

@@ -94,12 +94,12 @@ fn text_fault_place(fault: &TextFault) -> Option<usize>
     }
 }
 
-/// Gives the line for a confounder that isn't 32 hexadecimal digits. It takes no memory.
-pub fn confounder_line() -> FaultLine<'static>
-    ensures { result ≡ line_of (codes "confounder") (codes "BadHex") None }
+/// Gives the line for an argument of this name that isn't in hexadecimal, or not of the right length. It takes no memory.
+pub fn hex_line(argument: &str) -> FaultLine<'_>
+    ensures { result ≡ line_of argument.entry.now (codes "BadHex") None }
 {
     FaultLine {
-        name: "confounder",
+        name: argument,
         fault: "BadHex",
         at: None,
     }

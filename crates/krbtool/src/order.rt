@@ -39,6 +39,10 @@ pub enum Order<'a> {
     Request(RequestWords<'a>),
     /// `accept KEYTAB [--skew SECONDS] [--started SECONDS] [--service NAME] [--only NAME]`: the lines of standard input answered by a service.
     Accept(AcceptWords<'a>),
+    /// `finish FILE SERVICE --time S --usec U --reply HEX`: what is agreed by the reply to a request.
+    Finish(FinishWords<'a>),
+    /// `pick-key KEYTAB NAME ETYPE [--kvno N]`: the entry of a keytab that a ticket would be opened with.
+    PickKey(PickWords<'a>),
 }
 
 /// The words of `accept`.
@@ -54,6 +58,34 @@ pub struct AcceptWords<'a> {
     pub service: Option<&'a str>,
     /// The one name for which requests are accepted; of any name of the keytab if absent.
     pub only: Option<&'a str>,
+}
+
+/// The words of `finish`.
+#[derive(Clone, Copy, Debug, PartialEq, Eq)]
+pub struct FinishWords<'a> {
+    /// The cache's path.
+    pub file: &'a str,
+    /// The service's name.
+    pub service: &'a str,
+    /// The request's moment: seconds since 1970-01-01, in decimal: 0 to 253402300799.
+    pub time: &'a str,
+    /// The microseconds of that second, in decimal: 0 to 999999.
+    pub usec: &'a str,
+    /// The reply, in hexadecimal.
+    pub reply: &'a str,
+}
+
+/// The words of `pick-key`.
+#[derive(Clone, Copy, Debug, PartialEq, Eq)]
+pub struct PickWords<'a> {
+    /// The keytab's path.
+    pub keytab: &'a str,
+    /// The name of the service.
+    pub name: &'a str,
+    /// The encryption type, in decimal: 0 to 2147483647.
+    pub etype: &'a str,
+    /// The version number, in decimal: 0 to 4294967295; any if absent.
+    pub kvno: Option<&'a str>,
 }
 
 /// The words of `request`.

@@ -10,6 +10,8 @@ use crate::fault_line::{FaultLine, fault_line, file_line};
 use crate::list::{list_ccache, list_keytab};
 use crate::order::Order;
 use crate::run_accept::run_accept;
+use crate::run_finish::run_finish;
+use crate::run_pick::run_pick;
 use crate::run_request::run_request;
 use krb_name::{ReadSource, Sink, Source, WriteSink};
 use std::alloc::Global;
@@ -98,6 +100,8 @@ pub(crate) fn run<R: AllocGlobal + Files + Input + Print + Eprint>(rt: &R, order
         Order::ConvertCcache { file, out } => run_convert(rt, Convert::Ccache, file, out),
         Order::Request(words) => run_request(rt, words),
         Order::Accept(words) => run_accept(rt, words),
+        Order::Finish(words) => run_finish(rt, words),
+        Order::PickKey(words) => run_pick(rt, words),
     }
 }
 
@@ -196,6 +200,8 @@ pub(crate) fn complain_of<R: Eprint>(rt: &R, fault: &EngineFault, file: &str, co
     let name = match fault {
         EngineFault::Keytab(_) | EngineFault::Cache(_) => file,
         EngineFault::Request(_) => "request",
+        EngineFault::Pick(_) => "pick-key",
+        EngineFault::Finish(_) => "finish",
         EngineFault::Input => "input",
         EngineFault::Write => "output",
         EngineFault::OutOfMemory => command,

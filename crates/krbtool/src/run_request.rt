@@ -1,7 +1,7 @@
 //! Running `request`: its words are read before its file is opened.
 
 use crate::fault::{EngineFault, FAILED, WRONG_WORDS, service_status};
-use crate::fault_line::{confounder_line, file_line, name_line};
+use crate::fault_line::{file_line, hex_line, name_line};
 use crate::order::RequestWords;
 use crate::request::{read_confounder, read_service, request_line};
 use crate::run::{complain, complain_of, source_of};
@@ -33,7 +33,7 @@ pub(crate) fn run_request<R: AllocGlobal + Files + Print + Eprint>(
         Err(fault) => return complain(rt, name_line("service", &fault), service_status(&fault)),
     };
     let Some(confounder) = read_confounder(words.confounder) else {
-        return complain(rt, confounder_line(), WRONG_WORDS);
+        return complain(rt, hex_line("confounder"), WRONG_WORDS);
     };
     let Ok(opened) = File::open(rt, words.file) else {
         return complain(rt, file_line(words.file), FAILED);
@@ -51,7 +51,7 @@ pub(crate) fn run_request<R: AllocGlobal + Files + Print + Eprint>(
 }
 
 // The words of the command line were read as numbers in these ranges.
-fn moment_of(seconds: &str, micros: &str) -> Option<Moment> {
+pub(crate) fn moment_of(seconds: &str, micros: &str) -> Option<Moment> {
     Moment::new(seconds.parse::<i64>().ok()?, micros.parse::<u32>().ok()?)
 }
 

@@ -2,10 +2,10 @@
 
 ghost use Rattle.std.specs.Prelude.{◌≡◌, Some, IfOk, IfSome, codes, map};
 ghost use Rattle.clap.specs.Words.{rows_of, found_of, subcommand_of, subcommand_rows_of};
-ghost use Rattle.krbtool.specs.CommandLine.{krbtool, AsksAcceptance, AsksRequest, HasFlag, HasFile, HasFiles, IsOrder};
+ghost use Rattle.krbtool.specs.CommandLine.{krbtool, AsksAcceptance, AsksFinish, AsksPick, AsksRequest, HasFlag, HasFile, HasFiles, IsOrder};
 
 use crate::commands::krbtool_command;
-use crate::order::{AcceptWords, Order, RequestWords};
+use crate::order::{AcceptWords, FinishWords, Order, PickWords, RequestWords};
 use clap::error::ErrorKind;
 use clap::{ArgMatches, Error};
 use std::alloc::Global;
@@ -76,6 +76,42 @@ fn request_of<'a>(matches: &ArgMatches<'a>) -> Option<RequestWords<'a>>
     })
 }
 
+// The values of SERVICE, time, usec and reply.
+#[tactic(auto, using(crate::proofs::Getters::getters))]
+fn finish_of<'a>(matches: &ArgMatches<'a>) -> Option<FinishWords<'a>>
+    ensures { IfSome result (λ words. AsksFinish (rows_of (found_of matches.now)) words) }
+{
+    let file = file_of(matches)?;
+    let service = matches.get_str("SERVICE")?;
+    let seconds = matches.get_str("time")?;
+    let micros = matches.get_str("usec")?;
+    let reply = matches.get_str("reply")?;
+    Some(FinishWords {
+        file,
+        service,
+        time: seconds,
+        usec: micros,
+        reply,
+    })
+}
+
+// The values of KEYTAB, NAME and ETYPE, and of kvno.
+#[tactic(auto, using(crate::proofs::Getters::getters))]
+fn pick_of<'a>(matches: &ArgMatches<'a>) -> Option<PickWords<'a>>
+    ensures { IfSome result (λ words. AsksPick (rows_of (found_of matches.now)) words) }
+{
+    let keytab = matches.get_str("KEYTAB")?;
+    let name = matches.get_str("NAME")?;
+    let etype = matches.get_str("ETYPE")?;
+    let kvno = matches.get_str("kvno");
+    Some(PickWords {
+        keytab,
+        name,
+        etype,
+        kvno,
+    })
+}
+
 // What a command of this name asks for, with these values.
 fn order_of<'a>(name: &str, matches: &ArgMatches<'a>) -> Option<Order<'a>>
     ensures { IfSome result (λ order. IsOrder order (Some (name.now, rows_of (found_of matches.now)))) }
@@ -108,6 +144,14 @@ fn order_of<'a>(name: &str, matches: &ArgMatches<'a>) -> Option<Order<'a>>
         "accept" => {
             let words = acceptance_of(matches)?;
             Some(Order::Accept(words))
+        }
+        "finish" => {
+            let words = finish_of(matches)?;
+            Some(Order::Finish(words))
+        }
+        "pick-key" => {
+            let words = pick_of(matches)?;
+            Some(Order::PickKey(words))
         }
         _ => None,
     }

@@ -1,0 +1,31 @@
+# Completion of krbtool for bash. Made by packaging/completion.py; don't edit it.
+_krbtool() {
+    local word=${COMP_WORDS[COMP_CWORD]} before=${COMP_WORDS[COMP_CWORD-1]} options
+    COMPREPLY=()
+    if [ "$COMP_CWORD" -eq 1 ]; then
+        COMPREPLY=($(compgen -W 'list-keytab list-ccache check-keytab check-ccache convert-keytab convert-ccache request accept finish pick-key help --help --version' -- "$word"))
+        return
+    fi
+    case $before in
+        --confounder | --kvno | --only | --reply | --service | --skew | --started | --time | --usec) return ;;
+    esac
+    case ${COMP_WORDS[1]} in
+        list-keytab) options='--help' ;;
+        list-ccache) options='--help' ;;
+        check-keytab) options='--help' ;;
+        check-ccache) options='--help' ;;
+        convert-keytab) options='--help' ;;
+        convert-ccache) options='--help' ;;
+        request) options='--time --usec --confounder --mutual --help' ;;
+        accept) options='--skew --started --service --only --help' ;;
+        finish) options='--time --usec --reply --help' ;;
+        pick-key) options='--kvno --help' ;;
+        help) options='list-keytab list-ccache check-keytab check-ccache convert-keytab convert-ccache request accept finish pick-key' ;;
+        *) return ;;
+    esac
+    case $word in
+        -*) COMPREPLY=($(compgen -W "$options" -- "$word")) ;;
+        *) [ "${COMP_WORDS[1]}" = help ] && COMPREPLY=($(compgen -W "$options" -- "$word")) ;;
+    esac
+}
+complete -o default -F _krbtool krbtool
