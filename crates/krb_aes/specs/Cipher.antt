@@ -21,7 +21,7 @@ cipher_with k n s = add_round_key (shift_rows (sub_bytes (rounds k (n - 1) s))) 
 unfoldable pub cipher : List ℕ → List ℕ → List ℕ
 cipher key block = cipher_with (round_key (key_expansion key)) (round_count key) block
 
--- what is left of INVCIPHER from the state s before round key j: rounds j down to 1, and the last
+-- the rest of INVCIPHER, from the state s before round key j: rounds j down to 1, and the last
 -- (5.3, algorithm 3)
 unfoldable pub inv_rounds : (ℕ → List ℕ) → ℕ → List ℕ → List ℕ
 inv_rounds k zero s = add_round_key (inv_sub_bytes (inv_shift_rows s)) (k 0)

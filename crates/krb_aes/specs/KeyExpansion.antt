@@ -1,5 +1,5 @@
--- KEYEXPANSION (FIPS 197, section 5.2). A key is the list of its 16 or 32 bytes. Words of four bytes
--- stand one after another in a list of bytes.
+-- KEYEXPANSION (FIPS 197, section 5.2). A key is the list of its 16 or 32 bytes. Words of four
+-- bytes follow one another in a list of bytes.
 use Rattle.std.specs.Prelude.{All, ◌≡◌, ◌⊎◌, ℕ, zero, suc, ◌+◌, ◌-◌, ◌*◌, ◌/◌, ◌%◌, ◌<◌, ◌==◌, nat_lt, ◌&&◌, Bool, true, false, List, [], ◌∷◌, ◌++◌, length, take, drop, slice_index, bit_xor}
 use Rattle.krb_aes.specs.Field.{product}
 use Rattle.krb_aes.specs.SBox.{s_box}
@@ -9,7 +9,8 @@ pub record IsKey (key : List ℕ) : Type 0 where
   pub size : (length key ≡ 16) ⊎ (length key ≡ 32)
   pub bytes : All (λ byte. byte < 256) key
 
--- Nk, the words of the key, and Nr, the rounds: 4 and 10, or 8 and 14 (section 5)
+-- Nk, the number of words of the key, and Nr, the number of rounds: 4 and 10, or 8 and 14 (section
+-- 5)
 abbrev pub key_words : List ℕ → ℕ
 key_words key = length key / 4
 
@@ -44,8 +45,8 @@ x_to_the (suc n) = product 0x02 (x_to_the n)
 abbrev pub rcon : ℕ → List ℕ
 rcon j = x_to_the (j - 1) ∷ 0 ∷ 0 ∷ 0 ∷ []
 
--- what is added to w[i - Nk], from the word t = w[i - 1]: where Nk divides i, where Nk is above 6 and
--- i is 4 above a multiple of it, and else (5.2, algorithm 2)
+-- what is added to w[i - Nk], from the word t = w[i - 1]: one case if Nk divides i, one if Nk is
+-- above 6 and i is 4 above a multiple of it, and one for all other i (5.2, algorithm 2)
 abbrev pub changed_word : Bool → Bool → ℕ → List ℕ → List ℕ
 changed_word true fourth j t = sum_of_words (sub_word (rot_word t)) (rcon j)
 changed_word false true j t = sub_word t

@@ -9,7 +9,7 @@ affine_bit b i =
     (bit_at b i + bit_at b ((i + 4) % 8) + bit_at b ((i + 5) % 8) + bit_at b ((i + 6) % 8)
     + bit_at b ((i + 7) % 8) + bit_at 0x63 i) % 2
 
--- the number of its n low bits
+-- the number with these n low bits
 unfoldable pub affine : ℕ → ℕ → ℕ
 affine zero b = 0
 affine (suc n) b = affine n b + affine_bit b n * 2 ^ n

@@ -1,5 +1,5 @@
--- The state of AES and its transformations (FIPS 197, sections 3.4, 5.1 and 5.3). The state has four
--- rows and four columns of bytes, and is the list of its 16 bytes, column by column.
+-- The state of AES and its transformations (FIPS 197, sections 3.4, 5.1 and 5.3). The state has
+-- four rows and four columns of bytes, and is the list of its 16 bytes, column by column.
 use Rattle.std.specs.Prelude.{ℕ, ◌+◌, ◌-◌, ◌*◌, ◌%◌, List, [], ◌∷◌, slice_index, bit_xor}
 use Rattle.krb_aes.specs.Field.{product}
 use Rattle.krb_aes.specs.SBox.{s_box, inv_s_box}
@@ -21,14 +21,15 @@ sub_bytes s = state_of (λ r c. s_box (at s r c))
 unfoldable pub inv_sub_bytes : List ℕ → List ℕ
 inv_sub_bytes s = state_of (λ r c. inv_s_box (at s r c))
 
--- ShiftRows: row r is turned left by r (5.1.2). InvShiftRows turns it right by r (5.3.1)
+-- ShiftRows rotates row r left by r (5.1.2); InvShiftRows rotates it right by r (5.3.1)
 unfoldable pub shift_rows : List ℕ → List ℕ
 shift_rows s = state_of (λ r c. at s r ((c + r) % 4))
 
 unfoldable pub inv_shift_rows : List ℕ → List ℕ
 inv_shift_rows s = state_of (λ r c. at s r ((c + 4 - r) % 4))
 
--- the matrix whose row r is the given first row, turned right by r: its entry at row r and column k
+-- the entry at row r and column k of the matrix whose row r is the given first row rotated right by
+-- r
 abbrev pub circulant : List ℕ → ℕ → ℕ → ℕ
 circulant first r k = slice_index first ((k + 4 - r) % 4)
 

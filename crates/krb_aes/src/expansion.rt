@@ -64,7 +64,7 @@ fn next_word(words: &[u8; EXPANDED_LEN], key_words: usize, i: usize) -> Word
     sum_of_words(word(words, i - key_words), change)
 }
 
-// The key, with zeros behind it.
+// The key, with zeros after it.
 fn with_room(key: &[u8]) -> [u8; EXPANDED_LEN]
     requires { length key.now ≤ 32 }
     ensures { take (length key.now) result ≡ key.now }

@@ -1,4 +1,5 @@
-//! What holds of the cipher for all keys and blocks. Each function is empty: its contract is the law.
+//! Laws of the cipher, for all keys and blocks. Each function has an empty body: its contract is
+//! the law.
 
 ghost use Rattle.std.specs.Prelude.{◌≡◌, ℕ, List};
 ghost use Rattle.krb_aes.specs.KeyExpansion.{IsKey};
@@ -18,7 +19,7 @@ pub fn encryption_undoes_decryption()
         → cipher key (inv_cipher key block) ≡ block }
 {}
 
-/// Encryption and decryption make blocks of blocks.
+/// Encryption and decryption of blocks give blocks.
 #[tactic(auto, using(crate::proofs::LawRules::laws))]
 pub fn blocks_stay_blocks()
     ensures encrypted { (key block : List ℕ) → IsKey key → IsBlock block → IsBlock (cipher key block) }

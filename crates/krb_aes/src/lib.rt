@@ -1,6 +1,6 @@
-//! The block cipher AES with keys of 128 and of 256 bits, both ways (FIPS 197).
+//! The block cipher AES with keys of 128 and 256 bits, both ways (FIPS 197).
 //!
-//! A `KeySchedule` is made from a key, and turns blocks of 16 bytes in place:
+//! A `KeySchedule` is made from a key, and encrypts or decrypts blocks of 16 bytes in place:
 //!
 //! ```text
 //! let schedule = KeySchedule::new_128(&key);
@@ -8,13 +8,13 @@
 //! schedule.decrypt_block(&mut block);
 //! ```
 //!
-//! The contracts speak of the definitions `cipher` and `inv_cipher` of `specs/Cipher`, which are the
-//! standard's CIPHER and INVCIPHER over the field of the bytes, and say that each direction undoes
-//! the other. In a clause a `KeySchedule` is the list of its key's bytes. No call takes memory,
-//! fails, or asks anything of its arguments.
+//! The contracts use the definitions `cipher` and `inv_cipher` of `specs/Cipher`, which are the
+//! standard's CIPHER and INVCIPHER over the field of the bytes. They also say that each direction
+//! undoes the other. In a clause a `KeySchedule` is the list of its key's bytes. No call allocates
+//! memory, fails, or puts a condition on its arguments.
 //!
-//! The blocks are turned on 16 lanes. `plain` has the calls of one block byte by byte, under the same
-//! contracts, and `laws` what holds for all keys and blocks.
+//! Blocks are processed on 16 lanes. `plain` has the same calls on one block, byte by byte and
+//! under the same contracts. `laws` has what holds for all keys and blocks.
 #![tactic(auto)]
 
 mod expansion;

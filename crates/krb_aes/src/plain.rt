@@ -1,5 +1,5 @@
-//! The cipher byte by byte, over tables of 256 bytes: the same calls as those of `KeySchedule`, as a
-//! second body under the same contracts.
+//! The cipher byte by byte, with tables of 256 bytes: the calls of `KeySchedule` with a second body
+//! under the same contracts.
 
 ghost use Rattle.std.specs.Prelude.{◌≡◌, ℕ, List, [], ◌∷◌, length};
 ghost use Rattle.krb_aes.specs.Field.{product};

@@ -8,7 +8,7 @@ use crate::inv_keys::inv_keys;
 use crate::lanes;
 use std::marker::Model;
 
-/// A key of 128 or 256 bits with its round keys, ready to turn blocks either way.
+/// A key of 128 or 256 bits with its round keys, ready to encrypt and decrypt blocks.
 ///
 /// In a clause it is the list of the key's bytes.
 #[derive(Drop)]
@@ -79,7 +79,7 @@ impl KeySchedule {
         lanes::decrypt_block(self, block);
     }
 
-    /// Decrypts two blocks in place, each as `decrypt_block` does, in less time than one after the other.
+    /// Decrypts two blocks in place, each as `decrypt_block` does. This is faster than two calls.
     ///
     /// Source: FIPS 197, section 5.3.
     pub fn decrypt_two_blocks(&self, one: &mut [u8; 16], other: &mut [u8; 16])

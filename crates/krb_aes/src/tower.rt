@@ -1,6 +1,6 @@
 // The S-box on 16 lanes, by look-ups in tables of 16 bytes: a byte is k + i * s over the field of 16
 // elements, where its inverse needs few of them. Between rounds, bytes are kept as 16 * i + k.
-// docs/TOWER.md tells where the tables come from.
+// docs/TOWER.md says where the tables come from.
 
 ghost use Rattle.std.specs.Prelude.{◌≡◌, map, bit_xor};
 ghost use Rattle.std.specs.Simd.Lanes.{zip2};
@@ -131,7 +131,7 @@ static TIMES_09_HIGH: [u8; 16] = [
     0x00, 0x90, 0x3b, 0xab, 0x76, 0xe6, 0x4d, 0xdd, 0xec, 0x7c, 0xd7, 0x47, 0x9a, 0x0a, 0xa1, 0x31,
 ];
 
-// The entry at each lane's place, or 0 where the place is 128 or above.
+// The entry at each lane's place, or 0 if the place is 128 or above.
 #[inline(always)]
 fn looked_up(table: &[u8; 16], places: u8x16) -> u8x16
     requires { ArePlaces places }

@@ -1,4 +1,4 @@
--- What a service answers, and the history after it.
+-- What a service answers, and the history afterwards.
 use Rattle.std.specs.Prelude.{◌≡◌, ◌≢◌, ◌≤◌, ℤ, Bool, IsTrue, IsErrOf, IfErr, IfSome, length, List, [], ◌∷◌, Option, Result, Ok, Err}
 use Rattle.std.specs.Option.{option_map}
 use Rattle.krb_msg.specs.Owned.{owned_key_of, owned_typed_of, owned_list_of}
@@ -36,12 +36,13 @@ taken_of x = record {
   wants_reply = x.mutual;
 }
 
--- after a history an arrival is accepted with what is then known, or refused by the first cause; or for want of memory
+-- after a history an arrival is accepted with what is then known, or refused for the first cause,
+-- or refused for lack of memory
 abbrev pub Answers : Setup → List Arrival → Arrival → Result Accepted Refusal → Type 0
 Answers setup history call (Ok accepted) = Accept setup history call (taken_of accepted)
 Answers setup history call (Err refusal) = refusal ≢ OutOfMemory → Cause setup history call refusal
 
--- the history after it: with the call, or as it was where memory was wanting
+-- the history afterwards: with the call, or unchanged if memory was lacking
 abbrev pub after_refusal : List Arrival → Arrival → Refusal → List Arrival
 after_refusal history call OutOfMemory = history
 after_refusal history call _ = call ∷ history
@@ -50,7 +51,7 @@ abbrev pub after : List Arrival → Arrival → Result Accepted Refusal → List
 after history call (Ok accepted) = call ∷ history
 after history call (Err refusal) = after_refusal history call refusal
 
--- the answers to a list of calls, one after another, and the history after them
+-- the answers to a list of calls, one after another, and the history afterwards
 abbrev pub Run : Setup → List Arrival → List Arrival → List (Result Accepted Refusal) → List Arrival → Type 0
 Run setup history [] [] end = end ≡ history
 Run setup history (call ∷ calls) (answer ∷ answers) end =
@@ -61,22 +62,23 @@ Run setup history _ _ end = ⊥
 abbrev pub arrival_of : Call → Arrival
 arrival_of call = arrival call.bytes.now call.now
 
--- where memory was wanting, the bytes were a request of the ordinary kind
+-- if memory was lacking, the bytes were a request of the ordinary kind
 abbrev pub MemoryWantedByRequests : List Arrival → List (Result Accepted Refusal) → Type 0
 MemoryWantedByRequests [] [] = Unit {0}
 MemoryWantedByRequests (call ∷ calls) (answer ∷ answers) =
     (IsErrOf answer OutOfMemory → (request : ValueOf ap_req) × Asks call.bytes request) × MemoryWantedByRequests calls answers
 MemoryWantedByRequests _ _ = ⊥
 
--- the place that each refusal tells is one of its call's bytes, or their end
+-- the offset in each refusal is the place of a byte of its call, or their end
 abbrev pub TellsPlacesWithin : List Arrival → List (Result Accepted Refusal) → Type 0
 TellsPlacesWithin [] [] = Unit {0}
 TellsPlacesWithin (call ∷ calls) (answer ∷ answers) =
     IfErr answer (λ refusal. IfSome (offset_of refusal) (λ at. at ≤ length call.bytes)) × TellsPlacesWithin calls answers
 TellsPlacesWithin _ _ = ⊥
 
--- There is such a history afterwards, and the memory stands for it. One that keeps all and had exactly what was shown has so
--- again, and one that forgets and had exactly what of that was recent.
+-- There is such a history afterwards, and the memory stands for it. If the memory keeps everything
+-- and had exactly what was shown, it has so again. If it forgets and had exactly what was shown and
+-- is recent, it has so again.
 pub record Served (keeping forgetting : Bool) (setup : Setup) (history : List Arrival) (calls : List Arrival) (answers : List (Result Accepted Refusal))
     (Old New : Stamp → Type 0) (latest : Option ℤ) : Type 0 where
   pub end : List Arrival

@@ -1,4 +1,4 @@
--- Why a service refuses an arrival: a table of causes, of which the first that holds is the answer. The
+-- Why a service refuses an arrival: a table of causes. The first that holds is the answer. The
 -- order is our own; the codes are of RFC 4120, section 7.5.9.
 use Rattle.std.specs.Prelude.{◌≡◌, ◌≢◌, ◌<◌, ℕ, ℤ, pos, Bool, true, false, IsTrue, List, ◌∷◌, Option, Some, None, codes}
 use Rattle.krb_der.specs.Kind.{ValueOf}
@@ -28,19 +28,19 @@ pub record BeginsOtherwise (tag : ℕ) (bytes : List ℕ) : Type 0 where
   pub bytes_are : bytes ≡ first ∷ rest
   pub other : first ≢ tag
 
--- some request is spelled, and this holds of it
+-- the bytes spell some request, and this holds of it
 pub record OfRequest (bytes : List ℕ) (P : ValueOf ap_req → Type 0) : Type 0 where
   pub request : ValueOf ap_req
   pub message : IsMessage ap_req request bytes
   pub holds : P request
 
--- some request asks in the ordinary way, and this holds of it
+-- the bytes are a request of the ordinary kind, and this holds of it
 pub record OfAsked (bytes : List ℕ) (P : ValueOf ap_req → Type 0) : Type 0 where
   pub request : ValueOf ap_req
   pub asks : Asks bytes request
   pub holds : P request
 
--- the key that is chosen opens the ticket to no sealed part of a ticket
+-- the chosen key opens the ticket to something other than a ticket's sealed part, or to nothing
 pub record IsTicketShut (setup : Setup) (bytes : List ℕ) : Type 0 where
   pub request : ValueOf ap_req
   pub entry : KeytabEntry
@@ -72,8 +72,9 @@ pub record OfOpened (setup : Setup) (bytes : List ℕ) (P : ValueOf ap_req → V
 
 -- ---- the table
 
--- A row: its place in the order, its name, its error code (none: it is told to nobody), whether a request that is refused for it is
--- remembered, and what must hold. Places are hundreds, so that a row can be put between two others and no place moves.
+-- A row: its place in the order, its name, its error code (none: it is sent to nobody), whether a
+-- request that is refused for it is remembered, and what must hold. Places are hundreds, so a row
+-- can be put between two others without moving any.
 pub record Row : Type 1 where
   pub place : ℕ
   pub name : List ℕ
@@ -87,10 +88,11 @@ row_of place name code remembered holds = record { place = place; name = name; c
 abbrev pub kerberos : ℕ → Option ℤ
 kerberos code = Some (pos code)
 
--- The codes are RFC 4120's. Where the RFC names none for a cause, the choice is ours: for malformed requests and for what we don't look
--- at KRB_ERR_GENERIC, for types that we don't know KDC_ERR_ETYPE_NOSUPP, for user-to-user requests KRB_AP_ERR_NOKEY. A wrong version
--- number or a wrong message type after a good tag is malformed here, though RFC 4120 has 39 and 40 for them; KRB_AP_ERR_NOKEY for a
--- missing key is its own (3.2.3).
+-- The codes are RFC 4120's. If the RFC names none for a cause, the choice is ours: KRB_ERR_GENERIC
+-- for malformed requests and for what we don't look at, KDC_ERR_ETYPE_NOSUPP for types that we
+-- don't know, KRB_AP_ERR_NOKEY for user-to-user requests. A wrong version number or a wrong message
+-- type after a good tag is malformed here, though RFC 4120 has 39 and 40 for them. KRB_AP_ERR_NOKEY
+-- for a missing key is the RFC's own (3.2.3).
 abbrev pub row : Refusal → Row
 -- KRB_AP_ERR_MSG_TYPE
 row MessageType = row_of 100 (codes "MessageType") (kerberos 40) false (λ setup history call. BeginsOtherwise 0x6e call.bytes)
@@ -163,7 +165,7 @@ code_of refusal = (row refusal).code
 abbrev pub IsRemembered : Refusal → Type 0
 IsRemembered refusal = IsTrue (row refusal).remembered
 
--- the place in the bytes that a refusal tells
+-- the offset that a refusal reports
 abbrev pub offset_of : Refusal → Option ℕ
 offset_of (Malformed fault) = Some fault.at
 offset_of _ = None

@@ -1,5 +1,6 @@
--- Which credential of a cache is used for a service at a moment, and what is wanting where none is. A ticket is asked for in the name
--- of the cache's default principal (RFC 4120, section 3.2.2); the first that fits is our choice.
+-- Which credential of a cache is used for a service at a moment, and what is missing if none is. A
+-- ticket is requested in the name of the cache's default principal (RFC 4120, section 3.2.2). Using
+-- the first that fits is our choice.
 use Rattle.std.specs.Prelude.{◌≡◌, ℤ, pos, ◌<ℤ◌, List, ◌∷◌, ◌++◌, All}
 use Rattle.krb_name.specs.Name.{SameName}
 use Rattle.krb_name.specs.declared.principal.Principal.{Principal}
@@ -39,7 +40,7 @@ pub record IsUsed (cache : Cache) (service : Principal) (at : ℤ) (credential :
   pub fit : IsFit cache service at credential
   pub first : All (λ other. ¬ IsFit cache service at other) before
 
--- a credential of the list is so
+-- some credential of the list is so
 pub record HasCredential (P : Credential → Type 0) (credentials : List Credential) : Type 0 where
   pub before : List Credential
   pub credential : Credential
@@ -47,7 +48,8 @@ pub record HasCredential (P : Credential → Type 0) (credentials : List Credent
   pub credentials_are : credentials ≡ before ++ credential ∷ after
   pub holds : P credential
 
--- no credential is for the service; or one is, and none has a usable key; or one has, and none ends later than the moment
+-- no credential is for the service; or some are, but none has a usable key; or some have, but none
+-- ends later than the moment
 abbrev pub IsWanting : Cache → Principal → ℤ → RequestFault → Type 0
 IsWanting cache service at NoCredential = All (λ one. ¬ IsFor cache service one) cache.credentials
 IsWanting cache service at NoUsableKey =

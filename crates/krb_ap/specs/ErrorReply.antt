@@ -1,4 +1,5 @@
--- The error that a service answers to a request that it refuses (RFC 4120, sections 3.2.3 and 5.9.1).
+-- The error that a service sends for a request that it refuses (RFC 4120, sections 3.2.3 and
+-- 5.9.1).
 use Rattle.std.specs.Prelude.{◌≡◌, ◌<◌, ℕ, ℤ, List, Some, None}
 use Rattle.krb_name.specs.declared.principal.Principal.{Principal}
 use Rattle.krb_der.specs.Kind.{ValueOf}
@@ -26,7 +27,8 @@ error_for stime susec code service = krb_error_value (record {
   e_data = None;
 })
 
--- the bytes are that error, as it is written, for a moment as its whole second and the microseconds after it
+-- the bytes are that error as it is written, with the moment as its whole second and the
+-- microseconds after it
 pub record IsError (code now : ℤ) (service : Principal) (bytes : List ℕ) : Type 0 where
   pub stime : ℤ
   pub susec : ℕ
@@ -40,7 +42,7 @@ pub record IsErrorReply (refusal : Refusal) (now : ℤ) (service : Principal) (b
   pub code_is : code_of refusal ≡ Some code
   pub error : IsError code now service bytes
 
--- there is a code, but no bytes are the error: it would be longer than messages are
+-- there is a code, but no bytes are the error: it would be longer than messages may be
 pub record IsErrorTooLong (refusal : Refusal) (now : ℤ) (service : Principal) : Type 0 where
   pub code : ℤ
   pub code_is : code_of refusal ≡ Some code

@@ -1,4 +1,5 @@
--- What a client makes of bytes that come as the reply (RFC 4120, section 3.2.5): what it and the service agree on, or why it refuses them.
+-- What a client makes of bytes that arrive as the reply (RFC 4120, section 3.2.5): what it and the
+-- service agree on, or why it refuses them.
 use Rattle.std.specs.Prelude.{◌≡◌, ◌≢◌, ◌<◌, ℕ, ℤ, List, Option, Some, None}
 use Rattle.std.specs.Option.{option_map}
 use Rattle.krb_name.specs.declared.principal.Principal.{Principal}
@@ -18,12 +19,12 @@ use Rattle.krb_ap.specs.declared.finish.Agreed.{Agreed}
 use Rattle.krb_ap.specs.declared.finish_fault.FinishFault.{FinishFault}
 use Rattle.krb_ap.specs.declared.finish_fault.FinishFault.TheVariants.{MessageType, Malformed, Integrity, Mismatch, OutOfMemory}
 
--- the session key is for the type that the reply is sealed with, and opens it to this part
+-- the session key is for the type that the reply is sealed with, and opens the reply to this part
 pub record OpensReply (key : KeyValue) (reply : ValueOf ap_rep) (part : ValueOf enc_ap_rep_part) : Type 0 where
   pub same_type : etype_of (reply_enc_part reply) ≡ key.etype
   pub opens : OpensAs key reply_usage (cipher_of (reply_enc_part reply)) enc_ap_rep_part part
 
--- the bytes are a reply that is opened to this part
+-- the bytes are a reply that opens to this part
 pub record IsOpenedReply (awaited : Awaited) (bytes : List ℕ) (part : ValueOf enc_ap_rep_part) : Type 0 where
   pub reply : ValueOf ap_rep
   pub message : IsMessage ap_rep reply bytes
@@ -49,7 +50,7 @@ pub record Agreement : Type 0 where
   pub service_subkey : Option (ValueOf (typed (leaf octets)))
   pub service_seq : Option ℕ
 
--- what the client awaits with, and what the service told
+-- what the client awaits, and what the service sent
 abbrev pub agreement_for : Awaited → ValueOf enc_ap_rep_part → Agreement
 agreement_for awaited part = record {
   client = awaited.client;
@@ -70,22 +71,22 @@ agreement_of x = record {
   service_seq = x.service_seq;
 }
 
--- the reply is opened, and repeats the client's moment
+-- the reply opens, and repeats the client's moment
 pub record IsAgreed (awaited : Awaited) (bytes : List ℕ) (agreement : Agreement) : Type 0 where
   pub part : ValueOf enc_ap_rep_part
   pub opened : IsOpenedReply awaited bytes part
   pub same : repeated_at part ≡ awaited.at
   pub agreement_is : agreement ≡ agreement_for awaited part
 
--- ---- why the bytes are refused: a table, of which the first that holds is the answer
+-- ---- why the bytes are refused: a table; the first that holds is the answer
 
--- they are a reply that isn't opened
+-- they are a reply that doesn't open
 pub record IsReplyShut (awaited : Awaited) (bytes : List ℕ) : Type 0 where
   pub reply : ValueOf ap_rep
   pub message : IsMessage ap_rep reply bytes
   pub shut : (part : ValueOf enc_ap_rep_part) → ¬ OpensReply awaited.key reply part
 
--- they are opened, and repeat another moment
+-- the reply opens, and repeats another moment
 pub record IsOfAnother (awaited : Awaited) (bytes : List ℕ) : Type 0 where
   pub part : ValueOf enc_ap_rep_part
   pub opened : IsOpenedReply awaited bytes part
@@ -106,7 +107,7 @@ finish_place Integrity = 3
 finish_place Mismatch = 4
 finish_place OutOfMemory = 5
 
--- the place in the bytes that a fault tells
+-- the offset that a fault reports
 abbrev pub finish_offset_of : FinishFault → Option ℕ
 finish_offset_of (Malformed fault) = Some fault.at
 finish_offset_of _ = None

@@ -1,4 +1,5 @@
--- When a service accepts the request that a client built, and what both then agree on (RFC 4120, sections 3.2.2 and 3.2.3).
+-- When a service accepts the request that a client built, and what both then agree on (RFC 4120,
+-- sections 3.2.2 and 3.2.3).
 use Rattle.std.specs.Prelude.{◌≡◌, ◌⊎◌, ℤ, List}
 use Rattle.std.specs.Option.{option_map}
 use Rattle.krb_name.specs.Name.{SameName}
@@ -22,7 +23,8 @@ use Rattle.krb_ap.specs.Written.{key_value}
 use Rattle.krb_ap.specs.Credentials.{credential_key}
 use Rattle.krb_ap.specs.Request.{Awaited}
 
--- the key that the keytab has for the credential's ticket opens it to this part, which has the credential's client and key
+-- the key that the keytab has for the credential's ticket opens it to this part, which has the
+-- credential's client and key
 pub record HasTicket (setup : Setup) (credential : Credential) (ticket : ValueOf ticket_kind) (part : ValueOf enc_ticket_part) : Type 0 where
   pub ticket_is : IsMessage ticket_kind ticket credential.ticket
   pub entry : KeytabEntry
@@ -31,8 +33,8 @@ pub record HasTicket (setup : Setup) (credential : Credential) (ticket : ValueOf
   pub client : SameName (part_client part) credential.client
   pub key : session_key part ≡ credential_key credential
 
--- after a history the request's moment and the ticket's times are good, nothing else is asked of the ticket, no request of these
--- names and this moment was shown, and the service has settled
+-- after a history the request's moment and the ticket's times are good, nothing else is asked of
+-- the ticket, no request of these names and this moment was shown, and the quiet start is over
 pub record MayBeTaken (setup : Setup) (history : List Arrival) (moment at : ℤ) (ticket : ValueOf ticket_kind) (part : ValueOf enc_ticket_part) : Type 0 where
   pub near : Near at (effective history moment) setup.skew
   pub alive : Alive part (effective history moment) setup.skew
@@ -41,7 +43,8 @@ pub record MayBeTaken (setup : Setup) (history : List Arrival) (moment at : ℤ)
   pub settled : Settled setup (effective history moment) at
   pub unshown : ¬ IsShown setup history (stamp_at (ticket_service ticket) (part_client part) at)
 
--- what the service knows is what the client awaits: its own name (of the ticket's name type), key, moment, subkey and sequence number
+-- what the service knows is what the client awaits: its own name (of the ticket's name type), key,
+-- moment, subkey and sequence number
 pub record Agrees (taken : Taken) (awaited : Awaited) : Type 0 where
   pub client : SameName taken.client awaited.client
   pub key : taken.session_key ≡ awaited.key

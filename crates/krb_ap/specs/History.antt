@@ -1,4 +1,5 @@
--- What was handed to a service before, newest first; calls that were answered for want of memory are left out.
+-- What a service was given before, newest first. Calls that were answered for lack of memory are
+-- left out.
 use Rattle.std.specs.Prelude.{◌≡◌, ◌⊎◌, ℕ, ℤ, List, [], ◌∷◌, Option, Some, None, IfSome}
 use Rattle.krb_der.specs.Kind.{ValueOf}
 use Rattle.krb_msg.specs.Module.{ap_req, enc_ticket_part, authenticator}
@@ -8,7 +9,7 @@ use Rattle.krb_ap.specs.Setup.{Setup, Arrival}
 use Rattle.krb_ap.specs.Opened.{OpenedAs, sent_at, stamp_of}
 use Rattle.krb_ap.specs.Times.{Near}
 
--- the greatest moment that was handed in
+-- the latest moment that was given
 abbrev pub greatest : List Arrival → Option ℤ
 greatest [] = None
 greatest (a ∷ history) = Some (later_of (greatest history) a.moment)
@@ -31,7 +32,7 @@ abbrev pub IsShown : Setup → List Arrival → Stamp → Type 0
 IsShown setup [] stamp = ⊥
 IsShown setup (a ∷ history) stamp = Shows setup (effective history a.moment) a.bytes stamp ⊎ IsShown setup history stamp
 
--- a stamp's moment isn't before the greatest moment less the skew
+-- a stamp's moment isn't before the latest moment less the skew
 abbrev pub IsStillRecent : Setup → List Arrival → Stamp → Type 0
 IsStillRecent setup history stamp = IfSome (greatest history) (λ now. IsRecent now setup.skew stamp)
 
@@ -39,8 +40,8 @@ IsStillRecent setup history stamp = IfSome (greatest history) (λ now. IsRecent 
 abbrev pub IsShownLately : Setup → List Arrival → Stamp → Type 0
 IsShownLately setup history stamp = IsShown setup history stamp × IsStillRecent setup history stamp
 
--- A memory (which stamps it has, and its latest moment) stands for a history: its latest moment is the greatest, it has
--- only what was shown, and all of that which is recent.
+-- A memory (which stamps it has, and its latest moment) stands for a history if its latest moment
+-- is that of the history, it has only what was shown, and it has everything shown that is recent.
 pub record StandsFor (setup : Setup) (Has : Stamp → Type 0) (latest : Option ℤ) (history : List Arrival) : Type 0 where
   pub latest_is : latest ≡ greatest history
   pub only : (stamp : Stamp) → Has stamp → IsShown setup history stamp

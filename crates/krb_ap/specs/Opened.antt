@@ -1,6 +1,7 @@
--- What a request is opened as (RFC 4120, sections 3.2.2 and 3.2.3), in stages: what it asks for, the key of the keytab that it is
--- for, the ticket that opens under that key, the authenticator that opens under the ticket's session key. Nothing is decrypted
--- here: a text opens to what was sealed to it.
+-- What a request is opened as (RFC 4120, sections 3.2.2 and 3.2.3), in stages: what it asks for,
+-- the keytab's key that it is for, the ticket that opens under that key, and the authenticator that
+-- opens under the ticket's session key. Nothing is decrypted here: a text opens to what was sealed
+-- to it.
 use Rattle.std.specs.Prelude.{◌≡◌, ℕ, ℤ, List}
 use Rattle.krb_name.specs.Name.{SameName}
 use Rattle.krb_name.specs.declared.principal.Principal.{Principal}
@@ -49,7 +50,8 @@ abbrev pub IsChoiceFor : Setup → ValueOf ap_req → Choice → Type 0
 IsChoiceFor setup request choice =
     IsChoice setup.entries (service_of request) (etype_of (sealed_ticket request)) (kvno_of (sealed_ticket request)) choice
 
--- the bytes are a request of the ordinary kind (not user-to-user), with a ticket of an encryption type that is known
+-- the bytes are a request of the ordinary kind (not user-to-user), with a ticket of a known
+-- encryption type
 pub record Asks (bytes : List ℕ) (request : ValueOf ap_req) : Type 0 where
   pub message : IsMessage ap_req request bytes
   pub ordinary : ¬ HasBit (options_of request) use_session_key
@@ -91,7 +93,8 @@ pub record OpenedAs (setup : Setup) (bytes : List ℕ) (request : ValueOf ap_req
   pub authenticated : Authenticated setup bytes request part auth
   pub same_client : SameClient part auth
 
--- the client's moment, and what a request is remembered by: the names of server and client, and the client's moment
+-- the client's moment; and what a request is remembered by: the names of server and client, and the
+-- client's moment
 abbrev pub sent_at : ValueOf authenticator → ℤ
 sent_at auth = micros_of (authenticator_ctime auth) (authenticator_cusec auth)
 

@@ -13,7 +13,8 @@ use Rattle.krb_ap.specs.declared.reply.ReplyOptions.{ReplyOptions}
 abbrev pub reply_usage : ℕ
 reply_usage = 12
 
--- what is sealed: the time that the client told, and the subkey and the sequence number that the service chose
+-- what is sealed: the time that the client sent, and the subkey and the sequence number that the
+-- service chose
 abbrev pub reply_part_for : Taken → ReplyOptions → ValueOf enc_ap_rep_part
 reply_part_for taken options = enc_ap_rep_part_value (record {
   ctime = taken.ctime;
@@ -26,7 +27,7 @@ reply_part_for taken options = enc_ap_rep_part_value (record {
 abbrev pub reply_for : KeyValue → List ℕ → ValueOf ap_rep
 reply_for key text = ap_rep_value (encrypted_value (record { etype = key.etype; kvno = None; cipher = text }))
 
--- the bytes are the reply, as it is written, with that part sealed under the ticket's session key
+-- the bytes are the reply as it is written, with that part sealed under the ticket's session key
 pub record IsReply (taken : Taken) (confounder : List ℕ) (options : ReplyOptions) (bytes : List ℕ) : Type 0 where
   pub plain : List ℕ
   pub plain_is : IsWritten enc_ap_rep_part (reply_part_for taken options) plain

@@ -1,4 +1,5 @@
--- The request that a client builds with a credential (RFC 4120, sections 3.2.2 and 5.5.1), what it keeps of it, and why there is none.
+-- The request that a client builds with a credential (RFC 4120, sections 3.2.2 and 5.5.1), what it
+-- keeps of the request, and why there is none.
 use Rattle.std.specs.Prelude.{◌≡◌, ◌<◌, ℕ, ℤ, List, Bool, true, false, Option, None}
 use Rattle.std.specs.Option.{option_map}
 use Rattle.krb_name.specs.declared.principal.Principal.{Principal}
@@ -25,7 +26,8 @@ abbrev pub options_for : Bool → ℕ
 options_for true = weight mutual_required
 options_for false = 0
 
--- the authenticator: the credential's client, a time, and the subkey and the sequence number that the client chose; and no more
+-- the authenticator: the credential's client, a time, and the subkey and the sequence number that
+-- the client chose; and no more
 abbrev pub authenticator_for : Credential → ℤ → ℕ → RequestOptions → ValueOf authenticator
 authenticator_for credential ctime cusec options = authenticator_value (record {
   crealm = credential.client.realm;
@@ -38,7 +40,8 @@ authenticator_for credential ctime cusec options = authenticator_value (record {
   authorization = None;
 })
 
--- bytes are that authenticator, as it is written, for a moment as its whole second and the microseconds after it
+-- the bytes are that authenticator as it is written, with the moment as its whole second and the
+-- microseconds after it
 pub record IsPlain (credential : Credential) (at : ℤ) (options : RequestOptions) (plain : List ℕ) : Type 0 where
   pub ctime : ℤ
   pub cusec : ℕ
@@ -46,13 +49,14 @@ pub record IsPlain (credential : Credential) (at : ℤ) (options : RequestOption
   pub micros : cusec < 1_000_000
   pub plain_is : IsWritten authenticator (authenticator_for credential ctime cusec options) plain
 
--- and a text is it, sealed under the credential's key
+-- a text is that authenticator, sealed under the credential's key
 pub record IsAuthenticator (credential : Credential) (at : ℤ) (confounder : List ℕ) (options : RequestOptions) (text : List ℕ) : Type 0 where
   pub plain : List ℕ
   pub told : IsPlain credential at options plain
   pub text_is : IsSealed (credential_key credential) authenticator_usage confounder plain text
 
--- the request: the options, a ticket, and a sealed authenticator with the type of its key and without a version number
+-- the request: the options, a ticket, and a sealed authenticator with the type of its key and
+-- without a version number
 abbrev pub request_for : Credential → RequestOptions → ValueOf ticket_kind → List ℕ → ValueOf ap_req
 request_for credential options ticket text = ap_req_value (record {
   options = options_for options.mutual;
@@ -60,7 +64,8 @@ request_for credential options ticket text = ap_req_value (record {
   authenticator = encrypted_value (record { etype = credential.etype; kvno = None; cipher = text });
 })
 
--- the bytes are that request, as it is written, with the credential's ticket and such an authenticator
+-- the bytes are that request as it is written, with the credential's ticket and such an
+-- authenticator
 pub record IsBuilt (credential : Credential) (at : ℤ) (confounder : List ℕ) (options : RequestOptions) (bytes : List ℕ) : Type 0 where
   pub ticket : ValueOf ticket_kind
   pub ticket_is : IsMessage ticket_kind ticket credential.ticket
@@ -68,7 +73,8 @@ pub record IsBuilt (credential : Credential) (at : ℤ) (confounder : List ℕ) 
   pub text_is : IsAuthenticator credential at confounder options text
   pub bytes_are : IsWritten ap_req (request_for credential options ticket text) bytes
 
--- what is kept until the reply comes: the credential's client and key, the moment, and the subkey and the number of the options
+-- what is kept until the reply comes: the credential's client and key, the moment, and the subkey
+-- and the sequence number of the options
 pub record Awaited : Type 0 where
   pub client : Principal
   pub key : KeyValue
@@ -93,7 +99,7 @@ pub record IsRequest (cache : Cache) (service : Principal) (at : ℤ) (confounde
   pub built : IsBuilt credential at confounder options bytes
   pub awaited_is : awaited ≡ awaited_for credential at options
 
--- the bytes that the used credential has for a ticket are none
+-- the bytes that the used credential has as a ticket aren't a ticket
 pub record HasBadTicket (cache : Cache) (service : Principal) (at : ℤ) : Type 0 where
   pub credential : Credential
   pub used : IsUsed cache service at credential
@@ -106,7 +112,8 @@ pub record HasGoodTicket (cache : Cache) (service : Principal) (at : ℤ) : Type
   pub ticket : ValueOf ticket_kind
   pub ticket_is : IsMessage ticket_kind ticket credential.ticket
 
--- they are a ticket, but no bytes are the request: it, or its authenticator, would be longer than messages are
+-- they are a ticket, but no bytes are the request: it or its authenticator would be longer than
+-- messages may be
 pub record IsTooLong (cache : Cache) (service : Principal) (at : ℤ) (confounder : List ℕ) (options : RequestOptions) : Type 0 where
   pub credential : Credential
   pub used : IsUsed cache service at credential

@@ -1,4 +1,4 @@
--- A service: what it decides by, and its memory of what was seen.
+-- A service: what it decides by, and its memory of seen requests.
 use Rattle.krb_ap.specs.Setup.{Setup}
 
 pub record Service (M : Type 0) : Type 0 where

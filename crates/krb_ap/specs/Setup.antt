@@ -1,14 +1,16 @@
--- What a service decides by, and what it is handed. Times are microseconds from 1970-01-01T00:00:00Z on.
+-- What a service decides by, and what it is given. Times are microseconds since
+-- 1970-01-01T00:00:00Z.
 use Rattle.std.specs.Prelude.{ℕ, ℤ, List, Option}
 use Rattle.krb_keytab.specs.Entry.{KeytabEntry}
 
--- the entries of its keytab, by how much a clock may be off, and when it was started again (none: it had no earlier life)
+-- the entries of its keytab, how much clocks may differ, and when it was started again (none: it
+-- never ran before)
 pub record Setup : Type 0 where
   pub entries : List KeytabEntry
   pub skew : ℕ
   pub start : Option ℤ
 
--- bytes that are handed in as a request, and the moment that is handed in with them
+-- the bytes that arrive as a request, and the moment that is given with them
 pub record Arrival : Type 0 where
   pub bytes : List ℕ
   pub moment : ℤ

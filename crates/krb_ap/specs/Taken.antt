@@ -13,10 +13,11 @@ use Rattle.krb_ap.specs.Times.{Near, Alive, IsPathTrusted, IsDataIgnorable}
 use Rattle.krb_ap.specs.Quiet.{Settled}
 use Rattle.krb_ap.specs.History.{effective, IsShown}
 
--- what is known of a request that was accepted: the ticket's client and service (its realm and sname, whichever entry of the keytab
--- has the key), session key, flags, times, addresses and authorization data,
--- the authenticator's subkey, sequence number, checksum, authorization data and time, and whether a reply is asked for. Times are whole seconds
--- from 1970-01-01T00:00:00Z on, cusec is the microseconds of ctime.
+-- What is known of an accepted request. From the ticket: client and service (its realm and sname,
+-- whichever entry of the keytab has the key), session key, flags, times, addresses and
+-- authorization data. From the authenticator: subkey, sequence number, checksum, authorization data
+-- and time. And whether a reply is asked for. Times are whole seconds since 1970-01-01T00:00:00Z;
+-- cusec is the microseconds of ctime.
 pub record Taken : Type 0 where
   pub client : Principal
   pub service : Principal
@@ -56,7 +57,8 @@ taken_from request part auth = record {
   wants_reply = is_mutual request;
 }
 
--- After a history, an arrival is accepted: it is opened, near, alive, trusted and not shown before, and the service has settled. And what is then known.
+-- After a history, an arrival is accepted, and this is what is then known: it is opened, near,
+-- alive, trusted and not shown before, and the quiet start is over.
 pub record Accept (setup : Setup) (history : List Arrival) (call : Arrival) (taken : Taken) : Type 0 where
   pub request : ValueOf ap_req
   pub part : ValueOf enc_ticket_part

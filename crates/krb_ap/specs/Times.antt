@@ -1,5 +1,6 @@
--- When a request may be used (RFC 4120, section 3.2.3), and what we ask of a ticket beside its times. Moments are microseconds, and
--- are compared as plain numbers: with a skew they may pass the years 0000 and 9999.
+-- When a request may be used (RFC 4120, section 3.2.3), and what else we ask of a ticket. Moments
+-- are microseconds, and are compared as plain numbers: with a skew they may lie outside the years
+-- 0000 to 9999.
 use Rattle.std.specs.Prelude.{◌≡◌, ◌⊎◌, ℕ, ℤ, pos, ◌+ℤ◌, ◌≤ℤ◌, All, Option, Some, None}
 use Rattle.krb_der.specs.Kind.{ValueOf}
 use Rattle.krb_msg.specs.Module.{ap_req, enc_ticket_part, authenticator, authorization_data}
@@ -17,7 +18,7 @@ pub record Near (one other : ℤ) (skew : ℕ) : Type 0 where
 abbrev pub second_at : ℤ → ℤ
 second_at seconds = micros_of seconds 0
 
--- from when on the ticket is valid: its starttime, or its authtime where that is absent (section 5.3)
+-- when the ticket becomes valid: its starttime, or its authtime if that is absent (section 5.3)
 abbrev pub or_else : Option ℤ → ℤ → ℤ
 or_else (Some time) _ = time
 or_else None other = other
@@ -25,11 +26,12 @@ or_else None other = other
 abbrev pub start_of : ValueOf enc_ticket_part → ℤ
 start_of part = or_else (starttime_of part) (authtime_of part)
 
--- the ticket isn't valid yet: it begins later than the moment and the skew, or is marked as invalid
+-- the ticket isn't valid yet: it begins later than the moment plus the skew, or is marked as
+-- invalid
 abbrev pub IsEarly : ValueOf enc_ticket_part → ℤ → ℕ → Type 0
 IsEarly part now skew = ¬ (second_at (start_of part) ≤ℤ (now +ℤ pos skew)) ⊎ HasBit (flags_of part) invalid
 
--- the ticket has expired: the moment is later than its end and the skew
+-- the ticket has expired: the moment is later than its end plus the skew
 abbrev pub IsLate : ValueOf enc_ticket_part → ℤ → ℕ → Type 0
 IsLate part now skew = ¬ (now ≤ℤ (second_at (endtime_of part) +ℤ pos skew))
 
@@ -38,11 +40,13 @@ pub record Alive (part : ValueOf enc_ticket_part) (now : ℤ) (skew : ℕ) : Typ
   pub begun : second_at (start_of part) ≤ℤ (now +ℤ pos skew)
   pub lasting : now ≤ℤ (second_at (endtime_of part) +ℤ pos skew)
 
--- the realms between client and service need no check of ours: there are none, or the KDC has checked them (section 2.7)
+-- the realms between client and service need no check of ours: there are none, or the KDC has
+-- checked them (section 2.7)
 abbrev pub IsPathTrusted : ValueOf ap_req → ValueOf enc_ticket_part → Type 0
 IsPathTrusted request part = (crealm_of part ≡ realm_of (ticket_of_request request)) ⊎ HasBit (flags_of part) transited_policy_checked
 
--- each outer element of authorization data may be passed over: it is of the type AD-IF-RELEVANT (section 5.2.6.1)
+-- each outer element of authorization data may be ignored: it is of the type AD-IF-RELEVANT
+-- (section 5.2.6.1)
 abbrev pub MayBeIgnored : Option (ValueOf authorization_data) → Type 0
 MayBeIgnored None = Unit {0}
 MayBeIgnored (Some elements) = All (λ element. type_of element ≡ pos 1) elements

@@ -1,7 +1,9 @@
--- A client that uses one credential; a service that may be started again, and to which anyone sends what they like; and a network that
--- loses, repeats and reorders what the two send. Only what the two sent to each other reaches the client, and no reply to what others
--- sent; the client sends no two requests of one microsecond; the service replies at most once to a request that it accepted; and it is
--- started again with the same keytab, no earlier than the moments of its calls before, and with no smaller skew.
+-- A world with three parts: a client that uses one credential; a service that may be started again,
+-- and to which anyone sends what they like; and a network that loses, repeats and reorders what the
+-- two send. Only what the two sent to each other reaches the client, and no reply to what others
+-- sent. The client sends no two requests of the same microsecond. The service replies at most once
+-- to a request that it accepted. It is started again with the same keytab, no earlier than the
+-- moments of its calls before, and with no smaller skew.
 use Rattle.std.specs.Prelude.{◌≡◌, ◌≢◌, ◌⊎◌, ◌≤◌, ◌≤ℤ◌, ℕ, ℤ, List, [], ◌∷◌, ◌++◌, All, Some}
 use Rattle.std.specs.Option.{option_map}
 use Rattle.krb_name.specs.Name.{SameName}
@@ -52,8 +54,8 @@ pub record Ended : Type 0 where
   pub sent : Sent
   pub agreement : Agreement
 
--- All of it, newest first. The setup is what the service decides by now; the history is that of its calls since it was last started, and
--- the calls before that are the earlier ones.
+-- All of it, newest first. The setup is what the service decides by now. The history is that of its
+-- calls since its last start; the calls before that are the earlier ones.
 pub record World : Type 0 where
   pub setup : Setup
   pub earlier : List Arrival
@@ -88,7 +90,7 @@ IsOf (y ∷ ys) x = (y ≡ x) ⊎ IsOf ys x
 abbrev pub IsSent : World → List ℕ → Type 0
 IsSent w bytes = (s : Sent) × (IsOf w.sent s × (s.bytes ≡ bytes))
 
--- the bytes were sent, by the client or by the service, which sends replies and errors
+-- the bytes were sent, by the client or by the service; the service sends replies and errors
 abbrev pub IsPacket : World → List ℕ → Type 0
 IsPacket w bytes = IsSent w bytes ⊎ (((r : Replied) × (IsOf w.replied r × (r.bytes ≡ bytes))) ⊎ IsOf w.errors bytes)
 
@@ -111,8 +113,9 @@ pub data Event : Type 0 where
 abbrev pub started_again : Setup → ℤ → ℕ → Setup
 started_again setup start skew = record { entries = setup.entries; skew = skew; start = Some start }
 
--- The client sends a request that is built with the credential. The service accepts any bytes that come, a packet or what others send, or
--- refuses them for the first cause or out of memory; it replies to what it accepted of the client's requests; it sends an error. The client
+-- The client sends a request that is built with the credential. The service accepts any bytes that
+-- arrive, whether a packet or what others send; or refuses them for the first cause or for lack of
+-- memory. It replies to what it accepted of the client's requests, or sends an error. The client
 -- agrees to a packet as the reply to a request. The service is started again.
 abbrev pub Can : Credential → World → Event → Type 0
 Can credential w (sends s) = IsBuilt credential s.at s.confounder s.options s.bytes × All (λ other. other.at ≢ s.at) w.sent
@@ -136,14 +139,14 @@ happens w (ends bytes e) = world w.setup w.earlier w.history w.sent w.held w.rep
 happens w (restarts start skew) =
     world (started_again w.setup start skew) (w.history ++ w.earlier) [] w.sent w.held w.replied w.errors w.ended
 
--- events happen one after another, and this is the world then
+-- events happen one after another, and lead to this world
 abbrev pub Comes : Credential → World → List Event → World → Type 0
 Comes credential w [] end = end ≡ w
 Comes credential w (event ∷ events) end = Can credential w event × Comes credential (happens w event) events end
 
 -- ---- what both hold then
 
--- what the service knows of a request, and told in its reply, is what the client agreed to
+-- what the service knows of a request, and sent in its reply, is what the client agreed to
 pub record HoldSame (credential : Credential) (e : Ended) (r : Replied) : Type 0 where
   pub told : Agrees r.held.taken (awaited_by credential e.sent)
   pub client : SameName r.held.taken.client e.agreement.client
@@ -153,13 +156,14 @@ pub record HoldSame (credential : Credential) (e : Ended) (r : Replied) : Type 0
   pub service_subkey : option_map key_value r.options.subkey ≡ e.agreement.service_subkey
   pub service_seq : r.options.seq ≡ e.agreement.service_seq
 
--- the service's reply to this request, of which there is one
+-- the service's reply to this request, of which there is only one
 pub record IsReplyTo (w : World) (sent : Sent) (r : Replied) : Type 0 where
   pub replied : IsOf w.replied r
   pub held : IsOf w.held r.held
   pub same : r.held.call.bytes ≡ sent.bytes
 
--- of each request that ended the service holds something, and all that it holds of it agrees with the client
+-- for each request that the client completed, the service holds something, and all that it holds of
+-- it agrees with the client
 pub record BothAgree (credential : Credential) (w : World) : Type 0 where
   pub some : (e : Ended) → IsOf w.ended e → (r : Replied) × IsReplyTo w e.sent r
   pub all : (e : Ended) (r : Replied) → IsOf w.ended e → IsReplyTo w e.sent r → HoldSame credential e r
@@ -170,7 +174,7 @@ abbrev pub IsHeldAmong : Setup → List Held → Stamp → Type 0
 IsHeldAmong setup [] stamp = ⊥
 IsHeldAmong setup (h ∷ held) stamp = HasStamp setup h.call.bytes stamp ⊎ IsHeldAmong setup held stamp
 
--- no stamp was accepted twice, by the service before and after it was started again together
+-- no stamp was accepted twice by the service, before and after it was started again together
 abbrev pub HoldsOnce : Setup → List Held → Type 0
 HoldsOnce setup [] = Unit {0}
 HoldsOnce setup (h ∷ held) = ((stamp : Stamp) → HasStamp setup h.call.bytes stamp → ¬ IsHeldAmong setup held stamp) × HoldsOnce setup held
@@ -181,13 +185,14 @@ pub record IsHeldOnce (setup : Setup) (w : World) : Type 0 where
   pub held : (g h : Held) → IsOf w.held g → IsOf w.held h → g.call.bytes ≡ h.call.bytes → g ≡ h
   pub replied : (q r : Replied) → IsOf w.replied q → IsOf w.replied r → q.held.call.bytes ≡ r.held.call.bytes → q ≡ r
 
--- the service replied to this request, and what it knows and told is what the client agreed to
+-- the service replied to this request, and what it knows and sent is what the client agreed to
 pub record IsHeldToo (credential : Credential) (w : World) (sent : Sent) (agreement : Agreement) : Type 0 where
   pub reply : Replied
   pub reply_to : IsReplyTo w sent reply
   pub same : HoldSame credential (record { sent = sent; agreement = agreement }) reply
 
--- in each world in which this request was sent, and these bytes are a packet, the service holds what was agreed too
+-- in each world in which this request was sent, and these bytes are a packet, the service too holds
+-- what was agreed
 abbrev pub IsHeldInEachWorld : Awaited → List ℕ → Agreement → Type 0
 IsHeldInEachWorld awaited bytes agreement = (setup : Setup) (credential : Credential) (ticket : ValueOf ticket_kind) (part : ValueOf enc_ticket_part)
     (events : List Event) (w : World) (sent : Sent) → HasTicket setup credential ticket part → Comes credential (nothing_yet setup) events w

@@ -8,7 +8,7 @@ use Rattle.krb_enc.specs.Sealed.{sealed}
 use Rattle.krb_msg.specs.Module.{encryption_key}
 use Rattle.krb_msg.specs.Fields.{typed_value}
 
--- the bytes are a message of the kind, just as it is written for the value
+-- the bytes are a message of the kind, exactly as it is written for the value
 pub record IsWritten (k : Kind) (value : ValueOf k) (bytes : List ℕ) : Type 0 where
   pub message : IsMessage k value bytes
   pub written : Writes k value bytes

@@ -1,15 +1,17 @@
-//! What a service accepted.
+//! What a service knows of an accepted request.
 
 use krb_enc::Key;
 use krb_msg::{Flags, Microseconds, Principal, RawKey, Seconds, Typed};
 
-/// What is known of a request that was accepted (RFC 4120, section 3.2.3). There is no `Debug`, so that no log shows a key.
+/// What is known of an accepted request (RFC 4120, section 3.2.3). There is no `Debug`, so no log
+/// shows a key.
 #[derive(Drop)]
 pub struct Accepted {
     /// The client, as the ticket names it.
     pub client: Principal,
-    /// The service that was asked for: the realm and the name of the ticket, with its name type. No key seals the name: where two
-    /// names of a keytab have one key, whoever has the ticket may write either.
+    /// The service that was asked for: the ticket's realm and name, with its name type. The name
+    /// isn't sealed: if two names of a keytab have the same key, whoever has the ticket may write
+    /// either name.
     pub service: Principal,
     /// The key that client and service share, from the ticket.
     pub session_key: Key,
@@ -17,19 +19,20 @@ pub struct Accepted {
     pub flags: Flags,
     /// When the client was authenticated.
     pub authtime: Seconds,
-    /// Until when the ticket is valid.
+    /// When the ticket expires.
     pub endtime: Seconds,
-    /// The addresses that the ticket is for. They are handed on, and were compared with nothing.
+    /// The addresses that the ticket is for. They are passed on as they are, and weren't compared
+    /// with anything.
     pub addresses: Option<Vec<Typed>>,
-    /// The ticket's authorization data, of which each outer element is of type 1 (AD-IF-RELEVANT).
+    /// The ticket's authorization data. Each outer element is of type 1 (AD-IF-RELEVANT).
     pub ticket_authorization: Option<Vec<Typed>>,
     /// The key that the client chose for this session, of any type.
     pub subkey: Option<RawKey>,
     /// The client's first sequence number.
     pub seq: Option<u32>,
-    /// The authenticator's checksum. It is handed on, and wasn't verified.
+    /// The authenticator's checksum. It is passed on as it is, and wasn't verified.
     pub checksum: Option<Typed>,
-    /// The authenticator's authorization data, of which each outer element is of type 1.
+    /// The authenticator's authorization data. Each outer element is of type 1.
     pub authenticator_authorization: Option<Vec<Typed>>,
     /// The client's time.
     pub ctime: Seconds,

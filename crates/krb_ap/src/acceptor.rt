@@ -27,11 +27,13 @@ use krb_replay::{ReplayMemory, Skew, Tuple};
 use std::alloc::{AllocError, Global};
 use std::marker::Model;
 
-/// The service's side of the exchange (RFC 4120, section 3.2.3): a keytab, a skew and a memory of what was seen.
+/// The service's side of the exchange (RFC 4120, section 3.2.3): a keytab, a skew and a memory of
+/// seen requests.
 ///
-/// It keeps the keys that it derived for tickets under the service key that it used last, in place, so that the next ticket under
-/// that key costs no derivation. A contract sees the entries, the skew and the start, by which it decides, and the memory: no answer
-/// depends on what is kept.
+/// It caches, in place, the keys that it derived for tickets under the service key that it used
+/// last, so the next ticket under that key costs no derivation. A contract sees the entries, the
+/// skew and the start, by which the service decides, and the memory. No answer depends on the
+/// cached keys.
 #[derive(Drop)]
 pub struct Acceptor<M> {
     pub(crate) keytab: Keytab,
@@ -52,12 +54,14 @@ impl<M> Model for Acceptor<M> {
 }
 
 impl<M: ReplayMemory> Acceptor<M> {
-    /// A service that decides by `keytab` and `skew`, and remembers in `memory`.
+    /// Makes a service that decides by `keytab` and `skew`, and remembers in `memory`.
     ///
-    /// It is for a service that had no earlier life. For one that lost its memory use [`Acceptor::started`], or it may accept a request
-    /// again: one whose time was ahead by the skew stays near for twice the skew (RFC 4120, section 3.2.3).
+    /// Use it for a service that never ran before. For one that lost its memory use
+    /// [`Acceptor::started`], or it may accept a request again: a request whose time was ahead by
+    /// the skew stays acceptable for twice the skew (RFC 4120, section 3.2.3).
     ///
-    /// Condition: the memory is new. It has no tuple (`len()` is 0), and was told no moment (`latest()` is `None`).
+    /// Condition: the memory is new. It has no tuple (`len()` is 0), and was given no moment
+    /// (`latest()` is `None`).
     pub fn new(keytab: Keytab, skew: Skew, memory: M) -> Acceptor<M>
         requires latest { M.newest memory ≡ None }
         requires empty { (stamp : Stamp) → M.has memory stamp → ⊥ }
@@ -68,12 +72,15 @@ impl<M: ReplayMemory> Acceptor<M> {
         Acceptor::of(keytab, skew, memory, None)
     }
 
-    /// A service that was started again at `start`, by its clock, and has forgotten what it accepted before.
+    /// Makes a service that is started again when its clock says `start`, and has forgotten what it
+    /// accepted before.
     ///
-    /// It is quiet at first: it refuses a request as `JustStarted` if the latest moment or the authenticator's time isn't later than
-    /// `start` by more than the skew. So no request that was accepted before the start is accepted again, if the keytab is the same, no
-    /// moment that was handed in before is later than `start`, and the skew is no smaller than it was (RFC 4120, section 3.2.3). The
-    /// start is no moment that was handed in: `latest()` of the memory is `None` until the first call.
+    /// It is quiet at first: it refuses a request as `JustStarted` if the latest moment or the
+    /// authenticator's time isn't later than `start` by more than the skew. So no request that was
+    /// accepted before the start is accepted again, if the keytab is the same, no moment that was
+    /// given before is later than `start`, and the skew isn't smaller than it was (RFC 4120,
+    /// section 3.2.3). The start doesn't count as a moment that was given: `latest()` of the memory
+    /// is `None` until the first call.
     ///
     /// Condition: the memory is new, as for [`Acceptor::new`].
     pub fn started(keytab: Keytab, skew: Skew, memory: M, start: Moment) -> Acceptor<M>
@@ -99,21 +106,24 @@ impl<M: ReplayMemory> Acceptor<M> {
         }
     }
 
-    /// Lends the memory.
+    /// Returns the memory.
     pub fn memory(&self) -> &M
         ensures { result.now ≡ self.now.memory }
     {
         &self.memory
     }
 
-    /// Decides whether a request is accepted (RFC 4120, section 3.2.3), and remembers what has to be remembered of it.
+    /// Decides whether a request is accepted (RFC 4120, section 3.2.3), and remembers what it must
+    /// to recognize a repeat.
     ///
-    /// `now` is the service's clock. Time doesn't go back: what counts is the latest moment that was handed in so far. After each
-    /// answer but `OutOfMemory` that is the memory's latest moment. A request is remembered if it is accepted, if
-    /// it is refused after the look-up of a repeat, and if it is refused as `JustStarted`.
+    /// `now` is the service's clock. Time doesn't go back: the latest moment given so far is the
+    /// one that counts. After each answer but `OutOfMemory` it is the memory's latest moment. A
+    /// request is remembered if it is accepted, if it is refused after the look-up of a repeat, and
+    /// if it is refused as `JustStarted`.
     ///
     /// # Errors
-    /// The first cause of [`Refusal`] that holds, in an order of our own; or `OutOfMemory`, and then nothing has changed.
+    /// The first cause of [`Refusal`] that applies, in our own order; or `OutOfMemory`, and then
+    /// nothing has changed.
     pub fn accept(&mut self, alloc: Global, bytes: &[u8], now: Moment) -> Result<Accepted, Refusal>
         ensures setup { self.new.setup ≡ self.old.setup }
 
@@ -153,7 +163,7 @@ impl<M: ReplayMemory> Acceptor<M> {
         ensures moves { (IsErrOf result OutOfMemory → ⊥)
             → M.newest self.new.memory ≡ Some (later_of (M.newest self.old.memory) now) }
 
-        // The place that a refusal tells is one of the bytes, or their end.
+        // The offset in a refusal is that of one of the bytes, or their end.
         ensures offset { IfErr result (λ refusal. IfSome (offset_of refusal) (λ at. at ≤ length bytes.now)) }
 
         // Want of memory is answered for requests of the ordinary kind alone, and changes nothing.
@@ -165,12 +175,13 @@ impl<M: ReplayMemory> Acceptor<M> {
         self.decide(alloc, bytes, now)
     }
 
-    /// Decides calls one after another, as `accept` does, and answers their outcomes in the same order.
+    /// Decides calls one after another, as `accept` does, and returns their outcomes in the same
+    /// order.
     ///
-    /// Room for all outcomes is made before the first call.
+    /// Memory for all outcomes is allocated before the first call.
     ///
     /// # Errors
-    /// `AllocError`: there was no room for the outcomes. No call was made.
+    /// `AllocError`: there is no memory for the outcomes. No call was made.
     pub fn serve(&mut self, alloc: Global, calls: &[Call]) -> Result<Vec<Outcome>, AllocError>
         ensures setup { self.new.setup ≡ self.old.setup }
 

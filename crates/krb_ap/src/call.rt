@@ -1,10 +1,10 @@
-//! What a service is handed, and what it answers.
+//! What a service is given, and what it answers.
 
 use crate::accepted::Accepted;
 use crate::refusal::Refusal;
 use krb_msg::Moment;
 
-/// Bytes that are handed in as a request, and the service's clock at that moment.
+/// The bytes of a request, and the service's clock when they arrive.
 #[derive(Clone, Copy, Debug)]
 pub struct Call<'a> {
     /// The bytes.

@@ -1,4 +1,4 @@
-//! The choice of a credential of a cache. It takes no memory.
+//! The choice of a credential of a cache. It allocates no memory.
 
 ghost use Rattle.std.specs.Prelude.{◌↔◌, All, IsTrue, IfOk, IfErr, IfSome, IfNone};
 ghost use Rattle.krb_ap.specs.Credentials.{IsFor, IsUsableFor, IsFit, IsUsed, IsWanting, HasCredential};
@@ -8,7 +8,7 @@ use krb_ccache::{CCache, Credential};
 use krb_enc::Key;
 use krb_msg::{Moment, Principal};
 
-/// The credential that is used for a service at a moment, or what is wanting.
+/// The credential that is used for a service at a moment, or what is missing.
 pub(crate) fn used<'a>(
     cache: &'a CCache,
     service: &Principal,

@@ -1,4 +1,4 @@
-//! The service's side: an error is told.
+//! The service's side: building an error.
 
 ghost use Rattle.std.specs.Prelude.{◌≡◌, ◌↔◌, ℤ, IfOk, IsErrOf, None};
 ghost use Rattle.krb_msg.specs.Owned.{owned_krb_error_of};
@@ -12,7 +12,7 @@ use krb_msg::{EncodeFault, KrbError, Microseconds, Moment, Principal, Seconds};
 use std::alloc::{AllocError, Global};
 use thiserror::Error;
 
-/// Why there is no error to tell.
+/// Why there is no error to send.
 #[derive(Clone, Copy, Debug, PartialEq, Eq, Error)]
 pub enum ReplyFault {
     /// The refusal has no code.
@@ -21,7 +21,7 @@ pub enum ReplyFault {
     /// The error would have more than 1,048,576 bytes.
     #[error("the error would be longer than 1048576 bytes")]
     TooLong,
-    /// There was no room.
+    /// There is no memory.
     #[error("out of memory")]
     OutOfMemory,
 }
@@ -34,14 +34,15 @@ impl From<AllocError> for ReplyFault {
     }
 }
 
-/// Builds the error that tells why a request was refused (RFC 4120, sections 3.2.3 and 5.9.1): the service's time `now`, the refusal's
-/// code and the service's name, and nothing else. It isn't sealed: anyone could have written it.
+/// Builds the error that says why a request was refused (RFC 4120, sections 3.2.3 and 5.9.1). It
+/// contains the service's time `now`, the refusal's code and the service's name, and nothing else.
+/// It isn't sealed: anyone could have written it.
 ///
 /// # Errors
-/// The first that holds, or in place of `TooLong` `OutOfMemory`:
+/// The first that applies, or `OutOfMemory` in place of `TooLong`:
 /// - `NoCode`: the refusal has no code.
 /// - `TooLong`: the error would have more than 1,048,576 bytes.
-/// - `OutOfMemory`: there was no room.
+/// - `OutOfMemory`: there is no memory.
 pub fn error_reply(
     alloc: Global,
     refusal: &Refusal,

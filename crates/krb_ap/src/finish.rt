@@ -1,4 +1,4 @@
-//! The client's side: a reply is read.
+//! The client's side: reading a reply.
 
 ghost use Rattle.std.specs.Prelude.{◌≡◌, ◌≢◌, ◌≤◌, ◌↔◌, IfOk, IfErr, IfSome, IsTrue, OnOk, length, IsErrOf};
 ghost use Rattle.krb_der.specs.Kind.{ValueOf};
@@ -26,7 +26,8 @@ use std::alloc::Global;
 
 const REPLY_USAGE: u32 = 12;
 
-/// What a client and a service agree on, as the client holds it. There is no `Debug`, so that no log shows a key.
+/// What a client and a service agree on, as the client holds it. There is no `Debug`, so no log
+/// shows a key.
 #[derive(Drop)]
 pub struct Agreed {
     /// The client.
@@ -44,15 +45,17 @@ pub struct Agreed {
 }
 
 impl Pending {
-    /// Reads the service's reply, and answers what both sides agree on (RFC 4120, section 3.2.5).
+    /// Reads the service's reply, and returns what both sides agree on (RFC 4120, section 3.2.5).
     ///
-    /// The request still waits afterwards. Two requests of one moment under one key can't be told apart by a reply.
+    /// The `Pending` isn't used up: another reply may be read. A reply doesn't show to which of two
+    /// requests it belongs if both have the same moment and key.
     ///
     /// # Errors
-    /// The first that holds, or `OutOfMemory`:
+    /// The first that applies, or `OutOfMemory`:
     /// - `MessageType`: there is a first byte, and it isn't 0x6f.
-    /// - `Malformed`: the bytes are no `AP-REP`, with the fault.
-    /// - `Integrity`: the reply is sealed for another type than the session key's, or doesn't open under it to one `EncAPRepPart`.
+    /// - `Malformed`: the bytes aren't an `AP-REP`. It has the fault.
+    /// - `Integrity`: the reply is sealed for another type than the session key's, or doesn't open
+    ///   under that key to exactly one `EncAPRepPart`.
     /// - `Mismatch`: its time isn't the request's, to the microsecond.
     pub fn finish(&self, alloc: Global, reply: &[u8]) -> Result<Agreed, FinishFault>
         ensures agreed { IfOk result (λ agreed. IsAgreed self.now reply.now (agreement_of agreed)) }

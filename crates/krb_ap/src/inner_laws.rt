@@ -1,4 +1,4 @@
-//! The laws of the layers below, for the proofs of this crate.
+//! Laws of the layers below, for the proofs of this crate.
 
 ghost use Rattle.krb_ap.specs.Inner.Decisions.{Decisions};
 ghost use Rattle.krb_ap.specs.Inner.Facts.{Facts, WritingFacts};

@@ -1,4 +1,4 @@
-//! What a service decides of a request, before it remembers or answers anything.
+//! What a service decides about a request, before it remembers or answers anything.
 
 ghost use Rattle.std.specs.Prelude.{◌≡◌, ◌≢◌, ◌↔◌, ℕ, List, IfErr, IfOk, IsErrOf, IsTrue};
 ghost use Rattle.std.specs.Option.{option_map};
@@ -32,7 +32,7 @@ use krb_msg::{
 use krb_replay::{ReplayMemory, Tuple};
 use std::alloc::{AllocError, Global};
 
-/// A request that is to be remembered, and its answer.
+/// A request that is to be remembered, and the answer to it.
 #[derive(Drop)]
 pub(crate) struct Judged {
     pub(crate) tuple: Tuple,
@@ -40,8 +40,8 @@ pub(crate) struct Judged {
 }
 
 impl<M: ReplayMemory> Acceptor<M> {
-    /// What is to be remembered of a request and its answer, or why it is refused without being remembered. `now` is the
-    /// effective moment.
+    /// What to remember of a request, and the answer to it; or why it is refused without being
+    /// remembered. `now` is the moment that counts.
     pub(crate) fn judge(
         &mut self,
         alloc: Global,
@@ -200,7 +200,7 @@ impl<M: ReplayMemory> Acceptor<M> {
     }
 }
 
-/// What is known of a request that is accepted.
+/// What is known of an accepted request.
 fn accepted(
     alloc: Global,
     session_key: Key,

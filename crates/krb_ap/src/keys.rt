@@ -1,4 +1,4 @@
-//! Copies of keys, and what is sealed under a key.
+//! Copies of keys, and sealing under a key.
 
 ghost use Rattle.std.specs.Prelude.{◌≡◌, ◌≤◌, ◌+◌, None, IfOk, IfSome, OnOk, length};
 ghost use Rattle.krb_enc.specs.Key.{IsUsable};
@@ -12,7 +12,7 @@ use krb_enc::Key;
 use krb_msg::{Encrypted, KeyRef, RawKey};
 use std::alloc::{AllocError, Global};
 
-/// A copy of a key, where there is one, as messages carry it.
+/// A copy of a key, if there is one, in the form that messages have.
 pub(crate) fn raw_key(alloc: Global, key: &Option<Key>) -> Result<Option<RawKey>, AllocError>
     ensures value { IfOk result (λ made. option_map owned_key_of made ≡ option_map key_value key.now) }
     ensures usable { OnOk result (IfSome key.now IsUsable) }
@@ -26,7 +26,7 @@ pub(crate) fn raw_key(alloc: Global, key: &Option<Key>) -> Result<Option<RawKey>
     }
 }
 
-/// A copy of a message's key, where there is one.
+/// A copy of a message's key, if there is one.
 pub(crate) fn owned_key(alloc: Global, key: &Option<KeyRef>) -> Result<Option<RawKey>, AllocError>
     ensures { IfOk result (λ made. option_map owned_key_of made ≡ option_map key_of key.now) }
 {
@@ -36,7 +36,7 @@ pub(crate) fn owned_key(alloc: Global, key: &Option<KeyRef>) -> Result<Option<Ra
     }
 }
 
-/// A copy of a key, where there is one. It takes no memory.
+/// A copy of a key, if there is one. It allocates no memory.
 pub(crate) fn own_key(key: &Option<Key>) -> Option<Key>
     ensures { result ≡ key.now }
 {
@@ -62,7 +62,7 @@ pub(crate) fn seal(
     Ok(key.seal(alloc, usage, confounder, plain)?)
 }
 
-/// What was sealed under a key, with the key's type and without a version number.
+/// The sealed text for a key: with the key's type, and without a version number.
 pub(crate) fn encrypted(key: &Key, cipher: Vec<u8>) -> Encrypted
     ensures { owned_encrypted_of result ≡ encrypted_value (record { etype = key.now.etype; kvno = None; cipher = cipher.items }) }
 {

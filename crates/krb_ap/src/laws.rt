@@ -1,4 +1,5 @@
-//! Laws over the definitions, for proofs to cite. Each function does nothing: its contract is the law.
+//! Laws over the definitions, for proofs to cite. Each function has an empty body: its contract is
+//! the law.
 
 ghost use Rattle.std.specs.Prelude.{◌≡◌, ◌≢◌, ◌⊎◌, ℕ, ℤ, List, Result};
 ghost use Rattle.krb_name.specs.declared.principal.Principal.{Principal};
@@ -27,8 +28,9 @@ ghost use Rattle.krb_ap.specs.declared.refusal.Refusal.TheVariants.{JustStarted}
 
 use crate::inner_laws::{decisions, facts, writing};
 
-/// Says that after each history a call has exactly one answer: it is accepted, or there is a first cause, and it isn't both; what is known
-/// of an accepted request is one, and so is the first cause (whatever fault a malformed request tells).
+/// States that after each history a call has exactly one answer: the request is accepted, or there
+/// is a first cause, but not both. What is known of an accepted request is determined, and so is
+/// the first cause (except for which fault a malformed request reports).
 pub fn one_answer()
     ensures some { (setup : Setup) (history : List Arrival) (call : Arrival)
         → ((taken : Taken) × Accept setup history call taken) ⊎ ((cause : Refusal) × Cause setup history call cause) }
@@ -43,8 +45,9 @@ pub fn one_answer()
     decisions();
 }
 
-/// Says which calls add to what was shown. One that is refused for a cause whose row says that it is remembered shows a request, which
-/// wasn't shown before unless the cause is `JustStarted`. One that is refused for another cause shows none, or one that was shown before.
+/// States which calls add to what was shown. A request that is refused for a cause whose row says
+/// that it is remembered is shown, and wasn't shown before unless the cause is `JustStarted`. One
+/// that is refused for another cause isn't shown, or was shown before.
 pub fn refused_is_remembered()
     ensures remembered { (setup : Setup) (history : List Arrival) (call : Arrival) (cause : Refusal)
         → Cause setup history call cause → IsRemembered cause
@@ -57,11 +60,13 @@ pub fn refused_is_remembered()
     facts();
 }
 
-/// Says that a service accepts a request that a client built, after each history and at each moment that lets it be taken, where the
-/// key that its keytab has for the ticket opens it to the credential's client and key. It then knows what the client awaits, and the
-/// service that the ticket is for.
+/// States that a service accepts a request that a client built, after each history and at each
+/// moment that permits it, if the key that its keytab has for the ticket opens the ticket to the
+/// credential's client and key. The service then knows what the client awaits, and the service that
+/// the ticket is for.
 ///
-/// What `make_request` answers is such a request, and `accept` answers so, or `OutOfMemory`, by its clause `taken`.
+/// `make_request` returns such a request. `accept` then accepts it or answers `OutOfMemory`, by its
+/// clause `taken`.
 pub fn built_is_accepted()
     ensures { (setup : Setup) (history : List Arrival) (moment : ℤ) (cache : Cache) (service : Principal) (at : ℤ) (confounder : List ℕ)
         (options : RequestOptions) (bytes : List ℕ) (awaited : Awaited) (ticket : ValueOf ticket_kind) (part : ValueOf enc_ticket_part)
@@ -75,8 +80,9 @@ pub fn built_is_accepted()
     facts();
 }
 
-/// Says that there is one request, or one fault that prevents it: if no bytes are a request, a fault prevents it; if some are, none does,
-/// and they are one, as is what the client awaits; and what prevents a request is one fault.
+/// States that there is exactly one of two: a request, or one fault that prevents it. If no bytes
+/// are a request, a fault prevents it. If some bytes are a request, no fault prevents it, and both
+/// the bytes and what the client awaits are determined.
 pub fn built_or_prevented()
     ensures some { (cache : Cache) (service : Principal) (at : ℤ) (confounder : List ℕ) (options : RequestOptions)
         → ((bytes : List ℕ) (awaited : Awaited) → ¬ IsRequest cache service at confounder options bytes awaited)
@@ -96,8 +102,9 @@ pub fn built_or_prevented()
     writing();
 }
 
-/// Says that to a reply a client has exactly one answer: it agrees, or there is a first cause to refuse the reply, and it isn't both;
-/// what it agrees on is one, and so is the first cause (whatever fault a malformed reply tells).
+/// States that a client has exactly one answer to a reply: it agrees, or there is a first cause to
+/// refuse the reply, but not both. What it agrees on is determined, and so is the first cause
+/// (except for which fault a malformed reply reports).
 pub fn agreed_or_refused()
     ensures some { (awaited : Awaited) (bytes : List ℕ)
         → ((agreement : Agreement) × IsAgreed awaited bytes agreement) ⊎ ((fault : FinishFault) × FinishCause awaited bytes fault) }
@@ -112,8 +119,8 @@ pub fn agreed_or_refused()
     decisions();
 }
 
-/// Says that over every list of calls, after each history, no two requests of one stamp are accepted, and none of a stamp that was
-/// shown before.
+/// States that over every list of calls, after each history, no two requests of the same stamp are
+/// accepted, and none of a stamp that was shown before.
 pub fn no_stamp_twice()
     ensures once { (setup : Setup) (history : List Arrival) (calls : List Arrival) (answers : List (Result Accepted Refusal)) (end : List Arrival)
         → Run setup history calls answers end → TakesOnce setup calls answers }
@@ -123,13 +130,20 @@ pub fn no_stamp_twice()
     facts();
 }
 
-/// Says that whatever the network loses, repeats or reorders, whatever others send to the service, and however often it is started again,
-/// a client that agrees to a reply holds what the service holds for that request, of which there is something, and that all of it agrees.
-/// What may happen is said in `specs/World`: only what the two sent to each other reaches the client, and no reply to what others sent; no
-/// two requests are of one microsecond; there is at most one reply for each acceptance; the keytab stays, no start is earlier than the
-/// moment of a call before, and no skew smaller; and the key that the keytab has opens the credential's ticket to its client and key. Clause `each` says it of one request and one reply. Clause `once`
-/// doesn't presuppose the ticket: no stamp is accepted twice, by the service before and after its starts together, and what it holds of a
-/// request is one, as is its reply.
+/// States that a client that agrees to a reply and the service hold the same, whatever the network
+/// loses, repeats or reorders, whatever others send to the service, and however often the service
+/// is started again. For that request the service holds something, and everything that it holds for
+/// it agrees with the client.
+///
+/// `specs/World` says what may happen. Only what the two sent to each other reaches the client, and
+/// no reply to what others sent. No two requests are of the same microsecond. There is at most one
+/// reply for each acceptance. The keytab stays the same, no start is earlier than the moment of a
+/// call before, and no skew is smaller. The key that the keytab has opens the credential's ticket
+/// to its client and key.
+///
+/// Clause `each` says this of one request and one reply. Clause `once` doesn't presuppose the
+/// ticket: no stamp is accepted twice by the service, before and after its starts together, and
+/// what it holds of a request is one, as is its reply.
 pub fn both_agree()
     ensures once { (setup : Setup) (credential : Credential) (events : List Event) (end : World)
         → Comes credential (nothing_yet setup) events end → IsHeldOnce setup end }

@@ -1,14 +1,15 @@
-//! The AP exchange of Kerberos 5 (RFC 4120, section 3.2): a client asks a service in, and the service says whether it comes in and
-//! why not.
+//! The AP exchange of Kerberos 5 (RFC 4120, section 3.2): a client asks a service to let it in, and
+//! the service decides, and says why if it refuses.
 //!
-//! [`make_request`] builds a request with a ticket of a credential cache, and gives a [`Pending`] that waits for the reply.
-//! `specs/Credentials` says which credential is used, `specs/Request` which bytes the request is, `specs/Finish` what is agreed on
-//! by a reply, or why it is refused.
+//! [`make_request`] builds a request with a ticket of a credential cache, and returns a [`Pending`]
+//! that waits for the reply. `specs/Credentials` says which credential is used, and `specs/Request`
+//! which bytes the request is. `specs/Finish` says what a reply agrees on, or why it is refused.
 //!
-//! An [`Acceptor`] decides by a keytab, a skew and a memory of what was seen. `specs/Opened` says what a request is opened as,
-//! `specs/Times` and `specs/History` when it may be used, `specs/Taken` what is accepted and what is then known, `specs/Causes`
-//! is the table of refusals. `specs/Reply` and `specs/ErrorReply` are what it answers. `specs/Headline` says when the one side
-//! accepts what the other one built; [`laws`] has that it does.
+//! An [`Acceptor`] decides by a keytab, a skew and a memory of seen requests. `specs/Opened` says
+//! what a request is opened as, `specs/Times` and `specs/History` when it may be used, and
+//! `specs/Taken` what is accepted and what is then known. `specs/Causes` is the table of refusals.
+//! `specs/Reply` and `specs/ErrorReply` say what the service sends back. `specs/Headline` says when
+//! one side accepts what the other one built, and [`laws`] states that it does.
 //!
 //! ```rust
 //! let (bytes, pending) = make_request(alloc, &cache, &service, now, &confounder, options)?;

@@ -1,4 +1,5 @@
-//! Opening a request, stage by stage: its form, the key for its ticket, the ticket, the authenticator.
+//! Opening a request, stage by stage: its form, the key for its ticket, the ticket, the
+//! authenticator.
 
 ghost use Rattle.std.specs.Prelude.{◌≡◌, ◌≢◌, ◌<◌, ◌↔◌, ℕ, ℤ, IfOk, IfErr, IsTrue};
 ghost use Rattle.krb_enc.specs.Key.{IsKnown, IsUsable, profile_of};
@@ -24,7 +25,7 @@ use std::alloc::{AllocError, Global};
 
 const AUTHENTICATOR_USAGE: u32 = 11;
 
-/// Reads a request that asks in the ordinary way. It takes no memory.
+/// Reads a request of the ordinary kind (not user-to-user). It allocates no memory.
 pub(crate) fn read_request<'a>(bytes: &'a [u8]) -> Result<ApReqRef<'a>, Refusal>
     ensures read { IfOk result (λ request. Asks bytes.entry.now (ap_req_of request)) }
     ensures refused { IfErr result (IsCauseOfBytes bytes.entry.now) }
@@ -48,7 +49,7 @@ pub(crate) fn read_request<'a>(bytes: &'a [u8]) -> Result<ApReqRef<'a>, Refusal>
     Ok(request)
 }
 
-/// Whether bytes begin with another tag. It takes no memory.
+/// Whether bytes begin with another tag. It allocates no memory.
 pub(crate) fn begins_otherwise(bytes: &[u8], tag: u8) -> bool
     ensures { IsTrue result ↔ BeginsOtherwise tag bytes.now }
 {
@@ -71,7 +72,7 @@ pub(crate) fn service(alloc: Global, ticket: &TicketRef) -> Result<Principal, Al
     ticket.sname.to_principal(alloc, ticket.realm)
 }
 
-/// Opens a sealed text, or answers `shut` where nothing opens.
+/// Opens a sealed text, or answers `shut` if nothing opens.
 pub(crate) fn open_under(
     alloc: Global,
     key: &UsageKey,
@@ -106,7 +107,7 @@ pub(crate) fn open_authenticator(
     open_under(alloc, &ready, cipher, Refusal::AuthenticatorIntegrity)
 }
 
-/// Reads the opened ticket. It takes no memory.
+/// Reads the opened ticket. It allocates no memory.
 pub(crate) fn read_part<'a>(plain: &'a [u8]) -> Result<EncTicketRef<'a>, Refusal>
     ensures read { IfOk result (λ part. IsMessage enc_ticket_part (enc_ticket_part_of part) plain.entry.now) }
     ensures refused { IfErr result (λ refusal. refusal ≡ TicketIntegrity) }
@@ -118,7 +119,7 @@ pub(crate) fn read_part<'a>(plain: &'a [u8]) -> Result<EncTicketRef<'a>, Refusal
     }
 }
 
-/// Reads the opened authenticator. It takes no memory.
+/// Reads the opened authenticator. It allocates no memory.
 pub(crate) fn read_authenticator<'a>(plain: &'a [u8]) -> Result<AuthenticatorRef<'a>, Refusal>
     ensures read { IfOk result (λ auth. IsMessage authenticator (authenticator_of auth) plain.entry.now) }
     ensures refused { IfErr result (λ refusal. refusal ≡ AuthenticatorIntegrity) }
@@ -130,7 +131,7 @@ pub(crate) fn read_authenticator<'a>(plain: &'a [u8]) -> Result<AuthenticatorRef
     }
 }
 
-/// The ticket's session key, where it is usable. It takes no memory.
+/// The ticket's session key, if it is usable. It allocates no memory.
 pub(crate) fn usable_key(key: &KeyRef) -> Result<Key, Refusal>
     ensures made { IfOk result (λ made. made ≡ record { etype = type_of (key_of key.now); bytes = bytes_of (key_of key.now) }) }
     ensures usable { IfOk result IsUsable }
@@ -150,7 +151,7 @@ pub(crate) fn is_of_type(sealed: &EncryptedRef, key: &KeyRef) -> bool
     sealed.etype == key.etype
 }
 
-/// Whether both name the same client. It takes no memory.
+/// Whether both name the same client. It allocates no memory.
 pub(crate) fn is_same_client(part: &EncTicketRef, auth: &AuthenticatorRef) -> bool
     ensures { IsTrue result ↔ SameClient (enc_ticket_part_of part.now) (authenticator_of auth.now) }
 {

@@ -4,8 +4,9 @@ use krb_enc::Key;
 use krb_msg::{Moment, Principal};
 use std::marker::Model;
 
-/// A request whose reply hasn't come. A contract sees the client, its key, the request's moment, and the subkey and the sequence
-/// number that the client chose. There is no `Debug`, so that no log shows a key.
+/// A request whose reply hasn't come. A contract sees the client, its key, the request's moment,
+/// and the subkey and the sequence number that the client chose. There is no `Debug`, so no log
+/// shows a key.
 #[derive(Drop)]
 pub struct Pending {
     pub(crate) client: Principal,

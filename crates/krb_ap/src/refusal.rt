@@ -8,16 +8,18 @@ use krb_msg::Fault;
 use std::alloc::AllocError;
 use thiserror::Error;
 
-/// Why a request is refused (RFC 4120, section 3.2.3): the first that holds, in this order, which is our own; or `OutOfMemory`.
+/// Why a request is refused (RFC 4120, section 3.2.3): the first that applies, in this order, which
+/// is our own; or `OutOfMemory`.
 #[derive(Clone, Copy, Debug, PartialEq, Eq, Error)]
 pub enum Refusal {
     /// There is a first byte, and it isn't that of a request.
     #[error("the message isn't a request")]
     MessageType,
-    /// The bytes are no request: what is wrong with them, and where.
+    /// The bytes aren't a request: what is wrong with them, and at which offset.
     #[error("the request is malformed: {0}")]
     Malformed(Fault),
-    /// The option use-session-key is set: the ticket is said to be sealed under the session key of another ticket.
+    /// The option use-session-key is set: the request says that the ticket is sealed under the
+    /// session key of another ticket.
     #[error("user-to-user requests aren't taken")]
     UserToUser,
     /// The ticket is of an encryption type other than 19 and 20.
@@ -29,35 +31,38 @@ pub enum Refusal {
     /// None of these keys is usable and of the ticket's encryption type.
     #[error("there is no key of the ticket's encryption type")]
     NoKey,
-    /// None of these keys has the version number that the ticket tells.
+    /// None of these keys has the version number that the ticket names.
     #[error("there is no key of the ticket's version number")]
     BadKeyVersion,
-    /// The key doesn't open the ticket, or opens it to something else than a ticket's sealed part.
+    /// The key doesn't open the ticket, or opens it to something other than a ticket's sealed part.
     #[error("the ticket doesn't open")]
     TicketIntegrity,
-    /// The ticket's session key is of another type, or of another length than its type asks for.
+    /// The ticket's session key is of another type, or doesn't have the length that its type asks
+    /// for.
     #[error("the session key is not usable")]
     SessionKey,
-    /// The session key isn't for the authenticator's encryption type, doesn't open it, or opens it to something else.
+    /// The session key isn't for the authenticator's encryption type, doesn't open it, or opens it
+    /// to something else.
     #[error("the authenticator doesn't open")]
     AuthenticatorIntegrity,
-    /// The authenticator names another client than the ticket.
+    /// The authenticator and the ticket name different clients.
     #[error("the authenticator is another client's")]
     BadMatch,
-    /// The authenticator's time is further than the skew from the latest moment that was handed in.
+    /// The authenticator's time differs by more than the skew from the latest moment that was
+    /// given.
     #[error("the clocks differ by too much")]
     Skew,
-    /// The service was started again, and the latest moment or the authenticator's time isn't later than that start by more than the
-    /// skew. The request is remembered.
+    /// The service was started again, and the latest moment or the authenticator's time isn't later
+    /// than that start by more than the skew. The request is remembered.
     #[error("the service has just started")]
     JustStarted,
     /// A request of the same service, client and time was seen before, whatever its other bytes.
     #[error("the request is a repeat")]
     Repeat,
-    /// The ticket begins later than the latest moment and the skew, or is marked invalid.
+    /// The ticket begins later than the latest moment plus the skew, or is marked invalid.
     #[error("the ticket is not valid yet")]
     NotYetValid,
-    /// The latest moment is later than the ticket's end and the skew.
+    /// The latest moment is later than the ticket's end plus the skew.
     #[error("the ticket has expired")]
     Expired,
     /// The client is of another realm, and no KDC checked the realms between.
@@ -66,7 +71,7 @@ pub enum Refusal {
     /// The ticket or the authenticator has authorization data that may not be ignored.
     #[error("there is authorization data that is not known")]
     Authorization,
-    /// There was no room. Nothing has changed.
+    /// There is no memory. Nothing has changed.
     #[error("out of memory")]
     OutOfMemory,
 }
@@ -113,21 +118,23 @@ impl Refusal {
         }
     }
 
-    /// The error code that a KRB-ERROR tells (RFC 4120, section 7.5.9); none for `OutOfMemory`.
+    /// Returns the error code that a KRB-ERROR contains (RFC 4120, section 7.5.9), or none for
+    /// `OutOfMemory`.
     pub fn code(&self) -> Option<i32>
         ensures { result ≡ code_of self.now }
     {
         self.row().code
     }
 
-    /// Its name, as the enum has it.
+    /// Returns its name, as the enum has it.
     pub fn name(&self) -> &'static str
         ensures { result.now ≡ name_of self.now }
     {
         self.row().name
     }
 
-    /// A number that is greater the later the cause is looked at. It stays the same when other causes are added.
+    /// Returns a number that grows with the place of the cause in the order. It stays the same if
+    /// other causes are added.
     pub fn place(&self) -> u32
         ensures { result ≡ place self.now }
     {

@@ -1,4 +1,4 @@
-//! The service's side: a reply is built.
+//! The service's side: building a reply.
 
 ghost use Rattle.std.specs.Prelude.{◌≡◌, ◌≤◌, List, ℕ, IfOk, length};
 ghost use Rattle.krb_msg.specs.Module.{enc_ap_rep_part};
@@ -15,7 +15,7 @@ use std::alloc::{AllocError, Global};
 
 const REPLY_USAGE: u32 = 12;
 
-/// What a service chooses for a reply. There is no `Debug`, so that no log shows a key.
+/// What a service chooses for a reply. There is no `Debug`, so no log shows a key.
 #[derive(Drop)]
 pub struct ReplyOptions {
     /// A key for this session.
@@ -25,13 +25,15 @@ pub struct ReplyOptions {
 }
 
 impl Accepted {
-    /// Builds the reply that tells the client that its service opened the ticket (RFC 4120, sections 3.2.4 and 5.5.2). It repeats the
-    /// client's time, and is sealed under the ticket's session key.
+    /// Builds the reply that shows the client that its service opened the ticket (RFC 4120,
+    /// sections 3.2.4 and 5.5.2). It repeats the client's time, and is sealed under the ticket's
+    /// session key.
     ///
-    /// It is for a request with `mutual`, at which it doesn't look. `confounder` is 16 random bytes, new for each call.
+    /// Call it if the request has `mutual`; it doesn't check that itself. `confounder` is 16 random
+    /// bytes, new for each call.
     ///
     /// # Errors
-    /// `AllocError`: there was no room for the reply.
+    /// `AllocError`: there is no memory for the reply.
     pub fn reply(
         &self,
         alloc: Global,

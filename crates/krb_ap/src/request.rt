@@ -1,4 +1,4 @@
-//! The client's side: a request is built.
+//! The client's side: building a request.
 
 ghost use Rattle.std.specs.Prelude.{◌≡◌, ◌≢◌, ℕ, List, IfOk, IfErr, IsErrOf};
 ghost use Rattle.krb_enc.specs.Key.{IsUsable};
@@ -23,7 +23,7 @@ use std::alloc::Global;
 
 const AUTHENTICATOR_USAGE: u32 = 11;
 
-/// What a client chooses for a request. There is no `Debug`, so that no log shows a key.
+/// What a client chooses for a request. There is no `Debug`, so no log shows a key.
 #[derive(Drop)]
 pub struct RequestOptions {
     /// Whether the client asks for a reply (mutual-required of RFC 4120, section 5.5.1).
@@ -34,19 +34,22 @@ pub struct RequestOptions {
     pub seq: Option<u32>,
 }
 
-/// Builds a request for `service` with the first credential of `cache` that fits: a ticket of the cache's default principal for
-/// the service (no configuration entry) whose session key is usable, and that ends later than `at`.
+/// Builds a request for `service` from the first credential of `cache` that fits. It fits if it has
+/// a ticket of the cache's default principal for the service (no configuration entry), its session
+/// key is usable, and it expires later than `at`.
 ///
-/// `at` is the client's clock: hand in no moment twice for one credential, since a service refuses the second request as a repeat, and
-/// the replies to two requests of one moment can't be told apart. `confounder` is 16 random bytes, new for each call. The authenticator tells the credential's
-/// client, `at`, and the options' subkey and sequence number. The request has the ticket, and no option but mutual-required.
+/// `at` is the client's clock. Never use a moment twice for one credential: a service refuses the
+/// second request as a repeat, and a reply doesn't show to which of two requests of one moment it
+/// belongs. `confounder` is 16 random bytes, new for each call. The authenticator contains the
+/// credential's client, `at`, and the options' subkey and sequence number. The request has the
+/// ticket, and no option but mutual-required.
 ///
 /// # Errors
-/// The one that holds, or `OutOfMemory`:
+/// The one that applies, or `OutOfMemory`:
 /// - `NoCredential`: the cache has no ticket of its default principal for the service.
-/// - `NoUsableKey`: of these, none has a usable session key.
-/// - `Expired`: of those that have, none ends later than `at`.
-/// - `BadTicket`: the bytes that the credential has for a ticket are none.
+/// - `NoUsableKey`: none of these tickets has a usable session key.
+/// - `Expired`: of those with a usable key, none expires later than `at`.
+/// - `BadTicket`: the bytes of the credential's ticket aren't a ticket.
 /// - `TooLong`: the request, or its authenticator, would have more than 1,048,576 bytes.
 ///
 /// Source: RFC 4120, sections 3.2.2 and 5.5.1.

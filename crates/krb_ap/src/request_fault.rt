@@ -6,25 +6,27 @@ ghost use Rattle.krb_ap.specs.declared.request_fault.RequestFault.TheVariants.{O
 use std::alloc::AllocError;
 use thiserror::Error;
 
-/// Why no request is built: the one that holds, or `OutOfMemory`.
+/// Why no request is built: the one that applies, or `OutOfMemory`.
 #[derive(Clone, Copy, Debug, PartialEq, Eq, Error)]
 pub enum RequestFault {
-    /// The cache has no ticket of its default principal for the service. Configuration entries aren't tickets.
+    /// The cache has no ticket of its default principal for the service. Configuration entries
+    /// aren't tickets.
     #[error("there is no ticket for the service")]
     NoCredential,
-    /// There are such tickets, and none has a session key of type 19 or 20 and of that type's length.
+    /// There are such tickets, but none has a session key of type 19 or 20 and of that type's
+    /// length.
     #[error("there is no ticket for the service with a usable session key")]
     NoUsableKey,
-    /// There are such tickets with usable keys, and none ends later than the moment.
+    /// There are such tickets with usable keys, but none expires later than the moment.
     #[error("the ticket has expired")]
     Expired,
-    /// The bytes that the used credential has for a ticket are none.
+    /// The bytes of the used credential's ticket aren't a ticket.
     #[error("the ticket is malformed")]
     BadTicket,
     /// The request would have more than 1,048,576 bytes.
     #[error("the request would be longer than 1048576 bytes")]
     TooLong,
-    /// There was no room.
+    /// There is no memory.
     #[error("out of memory")]
     OutOfMemory,
 }

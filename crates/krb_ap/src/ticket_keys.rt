@@ -1,4 +1,5 @@
-//! The keys by which tickets are opened: of the key that a keytab has for a ticket, made ready, and kept for the tickets after it.
+//! The keys that open tickets: derived from the key that a keytab has for a ticket, and cached for
+//! later tickets.
 
 ghost use Rattle.std.specs.Prelude.{◌≡◌, ◌≢◌, ◌↔◌, IfOk, IfErr, IsSome, IfSome, IsTrue, OnOk, Some};
 ghost use Rattle.krb_enc.specs.Key.{IsUsable, profile_of};
@@ -17,8 +18,8 @@ use std::alloc::Global;
 
 const TICKET_USAGE: u32 = 2;
 
-/// Makes `ready` the keys for tickets of the key that a keytab has for a service's ticket. Where it has them already, nothing is
-/// derived. It takes no memory.
+/// Makes `ready` the keys for tickets of the key that a keytab has for a service's ticket. If it
+/// has them already, nothing is derived. It allocates no memory.
 pub(crate) fn make_ready(
     ready: &mut Option<UsageKey>,
     keytab: &Keytab,
@@ -67,7 +68,7 @@ fn derived(entry: &Entry) -> UsageKey
     }
 }
 
-/// Opens a ticket under the key that was made ready.
+/// Opens a ticket under the cached key.
 pub(crate) fn open_ticket(
     alloc: Global,
     ready: &Option<UsageKey>,

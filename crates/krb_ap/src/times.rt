@@ -1,4 +1,4 @@
-//! Times of a request and its ticket, and what is asked of a ticket beside them.
+//! Times of a request and its ticket, and what else is asked of a ticket.
 
 ghost use Rattle.std.specs.Prelude.{◌≡◌, ◌↔◌, ◌≤ℤ◌, ◌<ℤ◌, ◌+ℤ◌, All, IfSome, IsTrue, MatchOption, pos};
 ghost use Rattle.krb_msg.specs.Fields.{type_of};
@@ -27,7 +27,8 @@ fn is_within(one: Moment, other: Moment, skew: Skew) -> bool
     one.micros() <= other.micros() + skew.micros()
 }
 
-/// Whether a moment is later than a service's start by more than the skew; without a start it is.
+/// Whether a moment is later than a service's start by more than the skew. It is if there is no
+/// start.
 pub(crate) fn is_past(start: Option<Moment>, moment: Moment, skew: Skew) -> bool
     ensures { IsTrue result ↔ IfSome start (λ start. (start +ℤ pos skew) <ℤ moment) }
 {
@@ -46,7 +47,7 @@ fn start_of(second: Seconds) -> Moment
     }
 }
 
-/// Why a near and new request is refused all the same, if it is.
+/// Why a request is refused though its time is near and it is new, if it is.
 pub(crate) fn refusal_of_times(
     request: &ApReqRef,
     part: &EncTicketRef,

@@ -1,4 +1,4 @@
--- What a filled handle is, and what is made of a call of it.
+-- What a handle holds when it isn't empty, and what a call makes of it.
 use Rattle.std.specs.Prelude.{◌≡◌, ◌≤◌, ◌<◌, ℕ, ℤ, List, [], ◌∷◌, length, Contains, Option, Some, None, Result, Ok, Err, IfErr, IfSome, IsErrOf}
 use Rattle.krb_der.specs.Kind.{ValueOf}
 use Rattle.krb_der.specs.Time.{IsSeconds}
@@ -25,26 +25,27 @@ use Rattle.krb_c.specs.declared.answer.Time.{Time}
 use Rattle.krb_c.specs.declared.kept.Kept.{Kept}
 use Rattle.krb_c.specs.declared.login.Login.{Login}
 
--- what it has seen, and the latest moment that it was told
+-- what it has seen, and the latest moment that it was given
 abbrev pub Remembers : Login → Stamp → Type 0
 Remembers login = Contains login.acceptor.memory.stamps
 
 abbrev pub latest_of : Login → Option ℤ
 latest_of login = login.acceptor.memory.latest
 
--- its memory stands for what was handed in before
+-- its memory stands for what it was given before
 abbrev pub Stands : Login → List Arrival → Type 0
 Stands login history = StandsFor login.acceptor.setup (Remembers login) (latest_of login) history
 
--- it is new: it has these entries, a skew of so many microseconds, and the moment at which it was started again, if it had an earlier
--- life; it has seen nothing, and has refused nothing
+-- it is new: it has these entries, a skew of so many microseconds, and the moment at which it was
+-- started again, if it ran before; it has seen nothing, and has refused nothing
 abbrev pub fresh : List KeytabEntry → ℕ → Option ℤ → Login
 fresh entries skew start = record {
   acceptor = record { setup = record { entries = entries; skew = skew; start = start }; memory = record { stamps = []; latest = None } };
   refusal = None;
 }
 
--- a service of these entries: of all where the text has no bytes, and else of those of the name whose text it is
+-- a service of these entries: of all if the text has no bytes, else of those of the name whose text
+-- it is
 abbrev pub Serves : List ℕ → List KeytabEntry → List KeytabEntry → Type 0
 Serves [] entries kept = kept ≡ entries
 Serves (byte ∷ text) entries kept = (name : Principal) × (IsReadAs (byte ∷ text) (Ok name) × KeepsOnly name entries kept)
@@ -53,7 +54,7 @@ Serves (byte ∷ text) entries kept = (name : Principal) × (IsReadAs (byte ∷ 
 abbrev pub IsFresh : List ℕ → List KeytabEntry → ℕ → Option ℤ → Login → Type 0
 IsFresh text entries skew start login = (kept : List KeytabEntry) × (Serves text entries kept × (login ≡ fresh kept skew start))
 
--- what a request that was accepted is remembered by
+-- what an accepted request is remembered by
 abbrev pub stamp_told : Accepted → Stamp
 stamp_told x = stamp_at x.service x.client (micros_of x.ctime x.cusec)
 
@@ -67,11 +68,11 @@ abbrev pub refused_by : Result Accepted Refusal → Option Refusal
 refused_by (Ok accepted) = None
 refused_by (Err refusal) = Some refusal
 
--- it refused nothing last, and is else as before
+-- it refused nothing last, and is otherwise unchanged
 abbrev pub cleared : Login → Login
 cleared login = record { acceptor = login.acceptor; refusal = None }
 
--- nothing that was accepted is kept
+-- nothing accepted is kept
 abbrev pub nothing_kept : Kept
 nothing_kept = record { accepted = None }
 
@@ -82,18 +83,19 @@ emptied kept = nothing_kept
 abbrev pub IsMomentOf : Time → Type 0
 IsMomentOf time = IsSeconds time.seconds × (time.micros < 1_000_000)
 
--- a handle that was empty stays so, and of a filled one this holds before and after
+-- an empty handle stays empty, and for a filled one this holds before and after
 abbrev pub Turns : {Held : Type 0} → Option Held → Option Held → Type 0 → (Held → Held → Type 0) → Type 0
 Turns None new Empty Filled = (new ≡ None) × Empty
 Turns (Some old) None Empty Filled = ⊥
 Turns (Some old) (Some new) Empty Filled = Filled old new
 
--- the latest moment is told, as a second and the microseconds after it, where there is one
+-- the latest moment is returned, as a second and the microseconds after it, if there is one
 abbrev pub TellsLatest : Option ℤ → Time → Time → Answer → Type 0
 TellsLatest None old new answer = (answer ≡ plain nothing_there) × (new ≡ old)
 TellsLatest (Some at) old new answer = (answer ≡ plain ok) × ((at ≡ micros_of new.seconds new.micros) × (new.micros < 1_000_000))
 
--- A call is decided: this is the outcome, what is known afterwards, what of it is kept, and what is answered.
+-- A call is decided: this is the outcome, what is known afterwards, what is kept of it, and what is
+-- answered.
 pub record Decides (old new : Login) (call : Arrival) (kept : Option Accepted) (answer : Answer) : Type 0 where
   pub outcome : Result Accepted Refusal
   pub answers : (history : List Arrival) → Stands old history → Answers old.acceptor.setup history call outcome

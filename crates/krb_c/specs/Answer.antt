@@ -1,4 +1,4 @@
--- What a call answers: a code, and what goes with it.
+-- What a call answers: a code, and what belongs to it.
 use Rattle.std.specs.Prelude.{◌≡◌, ◌≤◌, ◌<◌, ◌⊎◌, ℕ, ℤ, pos, List, ◌++◌, length, drop, Option, Some, None, Result, Ok, Err}
 use Rattle.krb_keytab.specs.declared.fault.KeytabFault.{KeytabFault}
 use Rattle.krb_keytab.specs.declared.fault.KeytabFault.TheVariants as keytab
@@ -44,11 +44,13 @@ keytab_answer keytab.NoSuchEntry = plain no_such_entry
 keytab_answer keytab.Read = plain not_read
 keytab_answer keytab.OutOfMemory = plain out_of_memory
 
--- Bytes are handed over in a buffer. Where there is room they are at its front, and the rest of it stays; else their number is told.
+-- Bytes are returned in a buffer. If there is room, they are at its start, and the rest of it is
+-- unchanged; otherwise their number is reported.
 pub record Hands (bytes old new : List ℕ) (answer : Answer) : Type 0 where
   pub fits : length bytes ≤ length old → (answer ≡ sized ok (length bytes)) × (new ≡ bytes ++ drop (length bytes) old)
   pub short : length old < length bytes → (answer ≡ sized short_buffer (length bytes)) × (new ≡ old)
 
--- either bytes of which this holds are handed over, or an answer of which that holds is given and the buffer stays
+-- either bytes of which this holds are returned, or an answer of which that holds is given and the
+-- buffer is unchanged
 abbrev pub Delivers : (List ℕ → Type 0) → (Answer → Type 0) → List ℕ → List ℕ → Answer → Type 0
 Delivers Good Bad old new answer = ((bytes : List ℕ) × (Good bytes × Hands bytes old new answer)) ⊎ (Bad answer × (new ≡ old))

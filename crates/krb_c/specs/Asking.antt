@@ -1,4 +1,4 @@
--- The client's side: a cache that is kept, and a request for one of its credentials.
+-- The client's side: a cache that is kept, and a request from one of its credentials.
 use Rattle.std.specs.Prelude.{◌≡◌, ◌≢◌, ◌⊎◌, ℕ, ℤ, List, [], length, Option, Some, Ok, Err}
 use Rattle.std.specs.Str.{IsUtf8}
 use Rattle.krb_name.specs.Reading.{IsReadAs}
@@ -51,14 +51,14 @@ HasCache bytes = (cache : Cache) × IsCache bytes cache
 abbrev pub HasName : List ℕ → Type 0
 HasName bytes = (name : Principal) × IsReadAs bytes (Ok name)
 
--- why bytes are no cache; memory is wanted of a cache alone
+-- why no cache is read: a fault of the bytes, or lack of memory for bytes that are a cache
 pub record HasCacheFault (bytes : List ℕ) (answer : Answer) : Type 0 where
   pub fault : CacheFault
   pub holds : fault ≢ file.OutOfMemory → IsFaultOf bytes fault
   pub memory : fault ≡ file.OutOfMemory → HasCache bytes
   pub answer_is : answer ≡ cache_answer fault
 
--- why a text is no name
+-- why a text isn't a name's
 pub record HasNameFault (bytes : List ℕ) (answer : Answer) : Type 0 where
   pub fault : TextFault
   pub utf8 : IsUtf8 bytes
@@ -68,16 +68,16 @@ pub record HasNameFault (bytes : List ℕ) (answer : Answer) : Type 0 where
 abbrev pub IsNameFault : List ℕ → Answer → Type 0
 IsNameFault bytes answer = HasNameFault bytes answer ⊎ ((¬ IsUtf8 bytes) × (answer ≡ plain not_utf8))
 
--- a service is named by a text that is no name's
+-- a service is named by a text that isn't a name's
 abbrev pub IsUnnamed : List ℕ → Answer → Type 0
 IsUnnamed text answer = (text ≢ []) × IsNameFault text answer
 
--- the text of a name, and how many components it has; or why it is none
+-- the text of a name, and how many components it has; or why it isn't a name's
 abbrev pub IsNameChecked : List ℕ → Answer → Type 0
 IsNameChecked bytes answer =
     ((name : Principal) × (IsReadAs bytes (Ok name) × (answer ≡ sized ok (length name.components)))) ⊎ IsNameFault bytes answer
 
--- ---- what is handed in
+-- ---- what is passed
 
 -- a cache, the service's text, the moment, and what the client chooses
 pub record Ask : Type 0 where
@@ -110,7 +110,7 @@ pub record Asks (a : Ask) (confounder bytes : List ℕ) (awaited : Awaited) : Ty
   pub size : length confounder ≡ 16
   pub request : IsRequest a.cache service (moment_of a.at) confounder options bytes awaited
 
--- what is asked for has a fault
+-- an argument has a fault
 pub record HasRequestFault (a : Ask) (confounder : List ℕ) (answer : Answer) : Type 0 where
   pub service : Principal
   pub options : RequestOptions
@@ -131,13 +131,14 @@ IsAskFault a confounder answer =
     ⊎ ((length confounder ≡ 16) × (IsSubkeyFault a.choice a.subkey answer
     ⊎ HasRequestFault a confounder answer))))))
 
--- a request is handed over, and what is awaited is kept; or it is told why not, and what was kept stays
+-- a request is returned, and what is awaited is kept; or the reason is reported, and what was kept
+-- is unchanged
 abbrev pub Sends : Ask → List ℕ → Option Awaited → Option Awaited → List ℕ → List ℕ → Answer → Type 0
 Sends a confounder was is old new answer =
     ((bytes : List ℕ) × ((awaited : Awaited) × (Asks a confounder bytes awaited × ((is ≡ Some awaited) × Hands bytes old new answer))))
     ⊎ (IsAskFault a confounder answer × ((is ≡ was) × (new ≡ old)))
 
--- the bytes are a cache, which is kept; or it is told why not, and what was kept stays
+-- the bytes are a cache, which is kept; or the reason is reported, and what was kept is unchanged
 abbrev pub Keeps : List ℕ → Option Cache → Option Cache → Answer → Type 0
 Keeps bytes was is answer =
     ((cache : Cache) × (IsCache bytes cache × ((answer ≡ plain ok) × (is ≡ Some cache)))) ⊎ (HasCacheFault bytes answer × (is ≡ was))

@@ -1,4 +1,5 @@
--- What a side chooses: a subkey, a sequence number, whether a reply is wanted; and which keys and confounders are none.
+-- What a side chooses: a subkey, a sequence number, whether a reply is wanted; and which keys and
+-- confounders are invalid.
 use Rattle.std.specs.Prelude.{◌≡◌, ◌≢◌, ◌⊎◌, ℕ, ℤ, pos, Bool, true, false, List, length, Option, Some, None}
 use Rattle.krb_enc.specs.Key.{KeyValue, IsKnown, IsUsable, profile_of}
 use Rattle.krb_enc.specs.Opens.{HasTag, IsShort, Opens}
@@ -14,7 +15,7 @@ use Rattle.krb_c.specs.declared.choice.Choice.{Choice}
 abbrev pub key_value : ℤ → List ℕ → KeyValue
 key_value etype bytes = record { etype = etype; bytes = bytes }
 
--- why a type and bytes are no key, and why bytes are no confounder
+-- why a type and bytes aren't a key, and why bytes aren't a confounder
 abbrev pub IsKeyFault : ℤ → List ℕ → Answer → Type 0
 IsKeyFault etype bytes answer = (¬ IsKnown etype × (answer ≡ plain key_type)) ⊎ ((IsKnown etype × ¬ IsUsable (key_value etype bytes)) × (answer ≡ plain key_length))
 
@@ -26,7 +27,7 @@ abbrev pub IsChosen : ℤ → List ℕ → Option KeyValue → Type 0
 IsChosen etype bytes None = etype ≡ pos 0
 IsChosen etype bytes (Some key) = (etype ≢ pos 0) × ((key ≡ key_value etype bytes) × IsUsable key)
 
--- a subkey is asked for, and its type and bytes are no key
+-- a subkey is asked for, and its type and bytes aren't a key
 abbrev pub IsSubkeyFault : Choice → List ℕ → Answer → Type 0
 IsSubkeyFault choice subkey answer = (choice.subkey_type ≢ pos 0) × IsKeyFault choice.subkey_type subkey answer
 
@@ -47,25 +48,25 @@ pub record Replied (accepted : Accepted) (confounder : List ℕ) (choice : Choic
   pub size : length confounder ≡ 16
   pub reply : IsReply (taken_of accepted) confounder (record { subkey = key; seq = seq_of choice }) bytes
 
--- why there is none: the first that holds
+-- why there is no reply: the first that holds
 abbrev pub IsReplyFault : List ℕ → Choice → List ℕ → Answer → Type 0
 IsReplyFault confounder choice subkey answer =
     IsConfounderFault confounder answer
     ⊎ ((length confounder ≡ 16) × (IsSubkeyFault choice subkey answer ⊎ (HasSubkey choice subkey × (answer ≡ plain out_of_memory))))
 
--- a text that is sealed
+-- a sealed text
 pub record SealsTo (key : KeyValue) (usage : ℕ) (confounder plain_text text : List ℕ) : Type 0 where
   pub usable : IsUsable key
   pub size : length confounder ≡ 16
   pub text_is : text ≡ sealed (profile_of key) key.bytes usage confounder plain_text
 
--- why none is: the first that holds
+-- why there is no sealed text: the first that holds
 abbrev pub IsSealFault : KeyValue → List ℕ → Answer → Type 0
 IsSealFault key confounder answer =
     IsKeyFault key.etype key.bytes answer
     ⊎ (IsUsable key × (IsConfounderFault confounder answer ⊎ ((length confounder ≡ 16) × (answer ≡ plain out_of_memory))))
 
--- a text that is opened, and why it isn't: the first that holds
+-- an opened text, and why a text isn't opened: the first that holds
 abbrev pub OpensTo : KeyValue → ℕ → List ℕ → List ℕ → Type 0
 OpensTo key usage text plain_text = IsUsable key × Opens (profile_of key) key.bytes usage text plain_text
 
@@ -75,13 +76,13 @@ IsOpenFault key usage text answer =
     ⊎ ((¬ IsShort (profile_of key) text) × (((¬ HasTag (profile_of key) key.bytes usage text) × (answer ≡ plain text_integrity))
     ⊎ (HasTag (profile_of key) key.bytes usage text × (answer ≡ plain out_of_memory))))))
 
--- a tag is the checksum of a text, or isn't
+-- a tag is the checksum of a text, or it isn't
 abbrev pub IsChecked : KeyValue → ℕ → List ℕ → List ℕ → Answer → Type 0
 IsChecked key usage text tag answer =
     IsKeyFault key.etype key.bytes answer ⊎ (IsUsable key × (((tag ≡ checksum_of (profile_of key) key.bytes usage text) × (answer ≡ plain ok))
     ⊎ ((tag ≢ checksum_of (profile_of key) key.bytes usage text) × (answer ≡ plain text_integrity))))
 
--- the reply to what was accepted is handed over, or it is told why not
+-- the reply to what was accepted is returned, or the reason is reported
 abbrev pub TellsReply : Option Accepted → List ℕ → Choice → List ℕ → List ℕ → List ℕ → Answer → Type 0
 TellsReply None confounder choice subkey old new answer = (answer ≡ plain nothing_there) × (new ≡ old)
 TellsReply (Some accepted) confounder choice subkey old new answer =

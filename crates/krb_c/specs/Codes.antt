@@ -1,4 +1,5 @@
--- The codes of answers. A number never moves: a cause that comes between two others takes one of the numbers between theirs.
+-- The codes that calls answer. A number never changes: a cause that comes between two others gets
+-- one of the numbers between theirs.
 use Rattle.std.specs.Prelude.{ℕ}
 use Rattle.krb_ap.specs.declared.refusal.Refusal.{Refusal}
 use Rattle.krb_ap.specs.declared.refusal.Refusal.TheVariants.{MessageType, Malformed, UserToUser, TicketEtype, NotUs, NoKey, BadKeyVersion, TicketIntegrity, SessionKey, AuthenticatorIntegrity, BadMatch, Skew, JustStarted, Repeat, NotYetValid, Expired, Transited, Authorization, OutOfMemory}
@@ -118,6 +119,7 @@ cause_code Transited = 250
 cause_code Authorization = 260
 cause_code OutOfMemory = out_of_memory
 
--- the library's version: the major number, the minor one and the patch, by two digits each
+-- the library's version: the major number, the minor number and the patch number, with two digits
+-- for each of the last two
 abbrev pub version : ℕ
 version = 100

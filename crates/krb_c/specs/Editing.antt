@@ -1,4 +1,5 @@
--- How the file of a keytab is changed: an entry is taken out or put in, or all are written anew.
+-- How the file of a keytab is changed: an entry is removed or added, or all entries are written
+-- again.
 use Rattle.std.specs.Prelude.{◌≡◌, ◌≢◌, ◌<◌, ◌⊎◌, ℕ, List, length, Ok}
 use Rattle.krb_name.specs.Reading.{IsReadAs}
 use Rattle.krb_name.specs.declared.principal.Principal.{Principal}
@@ -15,7 +16,7 @@ use Rattle.krb_c.specs.Codes.{out_of_memory, too_long}
 use Rattle.krb_c.specs.declared.answer.Answer.{Answer}
 use Rattle.krb_c.specs.declared.editing.KeyParts.{KeyParts}
 
--- why bytes are no keytab, memory aside
+-- why bytes aren't a keytab, memory aside
 pub record HasKeytabFault (bytes : List ℕ) (answer : Answer) : Type 0 where
   pub fault : KeytabFault
   pub holds : fault ≢ keytab.OutOfMemory → IsFaultOf bytes fault
@@ -23,7 +24,7 @@ pub record HasKeytabFault (bytes : List ℕ) (answer : Answer) : Type 0 where
 
 -- ---- removing
 
--- the bytes are no keytab, or it has no entry of this index
+-- the bytes aren't a keytab, or it has no entry of this index
 pub record HasRemoveFault (bytes : List ℕ) (index : ℕ) (answer : Answer) : Type 0 where
   pub fault : KeytabFault
   pub missing : fault ≡ keytab.NoSuchEntry → LacksEntry bytes index
@@ -35,7 +36,7 @@ IsRemoveFault bytes index answer = HasRemoveFault bytes index answer ⊎ (answer
 
 -- ---- adding
 
--- the entry of a name's text, a key and what goes with it, and these fit into one
+-- the entry of a name's text, a key and what belongs to it, if these fit into an entry
 pub record IsEntryOf (text key : List ℕ) (parts : KeyParts) (entry : KeytabEntry) : Type 0 where
   pub name_is : IsReadAs text (Ok entry.principal)
   pub name_type : entry.principal.name_type ≡ parts.name_type
@@ -61,7 +62,7 @@ pub record Adds (bytes text key : List ℕ) (parts : KeyParts) (file : List ℕ)
   pub entry_is : IsEntryOf text key parts entry
   pub added : AddsEntry bytes entry file
 
--- the bytes are no keytab, or the new file would be too long, or there was no room
+-- the bytes aren't a keytab, or the new file would be too long, or memory is lacking
 pub record HasAddFault (bytes text key : List ℕ) (parts : KeyParts) (answer : Answer) : Type 0 where
   pub entry : KeytabEntry
   pub entry_is : IsEntryOf text key parts entry
@@ -78,7 +79,7 @@ IsAddFault bytes text key parts answer = IsEntryFault text key answer ⊎ HasAdd
 abbrev pub WritesAnew : List ℕ → List ℕ → Type 0
 WritesAnew bytes file = (entries : List KeytabEntry) × (IsKeytab bytes entries × (file ≡ written entries))
 
--- that file would be longer than files are, memory aside
+-- that file would be longer than files may be, memory aside
 pub record IsTooLong (bytes : List ℕ) (answer : Answer) : Type 0 where
   pub entries : List KeytabEntry
   pub keytab_is : IsKeytab bytes entries

@@ -1,4 +1,4 @@
--- The client's side: what is agreed on by the reply to a request that is awaited.
+-- The client's side: what the reply to an awaited request agrees on.
 use Rattle.std.specs.Prelude.{◌≡◌, ◌≢◌, ◌≤◌, ◌⊎◌, ℕ, pos, List, [], ◌++◌, length, IfSome}
 use Rattle.krb_name.specs.Text.{text_of}
 use Rattle.krb_ap.specs.Finish.{FinishCause, IsAgreed, agreement_of, finish_offset_of}
@@ -50,12 +50,12 @@ agreement_told x = record {
   has_service_seq = is_there x.service_seq;
 }
 
--- what is agreed on is told, or there was no room
+-- what is agreed on is returned, or memory is lacking
 abbrev pub TellsAgreed : Agreed → Agreement → Agreement → List ℕ → List ℕ → Answer → Type 0
 TellsAgreed x was is old new answer =
     (Hands (agreed_bytes x) old new answer × (is ≡ agreement_told x)) ⊎ ((answer ≡ plain out_of_memory) × ((is ≡ was) × (new ≡ old)))
 
--- something is agreed on, and told; or it is told why not
+-- something is agreed on and returned; or the reason is reported
 abbrev pub Ends : Awaited → List ℕ → Agreement → Agreement → List ℕ → List ℕ → Answer → Type 0
 Ends awaited bytes was is old new answer =
     ((agreed : Agreed) × (Finishes awaited bytes agreed × TellsAgreed agreed was is old new answer))

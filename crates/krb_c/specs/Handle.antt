@@ -1,4 +1,4 @@
--- What a handle owns: nothing at null, and else the box at its pointer.
+-- What a handle owns: nothing if it is null, else the box at its pointer.
 use Rattle.std.specs.Prelude.{Option, Some, None}
 use base.Fml.{Fml, ftrue, fex}
 use denote.RattleType.{RattleType}

@@ -1,4 +1,5 @@
--- What is handed out of the lists of a request that was accepted: its addresses, its authorization data, and its checksum, a list of one.
+-- What is returned of the lists of an accepted request: its addresses, its authorization data, and
+-- its checksum, a list of one.
 use Rattle.std.specs.Prelude.{◌≡◌, ℕ, ℤ, List, [], ◌∷◌, length, Option, Some, None, nat_eq, if◌then◌else◌, slice_get}
 use Rattle.std.specs.Option.{option_map}
 use Rattle.krb_msg.specs.declared.typed.Typed.{Typed}
@@ -21,7 +22,7 @@ authenticator_authorization = 3
 abbrev pub checksum : ℕ
 checksum = 4
 
--- the list that a number stands for, if the request has it
+-- the list that has a number, if the request has the list
 abbrev pub list_of : ℕ → Accepted → Option (List Typed)
 list_of list x =
     if nat_eq list addresses then option_map (λ l. l.items) x.addresses
@@ -39,7 +40,7 @@ abbrev pub Counts : Option Accepted → ℕ → Answer → Type 0
 Counts None list answer = answer ≡ plain nothing_there
 Counts (Some x) list answer = CountsItems (list_of list x) answer
 
--- an item is handed out: its type, and its bytes in the buffer
+-- an item is returned: its type, and its bytes in the buffer
 abbrev pub HandsItem : Option Typed → ℤ → ℤ → List ℕ → List ℕ → Answer → Type 0
 HandsItem None was is old new answer = (answer ≡ plain no_such_entry) × ((is ≡ was) × (new ≡ old))
 HandsItem (Some item) was is old new answer = (is ≡ item.kind) × Hands item.bytes.items old new answer

@@ -1,4 +1,5 @@
--- What is told of a request that was accepted: bytes one after another, and where each stands among them.
+-- What is returned of an accepted request: bytes one after another, and the place of each part
+-- among them.
 use Rattle.std.specs.Prelude.{◌≡◌, ◌⊎◌, ℕ, ℤ, pos, Bool, true, false, List, [], ◌++◌, length, Option, Some, None}
 use Rattle.krb_name.specs.Text.{text_of}
 use Rattle.krb_msg.specs.declared.key.RawKey.{RawKey}
@@ -28,7 +29,8 @@ number_or_zero None = 0
 abbrev pub span : List ℕ → List ℕ → Span
 span before bytes = record { at = length before; size = length bytes }
 
--- the client's text, the session key and the authenticator's subkey; and behind them the text of the service that was asked for
+-- the client's text, the session key and the authenticator's subkey; and after them the text of the
+-- service that was asked for
 abbrev pub keys_told : Accepted → List ℕ
 keys_told x = (text_of x.client ++ x.session_key.bytes) ++ key_bytes x.subkey
 
@@ -56,7 +58,8 @@ known_of x = record {
   wants_reply = x.«mutual»;
 }
 
--- What was accepted is told, or that nothing was, or there was no room. The places are told also where the buffer is too short.
+-- What was accepted is returned; or nothing was accepted, or memory is lacking, and that is
+-- reported. The places are returned even if the buffer is too short.
 abbrev pub TellsKnown : Option Accepted → Known → Known → List ℕ → List ℕ → Answer → Type 0
 TellsKnown None was is old new answer = (answer ≡ plain nothing_there) × ((is ≡ was) × (new ≡ old))
 TellsKnown (Some x) was is old new answer =

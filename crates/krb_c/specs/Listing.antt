@@ -1,4 +1,5 @@
--- What is told of files: the entry of a keytab, or the credential of a cache, at an index; and whose cache it is.
+-- What is returned of files: the entry of a keytab or the credential of a cache at an index; and
+-- the owner of a cache.
 use Rattle.std.specs.Prelude.{◌≡◌, ◌⊎◌, ℕ, ℤ, pos, List, [], ◌++◌, Option, Some, None}
 use Rattle.std.specs.List.{slice_get}
 use Rattle.krb_name.specs.Text.{text_of}
@@ -18,7 +19,7 @@ use Rattle.krb_c.specs.declared.listing.CacheEntry.{CacheEntry}
 use Rattle.krb_c.specs.declared.listing.KeyEntry.{KeyEntry}
 use Rattle.krb_c.specs.declared.listing.Owner.{Owner}
 
--- bytes and what goes with them are told, or there was no memory for it
+-- bytes and what belongs to them are returned, or memory is lacking
 abbrev pub Tells : {Told : Type 0} → List ℕ → Told → Told → Told → List ℕ → List ℕ → Answer → Type 0
 Tells bytes told was is old new answer =
     (Hands bytes old new answer × (is ≡ told)) ⊎ ((answer ≡ plain out_of_memory) × ((is ≡ was) × (new ≡ old)))
@@ -45,7 +46,8 @@ abbrev pub TellsEntryIf : Option KeytabEntry → KeyEntry → KeyEntry → List 
 TellsEntryIf None was is old new answer = (answer ≡ plain no_such_entry) × ((is ≡ was) × (new ≡ old))
 TellsEntryIf (Some x) was is old new answer = TellsEntry x was is old new answer
 
--- the bytes are a keytab, and what it has at the index is told; or it is told why they are none
+-- the bytes are a keytab, and what it has at the index is returned; or the reason why they aren't
+-- one is reported
 abbrev pub ListsEntry : List ℕ → ℕ → KeyEntry → KeyEntry → List ℕ → List ℕ → Answer → Type 0
 ListsEntry bytes index was is old new answer =
     ((entries : List KeytabEntry) × (IsKeytab bytes entries × TellsEntryIf (slice_get entries index) was is old new answer))
@@ -85,7 +87,7 @@ ListsCredential bytes index was is old new answer =
     ((cache : Cache) × (IsCache bytes cache × TellsCredentialIf (slice_get cache.credentials index) was is old new answer))
     ⊎ (HasCacheFault bytes answer × ((is ≡ was) × (new ≡ old)))
 
--- ---- whose cache it is, and its KDC's clock offset in seconds and microseconds
+-- ---- the owner of a cache, and its KDC's clock offset in seconds and microseconds
 
 abbrev pub seconds_or_zero : Option (ℤ × ℤ) → ℤ
 seconds_or_zero (Some offset) = offset.0

@@ -1,4 +1,4 @@
--- The error that tells why a request was refused.
+-- The error that says why a request was refused.
 use Rattle.std.specs.Prelude.{◌≡◌, ◌≢◌, ◌⊎◌, ℕ, ℤ, List, Option, Some, None, Ok}
 use Rattle.krb_name.specs.Reading.{IsReadAs}
 use Rattle.krb_name.specs.declared.principal.Principal.{Principal}
@@ -27,7 +27,7 @@ pub record Errors (refusal : Refusal) (text : List ℕ) (name_type : ℤ) (now :
   pub now_is : IsMomentOf now
   pub error : IsErrorReply refusal (moment_of now) service bytes
 
--- why there is none: want of memory is told of no refusal that has no code
+-- why there is none; lack of memory isn't reported for a refusal that has no code
 abbrev pub PreventsError : Refusal → ℤ → Principal → ReplyFault → Type 0
 PreventsError refusal now service error.NoCode = code_of refusal ≡ None
 PreventsError refusal now service error.TooLong = IsErrorTooLong refusal now service
@@ -47,7 +47,7 @@ abbrev pub IsErrorFault : Refusal → List ℕ → ℤ → Time → Answer → T
 IsErrorFault refusal text name_type now answer =
     IsNameFault text answer ⊎ (HasName text × (IsMomentFault now answer ⊎ LacksError refusal text name_type now answer))
 
--- the error of what was refused is handed over, or it is told why not
+-- the error of what was refused is returned, or the reason is reported
 abbrev pub TellsError : Option Refusal → List ℕ → ℤ → Time → List ℕ → List ℕ → Answer → Type 0
 TellsError None text name_type now old new answer = (answer ≡ plain nothing_there) × (new ≡ old)
 TellsError (Some refusal) text name_type now old new answer =
@@ -57,7 +57,8 @@ TellsError (Some refusal) text name_type now old new answer =
 abbrev pub IsCauseOf : ℕ → Refusal → Type 0
 IsCauseOf code refusal = (code_of refusal ≢ None) × (cause_code refusal ≡ code)
 
--- the error of the cause that has this code is handed over, or it is told why not; there is none for other codes
+-- the error of the cause that has this code is returned, or the reason is reported; there is none
+-- for other codes
 abbrev pub TellsErrorOf : ℕ → List ℕ → ℤ → Time → List ℕ → List ℕ → Answer → Type 0
 TellsErrorOf code text name_type now old new answer =
     ((refusal : Refusal) × (IsCauseOf code refusal × TellsError (Some refusal) text name_type now old new answer))

@@ -1,4 +1,4 @@
-//! A request that was accepted: a handle of its own, which one call of the service fills.
+//! An accepted request: a handle of its own, which a call of the service fills.
 
 ghost use Rattle.std.specs.Prelude.{◌≡◌, ◌⊎◌, None, Some};
 ghost use Rattle.std.specs.Option.{MatchOption};
@@ -18,8 +18,8 @@ use crate::known::Known;
 use crate::slot::Slot;
 use std::alloc::Global;
 
-/// Makes a handle in which `fevstunik_acceptor_accept` keeps what it accepts. Nothing is kept in it yet. What the handle held is freed; if
-/// memory runs out, it stays.
+/// Makes a handle in which `fevstunik_acceptor_accept` keeps what it accepts. Nothing is kept in it
+/// yet. What the handle held is freed. If memory runs out, the handle is unchanged.
 #[unsafe(no_mangle)]
 pub extern "C" fn fevstunik_accepted_new(accepted: &mut Slot, alloc: Global) -> Answer
     ensures { ((result ≡ plain ok) × (accepted.new.value ≡ Some nothing_kept)) ⊎ ((result ≡ plain out_of_memory) × (accepted.new.value ≡ accepted.old.value)) }
@@ -33,8 +33,9 @@ pub extern "C" fn fevstunik_accepted_new(accepted: &mut Slot, alloc: Global) -> 
     }
 }
 
-/// Hands out what was accepted: in the buffer the client's text, the session key, the client's subkey and the text of the service that was
-/// asked for, and in `known` where they stand, and the numbers. The places are handed out also if the buffer is too short.
+/// Reads what was accepted. Writes the client's text, the session key, the client's subkey and the
+/// text of the service that was asked for to the buffer, and their places and the numbers to
+/// `known`. The places are written even if the buffer is too short.
 #[unsafe(no_mangle)]
 pub extern "C" fn fevstunik_accepted_known(
     accepted: &mut Slot,
@@ -56,7 +57,8 @@ pub extern "C" fn fevstunik_accepted_known(
     }
 }
 
-/// Counts the items of a list of what was accepted: 1 its addresses, 2 the ticket's authorization data, 3 the authenticator's, 4 its checksum.
+/// Counts the items of a list of what was accepted: 1 the ticket's addresses, 2 the ticket's
+/// authorization data, 3 the authenticator's, 4 the authenticator's checksum.
 #[unsafe(no_mangle)]
 pub extern "C" fn fevstunik_accepted_count(accepted: &mut Slot, alloc: Global, list: u32) -> Answer
     ensures count { MatchOption accepted.old.value (result ≡ plain empty_handle) (λ kept. Counts kept.accepted list result) }
@@ -72,7 +74,8 @@ pub extern "C" fn fevstunik_accepted_count(accepted: &mut Slot, alloc: Global, l
     }
 }
 
-/// Hands out the item of an index, counted from 0, of a list of what was accepted: its type in `kind`, and its bytes in the buffer.
+/// Reads one item of a list of what was accepted; `index` counts from 0. Writes its type to `kind`,
+/// and its bytes to the buffer.
 #[unsafe(no_mangle)]
 pub extern "C" fn fevstunik_accepted_item(
     accepted: &mut Slot,
@@ -120,7 +123,7 @@ pub extern "C" fn fevstunik_accepted_reply(
     }
 }
 
-/// Frees what the handle holds, which is empty then.
+/// Frees what the handle holds. The handle is empty then.
 #[unsafe(no_mangle)]
 pub extern "C" fn fevstunik_accepted_free(accepted: &mut Slot, alloc: Global)
     ensures { accepted.new.value ≡ None }

@@ -1,4 +1,4 @@
-//! The service's side: a handle over a service that takes requests.
+//! The service's side: a handle for a service that accepts requests.
 
 ghost use Rattle.std.specs.Prelude.{◌≡◌, ◌≢◌, ◌<◌, ◌≤◌, ◌*◌, ◌↔◌, ◌⊎◌, Contains, List, [], None, Some, IfErr, IfOk, IsErrAnd, IsErrOf, IsSomeAnd, MatchResult};
 ghost use Rattle.std.specs.Option.{MatchOption, option_map};
@@ -28,9 +28,10 @@ use krb_msg::Moment;
 use krb_replay::{ReplayMemory, Skew, TimedMemory};
 use std::alloc::Global;
 
-/// Makes the handle hold a service that decides by the keys of a keytab and by a skew of so many seconds, and has seen nothing. If `service`
-/// has bytes, it is a name's text, and only that name's keys count: a ticket for another name is refused as `NotUs`. What the handle held
-/// is freed; if no service is made, it stays.
+/// Makes a service that has seen nothing, and stores it in the handle. It decides by the keys of a
+/// keytab and by a skew in seconds. If `service` has bytes, it is a name's text, and only that
+/// name's keys count: a ticket for another name is refused as `NotUs`. What the handle held is
+/// freed. If no service is made, the handle is unchanged.
 #[unsafe(no_mangle)]
 pub extern "C" fn fevstunik_acceptor_new(
     handle: &mut Handle,
@@ -57,8 +58,9 @@ pub extern "C" fn fevstunik_acceptor_new(
     }
 }
 
-/// Makes the handle hold a service as `fevstunik_acceptor_new` does, for one that was started again at a moment and has forgotten what it
-/// accepted before: it refuses requests as `JustStarted` until its clock and the client's are later than that by more than the skew.
+/// Makes a service as `fevstunik_acceptor_new` does, for one that was started again at a moment and
+/// has forgotten what it accepted before. It refuses requests as `JustStarted` until its clock and
+/// the client's are later than that moment by more than the skew.
 #[unsafe(no_mangle)]
 pub extern "C" fn fevstunik_acceptor_started(
     handle: &mut Handle,
@@ -164,8 +166,9 @@ fn wanted(alloc: Global, keytab: Keytab, service: &[u8]) -> Result<Keytab, Answe
     }
 }
 
-/// Decides whether a request is accepted at a moment of the service's clock, and remembers what has to be remembered of it. What is
-/// accepted is kept in the handle `accepted`, which `fevstunik_accepted_new` made; after any other answer nothing is kept in it.
+/// Decides whether a request is accepted at a moment of the service's clock, and remembers what it
+/// must to recognize a repeat. What is accepted is kept in the handle `accepted`, which
+/// `fevstunik_accepted_new` made. After any other answer nothing is kept in it.
 #[unsafe(no_mangle)]
 pub extern "C" fn fevstunik_acceptor_accept(
     handle: &mut Handle,
@@ -221,7 +224,7 @@ fn decided(
     }
 }
 
-// Nothing is told as refused afterwards.
+// Nothing is reported as refused afterwards.
 fn clear(handle: &mut Handle, alloc: Global)
     ensures { handle.new.value ≡ option_map cleared handle.old.value }
 {
@@ -234,7 +237,7 @@ fn clear(handle: &mut Handle, alloc: Global)
     }
 }
 
-// Nothing is told as accepted afterwards.
+// Nothing is reported as accepted afterwards.
 fn forget(accepted: &mut Slot, alloc: Global)
     ensures { accepted.new.value ≡ option_map emptied accepted.old.value }
 {
@@ -247,8 +250,8 @@ fn forget(accepted: &mut Slot, alloc: Global)
     }
 }
 
-/// Builds the error that tells why the last call of `fevstunik_acceptor_accept` refused, with the service's name of this type and its time
-/// (`krb_ap::error_reply`).
+/// Builds the error that says why the last call of `fevstunik_acceptor_accept` refused a request,
+/// with the service's name of this type and its time (`krb_ap::error_reply`).
 #[unsafe(no_mangle)]
 pub extern "C" fn fevstunik_acceptor_error(
     handle: &mut Handle,
@@ -288,8 +291,8 @@ pub extern "C" fn fevstunik_acceptor_count(handle: &mut Handle, alloc: Global) -
     }
 }
 
-/// Tells the greatest moment that was handed in, where there is one. Calls that were answered by want of memory or by a moment that is
-/// none don't count.
+/// Returns the latest moment that was given, if there is one. Calls that were answered with lack of
+/// memory or an invalid moment don't count.
 #[unsafe(no_mangle)]
 pub extern "C" fn fevstunik_acceptor_latest(
     handle: &mut Handle,
@@ -310,7 +313,7 @@ pub extern "C" fn fevstunik_acceptor_latest(
     }
 }
 
-/// Lets go of what the handle holds.
+/// Frees what the handle holds.
 #[unsafe(no_mangle)]
 pub extern "C" fn fevstunik_acceptor_free(handle: &mut Handle, alloc: Global)
     ensures { handle.new.value ≡ None }

@@ -1,4 +1,4 @@
-//! The client's side: what is agreed on by a reply.
+//! The client's side: what a reply agrees on.
 
 ghost use Rattle.std.specs.Prelude.{◌≡◌, IfOk};
 ghost use Rattle.std.specs.Option.{MatchOption};
@@ -13,7 +13,7 @@ use crate::pending_handle::PendingHandle;
 use krb_ap::{Agreed, FinishFault, Pending};
 use std::alloc::{AllocError, Global};
 
-/// What a client and a service agreed on. Texts and keys stand in the buffer.
+/// What a client and a service agreed on. Texts and keys are in the buffer.
 #[repr(C)]
 #[derive(Clone, Copy)]
 pub struct Agreement {
@@ -21,9 +21,9 @@ pub struct Agreement {
     pub client: Span,
     /// The key that client and service share.
     pub session_key: Span,
-    /// The key that the service chose, if it did.
+    /// The key that the service chose, if any.
     pub service_subkey: Span,
-    /// The service's first sequence number, if it told one.
+    /// The service's first sequence number, if it sent one.
     pub service_seq: u32,
     /// The type of the client's name.
     pub name_type: i32,
@@ -33,12 +33,13 @@ pub struct Agreement {
     pub service_subkey_type: i32,
     /// Whether the service chose a subkey.
     pub has_service_subkey: bool,
-    /// Whether the service told a sequence number.
+    /// Whether the service sent a sequence number.
     pub has_service_seq: bool,
 }
 
-/// Reads the reply to the request that `fevstunik_request` built with this handle, and hands out what both sides agree on
-/// (`krb_ap::Pending::finish`). The request still waits afterwards.
+/// Reads the reply to the request that `fevstunik_request` built with this handle, and returns what
+/// both sides agree on (`krb_ap::Pending::finish`). The handle is unchanged, so another reply may
+/// be read.
 #[unsafe(no_mangle)]
 pub extern "C" fn fevstunik_finish(
     pending: &mut PendingHandle,
@@ -110,7 +111,7 @@ fn tell_agreed(
     }
 }
 
-// The bytes that are told, and where each part stands.
+// The bytes that are returned, and the place of each part.
 fn told(alloc: Global, agreed: &Agreed) -> Result<(Vec<u8>, Agreement), AllocError>
     ensures bytes { IfOk result (λ made. made.0.items ≡ agreed_bytes agreed.now) }
     ensures told { IfOk result (λ made. made.1 ≡ agreement_told agreed.now) }

@@ -11,21 +11,21 @@ use krb_ap::Refusal;
 use krb_keytab::KeytabFault;
 use krb_msg::Moment;
 
-/// What a call answers. The numbers that don't go with its code are 0.
+/// The answer of a call. The numbers that don't belong to its code are 0.
 #[repr(C)]
 #[derive(Clone, Copy)]
 pub struct Answer {
-    /// Whether all is well, or why not.
+    /// Success, or why not.
     pub code: u32,
-    /// The error code of RFC 4120, section 7.5.9, that goes with it.
+    /// The error code of RFC 4120, section 7.5.9, that belongs to it.
     pub kerberos: i32,
-    /// Where a fault is, in bytes from the start of what was handed in.
+    /// The offset of a fault, in bytes from the start of the argument.
     pub at: usize,
-    /// How many bytes were written, or are needed.
+    /// The number of bytes that were written, or are needed.
     pub size: usize,
 }
 
-/// A moment, from 1970-01-01T00:00:00Z on.
+/// A moment, counted from 1970-01-01T00:00:00Z.
 #[repr(C)]
 #[derive(Clone, Copy)]
 pub struct Time {
@@ -36,7 +36,7 @@ pub struct Time {
 }
 
 impl Time {
-    /// The moment, where these are a second and microseconds of one.
+    /// The moment, if these are a second and microseconds of one.
     pub(crate) fn moment(&self) -> Option<Moment>
         ensures { SomeIff result (IsMomentOf self.now) (micros_of self.now.seconds self.now.micros) }
     {
@@ -130,7 +130,7 @@ fn code_of(refusal: &Refusal) -> u32
     }
 }
 
-/// Copies bytes to the front of a buffer, where there is room.
+/// Copies bytes to the start of a buffer, if there is room.
 pub(crate) fn hand_over(bytes: &[u8], buffer: &mut [u8]) -> Answer
     ensures { Hands bytes.now buffer.old buffer.new result }
 {

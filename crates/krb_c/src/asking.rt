@@ -1,4 +1,4 @@
-//! The client's side: a request for a cache's credential.
+//! The client's side: a request from a cache's credential.
 
 ghost use Rattle.std.specs.Prelude.{◌≡◌, IfErr, IfOk, None, Ok};
 ghost use Rattle.std.specs.Option.{MatchOption};
@@ -19,8 +19,8 @@ use krb_ccache::{CCache, CacheFault};
 use krb_name::{Principal, TextFault};
 use std::alloc::Global;
 
-/// Reads a credential cache off the bytes of its file, and keeps it in the handle. What the handle held is freed; if no cache is read, it
-/// stays.
+/// Reads a credential cache from the bytes of its file, and keeps it in the handle. What the handle
+/// held is freed. If no cache is read, the handle is unchanged.
 #[unsafe(no_mangle)]
 pub extern "C" fn fevstunik_cache_new(cache: &mut CacheHandle, alloc: Global, file: &[u8]) -> Answer
     ensures { Keeps file.now cache.old.value cache.new.value result }
@@ -48,7 +48,7 @@ fn kept_of(alloc: Global, file: &[u8]) -> Result<Box<CCache>, Answer>
     }
 }
 
-/// Frees what the handle holds, which is empty then.
+/// Frees what the handle holds. The handle is empty then.
 #[unsafe(no_mangle)]
 pub extern "C" fn fevstunik_cache_free(cache: &mut CacheHandle, alloc: Global)
     ensures { cache.new.value ≡ None }
@@ -56,8 +56,9 @@ pub extern "C" fn fevstunik_cache_free(cache: &mut CacheHandle, alloc: Global)
     *cache = CacheHandle::empty(alloc);
 }
 
-/// Builds a request for a service with the first credential of a cache that fits (`krb_ap::make_request`), and keeps in the handle
-/// `pending` what is awaited of the reply. What that held is freed; if there is no request, it stays.
+/// Builds a request for a service from the first credential of a cache that fits
+/// (`krb_ap::make_request`), and keeps in the handle `pending` what is needed to read the reply.
+/// What that held is freed. If no request is built, `pending` is unchanged.
 #[unsafe(no_mangle)]
 pub extern "C" fn fevstunik_request(
     cache: &mut CacheHandle,
@@ -153,7 +154,7 @@ fn asked(
     }
 }
 
-/// Frees what the handle holds, which is empty then.
+/// Frees what the handle holds. The handle is empty then.
 #[unsafe(no_mangle)]
 pub extern "C" fn fevstunik_pending_free(pending: &mut PendingHandle, alloc: Global)
     ensures { pending.new.value ≡ None }
@@ -161,7 +162,7 @@ pub extern "C" fn fevstunik_pending_free(pending: &mut PendingHandle, alloc: Glo
     *pending = PendingHandle::empty(alloc);
 }
 
-/// Reads a cache off the bytes of its file.
+/// Reads a cache from the bytes of its file.
 pub(crate) fn cache_of(alloc: Global, bytes: &[u8]) -> Result<CCache, Answer>
     ensures cache { IfOk result (λ cache. IsCache bytes.now cache) }
     ensures fault { IfErr result (λ answer. HasCacheFault bytes.now answer) }
@@ -173,7 +174,7 @@ pub(crate) fn cache_of(alloc: Global, bytes: &[u8]) -> Result<CCache, Answer>
     }
 }
 
-/// Reads a principal off its text.
+/// Reads a principal from its text.
 pub(crate) fn name_of(alloc: Global, bytes: &[u8]) -> Result<Principal, Answer>
     ensures name { IfOk result (λ name. IsReadAs bytes.now (Ok name)) }
     ensures fault { IfErr result (λ answer. IsNameFault bytes.now answer) }
@@ -181,7 +182,7 @@ pub(crate) fn name_of(alloc: Global, bytes: &[u8]) -> Result<Principal, Answer>
     typed_name_of(alloc, bytes, 0)
 }
 
-/// Reads a principal off its text, and gives it a type.
+/// Reads a principal from its text, and gives it a type.
 pub(crate) fn typed_name_of(
     alloc: Global,
     bytes: &[u8],

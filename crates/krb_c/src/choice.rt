@@ -1,4 +1,4 @@
-//! What a side chooses, and keys and confounders as C hands them in.
+//! What a side chooses, and keys and confounders in the form in which C passes them.
 
 ghost use Rattle.std.specs.Prelude.{◌≡◌, IfErr, IfOk, length};
 ghost use Rattle.krb_enc.specs.Key.{IsUsable};
@@ -13,18 +13,18 @@ use krb_enc::{Key, KeyFault};
 #[repr(C)]
 #[derive(Clone, Copy)]
 pub struct Choice {
-    /// The encryption type of its subkey, whose bytes are handed in apart: 19, 20, or 0 for none.
+    /// The encryption type of its subkey, whose bytes are passed separately: 19, 20, or 0 for none.
     pub subkey_type: i32,
     /// Its first sequence number.
     pub seq: u32,
-    /// Whether it tells a sequence number.
+    /// Whether it sends a sequence number.
     pub has_seq: bool,
-    /// Whether a client asks for a reply. A service's choice isn't looked at.
+    /// Whether a client asks for a reply. A service ignores it.
     pub wants_reply: bool,
 }
 
 impl Choice {
-    /// The sequence number, if one is told.
+    /// The sequence number, if one is sent.
     pub(crate) fn seq(&self) -> Option<u32>
         ensures { result ≡ seq_of self.now }
     {

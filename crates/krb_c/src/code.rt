@@ -1,5 +1,5 @@
-//! The codes of answers. The header has them under the same names. A number never moves: a cause that comes between two others takes one
-//! of the numbers between theirs.
+//! The codes that calls answer. The header has them under the same names. A number never changes: a
+//! cause that comes between two others gets one of the numbers between theirs.
 
 pub(crate) const OK: u32 = 0;
 

@@ -1,4 +1,4 @@
-//! Keytabs that are changed.
+//! Changes of keytabs.
 
 ghost use Rattle.std.specs.Prelude.{◌≡◌, IfErr, IfOk};
 ghost use Rattle.krb_keytab.specs.Edit.{MakesHole};
@@ -11,8 +11,8 @@ use crate::code;
 use krb_keytab::{Entry, Keytab};
 use std::alloc::Global;
 
-/// Removes the entry of an index, counted from 0, from the bytes of a keytab's file, and hands over those of the new file
-/// (`krb_keytab::Keytab::remove_in`).
+/// Removes one entry, counted from 0, from the bytes of a keytab's file, and returns the bytes of
+/// the new file (`krb_keytab::Keytab::remove_in`).
 #[unsafe(no_mangle)]
 pub extern "C" fn fevstunik_keytab_remove(
     alloc: Global,
@@ -42,7 +42,7 @@ fn removed(alloc: Global, keytab: &[u8], index: usize) -> Result<Vec<u8>, Answer
     }
 }
 
-/// What goes with a key in a keytab's entry.
+/// What an entry of a keytab has beside its name and key.
 #[repr(C)]
 #[derive(Clone, Copy)]
 pub struct KeyParts {
@@ -56,7 +56,8 @@ pub struct KeyParts {
     pub key_type: i16,
 }
 
-/// Adds an entry to the bytes of a keytab's file, and hands over those of the new file (`krb_keytab::Keytab::add_in`).
+/// Adds an entry to the bytes of a keytab's file, and returns the bytes of the new file
+/// (`krb_keytab::Keytab::add_in`).
 #[unsafe(no_mangle)]
 pub extern "C" fn fevstunik_keytab_add(
     alloc: Global,
@@ -117,7 +118,8 @@ fn entry_made(alloc: Global, name: &[u8], key: &[u8], parts: &KeyParts) -> Resul
     }
 }
 
-/// Hands over the bytes of a new file of a keytab's entries, without the holes of the old one (`krb_keytab::Keytab::to_bytes`).
+/// Returns the bytes of a new file with a keytab's entries, without the holes of the old one
+/// (`krb_keytab::Keytab::to_bytes`).
 #[unsafe(no_mangle)]
 pub extern "C" fn fevstunik_keytab_write(alloc: Global, keytab: &[u8], buffer: &mut [u8]) -> Answer
     ensures { Delivers (λ file. WritesAnew keytab.now file) (λ answer. IsWriteFault keytab.now answer) buffer.old buffer.new result }

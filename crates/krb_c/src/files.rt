@@ -1,4 +1,4 @@
-//! Files that are looked at.
+//! Checks of files.
 
 ghost use Rattle.std.specs.Prelude.{◌≡◌, ◌⊎◌, List, length};
 ghost use Rattle.krb_ccache.specs.Format.{IsCache, IsFaultOf as IsCacheFaultOf};
@@ -18,7 +18,7 @@ use krb_ccache::CCache;
 use krb_keytab::Keytab;
 use std::alloc::Global;
 
-/// Looks whether the bytes of a file are a keytab, and answers how many entries it has.
+/// Checks whether the bytes of a file are a keytab, and returns how many entries it has.
 #[unsafe(no_mangle)]
 pub extern "C" fn fevstunik_keytab_check(alloc: Global, keytab: &[u8]) -> Answer
     ensures entries { (entries : List KeytabEntry) → IsKeytab keytab.now entries
@@ -32,7 +32,8 @@ pub extern "C" fn fevstunik_keytab_check(alloc: Global, keytab: &[u8]) -> Answer
     }
 }
 
-/// Looks whether the bytes of a file are a credential cache, and answers how many credentials it has, configuration entries among them.
+/// Checks whether the bytes of a file are a credential cache, and returns how many credentials it
+/// has, including configuration entries.
 #[unsafe(no_mangle)]
 pub extern "C" fn fevstunik_cache_check(alloc: Global, cache: &[u8]) -> Answer
     ensures credentials { (value : Cache) → IsCache cache.now value

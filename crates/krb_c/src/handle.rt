@@ -77,7 +77,7 @@ impl Handle {
 }
 
 impl Handle {
-    /// Takes what the handle holds, which is empty then.
+    /// Takes what the handle holds. The handle is empty then.
     pub(crate) fn take(&mut self, alloc: Global) -> Option<Box<Login>>
         ensures empty { self.new.value ≡ None }
         ensures held { MatchOption result (self.old.value ≡ None) (λ login. self.old.value ≡ Some login.value) }

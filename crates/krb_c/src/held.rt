@@ -6,7 +6,7 @@ ghost use Rattle.std.specs.Box.Ownership.{box_owns};
 use std::alloc::Allocator;
 use std::marker::Model;
 
-/// A box that is taken apart. What it points to isn't freed where it is let go.
+/// A box as a raw pointer. Dropping it doesn't free what it points to.
 pub(crate) struct Held<T, A: Allocator> {
     pub(crate) at: *mut T,
     pub(crate) alloc: A,

@@ -1,4 +1,4 @@
-//! The lists of a request that was accepted.
+//! The lists of an accepted request.
 
 ghost use Rattle.std.specs.Prelude.{◌≡◌, [], ◌∷◌};
 ghost use Rattle.std.specs.Option.{option_copied, option_map};
@@ -32,7 +32,7 @@ pub(crate) fn count(accepted: &Option<Accepted>, list: u32) -> Answer
     }
 }
 
-/// Hands out the item of a list at an index: its type, and its bytes in the buffer.
+/// Returns the item of a list at an index: its type, and its bytes in the buffer.
 pub(crate) fn hand_item(
     accepted: &Option<Accepted>,
     list: u32,

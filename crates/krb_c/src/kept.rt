@@ -1,4 +1,4 @@
-//! What a handle of an accepted request holds.
+//! What the handle of an accepted request holds.
 
 ghost use Rattle.std.specs.Prelude.{◌≡◌, IfErr, IfOk, None};
 ghost use Rattle.krb_c.specs.Choice.{IsReplyFault, Replied, TellsReply};
@@ -25,7 +25,7 @@ impl Kept {
         self.accepted = None;
     }
 
-    /// Hands out what was accepted.
+    /// Returns what was accepted.
     pub(crate) fn tell(&self, alloc: Global, known: &mut Known, buffer: &mut [u8]) -> Answer
         ensures { TellsKnown self.now.accepted known.old known.new buffer.old buffer.new result }
     {

@@ -1,4 +1,4 @@
-//! What is told of a request that was accepted.
+//! What is reported of an accepted request.
 
 ghost use Rattle.std.specs.Prelude.{◌≡◌, ◌++◌, IfOk, length};
 ghost use Rattle.krb_c.specs.Known.{is_there, key_bytes, key_type, known_of, number_or_zero, told_bytes};
@@ -17,7 +17,7 @@ pub struct Span {
     pub size: usize,
 }
 
-/// What is known of a request that was accepted. Texts and keys stand in the buffer.
+/// What is known of an accepted request. Texts and keys are in the buffer.
 #[repr(C)]
 #[derive(Clone, Copy)]
 pub struct Known {
@@ -25,13 +25,13 @@ pub struct Known {
     pub client: Span,
     /// The key that client and service share.
     pub session_key: Span,
-    /// The key that the client chose, if it did.
+    /// The key that the client chose, if any.
     pub subkey: Span,
     /// The service that was asked for, as text.
     pub service: Span,
     /// When the client was authenticated, in seconds.
     pub authtime: i64,
-    /// Until when the ticket is valid, in seconds.
+    /// When the ticket expires, in seconds.
     pub endtime: i64,
     /// The client's time, in seconds.
     pub ctime: i64,
@@ -39,7 +39,7 @@ pub struct Known {
     pub cusec: u32,
     /// The ticket's flags; bit 0 of the RFC is the most significant.
     pub flags: u32,
-    /// The client's first sequence number, if it told one.
+    /// The client's first sequence number, if it sent one.
     pub seq: u32,
     /// The type of the client's name.
     pub name_type: i32,
@@ -51,13 +51,13 @@ pub struct Known {
     pub subkey_type: i32,
     /// Whether the client chose a subkey.
     pub has_subkey: bool,
-    /// Whether the client told a sequence number.
+    /// Whether the client sent a sequence number.
     pub has_seq: bool,
     /// Whether the client asks for a reply.
     pub wants_reply: bool,
 }
 
-/// The bytes that are told, and where each part stands.
+/// The bytes that are returned, and the place of each part.
 pub(crate) fn tell(alloc: Global, accepted: &Accepted) -> Result<(Vec<u8>, Known), AllocError>
     ensures bytes { IfOk result (λ made. made.0.items ≡ told_bytes accepted.now) }
     ensures known { IfOk result (λ made. made.1 ≡ known_of accepted.now) }

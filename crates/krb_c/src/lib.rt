@@ -1,16 +1,22 @@
-//! The library for C: the exchange, sealed texts and checksums as functions that C calls (`include/fevstunik.h`).
+//! The library for C: the exchange, sealed texts and checksums as functions that C calls
+//! (`include/fevstunik.h`).
 //!
-//! Each export calls a proved function of the crates below and states its clauses again, over what C hands in: numbers, slices and structs
-//! of numbers. None has a condition that C could break, beside what the header says of pointers and handles. What it answers is an
-//! [`Answer`](answer::Answer): a code, and what goes with it; `specs/Answer` and `specs/Codes` say which code stands for which fault.
+//! Each export calls a proved function of the other crates, and states its clauses again for the
+//! arguments that C passes: numbers, slices and structs of numbers. None has a condition that C
+//! could break, except what the header says of pointers and handles. It returns an
+//! [`Answer`](answer::Answer): a code, and what belongs to it. `specs/Answer` and `specs/Codes` say
+//! which code reports which fault.
 //!
-//! What outlives a call is kept behind a handle, one pointer that is null while the handle is empty: a service behind a
-//! [`Handle`](handle::Handle), a request that was accepted behind a [`Slot`](slot::Slot), a credential cache behind a
-//! [`CacheHandle`](cache_handle::CacheHandle), and a request whose reply is awaited behind a
-//! [`PendingHandle`](pending_handle::PendingHandle). `specs/Accepting` says what a call makes of a service and of what it accepts,
-//! `specs/Known` what is handed out of a request that was accepted, `specs/Items` what of its lists, `specs/Choice` what a side chooses, and
-//! `specs/Asking` and `specs/Finishing` what becomes of a client's request and of the reply to it. `specs/Refusing` says which error
-//! reports a refusal, `specs/Listing` what is handed out of the entries of files, and `specs/Editing` what a changed keytab is.
+//! What outlives a call is kept behind a handle: one pointer that is null while the handle is
+//! empty. A [`Handle`](handle::Handle) has a service, a [`Slot`](slot::Slot) an accepted request, a
+//! [`CacheHandle`](cache_handle::CacheHandle) a credential cache, and a
+//! [`PendingHandle`](pending_handle::PendingHandle) a request whose reply is awaited.
+//!
+//! `specs/Accepting` says how a call changes a service and what it accepted. `specs/Known` says
+//! what is returned of an accepted request, `specs/Items` what of its lists, and `specs/Choice`
+//! what a side chooses. `specs/Asking` and `specs/Finishing` say what becomes of a client's request
+//! and of the reply to it. `specs/Refusing` says which error reports a refusal, `specs/Listing`
+//! what is returned of the entries of files, and `specs/Editing` what a changed keytab is.
 //!
 //! ```c
 //! fevstunik_acceptor service = FEVSTUNIK_ACCEPTOR_INIT;

@@ -1,4 +1,4 @@
-//! What files have, one by one.
+//! The contents of files, one by one.
 
 ghost use Rattle.std.specs.Prelude.{◌≡◌, IfOk};
 ghost use Rattle.krb_c.specs.Listing.{ListsCredential, ListsEntry, ListsOwner, TellsCredential, TellsEntry, TellsOwner, credential_bytes, credential_of, entry_bytes, entry_of, micros_or_zero, owner_of, seconds_or_zero};
@@ -12,7 +12,7 @@ use krb_ccache::{CCache, Credential};
 use krb_keytab::{Entry, Keytab};
 use std::alloc::{AllocError, Global};
 
-/// An entry of a keytab. Its name and its key stand in the buffer.
+/// An entry of a keytab. Its name and its key are in the buffer.
 #[repr(C)]
 #[derive(Clone, Copy)]
 pub struct KeyEntry {
@@ -30,25 +30,25 @@ pub struct KeyEntry {
     pub key_type: i16,
 }
 
-/// A credential of a cache. Its names, its key and its ticket stand in the buffer.
+/// A credential of a cache. Its names, its key and its ticket are in the buffer.
 #[repr(C)]
 #[derive(Clone, Copy)]
 pub struct CacheEntry {
     /// Whose ticket it is, as text.
     pub client: Span,
-    /// For which service, as text.
+    /// The ticket's service, as text.
     pub server: Span,
     /// The session key.
     pub key: Span,
-    /// The ticket, or what a configuration entry tells.
+    /// The ticket, or the value of a configuration entry.
     pub ticket: Span,
     /// When the client was authenticated, in seconds.
     pub authtime: u32,
-    /// When the ticket begins, in seconds.
+    /// When the ticket becomes valid, in seconds.
     pub starttime: u32,
-    /// When it ends, in seconds.
+    /// When it expires, in seconds.
     pub endtime: u32,
-    /// Until when it can be renewed, in seconds.
+    /// The end of the time in which it can be renewed, in seconds.
     pub renew_till: u32,
     /// The ticket's flags; bit 0 of the RFC is the most significant.
     pub flags: u32,
@@ -58,11 +58,11 @@ pub struct CacheEntry {
     pub server_type: i32,
     /// The encryption type of the session key.
     pub key_type: i16,
-    /// Whether the ticket is sealed under the session key of another.
+    /// Whether the ticket is sealed under another ticket's session key.
     pub is_skey: bool,
 }
 
-/// Whose cache it is, and its KDC's clock. The name stands in the buffer.
+/// The owner of a cache, and its KDC's clock. The name is in the buffer.
 #[repr(C)]
 #[derive(Clone, Copy)]
 pub struct Owner {
@@ -70,16 +70,16 @@ pub struct Owner {
     pub name: Span,
     /// The type of its name.
     pub name_type: i32,
-    /// The KDC's clock offset, if the cache has one: seconds.
+    /// The KDC's clock offset, if the cache has one: the seconds.
     pub offset_seconds: i32,
-    /// And microseconds.
+    /// And the microseconds.
     pub offset_micros: i32,
     /// Whether the cache has an offset.
     pub has_offset: bool,
 }
 
-/// Tells the entry of an index, counted from 0, of a keytab: in the buffer its name's text and its key, and in `entry` where they stand,
-/// and the numbers.
+/// Reads one entry of a keytab; `index` counts from 0. Writes the text of its name and its key to
+/// the buffer, and their places and the numbers to `entry`.
 #[unsafe(no_mangle)]
 pub extern "C" fn fevstunik_keytab_entry(
     alloc: Global,
@@ -133,8 +133,9 @@ fn entry_told(alloc: Global, found: &Entry) -> Result<(Vec<u8>, KeyEntry), Alloc
     Ok((bytes, told))
 }
 
-/// Tells the credential of an index, counted from 0, of a cache: in the buffer its client's and its service's text, its session key and its
-/// ticket, and in `credential` where they stand, and the numbers.
+/// Reads one credential of a cache; `index` counts from 0. Writes the client's text, the service's
+/// text, the session key and the ticket to the buffer, and their places and the numbers to
+/// `credential`.
 #[unsafe(no_mangle)]
 pub extern "C" fn fevstunik_cache_credential(
     alloc: Global,
@@ -203,8 +204,8 @@ fn credential_told(alloc: Global, found: &Credential) -> Result<(Vec<u8>, CacheE
     Ok((bytes, told))
 }
 
-/// Tells whose cache it is: in the buffer the default principal's text, and in `owner` the numbers, with the KDC's clock offset, if the
-/// cache has one.
+/// Reads the owner of a cache. Writes the default principal's text to the buffer, and the numbers
+/// to `owner`, with the KDC's clock offset if the cache has one.
 #[unsafe(no_mangle)]
 pub extern "C" fn fevstunik_cache_owner(
     alloc: Global,

@@ -16,7 +16,7 @@ use krb_msg::Moment;
 use krb_replay::{ReplayMemory, TimedMemory};
 use std::alloc::Global;
 
-/// A service that takes requests, and why it refused the last one, if it did.
+/// A service that accepts requests, and why it refused the last one, if it did.
 #[derive(Drop)]
 pub struct Login {
     pub acceptor: Acceptor<TimedMemory>,
@@ -24,7 +24,7 @@ pub struct Login {
 }
 
 impl Login {
-    /// Decides a request, and keeps what is accepted, or why it is refused.
+    /// Decides about a request, and keeps what is accepted, or why it is refused.
     pub(crate) fn decide(
         &mut self,
         alloc: Global,
@@ -67,7 +67,7 @@ impl Login {
         self.refusal = None;
     }
 
-    /// Tells the latest moment, where there is one.
+    /// Returns the latest moment, if there is one.
     pub(crate) fn tell_latest(&self, latest: &mut Time) -> Answer
         ensures { TellsLatest (latest_of self.now) latest.old latest.new result }
     {
@@ -84,7 +84,7 @@ impl Login {
         }
     }
 
-    /// Builds the error that tells why the last request was refused.
+    /// Builds the error that says why the last request was refused.
     pub(crate) fn error(
         &self,
         alloc: Global,
@@ -105,7 +105,7 @@ impl Login {
     }
 }
 
-/// The error that tells why a request was refused.
+/// The error that says why a request was refused.
 pub(crate) fn error_of(
     alloc: Global,
     refusal: &Refusal,

@@ -1,4 +1,4 @@
-//! Names that are looked at.
+//! Checks of names.
 
 ghost use Rattle.krb_c.specs.Asking.{IsNameChecked};
 
@@ -7,7 +7,8 @@ use crate::asking::name_of;
 use crate::code;
 use std::alloc::Global;
 
-/// Looks whether bytes are the text of a name (`krb_name::Principal::from_text`), and answers how many components it has.
+/// Checks whether bytes are the text of a name (`krb_name::Principal::from_text`), and returns how
+/// many components it has.
 #[unsafe(no_mangle)]
 pub extern "C" fn fevstunik_name_check(alloc: Global, name: &[u8]) -> Answer
     ensures { IsNameChecked name.now result }

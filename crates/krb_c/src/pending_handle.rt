@@ -77,7 +77,7 @@ impl PendingHandle {
 }
 
 impl PendingHandle {
-    /// Takes what the handle holds, which is empty then.
+    /// Takes what the handle holds. The handle is empty then.
     pub(crate) fn take(&mut self, alloc: Global) -> Option<Box<Pending>>
         ensures empty { self.new.value ≡ None }
         ensures held { MatchOption result (self.old.value ≡ None) (λ held. self.old.value ≡ Some held.value) }

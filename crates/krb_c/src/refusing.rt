@@ -12,8 +12,9 @@ use krb_ap::Refusal;
 use krb_der::{Fault, FaultKind};
 use std::alloc::Global;
 
-/// Builds the error of the cause that has this code, with the service's name of this type and its time (`krb_ap::error_reply`). It is
-/// made of what is handed in alone, so that no other request's cause can come into it.
+/// Builds the error of the cause that has this code, with the service's name of this type and its
+/// time (`krb_ap::error_reply`). It depends on the arguments alone, so another request's cause
+/// can't get into it.
 #[unsafe(no_mangle)]
 pub extern "C" fn fevstunik_error(
     alloc: Global,

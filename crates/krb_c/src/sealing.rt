@@ -1,4 +1,4 @@
-//! Texts that are sealed and opened.
+//! Sealing and opening texts.
 
 ghost use Rattle.std.specs.Prelude.{◌≡◌, IfErr, IfOk};
 ghost use Rattle.krb_c.specs.Answer.{Delivers};
@@ -12,7 +12,8 @@ use crate::code;
 use krb_enc::OpenFault;
 use std::alloc::Global;
 
-/// Seals a plain text under a key for a usage (RFC 8009, section 5). The confounder is 16 random bytes, new for each call.
+/// Seals a plain text under a key for a usage (RFC 8009, section 5). The confounder is 16 random
+/// bytes, new for each call.
 #[unsafe(no_mangle)]
 pub extern "C" fn fevstunik_seal(
     alloc: Global,
@@ -57,7 +58,8 @@ fn sealed(
     }
 }
 
-/// Opens a text that was sealed under a key for a usage (RFC 8009, section 5), and hands over the plain text.
+/// Opens a text that was sealed under a key for a usage (RFC 8009, section 5), and returns the
+/// plain text.
 #[unsafe(no_mangle)]
 pub extern "C" fn fevstunik_open(
     alloc: Global,
@@ -98,7 +100,8 @@ fn opened(
     }
 }
 
-/// Gives the checksum of a text under a key for a usage (RFC 8009, section 6): 16 bytes (type 19) or 24 (type 20). It takes no memory.
+/// Returns the checksum of a text under a key for a usage (RFC 8009, section 6): 16 bytes (type 19)
+/// or 24 (type 20). It allocates no memory.
 #[unsafe(no_mangle)]
 pub extern "C" fn fevstunik_checksum(
     key_type: i32,
@@ -116,7 +119,8 @@ pub extern "C" fn fevstunik_checksum(
     }
 }
 
-/// Looks whether a tag is the whole checksum of a text under a key for a usage (RFC 8009, section 6). It takes no memory.
+/// Checks whether a tag is the whole checksum of a text under a key for a usage (RFC 8009, section
+/// 6). It allocates no memory.
 #[unsafe(no_mangle)]
 pub extern "C" fn fevstunik_checksum_check(
     key_type: i32,

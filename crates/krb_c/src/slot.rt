@@ -77,7 +77,7 @@ impl Slot {
 }
 
 impl Slot {
-    /// Takes what the handle holds, which is empty then.
+    /// Takes what the handle holds. The handle is empty then.
     pub(crate) fn take(&mut self, alloc: Global) -> Option<Box<Kept>>
         ensures empty { self.new.value ≡ None }
         ensures held { MatchOption result (self.old.value ≡ None) (λ kept. self.old.value ≡ Some kept.value) }

@@ -1,4 +1,5 @@
--- What a cache says beside its tickets (MIT krb5, "Credential cache file format"): the KDC's clock offset, and configuration entries.
+-- What a cache contains beside its tickets (MIT krb5, "Credential cache file format"): the KDC's
+-- clock offset, and configuration entries.
 use Rattle.std.specs.Prelude.{◌≡◌, ◌≢◌, ℕ, ℤ, List, ◌∷◌, ◌++◌, All, FitsSigned, codes}
 use Rattle.std.specs.Int.{w32}
 use Rattle.krb_name.specs.Cursor.{signed_bytes}
@@ -11,7 +12,7 @@ pub record IsOffset (value : List ℕ) (seconds microseconds : ℤ) : Type 0 whe
   pub microseconds_fit : FitsSigned w32 microseconds
   pub value_is : value ≡ signed_bytes w32 seconds ++ signed_bytes w32 microseconds
 
--- the first field of tag 1 holds them
+-- they are the value of the first field of tag 1
 pub record HoldsOffset (header : List HeaderField) (seconds microseconds : ℤ) : Type 0 where
   pub before : List HeaderField
   pub field : HeaderField

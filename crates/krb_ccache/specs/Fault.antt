@@ -15,7 +15,7 @@ abbrev pub source_fault : ReadFault → CacheFault
 source_fault source.Read = Read
 source_fault source.OutOfMemory = OutOfMemory
 
--- how many failed reads an answer tells of
+-- how many failed reads an answer reports
 abbrev pub failed_reads : {T : Type 0} → Result T CacheFault → ℕ
 failed_reads (Err Read) = 1
 failed_reads _ = 0

@@ -1,4 +1,5 @@
--- The credential cache file, of versions 0x0503 and 0x0504 (MIT krb5, "Credential cache file format"): which bytes are which cache, and what is wrong with the others.
+-- The credential cache file, of versions 0x0503 and 0x0504 (MIT krb5, "Credential cache file
+-- format"): which bytes are which cache, and what is wrong with other bytes.
 use Rattle.std.specs.Prelude.{◌≡◌, ◌≢◌, ◌⊎◌, ℕ, ◌<◌, ◌≤◌, ◌+◌, List, [], ◌∷◌, ◌++◌, length, map, All, Result, Ok, Err}
 use Rattle.std.specs.List.{flat_map}
 use Rattle.krb_name.specs.declared.principal.Principal.{Principal}
@@ -12,14 +13,14 @@ use Rattle.krb_ccache.specs.Value.{Cache, FitsHeader, FitsName, FitsCredential}
 use Rattle.krb_ccache.specs.declared.fault.CacheFault.{CacheFault}
 use Rattle.krb_ccache.specs.declared.fault.CacheFault.TheVariants.{Version, Header, BadItem, TooLong}
 
--- ---- where the versions differ
+-- ---- how the versions differ
 
 -- what a file begins with
 abbrev pub version_of : Layout → List ℕ
 version_of Version3 = 0x05 ∷ 0x03 ∷ []
 version_of Version4 = 0x05 ∷ 0x04 ∷ []
 
--- what stands between the version and the default principal
+-- what comes between the version and the default principal
 abbrev pub head_bytes : Layout → List HeaderField → List ℕ
 head_bytes Version3 header = []
 head_bytes Version4 header = header_bytes header
@@ -28,14 +29,14 @@ abbrev pub FitsHead : Layout → List HeaderField → Type 0
 FitsHead Version3 header = header ≡ []
 FitsHead Version4 header = FitsHeader header
 
--- how many bytes a key's encryption type takes the second time; they may be any
+-- how many bytes the second copy of a key's encryption type has; they may be any bytes
 abbrev pub second_size : Layout → ℕ
 second_size Version3 = 2
 second_size Version4 = 0
 
 -- ---- which bytes are which cache
 
--- what stands before the default principal
+-- what comes before the default principal
 abbrev pub start_bytes : Layout → List HeaderField → List ℕ
 start_bytes layout header = version_of layout ++ head_bytes layout header
 
@@ -54,7 +55,8 @@ pub record Spells (layout : Layout) (one : Spelled) : Type 0 where
 abbrev pub credential_length : Layout → Credential → ℕ
 credential_length layout credential = length (credential_bytes credential) + second_size layout
 
--- up to an offset the bytes are a start, a default principal and whole credentials, of this cache; these bytes lie behind it
+-- up to an offset the bytes are a start, a default principal and whole credentials, of this cache;
+-- the other bytes come after it
 pub record IsReached (layout : Layout) (bytes : List ℕ) (at : ℕ) (cache : Cache) (behind : List ℕ) : Type 0 where
   pub header_fits : FitsHead layout cache.header
   pub name_fits : FitsName cache.default_principal
@@ -81,12 +83,12 @@ written cache =
 
 -- ---- faults
 
--- within the limit, and no version
+-- the bytes are within the limit, and don't begin with a version
 pub record LacksVersion (bytes : List ℕ) : Type 0 where
   pub limit : length bytes ≤ file_limit
   pub missing : (layout : Layout) (others : List ℕ) → bytes ≢ version_of layout ++ others
 
--- a version, and no header behind it
+-- they begin with a version, and no header follows
 pub record LacksHeader (bytes : List ℕ) : Type 0 where
   pub limit : length bytes ≤ file_limit
   pub layout : Layout
@@ -94,7 +96,7 @@ pub record LacksHeader (bytes : List ℕ) : Type 0 where
   pub bytes_are : bytes ≡ version_of layout ++ behind
   pub missing : (header : List HeaderField) (others : List ℕ) → FitsHead layout header → behind ≢ head_bytes layout header ++ others
 
--- a start, and no principal behind it
+-- they begin with a start, and no principal follows
 pub record LacksDefault (bytes : List ℕ) (at : ℕ) : Type 0 where
   pub limit : length bytes ≤ file_limit
   pub layout : Layout
@@ -105,7 +107,7 @@ pub record LacksDefault (bytes : List ℕ) (at : ℕ) : Type 0 where
   pub at_is : at ≡ length (start_bytes layout header)
   pub missing : (name : Principal) (others : List ℕ) → FitsName name → behind ≢ name_bytes name ++ others
 
--- a cache, and behind it more bytes with no credential at their front
+-- they begin with a cache, and more bytes follow that don't begin with a credential
 pub record LacksCredential (bytes : List ℕ) (at : ℕ) : Type 0 where
   pub limit : length bytes ≤ file_limit
   pub layout : Layout
@@ -115,7 +117,7 @@ pub record LacksCredential (bytes : List ℕ) (at : ℕ) : Type 0 where
   pub more : behind ≢ []
   pub missing : (one : Spelled) (others : List ℕ) → Spells layout one → behind ≢ one.bytes ++ others
 
--- why the bytes are no cache; an offset is that of the principal or credential that isn't there
+-- why the bytes aren't a cache; an offset is that of the principal or credential that isn't there
 abbrev pub IsFaultOf : List ℕ → CacheFault → Type 0
 IsFaultOf bytes TooLong = file_limit < length bytes
 IsFaultOf bytes Version = LacksVersion bytes
@@ -123,7 +125,7 @@ IsFaultOf bytes Header = LacksHeader bytes
 IsFaultOf bytes (BadItem at) = LacksDefault bytes at ⊎ LacksCredential bytes at
 IsFaultOf bytes _ = ⊥
 
--- what there is to say of the bytes: their value, or why they are no cache
+-- what the bytes are: a cache of this value, or not a cache, and why
 abbrev pub IsAnswerOf : List ℕ → Result Cache CacheFault → Type 0
 IsAnswerOf bytes (Ok cache) = IsCache bytes cache
 IsAnswerOf bytes (Err fault) = IsFaultOf bytes fault

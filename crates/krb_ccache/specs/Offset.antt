@@ -1,5 +1,5 @@
--- The KDC's clock offset of a header as a computation: `laws` says that it is the one that the header holds, and none where
--- there is no field of tag 1.
+-- The KDC's clock offset of a header as a computation. `laws` says that it is the one that the
+-- header has, and that none is computed if there is no field of tag 1.
 use Rattle.std.specs.Prelude.{ℕ, ◌==◌, ℤ, List, [], ◌∷◌, take, drop, Option, Some, None, if◌then◌else◌}
 use Rattle.std.specs.Int.{w32, from_be_bytes, cast_signed}
 use Rattle.krb_ccache.specs.declared.credential.HeaderField.{HeaderField}

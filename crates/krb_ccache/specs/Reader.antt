@@ -1,4 +1,5 @@
--- Reading a cache one credential at a time: what a reader has taken of its source, and how it ended.
+-- Reading a cache one credential at a time: what a reader has read from its source, and how it
+-- ended.
 use Rattle.std.specs.Prelude.{◌≡◌, ◌≢◌, ℕ, ◌+◌, ◌<◌, ◌≤◌, max, Bool, true, false, List, [], ◌∷◌, ◌++◌, length, Option, Some, None, Result, Ok, Err}
 use Rattle.std.specs.Int.{w8}
 use Rattle.std.specs.Io.KnownBytes.{Consumes, IsAtEnd}
@@ -13,8 +14,9 @@ use Rattle.krb_name.specs.File.{file_limit}
 use Rattle.krb_ccache.specs.Format.{second_size, Spelled, Spells, credential_length, IsReached}
 use Rattle.krb_ccache.specs.declared.fault.CacheFault.{CacheFault}
 
--- a reader: its source; the layout, the header and the default principal; how many bytes the source has given; how many were at hand at
--- once, at most; and the last answer, once it was given: the end or a fault
+-- a reader: its source; the layout, the header and the default principal; how many bytes the source
+-- has given; how many were held at once at most; and the last answer, once it was given: the end or
+-- a fault
 pub record Reading (S : Type 0) : Type 0 where
   pub source : S
   pub layout : Layout
@@ -44,7 +46,8 @@ abbrev pub last_answer : Result (Unit {0}) CacheFault → Result (Option Credent
 last_answer (Ok _) = Ok None
 last_answer (Err fault) = Err fault
 
--- the source gave these bytes of a file up to an offset: a start, a default principal and whole credentials, of this cache
+-- the source gave these bytes of a file up to an offset: a start, a default principal and whole
+-- credentials, of this cache
 pub record HasTaken (layout : Layout) (from to : Option (List ℕ)) (at : ℕ) (cache : Cache) : Type 0 where
   pub bytes : List ℕ
   pub taken : Consumes from to bytes
@@ -54,12 +57,12 @@ pub record HasTaken (layout : Layout) (from to : Option (List ℕ)) (at : ℕ) (
 abbrev pub with_credential : Cache → Credential → Cache
 with_credential cache credential = cache_of cache.header cache.default_principal (cache.credentials ++ credential ∷ [])
 
--- a reader that hasn't ended has taken the bytes of this cache, off a source that had these to come
+-- a reader that hasn't ended has read the bytes of this cache, from a source that had these to come
 pub record HasRead {S : Type 0} (left : S → Option (List ℕ)) (from : Option (List ℕ)) (reader : Reading S) (cache : Cache) : Type 0 where
   pub going : reader.ended ≡ None
   pub taken : HasTaken reader.layout from (left reader.source) reader.given cache
 
--- the source gave some bytes, of which at most all were at hand at once
+-- the source gave some bytes, of which at most all were held at once
 pub record Gave {S : Type 0} (from to : Option (List ℕ)) (old new : Reading S) : Type 0 where
   pub bytes : List ℕ
   pub taken : Consumes from to bytes
@@ -67,14 +70,14 @@ pub record Gave {S : Type 0} (from to : Option (List ℕ)) (old new : Reading S)
   pub grows : old.held ≤ new.held
   pub held : new.held ≤ max old.held (length bytes)
 
--- the source is at its end: it gave no more, and no more was at hand
+-- the source is at its end: it gave no more, and no more was held
 pub record StaysAtEnd {S : Type 0} (to : Option (List ℕ)) (old new : Reading S) : Type 0 where
   pub end : IsAtEnd to
   pub given : new.given ≡ old.given
   pub held : new.held ≡ old.held
 
--- a beginning of what the source gave was at hand; it is no longer than any credential that begins with it, whichever byte is
--- its `is_skey`
+-- a beginning of what the source gave was held; it is no longer than any credential that begins
+-- with it, whichever byte is its `is_skey`
 pub record HeldPart (layout : Layout) (from to : Option (List ℕ)) (old new : ℕ) : Type 0 where
   pub part : List ℕ
   pub after : List ℕ
@@ -83,20 +86,20 @@ pub record HeldPart (layout : Layout) (from to : Option (List ℕ)) (old new : �
       → part ++ more ≡ marked_bytes credential second (number_bytes w8 mark) ++ others → length part ≤ length (marked_bytes credential second (number_bytes w8 mark))
   pub held : new ≤ max old (length part)
 
--- the source gave the bytes of a credential, and no more in all than a file has
+-- the source gave the bytes of a credential, and no more in all than a file may have
 pub record GaveOne (layout : Layout) (old new : ℕ) (credential : Credential) : Type 0 where
   pub given : new ≡ old + credential_length layout credential
   pub some : old < new
   pub limit : new ≤ file_limit
 
--- a credential was passed: its bytes were given and were at hand, and it is read behind those before
+-- a credential was passed: its bytes were given and were held, and it comes after those read before
 pub record PassedOne {S : Type 0} (left : S → Option (List ℕ)) (old new : Reading S) (credential : Credential) : Type 0 where
   pub gave : GaveOne old.layout old.given new.given credential
   pub held : new.held ≡ max old.held (credential_length old.layout credential)
   pub read : (from : Option (List ℕ)) (cache : Cache) → HasRead left from old cache → HasRead left from new (with_credential cache credential)
 
--- the bytes are a start, a default principal and whole credentials, of this cache; and behind them stands none that ends within
--- the limit
+-- the bytes are a start, a default principal and whole credentials, of this cache; and after them
+-- comes none that ends within the limit
 pub record GoesTo (bytes : List ℕ) (cache : Cache) : Type 0 where
   pub layout : Layout
   pub at : ℕ

@@ -1,4 +1,5 @@
--- How the parts of a credential cache are spelled (MIT krb5, "Credential cache file format"). Numbers are big-endian, signed ones in two's complement.
+-- How the parts of a credential cache are spelled (MIT krb5, "Credential cache file format").
+-- Numbers are big-endian, signed ones in two's complement.
 use Rattle.std.specs.Prelude.{ℕ, Bool, true, false, List, [], ◌++◌, length}
 use Rattle.std.specs.Int.{w8, w16, w32}
 use Rattle.std.specs.List.{flat_map}
@@ -63,6 +64,6 @@ marked_bytes credential second mark =
 abbrev pub keyed_bytes : Credential → List ℕ → List ℕ
 keyed_bytes credential second = marked_bytes credential second (flag_bytes credential.is_skey)
 
--- in version 0x0504: the encryption type stands once
+-- in version 0x0504 the encryption type is written once
 abbrev pub credential_bytes : Credential → List ℕ
 credential_bytes credential = keyed_bytes credential []

@@ -1,4 +1,4 @@
--- A credential cache as a plain value, and which values a file has room for.
+-- A credential cache as a plain value, and which values fit into a file.
 use Rattle.std.specs.Prelude.{◌≡◌, ◌<◌, ◌^◌, ℕ, ℤ, List, ◌++◌, length, codes, All, FitsSigned}
 use Rattle.std.specs.Fmt.{signed_decimal}
 use Rattle.std.specs.Int.{w16, w32}
@@ -17,11 +17,12 @@ pub record Cache : Type 0 where
 abbrev pub cache_of : List HeaderField → Principal → List Credential → Cache
 cache_of header default_principal credentials = record { header = header; default_principal = default_principal; credentials = credentials }
 
--- what is shown of a credential where it is printed: the encryption type of its key, and no byte
+-- what is shown of a printed credential: the encryption type of its key, and no byte
 abbrev pub shown : ℤ → List ℕ
 shown etype = codes "Credential(etype " ++ (signed_decimal etype ++ codes ")")
 
--- ---- counts and lengths are numbers of 32 bits, in the header of 16; the KDC's clock offset has 8 bytes
+-- ---- counts and lengths are numbers of 32 bits, in the header of 16; the KDC's clock offset has 8
+-- bytes
 
 pub record HasHeaderLengths (header : List HeaderField) : Type 0 where
   pub whole : length (fields_bytes header) < 2 ^ 16

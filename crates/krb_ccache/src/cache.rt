@@ -35,7 +35,7 @@ use std::marker::Model;
 /// A credential cache: the fields of its header, its default principal and its credentials, in
 /// their order. A contract sees it as the record of these.
 ///
-/// Its parts have the counts and lengths that the file format has room for.
+/// Its parts have counts and lengths that fit into the file format.
 #[derive(Drop)]
 pub struct CCache {
     header: Vec<HeaderField>,
@@ -60,12 +60,13 @@ impl Model for CCache {
 }
 
 impl CCache {
-    /// Makes a cache of the fields of its header, its default principal and its credentials.
+    /// Makes a cache from the fields of its header, its default principal and its credentials.
     ///
-    /// Answers `None` where the value of a field of the header, or all fields with their tags and
-    /// lengths, have more than 65,535 bytes; where a field of tag 1 hasn't 8 bytes; or where there
-    /// are more than 4,294,967,295 components, addresses or elements of authorization data, or bytes
-    /// in a realm, a component, a key, an address, an element or a ticket. No memory is taken.
+    /// Returns `None` if the value of a field of the header, or all fields with their tags and
+    /// lengths, have more than 65,535 bytes; if a field of tag 1 doesn't have 8 bytes; or if there
+    /// are more than 4,294,967,295 components, addresses or elements of authorization data, or
+    /// bytes in a realm, a component, a key, an address, an element or a ticket. Allocates no
+    /// memory.
     pub fn from_parts(
         header: Vec<HeaderField>,
         default_principal: Principal,
@@ -87,19 +88,19 @@ impl CCache {
 
     /// Parses the bytes of a file.
     ///
-    /// All bytes are checked before any memory is taken. It is taken as parts are met, and not by a
-    /// count or a length that the bytes don't bear out.
+    /// Checks all bytes before it allocates memory. Memory is allocated as parts are read, and
+    /// never because of a count or a length that the bytes don't bear out.
     ///
     /// # Errors
-    /// `OutOfMemory` where the bytes are a cache and there was no room for a part; else the first that
-    /// holds:
+    /// `OutOfMemory` if the bytes are a cache and there is no memory for a part; else the first
+    /// that applies:
     /// - `TooLong`: there are more than 16,777,216 bytes.
     /// - `Version`: they don't begin with 0x05 0x04 or 0x05 0x03.
-    /// - `Header`: in a file of version 0x0504 the header is cut off, fields don't fill it exactly, or a
-    ///   field of tag 1 hasn't 8 bytes.
-    /// - `BadItem`: with the offset after the header (2 if the version is 0x0503, which has none) if no
-    ///   principal stands there, or else with that of the first credential that isn't whole, or whose
-    ///   `is_skey` byte is neither 0 nor 1.
+    /// - `Header`: in a file of version 0x0504 the header is cut off, fields don't fill it exactly,
+    ///   or a field of tag 1 doesn't have 8 bytes.
+    /// - `BadItem`: no principal begins after the header, with the offset after the header (2 for
+    ///   version 0x0503, which has none); or with the offset of the first credential that isn't
+    ///   whole, or whose `is_skey` byte is neither 0 nor 1.
     ///
     /// Source: MIT krb5, "Credential cache file format", version 4; of version 3 the layout that
     /// docs/FORMATS.md gives.
@@ -108,10 +109,10 @@ impl CCache {
         ensures fault { IfErr result (λ fault.
             fault ≢ CacheFault.OutOfMemory → IsFaultOf bytes.now fault) }
 
-        // Where the bytes are a cache, and where they have a fault, that is the answer.
+        // If the bytes are a cache, or have a fault, that is the answer.
         ensures only { (answer : Result Cache CacheFault) → IsAnswerOf bytes.now answer
             → (result ≡ answer) ⊎ (result ≡ Err CacheFault.OutOfMemory) }
-        // No want of memory stands in place of a fault.
+        // Out of memory never takes the place of a fault.
         ensures faulty { (fault : CacheFaultValue) → IsFaultOf bytes.now fault → result ≡ Err fault }
         ensures offset { IfErr result (λ fault.
             IfSome (offset_of fault) (λ at. at ≤ length bytes.now)) }
@@ -125,9 +126,9 @@ impl CCache {
     /// Condition: fewer than 18,446,744,073,709,551,615 reads of the source have failed so far.
     ///
     /// # Errors
-    /// - `Read`: a read of the source failed. Its count of failures grew, as it does for no other
-    ///   answer.
-    /// - Those of `parse`, for all the bytes that were still to come of the source.
+    /// - `Read`: a read of the source failed. The source's count of failures grew, as it does for
+    ///   no other answer.
+    /// - Those of `parse`, for all the bytes that the source still had.
     ///
     /// Source: MIT krb5, "Credential cache file format", versions 3 and 4.
     pub fn read<S: Source>(alloc: Global, source: &mut S) -> Result<CCache, CacheFault>
@@ -203,8 +204,8 @@ impl CCache {
         })
     }
 
-    /// Answers the KDC's clock offset, in seconds and microseconds: that of the header's first
-    /// field of tag 1. `None` where it has no such field.
+    /// Returns the KDC's clock offset, in seconds and microseconds: that of the header's first
+    /// field of tag 1. Returns `None` if there is no such field.
     pub fn kdc_offset(&self) -> Option<(i32, i32)>
         ensures some { IfSome result (λ offset. HoldsOffset self.now.header offset.0 offset.1) }
         ensures none { IfNone result (All (λ field. field.tag ≢ 1) self.now.header) }
@@ -213,22 +214,23 @@ impl CCache {
         first_offset(self.header.as_slice())
     }
 
-    /// Answers whether `credential` is a configuration entry: its server's realm is `X-CACHECONF:`
-    /// and its server's first component `krb5_ccache_conf_data`.
+    /// Returns whether `credential` is a configuration entry: its server's realm is `X-CACHECONF:`
+    /// and its server's first component is `krb5_ccache_conf_data`.
     pub fn is_configuration(credential: &Credential) -> bool
         ensures { IsTrue result ↔ IsConfiguration credential.now }
     {
         is_entry(credential)
     }
 
-    /// Writes the bytes of a file of version 0x0504, whichever version the cache was read of. They read
-    /// back to the same cache, and are the bytes that were read if those were of version 0x0504.
+    /// Writes the bytes of a file of version 0x0504, whichever version the cache was read from.
+    /// They read back to the same cache. If the cache was read from version 0x0504, they are the
+    /// bytes that were read.
     ///
-    /// How many there will be is found first, and room is made for them at once.
+    /// The number of bytes is computed first, and memory for all of them is allocated at once.
     ///
     /// # Errors
     /// - `TooLong`: the file would have more than 16,777,216 bytes.
-    /// - `OutOfMemory`: there was no room for the bytes.
+    /// - `OutOfMemory`: there is no memory for the bytes.
     ///
     /// Source: MIT krb5, "Credential cache file format", version 4.
     pub fn to_bytes(&self, alloc: Global) -> Result<Vec<u8>, CacheFault>
@@ -267,14 +269,14 @@ impl CCache {
         Ok(bytes)
     }
 
-    /// Lends the default principal: whose cache it is.
+    /// Returns the default principal, who owns the cache.
     pub fn default_principal(&self) -> &Principal
         ensures { result.now ≡ self.now.default_principal }
     {
         &self.default_principal
     }
 
-    /// Lends the credentials, configuration entries among them, in the order of the file.
+    /// Returns the credentials, including configuration entries, in the order of the file.
     pub fn credentials(&self) -> &[Credential]
         ensures { result.now ≡ self.now.credentials }
     {
@@ -282,7 +284,7 @@ impl CCache {
     }
 }
 
-// Reads the principal that begins here, and stands behind it.
+// Reads the principal that begins here, and moves past it.
 fn read_default(alloc: Global, cursor: &mut FileCursor<'_>) -> Result<Principal, CacheFault>
     requires { IsBytes cursor.old.rest }
     ensures read { IfOk result (λ name. Lies name_bytes FitsName cursor.old name cursor.new) }
@@ -297,7 +299,7 @@ fn read_default(alloc: Global, cursor: &mut FileCursor<'_>) -> Result<Principal,
     }
 }
 
-// Reads the credential that begins here, and stands behind it.
+// Reads the credential that begins here, and moves past it.
 fn read_one(
     alloc: Global,
     layout: Layout,

@@ -1,4 +1,5 @@
-//! Whether the bytes of a file are a cache. No memory is taken, so that no fault is hidden by the want of it.
+//! Whether the bytes of a file are a cache. Allocates no memory, so no fault is hidden by the lack
+//! of it.
 
 ghost use Rattle.std.specs.Prelude.{◌≡◌, ◌<◌, ◌^◌, List, [], None, OnOk, OnErr, IfErr, length};
 ghost use Rattle.std.specs.Int.{w32};
@@ -17,10 +18,10 @@ use crate::items::read_flag;
 use crate::layout::Layout;
 use krb_name::{FileCursor, Short};
 
-/// Answers `Ok` where the bytes are a cache.
+/// Returns `Ok` if the bytes are a cache.
 ///
 /// # Errors
-/// Those of `CCache::parse`, but for `OutOfMemory`.
+/// Those of `CCache::parse` except `OutOfMemory`.
 pub(crate) fn check(bytes: &[u8]) -> Result<(), CacheFault>
     ensures ok { OnOk result ((cache : Cache) × IsCache bytes.now cache) }
     ensures fault { IfErr result (IsFaultOf bytes.now) }
@@ -39,7 +40,7 @@ pub(crate) fn check(bytes: &[u8]) -> Result<(), CacheFault>
     Ok(())
 }
 
-// Stands behind the header that begins here, if the layout has one.
+// Moves past the header that begins here, if the layout has one.
 fn check_head(layout: Layout, cursor: &mut FileCursor<'_>) -> Result<(), Short>
     requires { IsBytes cursor.old.rest }
     ensures ok { OnOk result ((header : List HeaderFieldValue)
@@ -52,7 +53,7 @@ fn check_head(layout: Layout, cursor: &mut FileCursor<'_>) -> Result<(), Short>
     }
 }
 
-// Stands behind the header that begins here.
+// Moves past the header that begins here.
 fn check_header(cursor: &mut FileCursor<'_>) -> Result<(), Short>
     requires { IsBytes cursor.old.rest }
     ensures ok { OnOk result ((header : List HeaderFieldValue)
@@ -64,7 +65,7 @@ fn check_header(cursor: &mut FileCursor<'_>) -> Result<(), Short>
     Ok(())
 }
 
-// Answers `Ok` where fields fill the bytes of a header.
+// Returns `Ok` if fields fill the bytes of a header.
 fn check_fields(body: &[u8]) -> Result<(), Short>
     requires { length body.now < 2 ^ 16 }
     ensures ok { OnOk result ((header : List HeaderFieldValue) × Fills body.now header) }
@@ -77,7 +78,7 @@ fn check_fields(body: &[u8]) -> Result<(), Short>
     Ok(())
 }
 
-// Stands behind the credentials from here to the end.
+// Moves past the credentials from here to the end.
 fn check_credentials(layout: Layout, cursor: &mut FileCursor<'_>) -> Result<(), CacheFault>
     requires { IsBytes cursor.old.rest }
     ensures ok { OnOk result ((credentials : List Spelled)
@@ -95,7 +96,7 @@ fn check_credentials(layout: Layout, cursor: &mut FileCursor<'_>) -> Result<(), 
     Ok(())
 }
 
-// Each call stands behind the part that begins here. Where it doesn't stand here the place is no matter.
+// Each call moves past the part that begins here. If there is none, the position is unspecified.
 
 #[tactic(auto, unfolding(crate::specs::Inner::Reading::credential_at))]
 pub(crate) fn skip_credential(layout: Layout, cursor: &mut FileCursor<'_>) -> Result<(), Short>

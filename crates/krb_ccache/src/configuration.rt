@@ -1,4 +1,4 @@
-//! What a cache says beside its tickets: the KDC's clock offset, and configuration entries.
+//! What a cache contains beside its tickets: the KDC's clock offset, and configuration entries.
 
 ghost use Rattle.std.specs.Prelude.{◌≡◌, ◌≢◌, ◌↔◌, All, IsTrue, IfNone, IfSome, codes, length};
 ghost use Rattle.krb_ccache.specs.Configuration.{IsOffset, HoldsOffset, BeginsWith, IsConfiguration};
@@ -12,7 +12,7 @@ const CONFIGURATION_REALM: &[u8] = b"X-CACHECONF:";
 
 const CONFIGURATION_NAME: &[u8] = b"krb5_ccache_conf_data";
 
-/// Answers the clock offset that the first field of tag 1 holds.
+/// Returns the clock offset that the first field of tag 1 holds.
 pub(crate) fn first_offset(header: &[HeaderField]) -> Option<(i32, i32)>
     requires { All (λ field. field.tag ≡ 1 → length field.value ≡ 8) header.now }
     ensures some { IfSome result (λ offset. HoldsOffset header.now offset.0 offset.1) }
@@ -41,7 +41,7 @@ fn offset_of(value: &[u8]) -> Option<(i32, i32)>
     Some((seconds, microseconds))
 }
 
-/// Answers whether `credential` is a configuration entry.
+/// Returns whether `credential` is a configuration entry.
 pub(crate) fn is_entry(credential: &Credential) -> bool
     ensures { IsTrue result ↔ IsConfiguration credential.now }
 {

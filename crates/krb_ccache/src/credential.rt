@@ -6,8 +6,8 @@ use crate::typed::TypedList;
 use krb_name::{Bytes, Principal};
 use std::fmt;
 
-/// A field of a cache's header. Tag 1 holds the KDC's clock offset, in 8 bytes; other tags are
-/// kept as they are.
+/// A field of a cache's header. Tag 1 has the KDC's clock offset, in 8 bytes. Other tags are kept
+/// as they are.
 #[derive(Debug, Drop)]
 pub struct HeaderField {
     /// The tag.
@@ -16,16 +16,16 @@ pub struct HeaderField {
     pub value: Bytes,
 }
 
-/// A credential: a ticket, its session key, and what the KDC said of them (`EncKDCRepPart`, RFC
+/// A credential: a ticket, its session key, and what the KDC said about them (`EncKDCRepPart`, RFC
 /// 4120, section 5.4.2). The fields are those of the file format, in its order.
 ///
-/// In a configuration entry `ticket` holds a value, and no ticket. `Debug` shows the encryption type
-/// alone, so that no log shows a key.
+/// In a configuration entry `ticket` has a value instead of a ticket. `Debug` shows the encryption
+/// type alone, so no log shows a key.
 #[derive(Drop)]
 pub struct Credential {
     /// Whose ticket it is.
     pub client: Principal,
-    /// For which service.
+    /// The service that the ticket is for.
     pub server: Principal,
     /// The encryption type of the session key.
     pub etype: i16,
@@ -33,11 +33,11 @@ pub struct Credential {
     pub key: Bytes,
     /// When the client was authenticated, in seconds since 1970-01-01.
     pub authtime: u32,
-    /// When the ticket begins to be valid, in the same seconds; 0 where nothing was said.
+    /// When the ticket becomes valid, in seconds since 1970-01-01; 0 if the KDC didn't say.
     pub starttime: u32,
-    /// When the ticket ends.
+    /// When the ticket expires.
     pub endtime: u32,
-    /// Until when it can be renewed; 0 where it can't.
+    /// The end of the time in which it can be renewed; 0 if it can't.
     pub renew_till: u32,
     /// Whether the ticket is sealed under the session key of another ticket.
     pub is_skey: bool,

@@ -1,4 +1,4 @@
-//! Why bytes are no credential cache, or a cache could not be had.
+//! Why bytes aren't a credential cache, or no cache can be returned.
 
 ghost use Rattle.std.specs.Prelude.{◌≡◌};
 ghost use Rattle.krb_ccache.specs.declared.fault.CacheFault.TheVariants.{OutOfMemory};
@@ -7,21 +7,21 @@ use krb_name::ReadFault;
 use std::alloc::{AllocError, AllocFailed};
 use thiserror::Error;
 
-/// Why bytes are no credential cache, or a cache could not be had.
+/// Why bytes aren't a credential cache, or no cache can be returned.
 ///
-/// Where several hold, `TooLong` goes before all others, then `Version`, then `Header`, then the
-/// first item from the left that has a fault. An offset counts bytes from the start of the file, is
-/// that of the item's first byte, and is at most the length of the file.
+/// If several apply, `TooLong` comes before all others, then `Version`, then `Header`, then the
+/// first item from the left that has a fault. An offset counts bytes from the start of the file. It
+/// is that of the item's first byte, and is at most the length of the file.
 #[derive(Clone, Copy, Debug, PartialEq, Eq, Error)]
 pub enum CacheFault {
     /// The file doesn't begin with 0x05 0x04 or 0x05 0x03.
     #[error("the file isn't a credential cache of version 0x0503 or 0x0504")]
     Version,
-    /// The file is of version 0x0504, and ends before its header does, fields don't fill the header, or
-    /// a field of tag 1 hasn't 8 bytes.
+    /// The file is of version 0x0504, and ends before its header does, or fields don't fill the
+    /// header, or a field of tag 1 doesn't have 8 bytes.
     #[error("the header of the file is malformed")]
     Header,
-    /// No principal or credential stands here.
+    /// There is no principal or credential at this offset.
     #[error("there is no principal or credential at offset {at}")]
     BadItem {
         /// Where the default principal or the credential would begin, in bytes.
@@ -30,10 +30,10 @@ pub enum CacheFault {
     /// The file has, or would have, more than 16,777,216 bytes.
     #[error("the file is longer than 16777216 bytes")]
     TooLong,
-    /// The source could not be read.
+    /// The source couldn't be read.
     #[error("the file could not be read")]
     Read,
-    /// There was no room in memory.
+    /// There is no memory.
     #[error("out of memory")]
     OutOfMemory,
 }
@@ -41,7 +41,7 @@ pub enum CacheFault {
 impl CacheFault {
     ghost use Rattle.krb_ccache.specs.Fault.{offset_of};
 
-    /// Answers the offset of the item at fault, in bytes: that of `BadItem`.
+    /// Returns the offset of the faulty item, in bytes: that of `BadItem`.
     pub fn at(&self) -> Option<usize>
         ensures { result ≡ offset_of self.now }
     {

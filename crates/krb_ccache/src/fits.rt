@@ -1,4 +1,4 @@
-//! Whether a file has room for the parts of a cache.
+//! Whether the parts of a cache fit into a file.
 
 ghost use Rattle.std.specs.Prelude.{◌≡◌, ◌<◌, ◌^◌, ◌↔◌, IsTrue, All, MatchBool, length};
 ghost use Rattle.krb_ccache.specs.Inner.Fitting.{HasDataLengths, HasNumbers};
@@ -108,7 +108,7 @@ fn data_fits(credential: &Credential) -> bool
         && credential.second_ticket.len() <= MOST_32
 }
 
-// Says that each number is in the range of its type, which a proof knows where it is read.
+// States that each number is in the range of its type, which a proof knows when it is read.
 fn has_numbers(credential: &Credential)
     ensures { HasNumbers credential.now }
 {

@@ -1,4 +1,4 @@
-//! What stands before the default principal of a cache.
+//! What comes before the default principal of a cache.
 
 ghost use Rattle.std.specs.Prelude.{◌≡◌, ◌≤◌, ◌<◌, ◌^◌, ◌++◌, List, Err, None, Some, IfOk, IfErr, OnErr, length};
 ghost use Rattle.krb_name.specs.Field.{IsBytes};
@@ -23,7 +23,7 @@ pub(crate) const OFFSET_TAG: u16 = 1;
 
 pub(crate) const OFFSET_LENGTH: usize = 8;
 
-/// Stands behind the version of a cache.
+/// Moves past the version of a cache.
 ///
 /// # Errors
 /// `TooLong` or `Version`.
@@ -44,7 +44,7 @@ pub(crate) fn open<'a>(bytes: &'a [u8]) -> Result<(Layout, FileCursor<'a>), Cach
     }
 }
 
-/// Reads the header that begins here, if the layout has one, and stands behind it.
+/// Reads the header that begins here, if the layout has one, and moves past it.
 pub(crate) fn read_head(
     alloc: Global,
     layout: Layout,
@@ -63,7 +63,7 @@ pub(crate) fn read_head(
     }
 }
 
-// Reads the header that begins here, and stands behind it.
+// Reads the header that begins here, and moves past it.
 pub(crate) fn read_header(
     alloc: Global,
     cursor: &mut FileCursor<'_>,
@@ -94,7 +94,7 @@ fn read_fields(alloc: Global, body: &[u8]) -> Result<Vec<HeaderField>, ItemFault
     Ok(header)
 }
 
-// Reads the field that begins here, and stands behind it. What it leaves behind an error is no matter.
+// Reads the field that begins here, and moves past it. On an error the position is unspecified.
 #[tactic(auto, unfolding(crate::specs::Inner::Reading::field_at))]
 pub(crate) fn read_field<'a>(cursor: &mut FileCursor<'a>) -> Result<FieldView<'a>, Short>
     ensures read { IfOk result (λ field. field_at cursor.old ≡ Some (field, cursor.new)) }
@@ -108,7 +108,7 @@ pub(crate) fn read_field<'a>(cursor: &mut FileCursor<'a>) -> Result<FieldView<'a
     Ok(FieldView { tag, value })
 }
 
-/// A field of the header that is lent from the bytes of a file; nothing of it has been copied.
+/// A field of the header that borrows the bytes of a file; nothing of it has been copied.
 #[derive(Drop)]
 pub(crate) struct FieldView<'a> {
     tag: u16,

@@ -1,4 +1,4 @@
-//! Why a part of a cache could not be read.
+//! Why a part of a cache couldn't be read.
 
 ghost use Rattle.std.specs.Prelude.{◌≡◌};
 ghost use Rattle.krb_ccache.specs.declared.item_fault.ItemFault.TheVariants.{Missing, OutOfMemory};
@@ -6,12 +6,12 @@ ghost use Rattle.krb_ccache.specs.declared.item_fault.ItemFault.TheVariants.{Mis
 use krb_name::Short;
 use std::alloc::{AllocError, AllocFailed};
 
-/// Why a part of a cache could not be read.
+/// Why a part of a cache couldn't be read.
 #[derive(Clone, Copy)]
 pub(crate) enum ItemFault {
-    /// The part doesn't stand here.
+    /// The part isn't there.
     Missing,
-    /// There was no room in memory.
+    /// There is no memory.
     OutOfMemory,
 }
 

@@ -1,4 +1,4 @@
-//! Reading the parts of a cache off a cursor.
+//! Reading the parts of a cache from a cursor.
 
 ghost use Rattle.std.specs.Prelude.{◌≡◌, None, Some, IfOk, OnErr};
 ghost use Rattle.std.specs.Int.{w32};
@@ -12,8 +12,8 @@ use crate::typed::{TypedBytes, TypedList};
 use krb_name::{Bytes, Components, FileCursor, Principal, Short};
 use std::alloc::Global;
 
-// Each call reads the part that begins here, copies it and stands behind it. What it leaves behind
-// an error is no matter.
+// Each call reads the part that begins here, copies it and moves past it. On an error the position
+// is unspecified.
 
 pub(crate) fn read_data(alloc: Global, cursor: &mut FileCursor<'_>) -> Result<Bytes, ItemFault>
     ensures read { IfOk result (λ bytes. data_at w32 cursor.old ≡ Some (bytes, cursor.new)) }

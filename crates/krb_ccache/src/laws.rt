@@ -1,4 +1,5 @@
-//! Laws over the definitions, for proofs to cite. Each function does nothing: its contract is the law.
+//! Laws over the definitions, for proofs to cite. Each function has an empty body: its contract is
+//! the law.
 
 ghost use Rattle.std.specs.Prelude.{◌≡◌, ◌≢◌, ◌≤◌, ◌++◌, ℕ, ℤ, All, IfSome, List, None, Option, Some, Result, length};
 ghost use Rattle.krb_name.specs.Field.{IsBytes};
@@ -13,8 +14,7 @@ ghost use Rattle.krb_ccache.specs.Offset.{clock_offset};
 ghost use Rattle.krb_ccache.specs.Reader.{GoesTo};
 ghost use Rattle.krb_ccache.specs.Value.{Cache, Fits};
 
-/// Says that bytes are a cache or have a fault; and that they are a cache of one value only, or
-/// have one fault only, and not both.
+/// States that bytes either are a cache, of one value only, or have a fault, and only one.
 pub fn each_file_has_one_answer()
     ensures some { (bytes : List ℕ) → IsBytes bytes
         → (answer : Result Cache CacheFault) × IsAnswerOf bytes answer }
@@ -22,9 +22,9 @@ pub fn each_file_has_one_answer()
         → IsAnswerOf bytes answer → IsAnswerOf bytes other → answer ≡ other }
 {}
 
-/// Says that bytes are a cache of one value only; that what is written of a cache, within the limit, is
-/// one of that value; that a cache of version 0x0504 has the bytes that are written of its value; and
-/// that two caches of which the same is written are one.
+/// States that bytes are a cache of one value only; that what is written of a cache, within the
+/// limit, is a cache of that value; that a cache of version 0x0504 has the bytes that are written
+/// of its value; and that two caches with the same written bytes are the same.
 pub fn each_value_has_one_spelling()
     ensures value { (bytes : List ℕ) (one other : Cache)
         → IsCache bytes one → IsCache bytes other → one ≡ other }
@@ -36,7 +36,7 @@ pub fn each_value_has_one_spelling()
         → written one ≡ written other → one ≡ other }
 {}
 
-/// Says that a header holds one clock offset at most.
+/// States that a header has at most one clock offset.
 pub fn a_header_holds_one_offset()
     ensures seconds { (header : List HeaderField) (seconds microseconds others more : ℤ)
         → HoldsOffset header seconds microseconds → HoldsOffset header others more
@@ -46,8 +46,8 @@ pub fn a_header_holds_one_offset()
         → microseconds ≡ more }
 {}
 
-/// Says that the clock offset that a header holds is the one that is computed, and that none is
-/// computed of a header without a field of tag 1.
+/// States that the clock offset of a header is the computed one, and that none is computed for a
+/// header without a field of tag 1.
 pub fn the_offset_is_computed()
     ensures held { (header : List HeaderField) (seconds microseconds : ℤ)
         → HoldsOffset header seconds microseconds
@@ -56,22 +56,22 @@ pub fn the_offset_is_computed()
         → clock_offset header ≡ None }
 {}
 
-/// Says that a fault lies within the bytes: at one of them, or at their end.
+/// States that the offset of a fault is that of one of the bytes, or their end.
 pub fn each_fault_lies_within()
     ensures { (bytes : List ℕ) (fault : CacheFault) → IsFaultOf bytes fault
         → IfSome (offset_of fault) (λ at. at ≤ length bytes) }
 {}
 
-/// Says that what is answered for the bytes that a source gave, up to its end or to one byte past the
-/// limit, is what is answered for all that were to come of it: so a reader's last answer is that of
-/// `CCache::parse`, and at the end its credentials are.
+/// States that the answer for the bytes that a source gave, up to its end or to one byte past the
+/// limit, is the answer for all that it had. So a reader's last answer is that of `CCache::parse`,
+/// and at the end its credentials are those of `CCache::parse`.
 pub fn a_source_tells_its_file()
     ensures { (whole bytes : List ℕ) (left : Option (List ℕ)) (answer : Result Cache CacheFault)
         → IsGiven (Some whole) left bytes → IsAnswerOf bytes answer → IsAnswerOf whole answer }
 {}
 
-/// Says that the credentials that a reader gives of a file, up to the first place where none stands that
-/// ends within the limit, are one list.
+/// States that the credentials that a reader returns, up to the first place at which there is none
+/// that ends within the limit, are one list for each file.
 pub fn a_reader_stops_in_one_place()
     ensures { (bytes : List ℕ) (one other : Cache)
         → GoesTo bytes one → GoesTo bytes other → one ≡ other }

@@ -9,7 +9,7 @@ use krb_name::{FileCursor, Short};
 /// How the parts of a file are laid out: by its version.
 #[derive(Clone, Copy)]
 pub(crate) enum Layout {
-    /// Version 0x0503: there is no header, and a key's encryption type stands twice.
+    /// Version 0x0503: there is no header, and a key's encryption type is written twice.
     Version3,
     /// Version 0x0504.
     Version4,
@@ -21,7 +21,7 @@ const VERSION_3: u16 = 0x0503;
 pub(crate) const VERSION_4: u16 = 0x0504;
 
 impl Layout {
-    /// Returns how many bytes a key's encryption type takes the second time.
+    /// Returns the length of the second copy of a key's encryption type, in bytes.
     pub(crate) fn second_size(self) -> usize
         ensures size { result ≡ second_size self }
         ensures few { result ≤ 2 }
@@ -33,7 +33,7 @@ impl Layout {
     }
 }
 
-/// Reads the version that begins here, and stands behind it.
+/// Reads the version that begins here, and moves past it.
 #[tactic(auto, unfolding(crate::specs::Inner::Reading::layout_at))]
 pub(crate) fn read_layout(cursor: &mut FileCursor<'_>) -> Result<Layout, Short>
     ensures read { IfOk result (λ layout. layout_at cursor.old ≡ Some (layout, cursor.new)) }

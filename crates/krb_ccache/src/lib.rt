@@ -1,10 +1,10 @@
 //! Credential caches: the files that hold a client's tickets.
 //!
-//! A [`CCache`] is the value of a file in MIT krb5's format, version 0x0503 or 0x0504: the fields of
-//! its header, its default principal and its credentials. It is parsed of bytes, read of a `Source` or
-//! made of its parts, and written as bytes of version 0x0504. A [`CredentialReader`] gives the credentials one at a
-//! time, with the bytes of one at hand. A [`Credential`] is a ticket with its session key,
-//! or a configuration entry.
+//! A [`CCache`] is the value of a file in MIT krb5's format, version 0x0503 or 0x0504: the fields
+//! of its header, its default principal and its credentials. It is parsed from bytes, read from a
+//! `Source` or made from its parts, and written as bytes of version 0x0504. A [`CredentialReader`]
+//! returns the credentials one at a time, and holds the bytes of one at a time. A [`Credential`] is
+//! a ticket with its session key, or a configuration entry.
 //!
 //! ```rust
 //! let cache = CCache::read(alloc, &mut ReadSource::new(file))?;

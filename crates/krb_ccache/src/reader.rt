@@ -1,4 +1,4 @@
-//! A reader that gives the credentials of a cache one at a time.
+//! A reader that returns the credentials of a cache one at a time.
 
 ghost use Rattle.std.specs.Prelude.{◌≡◌, ◌≢◌, ◌+◌, ◌-◌, ◌^◌, ◌<◌, ◌≤◌, ◌↔◌, ℕ, true, false, List, [], max, length, All, IsTrue, IfOk, IfErr, IfSome, IfNone, MatchResult, OnErr, Option, Ok, Err, None};
 ghost use Rattle.krb_ccache.specs.Configuration.{HoldsOffset, IsConfiguration};
@@ -20,10 +20,10 @@ use krb_name::{Principal, Source, Window};
 use std::alloc::Global;
 use std::marker::Model;
 
-/// Reads a cache off a source, one credential at a time.
+/// Reads a cache from a source, one credential at a time.
 ///
-/// What was read is let go of: at hand are the bytes of the header, of the default principal or of
-/// one credential, in one buffer, and the fields of the header and the default principal are kept.
+/// Frees what it has read: it holds the bytes of the header, of the default principal or of one
+/// credential, in one buffer. It keeps the fields of the header and the default principal.
 #[derive(Drop)]
 pub struct CredentialReader<S> {
     window: Window<S>,
@@ -56,17 +56,17 @@ impl<S> Model for CredentialReader<S> {
 }
 
 impl<S: Source> CredentialReader<S> {
-    /// Reads the version, the header if it has one and the default principal of `source`, and not a byte
-    /// more.
+    /// Reads the version, the header (if there is one) and the default principal of `source`, and
+    /// not a byte more.
     ///
     /// Condition: fewer than 18,446,744,073,709,551,615 reads of the source have failed so far.
     ///
     /// # Errors
-    /// The source is handed back, with:
+    /// The source is returned, with:
     /// - `Read`: a read of the source failed.
-    /// - `OutOfMemory`: there was no room for what was read.
-    /// - `TooLong`, `Version`, `Header` or `BadItem`, as `CCache::parse` answers for all that was to come
-    ///   of the source: it was read to its end first, or to one byte past 16,777,216.
+    /// - `OutOfMemory`: there is no memory for what was read.
+    /// - `TooLong`, `Version`, `Header` or `BadItem`, as `CCache::parse` answers for all the bytes
+    ///   that the source had: it was read to its end first, or to one byte past 16,777,216.
     ///
     /// Source: MIT krb5, "Credential cache file format", versions 3 and 4.
     pub fn open(alloc: Global, source: S) -> Result<CredentialReader<S>, (S, CacheFault)>
@@ -111,14 +111,14 @@ impl<S: Source> CredentialReader<S> {
         }
     }
 
-    /// Reads the next credential, and not a byte more; `None` at the end. The end and every fault are
-    /// answered again by each later call, and nothing is read for it.
+    /// Reads the next credential, and not a byte more; returns `None` at the end. The end and every
+    /// fault are returned again by each later call, which reads nothing.
     ///
     /// Condition: fewer than 18,446,744,073,709,551,615 reads of the source have failed so far.
     ///
     /// # Errors
     /// - `Read`: a read of the source failed.
-    /// - `OutOfMemory`: there was no room for the credential or its bytes.
+    /// - `OutOfMemory`: there is no memory for the credential or its bytes.
     /// - `TooLong` or `BadItem`, as `CCache::parse` answers for all the bytes: no whole credential
     ///   within the limit comes next, and the source was read to its end first, or to one byte past
     ///   16,777,216.
@@ -175,16 +175,16 @@ impl<S: Source> CredentialReader<S> {
         answer
     }
 
-    /// Reads the next credential as `next` does, and not a byte more, and answers whether there is one;
-    /// the credential isn't made, and no memory is taken but for its bytes.
+    /// Reads the next credential as `next` does, and not a byte more, and returns whether there is
+    /// one. The credential isn't made, and memory is allocated only for its bytes.
     ///
-    /// Behind a credential, at the end and at a fault the reader stands as after `next`, and the two
-    /// calls can be mixed.
+    /// After a credential, at the end and at a fault the reader is where `next` would have left it.
+    /// The two calls can be mixed.
     ///
     /// Condition: fewer than 18,446,744,073,709,551,615 reads of the source have failed so far.
     ///
     /// # Errors
-    /// Those of `next`; `OutOfMemory` only where there was no room for the bytes.
+    /// Those of `next`; `OutOfMemory` only if there is no memory for the bytes.
     ///
     /// Source: MIT krb5, "Credential cache file format", versions 3 and 4.
     pub fn pass(&mut self) -> Result<bool, CacheFault>
@@ -195,7 +195,7 @@ impl<S: Source> CredentialReader<S> {
             (λ ended. (result ≡ passed (last_answer ended)) × (self.new ≡ self.old)) }
         ensures ended { self.old.ended ≡ None → self.new.ended ≡ ended_passed result }
 
-        // Each other clause is one of `next`, but that the credential isn't told.
+        // Each other clause is one of `next`, except that the credential isn't returned.
         ensures item { self.old.ended ≡ None → result ≡ Ok true → (credential : CredentialValue)
             × PassedOne S.remaining self.old self.new credential }
         ensures end { (from : Option (List ℕ)) (cache : Cache)
@@ -230,9 +230,9 @@ impl<S: Source> CredentialReader<S> {
         answer
     }
 
-    /// Answers how many bytes were at hand at once, at most. It is never more than the header, the
-    /// default principal or the longest credential so far has, at a fault as many of its bytes as
-    /// there were, nor than 16,777,216.
+    /// Returns how many bytes were held at once at most. It is never more than the header, the
+    /// default principal or the longest credential so far has, nor more than 16,777,216. At a
+    /// fault, the faulty part has as many bytes as were there.
     pub fn held(&self) -> usize
         ensures held { result ≡ self.now.held }
         ensures limit { result ≤ file_limit }
@@ -241,14 +241,14 @@ impl<S: Source> CredentialReader<S> {
         self.window.held()
     }
 
-    /// Lends the source.
+    /// Returns the source.
     pub fn source(&self) -> &S
         ensures { result.now ≡ self.now.source }
     {
         self.window.source()
     }
 
-    /// Gives the source back. Whatever it gave behind the last credential is lost.
+    /// Returns the source itself. Whatever it gave after the last credential is lost.
     pub fn into_source(self) -> S
         ensures { result ≡ self.source }
     {
@@ -262,14 +262,14 @@ impl<S: Source> CredentialReader<S> {
         window.into_source()
     }
 
-    /// Lends the default principal: whose cache it is.
+    /// Returns the default principal, who owns the cache.
     pub fn default_principal(&self) -> &Principal
         ensures { result.now ≡ self.now.default_principal }
     {
         &self.default_principal
     }
 
-    /// Answers the KDC's clock offset, as `CCache::kdc_offset` does.
+    /// Returns the KDC's clock offset, as `CCache::kdc_offset` does.
     pub fn kdc_offset(&self) -> Option<(i32, i32)>
         ensures some { IfSome result (λ offset. HoldsOffset self.now.header offset.0 offset.1) }
         ensures none { IfNone result (All (λ field. field.tag ≢ 1) self.now.header) }
@@ -278,7 +278,7 @@ impl<S: Source> CredentialReader<S> {
         first_offset(self.header.as_slice())
     }
 
-    /// Answers whether `credential` is a configuration entry, as `CCache::is_configuration` does.
+    /// Returns whether `credential` is a configuration entry, as `CCache::is_configuration` does.
     pub fn is_configuration(credential: &Credential) -> bool
         ensures { IsTrue result ↔ IsConfiguration credential.now }
     {

@@ -1,5 +1,5 @@
-//! How much room the parts of a cache leave of so many bytes. Each call answers what is left of `left`, or
-//! `None` where the part has more bytes than that.
+//! How many of a number of bytes the parts of a cache leave over. Each call returns what is left of
+//! `left`, or `None` if the part has more bytes than that.
 
 ghost use Rattle.std.specs.Prelude.{◌≤◌, ◌-◌, SomeIff, length};
 ghost use Rattle.std.specs.Int.{w32};

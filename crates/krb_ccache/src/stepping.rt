@@ -1,4 +1,4 @@
-//! Reading the parts of a cache off a source, one at a time.
+//! Reading the parts of a cache from a source, one at a time.
 
 ghost use Rattle.std.specs.Prelude.{All, Option, ℕ, List, [], length, max, ◌≡◌, ◌≢◌, ◌+◌, ◌-◌, ◌≤◌, ◌<◌, ◌^◌, IfOk, IfErr, OnOk, OnErr, Result, Err};
 ghost use Rattle.krb_ccache.specs.Fault.{failed_reads};
@@ -26,7 +26,7 @@ use crate::walking::{Stop, take, take_credential, take_header, take_name};
 use krb_name::{FILE_LIMIT, FileCursor, Principal, Short, Source, Window};
 use std::alloc::{AllocError, Global};
 
-/// What stands before the credentials of a file.
+/// What comes before the credentials of a file.
 pub(crate) struct Start {
     /// How the file is laid out.
     pub(crate) layout: Layout,
@@ -221,7 +221,7 @@ fn told<S: Source>(window: &mut Window<S>, stop: Stop, fault: CacheFault) -> Cac
     }
 }
 
-// Each call takes a part, or reads the source out and answers why there is none.
+// Each call takes a part, or reads the source to its end and returns why there is none.
 
 fn step_version<S: Source>(window: &mut Window<S>) -> Result<Layout, CacheFault>
     requires reads { S.failure_count window.old.source < 2 ^ 64 - 1 }
@@ -277,7 +277,7 @@ fn step_name<S: Source>(alloc: Global, window: &mut Window<S>) -> Result<Princip
     }
 }
 
-/// Takes the version, the header and the default principal.
+/// Reads the version, the header and the default principal.
 pub(crate) fn begin<S: Source>(alloc: Global, window: &mut Window<S>) -> Result<Start, CacheFault>
     requires reads { S.failure_count window.old.source < 2 ^ 64 - 1 }
     requires start { window.old.given ≡ 0 }
@@ -308,7 +308,7 @@ pub(crate) fn begin<S: Source>(alloc: Global, window: &mut Window<S>) -> Result<
     })
 }
 
-/// Takes the next credential, or finds that the source is at its end.
+/// Reads the next credential, or finds that the source is at its end.
 pub(crate) fn step<S: Source>(
     alloc: Global,
     layout: Layout,
@@ -330,8 +330,8 @@ pub(crate) fn step<S: Source>(
     }
 }
 
-/// Takes the bytes of the next credential, which are then at hand, and answers whether there is one; there is
-/// none where the source is at its end.
+/// Reads the bytes of the next credential into the buffer, and returns whether there is one. There
+/// is none if the source is at its end.
 pub(crate) fn step_past<S: Source>(
     layout: Layout,
     window: &mut Window<S>,
@@ -357,7 +357,7 @@ pub(crate) fn step_past<S: Source>(
     }
 }
 
-// Whether the credentials have ended, where none came at an offset: no byte stands there. Else a fault.
+// Whether the credentials have ended, if none came at an offset: no byte is there. Else a fault.
 fn end_or(fault: CacheFault, at: usize, given: usize) -> Result<(), CacheFault>
     ensures end { OnOk result ((fault ≡ BadItem at) × (given ≡ at)) }
     ensures fault { IfErr result (λ answer. (answer ≡ fault) × (fault ≡ BadItem at → given ≢ at)) }
@@ -369,7 +369,7 @@ fn end_or(fault: CacheFault, at: usize, given: usize) -> Result<(), CacheFault>
     }
 }
 
-/// Takes the credentials to the end of the source.
+/// Reads the credentials to the end of the source.
 pub(crate) fn steps<S: Source>(
     alloc: Global,
     layout: Layout,

@@ -1,4 +1,4 @@
-//! Addresses and authorization data: bytes of a type.
+//! Addresses and authorization data: bytes with a type.
 
 ghost use Rattle.std.specs.Prelude.{◌≡◌, ◌==◌, List, [], ◌∷◌, ◌++◌, length, IfOk, OnErr, OnOk};
 ghost use Rattle.krb_ccache.specs.declared.typed.TypedBytes.{TypedBytes as TypedBytesValue};
@@ -7,7 +7,7 @@ use krb_name::Bytes;
 use std::alloc::{AllocError, Global};
 use std::marker::Model;
 
-/// Bytes of a type: an address (`HostAddress`, RFC 4120, section 5.2.5), or an element of
+/// Bytes with a type: an address (`HostAddress`, RFC 4120, section 5.2.5), or an element of
 /// authorization data (`AuthorizationData`, section 5.2.6).
 #[derive(Debug, Drop)]
 pub struct TypedBytes {
@@ -30,7 +30,7 @@ impl Model for TypedList {
 }
 
 impl TypedList {
-    /// Makes a list of nothing, which takes no memory yet.
+    /// Makes an empty list. Allocates no memory yet.
     pub fn new(alloc: Global) -> Self
         ensures { result ≡ [] }
     {
@@ -39,7 +39,7 @@ impl TypedList {
         }
     }
 
-    /// Makes a list of no elements that has room for `count` of them.
+    /// Makes an empty list with room for `count` elements.
     pub(crate) fn with_room(alloc: Global, count: usize) -> Result<Self, AllocError>
         ensures { IfOk result (λ list. list ≡ []) }
     {
@@ -48,28 +48,28 @@ impl TypedList {
         })
     }
 
-    /// Lends the elements, in their order.
+    /// Returns the elements, in their order.
     pub fn as_slice(&self) -> &[TypedBytes]
         ensures { result.now ≡ self.now }
     {
         self.items.as_slice()
     }
 
-    /// Answers how many elements there are.
+    /// Returns how many elements there are.
     pub fn len(&self) -> usize
         ensures { result ≡ length self.now }
     {
         self.items.len()
     }
 
-    /// Answers whether there are no elements.
+    /// Returns whether there are no elements.
     pub fn is_empty(&self) -> bool
         ensures { result ≡ (length self.now == 0) }
     {
         self.items.is_empty()
     }
 
-    /// Puts `element` at the end. Where memory is refused, the list stays as it was.
+    /// Appends `element`. If there is no memory, the list is unchanged.
     pub fn push(&mut self, element: TypedBytes) -> Result<(), AllocError>
         ensures ok { OnOk result (self.new ≡ self.old ++ element ∷ []) }
         ensures err { OnErr result (self.new ≡ self.old) }

@@ -1,5 +1,5 @@
-//! Taking as many bytes of a source as a part of a cache has: its lengths and counts say it as they come.
-//! What the bytes mean is no matter here.
+//! Reading as many bytes of a source as a part of a cache has, by its lengths and counts as they
+//! come. What the bytes mean doesn't matter here.
 
 ghost use Rattle.std.specs.Prelude.{◌≡◌, ◌+◌, ◌-◌, ◌≤◌, ◌<◌, ◌^◌, ◌++◌, length, drop, IfOk, OnOk};
 ghost use Rattle.std.specs.Int.{w16, w32, from_be_bytes};
@@ -16,7 +16,7 @@ use krb_name::{FILE_LIMIT, ReadFault, Source, Window};
 // How many bytes the times of a credential have, with `is_skey` and the flags.
 const TIMES: usize = 4 * 4 + 1 + 4;
 
-/// Why the bytes of a part didn't come.
+/// Why the bytes of a part weren't read.
 #[derive(Clone, Copy)]
 pub(crate) enum Stop {
     /// The source is at its end.
@@ -25,7 +25,7 @@ pub(crate) enum Stop {
     Long,
     /// A read failed.
     Read,
-    /// There was no room for them.
+    /// There is no memory for them.
     OutOfMemory,
 }
 
@@ -42,7 +42,7 @@ impl From<ReadFault> for Stop {
     }
 }
 
-// Each call puts the bytes of a part behind those at hand.
+// Each call appends the bytes of a part to those held.
 
 pub(crate) fn take<S: Source>(window: &mut Window<S>, count: usize) -> Result<(), Stop>
     requires reads { S.failure_count window.old.source < 2 ^ 64 - 1 }

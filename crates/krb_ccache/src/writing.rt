@@ -1,4 +1,4 @@
-//! Writing the parts of a cache behind what was written before.
+//! Writing the parts of a cache after what was written before.
 
 ghost use Rattle.std.specs.Prelude.{◌≡◌, ◌≤◌, ◌<◌, ◌⊎◌, ◌^◌, ◌++◌, All, OnOk, length};
 ghost use Rattle.std.specs.Int.{w8, w16, w32};

@@ -1,5 +1,6 @@
--- Cipher block chaining with ciphertext stealing, with an initial vector of zeros (RFC 3962, section 5;
--- RFC 8009, section 5). A text is a list of at least 16 bytes; blocks have 16 bytes and are numbered from 1.
+-- Cipher block chaining with ciphertext stealing, with an initial vector of zeros (RFC 3962,
+-- section 5; RFC 8009, section 5). A text is a list of at least 16 bytes. Blocks have 16 bytes and
+-- are numbered from 1.
 use Rattle.std.specs.Prelude.{All, ℕ, zero, suc, ◌+◌, ◌-◌, ◌*◌, ◌/◌, ◌==◌, ◌<◌, ◌≤◌, List, [], ◌++◌, length, take, drop, replicate, bit_xor, if◌then◌else◌}
 use Rattle.krb_aes.specs.Cipher.{cipher}
 use lib.Lanes.{zip2}
@@ -9,7 +10,7 @@ pub record IsText (text : List ℕ) : Type 0 where
   pub size : 16 ≤ length text
   pub bytes : All (λ byte. byte < 256) text
 
--- byte by byte, as far as the shorter goes
+-- XOR byte by byte, to the end of the shorter list
 abbrev pub xor : List ℕ → List ℕ → List ℕ
 xor one other = zip2 bit_xor one other
 
@@ -17,11 +18,11 @@ xor one other = zip2 bit_xor one other
 abbrev pub zeros : List ℕ
 zeros = replicate 16 0
 
--- m: how many blocks a text takes, the last of which may not be full
+-- m: the number of blocks of a text; the last may not be full
 abbrev pub block_count : List ℕ → ℕ
 block_count text = (length text + 15) / 16
 
--- P(i): block i of a text, filled with zeros where the text ends within it
+-- P(i): block i of a text, padded with zeros if the text ends within it
 abbrev pub plain_block : List ℕ → ℕ → List ℕ
 plain_block text i = take 16 (drop (16 * (i - 1)) text ++ zeros)
 
@@ -35,11 +36,12 @@ unfoldable pub joined : (ℕ → List ℕ) → ℕ → List ℕ
 joined block zero = []
 joined block (suc n) = joined block n ++ block (suc n)
 
--- how many bytes of the text its last block has
+-- the number of bytes that the text has in its last block
 abbrev pub last_length : List ℕ → ℕ
 last_length text = length text - 16 * (block_count text - 1)
 
--- one block is chained; of more, the last two are swapped, and C(m - 1) is cut to what the last block of the text had
+-- a text of one block is chained; in a longer one, the last two blocks are swapped, and C(m - 1) is
+-- cut to the length of the text's last block
 unfoldable pub cts : List ℕ → List ℕ → List ℕ
 cts key text =
     let m = block_count text in

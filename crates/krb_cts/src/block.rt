@@ -28,7 +28,7 @@ pub(crate) fn block_at(text: &[u8], at: usize) -> Block
     block
 }
 
-// Puts a block where `at` says.
+// Puts a block at the offset `at`.
 #[inline(always)]
 pub(crate) fn put_block(text: &mut [u8], at: usize, block: &Block)
     requires { at + 16 ≤ length text.old }

@@ -42,7 +42,7 @@ pub(crate) fn decrypt_blocks(schedule: &KeySchedule, text: &mut [u8], count: usi
     }
 }
 
-// Undoes the chain of the two blocks that begin at `at`, behind the block `previous`, and answers the second as it was.
+// Undoes the chain of the two blocks that begin at `at`, after the block `previous`, and returns the second as it was.
 fn decrypt_two(schedule: &KeySchedule, text: &mut [u8], at: usize, previous: &Block) -> Block
     requires { at + 32 ≤ length text.old }
     ensures text { let first = take 16 (drop at text.old) in
@@ -60,7 +60,7 @@ fn decrypt_two(schedule: &KeySchedule, text: &mut [u8], at: usize, previous: &Bl
     second
 }
 
-// Undoes the chain of the block that begins at `at`, behind the block `previous`.
+// Undoes the chain of the block that begins at `at`, after the block `previous`.
 fn decrypt_one(schedule: &KeySchedule, text: &mut [u8], at: usize, previous: &Block)
     requires { at + 16 ≤ length text.old }
     ensures text { text.new ≡ undone_at schedule.now text.old at previous.now }

@@ -1,17 +1,18 @@
-//! What holds of the definitions for all keys and texts. Each function is empty: its contract is the law.
+//! Laws of the definitions, for all keys and texts. Each function has an empty body: its contract
+//! is the law.
 
 ghost use Rattle.std.specs.Prelude.{◌≡◌, ◌≤◌, ℕ, List, length};
 ghost use Rattle.krb_aes.specs.KeyExpansion.{IsKey};
 ghost use Rattle.krb_cts.specs.Stealing.{IsText, cts};
 ghost use Rattle.krb_cts.specs.Undo.{undo};
 
-/// Undoing gives back the text that was encrypted, for keys of both sizes.
+/// Decrypting an encrypted text returns the original, for keys of both sizes.
 #[tactic(auto, using(crate::proofs::LawRules::laws))]
 pub fn decryption_undoes_encryption()
     ensures { (key text : List ℕ) → IsKey key → IsText text → undo key (cts key text) ≡ text }
 {}
 
-/// Encrypting gives back the text that was undone, for keys of both sizes.
+/// Encrypting a decrypted text returns the original, for keys of both sizes.
 #[tactic(auto, using(crate::proofs::LawRules::laws))]
 pub fn encryption_undoes_decryption()
     ensures { (key text : List ℕ) → IsKey key → IsText text → cts key (undo key text) ≡ text }
@@ -32,13 +33,13 @@ pub fn encrypting_keeps_the_length()
     ensures { (key text : List ℕ) → 16 ≤ length text → length (cts key text) ≡ length text }
 {}
 
-/// Undoing keeps the length of a text.
+/// Decrypting keeps the length of a text.
 #[tactic(auto, using(crate::proofs::LawRules::laws))]
 pub fn undoing_keeps_the_length()
     ensures { (key text : List ℕ) → 16 ≤ length text → length (undo key text) ≡ length text }
 {}
 
-/// Encryption and decryption make texts of texts.
+/// Encryption and decryption of bytes give bytes.
 #[tactic(auto, using(crate::proofs::LawRules::laws))]
 pub fn texts_stay_texts()
     ensures encrypted { (key text : List ℕ) → IsKey key → IsText text → IsText (cts key text) }

@@ -9,11 +9,11 @@ use crate::block::{BLOCK_LEN, Block, block_at, put_block, xor};
 use crate::chain::{decrypt_blocks, encrypt_blocks};
 use krb_aes::KeySchedule;
 
-/// Encrypts a text of at least 16 bytes in place, in CBC mode with ciphertext stealing and an initial
-/// vector of zeros. Its length stays.
+/// Encrypts a text of at least 16 bytes in place, in CBC mode with ciphertext stealing and an
+/// initial vector of zeros. Its length stays the same.
 ///
-/// A text of 16 bytes is one block. Of a longer one, the last two blocks of the ciphertext are swapped
-/// (also where the last is full), and the bytes that filled the last block are left out.
+/// A text of 16 bytes is one block. In a longer text, the last two blocks of the ciphertext are
+/// swapped (even if the last is full), and the bytes that padded the last block are left out.
 ///
 /// Source: RFC 3962, section 5; RFC 8009, section 5.
 pub fn encrypt(schedule: &KeySchedule, text: &mut [u8])
@@ -31,7 +31,8 @@ pub fn encrypt(schedule: &KeySchedule, text: &mut [u8])
     }
 }
 
-/// Undoes the stealing and the chain of a text of at least 16 bytes in place. Its length stays.
+/// Decrypts a text of at least 16 bytes in place: undoes the stealing and the chain. Its length
+/// stays the same.
 ///
 /// Source: RFC 3962, section 5; RFC 8009, section 5.
 pub fn decrypt(schedule: &KeySchedule, text: &mut [u8])
@@ -58,7 +59,7 @@ fn last_block(text: &[u8]) -> usize
     (text.len() - 1) / BLOCK_LEN * BLOCK_LEN
 }
 
-// Encrypts the last block, which begins at `at`, behind the block `previous`, and swaps these two.
+// Encrypts the last block, which begins at `at`, after the block `previous`, and swaps these two.
 fn steal(schedule: &KeySchedule, text: &mut [u8], at: usize, previous: &Block)
     requires before { 16 ≤ at }
     requires last { at < length text.old }

@@ -17,15 +17,15 @@ pub record UsageKeyValue : Type 0 where
 abbrev pub IsKnown : ℤ → Type 0
 IsKnown etype = (etype ≡ pos 19) ⊎ (etype ≡ pos 20)
 
--- so many bytes as the type asks for (RFC 8009, section 7)
+-- the bytes are as many as the type asks for (RFC 8009, section 7)
 abbrev pub IsUsableKey : ℤ → List ℕ → Type 0
 IsUsableKey etype bytes = ((etype ≡ pos 19) × (length bytes ≡ 16)) ⊎ ((etype ≡ pos 20) × (length bytes ≡ 32))
 
--- such a key can seal and open
+-- the key can seal and open
 abbrev pub IsUsable : KeyValue → Type 0
 IsUsable key = IsUsableKey key.etype key.bytes
 
--- the profile of a number that is known
+-- the profile of a known number
 abbrev pub numbered : ℤ → Profile
 numbered (pos n) = if n == 20 then aes256_sha384 else aes128_sha256
 numbered (negsuc _) = aes128_sha256
@@ -33,6 +33,6 @@ numbered (negsuc _) = aes128_sha256
 abbrev pub profile_of : KeyValue → Profile
 profile_of key = numbered key.etype
 
--- what is shown of a key where it is printed: the number of its type alone
+-- what is shown of a printed key: the number of its type alone
 abbrev pub shown : ℤ → List ℕ
 shown etype = codes "Key(" ++ (signed_decimal etype ++ codes ")")

@@ -3,7 +3,7 @@ use Rattle.std.specs.Prelude.{◌≡◌, All, ◌<◌, ◌+◌, ◌-◌, ℕ, Li
 use Rattle.krb_aes.specs.Cipher.{IsBlock}
 use Rattle.krb_enc.specs.Sealed.{Profile, tag_of, sealed}
 
--- some confounder of 16 bytes seals the plain text to this: nothing is decrypted in it
+-- some confounder of 16 bytes seals the plain text to this text; nothing is decrypted
 pub record Opens (p : Profile) (key : List ℕ) (usage : ℕ) (text plain : List ℕ) : Type 0 where
   pub confounder : List ℕ
   pub is_block : IsBlock confounder
@@ -19,7 +19,7 @@ pub record OpensOnlyTo (p : Profile) (key : List ℕ) (usage : ℕ) (text plain 
   pub opens : Opens p key usage text plain
   pub only : (other : List ℕ) → Opens p key usage text other → other ≡ plain
 
--- what stands before the tag, and the tag
+-- what comes before the tag, and the tag
 abbrev pub body_of : Profile → List ℕ → List ℕ
 body_of p text = take (length text - p.tag_len) text
 

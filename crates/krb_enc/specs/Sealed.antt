@@ -1,5 +1,5 @@
--- Encryption and checksums with the two encryption types of RFC 8009 (sections 3, 5 and 6). Keys, texts and tags are
--- lists of bytes, key usages are numbers.
+-- Encryption and checksums with the two encryption types of RFC 8009 (sections 3, 5 and 6). Keys,
+-- texts and tags are lists of bytes; key usages are numbers.
 use Rattle.std.specs.Prelude.{◌≡◌, ◌⊎◌, ℕ, ◌*◌, ℤ, pos, List, ◌++◌, length, take, replicate}
 use Rattle.krb_kdf.specs.Hmac.{Hash, sha256_hash, sha384_hash, hmac}
 use Rattle.krb_kdf.specs.Kdf.{kdf, label}
@@ -7,8 +7,8 @@ use Rattle.krb_kdf.specs.declared.purpose.Purpose.{Purpose}
 use Rattle.krb_kdf.specs.declared.purpose.Purpose.TheVariants.{Kc, Ke, Ki}
 use Rattle.krb_cts.specs.Stealing.{cts}
 
--- what tells one type from the other: its number, its hash function, how many bytes a base key (and Ke) has, and how
--- many a tag (and Kc and Ki)
+-- what distinguishes the two types: the number, the hash function, how many bytes a base key (and
+-- Ke) has, and how many a tag (and Kc and Ki) has
 pub record Profile : Type 0 where
   pub etype : ℤ
   pub hash : Hash
@@ -39,7 +39,7 @@ mac_key p key usage purpose = kdf p.hash key (label usage purpose) (8 * p.tag_le
 abbrev pub short_mac : Profile → List ℕ → List ℕ → List ℕ
 short_mac p key text = take p.tag_len (hmac p.hash key text)
 
--- so many bytes as a tag of one of the two types has (section 7)
+-- the number of bytes is that of a tag of one of the two types (section 7)
 abbrev pub IsTag : List ℕ → Type 0
 IsTag tag = (length tag ≡ 16) ⊎ (length tag ≡ 24)
 

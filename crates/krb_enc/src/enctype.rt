@@ -1,4 +1,4 @@
-//! What an encryption type is.
+//! The trait of encryption types.
 
 ghost use Rattle.std.specs.Prelude.{◌≡◌, ◌≢◌, ◌↔◌, ◌⊎◌, ◌≤◌, ◌<◌, ◌+◌, ℕ, ℤ, List, length, All, IfOk, IsErrOf, MatchResult, vec_len};
 ghost use Rattle.krb_aes.specs.Cipher.{IsBlock};
@@ -12,12 +12,12 @@ use crate::tag::Tag;
 use crate::usage_key::UsageKey;
 use std::alloc::{AllocError, Global};
 
-/// Shows that a call comes from this crate: its name can't be written in another.
+/// A token that only this crate can make, because other crates can't write its name.
 #[derive(Clone, Copy)]
 pub struct Inside;
 
-/// An encryption type of RFC 8009. Its calls take the bytes of a base key, of which there have to be
-/// `KEY_LEN`.
+/// An encryption type of RFC 8009. Its calls take the bytes of a base key, which must be `KEY_LEN`
+/// long.
 pub trait Enctype {
     /// The type's number (RFC 8009, section 7).
     const ETYPE: i32;
@@ -28,7 +28,7 @@ pub trait Enctype {
     /// The length of a tag, in bytes: 16 or 24.
     const TAG_LEN: usize;
 
-    /// The type, as the definitions name it.
+    /// The type, as the definitions of the contracts name it.
     ghost profile: { Profile };
 
     ghost ETYPE: { ℤ };
@@ -37,32 +37,33 @@ pub trait Enctype {
 
     ghost TAG_LEN: { ℕ };
 
-    /// Makes the keys of a usage ready: for this crate alone. Others have them of `Key::for_usage`.
+    /// Prepares the keys of a usage. Only this crate can call it; other crates use
+    /// `Key::for_usage`.
     ///
     /// Source: RFC 8009, section 5.
     fn usage_key(inside: Inside, key: &[u8], usage: u32) -> UsageKey
         requires { length key.now ≡ KEY_LEN }
         ensures { result ≡ record { key = record { etype = ETYPE; bytes = key.now }; usage = usage } };
 
-    /// Gives the tag of a ciphertext: 16 or 24 bytes.
+    /// Returns the tag of a ciphertext: 16 or 24 bytes.
     ///
     /// Source: RFC 8009, section 5.
     fn tag(key: &[u8], usage: u32, text: &[u8]) -> Tag
         requires { length key.now ≡ KEY_LEN }
         ensures { result ≡ tag_of profile key.now usage text.now };
 
-    /// Gives the checksum of a text: 16 or 24 bytes.
+    /// Returns the checksum of a text: 16 or 24 bytes.
     ///
     /// Source: RFC 8009, section 6.
     fn checksum(key: &[u8], usage: u32, text: &[u8]) -> Tag
         requires { length key.now ≡ KEY_LEN }
         ensures { result ≡ checksum_of profile key.now usage text.now };
 
-    /// Seals `plain`: the confounder (16 random bytes, new for each call) and the plain text,
-    /// encrypted, and behind them the tag.
+    /// Seals `plain`: encrypts the confounder (16 random bytes, new for each call) and the plain
+    /// text, and appends the tag.
     ///
     /// # Errors
-    /// `AllocError`: there was no room for the sealed text.
+    /// `AllocError`: there is no memory for the sealed text.
     ///
     /// Source: RFC 8009, section 5.
     final fn seal(
@@ -81,14 +82,14 @@ pub trait Enctype {
         Self::usage_key(Inside, key, usage).seal(alloc, confounder, plain)
     }
 
-    /// Opens `text`, which was sealed, and answers the plain text. The tag is checked before anything is
+    /// Opens the sealed `text` and returns the plain text. The tag is checked before anything is
     /// decrypted.
     ///
     /// # Errors
-    /// The first that holds:
-    /// - `Short`: there are fewer than 16 bytes and a tag.
+    /// The first that applies:
+    /// - `Short`: there are fewer bytes than a confounder (16 bytes) and a tag have.
     /// - `Integrity`: the last bytes aren't the tag of the rest.
-    /// - `OutOfMemory`: there was no room for the plain text.
+    /// - `OutOfMemory`: there is no memory for the plain text.
     ///
     /// Source: RFC 8009, section 5.
     final fn open(alloc: Global, key: &[u8], usage: u32, text: &[u8]) -> Result<Vec<u8>, OpenFault>
@@ -98,7 +99,7 @@ pub trait Enctype {
         ensures found { (plain : List ℕ) → Opens profile key.now usage text.now plain
             → MatchResult result
             (λ answer. answer.items ≡ plain) (λ fault. fault ≡ OpenFault.OutOfMemory) }
-        // Short or Integrity is answered exactly where nothing opens.
+        // Short or Integrity is answered exactly if nothing opens.
         ensures refused { (IsErrOf result OpenFault.Short ⊎ IsErrOf result OpenFault.Integrity)
             ↔ OpensToNothing profile key.now usage text.now }
         ensures short { IsErrOf result OpenFault.Short ↔ (length text.now < 16 + TAG_LEN) }
@@ -110,8 +111,8 @@ pub trait Enctype {
         Self::usage_key(Inside, key, usage).open(alloc, text)
     }
 
-    /// Says that what was sealed opens to its plain text and to no other, by sealing and by decryption. It
-    /// does nothing: its contract is the law.
+    /// States that a sealed text opens to its plain text and to no other, by sealing and by
+    /// decryption. It does nothing: its contract is the law.
     final fn sealed_opens()
         ensures sealed { (key : List ℕ) (usage : ℕ) (confounder plain : List ℕ)
             → IsBlock confounder → All (λ byte. byte < 256) plain

@@ -1,4 +1,4 @@
-//! Why a key isn't made, and why a text isn't opened.
+//! Why a key can't be made, and why a text can't be opened.
 
 ghost use Rattle.std.specs.Prelude.{◌≡◌};
 ghost use Rattle.krb_enc.specs.declared.fault.OpenFault.TheVariants.{OutOfMemory};
@@ -6,18 +6,18 @@ ghost use Rattle.krb_enc.specs.declared.fault.OpenFault.TheVariants.{OutOfMemory
 use std::alloc::AllocError;
 use thiserror::Error;
 
-/// Why bytes make no key.
+/// Why bytes aren't a key.
 #[derive(Clone, Copy, Debug, PartialEq, Eq, Error)]
 pub enum KeyFault {
     /// The encryption type is neither 19 nor 20.
     #[error("the encryption type is not known")]
     UnknownEtype,
-    /// A key of type 19 has 16 bytes, one of type 20 has 32.
+    /// The length is wrong: a key of type 19 has 16 bytes, and one of type 20 has 32.
     #[error("the key has the wrong length")]
     WrongLength,
 }
 
-/// Why a sealed text isn't opened.
+/// Why a sealed text can't be opened.
 #[derive(Clone, Copy, Debug, PartialEq, Eq, Error)]
 pub enum OpenFault {
     /// The text is shorter than a sealed empty text: 32 bytes (type 19) or 40 (type 20).
@@ -26,7 +26,7 @@ pub enum OpenFault {
     /// The last bytes aren't the tag of the rest.
     #[error("the tag is wrong")]
     Integrity,
-    /// There was no room for the plain text.
+    /// There is no memory for the plain text.
     #[error("out of memory")]
     OutOfMemory,
 }

@@ -19,11 +19,11 @@ pub(crate) enum KeyBytes {
     Long([u8; 32], HmacSha384),
 }
 
-/// A base key of one of the two encryption types, held in place: 16 bytes of type 19
-/// (aes128-cts-hmac-sha256-128) or 32 bytes of type 20 (aes256-cts-hmac-sha384-192). It is ready to
-/// derive the keys of its usages.
+/// A base key of one of the two encryption types: 16 bytes of type 19 (aes128-cts-hmac-sha256-128)
+/// or 32 bytes of type 20 (aes256-cts-hmac-sha384-192). The bytes are held in place. The keys of
+/// its usages can be derived from it at once.
 ///
-/// Its `Debug` shows the type's number and no byte, so that no log shows a key.
+/// Its `Debug` shows the type's number and no byte, so no log shows a key.
 #[derive(Drop)]
 pub struct Key {
     bytes: KeyBytes,
@@ -45,10 +45,10 @@ impl Key {
     ghost use Rattle.krb_enc.specs.Sealed.{sealed, checksum_of};
     ghost use Rattle.krb_enc.specs.Opens.{IsShort, HasTag, Opens, OpensOnlyTo, OpensToNothing};
 
-    /// Makes a key of `bytes`, for the encryption type `etype`.
+    /// Makes a key of the encryption type `etype` from `bytes`.
     ///
     /// # Errors
-    /// The first that holds:
+    /// The first that applies:
     /// - `UnknownEtype`: `etype` is neither 19 nor 20.
     /// - `WrongLength`: there aren't 16 bytes (type 19) or 32 (type 20).
     ///
@@ -74,7 +74,7 @@ impl Key {
         Ok(Key { bytes })
     }
 
-    /// Answers whether these make a key: 16 bytes of type 19, or 32 of type 20. It derives nothing.
+    /// Returns whether these make a key: 16 bytes of type 19, or 32 of type 20. Derives nothing.
     pub fn is_usable(etype: i32, bytes: &[u8]) -> bool
         ensures { IsTrue result ↔ IsUsable (record { etype = etype; bytes = bytes.now }) }
     {
@@ -85,7 +85,7 @@ impl Key {
         }
     }
 
-    /// Answers a copy of this key. It takes no memory, and derives nothing.
+    /// Returns a copy of this key. Allocates no memory and derives nothing.
     pub fn copy(&self) -> Key
         ensures { result ≡ self.now }
     {
@@ -96,7 +96,7 @@ impl Key {
         Key { bytes }
     }
 
-    /// Answers the number of the encryption type: 19 or 20.
+    /// Returns the number of the encryption type: 19 or 20.
     pub fn etype(&self) -> i32
         ensures value { result ≡ self.now.etype }
         ensures usable { IsUsable self.now }
@@ -107,7 +107,7 @@ impl Key {
         }
     }
 
-    /// Lends the bytes: 16 or 32.
+    /// Returns the bytes: 16 or 32.
     pub fn bytes(&self) -> &[u8]
         ensures value { result.now ≡ self.now.bytes }
         ensures usable { IsUsable self.now }
@@ -118,7 +118,7 @@ impl Key {
         }
     }
 
-    /// Makes the keys of `usage` ready, for many texts that are sealed or opened for it.
+    /// Prepares the keys of `usage`, for sealing or opening many texts.
     ///
     /// Source: RFC 8009, section 5.
     pub fn for_usage(&self, usage: u32) -> UsageKey
@@ -130,13 +130,13 @@ impl Key {
         }
     }
 
-    /// Seals `plain` under this key for `usage`: the confounder and the plain text, encrypted, and
-    /// behind them the tag of 16 bytes (type 19) or 24 (type 20).
+    /// Seals `plain` under this key for `usage`: encrypts the confounder and the plain text, and
+    /// appends the tag of 16 bytes (type 19) or 24 (type 20).
     ///
     /// `confounder` is 16 random bytes, new for each call.
     ///
     /// # Errors
-    /// `AllocError`: there was no room for the sealed text.
+    /// `AllocError`: there is no memory for the sealed text.
     ///
     /// Source: RFC 8009, section 5.
     pub fn seal(
@@ -156,15 +156,15 @@ impl Key {
         self.for_usage(usage).seal(alloc, confounder, plain)
     }
 
-    /// Opens `text`, which was sealed under this key for `usage`, and answers the plain text.
+    /// Opens `text`, which was sealed under this key for `usage`, and returns the plain text.
     ///
     /// The tag is checked before anything is decrypted.
     ///
     /// # Errors
-    /// The first that holds:
+    /// The first that applies:
     /// - `Short`: there are fewer than 32 bytes (type 19) or 40 (type 20).
     /// - `Integrity`: the last 16 or 24 bytes aren't the tag of the rest.
-    /// - `OutOfMemory`: there was no room for the plain text.
+    /// - `OutOfMemory`: there is no memory for the plain text.
     ///
     /// Source: RFC 8009, section 5.
     pub fn open(&self, alloc: Global, usage: u32, text: &[u8]) -> Result<Vec<u8>, OpenFault>
@@ -175,7 +175,7 @@ impl Key {
             → Opens (profile_of self.now) self.now.bytes usage text.now plain
             → MatchResult result
             (λ answer. answer.items ≡ plain) (λ fault. fault ≡ OpenFault.OutOfMemory) }
-        // Short or Integrity is answered exactly where nothing opens.
+        // Short or Integrity is answered exactly if nothing opens.
         ensures refused { (IsErrOf result OpenFault.Short ⊎ IsErrOf result OpenFault.Integrity)
             ↔ OpensToNothing (profile_of self.now) self.now.bytes usage text.now }
         ensures short { IsErrOf result OpenFault.Short ↔ IsShort (profile_of self.now) text.now }
@@ -189,7 +189,8 @@ impl Key {
         self.for_usage(usage).open(alloc, text)
     }
 
-    /// Gives the checksum of `text` under this key for `usage`: 16 bytes (type 19) or 24 (type 20).
+    /// Returns the checksum of `text` under this key for `usage`: 16 bytes (type 19) or 24 (type
+    /// 20).
     ///
     /// Source: RFC 8009, section 6.
     #[tactic(auto, unfolding(crate::specs::Sealed::checksum_of, krb_kdf::specs::Kdf::kdf, krb_kdf::specs::Kdf::kdf_of, krb_kdf::specs::Hmac::hmac))]
@@ -208,7 +209,7 @@ impl Key {
         }
     }
 
-    /// Answers whether `tag` is the whole checksum of `text` under this key for `usage`.
+    /// Returns whether `tag` is the whole checksum of `text` under this key for `usage`.
     ///
     /// Source: RFC 8009, section 6.
     pub fn verify_checksum(&self, usage: u32, text: &[u8], tag: &[u8]) -> bool

@@ -1,4 +1,5 @@
-//! What holds of keys and of opening, for all keys and texts. Each function is empty: its contract is the law.
+//! Laws of keys and of opening, for all keys and texts. Each function has an empty body: its
+//! contract is the law.
 
 ghost use Rattle.std.specs.Prelude.{◌≡◌, ◌⊎◌, ◌<◌, ◌+◌, ℕ, List, All, length};
 ghost use Rattle.krb_aes.specs.Cipher.{IsBlock};
@@ -17,8 +18,8 @@ pub fn sealed_text_opens()
         → OpensBackOnlyTo p key usage (sealed p key usage confounder plain) plain }
 {}
 
-/// A text opens exactly to what decryption makes of it: for texts of bytes, the definition by sealing
-/// and the one by decryption are one relation.
+/// For texts of bytes, a text opens exactly to what decryption makes of it: the definition by
+/// sealing and the one by decryption are the same relation.
 pub fn one_relation()
     ensures undone { (p : Profile) (key : List ℕ) (usage : ℕ) (text plain : List ℕ)
         → IsProfile p → Opens p key usage text plain → OpensBack p key usage text plain }
@@ -36,7 +37,7 @@ pub fn one_plain_text()
         → Opens (profile_of key) key.bytes usage text other → one ≡ other }
 {}
 
-/// It is decided whether a text opens to some plain text.
+/// Whether a text opens to some plain text is decidable.
 pub fn opening_is_decided()
     ensures profile { (p : Profile) (key : List ℕ) (usage : ℕ) (text : List ℕ) → IsProfile p
         → ((plain : List ℕ) × Opens p key usage text plain)
@@ -46,8 +47,8 @@ pub fn opening_is_decided()
         ⊎ OpensToNothing (profile_of key) key.bytes usage text }
 {}
 
-/// The profile of a key is one of the two. It has the number of a key whose type is known, and asks for
-/// as many bytes as a usable key has.
+/// The profile of a key is one of the two. If the key's type is known, the profile has its number,
+/// and a usable key has as many bytes as the profile asks for.
 pub fn each_profile_is_known()
     ensures known { (key : KeyValue) → IsProfile (profile_of key) }
     ensures etype { (key : KeyValue) → IsKnown key.etype → (profile_of key).etype ≡ key.etype }
@@ -55,12 +56,12 @@ pub fn each_profile_is_known()
         → length key.bytes ≡ (profile_of key).key_len }
 {}
 
-/// It is decided whether a key is usable.
+/// Whether a key is usable is decidable.
 pub fn usable_is_decided()
     ensures { (key : KeyValue) → IsUsable key ⊎ (IsUsable key → ⊥) }
 {}
 
-/// A tag and a checksum have as many bytes as their type says: 16 or 24.
+/// A tag and a checksum have the length that their type says: 16 or 24 bytes.
 #[tactic(auto, using(crate::proofs::Tags::lengths))]
 pub fn tag_lengths()
     ensures tag { (p : Profile) (key : List ℕ) (usage : ℕ) (text : List ℕ) → IsProfile p
@@ -69,7 +70,7 @@ pub fn tag_lengths()
         → length (checksum_of p key usage text) ≡ p.tag_len }
 {}
 
-/// A sealed text has the bytes of its confounder (16), its plain text and its tag (16 or 24).
+/// A sealed text is as long as its confounder (16), its plain text and its tag (16 or 24) together.
 pub fn sealed_lengths()
     ensures { (p : Profile) (key : List ℕ) (usage : ℕ) (confounder plain : List ℕ) → IsProfile p
         → length confounder ≡ 16

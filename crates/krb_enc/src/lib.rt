@@ -1,5 +1,5 @@
-//! The Kerberos encryption types aes128-cts-hmac-sha256-128 (19) and aes256-cts-hmac-sha384-192 (20):
-//! sealing, opening and checksums (RFC 8009).
+//! The Kerberos encryption types aes128-cts-hmac-sha256-128 (19) and aes256-cts-hmac-sha384-192
+//! (20): sealing, opening and checksums (RFC 8009).
 //!
 //! ```text
 //! let key = Key::new(19, &bytes)?;
@@ -13,10 +13,10 @@
 //! let plain = tickets.open(alloc, &sealed)?;
 //! ```
 //!
-//! The number before the confounder or the text is the key usage (RFC 4120, section 7.5.1). Confounders are handed in: 16
-//! random bytes, new for each call. The contracts speak of the definitions of `specs/Sealed` and
-//! `specs/Opens`: a text opens to a plain text where some confounder seals that to it. `laws` has what
-//! holds for all keys and texts. No key is printed by `Debug`.
+//! The number before the confounder or the text is the key usage (RFC 4120, section 7.5.1). The
+//! caller passes the confounder: 16 random bytes, new for each call. The contracts speak of the
+//! definitions of `specs/Sealed` and `specs/Opens`: a text opens to a plain text if some confounder
+//! seals the plain text to it. `laws` has what holds for all keys and texts. `Debug` prints no key.
 #![tactic(auto)]
 
 mod enctype;

@@ -12,7 +12,8 @@ use krb_kdf::{
     HmacSha256, HmacSha384, MacPurpose, Purpose, derive_19, derive_20, hmac_sha256, hmac_sha384,
 };
 
-/// aes128-cts-hmac-sha256-128: AES with keys of 128 bits, and tags of 128 bits by HMAC with SHA-256.
+/// aes128-cts-hmac-sha256-128: AES with keys of 128 bits, and tags of 128 bits by HMAC with
+/// SHA-256.
 #[derive(Clone, Copy, Debug)]
 pub struct Sha256Aes128;
 
@@ -58,7 +59,8 @@ impl Enctype for Sha256Aes128 {
     ghost tag_len_is = { refl };
 }
 
-/// aes256-cts-hmac-sha384-192: AES with keys of 256 bits, and tags of 192 bits by HMAC with SHA-384.
+/// aes256-cts-hmac-sha384-192: AES with keys of 256 bits, and tags of 192 bits by HMAC with
+/// SHA-384.
 #[derive(Clone, Copy, Debug)]
 pub struct Sha384Aes256;
 

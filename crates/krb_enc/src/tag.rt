@@ -7,7 +7,8 @@ use std::marker::Model;
 
 const LONGEST: usize = 24;
 
-/// A tag: 16 bytes (type 19) or 24 (type 20), held in place. A contract sees it as the list of its bytes.
+/// A tag of 16 bytes (type 19) or 24 (type 20), held in place. A contract sees it as the list of
+/// its bytes.
 #[derive(Drop)]
 pub struct Tag {
     bytes: [u8; LONGEST],
@@ -35,7 +36,7 @@ impl Tag {
         }
     }
 
-    /// Lends the bytes: 16 or 24.
+    /// Returns the bytes: 16 or 24.
     pub fn as_slice(&self) -> &[u8]
         ensures value { result.now ≡ self.now }
         ensures length { IsTag self.now }
@@ -43,8 +44,8 @@ impl Tag {
         &self.bytes[..self.len]
     }
 
-    /// Answers whether these are the bytes of the tag. All of them are compared, also behind the
-    /// first difference.
+    /// Returns whether these are the bytes of the tag. Compares all of them, even after the first
+    /// difference.
     pub(crate) fn is(&self, bytes: &[u8]) -> bool
         ensures { IsTrue result ↔ (bytes.now ≡ self.now) }
     {
@@ -52,7 +53,8 @@ impl Tag {
     }
 }
 
-/// Whether two texts are the same: the bits in which bytes differ are gathered, and looked at in the end.
+/// Whether two texts are the same. The bits in which bytes differ are collected, and checked at the
+/// end.
 pub(crate) fn are_same(one: &[u8], other: &[u8]) -> bool
     ensures { IsTrue result ↔ (other.now ≡ one.now) }
 {

@@ -1,4 +1,4 @@
-//! Texts with their confounders, encrypted and decrypted.
+//! Encryption and decryption of texts with their confounders.
 
 ghost use Rattle.std.specs.Prelude.{◌≡◌, ◌≤◌, ◌<◌, ◌^◌, ◌+◌, ◌++◌, length, drop, IfOk, vec_len};
 ghost use Rattle.krb_cts.specs.Stealing.{cts};

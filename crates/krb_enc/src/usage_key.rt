@@ -16,10 +16,10 @@ use krb_kdf::{HmacSha256, HmacSha384, MacPurpose, Purpose};
 use std::alloc::{AllocError, Global};
 use std::marker::Model;
 
-/// The keys that a base key has for one key usage, made ready once for many texts: Ke with its round keys,
+/// The keys of a base key for one key usage, prepared once for many texts: Ke with its round keys,
 /// and Ki as a key of HMAC. They are held in place.
 ///
-/// A contract sees the base key and the usage. It has no `Debug`, so that no log shows a key.
+/// A contract sees the base key and the usage. The type has no `Debug`, so no log shows a key.
 #[derive(Drop)]
 pub struct UsageKey {
     bytes: KeyBytes,
@@ -64,9 +64,10 @@ impl UsageKey {
         }
     }
 
-    /// Answers whether these are the keys of the base key of type `etype` with the bytes `key`, for `usage`.
+    /// Returns whether these are the keys of the base key of type `etype` with the bytes `key`, for
+    /// `usage`.
     ///
-    /// All bytes are compared, also behind the first difference.
+    /// Compares all bytes, even after the first difference.
     pub fn is_for(&self, etype: i32, key: &[u8], usage: u32) -> bool
         ensures { IsTrue result
             ↔ (self.now ≡ record { key = record { etype = etype; bytes = key.now }; usage = usage }) }
@@ -78,13 +79,13 @@ impl UsageKey {
         is_same_key && self.usage == usage
     }
 
-    /// Seals `plain` under the base key for the usage: the confounder and the plain text, encrypted, and
-    /// behind them the tag of 16 bytes (type 19) or 24 (type 20).
+    /// Seals `plain` under the base key for the usage: encrypts the confounder and the plain text,
+    /// and appends the tag of 16 bytes (type 19) or 24 (type 20).
     ///
     /// `confounder` is 16 random bytes, new for each call.
     ///
     /// # Errors
-    /// `AllocError`: there was no room for the sealed text.
+    /// `AllocError`: there is no memory for the sealed text.
     ///
     /// Source: RFC 8009, section 5.
     pub fn seal(
@@ -106,15 +107,15 @@ impl UsageKey {
         Ok(text)
     }
 
-    /// Opens `text`, which was sealed under the base key for the usage, and answers the plain text.
+    /// Opens `text`, which was sealed under the base key for the usage, and returns the plain text.
     ///
     /// The tag is checked before anything is decrypted.
     ///
     /// # Errors
-    /// The first that holds:
+    /// The first that applies:
     /// - `Short`: there are fewer than 32 bytes (type 19) or 40 (type 20).
     /// - `Integrity`: the last 16 or 24 bytes aren't the tag of the rest.
-    /// - `OutOfMemory`: there was no room for the plain text.
+    /// - `OutOfMemory`: there is no memory for the plain text.
     ///
     /// Source: RFC 8009, section 5.
     pub fn open(&self, alloc: Global, text: &[u8]) -> Result<Vec<u8>, OpenFault>
@@ -125,7 +126,7 @@ impl UsageKey {
             → Opens (profile_of self.now.key) self.now.key.bytes self.now.usage text.now plain
             → MatchResult result
             (λ answer. answer.items ≡ plain) (λ fault. fault ≡ OpenFault.OutOfMemory) }
-        // Short or Integrity is answered exactly where nothing opens.
+        // Short or Integrity is answered exactly if nothing opens.
         ensures refused { (IsErrOf result OpenFault.Short ⊎ IsErrOf result OpenFault.Integrity)
             ↔ OpensToNothing (profile_of self.now.key) self.now.key.bytes self.now.usage text.now }
         ensures short { IsErrOf result OpenFault.Short ↔ IsShort (profile_of self.now.key) text.now }

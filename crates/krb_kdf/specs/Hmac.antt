@@ -5,7 +5,7 @@ use Rattle.std.specs.List.{flat_map}
 use Rattle.sha2.specs.Sha256.{sha256}
 use Rattle.sha2.specs.Sha512.{sha384}
 
--- H: the digest of a text, and B: the length in bytes of the blocks that H works through
+-- H: the digest of a text, and B: the length in bytes of the blocks that H processes
 pub record Hash : Type 0 where
   pub digest : List ℕ → List ℕ
   pub block_len : ℕ
@@ -18,7 +18,7 @@ sha256_hash = record { digest = sha256; block_len = 64 }
 abbrev pub sha384_hash : Hash
 sha384_hash = record { digest = sha384; block_len = 128 }
 
--- the key; one longer than a block is hashed first
+-- the key, hashed first if it is longer than a block
 abbrev pub short_key : Hash → List ℕ → List ℕ
 short_key h key = if nat_le (length key) h.block_len then key else h.digest key
 
@@ -30,7 +30,8 @@ block_key h key = short_key h key ++ replicate (h.block_len - length (short_key 
 abbrev pub masked : ℕ → List ℕ → List ℕ
 masked pad block = map (λ byte. bit_xor byte pad) block
 
--- H(K XOR opad, H(K XOR ipad, text)), where ipad repeats 0x36 and opad repeats 0x5C, for a K of one block
+-- H(K XOR opad, H(K XOR ipad, text)), where ipad repeats 0x36 and opad repeats 0x5C, for a K of one
+-- block
 unfoldable pub hmac_of : Hash → List ℕ → List ℕ → List ℕ
 hmac_of h block text = h.digest (masked 0x5c block ++ h.digest (masked 0x36 block ++ text))
 
@@ -38,6 +39,6 @@ hmac_of h block text = h.digest (masked 0x5c block ++ h.digest (masked 0x36 bloc
 unfoldable pub hmac : Hash → List ℕ → List ℕ → List ℕ
 hmac h key text = hmac_of h (block_key h key) text
 
--- a text that is lent in parts
+-- a text that is passed in parts
 abbrev pub joined : List (Bor (List ℕ)) → List ℕ
 joined parts = flat_map (λ part. part.now) parts

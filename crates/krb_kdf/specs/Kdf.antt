@@ -1,5 +1,5 @@
--- Key derivation (RFC 8009, sections 3 and 5). Keys, labels and texts are lists of bytes, key
--- usages are numbers below 2 ^ 32, and k counts bits.
+-- Key derivation (RFC 8009, sections 3 and 5). Keys, labels and texts are lists of bytes; key
+-- usages are numbers below 2 ^ 32; k counts bits.
 use Rattle.std.specs.Prelude.{ℕ, ◌/◌, List, [], ◌∷◌, ◌++◌, take}
 use Rattle.std.specs.Int.{w32, to_be_bytes}
 use Rattle.krb_kdf.specs.Hmac.{Hash, hmac, hmac_of}
@@ -16,7 +16,7 @@ kdf_text label k = to_be_bytes w32 1 ++ label ++ 0 ∷ [] ++ to_be_bytes w32 k
 unfoldable pub kdf : Hash → List ℕ → List ℕ → ℕ → List ℕ
 kdf h key label k = take (k / 8) (hmac h key (kdf_text label k))
 
--- the same, where the key is given as one block of HMAC
+-- the same for a key given as one block of HMAC
 unfoldable pub kdf_of : Hash → List ℕ → List ℕ → ℕ → List ℕ
 kdf_of h block label k = take (k / 8) (hmac_of h block (kdf_text label k))
 
@@ -30,7 +30,7 @@ purpose_byte Ki = 0x55
 abbrev pub label : ℕ → Purpose → List ℕ
 label usage purpose = to_be_bytes w32 usage ++ purpose_byte purpose ∷ []
 
--- the purposes beside encryption
+-- the purposes except encryption
 abbrev pub purpose_of : MacPurpose → Purpose
 purpose_of MacKc = Kc
 purpose_of MacKi = Ki

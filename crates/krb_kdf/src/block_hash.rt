@@ -3,7 +3,7 @@ ghost use Rattle.krb_kdf.specs.Hmac.{Hash, sha256_hash, sha384_hash};
 
 use sha2::{Digest, Sha256, Sha384};
 
-/// A hash function of `sha2` with digests of `N` bytes, known to be one that HMAC is defined over.
+/// A hash function of `sha2` with digests of `N` bytes over which HMAC is known to be defined.
 pub(crate) trait BlockHash<const N: usize>: Digest<Output = [u8; N]> + Clone {
     // The function, with the length of its blocks.
     ghost hash: { Hash };

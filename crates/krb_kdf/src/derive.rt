@@ -7,8 +7,8 @@ use crate::hmac::{HmacSha256, HmacSha384};
 use crate::purpose::{MacPurpose, Purpose};
 
 impl HmacSha256 {
-    /// Derives the key of `purpose` for the key usage `usage`, where this is a base key of encryption type 19:
-    /// 16 bytes.
+    /// Derives the key of `purpose` for the key usage `usage` from this base key of encryption type
+    /// 19: 16 bytes.
     ///
     /// Source: RFC 8009, sections 3 and 5.
     pub fn derive_19(&self, usage: u32, purpose: Purpose) -> [u8; 16]
@@ -19,8 +19,8 @@ impl HmacSha256 {
 }
 
 impl HmacSha384 {
-    /// Derives the encryption key Ke for the key usage `usage`, where this is a base key of encryption type 20:
-    /// 32 bytes.
+    /// Derives the encryption key Ke for the key usage `usage` from this base key of encryption
+    /// type 20: 32 bytes.
     ///
     /// Source: RFC 8009, sections 3 and 5.
     pub fn derive_20_ke(&self, usage: u32) -> [u8; 32]
@@ -29,8 +29,8 @@ impl HmacSha384 {
         first_bytes(&self.code(&[&kdf_text(usage, Purpose::Ke, 256)]))
     }
 
-    /// Derives the key of `purpose` for the key usage `usage`, where this is a base key of encryption type 20:
-    /// 24 bytes.
+    /// Derives the key of `purpose` for the key usage `usage` from this base key of encryption type
+    /// 20: 24 bytes.
     ///
     /// Source: RFC 8009, sections 3 and 5.
     pub fn derive_20(&self, usage: u32, purpose: MacPurpose) -> [u8; 24]

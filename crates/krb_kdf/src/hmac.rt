@@ -10,8 +10,8 @@ const INNER_PAD: u8 = 0x36;
 
 const OUTER_PAD: u8 = 0x5c;
 
-/// A key of HMAC with SHA-256, made ready: the block of the key, and the hashers that have worked through it
-/// under either pad. It is held in place.
+/// A prepared key of HMAC with SHA-256: the block of the key, and the two hashers that have
+/// processed it under each pad. It is held in place.
 ///
 /// In a clause it is the list of the block's 64 bytes.
 #[derive(Drop)]
@@ -31,7 +31,7 @@ impl Model for HmacSha256 {
 }
 
 impl HmacSha256 {
-    /// Makes a key ready. A key of any length will do: one longer than 64 bytes stands for its digest.
+    /// Prepares a key of any length. A key longer than 64 bytes is replaced by its digest.
     ///
     /// Source: RFC 2104, sections 2 and 4.
     pub fn new(key: &[u8]) -> HmacSha256
@@ -45,7 +45,7 @@ impl HmacSha256 {
         }
     }
 
-    /// A copy of this key. It is ready too, and nothing is hashed for it.
+    /// Returns a copy of this key, which is prepared too. Hashes nothing.
     pub fn copy(&self) -> HmacSha256
         ensures { result ≡ self.now }
     {
@@ -56,9 +56,9 @@ impl HmacSha256 {
         }
     }
 
-    /// The HMAC of a text under this key: 32 bytes.
+    /// Returns the HMAC of a text under this key: 32 bytes.
     ///
-    /// The text is the parts joined, in order; there may be none, and each may be empty.
+    /// The text is the parts joined in order. There may be no parts, and each part may be empty.
     ///
     /// Source: RFC 2104, section 2.
     #[tactic(auto, unfolding(crate::specs::Hmac::hmac_of))]
@@ -69,8 +69,8 @@ impl HmacSha256 {
     }
 }
 
-/// A key of HMAC with SHA-384, made ready: the block of the key, and the hashers that have worked through it
-/// under either pad. It is held in place.
+/// A prepared key of HMAC with SHA-384: the block of the key, and the two hashers that have
+/// processed it under each pad. It is held in place.
 ///
 /// In a clause it is the list of the block's 128 bytes.
 #[derive(Drop)]
@@ -90,7 +90,7 @@ impl Model for HmacSha384 {
 }
 
 impl HmacSha384 {
-    /// Makes a key ready. A key of any length will do: one longer than 128 bytes stands for its digest.
+    /// Prepares a key of any length. A key longer than 128 bytes is replaced by its digest.
     ///
     /// Source: RFC 2104, sections 2 and 4.
     pub fn new(key: &[u8]) -> HmacSha384
@@ -104,7 +104,7 @@ impl HmacSha384 {
         }
     }
 
-    /// A copy of this key. It is ready too, and nothing is hashed for it.
+    /// Returns a copy of this key, which is prepared too. Hashes nothing.
     pub fn copy(&self) -> HmacSha384
         ensures { result ≡ self.now }
     {
@@ -115,9 +115,9 @@ impl HmacSha384 {
         }
     }
 
-    /// The HMAC of a text under this key: 48 bytes.
+    /// Returns the HMAC of a text under this key: 48 bytes.
     ///
-    /// The text is the parts joined, in order; there may be none, and each may be empty.
+    /// The text is the parts joined in order. There may be no parts, and each part may be empty.
     ///
     /// Source: RFC 2104, section 2.
     #[tactic(auto, unfolding(crate::specs::Hmac::hmac_of))]
@@ -128,10 +128,10 @@ impl HmacSha384 {
     }
 }
 
-/// The HMAC with SHA-256 of a text under `key`: 32 bytes.
+/// Returns the HMAC with SHA-256 of a text under `key`: 32 bytes.
 ///
-/// The text is the parts joined, in order; there may be none, and each may be empty. A key of
-/// any length will do: one longer than 64 bytes stands for its digest.
+/// The text is the parts joined in order. There may be no parts, and each part may be empty. The
+/// key may have any length. If it is longer than 64 bytes, it is replaced by its digest.
 ///
 /// Source: RFC 2104, section 2.
 #[tactic(auto, unfolding(crate::specs::Hmac::hmac))]
@@ -141,10 +141,10 @@ pub fn hmac_sha256(key: &[u8], parts: &[&[u8]]) -> [u8; 32]
     HmacSha256::new(key).code(parts)
 }
 
-/// The HMAC with SHA-384 of a text under `key`: 48 bytes.
+/// Returns the HMAC with SHA-384 of a text under `key`: 48 bytes.
 ///
-/// The text is the parts joined, in order; there may be none, and each may be empty. A key of
-/// any length will do: one longer than 128 bytes stands for its digest.
+/// The text is the parts joined in order. There may be no parts, and each part may be empty. The
+/// key may have any length. If it is longer than 128 bytes, it is replaced by its digest.
 ///
 /// Source: RFC 2104, section 2.
 #[tactic(auto, unfolding(crate::specs::Hmac::hmac))]

@@ -19,7 +19,7 @@
 //! let ke: [u8; 16] = ready.derive_19(2, Purpose::Ke);
 //! ```
 //!
-//! No call refuses its arguments or takes memory.
+//! No call refuses its arguments or allocates memory.
 #![tactic(auto)]
 
 mod block_hash;

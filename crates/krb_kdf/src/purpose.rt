@@ -7,7 +7,7 @@ pub enum Purpose {
     Kc,
     /// Encryption.
     Ke,
-    /// The integrity of what is encrypted.
+    /// The integrity of encrypted data.
     Ki,
 }
 
@@ -26,13 +26,13 @@ impl Purpose {
     }
 }
 
-/// What a key of encryption type 20 is derived for, other than encryption, whose key is longer
-/// (RFC 8009, section 5).
+/// What a key of encryption type 20 is derived for, except encryption, whose key is longer (RFC
+/// 8009, section 5).
 #[derive(Clone, Copy, Debug, PartialEq, Eq)]
 pub enum MacPurpose {
     /// Checksums.
     Kc,
-    /// The integrity of what is encrypted.
+    /// The integrity of encrypted data.
     Ki,
 }
 

@@ -1,4 +1,4 @@
--- What the edits of a keytab in place change. A file is its version, its records and its end.
+-- How edits change a keytab in place. A file is its version, its records and its end.
 use Rattle.std.specs.Prelude.{◌≡◌, ◌⊎◌, ℕ, ◌+◌, ◌-◌, ◌<◌, ◌≤◌, List, [], ◌∷◌, ◌++◌, length, replicate, All, ⊤}
 use Rattle.std.specs.List.{flat_map}
 use Rattle.krb_keytab.specs.Entry.{KeytabEntry}
@@ -21,7 +21,8 @@ pub record IsMadeOf (bytes : List ℕ) (records : List KeytabRecord) (end : List
 abbrev pub zero_hole : ℕ → KeytabRecord
 zero_hole count = hole (replicate count 0)
 
--- the record of the entry of this index, counted among the entries alone, becomes a hole of zero bytes of the same size
+-- the record of the entry of this index, counted among the entries alone, becomes a hole of zero
+-- bytes of the same size
 pub record MakesHole (old : List ℕ) (index : ℕ) (new : List ℕ) : Type 0 where
   pub before : List KeytabRecord
   pub removed : KeytabEntry
@@ -33,7 +34,7 @@ pub record MakesHole (old : List ℕ) (index : ℕ) (new : List ℕ) : Type 0 wh
   pub old_is : IsMadeOf old (before ++ entry removed short_kvno rest ∷ after) end
   pub new_is : IsMadeOf new (before ++ zero_hole (length (entry_bytes removed short_kvno rest)) ∷ after) end
 
--- the list has one entry less, that of this index
+-- the list has one entry less: the one of this index
 pub record LosesEntry (old : List ℕ) (index : ℕ) (new : List ℕ) : Type 0 where
   pub before : List KeytabEntry
   pub removed : KeytabEntry
@@ -50,7 +51,7 @@ pub record LacksEntry (bytes : List ℕ) (index : ℕ) : Type 0 where
 
 -- ---- adding
 
--- the record is no hole of at least so many bytes, its size among them
+-- the record isn't a hole of at least so many bytes, including its size
 abbrev pub LacksRoom : ℕ → KeytabRecord → Type 0
 LacksRoom size (hole ignored) = length (record_bytes (hole ignored)) < size
 LacksRoom size (entry e short_kvno rest) = ⊤
@@ -66,13 +67,13 @@ pub record FillsHole (old : List ℕ) (added : KeytabEntry) (new : List ℕ) : T
   pub old_is : IsMadeOf old (before ++ hole ignored ∷ after) end
   pub new_is : IsMadeOf new (before ++ padded_record added (length (record_bytes (hole ignored)) - record_length added) ∷ after) end
 
--- a keytab of these records, and in none of them there is room for the entry
+-- a keytab of these records, none of which has room for the entry
 pub record IsFull (bytes : List ℕ) (added : KeytabEntry) (records : List KeytabRecord) : Type 0 where
   pub end : List ℕ
   pub is : IsMadeOf bytes records end
   pub no_room : All (LacksRoom (record_length added)) records
 
--- no hole is long enough: the entry's record stands in place of the end
+-- no hole is long enough: the entry's record replaces the end
 pub record Appends (old : List ℕ) (added : KeytabEntry) (new : List ℕ) : Type 0 where
   pub records : List KeytabRecord
   pub old_is : IsFull old added records
@@ -81,14 +82,14 @@ pub record Appends (old : List ℕ) (added : KeytabEntry) (new : List ℕ) : Typ
 abbrev pub AddsEntry : List ℕ → KeytabEntry → List ℕ → Type 0
 AddsEntry old added new = FillsHole old added new ⊎ Appends old added new
 
--- the list has this entry more, and the others stay
+-- the list has this entry more, and the others stay the same
 pub record GainsEntry (old : List ℕ) (added : KeytabEntry) (new : List ℕ) : Type 0 where
   pub before : List KeytabEntry
   pub after : List KeytabEntry
   pub old_list : IsKeytab old (before ++ after)
   pub new_list : IsKeytab new (before ++ added ∷ after)
 
--- no hole is long enough, and the bytes of the longer file would be more, or not more, than a file has at most
+-- no hole is long enough, and this holds of the length that the longer file would have
 pub record WouldGrow (old : List ℕ) (added : KeytabEntry) (Bound : ℕ → Type 0) : Type 0 where
   pub records : List KeytabRecord
   pub old_is : IsFull old added records
@@ -97,7 +98,8 @@ pub record WouldGrow (old : List ℕ) (added : KeytabEntry) (Bound : ℕ → Typ
 abbrev pub WouldPass : List ℕ → KeytabEntry → Type 0
 WouldPass old added = WouldGrow old added (λ count. file_limit < count)
 
--- why an entry isn't added: a fault of the file; or the longer file would pass the limit, or wants memory
+-- why an entry isn't added: a fault of the file; or the longer file would pass the limit; or memory
+-- is lacking
 abbrev pub IsRefusal : List ℕ → KeytabEntry → KeytabFault → Type 0
 IsRefusal old added TooLong = IsFaultOf old TooLong ⊎ WouldPass old added
 IsRefusal old added OutOfMemory = WouldGrow old added (λ count. count ≤ file_limit)

@@ -1,10 +1,11 @@
--- An entry of a keytab as plain values, and which entries a file has room for.
+-- An entry of a keytab as plain values, and which entries fit into a file.
 use Rattle.std.specs.Prelude.{ℕ, ◌<◌, ◌^◌, ℤ, List, ◌++◌, length, codes, All, FitsSigned}
 use Rattle.std.specs.Int.{w16, w32}
 use Rattle.std.specs.Fmt.{decimal, signed_decimal}
 use Rattle.krb_name.specs.declared.principal.Principal.{Principal}
 
--- whose key it is, when it was written (seconds since 1970), the key's version number, its enctype and its bytes
+-- whose key it is, when it was written (seconds since 1970), the key's version number, its enctype
+-- and its bytes
 pub record KeytabEntry : Type 0 where
   pub principal : Principal
   pub timestamp : ℕ
@@ -27,6 +28,6 @@ pub record FitsEntry (entry : KeytabEntry) : Type 0 where
   pub kvno : entry.kvno < 2 ^ 32
   pub etype : FitsSigned w16 entry.etype
 
--- what is shown of an entry where it is printed: version number and encryption type, and no byte of the key
+-- what is shown of a printed entry: version number and encryption type, and no byte of the key
 abbrev pub shown : KeytabEntry → List ℕ
 shown entry = codes "Entry(kvno " ++ (decimal entry.kvno ++ (codes ", etype " ++ (signed_decimal entry.etype ++ codes ")")))

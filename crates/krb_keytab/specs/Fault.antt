@@ -11,12 +11,12 @@ offset_of (Truncated at) = Some at
 offset_of (BadEntry at) = Some at
 offset_of _ = None
 
--- the same fault, of a source that was read
+-- the same fault, for a source that was read
 abbrev pub source_fault : ReadFault → KeytabFault
 source_fault source.Read = Read
 source_fault source.OutOfMemory = OutOfMemory
 
--- how many failed reads an answer tells of
+-- how many failed reads an answer reports
 abbrev pub failed_reads : {T : Type 0} → Result T KeytabFault → ℕ
 failed_reads (Err Read) = 1
 failed_reads _ = 0

@@ -1,4 +1,5 @@
--- The keytab file, version 0x0502 (MIT krb5, "Keytab file format"). Numbers are big-endian, signed ones in two's complement.
+-- The keytab file, version 0x0502 (MIT krb5, "Keytab file format"). Numbers are big-endian, signed
+-- ones in two's complement.
 use Rattle.std.specs.Prelude.{◌≡◌, ◌≢◌, ◌⊎◌, ℕ, ◌+◌, ◌<◌, ◌≤◌, ◌^◌, ◌==◌, ◌&&◌, ℤ, pos, neg_ℤ, unsigned_abs, List, [], ◌∷◌, ◌++◌, length, take, Result, Ok, Err, not, nat_le, All, FitsSigned, if◌then◌else◌}
 use Rattle.std.specs.Int.{w8, w16, w32, from_be_bytes}
 use Rattle.std.specs.List.{flat_map}
@@ -27,7 +28,8 @@ entry_bytes entry short_kvno rest =
     ++ (data_bytes w16 entry.key
     ++ rest)))))))
 
--- the first four bytes of the rest, where there are four and they aren't all zero, else the 8-bit number
+-- the first four bytes of the rest if there are four and they aren't all zero, else the 8-bit
+-- number
 abbrev pub full_kvno : ℕ → List ℕ → ℕ
 full_kvno short_kvno rest =
     if nat_le 4 (length rest) && not (from_be_bytes w32 (take 4 rest) == 0)
@@ -42,7 +44,7 @@ pub record IsEntry (entry : KeytabEntry) (short_kvno : ℕ) (rest : List ℕ) : 
 
 -- ---- the file
 
--- a hole, whose bytes say nothing, or an entry with its 8-bit version number and a rest
+-- a hole, whose bytes mean nothing, or an entry with its 8-bit version number and a rest
 pub data KeytabRecord : Type 0 where
   hole : List ℕ → KeytabRecord
   entry : KeytabEntry → ℕ → List ℕ → KeytabRecord
@@ -61,7 +63,8 @@ abbrev pub entries_of : KeytabRecord → List KeytabEntry
 entries_of (hole ignored) = []
 entries_of (entry e short_kvno rest) = e ∷ []
 
--- up to an offset the bytes are the version and whole records, with these entries; these bytes lie behind it
+-- up to an offset the bytes are the version and whole records, with these entries; the other bytes
+-- come after it
 pub record IsReached (bytes : List ℕ) (at : ℕ) (entries : List KeytabEntry) (behind : List ℕ) : Type 0 where
   pub records : List KeytabRecord
   pub fit : All FitsRecord records
@@ -83,7 +86,7 @@ pub record IsKeytab (bytes : List ℕ) (entries : List KeytabEntry) : Type 0 whe
 
 -- ---- faults
 
--- the bytes end in a record's size, or before the record is as long as its size
+-- the bytes end in a record's size, or before the record is as long as its size says
 pub record EndsEarly (behind : List ℕ) : Type 0 where
   pub size : ℤ
   pub body : List ℕ
@@ -94,7 +97,7 @@ pub record EndsEarly (behind : List ℕ) : Type 0 where
 abbrev pub IsCutOff : List ℕ → Type 0
 IsCutOff behind = ((0 < length behind) × (length behind < 4)) ⊎ EndsEarly behind
 
--- a record that is no hole is there, and no entry and rest fills it
+-- there is a record that isn't a hole, and no entry and rest fill it
 pub record HoldsNoEntry (behind : List ℕ) : Type 0 where
   pub body : List ℕ
   pub others : List ℕ
@@ -103,7 +106,8 @@ pub record HoldsNoEntry (behind : List ℕ) : Type 0 where
   pub size_fits : length body < 2 ^ 31
   pub no_entry : (e : KeytabEntry) (short_kvno : ℕ) (rest : List ℕ) → IsEntry e short_kvno rest → body ≢ entry_bytes e short_kvno rest
 
--- the bytes are within the limit, and at an offset that whole records reach stands something of this kind
+-- the bytes are within the limit, and there is something of this kind at an offset that whole
+-- records reach
 pub record StandsAt (bytes : List ℕ) (at : ℕ) (IsFaulty : List ℕ → Type 0) : Type 0 where
   pub limit : length bytes ≤ file_limit
   pub entries : List KeytabEntry
@@ -111,7 +115,7 @@ pub record StandsAt (bytes : List ℕ) (at : ℕ) (IsFaulty : List ℕ → Type 
   pub reached : IsReached bytes at entries behind
   pub faulty : IsFaulty behind
 
--- why the bytes are no keytab; an offset is that of a record's size
+-- why the bytes aren't a keytab; an offset is that of a record's size
 abbrev pub IsFaultOf : List ℕ → KeytabFault → Type 0
 IsFaultOf bytes TooLong = file_limit < length bytes
 IsFaultOf bytes Version = (length bytes ≤ file_limit) × ((others : List ℕ) → bytes ≢ version ++ others)
@@ -119,7 +123,7 @@ IsFaultOf bytes (Truncated at) = StandsAt bytes at IsCutOff
 IsFaultOf bytes (BadEntry at) = StandsAt bytes at HoldsNoEntry
 IsFaultOf bytes _ = ⊥
 
--- what there is to say of the bytes: their entries, or why they are no keytab
+-- what the bytes are: a keytab with these entries, or not a keytab, and why
 abbrev pub IsAnswerOf : List ℕ → Result (List KeytabEntry) KeytabFault → Type 0
 IsAnswerOf bytes (Ok entries) = IsKeytab bytes entries
 IsAnswerOf bytes (Err fault) = IsFaultOf bytes fault

@@ -1,4 +1,5 @@
--- Entries that are read one at a time: what a source has given so far, the entries that were given of it, and where their reader stands.
+-- Entries that are read one at a time: what a source has given so far, the entries that were read
+-- from it, and where their reader is.
 use Rattle.std.specs.Prelude.{◌≡◌, ◌≢◌, ◌⊎◌, ⊤, ℕ, ◌+◌, ◌<◌, ◌≤◌, ◌^◌, pos, Bool, true, false, List, [], ◌∷◌, ◌++◌, length, take, Option, Some, None, Result, Ok, Err}
 use Rattle.std.specs.Int.{w32}
 use Rattle.std.specs.Io.KnownBytes.{IsAtEnd}
@@ -11,23 +12,24 @@ use Rattle.krb_keytab.specs.declared.fault.KeytabFault.TheVariants.{Version, Tru
 use Rattle.krb_keytab.specs.declared.stage.Stage.{Stage}
 use Rattle.krb_keytab.specs.declared.stage.Stage.TheVariants.{Start, Records, End, Failed}
 
--- a reader: its source, the most bytes that were at hand at once, how many the source has given, and where it stands
+-- a reader: its source, the most bytes that were held at once, how many the source has given, and
+-- where it is
 pub record EntriesRead (S : Type 0) : Type 0 where
   pub source : S
   pub held : ℕ
   pub given : ℕ
   pub stage : Stage
 
--- ---- the last answer: the end, which is no fault, or a fault
+-- ---- the last answer: the end, which isn't a fault, or a fault
 
--- no record stands at an offset, and why
+-- there is no record at an offset, and why
 abbrev pub LacksRecord : ℕ → Option KeytabFault → List ℕ → Type 0
 LacksRecord at None behind = IsEnd behind
 LacksRecord at (Some (Truncated place)) behind = (place ≡ at) × IsCutOff behind
 LacksRecord at (Some (BadEntry place)) behind = (place ≡ at) × HoldsNoEntry behind
 LacksRecord at (Some _) behind = ⊥
 
--- whole records with these entries, up to an offset where none stands
+-- whole records with these entries, up to an offset at which there is none
 pub record Stops (bytes : List ℕ) (entries : List KeytabEntry) (last : Option KeytabFault) : Type 0 where
   pub at : ℕ
   pub behind : List ℕ
@@ -54,13 +56,14 @@ pub record Concludes (left : Option (List ℕ)) (bytes : List ℕ) (entries : Li
   pub all : IsAtEnd left
   pub stops : StopsSo bytes entries last
 
--- ---- where a reader stands
+-- ---- where a reader is
 
 -- the entries of the first whole records
 abbrev pub AreFirst : List ℕ → List KeytabEntry → Type 0
 AreFirst bytes entries = (entries ≡ []) ⊎ ((at : ℕ) × (behind : List ℕ) × IsReached bytes at entries behind)
 
--- the bytes end with the record of the last of the entries, and as many were at hand at once as it has behind its size
+-- the bytes end with the record of the last of the entries; as many bytes were held at once as the
+-- record has after its size
 pub record EndsWithEntry (held : ℕ) (bytes : List ℕ) (entries : List KeytabEntry) : Type 0 where
   pub before : List ℕ
   pub earlier : List KeytabEntry
@@ -73,7 +76,8 @@ pub record EndsWithEntry (held : ℕ) (bytes : List ℕ) (entries : List KeytabE
   pub entries_are : entries ≡ earlier ++ last ∷ []
   pub room : length (entry_bytes last short_kvno rest) ≤ held
 
--- how it stands to the bytes that are left of its source, to the most that it had at hand, to those that the source gave, and to the entries that it gave
+-- how the reader's place fits the bytes that its source still has, the most that it held, the bytes
+-- that the source gave, and the entries that the reader returned
 abbrev pub StandsTo : Option (List ℕ) → ℕ → Stage → List ℕ → List KeytabEntry → Type 0
 StandsTo left held Start bytes entries = (bytes ≡ []) × (entries ≡ [])
 StandsTo left held Records bytes entries = (length bytes ≤ file_limit) × EndsWithEntry held bytes entries
@@ -83,13 +87,14 @@ StandsTo left held (Failed Read) bytes entries = AreFirst bytes entries
 StandsTo left held (Failed OutOfMemory) bytes entries = AreFirst bytes entries
 StandsTo left held (Failed fault) bytes entries = Concludes left bytes entries (Some fault)
 
--- ---- what it has at hand
+-- ---- what it holds
 
--- no more than the record of an entry: its size, and as many bytes as that says; of a hole the size alone
+-- no more than the record of an entry: its size, and as many bytes as that says; of a hole the size
+-- alone
 abbrev pub IsPartOfRecord : List ℕ → Type 0
 IsPartOfRecord part = (length part ≤ 4) ⊎ ((size : ℕ) × (size < 2 ^ 31) × (body : List ℕ) × (part ≡ signed_bytes w32 (pos size) ++ body) × (length body ≤ size))
 
--- there are so many bytes of the version, or of one record behind whole records
+-- there are so many bytes of the version, or of one record after whole records
 pub record HasMet (bytes : List ℕ) (count : ℕ) : Type 0 where
   pub before : List ℕ
   pub part : List ℕ
@@ -98,13 +103,13 @@ pub record HasMet (bytes : List ℕ) (count : ℕ) : Type 0 where
   pub enough : count ≤ length part
   pub one : ((before ≡ []) × (length part ≤ 2)) ⊎ (((entries : List KeytabEntry) × IsReached before (length before) entries []) × IsPartOfRecord part)
 
--- a reader whose source gave these bytes, and which gave these entries
+-- a reader whose source gave these bytes, and which returned these entries
 pub record HasRead {S : Type 0} (left : Option (List ℕ)) (reader : EntriesRead S) (bytes : List ℕ) (entries : List KeytabEntry) : Type 0 where
   pub given : reader.given ≡ length bytes
   pub stands : StandsTo left reader.held reader.stage bytes entries
   pub held : HasMet bytes reader.held
 
--- ---- one answer more
+-- ---- one more answer
 
 -- an answer that says of an entry only that it was there
 abbrev pub passed : Result (Option KeytabEntry) KeytabFault → Result Bool KeytabFault
@@ -125,13 +130,13 @@ entries_after entries (Ok (Some e)) = entries ++ e ∷ []
 entries_after entries (Ok None) = entries
 entries_after entries (Err fault) = entries
 
--- the source gave a byte at least before an entry, and no more than a file has
+-- before an entry the source gave at least one byte, and no more than a file may have
 abbrev pub GivesMore : Result (Option KeytabEntry) KeytabFault → ℕ → ℕ → Type 0
 GivesMore (Ok (Some e)) old new = (old < new) × (new ≤ file_limit)
 GivesMore (Ok None) old new = ⊤
 GivesMore (Err fault) old new = ⊤
 
--- what is answered from here on, where that is known
+-- what is answered from now on, if that is known
 abbrev pub last_answer : Stage → Option (Result (Option KeytabEntry) KeytabFault)
 last_answer Start = None
 last_answer Records = None

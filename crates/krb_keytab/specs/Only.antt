@@ -4,7 +4,7 @@ use Rattle.krb_name.specs.declared.principal.Principal.{Principal}
 use Rattle.krb_name.specs.Name.{SameName}
 use Rattle.krb_keytab.specs.Entry.{KeytabEntry}
 
--- `kept` has just the entries of this name, in their order
+-- `kept` has exactly the entries of this name, in their order
 abbrev pub KeepsOnly : Principal → List KeytabEntry → List KeytabEntry → Type 0
 KeepsOnly name [] kept = kept ≡ []
 KeepsOnly name (entry ∷ entries) kept =

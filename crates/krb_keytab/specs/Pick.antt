@@ -1,4 +1,4 @@
--- Which entry of a keytab is taken for a principal, an encryption type and a version number.
+-- Which entry of a keytab is picked for a principal, an encryption type and a version number.
 use Rattle.std.specs.Prelude.{◌≡◌, ℕ, ◌<◌, ◌≤◌, ℤ, List, ◌∷◌, ◌++◌, Option, IfSome, All}
 use Rattle.krb_name.specs.declared.principal.Principal.{Principal}
 use Rattle.krb_name.specs.Name.{SameName}
@@ -13,12 +13,12 @@ pub record IsKeyOf (name : Principal) (etype : ℤ) (entry : KeytabEntry) : Type
   pub same_etype : entry.etype ≡ etype
   pub usable : IsUsable entry
 
--- and of the version number that is asked for, if one is
+-- and of the requested version number, if one is given
 pub record IsCandidate (name : Principal) (etype : ℤ) (kvno : Option ℕ) (entry : KeytabEntry) : Type 0 where
   pub key_of : IsKeyOf name etype entry
   pub version : IfSome kvno (λ number. entry.kvno ≡ number)
 
--- an entry of the list is so
+-- some entry of the list is so
 pub record HasEntry (P : KeytabEntry → Type 0) (entries : List KeytabEntry) : Type 0 where
   pub before : List KeytabEntry
   pub entry : KeytabEntry
@@ -35,21 +35,22 @@ pub record IsChosen (entries : List KeytabEntry) (name : Principal) (etype : ℤ
   pub above : All (λ other. IsCandidate name etype kvno other → other.kvno < entry.kvno) before
   pub highest : All (λ other. IsCandidate name etype kvno other → other.kvno ≤ entry.kvno) after
 
--- what is taken: an entry, or one of the three wants
+-- what is picked: an entry, or one of the three reasons for none
 pub data Choice : Type 0 where
   chosen : KeytabEntry → Choice
   no_name : Choice
   no_key : Choice
   no_version : Choice
 
--- no entry has the name; or one has, and none is a key of it; or one is, and none has the version number that is asked for
+-- no entry has the name; or some have, but none has a usable key of the type; or some have, but
+-- none has the requested version number
 abbrev pub IsChoice : List KeytabEntry → Principal → ℤ → Option ℕ → Choice → Type 0
 IsChoice entries name etype kvno (chosen entry) = IsChosen entries name etype kvno entry
 IsChoice entries name etype kvno no_name = All (λ entry. ¬ SameName entry.principal name) entries
 IsChoice entries name etype kvno no_key = HasEntry (λ entry. SameName entry.principal name) entries × All (λ entry. ¬ IsKeyOf name etype entry) entries
 IsChoice entries name etype kvno no_version = HasEntry (IsKeyOf name etype) entries × All (λ entry. ¬ IsCandidate name etype kvno entry) entries
 
--- an answer as a choice: the entry that is lent, as a value
+-- an answer as a choice: the borrowed entry, as a value
 abbrev pub choice_of : Picked → Choice
 choice_of (Entry entry) = chosen entry.now
 choice_of NoName = no_name

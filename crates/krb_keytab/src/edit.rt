@@ -14,15 +14,15 @@ use crate::writing::{clear_in, fill_in, put_record};
 use krb_name::FILE_LIMIT;
 
 impl Keytab {
-    /// Removes the entry `index`, counted from 0 among the entries, from the bytes of a file: its
-    /// record becomes a hole of the same size. The size is negated, and the other bytes of the
+    /// Removes the entry `index`, counted from 0 among the entries, from the bytes of a file. Its
+    /// record becomes a hole of the same size: the size is negated, and the other bytes of the
     /// record are set to zero.
     ///
-    /// The whole file is read before a byte is changed, and no memory is taken.
+    /// Reads the whole file before it changes a byte. Allocates no memory.
     ///
     /// # Errors
-    /// The first that holds; the bytes are then as before:
-    /// - Those of `parse`, save `OutOfMemory`, where the bytes are no keytab.
+    /// The first that applies. The bytes are then unchanged.
+    /// - Those of `parse` except `OutOfMemory`, if the bytes aren't a keytab.
     /// - `NoSuchEntry`: the keytab has no entry of this index.
     ///
     /// Source: MIT krb5, "Keytab file format".
@@ -50,18 +50,18 @@ impl Keytab {
     ///
     /// The first hole that is at least as long as the entry takes it: the hole's size becomes that
     /// of the entry's record, and what is left of the hole is set to zero. An end of the records
-    /// stays, with what follows it, and no memory is taken. Where no hole is long enough, the end is
-    /// cut off, and a record of exactly the entry's length is put there.
+    /// stays, with what follows it, and no memory is allocated. If no hole is long enough, the end
+    /// is cut off, and a record of exactly the entry's length is put there.
     ///
-    /// The whole file is read before a byte is changed.
+    /// Reads the whole file before it changes a byte.
     ///
     /// # Errors
-    /// The first that holds; the bytes are then as before:
-    /// - Those of `parse`, save `OutOfMemory`, where the bytes are no keytab.
+    /// The first that applies. The bytes are then unchanged.
+    /// - Those of `parse` except `OutOfMemory`, if the bytes aren't a keytab.
     /// - `TooLong`: no hole is long enough, and the longer file would have more than 16,777,216
     ///   bytes.
-    /// - `OutOfMemory`: no hole is long enough, `file` hasn't the capacity for the longer file, and there
-    ///   was no room for it.
+    /// - `OutOfMemory`: no hole is long enough, `file` doesn't have the capacity for the longer
+    ///   file, and there is no memory for it.
     ///
     /// Source: MIT krb5, "Keytab file format".
     pub fn add_in(file: &mut Vec<u8>, entry: &Entry) -> Result<(), KeytabFault>

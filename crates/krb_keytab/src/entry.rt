@@ -13,9 +13,9 @@ use std::marker::Model;
 
 /// An entry of a keytab: one key of a principal. A contract sees it as the record of its parts.
 ///
-/// It has at most 65,535 components, and each text and the key at most 65,535 bytes, so that a
-/// keytab has room for it. Its `Debug` shows version number and encryption type, and no byte of the
-/// key.
+/// It has at most 65,535 components, and each text and the key have at most 65,535 bytes, so a
+/// keytab has room for it. Its `Debug` shows the version number and the encryption type, and no
+/// byte of the key.
 #[derive(Drop)]
 pub struct Entry {
     principal: Principal,
@@ -43,11 +43,11 @@ impl Model for Entry {
 const MOST: usize = 65_535;
 
 impl Entry {
-    /// Makes an entry of its parts: whose key it is, when it was written (seconds since 1970-01-01),
-    /// the key's version number, its encryption type and its bytes.
+    /// Makes an entry from its parts: whose key it is, when it was written (seconds since
+    /// 1970-01-01), the key's version number, its encryption type and its bytes.
     ///
-    /// Answers `None` where `principal` has more than 65,535 components, or a component, the realm
-    /// or the key more than 65,535 bytes.
+    /// Returns `None` if `principal` has more than 65,535 components, or if a component, the realm
+    /// or the key has more than 65,535 bytes.
     pub fn new(
         principal: Principal,
         timestamp: u32,
@@ -95,7 +95,7 @@ impl Entry {
         }
     }
 
-    /// Lends the principal whose key it is.
+    /// Returns the principal whose key it is.
     pub fn principal(&self) -> &Principal
         ensures { result.now ≡ self.now.principal }
     {
@@ -109,21 +109,21 @@ impl Entry {
         self.principal.name_type
     }
 
-    /// Answers when the entry was written, in seconds since 1970-01-01.
+    /// Returns when the entry was written, in seconds since 1970-01-01.
     pub fn timestamp(&self) -> u32
         ensures { result ≡ self.now.timestamp }
     {
         self.timestamp
     }
 
-    /// Answers the key's version number.
+    /// Returns the key's version number.
     pub fn kvno(&self) -> u32
         ensures { result ≡ self.now.kvno }
     {
         self.kvno
     }
 
-    /// Answers the key's encryption type (RFC 3961, section 8; 19 and 20 are those of RFC 8009).
+    /// Returns the key's encryption type (RFC 3961, section 8; 19 and 20 are those of RFC 8009).
     pub fn etype(&self) -> i16
         ensures { result ≡ self.now.etype }
     {
@@ -136,7 +136,7 @@ impl Entry {
         ensures lengths { LengthsFit self.now.principal self.now.key }
     {
         let name = &self.principal;
-        // The size, the count of components, and behind them name type, timestamp, version number
+        // The size, the count of components, and after them name type, timestamp, version number
         // of 8 bits and encryption type; the version number of 32 bits.
         let fixed = 4 + 2 + 4 + 4 + 1 + 2 + 4;
         fixed
@@ -145,7 +145,7 @@ impl Entry {
             + data_length(self.key.as_slice())
     }
 
-    /// Lends the bytes of the key.
+    /// Returns the bytes of the key.
     pub fn key(&self) -> &[u8]
         ensures { result.now ≡ self.now.key }
     {
@@ -165,7 +165,7 @@ impl fmt::Debug for Entry {
     }
 }
 
-// How many bytes a text or a key takes behind its length, a number of 16 bits, with that number.
+// How many bytes a text or a key takes after its length, a number of 16 bits, with that number.
 fn data_length(bytes: &[u8]) -> usize
     requires { length bytes.now < 2 ^ 16 }
     ensures { result ≡ length (data_bytes w16 bytes.now) }

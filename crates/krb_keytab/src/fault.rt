@@ -1,4 +1,4 @@
-//! Why bytes are no keytab, or a keytab could not be had.
+//! Why bytes aren't a keytab, or no keytab can be returned.
 
 ghost use Rattle.std.specs.Prelude.{◌≡◌};
 ghost use Rattle.krb_keytab.specs.declared.fault.KeytabFault.TheVariants.{OutOfMemory, Read as ReadFailed};
@@ -7,11 +7,11 @@ use krb_name::{ReadFault, SourceFailed};
 use std::alloc::{AllocError, AllocFailed};
 use thiserror::Error;
 
-/// Why bytes are no keytab, or a keytab could not be had.
+/// Why bytes aren't a keytab, or no keytab can be returned.
 ///
-/// Where several hold, `TooLong` goes before all others, then `Version`, then the fault of the first
-/// record that has one. An offset counts bytes from the start of the file, is that of the first byte
-/// of a record's size, and is at most the length of the file.
+/// If several apply, `TooLong` comes before all others, then `Version`, then the fault of the first
+/// record that has one. An offset counts bytes from the start of the file. It is that of the first
+/// byte of a record's size, and is at most the length of the file.
 #[derive(Clone, Copy, Debug, PartialEq, Eq, Error)]
 pub enum KeytabFault {
     /// The file doesn't begin with 0x05 0x02.
@@ -20,13 +20,13 @@ pub enum KeytabFault {
     /// The file ends before this record does.
     #[error("the record at offset {at} is cut off")]
     Truncated {
-        /// Where the record's size stands, in bytes.
+        /// The offset of the record's size, in bytes.
         at: usize,
     },
     /// An entry doesn't fit into this record.
     #[error("the record at offset {at} holds no entry")]
     BadEntry {
-        /// Where the record's size stands, in bytes.
+        /// The offset of the record's size, in bytes.
         at: usize,
     },
     /// The file has, or would have, more than 16,777,216 bytes.
@@ -35,10 +35,10 @@ pub enum KeytabFault {
     /// The keytab has no entry of this index.
     #[error("there is no such entry")]
     NoSuchEntry,
-    /// The source could not be read.
+    /// The source couldn't be read.
     #[error("the file could not be read")]
     Read,
-    /// There was no room in memory.
+    /// There is no memory.
     #[error("out of memory")]
     OutOfMemory,
 }
@@ -46,7 +46,7 @@ pub enum KeytabFault {
 impl KeytabFault {
     ghost use Rattle.krb_keytab.specs.Fault.{offset_of};
 
-    /// Answers the offset of the record at fault, in bytes: that of `Truncated` and `BadEntry`.
+    /// Returns the offset of the faulty record, in bytes: that of `Truncated` and `BadEntry`.
     pub fn at(&self) -> Option<usize>
         ensures { result ≡ offset_of self.now }
     {

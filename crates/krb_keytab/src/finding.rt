@@ -1,4 +1,4 @@
-//! Finding the record that an edit is for. Each file is read to its end, so that its faults come first.
+//! Finding the record to edit. Each file is read to its end, so its faults come first.
 
 ghost use Rattle.std.specs.Prelude.{◌≡◌, MatchResult};
 ghost use Rattle.krb_name.specs.Field.{IsBytes};
@@ -10,26 +10,26 @@ use crate::next::next_record;
 use crate::opening::open;
 use crate::record::Record;
 
-/// Where a record lies in a file: the offset of its size, and the one behind its last byte.
+/// Where a record lies in a file: the offset of its size, and the offset after its last byte.
 #[derive(Drop)]
 pub(crate) struct Extent {
     pub(crate) from: usize,
     pub(crate) to: usize,
 }
 
-/// Where a record has room.
+/// Where there is room for a record.
 #[derive(Drop)]
 pub(crate) enum Room {
     /// In a hole.
     Hole(Extent),
-    /// In none; the records end at this offset.
+    /// Nowhere; the records end at this offset.
     End(usize),
 }
 
 /// Finds the record of the entry of this index, counted among the entries alone.
 ///
 /// # Errors
-/// Those of `Keytab::parse`, but for `OutOfMemory`.
+/// Those of `Keytab::parse` except `OutOfMemory`.
 pub(crate) fn find_entry(bytes: &[u8], index: usize) -> Result<Option<Extent>, KeytabFault>
     ensures bytes { IsBytes bytes.now }
     ensures found { MatchResult result (IsFoundEntry bytes.now index) (IsFaultOf bytes.now) }
@@ -58,7 +58,7 @@ pub(crate) fn find_entry(bytes: &[u8], index: usize) -> Result<Option<Extent>, K
 /// Finds the first hole that has room for a record of so many bytes, or the end of the records.
 ///
 /// # Errors
-/// Those of `Keytab::parse`, but for `OutOfMemory`.
+/// Those of `Keytab::parse` except `OutOfMemory`.
 pub(crate) fn find_room(bytes: &[u8], size: usize) -> Result<Room, KeytabFault>
     ensures bytes { IsBytes bytes.now }
     ensures found { MatchResult result (IsFoundRoom bytes.now size) (IsFaultOf bytes.now) }

@@ -38,15 +38,15 @@ impl Model for Keytab {
 impl Keytab {
     /// Parses the bytes of a file.
     ///
-    /// Memory is taken as entries are met, and not by a count or a length that the bytes don't bear
-    /// out.
+    /// Allocates memory as entries are read, and never because of a count or a length that the
+    /// bytes don't bear out.
     ///
     /// # Errors
-    /// `OutOfMemory` where there was no room for an entry; else the first that holds:
+    /// `OutOfMemory` if there is no memory for an entry; else the first that applies:
     /// - `TooLong`: there are more than 16,777,216 bytes.
     /// - `Version`: they don't begin with 0x05 0x02.
-    /// - `Truncated` or `BadEntry`, with the offset of the first record of which the bytes have too
-    ///   few, or that no entry fits into.
+    /// - `Truncated` or `BadEntry`, with the offset of the first record that has too few bytes, or
+    ///   that no entry fits into.
     ///
     /// Source: MIT krb5, "Keytab file format".
     pub fn parse(alloc: Global, bytes: &[u8]) -> Result<Keytab, KeytabFault>
@@ -54,7 +54,7 @@ impl Keytab {
         ensures fault { IfErr result (λ fault.
             fault ≢ KeytabFault.OutOfMemory → IsFaultOf bytes.now fault) }
 
-        // Where the bytes are a keytab, and where they have a fault, that is the answer.
+        // If the bytes are a keytab, or have a fault, that is the answer.
         ensures only { (answer : Result (List KeytabEntry) KeytabFault) → IsAnswerOf bytes.now answer
             → (result ≡ answer) ⊎ (result ≡ Err KeytabFault.OutOfMemory) }
         ensures offset { IfErr result (λ fault.
@@ -63,16 +63,17 @@ impl Keytab {
         Keytab::of_records(alloc, bytes)
     }
 
-    /// Reads a keytab off a source, to its end or to one byte past 16,777,216, as `parse` does off bytes.
+    /// Reads a keytab from a source, to its end or to one byte past 16,777,216, as `parse` does
+    /// from bytes.
     ///
-    /// Beside the entries the bytes of one record are held at a time, and a hole's bytes aren't kept.
+    /// Holds the entries and the bytes of one record at a time. A hole's bytes aren't kept.
     ///
     /// Condition: fewer than 18,446,744,073,709,551,615 reads of the source have failed so far.
     ///
     /// # Errors
-    /// - `Read`: a read of the source failed. Its count of failures grew, as it does for no other
-    ///   answer.
-    /// - Those of `parse`, for all the bytes that were still to come of the source.
+    /// - `Read`: a read of the source failed. The source's count of failures grew, as it does for
+    ///   no other answer.
+    /// - Those of `parse`, for all the bytes that the source still had.
     ///
     /// Source: MIT krb5, "Keytab file format".
     pub fn read<S: Source>(alloc: Global, source: &mut S) -> Result<Keytab, KeytabFault>
@@ -119,13 +120,13 @@ impl Keytab {
         }
     }
 
-    /// Writes the entries as the bytes of a file: their records, without a hole and without an end.
+    /// Writes the entries as the bytes of a file: their records, without holes and without an end.
     ///
-    /// The low 8 bits of a version number are written, and behind the key all 32.
+    /// Writes the low 8 bits of a version number, and all 32 bits after the key.
     ///
     /// # Errors
     /// - `TooLong`: there would be more than 16,777,216 bytes.
-    /// - `OutOfMemory`: there was no room for them.
+    /// - `OutOfMemory`: there is no memory for them.
     ///
     /// Source: MIT krb5, "Keytab file format".
     pub fn to_bytes(&self, alloc: Global) -> Result<Vec<u8>, KeytabFault>
@@ -146,7 +147,7 @@ impl Keytab {
         Ok(bytes)
     }
 
-    /// Lends the entries, in the order of the file.
+    /// Returns the entries, in the order of the file.
     pub fn entries(&self) -> &[Entry]
         ensures { result.now ≡ self.now }
     {
@@ -155,9 +156,10 @@ impl Keytab {
 
     /// Keeps only the entries of the principal `name`, in their order; the other keys are freed.
     ///
-    /// A service that answers to one name takes this keytab, so that a ticket for another name of the
-    /// same file isn't for it. Names are compared as by `Principal::same_name`: realm and components,
-    /// and not the name type. No memory is taken. If no entry has the name, none is left.
+    /// A service that answers to one name uses this keytab, so that it doesn't accept a ticket for
+    /// another name of the same file. Names are compared as by `Principal::same_name`: realm and
+    /// components, but not the name type. Allocates no memory. If no entry has the name, none is
+    /// left.
     pub fn only(mut self, name: &Principal) -> Keytab
         ensures only { KeepsOnly name.now self result }
         ensures named { All (λ entry. SameName entry.principal name.now) result }
@@ -168,12 +170,12 @@ impl Keytab {
     }
 
     /// Picks the entry for the principal `name`, the encryption type `etype` and the version number
-    /// `kvno`, if one is asked for.
+    /// `kvno`, if one is given.
     ///
-    /// Only usable keys count: of type 19 and 16 bytes, or of type 20 and 32 bytes (RFC 8009). With a
-    /// version number the first such entry of that number is the answer, and without one the first
-    /// of the highest number. Names are compared as by `Principal::same_name`. Nothing is decrypted,
-    /// and no memory is taken.
+    /// Only usable keys count: of type 19 and 16 bytes, or of type 20 and 32 bytes (RFC 8009). With
+    /// a version number, the first such entry of that number is picked; without one, the first of
+    /// the highest number. Names are compared as by `Principal::same_name`. Decrypts nothing and
+    /// allocates no memory.
     pub fn pick(&self, name: &Principal, etype: i32, kvno: Option<u32>) -> Picked<'_>
         ensures { IsPicked self.now name.now etype kvno result }
     {

@@ -1,4 +1,5 @@
-//! Laws over the definitions, for proofs to cite. Each function does nothing: its contract is the law.
+//! Laws over the definitions, for proofs to cite. Each function has an empty body: its contract is
+//! the law.
 
 ghost use Rattle.std.specs.Prelude.{◌≡◌, ◌≢◌, ◌≤◌, ◌++◌, ℕ, ℤ, IfSome, List, Option, Some, Result, length};
 ghost use Rattle.std.specs.Io.KnownBytes.{Consumes};
@@ -15,8 +16,8 @@ ghost use Rattle.krb_keytab.specs.declared.fault.KeytabFault.{KeytabFault};
 ghost use Rattle.krb_keytab.specs.declared.stage.Stage.{Stage};
 ghost use Rattle.krb_keytab.specs.declared.stage.Stage.TheVariants.{End, Failed, Records};
 
-/// Says that bytes are a keytab or have a fault; and that they are a keytab of one list of entries
-/// only, or have one fault only, and not both.
+/// States that bytes either are a keytab, of one list of entries only, or have a fault, and only
+/// one.
 pub fn each_file_has_one_answer()
     ensures some { (bytes : List ℕ) → IsBytes bytes
         → (answer : Result (List KeytabEntry) KeytabFault) × IsAnswerOf bytes answer }
@@ -24,44 +25,44 @@ pub fn each_file_has_one_answer()
         → IsAnswerOf bytes answer → IsAnswerOf bytes other → answer ≡ other }
 {}
 
-/// Says that there is a choice for each name, encryption type and version number: an entry, or one of
-/// the three wants.
+/// States that there is a choice for each name, encryption type and version number: an entry, or
+/// one of the three reasons why there is none.
 pub fn a_choice_exists()
     ensures { (entries : List KeytabEntry) (name : Principal) (etype : ℤ) (kvno : Option ℕ)
         → (choice : Choice) × IsChoice entries name etype kvno choice }
 {}
 
-/// Says that one choice is right.
+/// States that there is only one choice.
 pub fn each_choice_is_one()
     ensures { (entries : List KeytabEntry) (name : Principal) (etype : ℤ) (kvno : Option ℕ)
         (one other : Choice) → IsChoice entries name etype kvno one
         → IsChoice entries name etype kvno other → one ≡ other }
 {}
 
-/// Says that a keytab is made of one list of records and one end only: so there is one first hole
-/// that is long enough, and one place where the records end.
+/// States that a keytab consists of one list of records and one end only. So there is one first
+/// hole that is long enough, and one place where the records end.
 pub fn each_keytab_is_divided_once()
     ensures { (bytes : List ℕ) (records others : List KeytabRecord) (end other_end : List ℕ)
         → IsMadeOf bytes records end → IsMadeOf bytes others other_end
         → (records ≡ others) × (end ≡ other_end) }
 {}
 
-/// Says that the entries of a keytab are those of its records, in their order: so an entry that was added
-/// stands behind those of the records before its own.
+/// States that the entries of a keytab are those of its records, in their order. So an added entry
+/// comes after those of the records before its own.
 pub fn records_hold_the_entries()
     ensures { (bytes : List ℕ) (records : List KeytabRecord) (end : List ℕ)
         → IsMadeOf bytes records end → IsKeytab bytes (flat_map entries_of records) }
 {}
 
-/// Says that a fault lies within the bytes: at one of them, or at their end.
+/// States that the offset of a fault is that of one of the bytes, or their end.
 pub fn each_fault_lies_within()
     ensures { (bytes : List ℕ) (fault : KeytabFault) → IsFaultOf bytes fault
         → IfSome (offset_of fault) (λ at. at ≤ length bytes) }
 {}
 
-/// Says that the last answer of a reader is what is to be said of all the bytes that were to come of its
-/// source: where it is the end, they are a keytab of the entries that it gave; where it is a fault of
-/// the content, they have this fault.
+/// States that the last answer of a reader is right for all the bytes that its source had. If it is
+/// the end, the bytes are a keytab of the entries that it returned. If it is a fault of the
+/// content, the bytes have this fault.
 pub fn a_reader_tells_the_file()
     ensures end { (whole bytes : List ℕ) (left : Option (List ℕ)) (held : ℕ) (entries : List KeytabEntry)
         → Consumes (Some whole) left bytes → StandsTo left held End bytes entries → IsKeytab whole entries }
@@ -71,8 +72,8 @@ pub fn a_reader_tells_the_file()
         → IsFaultOf whole fault }
 {}
 
-/// Says that the entries that a reader gives of a keytab are its first ones, wherever the reader stands:
-/// none is skipped.
+/// States that the entries that a reader returns are the first ones of the keytab, wherever the
+/// reader is. None is skipped.
 pub fn a_reader_gives_the_first_entries()
     ensures { (whole bytes : List ℕ) (left : Option (List ℕ)) (held : ℕ) (stage : Stage)
         (all entries : List KeytabEntry) → Consumes (Some whole) left bytes
@@ -80,8 +81,9 @@ pub fn a_reader_gives_the_first_entries()
         → (others : List KeytabEntry) × (all ≡ entries ++ others) }
 {}
 
-/// Says that two readers of one file that stand behind an entry, and have met as many in all, met the same
-/// ones, and their sources gave the same bytes: those up to the end of this entry's record.
+/// States that if two readers of one file are after an entry, and have read the same number of
+/// entries, then they read the same ones, and their sources gave the same bytes: those up to the
+/// end of this entry's record.
 pub fn each_entry_ends_at_one_place()
     ensures { (whole bytes others : List ℕ) (left right : Option (List ℕ)) (held peak : ℕ)
         (entries more : List KeytabEntry)
@@ -90,7 +92,7 @@ pub fn each_entry_ends_at_one_place()
         → length entries ≡ length more → (bytes ≡ others) × (entries ≡ more) }
 {}
 
-/// Says that two readers of one file gave the same entries before a fault of the content.
+/// States that two readers of one file return the same entries before a fault of the content.
 pub fn each_reader_gives_the_same_entries()
     ensures { (whole bytes others : List ℕ) (left right : Option (List ℕ)) (held peak : ℕ)
         (entries more : List KeytabEntry) (fault other : KeytabFault)

@@ -1,8 +1,8 @@
 //! Keytabs: the files that hold the keys of services.
 //!
 //! A [`Keytab`] is the list of the entries of a file in MIT krb5's format, version 0x0502. It is
-//! parsed of bytes, or read of a `Source`, and written as bytes; an [`Entry`] is one key of one
-//! principal. The bytes of a file can also be edited in place: an entry is removed, or added.
+//! parsed from bytes or read from a `Source`, and written as bytes. An [`Entry`] is one key of one
+//! principal. Entries can also be removed from and added to the bytes of a file in place.
 //!
 //! ```rust
 //! let keytab = Keytab::read(alloc, &mut ReadSource::new(file))?;

@@ -1,4 +1,4 @@
-//! Reading one record off a cursor.
+//! Reading one record from a cursor.
 
 ghost use Rattle.std.specs.Prelude.{◌≡◌, Ok, Err, MatchResult};
 ghost use Rattle.krb_keytab.specs.Inner.Reading.{record_at};
@@ -8,10 +8,10 @@ use crate::record::Record;
 use crate::view::EntryView;
 use krb_name::{FileCursor, Short};
 
-/// Reads the record that begins here, and stands behind it.
+/// Reads the record that begins here, and moves past it.
 ///
 /// # Errors
-/// `Truncated` or `BadEntry`, with the offset where the cursor stood.
+/// `Truncated` or `BadEntry`, with the offset at which the cursor was.
 #[tactic(auto, unfolding(crate::specs::Inner::Reading::record_at))]
 pub(crate) fn next_record<'a>(cursor: &mut FileCursor<'a>) -> Result<Record<'a>, KeytabFault>
     ensures { MatchResult result

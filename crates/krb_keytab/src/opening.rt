@@ -1,4 +1,4 @@
-//! What a keytab begins with.
+//! The start of a keytab.
 
 ghost use Rattle.std.specs.Prelude.{◌≡◌, ◌≤◌, ◌++◌, IfOk, IfErr, length};
 ghost use Rattle.krb_name.specs.File.{file_limit};
@@ -7,10 +7,10 @@ ghost use Rattle.krb_keytab.specs.Format.{version, IsFaultOf};
 use crate::fault::KeytabFault;
 use krb_name::{FILE_LIMIT, FileCursor};
 
-/// The version of the format that is read and written, which a keytab begins with.
+/// The version of the format that is read and written. A keytab begins with it.
 pub(crate) const VERSION: u16 = 0x0502;
 
-/// Stands behind the version of a keytab.
+/// Moves past the version of a keytab.
 ///
 /// # Errors
 /// `TooLong` or `Version`.

@@ -7,7 +7,7 @@ use crate::entry::Entry;
 use crate::usable::{has_version, is_key};
 use krb_name::Principal;
 
-/// What there is in a keytab for a principal, an encryption type and a version number.
+/// What a keytab has for a principal, an encryption type and a version number.
 #[derive(Clone, Copy)]
 pub enum Picked<'a> {
     /// This entry.
@@ -16,7 +16,7 @@ pub enum Picked<'a> {
     NoName,
     /// No entry of that name has the encryption type and a key that is usable with it.
     NoKey,
-    /// None of these entries has the version number that was asked for.
+    /// None of these entries has the requested version number.
     NoVersion,
 }
 
@@ -24,7 +24,7 @@ impl<'a> Picked<'a> {
     ghost use Rattle.krb_keytab.specs.Pick.{IsPicked, choice_of};
     ghost use Rattle.krb_keytab.specs.Inner.Pick.{or_no_key, or_no_version};
 
-    // What is picked where one entry more is there.
+    // What is picked if there is one more entry.
     pub(crate) fn or_entry(
         self,
         entry: &'a Entry,

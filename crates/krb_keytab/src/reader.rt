@@ -18,10 +18,10 @@ use std::marker::Model;
 
 /// Reads the entries of a keytab from a source, one at a time.
 ///
-/// The bytes of one record are at hand at a time, in one buffer, whose room grows as they come, by at most
-/// 65,536 bytes before they are there, whatever length a record tells; a hole's bytes aren't kept. A contract
-/// sees the source, how many bytes of it were at hand at most, how many it gave, and where the reader
-/// stands.
+/// Holds the bytes of one record at a time, in one buffer. The buffer grows as the bytes come, by
+/// at most 65,536 bytes before they are there, whatever length a record gives. A hole's bytes
+/// aren't kept. A contract sees the source, how many bytes of it were held at most, how many it
+/// gave, and where the reader is.
 ///
 /// ```rust
 /// let mut reader = EntryReader::new(alloc, ReadSource::new(file));
@@ -55,7 +55,7 @@ impl<S> Model for EntryReader<S> {
 }
 
 impl<S: Source> EntryReader<S> {
-    /// Reads from `source`, of which nothing has been read yet. It takes no memory.
+    /// Reads from `source`, of which nothing has been read yet. Allocates no memory.
     pub fn new(alloc: Global, source: S) -> Self
         ensures source { result.source ≡ source }
         ensures start { HasRead (S.remaining source) result [] [] }
@@ -67,14 +67,14 @@ impl<S: Source> EntryReader<S> {
         }
     }
 
-    /// Lends the source.
+    /// Returns the source.
     pub fn source(&self) -> &S
         ensures { result.now ≡ self.now.source }
     {
         self.window.source()
     }
 
-    /// Gives the source back. Whatever it gave behind the last entry is lost.
+    /// Returns the source itself. Whatever it gave after the last entry is lost.
     pub fn into_source(self) -> S
         ensures { result ≡ self.source }
     {
@@ -82,10 +82,11 @@ impl<S: Source> EntryReader<S> {
         window.into_source()
     }
 
-    /// Answers how many bytes of the source were at hand at most: no more than the version has, or the
-    /// longest record of an entry so far, at a fault as many of its bytes as there were, and no more
-    /// than 16,777,216. The end of the records and a hole count as records of 4 bytes. Behind an entry
-    /// it is no less than its record has behind the size, and it never falls.
+    /// Returns how many bytes of the source were held at once at most: no more than the version
+    /// has, or the longest record of an entry so far, and no more than 16,777,216. At a fault, the
+    /// record has as many bytes as were there. The end of the records and a hole count as records
+    /// of 4 bytes. After an entry, the number is at least the length of its record after the size.
+    /// It never falls.
     pub fn held(&self) -> usize
         ensures held { result ≡ self.now.held }
         ensures limit { result ≤ file_limit }
@@ -93,30 +94,30 @@ impl<S: Source> EntryReader<S> {
         self.window.held()
     }
 
-    /// Reads on to the next entry, and answers it; or `None`, where the entries have ended.
+    /// Reads on to the next entry and returns it, or `None` if the entries have ended.
     ///
-    /// Behind an entry the source has given exactly the bytes up to the end of its record, and none of a
-    /// hole that follows; those behind the record's size were at hand together. Before the end or a fault
-    /// of the content is answered, the source is read to its end or to one byte past 16,777,216, and
-    /// nothing of this is kept; so the last answer is that of `Keytab::parse` for all the bytes. The end
-    /// and each fault, also `Read` and `OutOfMemory`, are answered again by each later call, which reads
-    /// nothing.
+    /// After an entry, the source has given exactly the bytes up to the end of its record, and none
+    /// of a hole that follows. The bytes after the record's size were held at once. Before the end
+    /// or a fault of the content is returned, the source is read to its end or to one byte past
+    /// 16,777,216, and nothing of this is kept; so the last answer is that of `Keytab::parse` for
+    /// all the bytes. The end and each fault, including `Read` and `OutOfMemory`, are returned
+    /// again by each later call, which reads nothing.
     ///
     /// Condition: fewer than 18,446,744,073,709,551,615 reads of the source have failed so far.
     ///
     /// # Errors
-    /// - `Read`: a read of the source failed. Its count of failures grew, as it does for no other
-    ///   answer.
-    /// - `OutOfMemory`: there was no room for a record or its entry.
-    /// - Else the first that holds of all the bytes: `TooLong`, `Version`, and `Truncated` or
-    ///   `BadEntry` with the offset of the first record of which there are too few bytes, or that no
-    ///   entry fits into.
+    /// - `Read`: a read of the source failed. The source's count of failures grew, as it does for
+    ///   no other answer.
+    /// - `OutOfMemory`: there is no memory for a record or its entry.
+    /// - Else the first that applies to all the bytes: `TooLong`, `Version`, and `Truncated` or
+    ///   `BadEntry` with the offset of the first record that has too few bytes, or that no entry
+    ///   fits into.
     ///
     /// Source: MIT krb5, "Keytab file format".
     pub fn next(&mut self, alloc: Global) -> Result<Option<Entry>, KeytabFault>
         requires { S.failure_count self.old.source < 2 ^ 64 - 1 }
 
-        // Whatever was read and given before: what the source gave now comes behind it.
+        // Whatever was read and given before: what the source gave now comes after it.
         ensures reads { (bytes : List ℕ) (entries : List KeytabEntry)
             → HasRead (S.remaining self.old.source) self.old bytes entries
             → (piece : List ℕ) × Consumes (S.remaining self.old.source) (S.remaining self.new.source) piece
@@ -143,17 +144,17 @@ impl<S: Source> EntryReader<S> {
         answer
     }
 
-    /// Reads on to the next entry as `next` does, and answers whether there is one; the entry isn't
-    /// made, and no memory is taken but for the bytes of its record.
+    /// Reads on to the next entry as `next` does, and returns whether there is one. The entry isn't
+    /// made, and memory is allocated only for the bytes of its record.
     ///
-    /// Behind an entry, at the end and at a fault the reader stands as after `next`: behind an entry the
-    /// source has given exactly the bytes up to the end of its record, and those behind the record's size
-    /// were at hand together. The two calls can be mixed.
+    /// At an entry, at the end and at a fault the reader is where `next` would have left it. After
+    /// an entry the source has given exactly the bytes up to the end of its record, and the bytes
+    /// after the record's size were held at once. The two calls can be mixed.
     ///
     /// Condition: fewer than 18,446,744,073,709,551,615 reads of the source have failed so far.
     ///
     /// # Errors
-    /// Those of `next`; `OutOfMemory` only where there was no room for a record.
+    /// Those of `next`; `OutOfMemory` only if there is no memory for a record.
     ///
     /// Source: MIT krb5, "Keytab file format".
     pub fn pass(&mut self) -> Result<bool, KeytabFault>

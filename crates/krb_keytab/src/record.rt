@@ -2,7 +2,7 @@
 
 use crate::view::EntryView;
 
-/// What stands at a place where a record may begin.
+/// What is at a place where a record may begin.
 #[derive(Drop)]
 pub(crate) enum Record<'a> {
     /// The records have ended.

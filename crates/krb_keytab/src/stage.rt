@@ -5,23 +5,23 @@ ghost use Rattle.std.specs.Prelude.{◌≡◌};
 use crate::entry::Entry;
 use crate::fault::KeytabFault;
 
-/// Where a reader of entries stands.
+/// Where a reader of entries is.
 #[derive(Clone, Copy, Debug, Drop)]
 pub(crate) enum Stage {
     /// Before the version.
     Start,
-    /// Behind the version and whole records.
+    /// After the version and whole records.
     Records,
     /// The entries have ended.
     End,
-    /// A fault was answered, and is the answer from here on.
+    /// A fault was returned, and is the answer from now on.
     Failed(KeytabFault),
 }
 
 impl Stage {
     ghost use Rattle.krb_keytab.specs.Items.{stage_after, stage_passed};
 
-    /// Where a reader stands once it has given this answer.
+    /// Where a reader is after it has given this answer.
     pub(crate) fn after(answer: &Result<Option<Entry>, KeytabFault>) -> Stage
         ensures { result ≡ stage_after answer.now }
     {
@@ -32,7 +32,7 @@ impl Stage {
         }
     }
 
-    /// Where a reader stands once it has answered so whether it passed an entry.
+    /// Where a reader is after it has answered whether it passed an entry.
     pub(crate) fn after_pass(answer: &Result<bool, KeytabFault>) -> Stage
         ensures { result ≡ stage_passed answer.now }
     {

@@ -1,4 +1,4 @@
-//! Reading a keytab record by record, with one record at hand.
+//! Reading a keytab record by record, with one record in memory.
 
 ghost use Rattle.std.specs.Prelude.{◌≡◌, ◌+◌, ◌-◌, ◌^◌, ◌<◌, ◌≤◌, pos, int_lt, true, false, FitsSigned, unsigned_abs, length, IfOk, IfErr, OnOk, OnErr, None, Some};
 ghost use Rattle.std.specs.Int.{w32};
@@ -46,7 +46,7 @@ pub(crate) fn read_version<S: Source>(window: &mut Window<S>) -> Result<(), Keyt
     }
 }
 
-/// Reads a keytab to its end, and answers its entries.
+/// Reads a keytab to its end, and returns its entries.
 pub(crate) fn read_entries<S: Source>(
     alloc: Global,
     window: &mut Window<S>,
@@ -70,7 +70,7 @@ pub(crate) fn read_entries<S: Source>(
     Ok(entries)
 }
 
-/// Reads records up to the next entry, and answers it; or none, where the records have ended.
+/// Reads records up to the next entry and returns it, or none if the records have ended.
 pub(crate) fn read_entry<S: Source>(
     alloc: Global,
     window: &mut Window<S>,
@@ -90,8 +90,8 @@ pub(crate) fn read_entry<S: Source>(
     }
 }
 
-/// Reads records up to the next entry, and answers whether there is one, whose bytes are then at hand
-/// behind the size of its record; there is none, where the records have ended.
+/// Reads records up to the next entry, and returns whether there is one. Its bytes after the size
+/// of its record are then buffered. There is none if the records have ended.
 pub(crate) fn pass_entry<S: Source>(window: &mut Window<S>) -> Result<bool, KeytabFault>
     requires reads { S.failure_count window.old.source < 2 ^ 64 - 1 }
     requires limit { window.old.given ≤ file_limit }
@@ -127,7 +127,7 @@ fn read_record<S: Source>(window: &mut Window<S>) -> Result<Found, KeytabFault>
     }
 }
 
-// Reads the size of a record; none, where the records have ended.
+// Reads the size of a record; none if the records have ended.
 fn read_size<S: Source>(window: &mut Window<S>) -> Result<Option<i32>, KeytabFault>
     requires reads { S.failure_count window.old.source < 2 ^ 64 - 1 }
     requires limit { window.old.given ≤ file_limit }
@@ -150,7 +150,7 @@ fn read_size<S: Source>(window: &mut Window<S>) -> Result<Option<i32>, KeytabFau
     Ok(Some(size))
 }
 
-// What is answered where fewer bytes than a size has are left.
+// What is answered if fewer bytes than a size has are left.
 fn last_behind(few: &[u8], at: usize) -> Result<Option<i32>, KeytabFault>
     ensures { IsFewAt at few.now result }
 {
@@ -183,7 +183,7 @@ fn size_of(bytes: &[u8]) -> Result<i32, Short>
     FileCursor::new(bytes).read_i32()
 }
 
-// Takes the bytes of a hole, behind its size.
+// Takes the bytes of a hole, after its size.
 fn pass_hole<S: Source>(window: &mut Window<S>, at: usize, size: i32) -> Result<Found, KeytabFault>
     requires reads { S.failure_count window.old.source < 2 ^ 64 - 1 }
     requires limit { window.old.given ≤ file_limit }
@@ -207,7 +207,7 @@ fn pass_hole<S: Source>(window: &mut Window<S>, at: usize, size: i32) -> Result<
     Ok(Found::Hole)
 }
 
-// Reads the bytes of an entry, behind their size.
+// Reads the bytes of an entry, after their size.
 fn read_body<S: Source>(window: &mut Window<S>, at: usize, size: i32) -> Result<Found, KeytabFault>
     requires reads { S.failure_count window.old.source < 2 ^ 64 - 1 }
     requires limit { window.old.given ≤ file_limit }

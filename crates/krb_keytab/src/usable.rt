@@ -14,7 +14,7 @@ const AES256_SHA384: i16 = 20;
 
 const AES256_KEY_LENGTH: usize = 32;
 
-/// Says whether the entry has this encryption type and a key that is usable with it.
+/// Returns whether the entry has this encryption type and a key that is usable with it.
 pub(crate) fn is_key(entry: &Entry, etype: i32) -> bool
     ensures { IsTrue result ↔ ((entry.now.etype ≡ etype) × IsUsable entry.now) }
 {
@@ -31,7 +31,7 @@ fn is_usable(entry: &Entry) -> bool
     }
 }
 
-/// Says whether the entry has the version number that is asked for, if one is.
+/// Returns whether the entry has the requested version number, if one is given.
 pub(crate) fn has_version(entry: &Entry, kvno: Option<u32>) -> bool
     ensures { IsTrue result ↔ IfSome kvno (λ number. entry.now.kvno ≡ number) }
 {

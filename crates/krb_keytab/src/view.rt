@@ -11,12 +11,12 @@ use krb_name::{Bytes, Components, FileCursor, Principal, Short};
 use std::alloc::{AllocError, Global};
 use std::marker::Model;
 
-/// An entry that is lent from the bytes of its record; nothing of it has been copied.
+/// An entry that borrows the bytes of its record; nothing of it has been copied.
 #[derive(Drop)]
 pub(crate) struct EntryView<'a> {
     component_count: u16,
     realm: &'a [u8],
-    // The components, and what lies behind them.
+    // The components, and what comes after them.
     components: &'a [u8],
     name_type: i32,
     timestamp: u32,
@@ -49,7 +49,7 @@ impl<'a> Model for EntryView<'a> {
 }
 
 impl<'a> EntryView<'a> {
-    /// Reads the entry at the front of the bytes of a record.
+    /// Reads the entry at the start of the bytes of a record.
     #[tactic(auto, unfolding(crate::specs::Inner::Entry::entry_at))]
     pub(crate) fn read(body: &'a [u8]) -> Result<EntryView<'a>, Short>
         ensures read { IfOk result (λ entry. entry_at body.now ≡ Some entry) }
@@ -93,7 +93,7 @@ impl<'a> EntryView<'a> {
     }
 }
 
-// The version number: that of 32 bits in the rest of a record, where it is there and isn't 0.
+// The version number: that of 32 bits in the rest of a record, if it is there and isn't 0.
 fn counting_kvno(short_kvno: u8, rest: &[u8]) -> u32
     ensures { result ≡ full_kvno short_kvno rest.now }
 {

@@ -1,4 +1,4 @@
-//! Writing records into bytes that are there.
+//! Writing records into existing bytes.
 
 ghost use Rattle.std.specs.Prelude.{◌≡◌, ◌+◌, ◌-◌, ◌<◌, ◌≤◌, ◌^◌, OnErr, OnOk, All, length, take, ◌++◌, vec_capacity};
 ghost use Rattle.std.specs.Int.{w8, w16, w32};
@@ -40,8 +40,8 @@ pub(crate) fn clear_in(file: &mut Vec<u8>, from: usize, to: usize)
     clear_record(&mut file[from..to]);
 }
 
-/// Cuts `file` off at an offset, and puts the record of `entry` there. Where there is no room in
-/// memory, `file` stays as it was.
+/// Cuts `file` off at an offset, and puts the record of `entry` there. If there is no memory,
+/// `file` is unchanged.
 pub(crate) fn put_record(file: &mut Vec<u8>, at: usize, entry: &Entry) -> Result<(), AllocError>
     requires at { at ≤ length file.old.items }
     requires most { at + record_length entry.now < 2 ^ 31 }

@@ -1,11 +1,12 @@
--- The values of messages by the names of their fields (RFC 4120, sections 5.2 to 5.9). For each kind: the fields that vary, the value
--- that they make (which nests them in pairs, in the order of their numbers, with a tt for each constant), and each field of a value.
+-- The values of messages by the names of their fields (RFC 4120, sections 5.2 to 5.9). For each
+-- kind: the fields that vary; the value that they make, which nests them in pairs, in the order of
+-- their numbers, with a tt for each constant; and each field of a value.
 use Rattle.std.specs.Prelude.{ℕ, ℤ, List, Option}
 use Rattle.krb_name.specs.declared.principal.Principal.{Principal}
 use Rattle.krb_der.specs.Kind.{leaf, octets, ValueOf}
 use Rattle.krb_msg.specs.Module.{typed, principal_name, encrypted_data, encryption_key, checksum, transited_encoding, ticket, ap_req, authenticator, enc_ticket_part, ap_rep, enc_ap_rep_part, krb_error}
 
--- one field, and those behind it
+-- one field, and those after it
 infixr 5 ◌▸◌
 abbrev pub ◌▸◌ : {A B : Type 0} → A → B → A × B
 a ▸ b = (a, b)
@@ -24,7 +25,8 @@ components_of v = v.1.0
 abbrev pub principal_in : List ℕ → ValueOf principal_name → Principal
 principal_in realm v = record { realm = realm; name_type = name_type_of v; components = components_of v }
 
--- ---- a type and bytes: EncryptionKey, Checksum, HostAddress, TransitedEncoding, and an element of AuthorizationData
+-- ---- a type and bytes: EncryptionKey, Checksum, HostAddress, TransitedEncoding, and an element of
+-- AuthorizationData
 abbrev pub typed_value : ℤ → List ℕ → ValueOf (typed (leaf octets))
 typed_value type bytes = type ▸ bytes ▸ tt
 

@@ -1,5 +1,5 @@
--- The messages of Kerberos 5 as kinds of elements (RFC 4120, sections 5.2 to 5.9 and appendix A): each field with its number, and
--- whether it may be left out.
+-- The messages of Kerberos 5 as kinds of elements (RFC 4120, sections 5.2 to 5.9 and appendix A):
+-- each field with its number, and whether it may be absent.
 use Rattle.krb_der.specs.Kind.{Kind, leaf, sequence, ends, must, may, each, field, application, int32, uint32, seq_number, microseconds, constant, octets, string, flags, time}
 
 -- SEQUENCE OF
@@ -33,7 +33,7 @@ checksum = typed (leaf octets)
 abbrev pub host_address : Kind
 host_address = typed (leaf octets)
 
--- ad-type and ad-data, again and again (section 5.2.6)
+-- ad-type and ad-data, any number of times (section 5.2.6)
 abbrev pub authorization_data : Kind
 authorization_data = sequence_of (typed (leaf octets))
 
@@ -49,7 +49,8 @@ ticket = application 1 (sequence
     (must (field 2 principal_name)
     (must (field 3 encrypted_data) ends)))))
 
--- authenticator-vno, crealm, cname, cksum, cusec, ctime, subkey, seq-number and authorization-data (section 5.5.1)
+-- authenticator-vno, crealm, cname, cksum, cusec, ctime, subkey, seq-number and authorization-data
+-- (section 5.5.1)
 abbrev pub authenticator : Kind
 authenticator = application 2 (sequence
     (must (field 0 (leaf (constant 5)))
@@ -62,7 +63,8 @@ authenticator = application 2 (sequence
     (may (field 7 (leaf seq_number))
     (may (field 8 authorization_data) ends))))))))))
 
--- flags, key, crealm, cname, transited, authtime, starttime, endtime, renew-till, caddr and authorization-data (section 5.3)
+-- flags, key, crealm, cname, transited, authtime, starttime, endtime, renew-till, caddr and
+-- authorization-data (section 5.3)
 abbrev pub enc_ticket_part : Kind
 enc_ticket_part = application 3 (sequence
     (must (field 0 (leaf flags))
@@ -101,7 +103,8 @@ enc_ap_rep_part = application 27 (sequence
     (may (field 2 encryption_key)
     (may (field 3 (leaf seq_number)) ends)))))
 
--- pvno, msg-type, ctime, cusec, stime, susec, error-code, crealm, cname, realm, sname, e-text and e-data (section 5.9.1)
+-- pvno, msg-type, ctime, cusec, stime, susec, error-code, crealm, cname, realm, sname, e-text and
+-- e-data (section 5.9.1)
 abbrev pub krb_error : Kind
 krb_error = application 30 (sequence
     (must (field 0 (leaf (constant 5)))
@@ -118,7 +121,7 @@ krb_error = application 30 (sequence
     (may (field 11 (leaf string))
     (may (field 12 (leaf octets)) ends))))))))))))))
 
--- the messages, of which each stands alone
+-- the messages, each of which comes alone
 pub data IsMessageKind : Kind → Type 0 where
   is_ticket : IsMessageKind ticket
   is_authenticator : IsMessageKind authenticator

@@ -1,4 +1,4 @@
--- Moments, as microseconds from 1970-01-01T00:00:00Z on.
+-- Moments, as microseconds since 1970-01-01T00:00:00Z.
 use Rattle.std.specs.Prelude.{ℕ, ℤ, pos, neg_ℤ, ◌+ℤ◌, ◌*ℤ◌, ◌≤ℤ◌}
 
 -- those of a second and of the microseconds after it

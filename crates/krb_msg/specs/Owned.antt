@@ -1,4 +1,4 @@
--- The values of messages that are owned: each field by its name.
+-- The values of owned messages: each field by its name.
 use Rattle.std.specs.Prelude.{List, map}
 use Rattle.std.specs.Option.{option_map}
 use Rattle.krb_name.specs.declared.principal.Principal.{Principal}

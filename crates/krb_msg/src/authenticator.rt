@@ -20,14 +20,14 @@ use krb_der::{
 use krb_name::Principal;
 use std::alloc::{AllocError, Global};
 
-/// An `Authenticator` (RFC 4120, section 5.5.1), whose texts and octets are slices of the input.
+/// An `Authenticator` (RFC 4120, section 5.5.1). Its texts and octets are slices of the input.
 #[derive(Drop)]
 pub struct AuthenticatorRef<'a> {
     /// The client's realm.
     pub crealm: &'a [u8],
     /// The client's name.
     pub cname: NameRef<'a>,
-    /// A checksum of what the application sends along.
+    /// A checksum over data that the application sends along.
     pub checksum: Option<TypedRef<'a>>,
     /// The microseconds of the client's time.
     pub cusec: Microseconds,
@@ -135,20 +135,21 @@ impl<'a> Row<'a> for AuthenticatorTail<'a> {
 impl<'a> Message<'a> for AuthenticatorRef<'a> {}
 
 impl<'a> AuthenticatorRef<'a> {
-    /// Reads a message of this type, which is all of the bytes. It takes no memory.
+    /// Reads a message of this type that takes up all of the bytes. Allocates no memory.
     ///
     /// # Errors
-    /// `TooLong` at 0 above 1,048,576 bytes. Else a fault by the rules of `krb_der`'s `specs::Fault`, at its offset.
+    /// `TooLong` at offset 0 if there are more than 1,048,576 bytes. Otherwise a fault by the rules
+    /// of `krb_der`'s `specs::Fault`, at its offset.
     pub fn parse(bytes: &'a [u8]) -> Result<AuthenticatorRef<'a>, Fault>
         ensures { Parses authenticator authenticator_of result bytes.entry.now }
     {
         krb_der::parse(bytes)
     }
 
-    /// A copy of the message.
+    /// Copies the message.
     ///
     /// # Errors
-    /// There was no room.
+    /// There is no memory.
     pub fn to_owned(&self, alloc: Global) -> Result<Authenticator, AllocError>
         ensures { IfOk result (λ made. owned_authenticator_of made ≡ authenticator_of self.now) }
     {
@@ -169,7 +170,7 @@ impl<'a> AuthenticatorRef<'a> {
 pub struct Authenticator {
     /// The client: `crealm` and `cname`.
     pub client: Principal,
-    /// A checksum of what the application sends along.
+    /// A checksum over data that the application sends along.
     pub checksum: Option<Typed>,
     /// The microseconds of the client's time.
     pub cusec: Microseconds,
@@ -227,11 +228,11 @@ impl Encode for Authenticator {
 }
 
 impl Authenticator {
-    /// The bytes of the message.
+    /// Returns the bytes of the message.
     ///
     /// # Errors
-    /// - `TooLong`: they would be more than 1,048,576.
-    /// - `OutOfMemory`: there was no room.
+    /// - `TooLong`: there would be more than 1,048,576 bytes.
+    /// - `OutOfMemory`: there is no memory.
     pub fn encode(&self, alloc: Global) -> Result<Vec<u8>, EncodeFault>
         ensures { IsEncoded authenticator (owned_authenticator_of self.now) result }
     {

@@ -16,10 +16,10 @@ use krb_der::{
 use std::alloc::{AllocError, Global};
 use std::marker::PhantomData;
 
-/// An `EncAPRepPart` (RFC 4120, section 5.5.2), whose octets are slices of the input.
+/// An `EncAPRepPart` (RFC 4120, section 5.5.2). Its octets are slices of the input.
 #[derive(Drop)]
 pub struct EncApRepRef<'a> {
-    /// The client's time, as its authenticator told it.
+    /// The client's time, as in its authenticator.
     pub ctime: Seconds,
     /// The microseconds of the client's time.
     pub cusec: Microseconds,
@@ -64,20 +64,21 @@ impl<'a> Element<'a> for EncApRepRef<'a> {
 impl<'a> Message<'a> for EncApRepRef<'a> {}
 
 impl<'a> EncApRepRef<'a> {
-    /// Reads a message of this type, which is all of the bytes. It takes no memory.
+    /// Reads a message of this type that takes up all of the bytes. Allocates no memory.
     ///
     /// # Errors
-    /// `TooLong` at 0 above 1,048,576 bytes. Else a fault by the rules of `krb_der`'s `specs::Fault`, at its offset.
+    /// `TooLong` at offset 0 if there are more than 1,048,576 bytes. Otherwise a fault by the rules
+    /// of `krb_der`'s `specs::Fault`, at its offset.
     pub fn parse(bytes: &'a [u8]) -> Result<EncApRepRef<'a>, Fault>
         ensures { Parses enc_ap_rep_part enc_ap_rep_part_of result bytes.entry.now }
     {
         krb_der::parse(bytes)
     }
 
-    /// A copy of the message.
+    /// Copies the message.
     ///
     /// # Errors
-    /// There was no room.
+    /// There is no memory.
     pub fn to_owned(&self, alloc: Global) -> Result<EncApRepPart, AllocError>
         ensures { IfOk result (λ made. owned_enc_ap_rep_part_of made ≡ enc_ap_rep_part_of self.now) }
     {
@@ -93,7 +94,7 @@ impl<'a> EncApRepRef<'a> {
 /// An `EncAPRepPart` (RFC 4120, section 5.5.2).
 #[derive(Drop)]
 pub struct EncApRepPart {
-    /// The client's time, as its authenticator told it.
+    /// The client's time, as in its authenticator.
     pub ctime: Seconds,
     /// The microseconds of the client's time.
     pub cusec: Microseconds,
@@ -125,11 +126,11 @@ impl Encode for EncApRepPart {
 }
 
 impl EncApRepPart {
-    /// The bytes of the message.
+    /// Returns the bytes of the message.
     ///
     /// # Errors
-    /// - `TooLong`: they would be more than 1,048,576.
-    /// - `OutOfMemory`: there was no room.
+    /// - `TooLong`: there would be more than 1,048,576 bytes.
+    /// - `OutOfMemory`: there is no memory.
     pub fn encode(&self, alloc: Global) -> Result<Vec<u8>, EncodeFault>
         ensures { IsEncoded enc_ap_rep_part (owned_enc_ap_rep_part_of self.now) result }
     {

@@ -1,4 +1,4 @@
-//! The sealed part of a ticket, owned.
+//! The sealed part of a ticket, as an owned value.
 
 ghost use Rattle.std.specs.Prelude.{◌<◌};
 ghost use Rattle.krb_der.specs.Writing.{IsEncoded};
@@ -27,11 +27,11 @@ pub struct EncTicketPart {
     pub transited: Typed,
     /// When the client was authenticated.
     pub authtime: Seconds,
-    /// From when on the ticket is valid; authtime where it is absent.
+    /// When the ticket becomes valid; if absent, at authtime.
     pub starttime: Option<Seconds>,
-    /// Until when the ticket is valid.
+    /// When the ticket expires.
     pub endtime: Seconds,
-    /// Until when the ticket can be renewed.
+    /// The end of the time in which the ticket can be renewed.
     pub renew_till: Option<Seconds>,
     /// The addresses that the ticket is for.
     pub caddr: Option<Vec<Typed>>,
@@ -86,11 +86,11 @@ impl Encode for EncTicketPart {
 }
 
 impl EncTicketPart {
-    /// The bytes of the message.
+    /// Returns the bytes of the message.
     ///
     /// # Errors
-    /// - `TooLong`: they would be more than 1,048,576.
-    /// - `OutOfMemory`: there was no room.
+    /// - `TooLong`: there would be more than 1,048,576 bytes.
+    /// - `OutOfMemory`: there is no memory.
     pub fn encode(&self, alloc: Global) -> Result<Vec<u8>, EncodeFault>
         ensures { IsEncoded enc_ticket_part (owned_enc_ticket_part_of self.now) result }
     {

@@ -14,7 +14,7 @@ use crate::typed::{TypedListRef, TypedRef, owned_list};
 use krb_der::{Cursor, Element, Fault, Field, Flags, Maybe, Message, Row, Seconds, Text};
 use std::alloc::{AllocError, Global};
 
-/// An `EncTicketPart` (RFC 4120, section 5.3), whose texts and octets are slices of the input.
+/// An `EncTicketPart` (RFC 4120, section 5.3). Its texts and octets are slices of the input.
 #[derive(Drop)]
 pub struct EncTicketRef<'a> {
     /// The ticket's flags: bit 7 is invalid, bit 12 transited-policy-checked.
@@ -29,11 +29,11 @@ pub struct EncTicketRef<'a> {
     pub transited: TypedRef<'a>,
     /// When the client was authenticated.
     pub authtime: Seconds,
-    /// From when on the ticket is valid; authtime where it is absent.
+    /// When the ticket becomes valid; if absent, at authtime.
     pub starttime: Option<Seconds>,
-    /// Until when the ticket is valid.
+    /// When the ticket expires.
     pub endtime: Seconds,
-    /// Until when the ticket can be renewed.
+    /// The end of the time in which the ticket can be renewed.
     pub renew_till: Option<Seconds>,
     /// The addresses that the ticket is for.
     pub caddr: Option<TypedListRef<'a>>,
@@ -151,20 +151,21 @@ impl<'a> Row<'a> for EncTicketTail<'a> {
 impl<'a> Message<'a> for EncTicketRef<'a> {}
 
 impl<'a> EncTicketRef<'a> {
-    /// Reads a message of this type, which is all of the bytes. It takes no memory.
+    /// Reads a message of this type that takes up all of the bytes. Allocates no memory.
     ///
     /// # Errors
-    /// `TooLong` at 0 above 1,048,576 bytes. Else a fault by the rules of `krb_der`'s `specs::Fault`, at its offset.
+    /// `TooLong` at offset 0 if there are more than 1,048,576 bytes. Otherwise a fault by the rules
+    /// of `krb_der`'s `specs::Fault`, at its offset.
     pub fn parse(bytes: &'a [u8]) -> Result<EncTicketRef<'a>, Fault>
         ensures { Parses enc_ticket_part enc_ticket_part_of result bytes.entry.now }
     {
         krb_der::parse(bytes)
     }
 
-    /// A copy of the message.
+    /// Copies the message.
     ///
     /// # Errors
-    /// There was no room.
+    /// There is no memory.
     pub fn to_owned(&self, alloc: Global) -> Result<EncTicketPart, AllocError>
         ensures { IfOk result (λ made. owned_enc_ticket_part_of made ≡ enc_ticket_part_of self.now) }
     {

@@ -10,8 +10,8 @@ use crate::typed::TypedRow;
 use krb_der::{Cursor, Element, Encode, EncodeFault, Fault, Field, Octets, Writer, write_sequence};
 use std::alloc::{AllocError, Global};
 
-/// A key of any type (`EncryptionKey`, RFC 4120, section 5.2.9), as a slice of the input. There is no `Debug`, so that no log
-/// shows a key.
+/// A key of any type (`EncryptionKey`, RFC 4120, section 5.2.9), as a slice of the input. There is
+/// no `Debug`, so no log shows a key.
 #[derive(Clone, Copy)]
 pub struct KeyRef<'a> {
     /// The encryption type that the key is for.
@@ -40,10 +40,10 @@ impl<'a> Element<'a> for KeyRef<'a> {
 }
 
 impl<'a> KeyRef<'a> {
-    /// A copy of the key.
+    /// Copies the key.
     ///
     /// # Errors
-    /// There was no room.
+    /// There is no memory.
     pub fn to_owned(&self, alloc: Global) -> Result<RawKey, AllocError>
         ensures { IfOk result (λ made. owned_key_of made ≡ key_of self.now) }
     {
@@ -54,7 +54,7 @@ impl<'a> KeyRef<'a> {
     }
 }
 
-/// A copy of the key, where there is one.
+/// A copy of the key, if there is one.
 pub(crate) fn owned_key(alloc: Global, key: &Option<KeyRef>) -> Result<Option<RawKey>, AllocError>
     ensures { IfOk result (λ made. option_map owned_key_of made ≡ option_map key_of key.now) }
 {
@@ -64,7 +64,8 @@ pub(crate) fn owned_key(alloc: Global, key: &Option<KeyRef>) -> Result<Option<Ra
     }
 }
 
-/// A key of any type (`EncryptionKey`, RFC 4120, section 5.2.9). There is no `Debug`, so that no log shows a key.
+/// A key of any type (`EncryptionKey`, RFC 4120, section 5.2.9). There is no `Debug`, so no log
+/// shows a key.
 #[derive(Drop)]
 pub struct RawKey {
     /// The encryption type that the key is for.

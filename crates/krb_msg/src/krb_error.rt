@@ -1,4 +1,4 @@
-//! Error messages that are owned.
+//! Error messages, as owned values.
 
 ghost use Rattle.std.specs.Prelude.{◌≡◌, ◌<◌};
 ghost use Rattle.std.specs.Option.{option_map};
@@ -18,7 +18,7 @@ use std::alloc::Global;
 /// A `KRB-ERROR` (RFC 4120, section 5.9.1).
 #[derive(Debug, Drop)]
 pub struct KrbError {
-    /// The client's time, where the request told it.
+    /// The client's time, if the request gave it.
     pub ctime: Option<Seconds>,
     /// The microseconds of the client's time.
     pub cusec: Option<Microseconds>,
@@ -138,11 +138,11 @@ impl Encode for KrbError {
 }
 
 impl KrbError {
-    /// The bytes of the message.
+    /// Returns the bytes of the message.
     ///
     /// # Errors
-    /// - `TooLong`: they would be more than 1,048,576.
-    /// - `OutOfMemory`: there was no room.
+    /// - `TooLong`: there would be more than 1,048,576 bytes.
+    /// - `OutOfMemory`: there is no memory.
     pub fn encode(&self, alloc: Global) -> Result<Vec<u8>, EncodeFault>
         ensures { IsEncoded krb_error (owned_krb_error_of self.now) result }
     {

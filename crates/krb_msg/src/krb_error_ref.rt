@@ -17,10 +17,10 @@ use krb_der::{
 };
 use std::alloc::{AllocError, Global};
 
-/// A `KRB-ERROR` (RFC 4120, section 5.9.1), whose texts and octets are slices of the input.
+/// A `KRB-ERROR` (RFC 4120, section 5.9.1). Its texts and octets are slices of the input.
 #[derive(Debug, Drop)]
 pub struct KrbErrorRef<'a> {
-    /// The client's time, where the request told it.
+    /// The client's time, if the request gave it.
     pub ctime: Option<Seconds>,
     /// The microseconds of the client's time.
     pub cusec: Option<Microseconds>,
@@ -171,20 +171,21 @@ fn octets_bytes<'a>(octets: Option<Octets<'a>>) -> Option<&'a [u8]>
 impl<'a> Message<'a> for KrbErrorRef<'a> {}
 
 impl<'a> KrbErrorRef<'a> {
-    /// Reads a message of this type, which is all of the bytes. It takes no memory.
+    /// Reads a message of this type that takes up all of the bytes. Allocates no memory.
     ///
     /// # Errors
-    /// `TooLong` at 0 above 1,048,576 bytes. Else a fault by the rules of `krb_der`'s `specs::Fault`, at its offset.
+    /// `TooLong` at offset 0 if there are more than 1,048,576 bytes. Otherwise a fault by the rules
+    /// of `krb_der`'s `specs::Fault`, at its offset.
     pub fn parse(bytes: &'a [u8]) -> Result<KrbErrorRef<'a>, Fault>
         ensures { Parses krb_error krb_error_of result bytes.entry.now }
     {
         krb_der::parse(bytes)
     }
 
-    /// A copy of the message.
+    /// Copies the message.
     ///
     /// # Errors
-    /// There was no room.
+    /// There is no memory.
     pub fn to_owned(&self, alloc: Global) -> Result<KrbError, AllocError>
         ensures { IfOk result (λ made. owned_krb_error_of made ≡ krb_error_of self.now) }
     {

@@ -1,4 +1,4 @@
-//! Laws of the messages. Each function is its contract, over the definitions alone: its body does nothing that is seen.
+//! Laws of the messages. Each function has a body without effect: its contract is the law.
 
 ghost use Rattle.std.specs.Prelude.{◌≡◌, ◌+◌, ◌≤◌, ◌++◌, ◌⊎◌, List, ℕ, length, None, Some};
 ghost use Rattle.krb_der.specs.declared.fault.Fault.{Fault};
@@ -12,7 +12,7 @@ ghost use Rattle.krb_msg.specs.Fields.{bytes_of, cipher_of, reply_enc_part, repl
 ghost use Rattle.krb_msg.specs.Numbers.{HasHighNumber};
 ghost use Rattle.krb_msg.specs.Module.{IsMessageKind, ap_req, ap_rep, enc_ap_rep_part, encryption_key};
 
-/// A spelling of a message has one value.
+/// A spelling of a message has only one value.
 pub fn one_value()
     ensures { (k : Kind) → IsMessageKind k → (v w : ValueOf k) (bytes : List ℕ)
         → Spells k v bytes → Spells k w bytes → v ≡ w }
@@ -20,8 +20,9 @@ pub fn one_value()
     krb_der::laws::one_value()
 }
 
-/// A value has at most one spelling without a negative sequence number, which is the one that `encode` writes, and at most one with
-/// a negative sequence number, and that only if its sequence number is above 2,147,483,647. It has no other.
+/// A value has at most one spelling without a negative sequence number: the one that `encode`
+/// writes. It has at most one spelling with a negative sequence number, and that only if its
+/// sequence number is above 2,147,483,647. It has no other spelling.
 pub fn one_spelling()
     ensures written { (k : Kind) → IsMessageKind k → (v : ValueOf k) (a b : List ℕ)
         → Writes k v a → Writes k v b → a ≡ b }
@@ -35,7 +36,8 @@ pub fn one_spelling()
     krb_der::laws::one_spelling()
 }
 
-/// No spelling begins another, of whichever types: where bytes begin with one and with another, they are the same.
+/// No spelling is a proper prefix of another, of whichever types: if bytes begin with two
+/// spellings, these are the same.
 pub fn no_prefix()
     ensures spelling { (k : Kind) → IsMessageKind k → (v w : ValueOf k) (a b x y : List ℕ)
         → Spells k v a → Spells k w b → a ++ x ≡ b ++ y → (a ≡ b) × (v ≡ w) }
@@ -45,7 +47,7 @@ pub fn no_prefix()
     krb_der::laws::no_prefix()
 }
 
-/// Bytes are a message of one type at most. So none are both a request and a reply.
+/// Bytes are a message of at most one type. So no bytes are both a request and a reply.
 pub fn one_type()
     ensures kind { (k l : Kind) → IsMessageKind k → IsMessageKind l → (v : ValueOf k) (w : ValueOf l) (bytes : List ℕ)
         → Spells k v bytes → Spells l w bytes → k ≡ l }
@@ -53,7 +55,7 @@ pub fn one_type()
         → Spells ap_req v bytes → Spells ap_rep w bytes → ⊥ }
 {}
 
-/// Bytes are a message of a type, or they are none.
+/// Whether bytes are a message of a type is decidable.
 pub fn decided()
     ensures { (k : Kind) → IsMessageKind k → (bytes : List ℕ)
         → ((v : ValueOf k) × IsMessage k v bytes) ⊎ ((v : ValueOf k) → IsMessage k v bytes → ⊥) }
@@ -61,7 +63,7 @@ pub fn decided()
     krb_der::laws::decided()
 }
 
-/// Bytes that are no message of a type have a fault by the rules.
+/// Bytes that aren't a message of a type have a fault by the rules.
 pub fn faulty()
     ensures { (k : Kind) → IsMessageKind k → (bytes : List ℕ)
         → ((v : ValueOf k) → IsMessage k v bytes → ⊥) → (fault : Fault) × IsFault k bytes fault }
@@ -69,7 +71,8 @@ pub fn faulty()
     krb_der::laws::faulty()
 }
 
-/// How long replies are at most: without a key the sealed part of one has at most 41 bytes, and such a part is never too long.
+/// The greatest length of replies: without a key the sealed part of a reply has at most 41 bytes,
+/// and such a part is never too long.
 pub fn reply_size()
     ensures without_key { (v : ValueOf enc_ap_rep_part) → reply_subkey v ≡ None → size_of enc_ap_rep_part v ≤ 41 }
     ensures with_key { (v : ValueOf enc_ap_rep_part) (key : ValueOf encryption_key) → reply_subkey v ≡ Some key

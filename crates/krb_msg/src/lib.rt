@@ -1,13 +1,17 @@
-//! The messages of the AP exchange (RFC 4120, sections 5.2 to 5.5 and 5.9), read in place, copied and written, and moments.
+//! The messages of the AP exchange (RFC 4120, sections 5.2 to 5.5 and 5.9), and moments. Messages
+//! are read in place, copied and written.
 //!
-//! `specs::Module` has each message as a kind of `krb_der`, which reads like the table of the RFC. A view, as [`TicketRef`],
-//! holds the fields of one message: numbers and times as values, texts and octets as slices of the input, lists as walks over
-//! the input. `parse` is `Ok` exactly on the spellings of the kind, with the one value that they spell; else it tells the first
-//! fault and its offset. It takes no memory.
+//! `specs::Module` has each message as a kind of `krb_der`, and reads like the table of the RFC. A
+//! view, such as [`TicketRef`], holds the fields of one message: numbers and times as values, texts
+//! and octets as slices of the input, lists as iterators over the input. `parse` returns `Ok`
+//! exactly for the spellings of the kind, with the one value that they spell. Otherwise it returns
+//! the first fault and its offset. It allocates no memory.
 //!
-//! An owned message, as [`Ticket`], holds copies: `to_owned` of a view makes one of the same value, and `encode` writes a spelling
-//! of that value. [`laws`] says that a spelling has one value, and a value one spelling, but for sequence numbers above
-//! 2,147,483,647: those are read also as the negative numbers of the same 32 bits, as some senders write them. `encode` never does.
+//! An owned message, such as [`Ticket`], holds copies: `to_owned` of a view makes one of the same
+//! value, and `encode` writes a spelling of that value. [`laws`] states that a spelling has one
+//! value, and a value one spelling, except for sequence numbers above 2,147,483,647. Those are also
+//! read as the negative numbers of the same 32 bits, because some senders write them so. `encode`
+//! never does.
 //!
 //! ```rust
 //! let request = ApReqRef::parse(bytes)?;

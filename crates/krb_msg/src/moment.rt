@@ -12,8 +12,8 @@ use krb_der::{Microseconds, Seconds};
 use std::cmp::Ordering;
 use std::marker::Model;
 
-/// A microsecond of the years 0000 to 9999. Moments are ordered by time. A contract sees one as its microseconds from
-/// 1970-01-01T00:00:00Z on, which before it are negative.
+/// A microsecond of the years 0000 to 9999. Moments are ordered by time. A contract sees a moment
+/// as its microseconds since 1970-01-01T00:00:00Z, which are negative before that.
 #[derive(Clone, Copy, Debug, PartialEq, Eq, Hash)]
 pub struct Moment {
     micros: i64,
@@ -33,8 +33,9 @@ impl Model for Moment {
 }
 
 impl Moment {
-    /// The moment so many microseconds after a second, which is counted from 1970-01-01T00:00:00Z. `None` outside the years 0000
-    /// to 9999, and from 1,000,000 microseconds on.
+    /// Returns the moment so many microseconds after a second, which is counted from
+    /// 1970-01-01T00:00:00Z. Returns `None` outside the years 0000 to 9999, or if there are
+    /// 1,000,000 microseconds or more.
     pub fn new(seconds: i64, micros: u32) -> Option<Moment>
         ensures { SomeIff result (IsSeconds seconds × (micros < 1_000_000)) (micros_of seconds micros) }
     {
@@ -46,7 +47,7 @@ impl Moment {
         })
     }
 
-    /// The moment of a message's time, so many microseconds after a second.
+    /// Returns the moment so many microseconds after a message's time, which is a second.
     pub fn at(second: Seconds, micros: Microseconds) -> Moment
         ensures { result ≡ micros_of second micros }
     {
@@ -55,14 +56,15 @@ impl Moment {
         }
     }
 
-    /// The microseconds from 1970-01-01T00:00:00Z on, which before it are negative.
+    /// Returns the microseconds since 1970-01-01T00:00:00Z, which are negative before that.
     pub fn micros(self) -> i64
         ensures { result ≡ self }
     {
         self.micros
     }
 
-    /// The second that the moment lies in, and the microseconds since it began, as messages tell them.
+    /// Returns the second in which the moment lies, and the microseconds since that second began,
+    /// as messages have them.
     pub fn parts(self) -> (Seconds, Microseconds)
         ensures { self ≡ micros_of result.0 result.1 }
     {

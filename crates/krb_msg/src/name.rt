@@ -46,10 +46,10 @@ impl<'a> Element<'a> for NameRef<'a> {
 }
 
 impl<'a> NameRef<'a> {
-    /// A copy of the name.
+    /// Copies the name.
     ///
     /// # Errors
-    /// There was no room.
+    /// There is no memory.
     pub fn to_owned(&self, alloc: Global) -> Result<Name, AllocError>
         ensures { IfOk result (λ made. owned_name_of made ≡ name_of self.now) }
     {
@@ -59,10 +59,10 @@ impl<'a> NameRef<'a> {
         })
     }
 
-    /// The principal of this name in a realm, as copies of both.
+    /// Returns the principal of this name in a realm, with copies of both.
     ///
     /// # Errors
-    /// There was no room.
+    /// There is no memory.
     pub fn to_principal(&self, alloc: Global, realm: &[u8]) -> Result<Principal, AllocError>
         ensures realm { IfOk result (λ made. made.realm ≡ realm.now) }
         ensures name { IfOk result (λ made. principal_name_of made ≡ name_of self.now) }
@@ -79,7 +79,7 @@ impl<'a> NameRef<'a> {
     }
 }
 
-/// A copy of the name, where there is one.
+/// A copy of the name, if there is one.
 pub(crate) fn owned_name(alloc: Global, name: &Option<NameRef>) -> Result<Option<Name>, AllocError>
     ensures { IfOk result (λ made. option_map owned_name_of made ≡ option_map name_of name.now) }
 {
@@ -89,7 +89,7 @@ pub(crate) fn owned_name(alloc: Global, name: &Option<NameRef>) -> Result<Option
     }
 }
 
-/// A `PrincipalName` (RFC 4120, section 5.2.2): a name that tells no realm.
+/// A `PrincipalName` (RFC 4120, section 5.2.2): a name without a realm.
 #[derive(Debug, Drop)]
 pub struct Name {
     /// The name type (RFC 4120, section 6.2).
@@ -108,7 +108,7 @@ impl Encode for Name {
     }
 }
 
-/// The name of a principal without its realm, to be written where it stands.
+/// The name of a principal without its realm, ready to be written.
 #[derive(Clone, Copy)]
 pub(crate) struct NameIn<'a>(pub(crate) &'a Principal);
 

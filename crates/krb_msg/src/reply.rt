@@ -14,7 +14,7 @@ use krb_der::{
 };
 use std::alloc::{AllocError, Global};
 
-/// An `AP-REP` (RFC 4120, section 5.5.2), whose octets are slices of the input.
+/// An `AP-REP` (RFC 4120, section 5.5.2). Its octets are slices of the input.
 #[derive(Debug, Drop)]
 pub struct ApRepRef<'a> {
     /// The sealed `EncAPRepPart`.
@@ -50,20 +50,21 @@ impl<'a> Element<'a> for ApRepRef<'a> {
 impl<'a> Message<'a> for ApRepRef<'a> {}
 
 impl<'a> ApRepRef<'a> {
-    /// Reads a message of this type, which is all of the bytes. It takes no memory.
+    /// Reads a message of this type that takes up all of the bytes. Allocates no memory.
     ///
     /// # Errors
-    /// `TooLong` at 0 above 1,048,576 bytes. Else a fault by the rules of `krb_der`'s `specs::Fault`, at its offset.
+    /// `TooLong` at offset 0 if there are more than 1,048,576 bytes. Otherwise a fault by the rules
+    /// of `krb_der`'s `specs::Fault`, at its offset.
     pub fn parse(bytes: &'a [u8]) -> Result<ApRepRef<'a>, Fault>
         ensures { Parses ap_rep ap_rep_of result bytes.entry.now }
     {
         krb_der::parse(bytes)
     }
 
-    /// A copy of the message.
+    /// Copies the message.
     ///
     /// # Errors
-    /// There was no room.
+    /// There is no memory.
     pub fn to_owned(&self, alloc: Global) -> Result<ApRep, AllocError>
         ensures { IfOk result (λ made. owned_ap_rep_of made ≡ ap_rep_of self.now) }
     {
@@ -98,11 +99,11 @@ impl Encode for ApRep {
 }
 
 impl ApRep {
-    /// The bytes of the message.
+    /// Returns the bytes of the message.
     ///
     /// # Errors
-    /// - `TooLong`: they would be more than 1,048,576.
-    /// - `OutOfMemory`: there was no room.
+    /// - `TooLong`: there would be more than 1,048,576 bytes.
+    /// - `OutOfMemory`: there is no memory.
     pub fn encode(&self, alloc: Global) -> Result<Vec<u8>, EncodeFault>
         ensures { IsEncoded ap_rep (owned_ap_rep_of self.now) result }
     {

@@ -1,4 +1,4 @@
-//! Texts that stand one after another.
+//! Texts in a row.
 
 ghost use Rattle.std.specs.Prelude.{refl, ◌≡◌, IfOk};
 ghost use Rattle.std.specs.Iterator.{YieldsFirstBy, item_count};
@@ -11,8 +11,8 @@ use krb_name::{Bytes, Components};
 use std::alloc::{AllocError, Global};
 use std::marker::Model;
 
-/// Texts of a message, one after another (a SEQUENCE OF KerberosString, RFC 4120, section 5.2.1), as slices of the input. A
-/// contract sees them as their list.
+/// A row of texts of a message (a SEQUENCE OF KerberosString, RFC 4120, section 5.2.1), as slices
+/// of the input. A contract sees them as their list.
 #[derive(Debug, Drop)]
 pub struct Texts<'a> {
     content: Cursor<'a>,
@@ -31,7 +31,7 @@ impl<'a> Model for Texts<'a> {
 }
 
 impl<'a> Texts<'a> {
-    /// Walks over the texts, in their order.
+    /// Returns an iterator over the texts, in their order.
     pub fn iter(&self) -> TextsIter<'a>
         ensures { result ≡ self.now }
     {
@@ -40,10 +40,10 @@ impl<'a> Texts<'a> {
         }
     }
 
-    /// Copies of the texts, in their order.
+    /// Copies the texts, in their order.
     ///
     /// # Errors
-    /// There was no room.
+    /// There is no memory.
     pub fn to_owned(&self, alloc: Global) -> Result<Components, AllocError>
         ensures { IfOk result (λ made. made ≡ self.now) }
     {
@@ -55,7 +55,8 @@ impl<'a> Texts<'a> {
     }
 }
 
-/// A walk over [`Texts`], which takes no memory. A contract sees it as the texts that are left.
+/// An iterator over [`Texts`] that allocates no memory. A contract sees it as the texts that are
+/// left.
 #[derive(Debug, Drop)]
 pub struct TextsIter<'a> {
     left: Cursor<'a>,
@@ -88,7 +89,7 @@ impl<'a> Iterator for TextsIter<'a> {
     }
 }
 
-/// A copy of the text, where there is one.
+/// A copy of the text, if there is one.
 pub(crate) fn owned_text(alloc: Global, text: &Option<&[u8]>) -> Result<Option<Bytes>, AllocError>
     ensures { IfOk result (λ made. made ≡ option_map (λ x. x.now) text.now) }
 {

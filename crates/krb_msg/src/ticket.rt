@@ -15,12 +15,12 @@ use krb_der::{
 use krb_name::Principal;
 use std::alloc::{AllocError, Global};
 
-/// What was sealed (`EncryptedData`, RFC 4120, section 5.2.9), as a slice of the input.
+/// Sealed data (`EncryptedData`, RFC 4120, section 5.2.9), as a slice of the input.
 #[derive(Clone, Copy, Debug, PartialEq, Eq)]
 pub struct EncryptedRef<'a> {
     /// The encryption type.
     pub etype: i32,
-    /// The version number of the key, where it is told.
+    /// The version number of the key, if it is given.
     pub kvno: Option<u32>,
     /// The sealed bytes.
     pub cipher: &'a [u8],
@@ -52,10 +52,10 @@ impl<'a> Element<'a> for EncryptedRef<'a> {
 }
 
 impl<'a> EncryptedRef<'a> {
-    /// A copy of it.
+    /// Copies the value.
     ///
     /// # Errors
-    /// There was no room.
+    /// There is no memory.
     pub fn to_owned(&self, alloc: Global) -> Result<Encrypted, AllocError>
         ensures { IfOk result (λ made. owned_encrypted_of made ≡ encrypted_of self.now) }
     {
@@ -67,12 +67,12 @@ impl<'a> EncryptedRef<'a> {
     }
 }
 
-/// What was sealed (`EncryptedData`, RFC 4120, section 5.2.9).
+/// Sealed data (`EncryptedData`, RFC 4120, section 5.2.9).
 #[derive(Debug, Drop)]
 pub struct Encrypted {
     /// The encryption type.
     pub etype: i32,
-    /// The version number of the key, where it is told.
+    /// The version number of the key, if it is given.
     pub kvno: Option<u32>,
     /// The sealed bytes.
     pub cipher: Vec<u8>,
@@ -99,7 +99,7 @@ impl Encode for Encrypted {
     }
 }
 
-/// A `Ticket` (RFC 4120, section 5.3), whose texts and octets are slices of the input.
+/// A `Ticket` (RFC 4120, section 5.3). Its texts and octets are slices of the input.
 #[derive(Debug, Drop)]
 pub struct TicketRef<'a> {
     /// The service's realm.
@@ -144,20 +144,21 @@ impl<'a> Element<'a> for TicketRef<'a> {
 impl<'a> Message<'a> for TicketRef<'a> {}
 
 impl<'a> TicketRef<'a> {
-    /// Reads a ticket, which is all of the bytes. It takes no memory.
+    /// Reads a ticket that takes up all of the bytes. Allocates no memory.
     ///
     /// # Errors
-    /// `TooLong` at 0 above 1,048,576 bytes. Else a fault by the rules of `krb_der`'s `specs::Fault`, at its offset.
+    /// `TooLong` at offset 0 if there are more than 1,048,576 bytes. Otherwise a fault by the rules
+    /// of `krb_der`'s `specs::Fault`, at its offset.
     pub fn parse(bytes: &'a [u8]) -> Result<TicketRef<'a>, Fault>
         ensures { Parses ticket ticket_of result bytes.entry.now }
     {
         krb_der::parse(bytes)
     }
 
-    /// A copy of the message.
+    /// Copies the message.
     ///
     /// # Errors
-    /// There was no room.
+    /// There is no memory.
     pub fn to_owned(&self, alloc: Global) -> Result<Ticket, AllocError>
         ensures { IfOk result (λ made. owned_ticket_of made ≡ ticket_of self.now) }
     {
@@ -199,11 +200,11 @@ impl Encode for Ticket {
 }
 
 impl Ticket {
-    /// The bytes of the message.
+    /// Returns the bytes of the message.
     ///
     /// # Errors
-    /// - `TooLong`: they would be more than 1,048,576.
-    /// - `OutOfMemory`: there was no room.
+    /// - `TooLong`: there would be more than 1,048,576 bytes.
+    /// - `OutOfMemory`: there is no memory.
     pub fn encode(&self, alloc: Global) -> Result<Vec<u8>, EncodeFault>
         ensures { IsEncoded ticket (owned_ticket_of self.now) result }
     {

@@ -1,4 +1,4 @@
-//! A number that says a type, and bytes of that type.
+//! A number that names a type, and bytes of that type.
 
 ghost use Rattle.std.specs.Prelude.{refl, ◌≡◌, IfOk};
 ghost use Rattle.std.specs.Iterator.{YieldsFirstBy, item_count};
@@ -12,8 +12,9 @@ use krb_der::{Cursor, Element, Encode, EncodeFault, Fault, Field, Octets, Writer
 use std::alloc::{AllocError, Global};
 use std::marker::Model;
 
-/// Bytes, and the number of their type: a checksum, an address, an element of authorization data, or a transited encoding (RFC
-/// 4120, sections 5.2.9, 5.2.5, 5.2.6 and 5.3). The bytes are a slice of the input.
+/// Bytes, and the number of their type: a checksum, an address, an element of authorization data,
+/// or a transited encoding (RFC 4120, sections 5.2.9, 5.2.5, 5.2.6 and 5.3). The bytes are a slice
+/// of the input.
 #[derive(Clone, Copy, Debug, PartialEq, Eq)]
 pub struct TypedRef<'a> {
     /// The type: `cksumtype`, `addr-type`, `ad-type` or `tr-type`.
@@ -44,10 +45,10 @@ impl<'a> Element<'a> for TypedRef<'a> {
 }
 
 impl<'a> TypedRef<'a> {
-    /// A copy of it.
+    /// Copies the value.
     ///
     /// # Errors
-    /// There was no room.
+    /// There is no memory.
     pub fn to_owned(&self, alloc: Global) -> Result<Typed, AllocError>
         ensures { IfOk result (λ made. owned_typed_of made ≡ typed_of self.now) }
     {
@@ -58,7 +59,7 @@ impl<'a> TypedRef<'a> {
     }
 }
 
-/// A copy of it, where it is there.
+/// A copy of it, if it is there.
 pub(crate) fn owned_typed(
     alloc: Global,
     typed: &Option<TypedRef>,
@@ -71,8 +72,8 @@ pub(crate) fn owned_typed(
     }
 }
 
-/// Bytes, and the number of their type: a checksum, an address, an element of authorization data, or a transited encoding (RFC
-/// 4120, sections 5.2.9, 5.2.5, 5.2.6 and 5.3).
+/// Bytes, and the number of their type: a checksum, an address, an element of authorization data,
+/// or a transited encoding (RFC 4120, sections 5.2.9, 5.2.5, 5.2.6 and 5.3).
 #[derive(Debug, Drop)]
 pub struct Typed {
     /// The type: `cksumtype`, `addr-type`, `ad-type` or `tr-type`.
@@ -95,8 +96,8 @@ impl Encode for Typed {
     }
 }
 
-/// Addresses, or elements of authorization data, one after another, as slices of the input. A contract sees them as the list of
-/// their types and bytes.
+/// A row of addresses, or of elements of authorization data, as slices of the input. A contract
+/// sees them as the list of their types and bytes.
 #[derive(Debug, Drop)]
 pub struct TypedListRef<'a> {
     content: Cursor<'a>,
@@ -116,7 +117,7 @@ impl<'a> Model for TypedListRef<'a> {
 }
 
 impl<'a> TypedListRef<'a> {
-    /// Walks over the elements, in their order.
+    /// Returns an iterator over the elements, in their order.
     pub fn iter(&self) -> TypedIter<'a>
         ensures { result ≡ self.now }
     {
@@ -125,10 +126,10 @@ impl<'a> TypedListRef<'a> {
         }
     }
 
-    /// Copies of the elements, in their order.
+    /// Copies the elements, in their order.
     ///
     /// # Errors
-    /// There was no room.
+    /// There is no memory.
     pub fn to_owned(&self, alloc: Global) -> Result<Vec<Typed>, AllocError>
         ensures { IfOk result (λ made. owned_list_of made.items ≡ self.now) }
     {
@@ -140,7 +141,8 @@ impl<'a> TypedListRef<'a> {
     }
 }
 
-/// A walk over a [`TypedListRef`], which takes no memory. A contract sees it as the elements that are left.
+/// An iterator over [`TypedListRef`] that allocates no memory. A contract sees it as the elements
+/// that are left.
 #[derive(Debug, Drop)]
 pub struct TypedIter<'a> {
     left: Cursor<'a>,
@@ -171,7 +173,7 @@ impl<'a> Iterator for TypedIter<'a> {
     }
 }
 
-/// Copies of the elements, where there is a list.
+/// Copies of the elements, if there is a list.
 pub(crate) fn owned_list(
     alloc: Global,
     list: &Option<TypedListRef>,

@@ -1,18 +1,19 @@
--- What is read at a place in the bytes of a file. Numbers are big-endian, signed ones in two's complement.
+-- What is read at a place in the bytes of a file. Numbers are big-endian, signed ones in two's
+-- complement.
 use Rattle.std.specs.Prelude.{ℕ, zero, suc, ◌+◌, ℤ, List, [], ◌∷◌, ◌++◌, length, take, drop, Option, Some, None, option_and_then, nat_le, if◌then◌else◌}
 use Rattle.std.specs.Int.{Width, byte_len, to_be_bytes, from_be_bytes, cast_signed, cast_unsigned}
 
--- how many bytes lie before a place, and the bytes from there on
+-- how many bytes come before a place, and the bytes from there on
 pub record Place : Type 0 where
   pub at : ℕ
   pub rest : List ℕ
 
--- one field is read, and then what is behind it
+-- one field is read, and then what comes after it
 infixl 10 ◌>>=◌
 abbrev pub ◌>>=◌ : {A B : Type 0} → Option A → (A → Option B) → Option B
 read >>= others = option_and_then others read
 
--- ---- what is read, and the place behind it; nothing, where the bytes end before
+-- ---- what is read, and the place after it; nothing, if the bytes end before
 
 unfoldable pub bytes_at : ℕ → Place → Option (List ℕ × Place)
 bytes_at count place =
@@ -30,13 +31,13 @@ signed_at w place = do
   read ← number_at w place
   Some (cast_signed w read.0, read.1)
 
--- bytes behind their length, a number of this width
+-- bytes after their length, a number of this width
 unfoldable pub data_at : Width → Place → Option (List ℕ × Place)
 data_at w place = do
   count ← number_at w place
   bytes_at count.0 count.1
 
--- so many fields of one kind, one behind the other
+-- so many fields of one kind, one after another
 unfoldable pub times_at : {X : Type 0} → (Place → Option (X × Place)) → ℕ → Place → Option (List X × Place)
 times_at read zero place = Some ([], place)
 times_at read (suc count) place = do

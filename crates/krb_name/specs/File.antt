@@ -1,12 +1,13 @@
--- Files that are read off a source: how long they may be, what is taken of the source, and what is answered.
+-- Files that are read from a source: how long they may be, what is taken of the source, and what is
+-- answered.
 use Rattle.std.specs.Prelude.{◌≡◌, ◌≢◌, ◌⊎◌, ℕ, ◌+◌, ◌≤◌, List, length, Option, Some, Result, Ok, Err, IfOk, IfErr, IfSome, OnOk}
 use Rattle.std.specs.Io.KnownBytes.{Consumes, IsAtEnd}
 
--- how many bytes a file has at most
+-- how many bytes a file may have
 abbrev pub file_limit : ℕ
 file_limit = 16777216
 
--- what is left of a source is a tail of what was to come of it
+-- what is left of a source is a tail of what it still had
 abbrev pub LeavesTail : Option (List ℕ) → Option (List ℕ) → Type 0
 LeavesTail old new = (piece : List ℕ) × Consumes old new piece
 
@@ -16,8 +17,9 @@ pub record IsGiven (old new : Option (List ℕ)) (bytes : List ℕ) : Type 0 whe
   pub limit : length bytes ≤ file_limit + 1
   pub end : length bytes ≤ file_limit → IsAtEnd new
 
--- The bytes to come of a source were read as a file, of which each list of bytes has an answer: a value or a fault. Two faults say nothing
--- of the bytes: want of memory and a failed read, which may stand in place of any answer. Whatever it is, a tail of the source is left.
+-- The bytes of a source were read as a file, and each list of bytes has an answer: a value or a
+-- fault. Two faults say nothing about the bytes, lack of memory and a failed read; they may take
+-- the place of any answer. Whatever the answer, a tail of the source is left.
 pub record ReadsFile {T F : Type 0} (IsAnswerOf : List ℕ → Result T F → Type 0) (memory failed : F) (from to : Option (List ℕ)) (result : Result T F) : Type 0 where
   pub found : IfOk result (λ value. IfSome from (λ bytes. IsAnswerOf bytes (Ok value)))
   pub end : OnOk result (IsAtEnd to)

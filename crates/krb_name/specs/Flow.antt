@@ -1,4 +1,4 @@
--- What sources and sinks are made of, and what moves through them.
+-- What sources and sinks consist of, and what moves through them.
 use Rattle.std.specs.Prelude.{ℕ, List, take, Option, Result, Ok, Err}
 use Rattle.std.specs.Io.KnownBytes.{Appends}
 use Rattle.krb_name.specs.declared.reading.ReadFault.{ReadFault}
@@ -24,7 +24,7 @@ sink_failures s = s.failures
 abbrev pub AppendsBeginning : Option (List ℕ) → Option (List ℕ) → List ℕ → Type 0
 AppendsBeginning old new bytes = (count : ℕ) × Appends old new (take count bytes)
 
--- how many failed reads an answer tells of
+-- how many failed reads an answer reports
 abbrev pub failed_reads : {T : Type 0} → Result T ReadFault → ℕ
 failed_reads (Ok _) = 0
 failed_reads (Err ReadFailed) = 1

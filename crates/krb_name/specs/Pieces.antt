@@ -1,8 +1,8 @@
--- A source or a sink that moves a few bytes a call, and fails at one call.
+-- A source or a sink that moves a few bytes in each call, and fails at one call.
 use Rattle.std.specs.Prelude.{ℕ, ◌-◌, List, Option, Some, None, nat_lt, if◌then◌else◌}
 
--- the bytes still to come, or those taken; how many move in one call at most; which of the next calls, counted
--- from 1, fails, if any; and how many have failed
+-- the bytes still to come, or those taken; how many move in one call at most; which of the next
+-- calls, counted from 1, fails, if any; and how many have failed
 pub record Pieces : Type 0 where
   pub bytes : List ℕ
   pub piece : ℕ

@@ -1,4 +1,5 @@
--- Which texts are those of a name, and what is wrong with the others: the first offence from the left, or no realm.
+-- Which texts are those of a name, and what is wrong with other texts: the first offence from the
+-- left, or no realm.
 use Rattle.std.specs.Prelude.{◌≡◌, ◌≢◌, ℕ, ◌<◌, ◌⊎◌, false, List, [], ◌∷◌, ◌++◌, length, map, Result, Ok, Err}
 use Rattle.std.specs.List.{join_with_byte, AllByRecursion}
 use Rattle.krb_name.specs.Field.{IsBytes}
@@ -24,13 +25,13 @@ pub record IsUnprintable (rest : List ℕ) : Type 0 where
   pub unprintable : is_printable byte ≡ false
   pub rest_is : rest ≡ byte ∷ others
 
--- a backslash with which no byte is written
+-- a backslash that doesn't begin the text of a byte
 pub record IsNoEscape (rest : List ℕ) : Type 0 where
   pub others : List ℕ
   pub rest_is : rest ≡ 0x5c ∷ others
   pub none : (byte : ℕ) (behind : List ℕ) → byte < 256 → rest ≢ escaped_byte byte ++ behind
 
--- a `/` or an `@` that stands for itself
+-- a `/` or an `@` that isn't escaped
 pub record IsSeparator (rest : List ℕ) : Type 0 where
   pub byte : ℕ
   pub others : List ℕ
@@ -46,7 +47,7 @@ pub record OffendsInComponents (text : List ℕ) (at : ℕ) : Type 0 where
   pub at_is : at ≡ length (components_text components)
   pub offends : IsUnprintable rest ⊎ IsNoEscape rest
 
--- or behind the first bare `@` the text of a realm goes on with one of the three
+-- or after the first bare `@` the text of a realm goes on with one of the three
 pub record OffendsInRealm (text : List ℕ) (at : ℕ) : Type 0 where
   pub components : List (List ℕ)
   pub realm : List ℕ
@@ -60,7 +61,7 @@ pub record OffendsInRealm (text : List ℕ) (at : ℕ) : Type 0 where
 abbrev pub IsOffence : List ℕ → ℕ → Type 0
 IsOffence text at = OffendsInComponents text at ⊎ OffendsInRealm text at
 
--- components, and no bare `@` behind them
+-- components, and no bare `@` after them
 pub record LacksRealm (text : List ℕ) : Type 0 where
   pub components : List (List ℕ)
   pub are : AreComponents components
@@ -79,7 +80,7 @@ IsReadAs text (Err (BadText at)) = IsOffence text at
 IsReadAs text (Err NoRealm) = LacksRealm text
 IsReadAs text (Err OutOfMemory) = Unit {0}
 
--- two answers for one text tell the same, where memory didn't run out
+-- two answers for one text are the same, if memory didn't run out
 abbrev pub SameAnswer : Result Principal TextFault → Result Principal TextFault → Type 0
 SameAnswer (Err OutOfMemory) other = Unit {0}
 SameAnswer (Err NoRealm) (Err OutOfMemory) = Unit {0}

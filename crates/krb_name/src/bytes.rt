@@ -10,7 +10,7 @@ use std::convert::AsSlice;
 use std::marker::Model;
 
 /// A string of bytes: a realm, or one component of a name (`KerberosString`, RFC 4120, section
-/// 5.2.1). It may hold any bytes, and a contract sees it as their list.
+/// 5.2.1). Any bytes are allowed. A contract sees it as their list.
 #[derive(Debug, Drop)]
 pub struct Bytes {
     bytes: Vec<u8>,
@@ -23,7 +23,7 @@ impl Model for Bytes {
 }
 
 impl Bytes {
-    /// Makes a string of no bytes, which takes no memory yet.
+    /// Makes an empty string of bytes. Allocates no memory yet.
     pub fn new(alloc: Global) -> Self
         ensures { result ≡ [] }
     {
@@ -41,28 +41,28 @@ impl Bytes {
         })
     }
 
-    /// Lends the bytes.
+    /// Returns the bytes.
     pub fn as_slice(&self) -> &[u8]
         ensures { result.now ≡ self.now }
     {
         self.bytes.as_slice()
     }
 
-    /// Answers how many bytes there are.
+    /// Returns the number of bytes.
     pub fn len(&self) -> usize
         ensures { result ≡ length self.now }
     {
         self.as_slice().len()
     }
 
-    /// Answers whether there are no bytes.
+    /// Returns whether there are no bytes.
     pub fn is_empty(&self) -> bool
         ensures { result ≡ (length self.now == 0) }
     {
         self.as_slice().is_empty()
     }
 
-    /// Puts `byte` at the end. Where memory is refused, the bytes stay as they were.
+    /// Appends `byte`. If there is no memory, the bytes are unchanged.
     pub fn push(&mut self, byte: u8) -> Result<(), AllocError>
         ensures ok { OnOk result (self.new ≡ self.old ++ byte ∷ []) }
         ensures err { OnErr result (self.new ≡ self.old) }

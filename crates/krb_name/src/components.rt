@@ -23,7 +23,7 @@ impl Model for Components {
 }
 
 impl Components {
-    /// Makes a list of no components, which takes no memory yet.
+    /// Makes an empty list. Allocates no memory yet.
     pub fn new(alloc: Global) -> Self
         ensures { result ≡ [] }
     {
@@ -32,7 +32,7 @@ impl Components {
         }
     }
 
-    /// Makes a list of no components that has room for `count` of them.
+    /// Makes an empty list with room for `count` components.
     pub fn with_room(alloc: Global, count: usize) -> Result<Self, AllocError>
         ensures { IfOk result (λ components. components ≡ []) }
     {
@@ -41,28 +41,28 @@ impl Components {
         })
     }
 
-    /// Lends the components, in their order.
+    /// Returns the components, in their order.
     pub fn as_slice(&self) -> &[Bytes]
         ensures { result.now ≡ self.now }
     {
         self.items.as_slice()
     }
 
-    /// Answers how many components there are.
+    /// Returns the number of components.
     pub fn len(&self) -> usize
         ensures { result ≡ length self.now }
     {
         self.items.len()
     }
 
-    /// Answers whether there are no components.
+    /// Returns whether there are no components.
     pub fn is_empty(&self) -> bool
         ensures { result ≡ (length self.now == 0) }
     {
         self.items.is_empty()
     }
 
-    /// Puts `component` at the end. Where memory is refused, the components stay as they were.
+    /// Appends `component`. If there is no memory, the components are unchanged.
     pub fn push(&mut self, component: Bytes) -> Result<(), AllocError>
         ensures ok { OnOk result (self.new ≡ self.old ++ component ∷ []) }
         ensures err { OnErr result (self.new ≡ self.old) }

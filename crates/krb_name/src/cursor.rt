@@ -1,4 +1,4 @@
-//! A place in the bytes of a file, from which fields are read.
+//! A place in the bytes of a file, where fields are read.
 
 ghost use Rattle.std.specs.Prelude.{◌≡◌, ◌+◌, ◌<◌, ◌^◌, ◌==◌, IfOk, OnErr, None, Some, length};
 ghost use Rattle.std.specs.Int.{w8, w16, w32};
@@ -12,11 +12,11 @@ use thiserror::Error;
 #[error("the bytes end too early")]
 pub struct Short;
 
-/// A place in the bytes of a file: how far it is from their start, and the bytes from there on.
+/// A place in the bytes of a file: its offset from their start, and the bytes from there on.
 ///
-/// Each call reads the field that begins here and then stands behind it. Numbers are big-endian.
-/// Where the bytes end before the field does, a call answers `Short` and stays where it was. No call
-/// takes memory: what is read is lent from the bytes.
+/// Each call reads the field that begins here, and moves past it. Numbers are big-endian. If the
+/// bytes end before the field does, a call returns `Short` and the place is unchanged. No call
+/// allocates memory: what is read borrows the bytes.
 #[derive(Drop)]
 pub struct FileCursor<'a> {
     at: usize,
@@ -32,35 +32,35 @@ impl<'a> Model for FileCursor<'a> {
 }
 
 impl<'a> FileCursor<'a> {
-    /// Stands at the first of `bytes`, at offset 0.
+    /// Starts at the first of `bytes`, at offset 0.
     pub fn new(bytes: &'a [u8]) -> Self
         ensures { result ≡ record { at = 0; rest = bytes.now } }
     {
         FileCursor { at: 0, rest: bytes }
     }
 
-    /// Answers how many bytes lie before this place.
+    /// Returns how many bytes come before this place.
     pub fn at(&self) -> usize
         ensures { result ≡ self.now.at }
     {
         self.at
     }
 
-    /// Lends the bytes from here to the end.
+    /// Returns the bytes from here to the end.
     pub fn rest(&self) -> &'a [u8]
         ensures { result.now ≡ self.now.rest }
     {
         self.rest
     }
 
-    /// Answers whether no byte is left.
+    /// Returns whether no byte is left.
     pub fn is_at_end(&self) -> bool
         ensures { result ≡ (length self.now.rest == 0) }
     {
         self.rest.is_empty()
     }
 
-    /// Reads and lends the next `count` bytes.
+    /// Reads the next `count` bytes, and returns them without a copy.
     #[tactic(auto, unfolding(crate::specs::Cursor::bytes_at))]
     pub fn read_bytes(&mut self, count: usize) -> Result<&'a [u8], Short>
         ensures read { IfOk result (λ bytes. bytes_at count self.old ≡ Some (bytes.now, self.new)) }
@@ -130,7 +130,7 @@ impl<'a> FileCursor<'a> {
         Ok(self.read_u32()?.cast_signed())
     }
 
-    /// Reads and lends the bytes behind their own length, a number of two bytes.
+    /// Reads bytes after their length, a number of two bytes, and returns them without a copy.
     #[tactic(auto, unfolding(crate::specs::Cursor::data_at))]
     pub fn read_data16(&mut self) -> Result<&'a [u8], Short>
         ensures read { IfOk result (λ bytes. data_at w16 self.old ≡ Some (bytes.now, self.new)) }
@@ -144,7 +144,7 @@ impl<'a> FileCursor<'a> {
         Ok(bytes)
     }
 
-    /// Reads and lends the bytes behind their own length, a number of four bytes.
+    /// Reads bytes after their length, a number of four bytes, and returns them without a copy.
     #[tactic(auto, unfolding(crate::specs::Cursor::data_at))]
     pub fn read_data32(&mut self) -> Result<&'a [u8], Short>
         ensures read { IfOk result (λ bytes. data_at w32 self.old ≡ Some (bytes.now, self.new)) }

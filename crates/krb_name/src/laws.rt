@@ -1,4 +1,5 @@
-//! Laws over the definitions, for proofs to cite. Each function does nothing: its contract is the law.
+//! Laws over the definitions, for proofs to cite. Each function has an empty body: its contract is
+//! the law.
 
 ghost use Rattle.std.specs.Prelude.{◌≡◌, ◌<◌, ◌^◌, ℕ, List, [], ◌∷◌, Result, length, FitsSigned};
 ghost use Rattle.std.specs.Int.{w8, w16, w32};
@@ -14,32 +15,32 @@ ghost use Rattle.krb_name.specs.declared.file.TheConstants.{FILE_LIMIT};
 use crate::principal::Principal;
 use crate::text_fault::TextFault;
 
-/// Says that so many bytes are read as they are spelled.
+/// States that so many bytes are read as they are spelled.
 pub fn bytes_are_fields()
     ensures { (count : ℕ)
         → IsField (bytes_at count) (λ bytes. bytes) (λ bytes. length bytes ≡ count) }
 {}
 
-/// Says that unsigned numbers are read as they are spelled, big-endian.
+/// States that unsigned numbers are read as they are spelled, big-endian.
 pub fn numbers_are_fields()
     ensures u8 { IsField (number_at w8) (number_bytes w8) (λ number. number < 2 ^ 8) }
     ensures u16 { IsField (number_at w16) (number_bytes w16) (λ number. number < 2 ^ 16) }
     ensures u32 { IsField (number_at w32) (number_bytes w32) (λ number. number < 2 ^ 32) }
 {}
 
-/// Says that signed numbers are read as they are spelled, big-endian in two's complement.
+/// States that signed numbers are read as they are spelled, big-endian in two's complement.
 pub fn signed_numbers_are_fields()
     ensures i16 { IsField (signed_at w16) (signed_bytes w16) (FitsSigned w16) }
     ensures i32 { IsField (signed_at w32) (signed_bytes w32) (FitsSigned w32) }
 {}
 
-/// Says that bytes behind their length are read as they are spelled.
+/// States that bytes after their length are read as they are spelled.
 pub fn data_are_fields()
     ensures data16 { IsField (data_at w16) (data_bytes w16) (λ bytes. length bytes < 2 ^ 16) }
     ensures data32 { IsField (data_at w32) (data_bytes w32) (λ bytes. length bytes < 2 ^ 32) }
 {}
 
-/// Says that so many data behind their lengths are read as they are spelled, one behind the other.
+/// States that so many data after their lengths are read as they are spelled, one after another.
 pub fn repeated_data_are_fields()
     ensures data16 { (count : ℕ) → IsField (times_at (data_at w16) count)
         (flat_map (data_bytes w16)) (AreDataOf count (2 ^ 16)) }
@@ -47,13 +48,13 @@ pub fn repeated_data_are_fields()
         (flat_map (data_bytes w32)) (AreDataOf count (2 ^ 32)) }
 {}
 
-/// Says that a text is read in one way only.
+/// States that a text is read in one way only.
 pub fn a_text_has_one_answer()
     ensures { (text : List ℕ) (one other : Result Principal TextFault)
         → IsReadAs text one → IsReadAs text other → SameAnswer one other }
 {}
 
-/// Says that names with components that have the same text are the same, and that a name without
+/// States that names with components that have the same text are the same, and that a name without
 /// components has the text of one with a single empty component.
 pub fn a_text_has_one_name()
     ensures name { (one other : Principal)
@@ -65,7 +66,7 @@ pub fn a_text_has_one_name()
         ≡ text_of (record principal { components = [] ∷ [] }) }
 {}
 
-/// Says that `FILE_LIMIT` is the limit that the definitions of files name.
+/// States that `FILE_LIMIT` is the limit that the definitions of files use.
 pub fn the_limit_is_one()
     ensures { FILE_LIMIT ≡ file_limit }
 {}

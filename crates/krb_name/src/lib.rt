@@ -1,11 +1,11 @@
-//! Kerberos names, and what the crates above share to read and write files.
+//! Kerberos names, and what the other crates share to read and write files.
 //!
-//! A [`Principal`] is a realm, a name type and components (RFC 4120, sections 5.2.2 and 6). It says
-//! whether another one has the same name, writes itself as text and is read from text.
+//! A [`Principal`] is a realm, a name type and components (RFC 4120, sections 5.2.2 and 6). It
+//! reports whether another one has the same name, writes itself as text and is read from text.
 //!
 //! A [`Source`] gives bytes and a [`Sink`] takes them; both count their failures. Any reader is a
-//! source and any writer a sink. A [`Window`] has a few bytes of a source at hand. A [`FileCursor`] reads
-//! big-endian fields off bytes, takes no memory and knows its place.
+//! source and any writer a sink. A [`Window`] holds a few bytes of a source. A [`FileCursor`] reads
+//! big-endian fields from bytes, allocates no memory and knows its offset.
 //!
 //! ```rust
 //! let mut components = Components::new(alloc);

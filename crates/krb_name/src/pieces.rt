@@ -1,4 +1,4 @@
-//! Sources and sinks for tests: they move a few bytes a call and fail when told to.
+//! Sources and sinks for tests. They move a few bytes in each call, and can be told to fail.
 
 ghost use Rattle.std.specs.Prelude.{ℕ, ◌≡◌, ◌≢◌, ◌+◌, ◌-◌, ◌^◌, ◌<◌, ◌≤◌, ◌↔◌, min, Some, None, IfOk, IsErr, IsOk, is_ok, length, take, [], if◌then◌else◌};
 ghost use Rattle.std.specs.Option.{ForSome};
@@ -10,7 +10,7 @@ use crate::sink::{Sink, SinkFailed};
 use crate::source::{Source, SourceFailed};
 use std::marker::Model;
 
-/// A source over a slice that gives a few bytes a read and fails once, when told to.
+/// A source over a slice that gives a few bytes in each read, and fails once if it is told to.
 #[derive(Drop)]
 pub struct PieceSource<'a> {
     rest: &'a [u8],
@@ -33,8 +33,8 @@ impl<'a> Model for PieceSource<'a> {
 }
 
 impl<'a> PieceSource<'a> {
-    /// Gives `bytes`, at most `piece` of them a read. Read number `failing`, counted from 1, fails; with
-    /// 0 none does.
+    /// Gives `bytes`, at most `piece` of them in each read. Read number `failing`, counted from 1,
+    /// fails; with 0 none does.
     ///
     /// Condition: `piece` is at least 1.
     pub fn new(bytes: &'a [u8], piece: usize, failing: Option<u64>) -> Self
@@ -90,8 +90,8 @@ impl Source for PieceSource<'_> {
     }
 }
 
-/// A sink over a slice that takes a few bytes a write and fails once, when told to, and at each
-/// write for which the slice has no room.
+/// A sink over a slice that takes a few bytes in each write. It fails once if it is told to, and at
+/// each write for which the slice has no room.
 #[derive(Drop)]
 pub struct PieceSink<'a> {
     room: &'a mut [u8],
@@ -118,8 +118,8 @@ impl<'a> Model for PieceSink<'a> {
 }
 
 impl<'a> PieceSink<'a> {
-    /// Takes bytes into `room`, at most `piece` of them a write. Write number `failing`, counted
-    /// from 1, fails; with 0 none does.
+    /// Takes bytes into `room`, at most `piece` of them in each write. Write number `failing`,
+    /// counted from 1, fails; with 0 none does.
     ///
     /// Condition: `piece` is at least 1.
     pub fn new(room: &'a mut [u8], piece: usize, failing: Option<u64>) -> Self
@@ -138,7 +138,7 @@ impl<'a> PieceSink<'a> {
         }
     }
 
-    /// Lends the bytes that it took.
+    /// Returns the bytes that it took.
     pub fn taken(&self) -> &[u8]
         ensures { result.now ≡ self.now.pieces.bytes }
     {

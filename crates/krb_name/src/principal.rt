@@ -11,12 +11,13 @@ use std::alloc::{AllocError, Global};
 
 /// A principal: a realm, and a name of a type and some components (RFC 4120, sections 5.2.2 and 6).
 ///
-/// Its `Debug` text is for people and promises nothing; `to_text` is the name's own text.
+/// Its `Debug` text is for people, and nothing is promised about it. `to_text` returns the name's
+/// own text.
 #[derive(Debug, Drop)]
 pub struct Principal {
     /// The realm.
     pub realm: Bytes,
-    /// The name type (RFC 4120, section 6.2), which is no part of the name's identity.
+    /// The name type (RFC 4120, section 6.2). It isn't part of the name's identity.
     pub name_type: i32,
     /// The components, in their order.
     pub components: Components,
@@ -26,8 +27,8 @@ impl Principal {
     ghost use Rattle.krb_name.specs.Name.{SameName};
     ghost use Rattle.krb_name.specs.Text.{text_of};
 
-    /// Answers whether `self` and `other` name the same principal: the realms and the components are
-    /// equal, byte for byte. Name types aren't compared (RFC 4120, section 6.2).
+    /// Returns whether `self` and `other` name the same principal: the realms and the components
+    /// are equal, byte for byte. Name types aren't compared (RFC 4120, section 6.2).
     pub fn same_name(&self, other: &Principal) -> bool
         ensures { IsTrue result ↔ SameName self.now other.now }
     {
@@ -36,10 +37,10 @@ impl Principal {
 
     /// Writes the name as text: the components with a `/` between each two, then `@` and the realm.
     ///
-    /// In components and realm a `/`, `@` or `\` is written with a backslash before it, and a byte
-    /// outside 0x21 to 0x7e as `\x` and two hexadecimal digits in lower case. A name without
-    /// components is written like one with a single empty component. The form is the one of RFC
-    /// 1964, section 2.1.1, with all that isn't printable in hexadecimal.
+    /// In components and realm a `/`, `@` or `\` is written with a backslash before it. A byte
+    /// outside 0x21 to 0x7e is written as `\x` and two hexadecimal digits in lower case. A name
+    /// without components is written like one with a single empty component. This is the form of
+    /// RFC 1964, section 2.1.1, with everything that isn't printable in hexadecimal.
     pub fn to_text(&self, alloc: Global) -> Result<String, AllocError>
         ensures { IfOk result (λ text. string_bytes text ≡ text_of self.now) }
     {
@@ -50,7 +51,7 @@ impl Principal {
         Ok(text)
     }
 
-    // The length of the text where nothing in it is escaped, or one more.
+    // The length of the text if nothing in it is escaped, or one more.
     fn plain_len(&self) -> usize {
         let mut length = self.realm.len().saturating_add(1);
         for component in self.components.as_slice() {
@@ -63,16 +64,16 @@ impl Principal {
 impl Principal {
     ghost use Rattle.krb_name.specs.Reading.{IsReadAs, SameAnswer};
 
-    /// Reads a name off the text that `to_text` writes for it, and gives it `name_type`.
+    /// Reads a name from the text that `to_text` writes for it, and gives it `name_type`.
     ///
-    /// A text is read exactly where it is the text of a name with at least one component.
+    /// A text is read exactly if it is the text of a name with at least one component.
     ///
     /// # Errors
-    /// - `BadText`, at the offset of the first offence from the left: a byte outside 0x21 to 0x7e, a
-    ///   backslash that begins no escape that `to_text` writes, or a bare `/` or `@` behind the
-    ///   first bare `@`.
+    /// - `BadText`, at the offset of the first offence from the left: a byte outside 0x21 to 0x7e,
+    ///   a backslash that doesn't begin an escape that `to_text` writes, or a bare `/` or `@` after
+    ///   the first bare `@`.
     /// - `NoRealm`: there is no offence, and no bare `@` either.
-    /// - `OutOfMemory`: there was no room for the name.
+    /// - `OutOfMemory`: there is no memory for the name.
     pub fn from_text(alloc: Global, text: &str, name_type: i32) -> Result<Principal, TextFault>
         ensures read { IsReadAs text.now result }
         ensures only { (answer : Result Principal TextFault)

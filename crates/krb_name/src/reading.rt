@@ -1,4 +1,4 @@
-//! Why bytes of a source could not be had.
+//! Why bytes of a source couldn't be read.
 
 ghost use Rattle.std.specs.Prelude.{◌≡◌};
 ghost use Rattle.krb_name.specs.declared.reading.ReadFault.TheVariants.{OutOfMemory, Read as ReadFailed};
@@ -7,13 +7,13 @@ use crate::source::SourceFailed;
 use std::alloc::AllocError;
 use thiserror::Error;
 
-/// Why bytes of a source could not be had.
+/// Why bytes of a source couldn't be read.
 #[derive(Clone, Copy, Debug, PartialEq, Eq, Error)]
 pub enum ReadFault {
     /// A read failed.
     #[error("the source could not be read")]
     Read,
-    /// There was no room for the bytes.
+    /// There is no memory for the bytes.
     #[error("out of memory")]
     OutOfMemory,
 }

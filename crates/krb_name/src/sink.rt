@@ -14,19 +14,19 @@ pub struct SinkFailed;
 
 /// What bytes are written to, piece by piece. It counts the writes that failed.
 pub trait Sink {
-    /// The bytes that it took, where the sink tells them.
+    /// The bytes that it took, if the sink says which.
     ghost taken: { Self → Option (List ℕ) } = { λ _. None };
 
     /// How many writes have failed.
     ghost failure_count: { Self → ℕ };
 
-    /// Answers how many writes have failed.
+    /// Returns how many writes have failed.
     fn failures(&self) -> u64
         ensures { result ≡ failure_count self.now };
 
-    /// Takes the front of `bytes` and answers how many bytes it took: at most all of them, and at
-    /// least one where there is one. The count of failures grows by one with each `Err`, at which
-    /// no byte was taken, and not otherwise.
+    /// Takes the first of `bytes`, and returns how many bytes it took: at most all of them, and at
+    /// least one if there is one. The count of failures grows by one with each `Err`, which takes
+    /// no byte, and not otherwise.
     ///
     /// Condition: fewer than 18,446,744,073,709,551,615 writes to the sink have failed so far.
     fn write(&mut self, bytes: &[u8]) -> Result<usize, SinkFailed>
@@ -53,7 +53,7 @@ impl<S: Sink> Sink for &mut S {
 }
 
 /// Makes a sink of any writer. Every error of the writer counts as a failed write, and so does an
-/// `Ok(0)` where there was a byte to write.
+/// `Ok(0)` if there was a byte to write.
 #[derive(Drop)]
 pub struct WriteSink<W> {
     writer: W,
@@ -74,7 +74,7 @@ impl<W: Write> WriteSink<W> {
         }
     }
 
-    /// Gives the writer back.
+    /// Returns the writer itself.
     pub fn into_inner(self) -> W
         ensures { result ≡ sink_writer self }
     {

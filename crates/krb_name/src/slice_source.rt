@@ -7,8 +7,8 @@ ghost use Rattle.std.specs.Io.KnownBytes.{ReadConsumes};
 use crate::source::{Source, SourceFailed};
 use std::marker::Model;
 
-/// A source over bytes in memory, which tells them and never fails. A contract sees it as the list of
-/// the bytes that are still to come.
+/// A source over bytes in memory, which never fails. A contract sees it as the list of the bytes
+/// that are still to come.
 #[derive(Drop)]
 pub struct SliceSource<'a> {
     rest: &'a [u8],

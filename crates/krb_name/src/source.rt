@@ -14,22 +14,23 @@ pub struct SourceFailed;
 
 /// What bytes are read from, piece by piece. It counts the reads that failed.
 pub trait Source {
-    /// The bytes that are still to come, where the source tells them.
+    /// The bytes that are still to come, if the source says which.
     ghost remaining: { Self → Option (List ℕ) } = { λ _. None };
 
     /// How many reads have failed.
     ghost failure_count: { Self → ℕ };
 
-    /// The name of the reference by which a lent source is lent, for that is kept; 0 for any other.
+    /// The name of the reference through which a borrowed source is used, so that it is kept; 0 for
+    /// any other source.
     ghost lender: { Self → ℕ } = { λ _. 0 };
 
-    /// Answers how many reads have failed.
+    /// Returns how many reads have failed.
     fn failures(&self) -> u64
         ensures { result ≡ failure_count self.now };
 
-    /// Reads into the front of `buffer` and answers how many bytes came: at most as many as the
-    /// buffer has room for. Where it has room, `Ok(0)` is the end of the bytes. The count of
-    /// failures grows by one with each `Err`, at which no byte is lost, and not otherwise.
+    /// Reads into the start of `buffer`, and returns how many bytes came: at most as many as the
+    /// buffer has room for. If it has room, `Ok(0)` means the end of the bytes. The count of
+    /// failures grows by one with each `Err`, which loses no byte, and not otherwise.
     ///
     /// Condition: fewer than 18,446,744,073,709,551,615 reads of the source have failed so far.
     fn read(&mut self, buffer: &mut [u8]) -> Result<usize, SourceFailed>

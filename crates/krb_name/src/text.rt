@@ -1,4 +1,4 @@
-//! How the text of a name is written.
+//! Writing the text of a name.
 
 ghost use Rattle.std.specs.Prelude.{◌≡◌, ◌++◌, OnOk, string_bytes, map};
 ghost use Rattle.std.specs.List.{join_with_byte};

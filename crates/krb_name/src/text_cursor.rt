@@ -1,4 +1,4 @@
-//! How the text of a name is read, symbol by symbol.
+//! Reading the text of a name, symbol by symbol.
 
 ghost use Rattle.std.specs.Prelude.{◌≡◌, ◌⊎◌, ◌+◌, ◌<◌, ◌^◌, [], ◌∷◌, length, option_map, IfSome, IfNone, MatchBool, None};
 ghost use Rattle.krb_name.specs.Cursor.{Place};
@@ -27,7 +27,7 @@ impl<'a> Model for TextCursor<'a> {
 }
 
 impl<'a> TextCursor<'a> {
-    /// Stands at the start of `text`.
+    /// Starts at the start of `text`.
     pub(crate) fn new(text: &'a str) -> Self
         ensures { result ≡ record { at = 0; rest = text.now } }
     {
@@ -37,7 +37,7 @@ impl<'a> TextCursor<'a> {
         }
     }
 
-    /// Reads the components up to the first bare `@`, and stands behind it.
+    /// Reads the components up to the first bare `@`, and moves past it.
     pub(crate) fn read_components(&mut self, alloc: Global) -> Result<Components, TextFault>
         ensures { ReadsComponents self.old self.new result }
     {
@@ -77,7 +77,7 @@ impl<'a> TextCursor<'a> {
         Ok(name)
     }
 
-    // Steps over a separator, where one stands here.
+    // Steps over a separator, if there is one here.
     fn next_separator(&mut self) -> Option<u8>
         ensures some { IfSome result (λ byte. Advances self.old (byte ∷ []) self.new
             × ((byte ≡ 0x2f) ⊎ (byte ≡ 0x40))) }
@@ -93,7 +93,7 @@ impl<'a> TextCursor<'a> {
         Some(*first)
     }
 
-    // Reads a byte of a component or a realm, where one stands here.
+    // Reads a byte of a component or a realm, if there is one here.
     fn next_byte(&mut self) -> Option<u8>
         ensures some { IfSome result (λ byte. ReadsByte self.old byte self.new) }
         ensures none { IfNone result (byte_at self.old.rest ≡ None) }

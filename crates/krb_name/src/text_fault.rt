@@ -1,4 +1,4 @@
-//! Why a text is none of a name.
+//! Why a text isn't a name's.
 
 ghost use Rattle.std.specs.Prelude.{◌≡◌};
 ghost use Rattle.krb_name.specs.declared.text_fault.TextFault.TheVariants.{OutOfMemory};
@@ -6,19 +6,19 @@ ghost use Rattle.krb_name.specs.declared.text_fault.TextFault.TheVariants.{OutOf
 use std::alloc::AllocError;
 use thiserror::Error;
 
-/// Why a text could not be read as a name.
+/// Why a text couldn't be read as a name.
 #[derive(Clone, Copy, Debug, PartialEq, Eq, Error)]
 pub enum TextFault {
-    /// At this offset the text goes on as no text of a name does.
+    /// From this offset on the text isn't the text of a name.
     #[error("bad text at {at}")]
     BadText {
         /// The offset in bytes.
         at: usize,
     },
-    /// No bare `@` stands in the text.
+    /// There is no bare `@` in the text.
     #[error("no realm")]
     NoRealm,
-    /// There was no room for the name.
+    /// There is no memory for the name.
     #[error("out of memory")]
     OutOfMemory,
 }

@@ -1,4 +1,4 @@
-//! The bytes of a source that are at hand.
+//! The bytes of a source that are held.
 
 ghost use Rattle.std.specs.Prelude.{◌≡◌, ◌+◌, ◌-◌, ◌^◌, ◌<◌, ◌≤◌, [], length, is_ok, if◌then◌else◌};
 ghost use Rattle.krb_name.specs.Flow.{failed_reads};
@@ -10,15 +10,15 @@ use crate::source::{Source, SourceFailed};
 use std::alloc::Global;
 use std::marker::Model;
 
-// How many bytes are asked of a source at a time, where they are kept and where they aren't.
+// How many bytes are asked of a source at a time, if they are kept and if they aren't.
 const PIECE: usize = 65_536;
 
 const PASSED: usize = 4_096;
 
-/// A source, and those of its bytes that are at hand, in one buffer.
+/// A source, and those of its bytes that are held, in one buffer.
 ///
-/// It counts the bytes that the source has given, and knows the most that were at hand at once.
-/// The source is never asked for more bytes than a call says.
+/// Counts the bytes that the source has given, and knows the most that were held at once. Never
+/// asks the source for more bytes than a call says.
 #[derive(Drop)]
 pub struct Window<S> {
     source: S,
@@ -39,7 +39,7 @@ impl<S> Model for Window<S> {
 }
 
 impl<S: Source> Window<S> {
-    /// Has no byte of `source` at hand, and takes no memory.
+    /// Holds no byte of `source` yet, and allocates no memory.
     pub fn new(alloc: Global, source: S) -> Self
         ensures { result ≡ record { source = source; bytes = []; peak = 0; given = 0 } }
     {
@@ -51,14 +51,14 @@ impl<S: Source> Window<S> {
         }
     }
 
-    /// Lends the source.
+    /// Returns the source.
     pub fn source(&self) -> &S
         ensures { result.now ≡ self.now.source }
     {
         &self.source
     }
 
-    /// Gives the source back.
+    /// Returns the source itself.
     pub fn into_source(self) -> S
         ensures { result ≡ self.source }
     {
@@ -71,14 +71,14 @@ impl<S: Source> Window<S> {
         source
     }
 
-    /// Lends the bytes that are at hand.
+    /// Returns the bytes that are held.
     pub fn bytes(&self) -> &[u8]
         ensures { result.now ≡ self.now.bytes }
     {
         self.bytes.as_slice()
     }
 
-    /// Answers how many bytes were at hand at most.
+    /// Returns how many bytes were held at once at most.
     pub fn held(&self) -> usize
         ensures peak { result ≡ self.now.peak }
         ensures within { length self.now.bytes ≤ result }
@@ -86,32 +86,32 @@ impl<S: Source> Window<S> {
         self.peak
     }
 
-    /// Answers how many bytes the source has given in all.
+    /// Returns how many bytes the source has given in all.
     pub fn given(&self) -> usize
         ensures { result ≡ self.now.given }
     {
         self.given
     }
 
-    /// Lets go of the bytes at hand. The room for them stays.
+    /// Discards the held bytes. Their memory is kept for others.
     pub fn clear(&mut self)
         ensures { self.new ≡ record self.old { bytes = [] } }
     {
         self.bytes.clear();
     }
 
-    /// Takes `count` bytes of the source, puts them behind those at hand, and answers whether so many
-    /// came; fewer come only where the source ends.
+    /// Takes `count` bytes of the source, appends them to those held, and returns whether so many
+    /// came. Fewer come only if the source ends.
     ///
-    /// They are asked for in pieces of at most 65,536, and the room for them grows as they come.
+    /// They are read in pieces of at most 65,536, and the buffer grows as they come.
     ///
-    /// Conditions: fewer than 18,446,744,073,709,551,615 reads of the source have failed so far, and
-    /// `count` and the bytes given so far are fewer than 18,446,744,073,709,551,616.
+    /// Conditions: fewer than 18,446,744,073,709,551,615 reads of the source have failed so far,
+    /// and `count` and the bytes given so far are fewer than 18,446,744,073,709,551,616.
     ///
     /// # Errors
-    /// At each, what came before is at hand.
+    /// After each of these, the bytes that came before it are held.
     /// - `Read`: a read failed.
-    /// - `OutOfMemory`: there was no room for the bytes.
+    /// - `OutOfMemory`: there is no memory for the bytes.
     pub fn fill(&mut self, count: usize) -> Result<bool, ReadFault>
         requires reads { S.failure_count self.old.source < 2 ^ 64 - 1 }
         requires count { self.old.given + count < 2 ^ 64 }
@@ -133,8 +133,8 @@ impl<S: Source> Window<S> {
         Ok(true)
     }
 
-    /// Takes `count` bytes of the source, keeps none of them, and answers whether so many came; fewer
-    /// come only where the source ends. It takes no memory.
+    /// Takes `count` bytes of the source, keeps none of them, and returns whether so many came.
+    /// Fewer come only if the source ends. Allocates no memory.
     ///
     /// Conditions: as for `fill`.
     ///
@@ -160,11 +160,11 @@ impl<S: Source> Window<S> {
         Ok(true)
     }
 
-    /// Reads the source to its end, or until it has given `limit` bytes and one more in all, keeps
-    /// none of them, and answers whether it ended before that. It takes no memory.
+    /// Reads the source to its end, or until it has given one byte more than `limit` in all, keeps
+    /// none of the bytes, and returns whether it ended before that. Allocates no memory.
     ///
-    /// Conditions: fewer than 18,446,744,073,709,551,615 reads of the source have failed so far, and
-    /// `limit` is below 18,446,744,073,709,551,615.
+    /// Conditions: fewer than 18,446,744,073,709,551,615 reads of the source have failed so far,
+    /// and `limit` is below 18,446,744,073,709,551,615.
     ///
     /// # Errors
     /// `SourceFailed`: a read failed.
@@ -221,7 +221,7 @@ impl<S: Source> Window<S> {
     }
 }
 
-// Asks a source once for at most `most` bytes, and puts those that come behind `bytes`.
+// Asks a source once for at most `most` bytes, and appends those that come to `bytes`.
 fn read_behind<S: Source>(
     source: &mut S,
     bytes: &mut Vec<u8>,

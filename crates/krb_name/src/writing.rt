@@ -1,4 +1,4 @@
-//! Writing all of some bytes.
+//! Writing all bytes of a slice.
 
 ghost use Rattle.std.specs.Prelude.{◌≡◌, ◌+◌, ◌-◌, ◌^◌, ◌<◌, OnOk, OnErr, is_ok, if◌then◌else◌};
 ghost use Rattle.std.specs.Io.KnownBytes.{Appends};
@@ -6,7 +6,7 @@ ghost use Rattle.krb_name.specs.Flow.{AppendsBeginning};
 
 use crate::sink::{Sink, SinkFailed};
 
-/// Writes all of `bytes`, in as many writes as it takes.
+/// Writes all of `bytes`, in as many writes as that takes.
 ///
 /// Condition: fewer than 18,446,744,073,709,551,615 writes to the sink have failed so far.
 ///

@@ -1,26 +1,29 @@
--- Memories of what was seen: a set of stamps, and the latest moment that the memory was told. Moments and times are microseconds from
--- 1970-01-01T00:00:00Z on, a skew is a number of microseconds.
+-- Memories of seen requests: a set of stamps, and the latest moment that the memory was given.
+-- Moments and times are microseconds since 1970-01-01T00:00:00Z. A skew is a number of
+-- microseconds.
 use Rattle.std.specs.Prelude.{◌≡◌, ℕ, ℤ, pos, ◌-ℤ◌, ◌≤ℤ◌, ◌↔◌, ◌⊎◌, ◌≢◌, int_lt, if◌then◌else◌, Option, Some, None, List, length, AllPairs, Contains}
 use Rattle.krb_replay.specs.Stamp.{Stamp}
 
--- a memory: what it holds, each stamp once and in any order, and the latest moment, if it was told any
+-- a memory: what it holds, each stamp once and in any order, and the latest moment, if it was given
+-- any
 pub record Memory : Type 0 where
   pub stamps : List Stamp
   pub latest : Option ℤ
 
--- the later of the latest moment so far, if any, and one more
+-- the later of the latest moment so far, if any, and a new moment
 abbrev pub later_of : Option ℤ → ℤ → ℤ
 later_of None moment = moment
 later_of (Some latest) moment = if int_lt latest moment then moment else latest
 
--- the stamp's time isn't before the latest moment less the skew, as counts that know no first year
+-- the stamp's time isn't before the latest moment less the skew; the difference may lie before the
+-- year 0
 abbrev pub IsRecent : ℤ → ℕ → Stamp → Type 0
 IsRecent latest skew stamp = (latest -ℤ pos skew) ≤ℤ stamp.time
 
 abbrev pub HasNone : (Stamp → Type 0) → Type 0
 HasNone has = (stamp : Stamp) → ¬ has stamp
 
--- one set has just the stamps of another
+-- the two sets have the same stamps
 abbrev pub SameStamps : (Stamp → Type 0) → (Stamp → Type 0) → Type 0
 SameStamps old new = (stamp : Stamp) → new stamp ↔ old stamp
 
@@ -28,7 +31,8 @@ SameStamps old new = (stamp : Stamp) → new stamp ↔ old stamp
 abbrev pub AddsStamp : (Stamp → Type 0) → (Stamp → Type 0) → Stamp → Type 0
 AddsStamp old new added = (stamp : Stamp) → new stamp ↔ ((stamp ≡ added) ⊎ old stamp)
 
--- a set has so many stamps: it is that of a list which has each of them once, and that is as long
+-- a set has so many stamps: some list has each of its stamps once and nothing else, and has that
+-- length
 pub record IsSizeOf (has : Stamp → Type 0) (size : ℕ) : Type 0 where
   pub stamps : List Stamp
   pub once : AllPairs (λ one other. one ≢ other) stamps

@@ -1,9 +1,9 @@
-//! The memory of what was seen: which requests a service has let in or refused late, so that it lets none in twice (RFC 4120,
-//! section 3.2.3).
+//! The memory of what a service has seen: the requests that it has accepted or refused late, so
+//! that it accepts none twice (RFC 4120, section 3.2.3).
 //!
-//! A [`Tuple`] is what is remembered of a request. A [`ReplayMemory`] is a set of tuples and the latest moment that it was told.
-//! [`ListMemory`] keeps what it has; [`TimedMemory`] forgets what is older than the latest moment less a [`Skew`], and stays
-//! fast however much it holds.
+//! A [`Tuple`] is what is remembered of a request. A [`ReplayMemory`] is a set of tuples, and the
+//! latest moment that it was given. [`ListMemory`] keeps everything. [`TimedMemory`] forgets what
+//! is older than the latest moment less a [`Skew`], and stays fast however much it holds.
 //!
 //! ```rust
 //! let mut memory = TimedMemory::new(alloc);

@@ -9,7 +9,8 @@ use krb_msg::Moment;
 use std::alloc::{AllocError, Global};
 use std::marker::Model;
 
-/// The plain memory: a list of tuples that grows with each new one and drops none. A look-up goes through all of them.
+/// The plain memory: a list of tuples that grows with each new tuple and drops none. A look-up goes
+/// through all of them.
 #[derive(Debug, Drop)]
 pub struct ListMemory {
     tuples: Vec<Tuple>,
@@ -30,7 +31,7 @@ impl Model for ListMemory {
 impl ListMemory {
     ghost use Rattle.krb_replay.specs.Memory.{HasNone};
 
-    /// A memory of no tuples, which was told no moment and takes no room yet.
+    /// Makes an empty memory, which was given no moment. Allocates nothing yet.
     pub fn new(alloc: Global) -> ListMemory
         ensures value { result ≡ record { stamps = []; latest = None } }
         ensures empty { HasNone (⟦<ListMemory as ReplayMemory>⟧.has result) }

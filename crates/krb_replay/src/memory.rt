@@ -1,4 +1,4 @@
-//! What any memory of what was seen does.
+//! What every memory of seen requests does.
 
 ghost use Rattle.std.specs.Prelude.{◌≡◌, ◌↔◌, ℕ, ℤ, Bool, Option, Some, IsTrue, OnOk, OnErr};
 ghost use Rattle.krb_replay.specs.Stamp.{Stamp};
@@ -9,9 +9,9 @@ use crate::tuple::Tuple;
 use krb_msg::Moment;
 use std::alloc::AllocError;
 
-/// A memory of what was seen: a set of tuples, and the latest moment that it was told.
+/// A memory of seen requests: a set of tuples, and the latest moment that it was given.
 ///
-/// No call has a condition. `contains`, `advance`, `len` and `latest` take no memory.
+/// No call has a condition. `contains`, `advance`, `len` and `latest` allocate no memory.
 pub trait ReplayMemory {
     /// Whether `advance` drops nothing.
     const KEEPS: bool;
@@ -21,27 +21,28 @@ pub trait ReplayMemory {
     /// Whether `advance` drops each tuple that may be dropped.
     ghost FORGETS: { Bool };
 
-    /// The set: whether the memory has this stamp, which is all that a contract sees of a tuple.
+    /// The set: whether the memory has this stamp. A stamp is all that a contract sees of a tuple.
     ghost has: { Self → Stamp → Type 0 };
 
-    /// The latest moment, if the memory was told any.
+    /// The latest moment, if the memory was given any.
     ghost newest: { Self → Option ℤ };
 
-    /// Answers whether the set has the tuple.
+    /// Returns whether the set has the tuple.
     fn contains(&self, tuple: &Tuple) -> bool
         ensures { IsTrue result ↔ has self.now tuple.now };
 
     /// Adds the tuple to the set, and changes nothing else.
     ///
     /// # Errors
-    /// `AllocError`: there was no room for the tuple. The memory is as before.
+    /// `AllocError`: there is no memory for the tuple. The memory is unchanged.
     fn remember(&mut self, tuple: Tuple) -> Result<(), AllocError>
         ensures ok { OnOk result (AddsStamp (has self.old) (has self.new) tuple) }
         ensures err { OnErr result (SameStamps (has self.old) (has self.new)) }
         ensures newest { newest self.new ≡ newest self.old };
 
-    /// Tells the memory a moment: the latest moment is then the greater of this one and of the one so far, if there was any. The memory may
-    /// drop each tuple whose time is before the latest moment less `skew`, and no other one.
+    /// Gives the memory a moment. The latest moment becomes the later of this moment and the one so
+    /// far, if there was one. The memory may drop each tuple whose time is before the latest moment
+    /// less `skew`, and no other.
     fn advance(&mut self, moment: Moment, skew: Skew)
         ensures newest { newest self.new ≡ Some (later_of (newest self.old) moment) }
         ensures none_added { (stamp : Stamp) → has self.new stamp → has self.old stamp }
@@ -53,16 +54,16 @@ pub trait ReplayMemory {
         ensures forgets { IsTrue FORGETS → (stamp : Stamp) → has self.new stamp
             → IsRecent (later_of (newest self.old) moment) skew stamp };
 
-    /// The number of tuples in the set.
+    /// Returns the number of tuples in the set.
     fn len(&self) -> usize
         ensures { IsSizeOf (has self.now) result };
 
-    /// The latest moment that the memory was told, if any.
+    /// Returns the latest moment that the memory was given, if any.
     fn latest(&self) -> Option<Moment>
         ensures { result ≡ newest self.now };
 }
 
-/// The later of the latest moment so far, if any, and one more.
+/// The later of the latest moment so far, if any, and a new moment.
 pub(crate) fn later(latest: Option<Moment>, moment: Moment) -> Moment
     ensures { result ≡ later_of latest moment }
 {

@@ -7,7 +7,7 @@ ghost use Rattle.krb_replay.specs.Stamp.{name_of};
 use krb_msg::{Bytes, Principal};
 use std::cmp::Ordering;
 
-/// Compares the realms, and where they are equal the components.
+/// Compares the realms, and if they are equal, the components.
 pub(crate) fn compare_names(one: &Principal, other: &Principal) -> Ordering
     ensures { result ≡ name_cmp (name_of one.now) (name_of other.now) }
 {
@@ -20,7 +20,8 @@ pub(crate) fn compare_names(one: &Principal, other: &Principal) -> Ordering
     }
 }
 
-/// Compares the components in their order, and where all of the shorter name are equal the lengths.
+/// Compares the components in their order. If one name is a prefix of the other, compares the
+/// lengths.
 fn compare_components(one: &[Bytes], other: &[Bytes]) -> Ordering
     ensures { result ≡ components_cmp one.now other.now }
 {

@@ -4,7 +4,8 @@ ghost use Rattle.std.specs.Prelude.{◌≡◌, ◌*◌, ◌≤◌, pos, SomeIff}
 
 use std::marker::Model;
 
-/// The span by which two clocks may differ: 0 to 86,400 whole seconds. A contract sees it as its microseconds.
+/// The span by which two clocks may differ: 0 to 86,400 whole seconds. A contract sees it in
+/// microseconds.
 #[derive(Clone, Copy, Debug, PartialEq, Eq)]
 pub struct Skew {
     micros: u64,
@@ -23,7 +24,7 @@ impl Model for Skew {
 }
 
 impl Skew {
-    /// The span of so many seconds. `None` above 86,400.
+    /// Returns the span of so many seconds, or `None` above 86,400.
     pub fn new(seconds: u32) -> Option<Skew>
         ensures { SomeIff result (seconds ≤ 86_400) (1_000_000 * seconds) }
     {
@@ -35,7 +36,7 @@ impl Skew {
         })
     }
 
-    /// Its microseconds.
+    /// The span in microseconds.
     pub fn micros(self) -> i64
         ensures value { result ≡ pos self }
         ensures limit { self ≤ 86_400_000_000 }

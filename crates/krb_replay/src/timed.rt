@@ -1,4 +1,4 @@
-//! A memory that forgets what is too old.
+//! A memory that forgets what is old.
 
 ghost use Rattle.std.specs.Prelude.{◌≡◌, ◌≤ℤ◌, [], None, true, false, Contains};
 ghost use Rattle.std.specs.BTreeSet.{IsOrdered};
@@ -13,10 +13,11 @@ use std::alloc::{AllocError, Global};
 use std::collections::BTreeSet;
 use std::marker::Model;
 
-/// The memory for a service that runs for long: `advance` drops all tuples whose time is before the latest moment less the skew.
+/// The memory for a service that runs for a long time: `advance` drops all tuples whose time is
+/// before the latest moment less the skew.
 ///
-/// Tuples may come in any order of time. A look-up, a new tuple and each tuple that is dropped take a time that grows with the
-/// logarithm of how many are held.
+/// Tuples may come in any order of time. The time for a look-up, a new tuple, and each dropped
+/// tuple grows with the logarithm of how many tuples are held.
 #[derive(Debug, Drop)]
 pub struct TimedMemory {
     tuples: BTreeSet<Tuple>,
@@ -38,7 +39,7 @@ impl Model for TimedMemory {
 impl TimedMemory {
     ghost use Rattle.krb_replay.specs.Memory.{HasNone};
 
-    /// A memory of no tuples, which was told no moment and takes no room yet.
+    /// Makes an empty memory, which was given no moment. Allocates nothing yet.
     pub fn new(alloc: Global) -> TimedMemory
         ensures value { result ≡ record { stamps = []; latest = None } }
         ensures empty { HasNone (⟦<TimedMemory as ReplayMemory>⟧.has result) }
@@ -88,7 +89,7 @@ impl ReplayMemory for TimedMemory {
     }
 }
 
-/// Drops the tuples whose time is before `oldest`, which is in microseconds from 1970-01-01T00:00:00Z on.
+/// Drops the tuples whose time is before `oldest`, in microseconds since 1970-01-01T00:00:00Z.
 fn drop_before(tuples: &mut BTreeSet<Tuple>, oldest: i64)
     requires { IsOrdered stamp_cmp tuples.old }
     ensures ordered { IsOrdered stamp_cmp tuples.new }

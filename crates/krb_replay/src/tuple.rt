@@ -15,14 +15,16 @@ use std::alloc::{AllocError, Global};
 use std::cmp::Ordering;
 use std::marker::Model;
 
-/// What is remembered of a request (RFC 4120, section 3.2.3): the names of server and client, and the time of its authenticator, of
-/// which two are apart by a microsecond. Name types are no part of it.
+/// What is remembered of a request (RFC 4120, section 3.2.3): the names of the server and the
+/// client, and the time of the authenticator. Two times differ if they are a microsecond apart.
+/// Name types aren't part of it.
 ///
-/// Tuples are ordered by time, and those of one time by their names in some fixed order.
+/// Tuples are ordered by time. Those of the same time are ordered by their names, in some fixed
+/// order.
 #[derive(Debug, Drop)]
 pub struct Tuple {
     time: Moment,
-    // Apart, so that the times of tuples lie close together where many are held.
+    // Boxed, so that the times of tuples lie close together if many are held.
     names: Box<Names>,
 }
 
@@ -45,10 +47,11 @@ impl Model for Tuple {
 }
 
 impl Tuple {
-    /// Makes the tuple of these names and of the authenticator's ctime and cusec. The names are moved, not copied.
+    /// Makes the tuple of these names and of the authenticator's ctime and cusec. The names are
+    /// moved, not copied.
     ///
     /// # Errors
-    /// `AllocError`: there was no room for a box.
+    /// `AllocError`: there is no memory for a box.
     pub fn new(
         alloc: Global,
         server: Principal,
@@ -68,7 +71,7 @@ impl Tuple {
         })
     }
 
-    /// The authenticator's time.
+    /// Returns the authenticator's time.
     pub fn time(&self) -> Moment
         ensures { result ≡ self.now.time }
     {
