@@ -90,6 +90,33 @@ def refused():
     ]
 
 
+def keytab_of(entries):
+    """The fixture's keytab after as many other entries as make it so many."""
+    made = b""
+    for number in range(entries - 1):
+        name = struct.pack(">H", 2) + b"".join(struct.pack(">H", len(it)) + it for it in (b"EX", b"host", b"n%04d" % number))
+        entry = name + struct.pack(">iIBhH", 3, 1_700_000_000, 3, 19, 16) + struct.pack(">QQ", number, 0) + struct.pack(">I", 3)
+        made += struct.pack(">i", len(entry)) + entry
+    return der.keytab()[:2] + made + der.keytab()[2:]
+
+
+def large_ticket():
+    """A ticket with 100,000 bytes of authorization data."""
+    data = typed(1, bytes(at % 251 for at in range(100_000)))
+    return ticket(der.element(0x63, der.element(0x30, der.ticket_part()[4:] + der.field(10, der.sequence(data)))))
+
+
+def cache_with(credentials):
+    """A cache of so many credentials, of which the last is for the fixture's service, with a large ticket."""
+    client, server = client_and_server()
+    times = (1_700_000_000, 0, 1_700_036_000, 0)
+    others = [
+        der.credential(client, der.principal(3, b"EX", b"host", b"n%04d" % number), 19, der.SESSION_KEY, times, der.ticket())
+        for number in range(credentials - 1)
+    ]
+    return b"\x05\x04\x00\x00" + client + b"".join(others) + der.credential(client, server, 19, der.SESSION_KEY, times, large_ticket())
+
+
 # Clients with a cache each, for tests with threads.
 CLIENTS = [f"c{number:04d}" for number in range(40)]
 

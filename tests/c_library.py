@@ -4,7 +4,7 @@
 The header is compiled alone, as C99 and as C++; its functions are exactly those of the archive, and its codes those of the crate. A C
 program (tests/c/library.c) runs the exchange that tests share, with exact answers, and so do examples/serve.py and the tests of the Python
 package (tests/python), over a shared object. tests/c/faults.c asks for each fault, and tests/c/memory.c lets each allocation fail in turn:
-together they see just the codes that the header names at each function. A service and a client (examples/service) talk over TCP, to each
+together they see just the codes that the header names at each function. tests/c/large.c hands in files of thousands of items. A service and a client (examples/service) talk over TCP, to each
 other and to a client and a service over MIT krb5 (tests/c_peers.py). Threads share a service (tests/c/threads.c). tests/c/fuzz.c hands the
 library good and broken files and messages, some of them under valgrind.
 
@@ -39,6 +39,8 @@ SEED = 20_261_123
 # Of the fixture's messages.
 KEYED = "mutual request with a subkey and a number"
 WATCHED = 5_000
+# Of a large keytab and a large cache.
+ITEMS = 3_000
 STRICT = ["-Wall", "-Wextra", "-Werror", "-pedantic"]
 
 
@@ -160,6 +162,19 @@ def from_c(room, answered):
     if built.returncode == 0:
         yield from counted("the program without memory", answered, program, *files, fixture(KEYED), fixture("reply"))
     yield from answered.checks()
+
+
+def with_large_files(room):
+    """Files of thousands of items, and messages of more than 100,000 bytes (tests/c/large.c)."""
+    program = room / "large"
+    built = linked(program, ROOT / "tests/c/large.c")
+    yield "the program with large files is linked", wrong(built)
+    if built.returncode:
+        return
+    made = {"large.keytab": c_cases.keytab_of(ITEMS), "large.ccache": c_cases.cache_with(ITEMS), "large.request": c_cases.request(c_cases.large_ticket())}
+    for name, data in made.items():
+        (room / name).write_bytes(data)
+    yield from counted("the program with large files", Answered(), program, ITEMS, ITEMS, *(room / name for name in made))
 
 
 def current_cache(now):
@@ -307,6 +322,7 @@ def checks(inputs):
         room = pathlib.Path(name)
         yield from headers(room)
         yield from from_c(room, Answered())
+        yield from with_large_files(room)
         yield from over_threads(room)
         yield from over_tcp(room)
         yield from c_peers.checks(room)

@@ -1,5 +1,5 @@
 """Holds the documents to what is there: their code is a program's, their commands are run, what they name as proved has these names, and
-their files exist. The manual page of the library is what its script makes, and mandoc finds nothing wrong with either page.
+their files exist. The manual page of the library and the shells' completions are what their scripts make, and mandoc finds nothing wrong with either page.
 
 Each check is a pair: its name, and what is wrong, or None.
 """
@@ -101,6 +101,34 @@ def manual():
         return None if page.read_text() == text_of("docs/man/fevstunik.3") else "make it by packaging/manual.py"
 
 
+def completions(program):
+    """The completions are what their script makes of the program's help, and bash completes by its own."""
+    folder = TOP / "packaging/completion"
+    with tempfile.TemporaryDirectory(prefix="completion-") as made:
+        ran = subprocess.run([sys.executable, TOP / "packaging/completion.py", program, made], capture_output=True, text=True)
+        if ran.returncode:
+            return ran.stderr[-500:]
+        others = [it.name for it in Path(made).iterdir() if not (folder / it.name).is_file() or (folder / it.name).read_text() != it.read_text()]
+        return f"make {others} by packaging/completion.py" if others else None
+
+
+# The words of a command line, and what the last one is completed to.
+COMPLETED = {
+    "krbtool req": "request", "krbtool list-": "list-keytab list-ccache", "krbtool request f --m": "--mutual",
+    "krbtool pick-key k host/web@EX 19 --k": "--kvno", "krbtool finish --time -": "", "krbtool help fin": "finish", "krbtool none -": "",
+}
+
+
+def completed():
+    """What bash completes words to."""
+    for words, wanted in COMPLETED.items():
+        script = f'. "$1"; COMP_WORDS=({words}); COMP_CWORD=$((${{#COMP_WORDS[@]}} - 1)); _krbtool; echo "${{COMPREPLY[*]}}"'
+        ran = subprocess.run(["bash", "-c", script, "bash", TOP / "packaging/completion/krbtool.bash"], capture_output=True, text=True)
+        if ran.stdout != f"{wanted}\n" or ran.stderr:
+            return f"'{words}' gives {ran.stdout!r}, {ran.stderr!r}"
+    return None
+
+
 def well_formed(path):
     """What mandoc says of a manual page, if it is there. (Whether other pages are installed depends on the machine.)"""
     if not shutil.which("mandoc"):
@@ -180,6 +208,8 @@ def checks(program):
     yield "docs/PROOFS.md: what is proved has these names", names()
     yield "the manual and KRBTOOL.md: commands and options", options(program)
     yield "docs/man/fevstunik.3: what its script makes", manual()
+    yield "packaging/completion: what its script makes", completions(program)
+    yield "packaging/completion: what bash completes", completed()
     for path in sorted((TOP / "docs/man").iterdir()):
         yield f"{path.relative_to(TOP)}: mandoc", well_formed(path)
     yield "README.md: its length", None if len(text_of("README.md").splitlines()) <= LINES else f"more than {LINES} lines"

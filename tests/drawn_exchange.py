@@ -341,21 +341,23 @@ def schedules(draw):
         yield f"schedules of any order, {memory}", lines, answers
 
 
+# How many tuples are remembered at most.
+TUPLES = 50_000
 WEB, ALICE = "3/4558/686f7374,776562", "1/4558/616c696365"
 
 
 def many_tuples():
     """Many tuples, in an order that jumps to and fro in time: none is dropped or doubled."""
     lines, answers = ["memory timed"], ["memory"]
-    for number in range(20_000):
-        lines.append(f"remember {WEB} {ALICE} {7919 * number % 20_000} 5")
+    for number in range(TUPLES):
+        lines.append(f"remember {WEB} {ALICE} {7919 * number % TUPLES} 5")
         answers.append("ok")
-    lines, answers = [*lines, "len"], [*answers, "20000"]
-    for number in range(20_000):
+    lines, answers = [*lines, "len"], [*answers, str(TUPLES)]
+    for number in range(TUPLES):
         lines.append(f"contains {WEB} {ALICE} {number} 5")
         answers.append("true")
-    lines, answers = [*lines, "advance 10300 5 300", "len"], [*answers, "ok", "10000"]
-    for number in range(20_000):
+    lines, answers = [*lines, "advance 10300 5 300", "len"], [*answers, "ok", str(TUPLES - 10_000)]
+    for number in range(TUPLES):
         lines.append(f"contains {WEB} {ALICE} {number} 5")
         answers.append("true" if number >= 10_000 else "false")
     yield "many tuples", lines, answers

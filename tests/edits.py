@@ -671,19 +671,21 @@ def main():
     runner = Runner(top, Lanes(given.jobs or processors()), given.log)
     total = sum(len(it.edits) + len(it.strays) for it in chosen)
 
+    is_whole = lambda it: not it.strays and all(edit.outcome == "refused" for edit in it.edits)
+
     def report(crate):
         with printing:
             for line in reported(crate):
                 print(f"edits: {line}", flush=True)
+            # (at once: what a run that is ended early has seen isn't lost)
+            if is_whole(crate) and not given.edit:
+                lock.keep([crate])
 
     if not try_all(given, top, known, chosen, runner, report):
         print("edits: the crates aren't proved as they are, so no edit was tried")
         print(f"0 passed, {max(total, 1)} failed")
         return 1
-    is_whole = lambda it: not it.strays and all(edit.outcome == "refused" for edit in it.edits)
     lock.forget([it for it in chosen if not is_whole(it)])
-    if not given.edit:
-        lock.keep([it for it in chosen if is_whole(it)])
     passed = sum(it.outcome == "refused" for crate in chosen for it in crate.edits)
     seconds = runner.seconds + sum(it.seconds for it in chosen)
     print(f"edits: {runner.count} checks, {seconds:.0f} s of processor time, in {time.monotonic() - began:.0f} s")

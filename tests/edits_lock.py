@@ -3,8 +3,9 @@
     NAME COUNT HASH      all COUNT edits of the crate were refused
 
 Whether an edit is refused depends on the edit, on the sources, definitions and proofs of its crate, on what the crates below state, and on
-the toolchain. The hash is of all that. A crate below states its definitions and its sources without the bodies of functions (a const fn
-keeps its own, since others may see it); comments there count for nothing.
+the toolchain. The hash is of all that, without comments. A crate below states its definitions and its sources without the bodies of
+functions (a const fn keeps its own, since others may see it). A line holds only while all edits of the crate apply, since an edit may name a
+comment.
 """
 import hashlib
 import os
@@ -39,6 +40,13 @@ def stated(text):
     return " ".join(without_comments("".join([*kept, text[at:]])).split())
 
 
+def lines_that_count(path):
+    """The lines of a file without its comments, and without those that are empty then."""
+    text = read(path)
+    text = without_comments(text) if path.endswith(".rt") else COMMENT_OF_ANTT.sub("", text) if path.endswith(".antt") else text
+    return "\n".join(it for it in map(str.rstrip, text.split("\n")) if it)
+
+
 def stated_by(folder):
     """What a crate states, by file."""
     for path in files_below(f"{folder}/src"):
@@ -64,7 +72,7 @@ def hash_of(crate, known, version):
     add(version, crate.name, *sorted(crate.deps))
     for part in ("src", "specs", "proofs", "edits"):
         for path in files_below(f"{crate.folder}/{part}"):
-            add(os.path.relpath(path, crate.folder), read(path))
+            add(os.path.relpath(path, crate.folder), lines_that_count(path))
     for name in sorted(crate.below):
         add(name, *sorted(known[name].deps))
         for path, text in stated_by(known[name].folder):
@@ -102,7 +110,8 @@ class Lock:
         self.top, self.rows = top, read_lock(top)
         self.hashes = {it.name: hash_of(it, known, version) for it in crates}
         wanted = {it.name: (len(it.edits), self.hashes[it.name]) for it in crates}
-        self.holds = {name for name, row in wanted.items() if self.rows.get(name) == row}
+        apply = {it.name for it in crates if not it.strays and not any(edit.fault for edit in it.edits)}
+        self.holds = {name for name, row in wanted.items() if self.rows.get(name) == row and name in apply}
         self.drawn = drawn(top, self.holds)
 
     def to_try(self, crates):

@@ -14,6 +14,7 @@ import edits_lock  # noqa: E402
 from edits import crates_of  # noqa: E402
 
 SOURCE = """// Functions whose edits show what the runner of edits tells apart.
+// Where an edit may stand.
 #![tactic(auto)]
 
 ghost use Rattle.std.specs.Prelude.{◌≡◌, ◌≤◌, ◌+◌, ◌*◌};
@@ -124,12 +125,18 @@ pub fn one() -> u32
 }
 """
 
+# An edit that names a comment, too.
+NAMES_A_COMMENT = ("twice_and_one", "    n + n", "    n + n + 1\nold: // Where an edit may stand.\nnew: // Here.", None)
+
 # What is changed (file, old text, new text), and whether the edits are then tried again.
 CHANGES = [
     ("a comment of the crate below", "low/src/lib.rt", "// A number.", "// One.", False),
     ("a body of the crate below", "low/src/lib.rt", "    1\n", "    2 - 1\n", False),
     ("a contract of the crate below", "low/src/lib.rt", "result ≡ 1", "result ≤ 1", True),
     ("a definition of the crate below", "low/specs/Lib.antt", "", "pub mod More\n", True),
+    ("a comment", "sample/src/lib.rt", "// Functions whose edits show", "// These show", False),
+    ("a comment of a proof", "sample/proofs/six_times/Answers.antt", "pub returns :", "-- What is returned.\npub returns :", False),
+    ("a comment that an edit names", "sample/src/lib.rt", "// Where an edit may stand.", "// Elsewhere.", True),
     ("a body", "sample/src/lib.rt", "    n / 2", "    n / 4", True),
     ("a contract", "sample/src/lib.rt", "ensures { result ≤ n }", "ensures { n ≤ n }", True),
     ("a definition", "sample/specs/Lib.antt", "", "pub mod More\n", True),
@@ -155,7 +162,7 @@ def read(path):
 def check_lock(hold):
     """What makes the runner try edits again, and what it says of a lock that lies."""
     with tempfile.TemporaryDirectory(prefix="edits-test-") as room:
-        made(room, EDITS[:1])
+        made(room, [NAMES_A_COMMENT])
         write(f"{room}/crates.txt", "low:\nsample: low\n")
         write(f"{room}/crates/low/src/lib.rt", LOW)
         plan = lambda: run_of(room, [], "--plan")[1]

@@ -9,6 +9,7 @@ import tomllib
 from itertools import combinations
 from pathlib import Path
 
+import generated_exchange
 import reference
 
 sys.path.insert(0, str(Path(__file__).resolve().parent / "vectors"))
@@ -205,5 +206,6 @@ def cases():
     yield from keytab_cases()
     yield from cache_cases()
     yield from request_cases()
+    yield from generated_exchange.cases()
     yield from stream_cases()
     yield from mode_cases()

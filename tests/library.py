@@ -43,7 +43,7 @@ sys.dont_write_bytecode = True
 import exchange_made  # noqa: E402
 
 # The modules with a function drawn(), which gives (program, name, lines, answers) of further cases.
-MODELS = ("aes", "stealing", "codes", "sealing", "der_rules", "msg_rules", "drawn_files", "drawn_exchange")
+MODELS = ("aes", "stealing", "codes", "sealing", "der_rules", "msg_rules", "drawn_files", "drawn_exchange", "gss_rules")
 # A longer text is told by its length and its hash.
 SHOWN = 1024
 SECONDS = 120

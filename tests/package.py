@@ -25,6 +25,7 @@ INSTALLED = {
     "usr/bin/krbtool", "usr/include/fevstunik.h", f"{LIBDIR}/libfevstunik.a", f"{LIBDIR}/libfevstunik.so", f"{LIBDIR}/libfevstunik.so.0",
     f"{LIBDIR}/libfevstunik.so.0.1.0", f"{LIBDIR}/pkgconfig/fevstunik.pc", f"{LIBDIR}/glibc-hwcaps/x86-64-v2/libfevstunik.so.0",
     f"{LIBDIR}/glibc-hwcaps/x86-64-v2/libfevstunik.so.0.1.0", "usr/share/man/man1/krbtool.1",
+    "usr/share/bash-completion/completions/krbtool", "usr/share/zsh/vendor-completions/_krbtool",
     "usr/share/man/man3/fevstunik.3",
 }
 PACKAGES = {"krbtool": "usr/bin/", "libfevstunik0": f"{LIBDIR}/", "libfevstunik-dev": f"{LIBDIR}/",

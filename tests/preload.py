@@ -52,11 +52,24 @@ def file_commands():
         else:
             yield Command([word, "f"], file, b"", command(file).encode(), OLD)
     yield requested()
+    yield finished()
+    yield picked()
 
 
 def requested():
     words = "request f host/web@EX --time 1700000100 --usec 5 --mutual --confounder 202122232425262728292a2b2c2d2e2f".split()
     return Command(words, fixture.cache(), b"", f"{fixture.request(0x20000000).hex()}\n".encode(), OLD)
+
+
+def finished():
+    words = "finish f host/web@EX --time 1700000100 --usec 5 --reply".split()
+    reply = fixture.reply(fixture.key(20, bytes(32)), 7)
+    return Command([*words, reply.hex()], fixture.cache(), b"", b"agreed alice@EX 19 seq 7 subkey 20\n", OLD)
+
+
+def picked():
+    words = "pick-key f host/web@EX 19 --kvno 3".split()
+    return Command(words, fixture.keytab(), b"", b"3 19 1700000000 host/web@EX\n", OLD)
 
 
 def called(lines, *more):

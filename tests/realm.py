@@ -67,7 +67,7 @@ def parts(cases, peers, mit, heimdal, sides):
     for ticket in [*of_mit, *of_heimdal, tickets.with_addresses(mit), *tickets.of_both(mit, heimdal)]:
         yield lambda: exchanges.their_requests(cases, peers, ticket)
         yield lambda: exchanges.our_requests(cases, peers, ticket)
-    of_each_type = of_mit[:2] + of_heimdal[-2:]
+    of_each_type = of_mit[:2] + of_heimdal[2:4]
     for ticket in of_each_type:
         for part in (exchanges.repeats, exchanges.skewed, exchanges.ended, exchanges.other_services):
             yield lambda: part(cases, peers, ticket)
@@ -75,6 +75,7 @@ def parts(cases, peers, mit, heimdal, sides):
         yield lambda: part(cases, peers, mit)
     yield lambda: files.keytabs(cases, peers, heimdal, [*files.of_mit(mit), *files.of_heimdal(heimdal)])
     yield lambda: files.caches(cases, peers, [(realm, path) for realm in (mit, heimdal) for path in sorted(realm.folder.glob("*.ccache"))])
+    yield lambda: files.old_cache(cases, peers, of_heimdal[-1])
     yield lambda: files.used(cases, peers, mit, "one", "host/plain.example")
     yield lambda: files.used(cases, peers, heimdal, "default", "host/web.example")
     yield lambda: replies.exchanged(cases, peers, sides, of_each_type)

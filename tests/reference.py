@@ -100,10 +100,12 @@ def keytab(data):
     return entries
 
 
+def keytab_line(entry):
+    return f"{entry['kvno']} {entry['etype']} {entry['timestamp']} {principal_text(entry['realm'], entry['components'])}\n"
+
+
 def list_keytab(data):
-    return "".join(
-        f"{it['kvno']} {it['etype']} {it['timestamp']} {principal_text(it['realm'], it['components'])}\n" for it in keytab(data)
-    )
+    return "".join(map(keytab_line, keytab(data)))
 
 
 def check_keytab(data):

@@ -19,6 +19,10 @@ PASSED_OVER = 2
 # What is refused, by the line that says so, in the order of a run; and the status.
 WORDS = ("krbtool: words: OutOfMemory\n", 2)
 CLAP = ("error: out of memory\n", 3)
+# What else of a command is refused memory: its file, and words of its own.
+PARTS = {f"krbtool: {part}: OutOfMemory\n" for part in ("f", "service", "name", "reply")}
+# The request whose reply is read.
+PENDING = ("finish", "krbtool: request: OutOfMemory\n")
 # The answer of accept to a line whose call was refused memory.
 REFUSED = b"refused none OutOfMemory\n"
 
@@ -61,7 +65,7 @@ def is_named(program, command, found):
     """Whether the run's lines say that the command, or its file, was refused memory, and nothing wrong was written."""
     if found.status != 3 or found.out not in (command.out, b"") and command.out != OLD:
         return False
-    if found.said in ("krbtool: f: OutOfMemory\n", "krbtool: service: OutOfMemory\n"):
+    if found.said in PARTS or (command.words[0], found.said) == PENDING:
         return not found.wrote
     if command.stdin:
         return is_answered(program, command, found)

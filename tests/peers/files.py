@@ -4,6 +4,7 @@ from datetime import datetime, timezone
 
 import reference
 from kdc import PASSWORD
+from sides import now
 from tickets import AES128, AES256, NUMBERS, Ticket
 
 def klist_keytab(realm, path):
@@ -78,9 +79,28 @@ def caches(cases, peers, paths):
         cases.equal(f"file: klist of {name}", ours_as_klist(listed), klist_cache(realm, path))
         cases.equal(f"file: check-ccache {name}", peers.said("check-ccache", path), reference.check_ccache(data))
         made = path.with_suffix(".converted")
-        cases.equal(f"file: convert-ccache {name}", peers.said("convert-ccache", path, made), f"wrote {len(data)}\n")
+        wanted = reference.convert_ccache(data)
+        cases.equal(f"file: convert-ccache {name}", peers.said("convert-ccache", path, made), f"wrote {len(wanted)}\n")
+        cases.equal(f"file: the converted {name}", made.read_bytes(), wanted)
         cases.equal(f"file: klist of the converted {name}", klist_cache(realm, made), klist_cache(realm, path))
-        cases.equal(f"file: Heimdal's klist of the converted {name}", heimdal_klist(realm, made), heimdal_klist(realm, path))
+        cases.equal(f"file: Heimdal's klist of the converted {name}", heimdal_klist(realm, made), converted(heimdal_klist(realm, path)))
+
+
+def old_cache(cases, peers, ticket):
+    """A cache that Heimdal wrote with `fcache_version = 3` is of version 0x0503, and its converted form of 0x0504; both give requests."""
+    cases.equal("file: the version that Heimdal writes", ticket.cache.read_bytes()[:2], reference.OLD)
+    made = ticket.cache.with_suffix(".converted")
+    cases.equal("file: the version that we write", made.read_bytes()[:2], reference.NEW)
+    second = now()
+    for version, cache in (("0x0503", ticket.cache), ("0x0504", made)):
+        line = f"{second} 0 {peers.request(cache, ticket.service, second, 5)}"
+        wanted = f"accepted {ticket.client} {ticket.etype} {second} 5 plain"
+        cases.equal(f"file: a request of the cache of version {version}", peers.accept(ticket.keytab, [line]), [wanted])
+
+
+def converted(lines):
+    """What Heimdal's klist tells of a cache, as of the newer version."""
+    return [line.replace("Cache version: 3", "Cache version: 4") for line in lines]
 
 
 def heimdal_klist(realm, path):

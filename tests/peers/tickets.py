@@ -94,12 +94,15 @@ def of_mit(realm):
 
 
 def of_heimdal(realm):
+    """Tickets of either library's tools; and of Heimdal's where they are told to write caches of version 0x0503."""
     realm.start()
+    realm.client("old", "default", "fcache_version = 3")
     services = ["host/web.example", "host/only19.example"]
-    caches = {tools: realm.cache(tools, "default", services, tools=tools) for tools in LIBRARIES}
+    caches = {f"{tools}'s tools at Heimdal's KDC": realm.cache(tools, "default", services, tools=tools) for tools in LIBRARIES}
+    caches["a cache of version 0x0503"] = realm.cache("old", "old", services, tools="Heimdal")
     return [
-        Ticket(f"{tools}'s tools at Heimdal's KDC, {etype}", realm, cache, service, etype, False)
-        for tools, cache in caches.items()
+        Ticket(f"{label}, {etype}", realm, cache, service, etype, False)
+        for label, cache in caches.items()
         for service, etype in zip(services, (20, 19))
     ]
 

@@ -27,7 +27,8 @@ def python(program, **more):
 def test_codes_are_the_headers():
     numbers = re.findall(r"^    FEVSTUNIK_(\w+) = (\d+)", HEADER[:HEADER.index("} fevstunik_code;")], re.M)
     assert {it.name: it.value for it in fevstunik.Code} == {name: int(number) for name, number in numbers}
-    texts = dict(re.findall(r'case FEVSTUNIK_(\w+): return "([^"]* [^"]*)";', HEADER))
+    told = HEADER[HEADER.index("static inline const char *fevstunik_code_text("):]
+    texts = dict(re.findall(r'case FEVSTUNIK_(\w+): return "([^"]*)";', told))
     assert {it.name: it.text for it in fevstunik.Code} == texts
 
 
