@@ -12,6 +12,8 @@ LIBDIR ?= $(PREFIX)/lib
 BINDIR = $(DESTDIR)$(PREFIX)/bin
 INCLUDEDIR = $(DESTDIR)$(PREFIX)/include
 MANDIR = $(DESTDIR)$(PREFIX)/share/man
+BASH_COMPLETION = $(DESTDIR)$(PREFIX)/share/bash-completion/completions/krbtool
+ZSH_COMPLETION = $(DESTDIR)$(PREFIX)/share/zsh/vendor-completions/_krbtool
 TO_LIB = $(DESTDIR)$(LIBDIR)
 BUILD := build
 # The library for every x86-64, and those for newer processors, which the loader takes by itself.
@@ -42,6 +44,8 @@ check:
 
 install: all
 	install -D -m 755 $(BUILD)/krbtool $(BINDIR)/krbtool
+	install -D -m 644 packaging/completion/krbtool.bash $(BASH_COMPLETION)
+	install -D -m 644 packaging/completion/_krbtool $(ZSH_COMPLETION)
 	install -D -m 644 include/fevstunik.h $(INCLUDEDIR)/fevstunik.h
 	sed 's|@PREFIX@|$(PREFIX)|; s|@LIBDIR@|$(LIBDIR)|; s|@VERSION@|$(VERSION)|' packaging/fevstunik.pc.in >$(BUILD)/fevstunik.pc
 	install -D -m 644 $(BUILD)/fevstunik.pc $(TO_LIB)/pkgconfig/fevstunik.pc
@@ -58,6 +62,7 @@ install: all
 	done
 
 uninstall:
+	rm -f $(BASH_COMPLETION) $(ZSH_COMPLETION)
 	rm -f $(BINDIR)/krbtool $(INCLUDEDIR)/fevstunik.h $(TO_LIB)/pkgconfig/fevstunik.pc $(TO_LIB)/libfevstunik.a
 	rm -f $(TO_LIB)/libfevstunik.so $(TO_LIB)/libfevstunik.so.0 $(TO_LIB)/libfevstunik.so.$(VERSION)
 	rm -f $(NEWER:%=$(TO_LIB)/glibc-hwcaps/%/libfevstunik.so.0) $(NEWER:%=$(TO_LIB)/glibc-hwcaps/%/libfevstunik.so.$(VERSION))

@@ -1,35 +1,45 @@
-/* Fevstunik: the application exchange of Kerberos 5 (RFC 4120, section 3.2) with the encryption types of RFC 8009, for C and C++.
+/* Fevstunik: the application exchange of Kerberos 5 (RFC 4120, section 3.2) with the encryption
+ * types of RFC 8009, for C and C++.
  *
- * Each function calls a proved function of this repository; crates/krb_c has their contracts. Link with libkrb_c.a, which `rt lib`
- * builds, and with the toolchain's liblibc_c.a, by which the library reaches malloc, realloc and free.
+ * Each function calls a proved function of this repository; crates/krb_c has their contracts. Link
+ * with libkrb_c.a, which `rt lib` builds, and with the toolchain's liblibc_c.a, through which the
+ * library calls malloc, realloc and free.
  *
- * What is proved of a call holds if its caller keeps to this, and nothing is promised otherwise:
- *  - A handle is empty before its first use, as `fevstunik_acceptor handle = FEVSTUNIK_ACCEPTOR_INIT;` makes it: all zero.
- *  - A handle is never copied, and only these functions write it. It may be moved in memory between calls, not during one, and
- *    is not used again at its old place. A program that uses a copy, or that lets a handle overlap a buffer, may free memory
- *    that is still in use.
- *  - Any thread may make a call, but only one call at a time uses a handle, also a const one: put a lock around calls that
- *    share one. Two handles share nothing, in one process or in two; after a fork the child's copy of a handle is a copy, and
- *    isn't used. A call that takes a const handle leaves it as it was, but may write to it until it returns: no handle is
- *    defined const.
- *  - Pointers are valid. A pointer to no bytes, with size 0, may be NULL, and no other (this is tested, not proved).
- *  - What a call writes (its handle, its buffer, its other results) overlaps nothing else that is handed to that call.
+ * What is proved of a call holds if its caller follows these rules. Otherwise nothing is promised:
+ *  - A handle is empty (all zero) before its first use, as
+ *    `fevstunik_acceptor handle = FEVSTUNIK_ACCEPTOR_INIT;` makes it.
+ *  - A handle is never copied, and only these functions write to it. It may be moved in memory
+ *    between calls, but not during one. After a move its old place is not used again. A program
+ *    that uses a copy, or that lets a handle overlap a buffer, may free memory that is still in
+ *    use.
+ *  - Any thread may make a call, but only one call at a time may use a handle, even a const one. Put
+ *    a lock around calls that share a handle. Two handles share nothing, in one process or in two.
+ *    After a fork the child's handles are copies, and the child doesn't use them. A call that takes
+ *    a const handle may write to it while it runs, and leaves it unchanged when it returns. So no
+ *    handle is defined as const.
+ *  - Pointers are valid. Only a pointer to bytes whose size is 0 may be NULL (this is tested, not
+ *    proved).
+ *  - What a call writes to (its handle, its buffer, its other results) overlaps nothing else that
+ *    the call is given.
  *  - A bool is 0 or 1. Sizes are at most PTRDIFF_MAX.
- *  - malloc, realloc and free are of one allocator, and aligned as C asks.
- * No function is called from a signal handler, or from the child of a fork of a process with threads.
+ *  - malloc, realloc and free belong to one allocator, which aligns memory as C requires.
+ * No function is called from a signal handler, or in a child that a process with threads has
+ * forked.
  *
- * The library keeps no state but in handles, reads no clock and no random numbers, and writes nothing anywhere. Keys aren't
- * wiped from memory that is freed, and nothing is promised about how long a call takes.
+ * The library keeps its state in handles only. It reads no clock and no random numbers, and has no
+ * output but its results. Freed memory isn't wiped of keys, and nothing is promised about how long
+ * a call takes.
  *
- * Whatever is handed in stays the caller's: no function keeps a pointer to it, or frees it. What a handle holds the library has
- * allocated, and the function of that handle whose name ends in _free frees it; the caller has nothing else to free. Files have at most 16,777,216 bytes,
- * and requests, replies and errors at most 1,048,576: anything longer is a fault. Other sizes are limited by memory alone,
- * unless a limit is named.
+ * Arguments stay the caller's: no function keeps a pointer to them or frees them. The library
+ * allocates what a handle holds. Each handle has a function whose name ends in _free, which frees
+ * that. There is nothing else to free. Files have at most 16,777,216 bytes, and requests, replies
+ * and errors at most 1,048,576: anything longer is a fault. Other sizes are limited by memory
+ * alone, unless a limit is named.
  *
- * A function that returns bytes writes them to the front of the caller's buffer, and leaves the rest of the buffer as it is. If
- * the buffer is too short the code is FEVSTUNIK_SHORT_BUFFER, `size` is the number of bytes that are needed, and the buffer is
- * left as it is: the call may be made again with a longer one. A call without a handle may be made with a short buffer first,
- * to learn the size.
+ * A function that returns bytes writes them to the start of the caller's buffer, and leaves the
+ * rest of the buffer unchanged. If the buffer is too short, the code is FEVSTUNIK_SHORT_BUFFER,
+ * `size` is the number of bytes needed, and the buffer is unchanged: make the call again with a
+ * longer one. To learn the size, a call without a handle may be made with a short buffer first.
  */
 #ifndef FEVSTUNIK_H
 #define FEVSTUNIK_H
@@ -48,8 +58,9 @@ extern "C" {
 #define FEVSTUNIK_VERSION_MINOR 1
 #define FEVSTUNIK_VERSION_PATCH 0
 
-/* Returns the version of the library that the program runs with: 10,000 times the major number, 100 times the minor
- * number, and the patch number. The macros above have that of this header.
+/* Returns the version of the library that the program runs with: 10,000 times the major number,
+ * plus 100 times the minor number, plus the patch number. The macros above have the version of this
+ * header.
  *
  *     printf("%u\n", (unsigned)fevstunik_version());
  */
@@ -57,37 +68,38 @@ uint32_t fevstunik_version(void);
 
 /* ---- codes ---- */
 
-/* The codes of answers. A number never changes its meaning. The gaps are for codes to come: handle those that you don't know as
- * failures. */
+/* The codes that calls answer. A number never changes its meaning. The gaps are for new codes:
+ * treat a code that you don't know as a failure.
+ */
 typedef enum fevstunik_code {
-    FEVSTUNIK_OK = 0, /* all is well */
+    FEVSTUNIK_OK = 0, /* success */
 
-    /* Why a request is refused, in the order in which the causes are looked at: the first that holds is answered. A number in
-     * front of a text is the code of RFC 4120, section 7.5.9, which is in `kerberos`. */
+    /* Why a request is refused. The causes are checked in this order, and the first that applies is answered. A number before a
+     * text is the code of RFC 4120, section 7.5.9, which the answer has in `kerberos`. */
     FEVSTUNIK_MESSAGE_TYPE = 100,            /* 40: the first byte isn't that of a request */
-    FEVSTUNIK_MALFORMED = 110,               /* 60: the bytes are no request; `at` is the place of the fault */
+    FEVSTUNIK_MALFORMED = 110,               /* 60: the bytes aren't a request; `at` is the place of the fault */
     FEVSTUNIK_USER_TO_USER = 120,            /* 45: the option use-session-key is set */
     FEVSTUNIK_TICKET_ETYPE = 130,            /* 14: the ticket's encryption type isn't 19 or 20 */
-    FEVSTUNIK_NOT_US = 140,                  /* 35: the ticket is for another service than those that are served */
+    FEVSTUNIK_NOT_US = 140,                  /* 35: the ticket is for a service that isn't served here */
     FEVSTUNIK_NO_KEY = 150,                  /* 45: no key of the ticket's encryption type is usable */
-    FEVSTUNIK_BAD_KEY_VERSION = 160,         /* 44: no such key has the ticket's version number */
+    FEVSTUNIK_BAD_KEY_VERSION = 160,         /* 44: no key of that type has the ticket's version number */
     FEVSTUNIK_TICKET_INTEGRITY = 170,        /* 31: the key doesn't open the ticket */
     FEVSTUNIK_SESSION_KEY = 180,             /* 14: the ticket's session key isn't usable */
     FEVSTUNIK_AUTHENTICATOR_INTEGRITY = 190, /* 31: the session key doesn't open the authenticator */
-    FEVSTUNIK_BAD_MATCH = 200,               /* 36: the authenticator names another client than the ticket */
+    FEVSTUNIK_BAD_MATCH = 200,               /* 36: the authenticator and the ticket name different clients */
     FEVSTUNIK_SKEW = 210,                    /* 37: the clocks differ by more than the skew */
     FEVSTUNIK_JUST_STARTED = 215,            /* 37: the service has just started */
     FEVSTUNIK_REPEAT = 220,                  /* 34: a request of this service, client and time was seen before */
-    FEVSTUNIK_NOT_YET_VALID = 230,           /* 33: the ticket begins later, or is marked invalid */
-    FEVSTUNIK_EXPIRED = 240,                 /* 32: the ticket has ended */
+    FEVSTUNIK_NOT_YET_VALID = 230,           /* 33: the ticket isn't valid yet, or is marked invalid */
+    FEVSTUNIK_EXPIRED = 240,                 /* 32: the ticket has expired */
     FEVSTUNIK_TRANSITED = 250,               /* 60: the client is of another realm, and no KDC checked the realms between */
-    FEVSTUNIK_AUTHORIZATION = 260,           /* 60: there is authorization data that may not be ignored */
+    FEVSTUNIK_AUTHORIZATION = 260,           /* 60: the request has authorization data that may not be ignored */
 
-    /* What many calls may answer. */
+    /* Codes that many calls may answer. */
     FEVSTUNIK_OUT_OF_MEMORY = 400,  /* out of memory: malloc or realloc returned NULL */
     FEVSTUNIK_SHORT_BUFFER = 401,   /* the buffer is too short: `size` bytes are needed */
     FEVSTUNIK_EMPTY_HANDLE = 402,   /* the handle is empty */
-    FEVSTUNIK_NOTHING_THERE = 403,  /* nothing was accepted, or nothing was refused, or there is no moment yet */
+    FEVSTUNIK_NOTHING_THERE = 403,  /* nothing was accepted, nothing was refused, or there is no moment yet */
     FEVSTUNIK_TOO_LONG = 404,       /* a file, a request, an error, a name or a key is longer than its limit */
     FEVSTUNIK_BAD_SKEW = 410,       /* the skew is more than 86,400 seconds */
     FEVSTUNIK_BAD_MOMENT = 411,     /* the moment is outside the years 0000 to 9999, or has 1,000,000 microseconds or more */
@@ -103,27 +115,28 @@ typedef enum fevstunik_code {
     FEVSTUNIK_FILE_BAD_ITEM = 503,  /* the record at `at` holds no entry, or no principal or credential is at `at` */
     FEVSTUNIK_NO_SUCH_ENTRY = 504,  /* the file or the request has no item of this index */
 
-    /* Why there is no request. */
+    /* Why no request is built. */
     FEVSTUNIK_NO_CREDENTIAL = 600,      /* the cache has no ticket of its default principal for the service */
     FEVSTUNIK_NO_USABLE_KEY = 601,      /* no ticket for the service has a usable session key */
     FEVSTUNIK_CREDENTIAL_EXPIRED = 602, /* no usable ticket for the service ends later than the moment */
-    FEVSTUNIK_BAD_TICKET = 603,         /* the bytes that the credential has for a ticket are none */
+    FEVSTUNIK_BAD_TICKET = 603,         /* the credential's ticket isn't a valid ticket */
 
-    /* Why a reply is refused: the first that holds. */
+    /* Why a reply is refused: the first that applies. */
     FEVSTUNIK_REPLY_TYPE = 700,      /* the first byte isn't that of a reply */
-    FEVSTUNIK_REPLY_MALFORMED = 701, /* the bytes are no reply; `at` is the place of the fault */
+    FEVSTUNIK_REPLY_MALFORMED = 701, /* the bytes aren't a reply; `at` is the place of the fault */
     FEVSTUNIK_REPLY_INTEGRITY = 702, /* the session key doesn't open the reply */
     FEVSTUNIK_REPLY_MISMATCH = 703,  /* 46: the reply's time isn't the request's */
 
-    /* Why a text isn't opened, or a tag isn't its checksum; and why a text is no name. */
+    /* Why a text isn't opened or a tag isn't its checksum, and why a text isn't a name. */
     FEVSTUNIK_TEXT_SHORT = 800,     /* the text has fewer bytes than a sealed empty text: 32 (type 19) or 40 (type 20) */
     FEVSTUNIK_TEXT_INTEGRITY = 801, /* the tag is wrong */
-    FEVSTUNIK_BAD_TEXT = 810,       /* the text isn't a name's from `at` on */
+    FEVSTUNIK_BAD_TEXT = 810,       /* the text isn't a valid name; `at` is the place of the fault */
     FEVSTUNIK_NO_REALM = 811,       /* the text has no `@` without a backslash before it */
     FEVSTUNIK_NOT_UTF8 = 812        /* the text isn't UTF-8 */
 } fevstunik_code;
 
-/* Returns the name of a code, as "FEVSTUNIK_REPEAT", or NULL if the number is no code of this header.
+/* Returns the name of a code, such as "FEVSTUNIK_REPEAT", or NULL if the number isn't a code of
+ * this header.
  *
  *     printf("%s\n", fevstunik_code_name(answer.code));
  */
@@ -182,37 +195,37 @@ static inline const char *fevstunik_code_name(uint32_t code)
     }
 }
 
-/* Returns what a code says, as "a request of this service, client and time was seen before", or NULL if the number is no
- * code of this header.
+/* Returns the meaning of a code, such as "a request of this service, client and time was seen
+ * before", or NULL if the number isn't a code of this header.
  *
  *     fprintf(stderr, "%s\n", fevstunik_code_text(answer.code));
  */
 static inline const char *fevstunik_code_text(uint32_t code)
 {
     switch (code) {
-    case FEVSTUNIK_OK: return "all is well";
+    case FEVSTUNIK_OK: return "success";
     case FEVSTUNIK_MESSAGE_TYPE: return "the first byte isn't that of a request";
-    case FEVSTUNIK_MALFORMED: return "the bytes are no request; `at` is the place of the fault";
+    case FEVSTUNIK_MALFORMED: return "the bytes aren't a request; `at` is the place of the fault";
     case FEVSTUNIK_USER_TO_USER: return "the option use-session-key is set";
     case FEVSTUNIK_TICKET_ETYPE: return "the ticket's encryption type isn't 19 or 20";
-    case FEVSTUNIK_NOT_US: return "the ticket is for another service than those that are served";
+    case FEVSTUNIK_NOT_US: return "the ticket is for a service that isn't served here";
     case FEVSTUNIK_NO_KEY: return "no key of the ticket's encryption type is usable";
-    case FEVSTUNIK_BAD_KEY_VERSION: return "no such key has the ticket's version number";
+    case FEVSTUNIK_BAD_KEY_VERSION: return "no key of that type has the ticket's version number";
     case FEVSTUNIK_TICKET_INTEGRITY: return "the key doesn't open the ticket";
     case FEVSTUNIK_SESSION_KEY: return "the ticket's session key isn't usable";
     case FEVSTUNIK_AUTHENTICATOR_INTEGRITY: return "the session key doesn't open the authenticator";
-    case FEVSTUNIK_BAD_MATCH: return "the authenticator names another client than the ticket";
+    case FEVSTUNIK_BAD_MATCH: return "the authenticator and the ticket name different clients";
     case FEVSTUNIK_SKEW: return "the clocks differ by more than the skew";
     case FEVSTUNIK_JUST_STARTED: return "the service has just started";
     case FEVSTUNIK_REPEAT: return "a request of this service, client and time was seen before";
-    case FEVSTUNIK_NOT_YET_VALID: return "the ticket begins later, or is marked invalid";
-    case FEVSTUNIK_EXPIRED: return "the ticket has ended";
+    case FEVSTUNIK_NOT_YET_VALID: return "the ticket isn't valid yet, or is marked invalid";
+    case FEVSTUNIK_EXPIRED: return "the ticket has expired";
     case FEVSTUNIK_TRANSITED: return "the client is of another realm, and no KDC checked the realms between";
-    case FEVSTUNIK_AUTHORIZATION: return "there is authorization data that may not be ignored";
+    case FEVSTUNIK_AUTHORIZATION: return "the request has authorization data that may not be ignored";
     case FEVSTUNIK_OUT_OF_MEMORY: return "out of memory: malloc or realloc returned NULL";
     case FEVSTUNIK_SHORT_BUFFER: return "the buffer is too short: `size` bytes are needed";
     case FEVSTUNIK_EMPTY_HANDLE: return "the handle is empty";
-    case FEVSTUNIK_NOTHING_THERE: return "nothing was accepted, or nothing was refused, or there is no moment yet";
+    case FEVSTUNIK_NOTHING_THERE: return "nothing was accepted, nothing was refused, or there is no moment yet";
     case FEVSTUNIK_TOO_LONG: return "a file, a request, an error, a name or a key is longer than its limit";
     case FEVSTUNIK_BAD_SKEW: return "the skew is more than 86,400 seconds";
     case FEVSTUNIK_BAD_MOMENT: return "the moment is outside the years 0000 to 9999, or has 1,000,000 microseconds or more";
@@ -228,33 +241,35 @@ static inline const char *fevstunik_code_text(uint32_t code)
     case FEVSTUNIK_NO_CREDENTIAL: return "the cache has no ticket of its default principal for the service";
     case FEVSTUNIK_NO_USABLE_KEY: return "no ticket for the service has a usable session key";
     case FEVSTUNIK_CREDENTIAL_EXPIRED: return "no usable ticket for the service ends later than the moment";
-    case FEVSTUNIK_BAD_TICKET: return "the bytes that the credential has for a ticket are none";
+    case FEVSTUNIK_BAD_TICKET: return "the credential's ticket isn't a valid ticket";
     case FEVSTUNIK_REPLY_TYPE: return "the first byte isn't that of a reply";
-    case FEVSTUNIK_REPLY_MALFORMED: return "the bytes are no reply; `at` is the place of the fault";
+    case FEVSTUNIK_REPLY_MALFORMED: return "the bytes aren't a reply; `at` is the place of the fault";
     case FEVSTUNIK_REPLY_INTEGRITY: return "the session key doesn't open the reply";
     case FEVSTUNIK_REPLY_MISMATCH: return "the reply's time isn't the request's";
     case FEVSTUNIK_TEXT_SHORT: return "the text has fewer bytes than a sealed empty text: 32 (type 19) or 40 (type 20)";
     case FEVSTUNIK_TEXT_INTEGRITY: return "the tag is wrong";
-    case FEVSTUNIK_BAD_TEXT: return "the text isn't a name's from `at` on";
+    case FEVSTUNIK_BAD_TEXT: return "the text isn't a valid name; `at` is the place of the fault";
     case FEVSTUNIK_NO_REALM: return "the text has no `@` without a backslash before it";
     case FEVSTUNIK_NOT_UTF8: return "the text isn't UTF-8";
     default: return NULL;
     }
 }
 
-/* ---- what is handed in and out ---- */
+/* ---- arguments and results ---- */
 
-/* A struct never gains a field: what is handed out beside it is reached by calls. */
+/* A struct never gains a field. New results get functions of their own. */
 
-/* What a call answers. Numbers that don't go with the code are 0. */
+/* The answer of a call. Numbers that don't belong to the code are 0. */
 typedef struct fevstunik_answer {
     uint32_t code;    /* a fevstunik_code */
-    int32_t kerberos; /* the error code of RFC 4120, section 7.5.9, that goes with it */
-    size_t at;        /* the place of a fault, in bytes from the start of what was handed in */
-    size_t size;      /* how many bytes were written, or are needed */
+    int32_t kerberos; /* the error code of RFC 4120, section 7.5.9, that belongs to it */
+    size_t at;        /* the place of a fault, in bytes from the start of the argument */
+    size_t size;      /* the number of bytes that were written, or are needed */
 } fevstunik_answer;
 
-/* A moment: whole seconds from 1970-01-01T00:00:00Z on (leap seconds not counted), and microseconds after them. */
+/* A moment: whole seconds since 1970-01-01T00:00:00Z, without leap seconds, and the microseconds
+ * after them.
+ */
 typedef struct fevstunik_time {
     int64_t seconds; /* -62,167,219,200 to 253,402,300,799 */
     uint32_t micros; /* 0 to 999,999 */
@@ -266,14 +281,14 @@ typedef struct fevstunik_span {
     size_t size;
 } fevstunik_span;
 
-/* What is known of a request that was accepted. The spans are places in the buffer that was handed in beside it. */
+/* What is known of an accepted request. The spans are places in the buffer that the call was given. */
 typedef struct fevstunik_known {
-    fevstunik_span client;      /* the client as text, as alice@EX; no zero byte ends it */
+    fevstunik_span client;      /* the client as text, such as alice@EX, without a zero byte at its end */
     fevstunik_span session_key; /* the key that client and service share: 16 or 32 bytes */
-    fevstunik_span subkey;      /* the key that the client chose, if it did; of any length */
-    fevstunik_span service;     /* the service that was asked for, as text, as host/web@EX */
+    fevstunik_span subkey;      /* the key that the client chose, if any; it may have any length */
+    fevstunik_span service;     /* the service that was asked for, as text, such as host/web@EX */
     int64_t authtime;           /* when the client was authenticated, in seconds */
-    int64_t endtime;            /* until when the ticket is valid, in seconds */
+    int64_t endtime;            /* when the ticket expires, in seconds */
     int64_t ctime;              /* the client's time, in seconds */
     uint32_t cusec;             /* and the microseconds after them */
     uint32_t flags;             /* the ticket's flags; bit 0 of RFC 4120 is the most significant */
@@ -287,8 +302,9 @@ typedef struct fevstunik_known {
     bool wants_reply;           /* whether it asks for a reply */
 } fevstunik_known;
 
-/* The lists of a request that was accepted. A number never changes its meaning. Data of types that you don't know is to be handled
- * as RFC 4120 says of each. */
+/* The lists of an accepted request. A number never changes its meaning. Treat data of a type that
+ * you don't know as RFC 4120 says for each list.
+ */
 typedef enum fevstunik_list {
     FEVSTUNIK_LIST_ADDRESSES = 1,                   /* the ticket's addresses, which were compared with nothing */
     FEVSTUNIK_LIST_TICKET_AUTHORIZATION = 2,        /* the ticket's authorization data; each item is of type 1 (AD-IF-RELEVANT) */
@@ -296,11 +312,13 @@ typedef enum fevstunik_list {
     FEVSTUNIK_LIST_CHECKSUM = 4                     /* the authenticator's checksum, a list of one; it wasn't verified */
 } fevstunik_list;
 
-/* What a client and a service agreed on. The spans are places in the buffer that was handed in beside it. */
+/* What a client and a service agreed on. The spans are places in the buffer that the call was
+ * given.
+ */
 typedef struct fevstunik_agreement {
     fevstunik_span client;         /* the client as text */
     fevstunik_span session_key;    /* the key that client and service share: 16 or 32 bytes */
-    fevstunik_span service_subkey; /* the key that the service chose, if it did; of any length */
+    fevstunik_span service_subkey; /* the key that the service chose, if any; it may have any length */
     uint32_t service_seq;          /* the service's first sequence number, or 0 */
     int32_t name_type;             /* the type of the client's name */
     int32_t session_type;          /* the encryption type of the session key: 19 or 20 */
@@ -311,13 +329,13 @@ typedef struct fevstunik_agreement {
 
 /* What a side chooses for its message. */
 typedef struct fevstunik_choice {
-    int32_t subkey_type; /* the encryption type of its subkey, 19 or 20, or 0 for no subkey */
+    int32_t subkey_type; /* the encryption type of its subkey: 19, 20, or 0 for no subkey */
     uint32_t seq;        /* its first sequence number */
     bool has_seq;        /* whether it sends the number */
-    bool wants_reply;    /* whether a client asks for a reply; not looked at by a service */
+    bool wants_reply;    /* whether a client asks for a reply; a service ignores it */
 } fevstunik_choice;
 
-/* An entry of a keytab. The spans are places in the buffer that was handed in beside it. */
+/* An entry of a keytab. The spans are places in the buffer that the call was given. */
 typedef struct fevstunik_key_entry {
     fevstunik_span name; /* whose key it is, as text */
     fevstunik_span key;  /* the key's bytes, up to 65,535 */
@@ -327,7 +345,7 @@ typedef struct fevstunik_key_entry {
     int16_t key_type;    /* the encryption type of the key; any type */
 } fevstunik_key_entry;
 
-/* What goes with a name and a key in an entry that is added. */
+/* What an added entry has beside its name and its key. */
 typedef struct fevstunik_key_parts {
     uint32_t timestamp; /* when the entry is written, in seconds */
     uint32_t kvno;      /* the key's version number */
@@ -335,33 +353,35 @@ typedef struct fevstunik_key_parts {
     int16_t key_type;   /* the encryption type of the key */
 } fevstunik_key_parts;
 
-/* A credential of a cache. The spans are places in the buffer that was handed in beside it. */
+/* A credential of a cache. The spans are places in the buffer that the call was given. */
 typedef struct fevstunik_cache_entry {
     fevstunik_span client; /* whose ticket it is, as text */
-    fevstunik_span server; /* for which service, as text; its realm is X-CACHECONF: if it is a configuration entry */
+    fevstunik_span server; /* the ticket's service, as text; a configuration entry has the realm X-CACHECONF: */
     fevstunik_span key;    /* the session key */
     fevstunik_span ticket; /* the bytes of the ticket, or the value of a configuration entry */
     uint32_t authtime;     /* when the client was authenticated, in seconds */
-    uint32_t starttime;    /* when the ticket begins, in seconds, or 0 */
-    uint32_t endtime;      /* when it ends, in seconds */
-    uint32_t renew_till;   /* until when it can be renewed, in seconds, or 0 */
+    uint32_t starttime;    /* when the ticket becomes valid, in seconds, or 0 */
+    uint32_t endtime;      /* when it expires, in seconds */
+    uint32_t renew_till;   /* the end of the time in which it can be renewed, in seconds, or 0 */
     uint32_t flags;        /* the ticket's flags; bit 0 of RFC 4120 is the most significant */
     int32_t client_type;   /* the type of the client's name */
     int32_t server_type;   /* the type of the service's name */
     int16_t key_type;      /* the encryption type of the session key; any type */
-    bool is_skey;          /* whether the ticket is sealed under the session key of another */
+    bool is_skey;          /* whether the ticket is sealed under another ticket's session key */
 } fevstunik_cache_entry;
 
-/* Whose cache it is, and its KDC's clock. The span is a place in the buffer that was handed in beside it. */
+/* The owner of a cache, and its KDC's clock. The span is a place in the buffer that the call was
+ * given.
+ */
 typedef struct fevstunik_owner {
     fevstunik_span name;    /* the default principal, as text */
     int32_t name_type;      /* the type of its name */
     int32_t offset_seconds; /* the KDC's clock offset in seconds, or 0 */
-    int32_t offset_micros;  /* and the microseconds of it */
+    int32_t offset_micros;  /* and the microseconds after them */
     bool has_offset;        /* whether the cache has an offset */
 } fevstunik_owner;
 
-/* A service that takes requests: opaque, and all zero before its first use. */
+/* A service that accepts requests: opaque, and all zero before its first use. */
 typedef struct fevstunik_acceptor {
     void *opaque;
 } fevstunik_acceptor;
@@ -381,7 +401,7 @@ typedef struct fevstunik_pending {
     void *opaque;
 } fevstunik_pending;
 
-/* The empty handles, with which handles are initialized. */
+/* The values that initialize handles as empty. */
 #define FEVSTUNIK_ACCEPTOR_INIT {NULL}
 #define FEVSTUNIK_ACCEPTED_INIT {NULL}
 #define FEVSTUNIK_CACHE_INIT {NULL}
@@ -389,65 +409,75 @@ typedef struct fevstunik_pending {
 
 /* ---- files ---- */
 
-/* Checks that the bytes of a file are a keytab of version 0x0502. `size` is the number of its entries.
+/* Checks that the bytes of a file are a keytab of version 0x0502. `size` is the number of its
+ * entries.
  *
- * FEVSTUNIK_OK; FEVSTUNIK_TOO_LONG, _FILE_VERSION, _FILE_TRUNCATED, _FILE_BAD_ITEM; FEVSTUNIK_OUT_OF_MEMORY.
+ * Answers FEVSTUNIK_OK, or FEVSTUNIK_TOO_LONG, _FILE_VERSION, _FILE_TRUNCATED, _FILE_BAD_ITEM or
+ * FEVSTUNIK_OUT_OF_MEMORY.
  *
  *     if (fevstunik_keytab_check(file, file_size).code == FEVSTUNIK_OK) ...
  */
 fevstunik_answer fevstunik_keytab_check(const uint8_t *keytab, size_t keytab_size);
 
-/* Checks that the bytes of a file are a credential cache of version 0x0503 or 0x0504. `size` is the number of its credentials, with its
- * configuration entries.
+/* Checks that the bytes of a file are a credential cache of version 0x0503 or 0x0504. `size` is the
+ * number of its credentials; configuration entries count too.
  *
- * FEVSTUNIK_OK; FEVSTUNIK_TOO_LONG, _FILE_VERSION, _FILE_HEADER, _FILE_BAD_ITEM; FEVSTUNIK_OUT_OF_MEMORY.
+ * Answers FEVSTUNIK_OK, or FEVSTUNIK_TOO_LONG, _FILE_VERSION, _FILE_HEADER, _FILE_BAD_ITEM or
+ * FEVSTUNIK_OUT_OF_MEMORY.
  *
  *     if (fevstunik_cache_check(file, file_size).code == FEVSTUNIK_OK) ...
  */
 fevstunik_answer fevstunik_cache_check(const uint8_t *cache, size_t cache_size);
 
-/* Reads the entry of an index, counted from 0, of a keytab. The buffer gets its name's text and its key, one after the other,
- * and `entry` their places and the numbers. `entry` is written even if the buffer is too short. Each call reads the whole file.
+/* Reads one entry of a keytab; `index` counts from 0. Writes the text of the entry's name and then
+ * its key to the buffer, and their places and the numbers to `entry`. `entry` is written even if
+ * the buffer is too short. Each call reads the whole file.
  *
- * FEVSTUNIK_TOO_LONG, _FILE_VERSION, _FILE_TRUNCATED, _FILE_BAD_ITEM; FEVSTUNIK_NO_SUCH_ENTRY; FEVSTUNIK_OUT_OF_MEMORY; and nothing is
- * written. FEVSTUNIK_OK; FEVSTUNIK_SHORT_BUFFER.
+ * Answers FEVSTUNIK_OK or FEVSTUNIK_SHORT_BUFFER; or writes nothing and answers FEVSTUNIK_TOO_LONG,
+ * _FILE_VERSION, _FILE_TRUNCATED, _FILE_BAD_ITEM, FEVSTUNIK_NO_SUCH_ENTRY or
+ * FEVSTUNIK_OUT_OF_MEMORY.
  *
  *     for (index = 0; fevstunik_keytab_entry(file, file_size, index, &entry, buffer, sizeof buffer).code == FEVSTUNIK_OK; index++) ...
  */
 fevstunik_answer fevstunik_keytab_entry(const uint8_t *keytab, size_t keytab_size, size_t index, fevstunik_key_entry *entry,
                                         uint8_t *buffer, size_t buffer_size);
 
-/* Reads the credential of an index, counted from 0, of a cache. The buffer gets its client's and its service's text, its session
- * key and its ticket, one after the other, and `credential` their places and the numbers. `credential` is written even if the
- * buffer is too short. Addresses, authorization data and a second ticket aren't handed out. Each call reads the whole file.
+/* Reads one credential of a cache; `index` counts from 0. Writes the client's text, the service's
+ * text, the session key and the ticket to the buffer, one after the other, and their places and the
+ * numbers to `credential`. `credential` is written even if the buffer is too short. Addresses,
+ * authorization data and a second ticket aren't returned. Each call reads the whole file.
  *
- * FEVSTUNIK_TOO_LONG, _FILE_VERSION, _FILE_HEADER, _FILE_BAD_ITEM; FEVSTUNIK_NO_SUCH_ENTRY; FEVSTUNIK_OUT_OF_MEMORY; and nothing is
- * written. FEVSTUNIK_OK; FEVSTUNIK_SHORT_BUFFER.
+ * Answers FEVSTUNIK_OK or FEVSTUNIK_SHORT_BUFFER; or writes nothing and answers FEVSTUNIK_TOO_LONG,
+ * _FILE_VERSION, _FILE_HEADER, _FILE_BAD_ITEM, FEVSTUNIK_NO_SUCH_ENTRY or FEVSTUNIK_OUT_OF_MEMORY.
  *
  *     for (index = 0; fevstunik_cache_credential(file, file_size, index, &entry, buffer, sizeof buffer).code == FEVSTUNIK_OK; index++) ...
  */
 fevstunik_answer fevstunik_cache_credential(const uint8_t *cache, size_t cache_size, size_t index, fevstunik_cache_entry *credential,
                                             uint8_t *buffer, size_t buffer_size);
 
-/* Reads whose cache it is. The buffer gets the default principal's text, and `owner` its place and the numbers, with the KDC's
- * clock offset, if the cache has one. `owner` is written even if the buffer is too short.
+/* Reads the owner of a cache. Writes the default principal's text to the buffer, and its place and
+ * the numbers to `owner`, with the KDC's clock offset if the cache has one. `owner` is written even
+ * if the buffer is too short.
  *
- * FEVSTUNIK_TOO_LONG, _FILE_VERSION, _FILE_HEADER, _FILE_BAD_ITEM; FEVSTUNIK_OUT_OF_MEMORY; and nothing is written. FEVSTUNIK_OK;
- * FEVSTUNIK_SHORT_BUFFER.
+ * Answers FEVSTUNIK_OK or FEVSTUNIK_SHORT_BUFFER; or writes nothing and answers FEVSTUNIK_TOO_LONG,
+ * _FILE_VERSION, _FILE_HEADER, _FILE_BAD_ITEM or FEVSTUNIK_OUT_OF_MEMORY.
  *
  *     answer = fevstunik_cache_owner(file, file_size, &owner, buffer, sizeof buffer);
  */
 fevstunik_answer fevstunik_cache_owner(const uint8_t *cache, size_t cache_size, fevstunik_owner *owner, uint8_t *buffer,
                                        size_t buffer_size);
 
-/* Adds an entry to a keytab, and returns the bytes of the new file. `name` is the name's text, `key` the key's bytes, of any
- * type. The first hole that is long enough takes the entry; if there is none the entry comes after the last record, in place of
- * the end word (a record's size of 0), and the bytes after an end word are lost. The bytes 05 02 are an empty keytab.
+/* Adds an entry to a keytab, and returns the bytes of the new file. `name` is the name's text.
+ * `key` has the key's bytes, which may be of any type. The entry goes into the first hole that is
+ * long enough. If there is none, it goes after the last record, in place of the end word (a
+ * record's size of 0), and the bytes after an end word are lost. The bytes 05 02 are an empty
+ * keytab.
  *
- * The first that holds: FEVSTUNIK_NOT_UTF8, _BAD_TEXT and _NO_REALM for the name; FEVSTUNIK_TOO_LONG if the name has a part of more
- * than 65,535 bytes or more parts than that, or the key more bytes; FEVSTUNIK_TOO_LONG, _FILE_VERSION, _FILE_TRUNCATED, _FILE_BAD_ITEM
- * for the keytab; FEVSTUNIK_TOO_LONG for the new file; or FEVSTUNIK_OUT_OF_MEMORY; and nothing is written. FEVSTUNIK_OK;
- * FEVSTUNIK_SHORT_BUFFER.
+ * Answers FEVSTUNIK_OK or FEVSTUNIK_SHORT_BUFFER; or writes nothing and answers the first that
+ * applies: FEVSTUNIK_NOT_UTF8, _BAD_TEXT or _NO_REALM for the name; FEVSTUNIK_TOO_LONG if the name
+ * has more than 65,535 parts, or a part of it or the key has more than 65,535 bytes;
+ * FEVSTUNIK_TOO_LONG, _FILE_VERSION, _FILE_TRUNCATED or _FILE_BAD_ITEM for the keytab;
+ * FEVSTUNIK_TOO_LONG for the new file; or FEVSTUNIK_OUT_OF_MEMORY.
  *
  *     fevstunik_key_parts parts = {1700000000, 3, 3, 19};
  *     answer = fevstunik_keytab_add(file, file_size, (const uint8_t *)"host/web@EX", 11, key, 16, &parts, buffer, sizeof buffer);
@@ -455,21 +485,24 @@ fevstunik_answer fevstunik_cache_owner(const uint8_t *cache, size_t cache_size, 
 fevstunik_answer fevstunik_keytab_add(const uint8_t *keytab, size_t keytab_size, const uint8_t *name, size_t name_size, const uint8_t *key,
                                       size_t key_size, const fevstunik_key_parts *parts, uint8_t *buffer, size_t buffer_size);
 
-/* Removes the entry of an index, counted from 0, and returns the bytes of the new file, which are as many: the entry's record
- * becomes a hole of zeros, and all else is as it was.
+/* Removes one entry of a keytab, and returns the bytes of the new file; `index` counts from 0. The
+ * entry's record becomes a hole of zeros, and all else is as it was, so the file's size stays the
+ * same.
  *
- * FEVSTUNIK_TOO_LONG, _FILE_VERSION, _FILE_TRUNCATED, _FILE_BAD_ITEM; FEVSTUNIK_NO_SUCH_ENTRY; FEVSTUNIK_OUT_OF_MEMORY; and nothing is
- * written. FEVSTUNIK_OK; FEVSTUNIK_SHORT_BUFFER.
+ * Answers FEVSTUNIK_OK or FEVSTUNIK_SHORT_BUFFER; or writes nothing and answers FEVSTUNIK_TOO_LONG,
+ * _FILE_VERSION, _FILE_TRUNCATED, _FILE_BAD_ITEM, FEVSTUNIK_NO_SUCH_ENTRY or
+ * FEVSTUNIK_OUT_OF_MEMORY.
  *
  *     answer = fevstunik_keytab_remove(file, file_size, 0, buffer, sizeof buffer);
  */
 fevstunik_answer fevstunik_keytab_remove(const uint8_t *keytab, size_t keytab_size, size_t index, uint8_t *buffer, size_t buffer_size);
 
-/* Returns the bytes of a new file of a keytab's entries, in their order: without holes and bytes after the end word, and with
- * the version number of 32 bits after each key.
+/* Returns the bytes of a new file with the entries of a keytab, in their order. Holes, and whatever
+ * follows an end word, are left out. Each key is followed by the version number of 32 bits.
  *
- * FEVSTUNIK_TOO_LONG (also if the new file would be), _FILE_VERSION, _FILE_TRUNCATED, _FILE_BAD_ITEM; FEVSTUNIK_OUT_OF_MEMORY; and
- * nothing is written. FEVSTUNIK_OK; FEVSTUNIK_SHORT_BUFFER.
+ * Answers FEVSTUNIK_OK or FEVSTUNIK_SHORT_BUFFER; or writes nothing and answers FEVSTUNIK_TOO_LONG
+ * (for the keytab or the new file), _FILE_VERSION, _FILE_TRUNCATED, _FILE_BAD_ITEM or
+ * FEVSTUNIK_OUT_OF_MEMORY.
  *
  *     answer = fevstunik_keytab_write(file, file_size, buffer, sizeof buffer);
  */
@@ -477,11 +510,13 @@ fevstunik_answer fevstunik_keytab_write(const uint8_t *keytab, size_t keytab_siz
 
 /* ---- names ---- */
 
-/* Checks that a text is that of a name, as host/web@EX: components with `/` between each two, `@` and a realm. A backslash comes
- * before each `/`, `@` and backslash of a part, and a byte that isn't printable is `\x` and two digits in lower case. `size` is
- * the number of components. A name has one text only.
+/* Checks that a text is a valid name, such as host/web@EX: components separated by `/`, then `@` and
+ * a realm. Within a component or the realm, a backslash comes before each `/`, `@` and backslash,
+ * and a byte that isn't a visible ASCII character is written as `\x` and two hexadecimal digits in
+ * lower case. `size` is the number of components. A name has only one text.
  *
- * FEVSTUNIK_OK; FEVSTUNIK_NOT_UTF8; FEVSTUNIK_BAD_TEXT, with the offset in `at`; FEVSTUNIK_NO_REALM; FEVSTUNIK_OUT_OF_MEMORY.
+ * Answers FEVSTUNIK_OK, FEVSTUNIK_NOT_UTF8, FEVSTUNIK_BAD_TEXT with the offset in `at`,
+ * FEVSTUNIK_NO_REALM or FEVSTUNIK_OUT_OF_MEMORY.
  *
  *     if (fevstunik_name_check((const uint8_t *)"host/web@EX", 11).code == FEVSTUNIK_OK) ...
  */
@@ -489,22 +524,24 @@ fevstunik_answer fevstunik_name_check(const uint8_t *name, size_t name_size);
 
 /* ---- the service's side ---- */
 
-/* Makes the handle hold a service that decides by the keys of a keytab (the bytes of a file of version 0x0502) and by a skew
- * of so many seconds (300 is usual), and that has seen nothing. What the handle held is freed: a service that is made in a
- * used handle forgets what the old one has seen. The keytab's bytes aren't needed afterwards.
+/* Makes a service that has seen no request, and stores it in the handle. The service decides by the
+ * keys of a keytab (the bytes of a file of version 0x0502), and by `skew`, a number of seconds (300
+ * is usual). What the handle held is freed: a service made in a used handle forgets what the old
+ * one has seen. The keytab's bytes aren't needed afterwards.
  *
- * `service` is the text of the name that is served, as host/web@EX: a ticket for any other name is answered NOT_US.
- * With `service_size` 0 each name of the keytab is served. Name the service if the keytab has keys of several: otherwise a
- * ticket for any of them lets its client in. The name in a ticket isn't sealed, and whoever records a request can write
- * another name into it: if two names of a keytab have the same key and both are served, a recorded request is let in once
- * more under the other name.
+ * `service` is the text of the one name that is served, such as host/web@EX: a ticket for any other
+ * name is answered NOT_US. If `service_size` is 0, each name of the keytab is served. Name the
+ * service if the keytab has keys of several: otherwise a ticket for any of them lets its client in.
+ * The name in a ticket isn't sealed, so someone who records a request can write another name into
+ * it. If two served names have the same key, a recorded request is accepted once more under the
+ * other name.
  *
- * Make a service so only if there was none before it. After a restart use fevstunik_acceptor_started: a service that lost its
- * memory may accept a request again.
+ * Use this function only for a service that never ran before. After a restart use
+ * fevstunik_acceptor_started: a service that forgot its requests may accept one of them again.
  *
- * The first that holds: FEVSTUNIK_BAD_SKEW; FEVSTUNIK_TOO_LONG, _FILE_VERSION, _FILE_TRUNCATED, _FILE_BAD_ITEM for the keytab;
- * FEVSTUNIK_NOT_UTF8, _BAD_TEXT and _NO_REALM for the service; or FEVSTUNIK_OUT_OF_MEMORY; and the handle is as before.
- * FEVSTUNIK_OK.
+ * Answers FEVSTUNIK_OK; or leaves the handle unchanged and answers the first that applies:
+ * FEVSTUNIK_BAD_SKEW; FEVSTUNIK_TOO_LONG, _FILE_VERSION, _FILE_TRUNCATED or _FILE_BAD_ITEM for the
+ * keytab; FEVSTUNIK_NOT_UTF8, _BAD_TEXT or _NO_REALM for the service; or FEVSTUNIK_OUT_OF_MEMORY.
  *
  *     fevstunik_acceptor service = FEVSTUNIK_ACCEPTOR_INIT;
  *     fevstunik_answer answer = fevstunik_acceptor_new(&service, file, file_size, 300, (const uint8_t *)"host/web@EX", 11);
@@ -512,14 +549,17 @@ fevstunik_answer fevstunik_name_check(const uint8_t *name, size_t name_size);
 fevstunik_answer fevstunik_acceptor_new(fevstunik_acceptor *handle, const uint8_t *keytab, size_t keytab_size, uint32_t skew,
                                         const uint8_t *service, size_t service_size);
 
-/* Makes the handle hold a service as fevstunik_acceptor_new does, for one that was started again at `start`, its clock then, and
- * has forgotten what it accepted before. It is quiet at first: it answers JUST_STARTED until its clock and the client's are both
- * later than the start by more than the skew. No request that was accepted before is accepted again, if no time that was handed
- * in before is later than `start`, and the skew is no smaller than it was.
+/* Makes a service as fevstunik_acceptor_new does, for a service that is started again and has
+ * forgotten what it accepted before. `start` is its clock at this start. The service is quiet at
+ * first: it answers JUST_STARTED until its clock and the client's are both later than `start` by
+ * more than the skew. So no request that was accepted before is accepted again. This holds on three
+ * conditions: the keytab is the same, `start` is no earlier than any moment that was given before,
+ * and the skew is no smaller than it was.
  *
- * The first that holds: FEVSTUNIK_BAD_MOMENT if `start` isn't one of the years 0000 to 9999; FEVSTUNIK_BAD_SKEW; FEVSTUNIK_TOO_LONG,
- * _FILE_VERSION, _FILE_TRUNCATED, _FILE_BAD_ITEM for the keytab; FEVSTUNIK_NOT_UTF8, _BAD_TEXT and _NO_REALM for the service; or
- * FEVSTUNIK_OUT_OF_MEMORY; and the handle is as before. FEVSTUNIK_OK.
+ * Answers FEVSTUNIK_OK; or leaves the handle unchanged and answers the first that applies:
+ * FEVSTUNIK_BAD_MOMENT for `start`; FEVSTUNIK_BAD_SKEW; FEVSTUNIK_TOO_LONG, _FILE_VERSION,
+ * _FILE_TRUNCATED or _FILE_BAD_ITEM for the keytab; FEVSTUNIK_NOT_UTF8, _BAD_TEXT or _NO_REALM for
+ * the service; or FEVSTUNIK_OUT_OF_MEMORY.
  *
  *     fevstunik_time start = {time(NULL), 0};
  *     answer = fevstunik_acceptor_started(&service, file, file_size, 300, (const uint8_t *)"host/web@EX", 11, &start);
@@ -527,31 +567,37 @@ fevstunik_answer fevstunik_acceptor_new(fevstunik_acceptor *handle, const uint8_
 fevstunik_answer fevstunik_acceptor_started(fevstunik_acceptor *handle, const uint8_t *keytab, size_t keytab_size, uint32_t skew,
                                             const uint8_t *service, size_t service_size, const fevstunik_time *start);
 
-/* Makes the handle ready for a request that is accepted: fevstunik_acceptor_accept keeps it there. Nothing is kept in it yet. One
- * handle serves for any number of requests, one after the other; what it held is freed. Threads that share a service have a
- * handle each for what is accepted, and read it without a lock.
+/* Prepares the handle for fevstunik_acceptor_accept, which keeps an accepted request in it. The
+ * handle keeps nothing yet, and what it held before is freed. One handle serves for any number of
+ * requests, one after the other. If threads share a service, each has a handle of its own for what
+ * is accepted, and reads it without a lock.
  *
- * FEVSTUNIK_OUT_OF_MEMORY, and the handle is as before; FEVSTUNIK_OK.
+ * Answers FEVSTUNIK_OK; or leaves the handle unchanged and answers FEVSTUNIK_OUT_OF_MEMORY.
  *
  *     fevstunik_accepted accepted = FEVSTUNIK_ACCEPTED_INIT;
  *     if (fevstunik_accepted_new(&accepted).code == FEVSTUNIK_OK) ...
  */
 fevstunik_answer fevstunik_accepted_new(fevstunik_accepted *accepted);
 
-/* Decides whether a request (the bytes of an AP-REQ) is accepted at a moment of the service's clock, and remembers what has to be
- * remembered of it. Time doesn't go back: what counts is the latest moment that was handed in so far.
+/* Decides whether a request (the bytes of an AP-REQ) is accepted at `now`, a moment of the
+ * service's clock, and remembers what it must to recognize a repeat. Time doesn't go back: the
+ * latest moment given so far is the one that counts.
  *
- * What is accepted is kept in the handle `accepted`, which fevstunik_accepted_new made, until the next call with that handle:
- * fevstunik_accepted_known hands it out, and fevstunik_accepted_reply replies to it. What was kept there before is freed. After
- * any other answer than FEVSTUNIK_OK nothing is kept there. Threads that share a service lock it for this call alone, if each has
- * a handle of its own for what is accepted.
+ * Keeps an accepted request in the handle `accepted`, which fevstunik_accepted_new prepared, until
+ * the next call with that handle. fevstunik_accepted_known reads it, and fevstunik_accepted_reply
+ * replies to it. What was kept there before is freed. After any answer but FEVSTUNIK_OK nothing is
+ * kept there. Threads that share a service need to lock it for this call only, if each has a handle
+ * of its own for what is accepted.
  *
- * The service keeps why a request is refused until its next call: fevstunik_acceptor_error makes an error of it for the client.
- * fevstunik_error makes the same error of the answer's code alone, and needs no lock.
+ * The service keeps the cause of a refusal until its next call, and fevstunik_acceptor_error builds
+ * an error for the client from it. fevstunik_error builds the same error from the answer's code
+ * alone, and needs no lock.
  *
- * FEVSTUNIK_BAD_MOMENT; FEVSTUNIK_EMPTY_HANDLE if either handle is empty; FEVSTUNIK_OK; a cause from FEVSTUNIK_MESSAGE_TYPE to
- * FEVSTUNIK_AUTHORIZATION; FEVSTUNIK_OUT_OF_MEMORY. With FEVSTUNIK_EMPTY_HANDLE the service is as before. With
- * FEVSTUNIK_BAD_MOMENT and FEVSTUNIK_OUT_OF_MEMORY what is remembered and the latest moment are as before.
+ * Answers FEVSTUNIK_OK; a cause from FEVSTUNIK_MESSAGE_TYPE to FEVSTUNIK_AUTHORIZATION;
+ * FEVSTUNIK_BAD_MOMENT; FEVSTUNIK_EMPTY_HANDLE if either handle is empty; or
+ * FEVSTUNIK_OUT_OF_MEMORY. FEVSTUNIK_EMPTY_HANDLE leaves the service unchanged.
+ * FEVSTUNIK_BAD_MOMENT and FEVSTUNIK_OUT_OF_MEMORY leave what is remembered and the latest moment
+ * unchanged.
  *
  *     fevstunik_time now = {1700000101, 0};
  *     if (fevstunik_acceptor_accept(&service, &accepted, request, request_size, &now).code == FEVSTUNIK_OK) ...
@@ -559,15 +605,17 @@ fevstunik_answer fevstunik_accepted_new(fevstunik_accepted *accepted);
 fevstunik_answer fevstunik_acceptor_accept(fevstunik_acceptor *handle, fevstunik_accepted *accepted, const uint8_t *request,
                                            size_t request_size, const fevstunik_time *now);
 
-/* Hands out what was accepted. The buffer gets the client's text, the session key, the client's subkey and the service's text, one
- * after the other, and `known` their places and the numbers. `known` is written even if the buffer is too short.
+/* Reads what was accepted. Writes the client's text, the session key, the client's subkey and the
+ * service's text to the buffer, one after the other, and their places and the numbers to `known`.
+ * `known` is written even if the buffer is too short.
  *
- * `service`, `client`, `ctime` and `cusec` are what the request is remembered by. (The types of names don't count; and a name without
- * components has the same text as one with a single empty component, though they are two names.) The ticket's addresses were compared
- * with nothing: fevstunik_accepted_item hands out these, authorization data and the checksum.
+ * The request is remembered by `service`, `client`, `ctime` and `cusec`. (The types of the names
+ * don't count. A name without components has the same text as a name with a single empty component,
+ * though they are two names.) The ticket's addresses weren't compared with anything:
+ * fevstunik_accepted_item returns them, the authorization data and the checksum.
  *
- * FEVSTUNIK_EMPTY_HANDLE, FEVSTUNIK_NOTHING_THERE and FEVSTUNIK_OUT_OF_MEMORY, and nothing is written; FEVSTUNIK_OK;
- * FEVSTUNIK_SHORT_BUFFER.
+ * Answers FEVSTUNIK_OK or FEVSTUNIK_SHORT_BUFFER; or writes nothing and answers
+ * FEVSTUNIK_EMPTY_HANDLE, FEVSTUNIK_NOTHING_THERE or FEVSTUNIK_OUT_OF_MEMORY.
  *
  *     fevstunik_known known;
  *     uint8_t buffer[4096];
@@ -576,33 +624,38 @@ fevstunik_answer fevstunik_acceptor_accept(fevstunik_acceptor *handle, fevstunik
  */
 fevstunik_answer fevstunik_accepted_known(const fevstunik_accepted *accepted, fevstunik_known *known, uint8_t *buffer, size_t buffer_size);
 
-/* Counts the items of a list of what was accepted: `list` is a fevstunik_list, and `size` the number of its items. A list that is
- * there may have none. It takes no memory.
+/* Counts the items of a list of the accepted request. `list` is a fevstunik_list, and `size` is the
+ * number of its items. A list that the request has may have no items. The call allocates no memory.
  *
- * FEVSTUNIK_EMPTY_HANDLE; FEVSTUNIK_NOTHING_THERE; FEVSTUNIK_NO_SUCH_ENTRY if the request doesn't have the list; FEVSTUNIK_OK.
+ * Answers FEVSTUNIK_OK, FEVSTUNIK_EMPTY_HANDLE, FEVSTUNIK_NOTHING_THERE, or FEVSTUNIK_NO_SUCH_ENTRY
+ * if the request doesn't have the list.
  *
  *     answer = fevstunik_accepted_count(&accepted, FEVSTUNIK_LIST_TICKET_AUTHORIZATION);
  */
 fevstunik_answer fevstunik_accepted_count(const fevstunik_accepted *accepted, uint32_t list);
 
-/* Hands out the item of an index, counted from 0, of a list of what was accepted: its type in `kind`, and its bytes in the buffer.
- * The type is that of an address (RFC 4120, section 7.5.3), of authorization data (section 7.5.4) or of a checksum (section 7.5.6).
- * `kind` is written even if the buffer is too short. It takes no memory.
+/* Reads one item of a list of the accepted request; `index` counts from 0. Writes the item's type
+ * to `kind` and its bytes to the buffer. The type is that of an address (RFC 4120, section 7.5.3),
+ * of authorization data (section 7.5.4) or of a checksum (section 7.5.6). `kind` is written even if
+ * the buffer is too short. The call allocates no memory.
  *
- * FEVSTUNIK_EMPTY_HANDLE; FEVSTUNIK_NOTHING_THERE; FEVSTUNIK_NO_SUCH_ENTRY if the request doesn't have the list, or the list the item; and
- * nothing is written. FEVSTUNIK_OK; FEVSTUNIK_SHORT_BUFFER.
+ * Answers FEVSTUNIK_OK or FEVSTUNIK_SHORT_BUFFER; or writes nothing and answers
+ * FEVSTUNIK_EMPTY_HANDLE, FEVSTUNIK_NOTHING_THERE, or FEVSTUNIK_NO_SUCH_ENTRY if the request
+ * doesn't have the list or the list doesn't have the item.
  *
  *     answer = fevstunik_accepted_item(&accepted, FEVSTUNIK_LIST_CHECKSUM, 0, &kind, buffer, sizeof buffer);
  */
 fevstunik_answer fevstunik_accepted_item(const fevstunik_accepted *accepted, uint32_t list, size_t index, int32_t *kind, uint8_t *buffer,
                                          size_t buffer_size);
 
-/* Builds the reply (the bytes of an AP-REP) to what was accepted. It is for a request whose `wants_reply` is true, at which it doesn't
- * look. `confounder` is 16 random bytes, new for each call. `subkey` has the bytes of the subkey whose type is in `choice`; if that is 0
- * they aren't looked at.
+/* Builds the reply (the bytes of an AP-REP) to what was accepted. Call it if `wants_reply` is true;
+ * it doesn't check that itself. `confounder` is 16 random bytes, new for each call. `subkey` has
+ * the bytes of the subkey whose type is in `choice`. If that type is 0, they are ignored.
  *
- * The first that holds: FEVSTUNIK_EMPTY_HANDLE, FEVSTUNIK_NOTHING_THERE; FEVSTUNIK_BAD_CONFOUNDER; FEVSTUNIK_KEY_TYPE and _KEY_LENGTH for
- * the subkey; or FEVSTUNIK_OUT_OF_MEMORY; and nothing is written. FEVSTUNIK_OK; FEVSTUNIK_SHORT_BUFFER. A reply has fewer than 256 bytes.
+ * Answers FEVSTUNIK_OK or FEVSTUNIK_SHORT_BUFFER; or writes nothing and answers the first that
+ * applies: FEVSTUNIK_EMPTY_HANDLE; FEVSTUNIK_NOTHING_THERE; FEVSTUNIK_BAD_CONFOUNDER;
+ * FEVSTUNIK_KEY_TYPE or _KEY_LENGTH for the subkey; or FEVSTUNIK_OUT_OF_MEMORY. A reply has fewer
+ * than 256 bytes.
  *
  *     fevstunik_choice choice = {0, 0, false, false};
  *     uint8_t reply[256];
@@ -612,19 +665,23 @@ fevstunik_answer fevstunik_accepted_reply(const fevstunik_accepted *accepted, co
                                           const fevstunik_choice *choice, const uint8_t *subkey, size_t subkey_size, uint8_t *buffer,
                                           size_t buffer_size);
 
-/* Frees what the handle holds, which is empty then, and may be made ready again. An empty handle stays so. It has no error.
+/* Frees what the handle holds. The handle is empty then, and may be prepared again. Calling it with
+ * an empty handle has no effect. It can't fail.
  *
  *     fevstunik_accepted_free(&accepted);
  */
 void fevstunik_accepted_free(fevstunik_accepted *accepted);
 
-/* Builds the error (the bytes of a KRB-ERROR) that says why the last call of fevstunik_acceptor_accept refused a request. `service` has the
- * service's name as text, as host/web@EX, `name_type` is the type of that name (RFC 4120, section 6.2; 3 for a service on a host), and
- * `now` is the service's time. The error has these and the refusal's code, and nothing else. It isn't sealed: anyone could have written it.
+/* Builds the error (the bytes of a KRB-ERROR) that says why the last call of
+ * fevstunik_acceptor_accept refused a request. `service` has the service's name as text, such as
+ * host/web@EX. `name_type` is the type of that name (RFC 4120, section 6.2; 3 for a service on a
+ * host). `now` is the service's time. The error contains these and the refusal's code, and nothing
+ * else. It isn't sealed: anyone could have written it.
  *
- * The first that holds: FEVSTUNIK_EMPTY_HANDLE, FEVSTUNIK_NOTHING_THERE; FEVSTUNIK_NOT_UTF8, _BAD_TEXT and _NO_REALM for the service;
- * FEVSTUNIK_BAD_MOMENT; FEVSTUNIK_NO_CODE, FEVSTUNIK_TOO_LONG; or FEVSTUNIK_OUT_OF_MEMORY; and nothing is written. FEVSTUNIK_OK;
- * FEVSTUNIK_SHORT_BUFFER.
+ * Answers FEVSTUNIK_OK or FEVSTUNIK_SHORT_BUFFER; or writes nothing and answers the first that
+ * applies: FEVSTUNIK_EMPTY_HANDLE; FEVSTUNIK_NOTHING_THERE; FEVSTUNIK_NOT_UTF8, _BAD_TEXT or
+ * _NO_REALM for the service; FEVSTUNIK_BAD_MOMENT; FEVSTUNIK_NO_CODE; FEVSTUNIK_TOO_LONG; or
+ * FEVSTUNIK_OUT_OF_MEMORY.
  *
  *     if (fevstunik_acceptor_accept(&service, &accepted, request, request_size, &now).code != FEVSTUNIK_OK)
  *         answer = fevstunik_acceptor_error(&service, (const uint8_t *)"host/web@EX", 11, 3, &now, buffer, sizeof buffer);
@@ -632,35 +689,38 @@ void fevstunik_accepted_free(fevstunik_accepted *accepted);
 fevstunik_answer fevstunik_acceptor_error(const fevstunik_acceptor *handle, const uint8_t *service, size_t service_size,
                                           int32_t name_type, const fevstunik_time *now, uint8_t *buffer, size_t buffer_size);
 
-/* Builds the error (the bytes of a KRB-ERROR) of a cause from its code alone, as fevstunik_acceptor_accept answered it: no handle
- * is needed, and no other request's cause can come into it. `service`, `name_type` and `now` are as for fevstunik_acceptor_error.
+/* Builds the error (the bytes of a KRB-ERROR) for a cause from the code that
+ * fevstunik_acceptor_accept answered. It needs no handle, so another request's cause can't get into
+ * the error. `service`, `name_type` and `now` are as for fevstunik_acceptor_error.
  *
- * The first that holds: FEVSTUNIK_NO_CODE if `code` is no cause's; FEVSTUNIK_NOT_UTF8, _BAD_TEXT and _NO_REALM for the service;
- * FEVSTUNIK_BAD_MOMENT; FEVSTUNIK_TOO_LONG; or FEVSTUNIK_OUT_OF_MEMORY; and nothing is written. FEVSTUNIK_OK;
- * FEVSTUNIK_SHORT_BUFFER.
+ * Answers FEVSTUNIK_OK or FEVSTUNIK_SHORT_BUFFER; or writes nothing and answers the first that
+ * applies: FEVSTUNIK_NO_CODE if `code` isn't the code of a cause; FEVSTUNIK_NOT_UTF8, _BAD_TEXT or
+ * _NO_REALM for the service; FEVSTUNIK_BAD_MOMENT; FEVSTUNIK_TOO_LONG; or FEVSTUNIK_OUT_OF_MEMORY.
  *
  *     answer = fevstunik_error(answer.code, (const uint8_t *)"host/web@EX", 11, 3, &now, buffer, sizeof buffer);
  */
 fevstunik_answer fevstunik_error(uint32_t code, const uint8_t *service, size_t service_size, int32_t name_type,
                                  const fevstunik_time *now, uint8_t *buffer, size_t buffer_size);
 
-/* Returns the number of requests that are remembered: none if the handle is empty. It has no error.
+/* Returns the number of requests that are remembered, or 0 if the handle is empty. It can't fail.
  *
  *     printf("%zu remembered\n", fevstunik_acceptor_count(&service));
  */
 size_t fevstunik_acceptor_count(const fevstunik_acceptor *handle);
 
-/* Reads the latest moment that was handed in to fevstunik_acceptor_accept so far, by which the service decides. Calls that were
- * answered OUT_OF_MEMORY or BAD_MOMENT don't count.
+/* Reads the latest moment that fevstunik_acceptor_accept was given so far. The service decides by
+ * it. Calls that answered OUT_OF_MEMORY or BAD_MOMENT don't count.
  *
- * FEVSTUNIK_EMPTY_HANDLE and FEVSTUNIK_NOTHING_THERE, and nothing is written; FEVSTUNIK_OK.
+ * Answers FEVSTUNIK_OK; or writes nothing and answers FEVSTUNIK_EMPTY_HANDLE or
+ * FEVSTUNIK_NOTHING_THERE.
  *
  *     fevstunik_time latest;
  *     if (fevstunik_acceptor_latest(&service, &latest).code == FEVSTUNIK_OK) ...
  */
 fevstunik_answer fevstunik_acceptor_latest(const fevstunik_acceptor *handle, fevstunik_time *latest);
 
-/* Frees what the handle holds, which is empty then, and may be used again. An empty handle stays so. It has no error.
+/* Frees what the handle holds. The handle is empty then, and may be used again. Calling it with an
+ * empty handle has no effect. It can't fail.
  *
  *     fevstunik_acceptor_free(&service);
  */
@@ -668,36 +728,42 @@ void fevstunik_acceptor_free(fevstunik_acceptor *handle);
 
 /* ---- the client's side ---- */
 
-/* Reads a credential cache (the bytes of a file of version 0x0503 or 0x0504) and keeps it in the handle: it is read once, and serves for
- * any number of requests. What the handle held is freed. The file's bytes aren't needed afterwards.
+/* Reads a credential cache (the bytes of a file of version 0x0503 or 0x0504) and keeps it in the
+ * handle. It is read once, and serves for any number of requests. What the handle held is freed.
+ * The file's bytes aren't needed afterwards.
  *
- * The first that holds: FEVSTUNIK_FILE_VERSION, _FILE_HEADER, _FILE_BAD_ITEM, _TOO_LONG; or FEVSTUNIK_OUT_OF_MEMORY; and the handle is as
- * before. FEVSTUNIK_OK.
+ * Answers FEVSTUNIK_OK; or leaves the handle unchanged and answers the first that applies:
+ * FEVSTUNIK_FILE_VERSION, _FILE_HEADER, _FILE_BAD_ITEM, _TOO_LONG or FEVSTUNIK_OUT_OF_MEMORY.
  *
  *     fevstunik_cache cache = FEVSTUNIK_CACHE_INIT;
  *     answer = fevstunik_cache_new(&cache, file, file_size);
  */
 fevstunik_answer fevstunik_cache_new(fevstunik_cache *cache, const uint8_t *file, size_t file_size);
 
-/* Frees what the handle holds, which is empty then, and may be used again. An empty handle stays so. It has no error.
+/* Frees what the handle holds. The handle is empty then, and may be used again. Calling it with an
+ * empty handle has no effect. It can't fail.
  *
  *     fevstunik_cache_free(&cache);
  */
 void fevstunik_cache_free(fevstunik_cache *cache);
 
-/* Builds a request (the bytes of an AP-REQ) for a service with the first credential of a cache that fits: a ticket of the cache's default
- * principal for the service whose session key is usable, and that ends later than `at`, the client's clock. `service` has the service's
- * name as text, as host/web@EX. `confounder` is 16 random bytes, new for each call. `subkey` has the bytes of the subkey whose type is in
- * `choice`; if that is 0 they aren't looked at.
+/* Builds a request (the bytes of an AP-REQ) for a service from the first credential of a cache that
+ * fits. It fits if it has a ticket of the cache's default principal for the service, its session
+ * key is usable, and it expires later than `at`, the client's clock. `service` has the service's
+ * name as text, such as host/web@EX. `confounder` is 16 random bytes, new for each call. `subkey`
+ * has the bytes of the subkey whose type is in `choice`. If that type is 0, they are ignored.
  *
- * What is needed to read the reply is kept in the handle `pending`, also if the buffer is too short, and what that held is freed.
+ * Keeps what is needed to read the reply in the handle `pending`, even if the buffer is too short.
+ * What that handle held is freed.
  *
- * The first that holds: FEVSTUNIK_EMPTY_HANDLE if `cache` is empty; FEVSTUNIK_NOT_UTF8, _BAD_TEXT and _NO_REALM for the service;
- * FEVSTUNIK_BAD_MOMENT; FEVSTUNIK_BAD_CONFOUNDER; FEVSTUNIK_KEY_TYPE and _KEY_LENGTH; FEVSTUNIK_NO_CREDENTIAL, _NO_USABLE_KEY,
- * _CREDENTIAL_EXPIRED, _BAD_TICKET and _TOO_LONG; or FEVSTUNIK_OUT_OF_MEMORY; and nothing is written, and `pending` is as before.
- * FEVSTUNIK_OK; FEVSTUNIK_SHORT_BUFFER.
+ * Answers FEVSTUNIK_OK or FEVSTUNIK_SHORT_BUFFER; or writes nothing, leaves `pending` unchanged,
+ * and answers the first that applies: FEVSTUNIK_EMPTY_HANDLE if `cache` is empty;
+ * FEVSTUNIK_NOT_UTF8, _BAD_TEXT or _NO_REALM for the service; FEVSTUNIK_BAD_MOMENT;
+ * FEVSTUNIK_BAD_CONFOUNDER; FEVSTUNIK_KEY_TYPE or _KEY_LENGTH; FEVSTUNIK_NO_CREDENTIAL,
+ * _NO_USABLE_KEY, _CREDENTIAL_EXPIRED, _BAD_TICKET or _TOO_LONG; or FEVSTUNIK_OUT_OF_MEMORY.
  *
- * A call that is made again for a short buffer is handed the same moment and confounder; no other request is made of that moment.
+ * If the buffer was too short, make the call again with the same moment and confounder. Never make
+ * two different requests with the same moment.
  *
  *     fevstunik_pending pending = FEVSTUNIK_PENDING_INIT;
  *     fevstunik_choice choice = {0, 0, false, true};
@@ -709,12 +775,15 @@ fevstunik_answer fevstunik_request(const fevstunik_cache *cache, fevstunik_pendi
                                    const fevstunik_choice *choice, const uint8_t *subkey, size_t subkey_size, uint8_t *buffer,
                                    size_t buffer_size);
 
-/* Reads the reply (the bytes of an AP-REP) to the request that is kept in the handle, and hands out what both sides agree on. The buffer
- * gets the client's text, the session key and the service's subkey, one after the other, and `agreement` their places and the numbers.
- * `agreement` is written even if the buffer is too short. The request is awaited still: another reply may be read.
+/* Reads the reply (the bytes of an AP-REP) to the request that is kept in the handle, and returns
+ * what both sides agree on. Writes the client's text, the session key and the service's subkey to
+ * the buffer, one after the other, and their places and the numbers to `agreement`. `agreement` is
+ * written even if the buffer is too short. The handle stays as it was, so another reply may be
+ * read.
  *
- * The first that holds: FEVSTUNIK_EMPTY_HANDLE; FEVSTUNIK_REPLY_TYPE, _REPLY_MALFORMED, _REPLY_INTEGRITY, _REPLY_MISMATCH; or
- * FEVSTUNIK_OUT_OF_MEMORY; and nothing is written. FEVSTUNIK_OK; FEVSTUNIK_SHORT_BUFFER.
+ * Answers FEVSTUNIK_OK or FEVSTUNIK_SHORT_BUFFER; or writes nothing and answers the first that
+ * applies: FEVSTUNIK_EMPTY_HANDLE, FEVSTUNIK_REPLY_TYPE, _REPLY_MALFORMED, _REPLY_INTEGRITY,
+ * _REPLY_MISMATCH or FEVSTUNIK_OUT_OF_MEMORY.
  *
  *     fevstunik_agreement agreement;
  *     answer = fevstunik_finish(&pending, reply, reply_size, &agreement, buffer, sizeof buffer);
@@ -722,7 +791,8 @@ fevstunik_answer fevstunik_request(const fevstunik_cache *cache, fevstunik_pendi
 fevstunik_answer fevstunik_finish(const fevstunik_pending *pending, const uint8_t *reply, size_t reply_size,
                                   fevstunik_agreement *agreement, uint8_t *buffer, size_t buffer_size);
 
-/* Frees what the handle holds, which is empty then, and may be used again. An empty handle stays so. It has no error.
+/* Frees what the handle holds. The handle is empty then, and may be used again. Calling it with an
+ * empty handle has no effect. It can't fail.
  *
  *     fevstunik_pending_free(&pending);
  */
@@ -730,11 +800,13 @@ void fevstunik_pending_free(fevstunik_pending *pending);
 
 /* ---- texts (RFC 8009, sections 5 and 6) ---- */
 
-/* Seals a plain text under a key (16 bytes for type 19, 32 for type 20) for a usage (RFC 4120, section 7.5.1). `confounder` is 16 random
- * bytes, new for each call. The sealed text has 16 bytes and the plain text's, and 16 (type 19) or 24 (type 20).
+/* Seals a plain text under a key (16 bytes for type 19, 32 for type 20) for a usage (RFC 4120,
+ * section 7.5.1). `confounder` is 16 random bytes, new for each call. The sealed text has 16 bytes
+ * more than the plain text, and another 16 (type 19) or 24 (type 20).
  *
- * The first that holds: FEVSTUNIK_KEY_TYPE, FEVSTUNIK_KEY_LENGTH; FEVSTUNIK_BAD_CONFOUNDER; or FEVSTUNIK_OUT_OF_MEMORY; and nothing is
- * written. FEVSTUNIK_OK; FEVSTUNIK_SHORT_BUFFER.
+ * Answers FEVSTUNIK_OK or FEVSTUNIK_SHORT_BUFFER; or writes nothing and answers the first that
+ * applies: FEVSTUNIK_KEY_TYPE, FEVSTUNIK_KEY_LENGTH, FEVSTUNIK_BAD_CONFOUNDER or
+ * FEVSTUNIK_OUT_OF_MEMORY.
  *
  *     answer = fevstunik_seal(19, key, 16, 1024, random, 16, text, text_size, buffer, sizeof buffer);
  */
@@ -743,17 +815,20 @@ fevstunik_answer fevstunik_seal(int32_t key_type, const uint8_t *key, size_t key
 
 /* Opens a text that was sealed under a key for a usage, and returns the plain text.
  *
- * The first that holds: FEVSTUNIK_KEY_TYPE, FEVSTUNIK_KEY_LENGTH; FEVSTUNIK_TEXT_SHORT, FEVSTUNIK_TEXT_INTEGRITY; or
- * FEVSTUNIK_OUT_OF_MEMORY; and nothing is written. FEVSTUNIK_OK; FEVSTUNIK_SHORT_BUFFER.
+ * Answers FEVSTUNIK_OK or FEVSTUNIK_SHORT_BUFFER; or writes nothing and answers the first that
+ * applies: FEVSTUNIK_KEY_TYPE, FEVSTUNIK_KEY_LENGTH, FEVSTUNIK_TEXT_SHORT, FEVSTUNIK_TEXT_INTEGRITY
+ * or FEVSTUNIK_OUT_OF_MEMORY.
  *
  *     answer = fevstunik_open(19, key, 16, 1024, sealed, sealed_size, buffer, sizeof buffer);
  */
 fevstunik_answer fevstunik_open(int32_t key_type, const uint8_t *key, size_t key_size, uint32_t usage, const uint8_t *text,
                                 size_t text_size, uint8_t *buffer, size_t buffer_size);
 
-/* Returns the checksum of a text under a key for a usage: 16 bytes (type 19) or 24 (type 20). It takes no memory.
+/* Returns the checksum of a text under a key for a usage: 16 bytes (type 19) or 24 (type 20). The
+ * call allocates no memory.
  *
- * FEVSTUNIK_KEY_TYPE and FEVSTUNIK_KEY_LENGTH, and nothing is written; FEVSTUNIK_OK; FEVSTUNIK_SHORT_BUFFER.
+ * Answers FEVSTUNIK_OK or FEVSTUNIK_SHORT_BUFFER; or writes nothing and answers FEVSTUNIK_KEY_TYPE
+ * or FEVSTUNIK_KEY_LENGTH.
  *
  *     uint8_t tag[24];
  *     answer = fevstunik_checksum(20, key, 32, 1025, text, text_size, tag, sizeof tag);
@@ -761,9 +836,11 @@ fevstunik_answer fevstunik_open(int32_t key_type, const uint8_t *key, size_t key
 fevstunik_answer fevstunik_checksum(int32_t key_type, const uint8_t *key, size_t key_size, uint32_t usage, const uint8_t *text,
                                     size_t text_size, uint8_t *buffer, size_t buffer_size);
 
-/* Checks that a tag is the whole checksum of a text under a key for a usage. It takes no memory.
+/* Checks that a tag is the whole checksum of a text under a key for a usage. The call allocates no
+ * memory.
  *
- * FEVSTUNIK_KEY_TYPE, FEVSTUNIK_KEY_LENGTH; FEVSTUNIK_OK if it is; FEVSTUNIK_TEXT_INTEGRITY if it isn't.
+ * Answers FEVSTUNIK_OK if it is, FEVSTUNIK_TEXT_INTEGRITY if it isn't, or FEVSTUNIK_KEY_TYPE or
+ * FEVSTUNIK_KEY_LENGTH.
  *
  *     if (fevstunik_checksum_check(20, key, 32, 1025, text, text_size, tag, 24).code == FEVSTUNIK_OK) ...
  */

@@ -74,7 +74,7 @@ class Code(enum.IntEnum):
 
     @property
     def text(self) -> str:
-        """What the code says.
+        """The meaning of the code.
 
         >>> Code.SKEW.text
         'the clocks differ by more than the skew'
@@ -83,29 +83,29 @@ class Code(enum.IntEnum):
 
 
 _TEXTS = {
-    Code.OK: "all is well",
+    Code.OK: "success",
     Code.MESSAGE_TYPE: "the first byte isn't that of a request",
-    Code.MALFORMED: "the bytes are no request; `at` is the place of the fault",
+    Code.MALFORMED: "the bytes aren't a request; `at` is the place of the fault",
     Code.USER_TO_USER: "the option use-session-key is set",
     Code.TICKET_ETYPE: "the ticket's encryption type isn't 19 or 20",
-    Code.NOT_US: "the ticket is for another service than those that are served",
+    Code.NOT_US: "the ticket is for a service that isn't served here",
     Code.NO_KEY: "no key of the ticket's encryption type is usable",
-    Code.BAD_KEY_VERSION: "no such key has the ticket's version number",
+    Code.BAD_KEY_VERSION: "no key of that type has the ticket's version number",
     Code.TICKET_INTEGRITY: "the key doesn't open the ticket",
     Code.SESSION_KEY: "the ticket's session key isn't usable",
     Code.AUTHENTICATOR_INTEGRITY: "the session key doesn't open the authenticator",
-    Code.BAD_MATCH: "the authenticator names another client than the ticket",
+    Code.BAD_MATCH: "the authenticator and the ticket name different clients",
     Code.SKEW: "the clocks differ by more than the skew",
     Code.JUST_STARTED: "the service has just started",
     Code.REPEAT: "a request of this service, client and time was seen before",
-    Code.NOT_YET_VALID: "the ticket begins later, or is marked invalid",
-    Code.EXPIRED: "the ticket has ended",
+    Code.NOT_YET_VALID: "the ticket isn't valid yet, or is marked invalid",
+    Code.EXPIRED: "the ticket has expired",
     Code.TRANSITED: "the client is of another realm, and no KDC checked the realms between",
-    Code.AUTHORIZATION: "there is authorization data that may not be ignored",
+    Code.AUTHORIZATION: "the request has authorization data that may not be ignored",
     Code.OUT_OF_MEMORY: "out of memory: malloc or realloc returned NULL",
     Code.SHORT_BUFFER: "the buffer is too short: `size` bytes are needed",
     Code.EMPTY_HANDLE: "the handle is empty",
-    Code.NOTHING_THERE: "nothing was accepted, or nothing was refused, or there is no moment yet",
+    Code.NOTHING_THERE: "nothing was accepted, nothing was refused, or there is no moment yet",
     Code.TOO_LONG: "a file, a request, an error, a name or a key is longer than its limit",
     Code.BAD_SKEW: "the skew is more than 86,400 seconds",
     Code.BAD_MOMENT: "the moment is outside the years 0000 to 9999, or has 1,000,000 microseconds or more",
@@ -121,14 +121,14 @@ _TEXTS = {
     Code.NO_CREDENTIAL: "the cache has no ticket of its default principal for the service",
     Code.NO_USABLE_KEY: "no ticket for the service has a usable session key",
     Code.CREDENTIAL_EXPIRED: "no usable ticket for the service ends later than the moment",
-    Code.BAD_TICKET: "the bytes that the credential has for a ticket are none",
+    Code.BAD_TICKET: "the credential's ticket isn't a valid ticket",
     Code.REPLY_TYPE: "the first byte isn't that of a reply",
-    Code.REPLY_MALFORMED: "the bytes are no reply; `at` is the place of the fault",
+    Code.REPLY_MALFORMED: "the bytes aren't a reply; `at` is the place of the fault",
     Code.REPLY_INTEGRITY: "the session key doesn't open the reply",
     Code.REPLY_MISMATCH: "the reply's time isn't the request's",
     Code.TEXT_SHORT: "the text has fewer bytes than a sealed empty text: 32 (type 19) or 40 (type 20)",
     Code.TEXT_INTEGRITY: "the tag is wrong",
-    Code.BAD_TEXT: "the text isn't a name's from `at` on",
+    Code.BAD_TEXT: "the text isn't a valid name; `at` is the place of the fault",
     Code.NO_REALM: "the text has no `@` without a backslash before it",
     Code.NOT_UTF8: "the text isn't UTF-8",
 }

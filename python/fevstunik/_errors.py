@@ -5,12 +5,12 @@ from ._codes import Code
 
 
 class Error(Exception):
-    """An answer of the library other than that all is well.
+    """An answer of the library that isn't success.
 
-    code      what was answered
+    code      the code of the answer
     name      its name, as ``"REPEAT"``
-    kerberos  the error code of RFC 4120, section 7.5.9, that goes with it, or 0
-    offset    the place of a fault, in bytes from the start of what was handed in, or 0 where the fault has no place
+    kerberos  the error code of RFC 4120, section 7.5.9, that belongs to it, or 0
+    offset    the place of a fault, in bytes from the start of the argument, or 0 if the fault has no place
 
     >>> from fevstunik import Error, check_name
     >>> try:

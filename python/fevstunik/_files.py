@@ -42,7 +42,7 @@ class KeytabEntry:
 
 
 class Keytab:
-    """The keytab in the bytes of a file of version 0x0502. Bytes that are none are a Fault, with an offset.
+    """The keytab in the bytes of a file of version 0x0502. Invalid bytes raise Fault, with an offset.
 
     >>> keytab = Keytab.read("examples/service.keytab")
     >>> keytab
@@ -75,7 +75,7 @@ class Keytab:
 
     @property
     def entries(self) -> tuple[KeytabEntry, ...]:
-        """The entries, in the file's order. They are read when they are first asked for; the time for it grows with the square of the size.
+        """The entries, in the file's order. They are read on first use; the time for that grows with the square of the size.
 
         >>> [entry.kvno for entry in Keytab.read("examples/mit-holes.keytab").entries]
         [2, 2, 4, 4]
@@ -149,8 +149,8 @@ class Credential:
     authtime    when the client was authenticated, in seconds
     starttime   when the ticket begins, in seconds, or 0
     endtime     when it ends, in seconds
-    renew_till  until when it can be renewed, in seconds, or 0
-    is_skey     whether the ticket is sealed under the session key of another
+    renew_till  the end of the time in which it can be renewed, in seconds, or 0
+    is_skey     whether the ticket is sealed under another ticket's session key
 
     >>> credential, = CredentialCache.read("examples/client.ccache").credentials
     >>> credential.server, credential.endtime, credential.key
@@ -172,7 +172,7 @@ class Credential:
 
 
 class CredentialCache:
-    """The credential cache in the bytes of a file of version 0x0503 or 0x0504. Bytes that are none are a Fault, with an offset.
+    """The credential cache in the bytes of a file of version 0x0503 or 0x0504. Invalid bytes raise Fault, with an offset.
 
     It is a context manager: at its end, or by close(), what the library holds of it is freed, and no further request is made with it.
 
@@ -213,7 +213,7 @@ class CredentialCache:
 
     @property
     def credentials(self) -> tuple[Credential, ...]:
-        """The credentials, with the configuration entries, in the file's order. They are read when they are first asked for.
+        """The credentials, with the configuration entries, in the file's order. They are read on first use.
 
         >>> [credential.server for credential in CredentialCache.read("examples/client.ccache").credentials]
         ['host/web@EX']
@@ -233,7 +233,7 @@ class CredentialCache:
             entry.server_type, entry.is_skey)
 
     def close(self) -> None:
-        """Free what the library holds of the cache. A second time it does nothing.
+        """Free what the library holds for the cache. A second call does nothing.
 
         >>> CredentialCache.read("examples/client.ccache").close()
         """

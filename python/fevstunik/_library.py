@@ -121,7 +121,7 @@ FUNCTIONS: dict[str, tuple[Any, tuple[Any, ...]]] = {
 
 
 class Library:
-    """The library's functions, by their names without ``fevstunik_``. A call lets go of the GIL, as those of ctypes.CDLL do."""
+    """The library's functions, by their names without ``fevstunik_``. A call releases the GIL, as those of ctypes.CDLL do."""
 
     def __init__(self, path: str) -> None:
         try:
@@ -146,10 +146,10 @@ _loaded: Library | None = None
 
 
 def load(path: str | os.PathLike[str] | None = None) -> None:
-    """Load the shared library of this path, for all that is made from now on.
+    """Load the shared library of this path, for all objects that are made from now on.
 
-    Nobody has to call it: what needs the library loads it. Without a path it is that of the environment variable FEVSTUNIK_LIBRARY, or
-    else the libfevstunik.so.0 that the system's loader finds. LibraryError is raised if it isn't there.
+    You needn't call it: the library is loaded when it is first needed. Without a path it is the one that the environment variable
+    FEVSTUNIK_LIBRARY names, or else the libfevstunik.so.0 that the system's loader finds. LibraryError is raised if it isn't there.
 
     >>> import fevstunik
     >>> fevstunik.load()
@@ -185,7 +185,7 @@ def fault_of(answer: Answer) -> Error | MemoryError:
 
 
 def done(answer: Answer) -> Answer:
-    """The answer, if all is well."""
+    """The answer, if it is success."""
     if answer.code != Code.OK:
         raise fault_of(answer)
     return answer
@@ -208,7 +208,7 @@ def octets(data: Bytes) -> bytes:
 
 
 def fitting(number: int, bits: int, signed: bool = False) -> int:
-    """The number, which ctypes would cut to these bits without a word."""
+    """The number, which ctypes would cut to these bits silently."""
     low, high = (-1 << bits - 1, 1 << bits - 1) if signed else (0, 1 << bits)
     if not low <= number < high:
         raise OverflowError(f"{number} is no number of {bits} bits")
@@ -219,7 +219,7 @@ _Struct = TypeVar("_Struct", bound=ctypes.Structure)
 
 
 def read(kind: type[_Struct], call: Callable[[Any, Any, int], Answer]) -> tuple[_Struct, bytes]:
-    """The struct that a call hands out, and the bytes in which its spans are places."""
+    """The struct that a call returns, and the bytes in which its spans are places."""
     struct = kind()
     data = filled(lambda buffer, room: call(byref(struct), buffer, room))
     return struct, data

@@ -18,12 +18,12 @@ FIRST_CAUSE, AFTER_CAUSES = 100, 400
 
 
 class Refused(Error):
-    """A request isn't accepted.
+    """A request is refused.
 
-    cause     why: the first that holds, as ``Code.REPEAT``
+    cause     why: the first cause that applies, such as ``Code.REPEAT``
     code      the same
-    kerberos  the error code of RFC 4120, section 7.5.9, that goes with it
-    offset    the place of the fault, where the cause is MALFORMED
+    kerberos  the error code of RFC 4120, section 7.5.9, that belongs to it
+    offset    the place of the fault, if the cause is MALFORMED
 
     >>> from fevstunik import Acceptor, Keytab, Refused
     >>> with Acceptor(Keytab.read("examples/service.keytab"), "host/web@EX", started=None) as service:
@@ -39,10 +39,10 @@ class Refused(Error):
         self.cause = self.code
 
     def error(self, service: str, *, now: When | None = None, name_type: int = 3) -> bytes:
-        """Return the bytes of the KRB-ERROR that tells the client why.
+        """Return the bytes of the KRB-ERROR that says why, for the client.
 
         service    the service's name, as ``host/web@EX``
-        now        the service's time: the machine's clock if it is left out
+        now        the service's time: the machine's clock by default
         name_type  the type of the service's name (RFC 4120, section 6.2; 3 is a service on a host)
 
         It isn't sealed: anyone could have written it.
@@ -70,7 +70,7 @@ class Accepted:
     service                      the service that was asked for, as ``host/web@EX``
     time                         the client's time
     authtime                     when the client was authenticated, in seconds
-    endtime                      until when the ticket is valid, in seconds
+    endtime                      when the ticket expires, in seconds
     flags                        the ticket's flags
     session_key                  the key that client and service share
     subkey                       the key that the client chose, or None; of any type and length
@@ -78,7 +78,7 @@ class Accepted:
     wants_reply                  whether the client asks for a reply
     client_type                  the type of the client's name
     service_type                 the type of the service's name, as the ticket has it
-    addresses                    the ticket's addresses, which were compared with nothing
+    addresses                    the ticket's addresses, which weren't compared with anything
     authorization                the ticket's authorization data; each item is of type 1 (AD-IF-RELEVANT)
     authenticator_authorization  the authenticator's, likewise
     checksum                     the authenticator's checksum, which wasn't verified, or None
@@ -112,7 +112,7 @@ class Accepted:
     _handle: Handle = field(repr=False, compare=False)
 
     def reply(self, *, subkey: Key | None = None, seq: int | None = None) -> bytes:
-        """Return the bytes of the reply, which the client waits for if `wants_reply` is true.
+        """Return the bytes of the reply. The client waits for it if `wants_reply` is true.
 
         subkey  a key that the service chooses, as Key.random(20), or None
         seq     the service's first sequence number, or None
@@ -130,7 +130,7 @@ class Accepted:
             return filled(lambda *into: self._handle.library.call("accepted_reply", pointer, confounder, CONFOUNDER, *choice, *into))
 
     def close(self) -> None:
-        """Free what the library holds of it. What was read stays. A second time it does nothing.
+        """Free what the library holds for it. Values that were read stay valid. A second call does nothing.
 
         >>> from fevstunik import Acceptor, Keytab
         >>> request = bytes.fromhex(open("examples/calls.txt").readline().split()[2])
@@ -177,7 +177,7 @@ def _item(handle: Handle, pointer: object, which: _List, index: int) -> TypedDat
 
 
 class Acceptor:
-    """A service that takes requests, and remembers what it accepted.
+    """A service that accepts requests, and remembers what it accepted.
 
     keytab   its keys
     service  the name that is served, as ``host/web@EX``, or None for each name of the keytab. Name it if the keytab has keys of several:
@@ -185,7 +185,7 @@ class Acceptor:
     skew     by how many seconds clocks may differ
     started  the service's clock at this start, as time.time(). It has forgotten what it accepted before, so it is quiet at first: until the
              skew has passed, requests are refused for the cause JUST_STARTED. None is for a service that never ran before, and for no other:
-             it accepts at once, and would accept again what an earlier life has accepted
+             it accepts at once, and would accept again what an earlier run has accepted
 
     Make one and keep it. Any thread may call it: a lock lets in one decision at a time, and what was accepted is read without that lock. An
     Acceptor belongs to the process that made it: after a fork the child's calls raise RuntimeError.
@@ -212,9 +212,9 @@ class Acceptor:
                 done(self._handle.library.call("acceptor_started", pointer, *words, byref(clock(started))))
 
     def accept(self, request: Bytes, now: When | None = None) -> Accepted:
-        """Decide on the bytes of a request, at a moment: that of the machine's clock if it is left out.
+        """Decide about the bytes of a request, at a moment: that of the machine's clock by default.
 
-        Time doesn't go back: what counts is the latest moment that was handed in so far. A request that isn't accepted raises Refused.
+        Time doesn't go back: the latest moment given so far is the one that counts. A request that isn't accepted raises Refused.
 
         >>> from fevstunik import Acceptor, Keytab
         >>> request = bytes.fromhex(open("examples/calls.txt").readline().split()[2])
@@ -248,7 +248,7 @@ class Acceptor:
 
     @property
     def latest(self) -> Moment | None:
-        """The latest moment that was handed in so far, by which the service decides, or None.
+        """The latest moment that was given so far, by which the service decides, or None.
 
         >>> from fevstunik import Acceptor, Keytab
         >>> print(Acceptor(Keytab.read("examples/service.keytab"), "host/web@EX", started=None).latest)
@@ -263,7 +263,7 @@ class Acceptor:
         return Moment(latest.seconds, latest.micros)
 
     def close(self) -> None:
-        """Free what the library holds of it, and with it what is remembered. A second time it does nothing.
+        """Free what the library holds for it, including what is remembered. A second call does nothing.
 
         >>> from fevstunik import Acceptor, Keytab
         >>> Acceptor(Keytab.read("examples/service.keytab"), "host/web@EX", started=None).close()

@@ -1,4 +1,4 @@
-"""What is handed in and out: moments, keys, flags, and data with a type."""
+"""Arguments and results: moments, keys, flags, and data with a type."""
 from __future__ import annotations
 
 import enum
@@ -18,7 +18,7 @@ FIRST_SECOND, LAST_SECOND = -62_167_219_200, 253_402_300_799
 
 @dataclass(frozen=True, order=True)
 class Moment:
-    """A moment: seconds from 1970-01-01T00:00:00Z on, and microseconds after them, of the years 0000 to 9999.
+    """A moment of the years 0000 to 9999: seconds since 1970-01-01T00:00:00Z, and microseconds after them.
 
     >>> Moment(1_700_000_100, 5) < Moment(1_700_000_101)
     True
@@ -65,7 +65,7 @@ When = Union[Moment, int, float]
 
 
 def clock(when: When | None) -> _library.Time:
-    """The moment as the library takes it: the machine's clock if there is none."""
+    """The moment as the library takes it: the machine's clock by default."""
     moment = Moment.now() if when is None else Moment.of(when)
     return _library.Time(moment.seconds, moment.micros)
 
@@ -109,7 +109,7 @@ class Key:
     """A key: the number of its encryption type, and its bytes, which `repr` leaves out.
 
     Keys of the types 19 (16 bytes) and 20 (32 bytes) seal and open texts, and make checksums (RFC 8009), for a usage (RFC 4120, section
-    7.5.1). A key of another type or length is a Fault there.
+    7.5.1). A key of another type or length raises Fault there.
 
     >>> Key(19, bytes(16))
     Key(kind=19)
