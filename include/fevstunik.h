@@ -132,7 +132,22 @@ typedef enum fevstunik_code {
     FEVSTUNIK_TEXT_INTEGRITY = 801, /* the tag is wrong */
     FEVSTUNIK_BAD_TEXT = 810,       /* the text isn't a valid name; `at` is the place of the fault */
     FEVSTUNIK_NO_REALM = 811,       /* the text has no `@` without a backslash before it */
-    FEVSTUNIK_NOT_UTF8 = 812        /* the text isn't UTF-8 */
+    FEVSTUNIK_NOT_UTF8 = 812,       /* the text isn't UTF-8 */
+
+    /* Why bytes aren't a token of GSS-API, or a checksum of such a client. */
+    FEVSTUNIK_NOT_A_TOKEN = 900,        /* the first byte is that of no token */
+    FEVSTUNIK_TOKEN_MALFORMED = 901,    /* the bytes aren't a token; `at` is the place of the fault */
+    FEVSTUNIK_TOKEN_CONTINUES = 902,    /* the token continues a negotiation, and doesn't begin one */
+    FEVSTUNIK_TOKEN_EMPTY = 903,        /* the negotiation has no token of Kerberos; `at` is the place of its mechanism */
+    FEVSTUNIK_TOKEN_ID = 904,           /* the token of Kerberos holds another message; `at` is the place of its identifier */
+    FEVSTUNIK_OTHER_MECHANISM = 910,    /* the mechanism at `at` isn't Kerberos */
+    FEVSTUNIK_NTLM = 911,               /* the mechanism at `at` is NTLM */
+    FEVSTUNIK_IAKERB = 912,             /* the mechanism at `at` is IAKERB */
+    FEVSTUNIK_NESTED_NEGOTIATION = 913, /* the mechanism at `at` is a negotiation once more */
+    FEVSTUNIK_BAD_MECHANISM = 920,      /* the number of the mechanism is neither 1 nor 2 */
+    FEVSTUNIK_CONTEXT_TRUNCATED = 930,  /* the checksum of type 0x8003 is cut off */
+    FEVSTUNIK_CONTEXT_BINDINGS = 931,   /* the length of the bindings in it isn't 16 */
+    FEVSTUNIK_CONTEXT_DELEGATION = 932  /* the option of the delegation in it isn't 1 */
 } fevstunik_code;
 
 /* Returns the name of a code, such as "FEVSTUNIK_REPEAT", or NULL if the number isn't a code of
@@ -191,6 +206,19 @@ static inline const char *fevstunik_code_name(uint32_t code)
     case FEVSTUNIK_BAD_TEXT: return "FEVSTUNIK_BAD_TEXT";
     case FEVSTUNIK_NO_REALM: return "FEVSTUNIK_NO_REALM";
     case FEVSTUNIK_NOT_UTF8: return "FEVSTUNIK_NOT_UTF8";
+    case FEVSTUNIK_NOT_A_TOKEN: return "FEVSTUNIK_NOT_A_TOKEN";
+    case FEVSTUNIK_TOKEN_MALFORMED: return "FEVSTUNIK_TOKEN_MALFORMED";
+    case FEVSTUNIK_TOKEN_CONTINUES: return "FEVSTUNIK_TOKEN_CONTINUES";
+    case FEVSTUNIK_TOKEN_EMPTY: return "FEVSTUNIK_TOKEN_EMPTY";
+    case FEVSTUNIK_TOKEN_ID: return "FEVSTUNIK_TOKEN_ID";
+    case FEVSTUNIK_OTHER_MECHANISM: return "FEVSTUNIK_OTHER_MECHANISM";
+    case FEVSTUNIK_NTLM: return "FEVSTUNIK_NTLM";
+    case FEVSTUNIK_IAKERB: return "FEVSTUNIK_IAKERB";
+    case FEVSTUNIK_NESTED_NEGOTIATION: return "FEVSTUNIK_NESTED_NEGOTIATION";
+    case FEVSTUNIK_BAD_MECHANISM: return "FEVSTUNIK_BAD_MECHANISM";
+    case FEVSTUNIK_CONTEXT_TRUNCATED: return "FEVSTUNIK_CONTEXT_TRUNCATED";
+    case FEVSTUNIK_CONTEXT_BINDINGS: return "FEVSTUNIK_CONTEXT_BINDINGS";
+    case FEVSTUNIK_CONTEXT_DELEGATION: return "FEVSTUNIK_CONTEXT_DELEGATION";
     default: return NULL;
     }
 }
@@ -251,6 +279,19 @@ static inline const char *fevstunik_code_text(uint32_t code)
     case FEVSTUNIK_BAD_TEXT: return "the text isn't a valid name; `at` is the place of the fault";
     case FEVSTUNIK_NO_REALM: return "the text has no `@` without a backslash before it";
     case FEVSTUNIK_NOT_UTF8: return "the text isn't UTF-8";
+    case FEVSTUNIK_NOT_A_TOKEN: return "the first byte is that of no token";
+    case FEVSTUNIK_TOKEN_MALFORMED: return "the bytes aren't a token; `at` is the place of the fault";
+    case FEVSTUNIK_TOKEN_CONTINUES: return "the token continues a negotiation, and doesn't begin one";
+    case FEVSTUNIK_TOKEN_EMPTY: return "the negotiation has no token of Kerberos; `at` is the place of its mechanism";
+    case FEVSTUNIK_TOKEN_ID: return "the token of Kerberos holds another message; `at` is the place of its identifier";
+    case FEVSTUNIK_OTHER_MECHANISM: return "the mechanism at `at` isn't Kerberos";
+    case FEVSTUNIK_NTLM: return "the mechanism at `at` is NTLM";
+    case FEVSTUNIK_IAKERB: return "the mechanism at `at` is IAKERB";
+    case FEVSTUNIK_NESTED_NEGOTIATION: return "the mechanism at `at` is a negotiation once more";
+    case FEVSTUNIK_BAD_MECHANISM: return "the number of the mechanism is neither 1 nor 2";
+    case FEVSTUNIK_CONTEXT_TRUNCATED: return "the checksum of type 0x8003 is cut off";
+    case FEVSTUNIK_CONTEXT_BINDINGS: return "the length of the bindings in it isn't 16";
+    case FEVSTUNIK_CONTEXT_DELEGATION: return "the option of the delegation in it isn't 1";
     default: return NULL;
     }
 }
@@ -380,6 +421,28 @@ typedef struct fevstunik_owner {
     int32_t offset_micros;  /* and the microseconds after them */
     bool has_offset;        /* whether the cache has an offset */
 } fevstunik_owner;
+
+/* The names that tokens of GSS-API give Kerberos. */
+typedef enum fevstunik_mechanism {
+    FEVSTUNIK_MECHANISM_NONE = 0,     /* no name */
+    FEVSTUNIK_MECHANISM_KERBEROS = 1, /* 1.2.840.113554.1.2.2 (RFC 4121) */
+    FEVSTUNIK_MECHANISM_WINDOWS = 2   /* 1.2.840.48018.1.2.2, which clients of Windows name first */
+} fevstunik_mechanism;
+
+/* What a request, and the answer to it, is wrapped in. */
+typedef struct fevstunik_wrapped {
+    uint32_t mechanism;  /* the name that the token gives Kerberos: a fevstunik_mechanism, not NONE */
+    uint32_t negotiated; /* the name that a negotiation (SPNEGO) has first; NONE if there is no negotiation */
+} fevstunik_wrapped;
+
+/* What a client of GSS-API asks for. The spans are places in the buffer that the call was given. */
+typedef struct fevstunik_context {
+    fevstunik_span bindings;   /* the MD5 hash of the channel's bindings: 16 bytes, zeros if there are none */
+    fevstunik_span delegation; /* the credentials that it delegates, a KRB-CRED, if any */
+    fevstunik_span extensions; /* what is after these, which isn't looked at */
+    uint32_t flags;            /* 1 delegation, 2 mutual, 4 replay, 8 sequence, 16 confidentiality, 32 integrity */
+    bool has_delegation;       /* whether it delegates credentials */
+} fevstunik_context;
 
 /* A service that accepts requests: opaque, and all zero before its first use. */
 typedef struct fevstunik_acceptor {
@@ -846,6 +909,84 @@ fevstunik_answer fevstunik_checksum(int32_t key_type, const uint8_t *key, size_t
  */
 fevstunik_answer fevstunik_checksum_check(int32_t key_type, const uint8_t *key, size_t key_size, uint32_t usage, const uint8_t *text,
                                           size_t text_size, const uint8_t *tag, size_t tag_size);
+
+/* ---- tokens of GSS-API, in which web clients, ssh and Windows send a request ---- */
+
+/* Opens the first token of a client, and returns the request. The token is one of Kerberos alone
+ * (RFC 4121, section 4.1), or a negotiation (SPNEGO; RFC 4178, section 4.2.1) whose first mechanism
+ * is Kerberos. `wrapped` is filled on FEVSTUNIK_OK and FEVSTUNIK_SHORT_BUFFER: its answer is wrapped
+ * in the same. The call allocates no memory.
+ *
+ * Answers FEVSTUNIK_OK or FEVSTUNIK_SHORT_BUFFER; or writes nothing and answers one of the codes
+ * from FEVSTUNIK_NOT_A_TOKEN to FEVSTUNIK_NESTED_NEGOTIATION.
+ *
+ *     fevstunik_wrapped wrapped;
+ *     answer = fevstunik_token_open(token, token_size, &wrapped, request, sizeof request);
+ */
+fevstunik_answer fevstunik_token_open(const uint8_t *token, size_t token_size, fevstunik_wrapped *wrapped, uint8_t *buffer,
+                                      size_t buffer_size);
+
+/* Returns the first token of a client for a request.
+ *
+ * Answers FEVSTUNIK_OK or FEVSTUNIK_SHORT_BUFFER; or writes nothing and answers
+ * FEVSTUNIK_BAD_MECHANISM, FEVSTUNIK_TOO_LONG (the token would have more than 1,048,576 bytes) or
+ * FEVSTUNIK_OUT_OF_MEMORY.
+ *
+ *     const fevstunik_wrapped wrapped = {FEVSTUNIK_MECHANISM_KERBEROS, FEVSTUNIK_MECHANISM_KERBEROS};
+ *     answer = fevstunik_token_request(&wrapped, request, request_size, buffer, sizeof buffer);
+ */
+fevstunik_answer fevstunik_token_request(const fevstunik_wrapped *wrapped, const uint8_t *request, size_t request_size, uint8_t *buffer,
+                                         size_t buffer_size);
+
+/* Returns the token that answers a client with a reply. In a negotiation it says that the login is
+ * complete.
+ *
+ * Answers FEVSTUNIK_OK or FEVSTUNIK_SHORT_BUFFER; or writes nothing and answers
+ * FEVSTUNIK_BAD_MECHANISM, FEVSTUNIK_TOO_LONG or FEVSTUNIK_OUT_OF_MEMORY.
+ *
+ *     answer = fevstunik_token_reply(&wrapped, reply, reply_size, buffer, sizeof buffer);
+ */
+fevstunik_answer fevstunik_token_reply(const fevstunik_wrapped *wrapped, const uint8_t *reply, size_t reply_size, uint8_t *buffer,
+                                       size_t buffer_size);
+
+/* Returns the token that answers a client with a KRB-ERROR. In a negotiation it says that the login
+ * is rejected.
+ *
+ * Answers FEVSTUNIK_OK or FEVSTUNIK_SHORT_BUFFER; or writes nothing and answers
+ * FEVSTUNIK_BAD_MECHANISM, FEVSTUNIK_TOO_LONG or FEVSTUNIK_OUT_OF_MEMORY.
+ *
+ *     answer = fevstunik_token_error(&wrapped, error, error_size, buffer, sizeof buffer);
+ */
+fevstunik_answer fevstunik_token_error(const fevstunik_wrapped *wrapped, const uint8_t *error, size_t error_size, uint8_t *buffer,
+                                       size_t buffer_size);
+
+/* Opens a service's answer to a client's first token, and returns the reply or the KRB-ERROR.
+ * `is_error` says which; it is set on FEVSTUNIK_OK and FEVSTUNIK_SHORT_BUFFER. The call allocates no
+ * memory.
+ *
+ * Answers FEVSTUNIK_OK or FEVSTUNIK_SHORT_BUFFER; or writes nothing and answers one of the codes
+ * from FEVSTUNIK_NOT_A_TOKEN to FEVSTUNIK_NESTED_NEGOTIATION.
+ *
+ *     bool is_error;
+ *     answer = fevstunik_token_answer(token, token_size, &is_error, reply, sizeof reply);
+ */
+fevstunik_answer fevstunik_token_answer(const uint8_t *token, size_t token_size, bool *is_error, uint8_t *buffer, size_t buffer_size);
+
+/* Reads what a client of GSS-API asks for, in the authenticator's checksum of type 0x8003 (32771;
+ * RFC 4121, section 4.1.1), as `fevstunik_accepted_item` returns it. The bindings, the delegation and
+ * the extensions are written to the buffer. `context` is filled on FEVSTUNIK_OK and
+ * FEVSTUNIK_SHORT_BUFFER. The call compares the bindings with nothing: compare them with the MD5
+ * hash of your channel's.
+ *
+ * Answers FEVSTUNIK_OK or FEVSTUNIK_SHORT_BUFFER; or writes nothing and answers
+ * FEVSTUNIK_CONTEXT_TRUNCATED, FEVSTUNIK_CONTEXT_BINDINGS, FEVSTUNIK_CONTEXT_DELEGATION or
+ * FEVSTUNIK_OUT_OF_MEMORY.
+ *
+ *     fevstunik_context context;
+ *     answer = fevstunik_context_read(checksum, checksum_size, &context, buffer, sizeof buffer);
+ */
+fevstunik_answer fevstunik_context_read(const uint8_t *checksum, size_t checksum_size, fevstunik_context *context, uint8_t *buffer,
+                                        size_t buffer_size);
 
 #ifdef __cplusplus
 }

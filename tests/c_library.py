@@ -4,7 +4,8 @@
 The header is compiled alone, as C99 and as C++; its functions are exactly those of the archive, and its codes those of the crate. A C
 program (tests/c/library.c) runs the exchange that tests share, with exact answers, and so do examples/serve.py and the tests of the Python
 package (tests/python), over a shared object. tests/c/faults.c asks for each fault, and tests/c/memory.c lets each allocation fail in turn:
-together they see just the codes that the header names at each function. tests/c/large.c hands in files of thousands of items. A service and a client (examples/service) talk over TCP, to each
+tests/c/tokens.c opens and writes tokens of GSS-API. Together they see
+just the codes that the header names at each function. tests/c/large.c hands in files of thousands of items. A service and a client (examples/service) talk over TCP, to each
 other and to a client and a service over MIT krb5 (tests/c_peers.py). Threads share a service (tests/c/threads.c). tests/c/fuzz.c hands the
 library good and broken files and messages, some of them under valgrind.
 
@@ -28,6 +29,8 @@ ROOT = pathlib.Path(__file__).resolve().parent.parent
 sys.path += [str(ROOT / "tests"), str(ROOT / "tests/vectors")]
 import c_cases  # noqa: E402
 import c_peers  # noqa: E402
+import c_tokens  # noqa: E402
+import c_web  # noqa: E402
 from c_header import HEADER, differs, documented, header_checks, header_codes, header_functions, kerberos_codes  # noqa: E402
 import edits  # noqa: E402
 import fixture as shared  # noqa: E402
@@ -156,6 +159,10 @@ def from_c(room, answered):
     if built.returncode == 0:
         yield from counted("the program of faults", answered, program, *files, fixture("reply"),
                            input=c_cases.lines(header_codes(), kerberos_codes()))
+    program, built = watched(room, "tokens")
+    yield "the program of tokens is linked", wrong(built)
+    if built.returncode == 0:
+        yield from counted("the program of tokens", answered, program, input="".join(f"{it}\n" for it in c_tokens.lines(header_codes())))
     # each allocation of each call fails in turn
     program, built = watched(room, "memory", "-Wl,--wrap=malloc", "-Wl,--wrap=realloc", "-Wl,--wrap=free")
     yield "the program without memory is linked", wrong(built)
@@ -274,6 +281,7 @@ def from_python(room):
     if built.returncode == 0:
         yield from example_in_python(path)
         yield from package_tests(room, path)
+        yield from c_web.checks(room, path)
 
 
 def fuzzed(room, inputs):

@@ -63,6 +63,19 @@ class Code(enum.IntEnum):
     BAD_TEXT = 810
     NO_REALM = 811
     NOT_UTF8 = 812
+    NOT_A_TOKEN = 900
+    TOKEN_MALFORMED = 901
+    TOKEN_CONTINUES = 902
+    TOKEN_EMPTY = 903
+    TOKEN_ID = 904
+    OTHER_MECHANISM = 910
+    NTLM = 911
+    IAKERB = 912
+    NESTED_NEGOTIATION = 913
+    BAD_MECHANISM = 920
+    CONTEXT_TRUNCATED = 930
+    CONTEXT_BINDINGS = 931
+    CONTEXT_DELEGATION = 932
 
     @classmethod
     def _missing_(cls, value: object) -> Code | None:
@@ -131,4 +144,17 @@ _TEXTS = {
     Code.BAD_TEXT: "the text isn't a valid name; `at` is the place of the fault",
     Code.NO_REALM: "the text has no `@` without a backslash before it",
     Code.NOT_UTF8: "the text isn't UTF-8",
+    Code.NOT_A_TOKEN: "the first byte is that of no token",
+    Code.TOKEN_MALFORMED: "the bytes aren't a token; `at` is the place of the fault",
+    Code.TOKEN_CONTINUES: "the token continues a negotiation, and doesn't begin one",
+    Code.TOKEN_EMPTY: "the negotiation has no token of Kerberos; `at` is the place of its mechanism",
+    Code.TOKEN_ID: "the token of Kerberos holds another message; `at` is the place of its identifier",
+    Code.OTHER_MECHANISM: "the mechanism at `at` isn't Kerberos",
+    Code.NTLM: "the mechanism at `at` is NTLM",
+    Code.IAKERB: "the mechanism at `at` is IAKERB",
+    Code.NESTED_NEGOTIATION: "the mechanism at `at` is a negotiation once more",
+    Code.BAD_MECHANISM: "the number of the mechanism is neither 1 nor 2",
+    Code.CONTEXT_TRUNCATED: "the checksum of type 0x8003 is cut off",
+    Code.CONTEXT_BINDINGS: "the length of the bindings in it isn't 16",
+    Code.CONTEXT_DELEGATION: "the option of the delegation in it isn't 1",
 }

@@ -77,6 +77,16 @@ class Owner(ctypes.Structure):
     _fields_ = [("name", Span), ("name_type", c_int32), ("offset_seconds", c_int32), ("offset_micros", c_int32), ("has_offset", c_bool)]
 
 
+class Wrapped(ctypes.Structure):
+    _fields_ = [("mechanism", c_uint32), ("negotiated", c_uint32)]
+    mechanism: int
+    negotiated: int
+
+
+class Context(ctypes.Structure):
+    _fields_ = [("bindings", Span), ("delegation", Span), ("extensions", Span), ("flags", c_uint32), ("has_delegation", c_bool)]
+
+
 class Opaque(ctypes.Structure):
     """A handle: made all zero, as the library asks, and never copied."""
     _fields_ = [("opaque", c_void_p)]
@@ -117,6 +127,12 @@ FUNCTIONS: dict[str, tuple[Any, tuple[Any, ...]]] = {
     "open": (Answer, (*KEY, *DATA, *INTO)),
     "checksum": (Answer, (*KEY, *DATA, *INTO)),
     "checksum_check": (Answer, (*KEY, *DATA, *DATA)),
+    "token_open": (Answer, (*DATA, POINTER(Wrapped), *INTO)),
+    "token_request": (Answer, (POINTER(Wrapped), *DATA, *INTO)),
+    "token_reply": (Answer, (POINTER(Wrapped), *DATA, *INTO)),
+    "token_error": (Answer, (POINTER(Wrapped), *DATA, *INTO)),
+    "token_answer": (Answer, (*DATA, POINTER(c_bool), *INTO)),
+    "context_read": (Answer, (*DATA, POINTER(Context), *INTO)),
 }
 
 

@@ -12,6 +12,7 @@ from ._codes import Code
 from ._errors import Error
 from ._files import Keytab
 from ._library import Answer, Bytes, Handle, done, filled, fitting, library, octets, read
+from ._tokens import CHECKSUM, Context
 from ._values import CONFOUNDER, Key, Moment, TicketFlags, TypedData, When, chosen, clock
 
 FIRST_CAUSE, AFTER_CAUSES = 100, 400
@@ -110,6 +111,19 @@ class Accepted:
     authenticator_authorization: tuple[TypedData, ...]
     checksum: TypedData | None
     _handle: Handle = field(repr=False, compare=False)
+
+    @property
+    def context(self) -> Context | None:
+        """What a client of GSS-API asks for, or None if the authenticator has no checksum of that type (0x8003).
+
+        >>> from fevstunik import Acceptor, Keytab
+        >>> request = bytes.fromhex(open("examples/calls.txt").readline().split()[2])
+        >>> service = Acceptor(Keytab.read("examples/service.keytab"), "host/web@EX", started=None)
+        >>> print(service.accept(request, now=1_700_000_100).context)
+        None
+        """
+        found = self.checksum
+        return Context.read(found.data) if found is not None and found.kind == CHECKSUM else None
 
     def reply(self, *, subkey: Key | None = None, seq: int | None = None) -> bytes:
         """Return the bytes of the reply. The client waits for it if `wants_reply` is true.

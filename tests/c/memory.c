@@ -183,6 +183,31 @@ static fevstunik_answer naming(void)
     return fevstunik_name_check(service_name, 11);
 }
 
+static const fevstunik_wrapped negotiated = {FEVSTUNIK_MECHANISM_KERBEROS, FEVSTUNIK_MECHANISM_KERBEROS};
+
+static fevstunik_answer wrapping_request(void)
+{
+    return fevstunik_token_request(&negotiated, request.at, request.size, buffer, sizeof buffer);
+}
+
+static fevstunik_answer wrapping_reply(void)
+{
+    return fevstunik_token_reply(&negotiated, reply.at, reply.size, buffer, sizeof buffer);
+}
+
+static fevstunik_answer wrapping_error(void)
+{
+    return fevstunik_token_error(&negotiated, reply.at, reply.size, buffer, sizeof buffer);
+}
+
+static fevstunik_answer reading_context(void)
+{
+    static const uint8_t checksum[24] = {16};
+    fevstunik_context context;
+
+    return fevstunik_context_read(checksum, sizeof checksum, &context, buffer, sizeof buffer);
+}
+
 /* The latest moment, or a second that no service here is told. */
 static fevstunik_time latest(void)
 {
@@ -327,6 +352,10 @@ int main(int count, char **words)
     is_told("request again", asking);
     is_told("finish", finishing);
     is_told("seal", sealing);
+    is_told("token of a request", wrapping_request);
+    is_told("token of a reply", wrapping_reply);
+    is_told("token of an error", wrapping_error);
+    is_told("context", reading_context);
     (void)opening();
     is_told("open", opening);
     is_told("keytab check", checking);

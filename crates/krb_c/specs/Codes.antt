@@ -97,6 +97,33 @@ no_realm = 811
 abbrev pub not_utf8 : ℕ
 not_utf8 = 812
 
+abbrev pub not_a_token : ℕ
+not_a_token = 900
+
+abbrev pub token_malformed : ℕ
+token_malformed = 901
+
+abbrev pub token_continues : ℕ
+token_continues = 902
+
+abbrev pub token_empty : ℕ
+token_empty = 903
+
+abbrev pub token_id : ℕ
+token_id = 904
+
+abbrev pub other_mechanism : ℕ
+other_mechanism = 910
+
+abbrev pub ntlm : ℕ
+ntlm = 911
+
+abbrev pub iakerb : ℕ
+iakerb = 912
+
+abbrev pub nested_negotiation : ℕ
+nested_negotiation = 913
+
 -- why a request is refused, in the order of krb_ap's table
 abbrev pub cause_code : Refusal → ℕ
 cause_code MessageType = 100

@@ -10,3 +10,4 @@ pub mod Refusing
 pub mod Editing
 pub mod Listing
 pub mod Finishing
+pub mod Tokens

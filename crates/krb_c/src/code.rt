@@ -104,3 +104,22 @@ pub(crate) const BAD_TEXT: u32 = 810;
 pub(crate) const NO_REALM: u32 = 811;
 
 pub(crate) const NOT_UTF8: u32 = 812;
+
+// Why bytes are no token of GSS-API.
+pub(crate) const NOT_A_TOKEN: u32 = 900;
+
+pub(crate) const TOKEN_MALFORMED: u32 = 901;
+
+pub(crate) const TOKEN_CONTINUES: u32 = 902;
+
+pub(crate) const TOKEN_EMPTY: u32 = 903;
+
+pub(crate) const TOKEN_ID: u32 = 904;
+
+pub(crate) const OTHER_MECHANISM: u32 = 910;
+
+pub(crate) const NTLM: u32 = 911;
+
+pub(crate) const IAKERB: u32 = 912;
+
+pub(crate) const NESTED_NEGOTIATION: u32 = 913;

@@ -52,4 +52,5 @@ mod pending_handle;
 mod refusing;
 mod sealing;
 mod slot;
+mod tokens;
 mod version;

@@ -1,0 +1,155 @@
+/* Tokens of GSS-API. Each line of standard input is a call and what it answers, as tests/c_tokens.py makes them; bytes are hexadecimal
+ * digits, `-` if there are none:
+ *
+ *     open CODE AT MECHANISM NEGOTIATED TOKEN REQUEST
+ *     request CODE MECHANISM NEGOTIATED MESSAGE TOKEN     likewise reply and error
+ *     answer CODE AT IS_ERROR TOKEN MESSAGE
+ *     context CODE FLAGS HAS_DELEGATION CHECKSUM BINDINGS DELEGATION EXTENSIONS */
+#include "checks.h"
+
+#define ROOM 4096
+#define LINE (8 * ROOM)
+
+static uint8_t given[ROOM], wanted[ROOM], buffer[ROOM];
+static char text[LINE], word[8][LINE];
+
+/* The bytes of a word. */
+static size_t bytes_of(uint8_t *at, const char *digits)
+{
+    return digits[0] == '-' ? 0 : read_hex(at, ROOM, digits);
+}
+
+/* The bytes are at the start of the buffer, and nothing else was written. */
+static void is_written(const uint8_t *bytes, size_t size)
+{
+    is_bytes(text, buffer, bytes, size);
+    for (size_t at = size; at < ROOM; at++)
+        if (buffer[at] != 0xee) {
+            is("what is after the bytes", at, size);
+            return;
+        }
+}
+
+static void clear(void)
+{
+    memset(buffer, 0xee, sizeof buffer);
+}
+
+static void opened(void)
+{
+    unsigned code = (unsigned)atoi(word[1]);
+    size_t at = (size_t)atoi(word[2]), size = bytes_of(given, word[5]), count = bytes_of(wanted, word[6]);
+    int is_ok = code == FEVSTUNIK_OK;
+    fevstunik_wrapped wrapped = {7, 7};
+
+    clear();
+    is_answer(text, fevstunik_token_open(given, size, &wrapped, buffer, ROOM), code, 0, at, is_ok ? count : 0);
+    is_written(wanted, is_ok ? count : 0);
+    is("mechanism", wrapped.mechanism, is_ok ? atoi(word[3]) : 7);
+    is("negotiated", wrapped.negotiated, is_ok ? atoi(word[4]) : 7);
+    if (!is_ok || count == 0)
+        return;
+    clear();
+    is_answer("short", fevstunik_token_open(given, size, &wrapped, buffer, count - 1), FEVSTUNIK_SHORT_BUFFER, 0, 0, count);
+    is_written(wanted, 0);
+}
+
+static fevstunik_answer wrapped_by(const char *name, const fevstunik_wrapped *wrapped, size_t size, size_t room)
+{
+    if (strcmp(name, "request") == 0)
+        return fevstunik_token_request(wrapped, given, size, buffer, room);
+    if (strcmp(name, "reply") == 0)
+        return fevstunik_token_reply(wrapped, given, size, buffer, room);
+    return fevstunik_token_error(wrapped, given, size, buffer, room);
+}
+
+static void wraps(void)
+{
+    unsigned code = (unsigned)atoi(word[1]);
+    fevstunik_wrapped wrapped = {(uint32_t)atoi(word[2]), (uint32_t)atoi(word[3])};
+    size_t size = bytes_of(given, word[4]), count = bytes_of(wanted, word[5]);
+
+    clear();
+    is_answer(text, wrapped_by(word[0], &wrapped, size, ROOM), code, 0, 0, count);
+    is_written(wanted, count);
+    if (code != FEVSTUNIK_OK)
+        return;
+    clear();
+    is_answer("short", wrapped_by(word[0], &wrapped, size, count - 1), FEVSTUNIK_SHORT_BUFFER, 0, 0, count);
+    is_written(wanted, 0);
+}
+
+static void answered(void)
+{
+    unsigned code = (unsigned)atoi(word[1]);
+    size_t at = (size_t)atoi(word[2]), size = bytes_of(given, word[4]), count = bytes_of(wanted, word[5]);
+    int is_ok = code == FEVSTUNIK_OK, was = 0;
+
+    for (; was < 2; was++) {
+        bool is_error = was;
+
+        clear();
+        is_answer(text, fevstunik_token_answer(given, size, &is_error, buffer, ROOM), code, 0, at, is_ok ? count : 0);
+        is_written(wanted, is_ok ? count : 0);
+        is("is an error", is_error, is_ok ? atoi(word[3]) : was);
+        if (is_ok && count > 0)
+            is_answer("short", fevstunik_token_answer(given, size, &is_error, buffer, count - 1), FEVSTUNIK_SHORT_BUFFER, 0, 0, count);
+    }
+}
+
+/* A part is in the buffer after those before it. */
+static size_t is_part(const char *what, fevstunik_span part, size_t before, const char *digits)
+{
+    size_t size = bytes_of(wanted, digits);
+
+    is(what, part.at, before);
+    is(what, part.size, size);
+    is_bytes(what, buffer + before, wanted, size);
+    return before + size;
+}
+
+static void contexts(void)
+{
+    unsigned code = (unsigned)atoi(word[1]);
+    size_t size = bytes_of(given, word[4]), count;
+    fevstunik_context context;
+    fevstunik_answer answer;
+
+    memset(&context, 0x55, sizeof context);
+    clear();
+    answer = fevstunik_context_read(given, size, &context, buffer, ROOM);
+    is(text, answer.code, code);
+    if (code != FEVSTUNIK_OK) {
+        is_answer(text, answer, code, 0, 0, 0);
+        is("it stays", context.flags, 0x55555555);
+        is_written(wanted, 0);
+        return;
+    }
+    is("flags", context.flags, strtoll(word[2], NULL, 10));
+    is("delegation", context.has_delegation, atoi(word[3]));
+    count = is_part("bindings", context.bindings, 0, word[5]);
+    count = is_part("delegation", context.delegation, count, word[6]);
+    count = is_part("extensions", context.extensions, count, word[7]);
+    is_answer(text, answer, code, 0, 0, count);
+    clear();
+    is_answer("short", fevstunik_context_read(given, size, &context, buffer, count - 1), FEVSTUNIK_SHORT_BUFFER, 0, 0, count);
+    is_written(wanted, 0);
+}
+
+int main(void)
+{
+    while (fgets(text, sizeof text, stdin) != NULL) {
+        text[strcspn(text, "\n")] = 0;
+        sscanf(text, "%s %s %s %s %s %s %s %s", word[0], word[1], word[2], word[3], word[4], word[5], word[6], word[7]);
+        if (strcmp(word[0], "open") == 0)
+            opened();
+        else if (strcmp(word[0], "answer") == 0)
+            answered();
+        else if (strcmp(word[0], "context") == 0)
+            contexts();
+        else
+            wraps();
+    }
+    printf("%d passed, %d failed\n", passed, failed);
+    return failed != 0;
+}
