@@ -24,6 +24,7 @@ taken_of x = record {
   session_key = x.session_key;
   flags = x.flags.0;
   authtime = x.authtime;
+  starttime = x.starttime;
   endtime = x.endtime;
   addresses = option_map (λ l. owned_list_of l.items) x.addresses;
   ticket_authorization = option_map (λ l. owned_list_of l.items) x.ticket_authorization;
