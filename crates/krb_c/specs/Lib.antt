@@ -11,3 +11,4 @@ pub mod Editing
 pub mod Listing
 pub mod Finishing
 pub mod Tokens
+pub mod Stamps

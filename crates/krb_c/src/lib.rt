@@ -52,5 +52,6 @@ mod pending_handle;
 mod refusing;
 mod sealing;
 mod slot;
+mod stamps;
 mod tokens;
 mod version;
