@@ -65,17 +65,20 @@ taken_from request part auth = record {
   wants_reply = is_mutual request;
 }
 
--- After a history, an arrival is accepted, and this is what is then known: it is opened, near,
--- alive, trusted and not shown before, and the quiet start is over.
-pub record Accept (setup : Setup) (history : List Arrival) (call : Arrival) (taken : Taken) : Type 0 where
+-- After a history, bytes that arrive at a moment are accepted, and this is what is then known: they
+-- are opened, near, alive, trusted and not shown before, and the quiet start is over.
+pub record IsAccepted (setup : Setup) (history : List Arrival) (bytes : List ℕ) (moment : ℤ) (taken : Taken) : Type 0 where
   pub request : ValueOf ap_req
   pub part : ValueOf enc_ticket_part
   pub auth : ValueOf authenticator
-  pub opened : OpenedAs setup call.bytes request part auth
-  pub near : Near (sent_at auth) (effective history call.moment) setup.skew
-  pub settled : Settled setup (effective history call.moment) (sent_at auth)
+  pub opened : OpenedAs setup bytes request part auth
+  pub near : Near (sent_at auth) (effective history moment) setup.skew
+  pub settled : Settled setup (effective history moment) (sent_at auth)
   pub unshown : ¬ IsShown setup history (stamp_of request part auth)
-  pub alive : Alive part (effective history call.moment) setup.skew
+  pub alive : Alive part (effective history moment) setup.skew
   pub trusted : IsPathTrusted request part
   pub ignorable : IsDataIgnorable part auth
   pub taken_is : taken ≡ taken_from request part auth
+
+abbrev pub Accept : Setup → List Arrival → Arrival → Taken → Type 0
+Accept setup history call taken = IsAccepted setup history call.bytes call.moment taken
