@@ -1,3 +1,4 @@
 pub mod PartLaws
 pub mod ReadLaws
 pub mod OpenLaws
+pub mod ChecksumLaws

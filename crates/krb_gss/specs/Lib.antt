@@ -2,4 +2,5 @@ pub mod Mechanism
 pub mod Token
 pub mod Fault
 pub mod Opening
+pub mod Checksum
 pub mod Inner

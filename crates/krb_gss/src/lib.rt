@@ -19,13 +19,17 @@
 //! and mechListMIC of a negotiation hold isn't looked at. No call runs longer than linear in its bytes.
 #![tactic(auto)]
 
+mod checksum;
 mod fault;
+mod flags;
 mod framing;
 mod mechanism;
 mod negotiation;
 mod opening;
 mod parts;
 
+pub use checksum::{Checksum, ChecksumFault, ChecksumWriteFault};
 pub use fault::TokenFault;
+pub use flags::{ContextFlag, ContextFlags};
 pub use mechanism::{Foreign, Mechanism};
 pub use opening::{Opened, Wrapping, open_token};
