@@ -99,7 +99,7 @@ typedef enum fevstunik_code {
     FEVSTUNIK_OUT_OF_MEMORY = 400,  /* out of memory: malloc or realloc returned NULL */
     FEVSTUNIK_SHORT_BUFFER = 401,   /* the buffer is too short: `size` bytes are needed */
     FEVSTUNIK_EMPTY_HANDLE = 402,   /* the handle is empty */
-    FEVSTUNIK_NOTHING_THERE = 403,  /* nothing was accepted, nothing was refused, or there is no moment yet */
+    FEVSTUNIK_NOTHING_THERE = 403,  /* nothing was accepted, nothing was refused, or there is no such moment */
     FEVSTUNIK_TOO_LONG = 404,       /* a file, a request, an error, a name or a key is longer than its limit */
     FEVSTUNIK_BAD_SKEW = 410,       /* the skew is more than 86,400 seconds */
     FEVSTUNIK_BAD_MOMENT = 411,     /* the moment is outside the years 0000 to 9999, or has 1,000,000 microseconds or more */
@@ -253,7 +253,7 @@ static inline const char *fevstunik_code_text(uint32_t code)
     case FEVSTUNIK_OUT_OF_MEMORY: return "out of memory: malloc or realloc returned NULL";
     case FEVSTUNIK_SHORT_BUFFER: return "the buffer is too short: `size` bytes are needed";
     case FEVSTUNIK_EMPTY_HANDLE: return "the handle is empty";
-    case FEVSTUNIK_NOTHING_THERE: return "nothing was accepted, nothing was refused, or there is no moment yet";
+    case FEVSTUNIK_NOTHING_THERE: return "nothing was accepted, nothing was refused, or there is no such moment";
     case FEVSTUNIK_TOO_LONG: return "a file, a request, an error, a name or a key is longer than its limit";
     case FEVSTUNIK_BAD_SKEW: return "the skew is more than 86,400 seconds";
     case FEVSTUNIK_BAD_MOMENT: return "the moment is outside the years 0000 to 9999, or has 1,000,000 microseconds or more";
@@ -630,6 +630,21 @@ fevstunik_answer fevstunik_acceptor_new(fevstunik_acceptor *handle, const uint8_
 fevstunik_answer fevstunik_acceptor_started(fevstunik_acceptor *handle, const uint8_t *keytab, size_t keytab_size, uint32_t skew,
                                             const uint8_t *service, size_t service_size, const fevstunik_time *start);
 
+/* Gives a service another keytab, for example with a changed key. The service keeps all else: what
+ * it has seen, the latest moment, the skew and the start. So a request that was accepted under the
+ * old keytab isn't accepted again. (fevstunik_acceptor_new and fevstunik_acceptor_started on a handle
+ * that holds a service forget what that service has seen.) `service` is as in
+ * fevstunik_acceptor_new.
+ *
+ * Answers FEVSTUNIK_OK; or leaves the service unchanged and answers FEVSTUNIK_EMPTY_HANDLE;
+ * FEVSTUNIK_TOO_LONG, _FILE_VERSION, _FILE_TRUNCATED or _FILE_BAD_ITEM for the keytab;
+ * FEVSTUNIK_NOT_UTF8, _BAD_TEXT or _NO_REALM for the service; or FEVSTUNIK_OUT_OF_MEMORY.
+ *
+ *     answer = fevstunik_acceptor_replace_keytab(&service, file, file_size, (const uint8_t *)"host/web@EX", 11);
+ */
+fevstunik_answer fevstunik_acceptor_replace_keytab(fevstunik_acceptor *handle, const uint8_t *keytab, size_t keytab_size,
+                                                   const uint8_t *service, size_t service_size);
+
 /* Prepares the handle for fevstunik_acceptor_accept, which keeps an accepted request in it. The
  * handle keeps nothing yet, and what it held before is freed. One handle serves for any number of
  * requests, one after the other. If threads share a service, each has a handle of its own for what
@@ -686,6 +701,33 @@ fevstunik_answer fevstunik_acceptor_accept(fevstunik_acceptor *handle, fevstunik
  *     printf("%.*s\n", (int)known.client.size, (const char *)buffer + known.client.at);
  */
 fevstunik_answer fevstunik_accepted_known(const fevstunik_accepted *accepted, fevstunik_known *known, uint8_t *buffer, size_t buffer_size);
+
+/* Writes the stamp of the accepted request to the buffer: the service, the client and the client's
+ * time as one string of bytes. Two requests have the same stamp only if one repeats the other. Use it
+ * if several instances of a service share a store: let the client in only if the store hadn't got
+ * the stamp, and have the store keep it until `keep_until`, which is the client's time plus twice
+ * `skew`, in seconds. `keep_until` is written even if the buffer is too short.
+ *
+ * Answers FEVSTUNIK_OK or FEVSTUNIK_SHORT_BUFFER; or writes nothing and answers
+ * FEVSTUNIK_EMPTY_HANDLE, FEVSTUNIK_NOTHING_THERE, FEVSTUNIK_BAD_SKEW (more than 86,400 seconds),
+ * FEVSTUNIK_BAD_MOMENT (`keep_until` would be after the year 9999) or FEVSTUNIK_OUT_OF_MEMORY.
+ *
+ *     fevstunik_time keep_until;
+ *     answer = fevstunik_accepted_stamp(&accepted, 300, &keep_until, buffer, sizeof buffer);
+ */
+fevstunik_answer fevstunik_accepted_stamp(const fevstunik_accepted *accepted, uint32_t skew, fevstunik_time *keep_until, uint8_t *buffer,
+                                          size_t buffer_size);
+
+/* Returns when the ticket of the accepted request becomes valid, if the ticket says so. Otherwise it
+ * is valid from `authtime` on. The call allocates no memory.
+ *
+ * Answers FEVSTUNIK_OK; or writes nothing and answers FEVSTUNIK_EMPTY_HANDLE, or
+ * FEVSTUNIK_NOTHING_THERE if nothing was accepted or the ticket doesn't say.
+ *
+ *     fevstunik_time start;
+ *     answer = fevstunik_accepted_start(&accepted, &start);
+ */
+fevstunik_answer fevstunik_accepted_start(const fevstunik_accepted *accepted, fevstunik_time *start);
 
 /* Counts the items of a list of the accepted request. `list` is a fevstunik_list, and `size` is the
  * number of its items. A list that the request has may have no items. The call allocates no memory.

@@ -29,6 +29,7 @@ ROOT = pathlib.Path(__file__).resolve().parent.parent
 sys.path += [str(ROOT / "tests"), str(ROOT / "tests/vectors")]
 import c_cases  # noqa: E402
 import c_peers  # noqa: E402
+import c_shared  # noqa: E402
 import c_tokens  # noqa: E402
 import c_web  # noqa: E402
 from c_header import HEADER, differs, documented, header_checks, header_codes, header_functions, kerberos_codes  # noqa: E402
@@ -282,6 +283,7 @@ def from_python(room):
         yield from example_in_python(path)
         yield from package_tests(room, path)
         yield from c_web.checks(room, path)
+        yield from c_shared.checks(room, path, ROOT / "examples/client.ccache", 1_700_000_100)
 
 
 def fuzzed(room, inputs):

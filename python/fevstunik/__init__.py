@@ -29,14 +29,14 @@ from ._codes import Code
 from ._errors import Error, Fault, LibraryError
 from ._files import Credential, CredentialCache, Keytab, KeytabEntry, Owner
 from ._library import load, version
-from ._service import Accepted, Acceptor, Refused
+from ._service import Accepted, Acceptor, Refused, Stamp
 from ._tokens import Context, ContextFlags, Mechanism, Token, TokenAnswer, open_answer, wrap_request
 from ._values import Key, Moment, TicketFlags, TypedData, When, check_name
 
 __all__ = [
     "Accepted", "Acceptor", "Agreed", "Code", "Context", "ContextFlags", "Credential", "CredentialCache", "Error", "Fault", "Key", "Keytab",
-    "KeytabEntry", "LibraryError", "Mechanism", "Moment", "Owner", "Pending", "Refused", "TicketFlags", "Token", "TokenAnswer", "TypedData",
-    "When", "check_name", "load", "make_request", "open_answer", "version", "wrap_request",
+    "KeytabEntry", "LibraryError", "Mechanism", "Moment", "Owner", "Pending", "Refused", "Stamp", "TicketFlags", "Token", "TokenAnswer",
+    "TypedData", "When", "check_name", "load", "make_request", "open_answer", "version", "wrap_request",
 ]
 for _name in __all__:
     if isinstance(globals()[_name], type):

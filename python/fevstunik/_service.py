@@ -64,6 +64,18 @@ class _List(enum.IntEnum):
 
 
 @dataclass(frozen=True)
+class Stamp:
+    """What stands for an accepted request in a store that several instances of a service share.
+
+    data        service, client and client's time as one string of bytes: two requests have the same only if one repeats the other
+    keep_until  until when the store must keep it, by its own clock: the client's time plus twice the skew
+    """
+
+    data: bytes
+    keep_until: Moment
+
+
+@dataclass(frozen=True)
 class Accepted:
     """A request that was accepted.
 
@@ -71,6 +83,7 @@ class Accepted:
     service                      the service that was asked for, as ``host/web@EX``
     time                         the client's time
     authtime                     when the client was authenticated, in seconds
+    starttime                    when the ticket becomes valid, in seconds, or None: from authtime on
     endtime                      when the ticket expires, in seconds
     flags                        the ticket's flags
     session_key                  the key that client and service share
@@ -98,6 +111,7 @@ class Accepted:
     service: str
     time: Moment
     authtime: int
+    starttime: int | None
     endtime: int
     flags: TicketFlags
     session_key: Key
@@ -143,6 +157,23 @@ class Accepted:
         with self._handle.used() as pointer:
             return filled(lambda *into: self._handle.library.call("accepted_reply", pointer, confounder, CONFOUNDER, *choice, *into))
 
+    def stamp(self, skew: int = 300) -> Stamp:
+        """Return the stamp of the request, for a store that several instances of the service share.
+
+        skew  the service's skew, in seconds
+
+        >>> from fevstunik import Acceptor, Keytab
+        >>> request = bytes.fromhex(open("examples/calls.txt").readline().split()[2])
+        >>> service = Acceptor(Keytab.read("examples/service.keytab"), "host/web@EX", started=None)
+        >>> stamp = service.accept(request, now=1_700_000_100).stamp()
+        >>> len(stamp.data), stamp.keep_until
+        (89, Moment(seconds=1700000700, micros=5))
+        """
+        until = _library.Time()
+        with self._handle.used() as pointer:
+            data = filled(lambda *into: self._handle.library.call("accepted_stamp", pointer, fitting(skew, 32), byref(until), *into))
+        return Stamp(data, Moment(until.seconds, until.micros))
+
     def close(self) -> None:
         """Free what the library holds for it. Values that were read stay valid. A second call does nothing.
 
@@ -165,16 +196,23 @@ def _accepted(handle: Handle) -> Accepted:
     with handle.used() as pointer:
         known, data = read(_library.Known, lambda *words: handle.library.call("accepted_known", pointer, *words))
         lists = {which: _items(handle, pointer, which) for which in _List}
+        starttime = _start(handle, pointer)
     checksums = lists[_List.CHECKSUM]
     return Accepted(
         client=known.client.text(data), service=known.service.text(data), time=Moment(known.ctime, known.cusec),
-        authtime=known.authtime, endtime=known.endtime, flags=TicketFlags(known.flags),
+        authtime=known.authtime, starttime=starttime, endtime=known.endtime, flags=TicketFlags(known.flags),
         session_key=Key(known.session_type, known.session_key.of(data)),
         subkey=Key(known.subkey_type, known.subkey.of(data)) if known.has_subkey else None,
         seq=known.seq if known.has_seq else None, wants_reply=known.wants_reply,
         client_type=known.name_type, service_type=known.service_type, addresses=lists[_List.ADDRESSES],
         authorization=lists[_List.TICKET_AUTHORIZATION], authenticator_authorization=lists[_List.AUTHENTICATOR_AUTHORIZATION],
         checksum=checksums[0] if checksums else None, _handle=handle)
+
+
+def _start(handle: Handle, pointer: object) -> int | None:
+    start = _library.Time()
+    answer = handle.library.call("accepted_start", pointer, byref(start))
+    return None if answer.code == Code.NOTHING_THERE else (done(answer), start.seconds)[1]
 
 
 def _items(handle: Handle, pointer: object, which: _List) -> tuple[TypedData, ...]:
@@ -214,9 +252,7 @@ class Acceptor:
     """
 
     def __init__(self, keytab: Keytab, service: str | None, skew: int = 300, *, started: When | None) -> None:
-        name = b"" if service is None else service.encode()
-        if service == "":
-            raise ValueError("the service's name is empty: None stands for each name of the keytab")
+        name = _wanted(service)
         words = keytab.data, len(keytab.data), fitting(skew, 32), name, len(name)
         self._handle = Handle("acceptor")
         with self._handle.used() as pointer:
@@ -248,6 +284,24 @@ class Acceptor:
                 answer = self._handle.library.call("acceptor_accept", pointer, into, request, len(request), byref(at))
         _decided(answer)
         return _accepted(accepted)
+
+    def replace_keytab(self, keytab: Keytab, service: str | None) -> None:
+        """Take another keytab, for example with a changed key. What the service has seen is kept, so nothing is accepted twice.
+
+        service  the name that is served, as for Acceptor
+
+        >>> from fevstunik import Acceptor, Keytab
+        >>> keytab = Keytab.read("examples/service.keytab")
+        >>> request = bytes.fromhex(open("examples/calls.txt").readline().split()[2])
+        >>> service = Acceptor(keytab, "host/web@EX", started=None)
+        >>> service.accept(request, now=1_700_000_100).close()
+        >>> service.replace_keytab(keytab, "host/web@EX")
+        >>> service.remembered
+        1
+        """
+        name = _wanted(service)
+        with self._handle.used() as pointer:
+            done(self._handle.library.call("acceptor_replace_keytab", pointer, keytab.data, len(keytab.data), name, len(name)))
 
     @property
     def remembered(self) -> int:
@@ -289,6 +343,12 @@ class Acceptor:
 
     def __exit__(self, kind: type[BaseException] | None, fault: BaseException | None, trace: TracebackType | None) -> None:
         self.close()
+
+
+def _wanted(service: str | None) -> bytes:
+    if service == "":
+        raise ValueError("the service's name is empty: None stands for each name of the keytab")
+    return b"" if service is None else service.encode()
 
 
 def _decided(answer: Answer) -> None:

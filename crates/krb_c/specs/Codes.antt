@@ -124,6 +124,18 @@ iakerb = 912
 abbrev pub nested_negotiation : ℕ
 nested_negotiation = 913
 
+abbrev pub bad_mechanism : ℕ
+bad_mechanism = 920
+
+abbrev pub context_truncated : ℕ
+context_truncated = 930
+
+abbrev pub context_bindings : ℕ
+context_bindings = 931
+
+abbrev pub context_delegation : ℕ
+context_delegation = 932
+
 -- why a request is refused, in the order of krb_ap's table
 abbrev pub cause_code : Refusal → ℕ
 cause_code MessageType = 100

@@ -11,4 +11,6 @@ pub mod Editing
 pub mod Listing
 pub mod Finishing
 pub mod Tokens
+pub mod Contexts
 pub mod Stamps
+pub mod Renewing

@@ -150,8 +150,8 @@ fn acceptor_of(
     }
 }
 
-// The keytab's entries of the wanted service: all of them if no service is named.
-fn wanted(alloc: Global, keytab: Keytab, service: &[u8]) -> Result<Keytab, Answer>
+/// The keytab's entries of the wanted service: all of them if no service is named.
+pub(crate) fn wanted(alloc: Global, keytab: Keytab, service: &[u8]) -> Result<Keytab, Answer>
     ensures wanted { IfOk result (λ kept. Serves service.now keytab kept) }
     ensures unnamed { IfErr result (λ answer. IsUnnamed service.now answer) }
     ensures skew { IfErr result (λ answer. answer ≢ plain bad_skew) }

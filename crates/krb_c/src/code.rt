@@ -123,3 +123,12 @@ pub(crate) const NTLM: u32 = 911;
 pub(crate) const IAKERB: u32 = 912;
 
 pub(crate) const NESTED_NEGOTIATION: u32 = 913;
+
+pub(crate) const BAD_MECHANISM: u32 = 920;
+
+// Why bytes are no checksum of a client of GSS-API.
+pub(crate) const CONTEXT_TRUNCATED: u32 = 930;
+
+pub(crate) const CONTEXT_BINDINGS: u32 = 931;
+
+pub(crate) const CONTEXT_DELEGATION: u32 = 932;

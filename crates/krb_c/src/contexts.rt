@@ -1,0 +1,106 @@
+//! What a client of GSS-API asks for in its authenticator's checksum.
+
+ghost use Rattle.std.specs.Prelude.{◌≡◌, IfOk};
+ghost use Rattle.krb_gss.specs.Checksum.{bytes_if, content_of};
+ghost use Rattle.krb_c.specs.Contexts.{ReadsContext, bytes_or_none, context_answer, context_bytes, context_of};
+ghost use Rattle.krb_c.specs.Known.{is_there};
+ghost use Rattle.krb_c.specs.Listing.{Tells};
+
+use crate::answer::{Answer, hand_over};
+use crate::code;
+use crate::known::{Span, append};
+use krb_gss::{Checksum, ChecksumFault};
+use std::alloc::{AllocError, Global};
+
+/// What a client asks for. The parts are in the buffer.
+#[repr(C)]
+#[derive(Clone, Copy)]
+pub struct Context {
+    /// A hash of the channel's bindings: 16 bytes.
+    pub bindings: Span,
+    /// The credentials that the client delegates, if any.
+    pub delegation: Span,
+    /// What is after these.
+    pub extensions: Span,
+    /// The flags.
+    pub flags: u32,
+    /// Whether the client delegates credentials.
+    pub has_delegation: bool,
+}
+
+/// Reads the authenticator's checksum of type 0x8003 (`krb_gss::Checksum::parse`). Writes the
+/// bindings, the delegation and the extensions to the buffer, and their places and the flags to
+/// `context`. The places are written even if the buffer is too short.
+#[unsafe(no_mangle)]
+pub extern "C" fn fevstunik_context_read(
+    alloc: Global,
+    checksum: &[u8],
+    context: &mut Context,
+    buffer: &mut [u8],
+) -> Answer
+    ensures { ReadsContext checksum.now context.old context.new buffer.old buffer.new result }
+{
+    match Checksum::parse(checksum) {
+        Ok(found) => tell_context(alloc, &found, context, buffer),
+        Err(fault) => context_told(fault),
+    }
+}
+
+fn context_told(fault: ChecksumFault) -> Answer
+    ensures { result ≡ context_answer fault }
+{
+    match fault {
+        ChecksumFault::Truncated => Answer::plain(code::CONTEXT_TRUNCATED),
+        ChecksumFault::BindingsLength => Answer::plain(code::CONTEXT_BINDINGS),
+        ChecksumFault::DelegationOption => Answer::plain(code::CONTEXT_DELEGATION),
+    }
+}
+
+fn tell_context(alloc: Global, found: &Checksum, context: &mut Context, buffer: &mut [u8]) -> Answer
+    ensures { Tells (context_bytes (content_of found.now)) (context_of (content_of found.now)) context.old context.new buffer.old buffer.new result }
+{
+    match told(alloc, found) {
+        Ok((bytes, told)) => {
+            *context = told;
+            hand_over(bytes.as_slice(), buffer)
+        }
+        Err(_) => Answer::plain(code::OUT_OF_MEMORY),
+    }
+}
+
+// The bytes that are returned, and the place of each part.
+fn told(alloc: Global, found: &Checksum) -> Result<(Vec<u8>, Context), AllocError>
+    ensures bytes { IfOk result (λ made. made.0.items ≡ context_bytes (content_of found.now)) }
+    ensures told { IfOk result (λ made. made.1 ≡ context_of (content_of found.now)) }
+{
+    let mut bytes = Vec::from_slice(alloc, &found.bindings)?;
+    let bindings = Span {
+        at: 0,
+        size: bytes.len(),
+    };
+    let delegation = append(&mut bytes, delegated(found))?;
+    let extensions = append(&mut bytes, found.extensions)?;
+    let told = Context {
+        bindings,
+        delegation,
+        extensions,
+        flags: found.flags.0,
+        has_delegation: has_delegation(found),
+    };
+    Ok((bytes, told))
+}
+
+fn delegated<'a>(found: &Checksum<'a>) -> &'a [u8]
+    ensures { result.now ≡ bytes_or_none (bytes_if found.now.delegation) }
+{
+    match found.delegation {
+        Some(bytes) => bytes,
+        None => &[],
+    }
+}
+
+fn has_delegation(found: &Checksum) -> bool
+    ensures { result ≡ is_there (bytes_if found.now.delegation) }
+{
+    found.delegation.is_some()
+}
