@@ -23,8 +23,8 @@
  *    the call is given.
  *  - A bool is 0 or 1. Sizes are at most PTRDIFF_MAX.
  *  - malloc, realloc and free belong to one allocator, which aligns memory as C requires.
- * No function is called from a signal handler, or in the child of a process that forked while it
- * had several threads.
+ * Never call a function of this library from a signal handler, or in the child of a process that
+ * forked while it had several threads.
  *
  * The library keeps its state in handles only. It reads no clock and no random numbers, and has no
  * output but its results. Freed memory isn't wiped of keys, and nothing is promised about how long

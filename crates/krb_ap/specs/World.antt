@@ -156,7 +156,7 @@ pub record HoldSame (credential : Credential) (e : Ended) (r : Replied) : Type 0
   pub service_subkey : option_map key_value r.options.subkey ≡ e.agreement.service_subkey
   pub service_seq : r.options.seq ≡ e.agreement.service_seq
 
--- the service's reply to this request, of which there is only one
+-- the service's reply to this request; there is only one
 pub record IsReplyTo (w : World) (sent : Sent) (r : Replied) : Type 0 where
   pub replied : IsOf w.replied r
   pub held : IsOf w.held r.held
