@@ -1,18 +1,18 @@
 -- The history after an answer.
 use Rattle.std.proofs.Common.{◌≡◌, ◌≢◌, List, ◌∷◌, refl, arith, ◌⊎◌, Ok, Err, Result}
 use Rattle.std.specs.Prelude.{IfErr, IsErrOf}
-use Rattle.krb_ap.specs.Setup.{Arrival}
+use Rattle.krb_ap.specs.Setup.{Arrival, decided_now}
 use Rattle.krb_ap.specs.Answer.{after, after_refusal}
 use Rattle.krb_ap.specs.declared.accepted.Accepted.{Accepted}
 use Rattle.krb_ap.specs.declared.refusal.Refusal.{Refusal}
 use Rattle.krb_ap.specs.declared.refusal.Refusal.TheVariants.{OutOfMemory}
 
 -- with the call, where the answer isn't want of memory
-pub after_named : (history : List Arrival) (call : Arrival) (r : Refusal) → r ≢ OutOfMemory → call ∷ history ≡ after_refusal history call r
+pub after_named : (history : List Arrival) (call : Arrival) (r : Refusal) → r ≢ OutOfMemory → decided_now call ∷ history ≡ after_refusal history call r
 after_named history call r named = grind arith
 
 pub after_answer : (history : List Arrival) (call : Arrival) (answer : Result Accepted Refusal) → IfErr answer (λ r. r ≢ OutOfMemory)
-    → call ∷ history ≡ after history call answer
+    → decided_now call ∷ history ≡ after history call answer
 after_answer history call (Ok accepted) named = refl
 after_answer history call (Err refusal) named = after_named history call refusal named
 

@@ -9,7 +9,7 @@ use Rattle.krb_msg.specs.Fields.{options_of, etype_of, kvno_of, cipher_of, authe
 use Rattle.krb_keytab.specs.Entry.{KeytabEntry}
 use Rattle.krb_keytab.specs.Pick.{Choice, chosen, no_name, no_key, no_version}
 use Rattle.krb_replay.specs.Stamp.{Stamp}
-use Rattle.krb_ap.specs.Setup.{Setup, Arrival, arrival}
+use Rattle.krb_ap.specs.Setup.{Setup, Arrival, arrival, setup_for}
 use Rattle.krb_ap.specs.Opened.{OpensAs, Asks, Keyed, Ticketed, Authenticated, OpenedAs, IsChoiceFor, sealed_ticket, session_key, entry_key, service_of, ticket_usage, authenticator_usage, sent_at, stamp_of}
 use Rattle.krb_ap.specs.History.{effective, Shows, IsShown}
 use Rattle.krb_ap.specs.Taken.{Taken, Accept}
@@ -135,9 +135,10 @@ module _ (facts : Facts) (d : Decisions) (setup : Setup) where
         | inr none ↦ inr (λ s. none (shown_near facts setup [] bytes now (λ x. ⊥) request part auth o now stamp s, shown_stamp facts setup [] bytes now (λ x. ⊥) request part auth o now stamp s))
       ]
 
+module _ (facts : Facts) (d : Decisions) (setup : Setup) where
   shown : (history : List Arrival) (stamp : Stamp) → Decided (IsShown setup history stamp)
   shown [] stamp = inr (λ h. h)
-  shown (a ∷ history) stamp = one_of _ _ (shows (effective history a.moment) a.bytes stamp) (shown history stamp)
+  shown (a ∷ history) stamp = one_of _ _ (shows facts d (setup_for setup a) (effective history a.moment) a.bytes stamp) (shown history stamp)
 
   pub answered : (history : List Arrival) (call : Arrival) → ((t : Taken) × Accept setup history call t) ⊎ ((r : Refusal) × Cause setup history call r)
   answered history call = at (outcome facts d setup call.bytes)

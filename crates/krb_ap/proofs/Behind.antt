@@ -1,12 +1,12 @@
 -- What a service that was started again may have accepted before.
-use Rattle.std.proofs.Common.{◌≡◌, ℕ, ℤ, pos, ◌+ℤ◌, ◌≤◌, List, [], ◌∷◌, ◌++◌, refl, sym, ap, subst, inl, inr, ◌⊎◌, arith, Option, Some, None}
+use Rattle.std.proofs.Common.{◌≡◌, ℕ, ℤ, pos, ◌+ℤ◌, ◌≤◌, List, [], ◌∷◌, ◌++◌, refl, sym, subst, inl, inr, ◌⊎◌, arith, Option, Some}
 use Rattle.std.specs.Prelude.{◌≤ℤ◌, ◌<ℤ◌, IfSome}
 use Rattle.std.proofs.lemmas.Int.{ints}
 use Rattle.krb_replay.specs.Stamp.{Stamp}
 use Rattle.krb_replay.specs.Memory.{later_of}
 use Rattle.krb_ap.specs.Setup.{Setup, Arrival}
 use Rattle.krb_ap.specs.Quiet.{IsPast}
-use Rattle.krb_ap.specs.History.{greatest, effective, Shows, IsShown}
+use Rattle.krb_ap.specs.History.{effective, IsShown}
 use Rattle.krb_ap.specs.World.{IsOf}
 
 -- ---- the moment that counts was handed in

@@ -22,6 +22,9 @@ pub mod Replying
 pub mod Codes
 pub mod OneRequest
 pub mod Once
+pub mod NewKeytab
+pub mod Life
+pub mod Sharing
 pub mod Sending
 pub mod Worlds
 pub mod WorldsOnce

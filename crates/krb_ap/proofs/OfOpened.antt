@@ -9,7 +9,7 @@ use Rattle.krb_replay.specs.Stamp.{Stamp}
 use Rattle.krb_ap.specs.Setup.{Setup, Arrival, arrival}
 use Rattle.krb_ap.specs.Opened.{OpenedAs, sent_at, stamp_of}
 use Rattle.krb_ap.specs.Times.{Near, IsEarly, IsLate, IsPathTrusted, IsDataIgnorable, MayBeIgnored, second_at, start_of}
-use Rattle.krb_ap.specs.Quiet.{IsPast, Settled}
+use Rattle.krb_ap.specs.Quiet.{Settled}
 use Rattle.krb_ap.specs.History.{effective, Shows, IsShown}
 use Rattle.krb_ap.specs.Taken.{Taken, taken_from, Accept}
 use Rattle.krb_ap.specs.Causes.{Cause, Holds, IsRemembered, OfOpened, place}

@@ -10,7 +10,7 @@ use Rattle.krb_ap.specs.Setup.{Setup, Arrival}
 use Rattle.krb_ap.specs.Taken.{Taken, Accept}
 use Rattle.krb_ap.specs.Request.{Awaited, IsBuilt, request_for}
 use Rattle.krb_ap.specs.Headline.{Agrees, HasTicket}
-use Rattle.krb_ap.specs.Reply.{IsReply, reply_for, reply_part_for}
+use Rattle.krb_ap.specs.Reply.{IsReply, reply_part_for}
 use Rattle.krb_ap.specs.ErrorReply.{IsErrorReply, error_for}
 use Rattle.krb_ap.specs.Finish.{Agreement, IsAgreed, agreement_for, repeated_at}
 use Rattle.krb_ap.specs.World.{Sent, Held, Replied, Ended, World, Event, sends, accepts, refuses, replies, errs, ends, restarts, IsOf, IsSent, IsPacket, Can, Comes, happens, nothing_yet, awaited_by, HoldSame, IsReplyTo, IsHeldToo, IsHeldInEachWorld, IsHeldOnce, BothAgree}

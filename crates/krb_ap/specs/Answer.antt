@@ -3,7 +3,7 @@ use Rattle.std.specs.Prelude.{◌≡◌, ◌≢◌, ◌≤◌, ℤ, Bool, IsTrue
 use Rattle.std.specs.Option.{option_map}
 use Rattle.krb_msg.specs.Owned.{owned_key_of, owned_typed_of, owned_list_of}
 use Rattle.krb_replay.specs.Stamp.{Stamp}
-use Rattle.krb_ap.specs.Setup.{Setup, Arrival, arrival}
+use Rattle.krb_ap.specs.Setup.{Setup, Arrival, arrival, decided_now}
 use Rattle.krb_replay.specs.Memory.{SameStamps}
 use Rattle.krb_der.specs.Kind.{ValueOf}
 use Rattle.krb_msg.specs.Module.{ap_req}
@@ -24,6 +24,7 @@ taken_of x = record {
   session_key = x.session_key;
   flags = x.flags.0;
   authtime = x.authtime;
+  starttime = x.starttime;
   endtime = x.endtime;
   addresses = option_map (λ l. owned_list_of l.items) x.addresses;
   ticket_authorization = option_map (λ l. owned_list_of l.items) x.ticket_authorization;
@@ -45,10 +46,10 @@ Answers setup history call (Err refusal) = refusal ≢ OutOfMemory → Cause set
 -- the history afterwards: with the call, or unchanged if memory ran out
 abbrev pub after_refusal : List Arrival → Arrival → Refusal → List Arrival
 after_refusal history call OutOfMemory = history
-after_refusal history call _ = call ∷ history
+after_refusal history call _ = decided_now call ∷ history
 
 abbrev pub after : List Arrival → Arrival → Result Accepted Refusal → List Arrival
-after history call (Ok accepted) = call ∷ history
+after history call (Ok accepted) = decided_now call ∷ history
 after history call (Err refusal) = after_refusal history call refusal
 
 -- the answers to a list of calls, one after another, and the history afterwards

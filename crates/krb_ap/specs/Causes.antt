@@ -11,7 +11,7 @@ use Rattle.krb_msg.specs.Module.{ap_req, enc_ticket_part, authenticator}
 use Rattle.krb_msg.specs.Fields.{options_of, etype_of, cipher_of}
 use Rattle.krb_keytab.specs.Entry.{KeytabEntry}
 use Rattle.krb_keytab.specs.Pick.{no_name, no_key, no_version}
-use Rattle.krb_ap.specs.Setup.{Setup, Arrival}
+use Rattle.krb_ap.specs.Setup.{Setup, Arrival, decided_now}
 use Rattle.krb_ap.specs.Opened.{Asks, Keyed, Ticketed, Authenticated, OpenedAs, OpensAs, OpensAuthenticator, SameClient, IsChoiceFor, sealed_ticket, session_key, entry_key, ticket_usage, sent_at, stamp_of}
 use Rattle.krb_ap.specs.Times.{Near, IsEarly, IsLate, IsPathTrusted, IsDataIgnorable}
 use Rattle.krb_ap.specs.Quiet.{Settled}
@@ -151,7 +151,7 @@ row OutOfMemory = row_of 1_800 (codes "OutOfMemory") None false (λ setup histor
 -- ---- what follows from the rows
 
 abbrev pub Holds : Setup → List Arrival → Arrival → Refusal → Type 0
-Holds setup history call refusal = (row refusal).holds setup history call
+Holds setup history call refusal = (row refusal).holds setup history (decided_now call)
 
 abbrev pub place : Refusal → ℕ
 place refusal = (row refusal).place
@@ -171,6 +171,9 @@ offset_of (Malformed fault) = Some fault.at
 offset_of _ = None
 
 -- the first cause that holds
-pub record Cause (setup : Setup) (history : List Arrival) (call : Arrival) (refusal : Refusal) : Type 0 where
+pub record IsFirst (setup : Setup) (history : List Arrival) (call : Arrival) (refusal : Refusal) : Type 0 where
   pub holds : Holds setup history call refusal
   pub first : (other : Refusal) → place other < place refusal → ¬ Holds setup history call other
+
+abbrev pub Cause : Setup → List Arrival → Arrival → Refusal → Type 0
+Cause setup history call refusal = IsFirst setup history (decided_now call) refusal

@@ -5,7 +5,7 @@ use Rattle.krb_der.specs.Kind.{ValueOf}
 use Rattle.krb_msg.specs.Module.{ap_req, enc_ticket_part, authenticator}
 use Rattle.krb_replay.specs.Stamp.{Stamp}
 use Rattle.krb_replay.specs.Memory.{later_of, IsRecent}
-use Rattle.krb_ap.specs.Setup.{Setup, Arrival}
+use Rattle.krb_ap.specs.Setup.{Setup, Arrival, setup_for}
 use Rattle.krb_ap.specs.Opened.{OpenedAs, sent_at, stamp_of}
 use Rattle.krb_ap.specs.Times.{Near}
 
@@ -27,10 +27,10 @@ pub record Shows (setup : Setup) (now : ℤ) (bytes : List ℕ) (stamp : Stamp) 
   pub near : Near (sent_at auth) now setup.skew
   pub stamp_is : stamp ≡ stamp_of request part auth
 
--- some call of the history showed this stamp
+-- some call of the history showed this stamp, by the keytab that it was decided by
 abbrev pub IsShown : Setup → List Arrival → Stamp → Type 0
 IsShown setup [] stamp = ⊥
-IsShown setup (a ∷ history) stamp = Shows setup (effective history a.moment) a.bytes stamp ⊎ IsShown setup history stamp
+IsShown setup (a ∷ history) stamp = Shows (setup_for setup a) (effective history a.moment) a.bytes stamp ⊎ IsShown setup history stamp
 
 -- a stamp's moment isn't before the latest moment less the skew
 abbrev pub IsStillRecent : Setup → List Arrival → Stamp → Type 0

@@ -8,7 +8,9 @@ pub mod Causes
 pub mod Answer
 pub mod Service
 pub mod Once
+pub mod Living
 pub mod World
+pub mod Sharing
 pub mod Credentials
 pub mod Written
 pub mod Request

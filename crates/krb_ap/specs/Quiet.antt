@@ -1,7 +1,7 @@
 -- The quiet start of a service that was started again and has forgotten what it accepted. RFC 4120,
 -- section 3.2.3, asks a service that loses its memory to refuse requests for a while. Moments are
 -- microseconds.
-use Rattle.std.specs.Prelude.{ℕ, ℤ, pos, ◌+ℤ◌, ◌<ℤ◌, IfSome}
+use Rattle.std.specs.Prelude.{ℤ, pos, ◌+ℤ◌, ◌<ℤ◌, IfSome}
 use Rattle.krb_ap.specs.Setup.{Setup}
 
 -- the moment is later than the start by more than the skew; a service that never ran before has no

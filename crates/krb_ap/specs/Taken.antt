@@ -6,9 +6,11 @@ use Rattle.krb_ap.specs.Bit.{has_bit}
 use Rattle.krb_enc.specs.Key.{KeyValue}
 use Rattle.krb_msg.specs.Bits.{mutual_required}
 use Rattle.krb_msg.specs.Module.{typed, ap_req, enc_ticket_part, authenticator}
-use Rattle.krb_msg.specs.Fields.{options_of, part_client, flags_of, authtime_of, endtime_of, caddr_of, authorization_of, authenticator_subkey, authenticator_seq_number, authenticator_checksum, authenticator_authorization, authenticator_ctime, authenticator_cusec}
+use Rattle.krb_msg.specs.Fields.{options_of, part_client, flags_of, authtime_of, starttime_of, endtime_of, caddr_of, authorization_of, authenticator_subkey, authenticator_seq_number, authenticator_checksum, authenticator_authorization, authenticator_ctime, authenticator_cusec}
 use Rattle.krb_ap.specs.Setup.{Setup, Arrival}
-use Rattle.krb_ap.specs.Opened.{OpenedAs, service_of, session_key, sent_at, stamp_of}
+use Rattle.krb_msg.specs.Moments.{micros_of}
+use Rattle.krb_replay.specs.Stamp.{Stamp}
+use Rattle.krb_ap.specs.Opened.{OpenedAs, service_of, session_key, sent_at, stamp_at, stamp_of}
 use Rattle.krb_ap.specs.Times.{Near, Alive, IsPathTrusted, IsDataIgnorable}
 use Rattle.krb_ap.specs.Quiet.{Settled}
 use Rattle.krb_ap.specs.History.{effective, IsShown}
@@ -24,6 +26,7 @@ pub record Taken : Type 0 where
   pub session_key : KeyValue
   pub flags : ℕ
   pub authtime : ℤ
+  pub starttime : Option ℤ
   pub endtime : ℤ
   pub addresses : Option (List (ValueOf (typed (leaf octets))))
   pub ticket_authorization : Option (List (ValueOf (typed (leaf octets))))
@@ -35,6 +38,10 @@ pub record Taken : Type 0 where
   pub cusec : ℕ
   pub wants_reply : Bool
 
+-- what the service remembers of it
+abbrev pub taken_stamp : Taken → Stamp
+taken_stamp taken = stamp_at taken.service taken.client (micros_of taken.ctime taken.cusec)
+
 abbrev pub is_mutual : ValueOf ap_req → Bool
 is_mutual request = has_bit (options_of request) mutual_required
 
@@ -45,6 +52,7 @@ taken_from request part auth = record {
   session_key = session_key part;
   flags = flags_of part;
   authtime = authtime_of part;
+  starttime = starttime_of part;
   endtime = endtime_of part;
   addresses = caddr_of part;
   ticket_authorization = authorization_of part;
@@ -57,17 +65,20 @@ taken_from request part auth = record {
   wants_reply = is_mutual request;
 }
 
--- After a history, an arrival is accepted, and this is what is then known: it is opened, near,
--- alive, trusted and not shown before, and the quiet start is over.
-pub record Accept (setup : Setup) (history : List Arrival) (call : Arrival) (taken : Taken) : Type 0 where
+-- After a history, bytes that arrive at a moment are accepted, and this is what is then known: they
+-- are opened, near, alive, trusted and not shown before, and the quiet start is over.
+pub record IsAccepted (setup : Setup) (history : List Arrival) (bytes : List ℕ) (moment : ℤ) (taken : Taken) : Type 0 where
   pub request : ValueOf ap_req
   pub part : ValueOf enc_ticket_part
   pub auth : ValueOf authenticator
-  pub opened : OpenedAs setup call.bytes request part auth
-  pub near : Near (sent_at auth) (effective history call.moment) setup.skew
-  pub settled : Settled setup (effective history call.moment) (sent_at auth)
+  pub opened : OpenedAs setup bytes request part auth
+  pub near : Near (sent_at auth) (effective history moment) setup.skew
+  pub settled : Settled setup (effective history moment) (sent_at auth)
   pub unshown : ¬ IsShown setup history (stamp_of request part auth)
-  pub alive : Alive part (effective history call.moment) setup.skew
+  pub alive : Alive part (effective history moment) setup.skew
   pub trusted : IsPathTrusted request part
   pub ignorable : IsDataIgnorable part auth
   pub taken_is : taken ≡ taken_from request part auth
+
+abbrev pub Accept : Setup → List Arrival → Arrival → Taken → Type 0
+Accept setup history call taken = IsAccepted setup history call.bytes call.moment taken

@@ -12,7 +12,7 @@ use Rattle.krb_der.specs.Kind.{ValueOf}
 use Rattle.krb_msg.specs.Module.{ticket as ticket_kind, enc_ticket_part}
 use Rattle.krb_ccache.specs.declared.credential.Credential.{Credential}
 use Rattle.krb_replay.specs.Stamp.{Stamp}
-use Rattle.krb_ap.specs.Setup.{Setup, Arrival}
+use Rattle.krb_ap.specs.Setup.{Setup, Arrival, decided_now}
 use Rattle.krb_ap.specs.Once.{HasStamp}
 use Rattle.krb_ap.specs.Taken.{Taken, Accept}
 use Rattle.krb_ap.specs.Causes.{Cause}
@@ -131,7 +131,7 @@ Can credential w (restarts start skew) = All (λ call. call.moment ≤ℤ start)
 abbrev pub happens : World → Event → World
 happens w (sends s) = world w.setup w.earlier w.history (s ∷ w.sent) w.held w.replied w.errors w.ended
 happens w (accepts call taken) =
-    world w.setup w.earlier (call ∷ w.history) w.sent (record { call = call; taken = taken } ∷ w.held) w.replied w.errors w.ended
+    world w.setup w.earlier (decided_now call ∷ w.history) w.sent (record { call = call; taken = taken } ∷ w.held) w.replied w.errors w.ended
 happens w (refuses call refusal) = world w.setup w.earlier (after_refusal w.history call refusal) w.sent w.held w.replied w.errors w.ended
 happens w (replies r) = world w.setup w.earlier w.history w.sent w.held (r ∷ w.replied) w.errors w.ended
 happens w (errs refusal now service bytes) = world w.setup w.earlier w.history w.sent w.held w.replied (bytes ∷ w.errors) w.ended

@@ -1,7 +1,13 @@
 //! What a service knows of an accepted request.
 
+ghost use Rattle.std.specs.Prelude.{◌≡◌, IfOk};
+ghost use Rattle.krb_ap.specs.Answer.{taken_of};
+ghost use Rattle.krb_ap.specs.Taken.{taken_stamp};
+
 use krb_enc::Key;
 use krb_msg::{Flags, Microseconds, Principal, RawKey, Seconds, Typed};
+use krb_replay::Tuple;
+use std::alloc::{AllocError, Global};
 
 /// What is known of an accepted request (RFC 4120, section 3.2.3). There is no `Debug`, so no log
 /// shows a key.
@@ -19,6 +25,9 @@ pub struct Accepted {
     pub flags: Flags,
     /// When the client was authenticated.
     pub authtime: Seconds,
+    /// When the ticket becomes valid, if the ticket says so (RFC 4120, section 5.3); if absent, at
+    /// authtime.
+    pub starttime: Option<Seconds>,
     /// When the ticket expires.
     pub endtime: Seconds,
     /// The addresses that the ticket is for. They are passed on as they are, and weren't compared
@@ -40,4 +49,19 @@ pub struct Accepted {
     pub cusec: Microseconds,
     /// Whether the client asks for a reply.
     pub mutual: bool,
+}
+
+impl Accepted {
+    /// Returns what the service remembers of the request: the names of service and client, and the
+    /// client's time (RFC 4120, section 3.2.3). The names are copied.
+    ///
+    /// # Errors
+    /// `AllocError`: there is no memory for the copies.
+    pub fn tuple(&self, alloc: Global) -> Result<Tuple, AllocError>
+        ensures { IfOk result (λ tuple. tuple ≡ taken_stamp (taken_of self.now)) }
+    {
+        let service = self.service.clone()?;
+        let client = self.client.clone()?;
+        Tuple::new(alloc, service, client, self.ctime, self.cusec)
+    }
 }

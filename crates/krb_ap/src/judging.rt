@@ -218,6 +218,7 @@ fn accepted(
         session_key,
         flags: part.flags,
         authtime: part.authtime,
+        starttime: part.starttime,
         endtime: part.endtime,
         addresses: owned_list(alloc, &part.caddr)?,
         ticket_authorization: owned_list(alloc, &part.authorization)?,

@@ -16,11 +16,13 @@ ghost use Rattle.krb_ap.specs.declared.finish_fault.FinishFault.{FinishFault};
 ghost use Rattle.krb_ap.specs.declared.request_fault.RequestFault.{RequestFault};
 ghost use Rattle.krb_ap.specs.Headline.{Agrees, HasTicket, MayBeTaken};
 ghost use Rattle.krb_ap.specs.declared.request.RequestOptions.{RequestOptions};
-ghost use Rattle.krb_ap.specs.Taken.{Accept, Taken};
+ghost use Rattle.krb_ap.specs.Taken.{Accept, Taken, taken_stamp};
 ghost use Rattle.krb_ap.specs.Causes.{Cause, IsRemembered, place};
 ghost use Rattle.krb_ap.specs.Answer.{Run};
-ghost use Rattle.krb_ap.specs.Once.{TakesAmong, TakesOnce};
-ghost use Rattle.krb_ap.specs.World.{BothAgree, Comes, Event, IsHeldInEachWorld, IsHeldOnce, World, nothing_yet};
+ghost use Rattle.krb_ap.specs.Living.{Lives, Step, TakesInLife, TakesOnceInLife};
+ghost use Rattle.krb_ap.specs.Once.{HasStamp, TakesAmong, TakesOnce};
+ghost use Rattle.krb_ap.specs.Sharing.{Asked, LetsInAmong, LetsInOnce, Share};
+ghost use Rattle.krb_ap.specs.World.{BothAgree, Comes, Event, IsHeldInEachWorld, IsHeldOnce, IsOf, World, nothing_yet};
 ghost use Rattle.krb_ccache.specs.declared.credential.Credential.{Credential};
 ghost use Rattle.krb_ap.specs.declared.accepted.Accepted.{Accepted};
 ghost use Rattle.krb_ap.specs.declared.refusal.Refusal.{Refusal};
@@ -126,6 +128,41 @@ pub fn no_stamp_twice()
         → Run setup history calls answers end → TakesOnce setup calls answers }
     ensures before { (setup : Setup) (history : List Arrival) (calls : List Arrival) (answers : List (Result Accepted Refusal)) (end : List Arrival)
         (stamp : Stamp) → Run setup history calls answers end → IsShown setup history stamp → ¬ TakesAmong setup calls answers stamp }
+{
+    facts();
+}
+
+/// States that a service whose keytab is replaced, however often, accepts no two requests of the
+/// same stamp, and none of a stamp that was shown before.
+pub fn no_stamp_twice_in_a_life()
+    ensures once { (setup : Setup) (history : List Arrival) (steps : List Step) → Lives setup history steps → TakesOnceInLife setup steps }
+    ensures before { (setup : Setup) (history : List Arrival) (steps : List Step) (stamp : Stamp)
+        → Lives setup history steps → IsShown setup history stamp → ¬ TakesInLife setup steps stamp }
+{
+    facts();
+}
+
+/// States that what is known of an accepted request has the request's stamp, and that the request
+/// has no other.
+pub fn accepted_has_its_stamp()
+    ensures stamp { (setup : Setup) (history : List Arrival) (call : Arrival) (taken : Taken)
+        → Accept setup history call taken → HasStamp setup call.bytes (taken_stamp taken) }
+    ensures one { (setup : Setup) (history : List Arrival) (call : Arrival) (taken : Taken) (stamp : Stamp)
+        → Accept setup history call taken → HasStamp setup call.bytes stamp → stamp ≡ taken_stamp taken }
+{
+    facts();
+}
+
+/// States that services that share one store of stamps let no two requests of the same stamp in,
+/// and none of a stamp that the store had before. A request is let in if a service accepts it and
+/// the store then says that its stamp is new.
+///
+/// `specs/Sharing` says what the store does: it answers one question after another, and keeps each
+/// stamp that it was asked for. Nothing is presupposed of the services.
+pub fn a_store_lets_in_once()
+    ensures once { (store : List Stamp) (asked : List Asked) → Share store asked → LetsInOnce asked }
+    ensures before { (store : List Stamp) (asked : List Asked) (stamp : Stamp)
+        → Share store asked → IsOf store stamp → ¬ LetsInAmong asked stamp }
 {
     facts();
 }

@@ -8,6 +8,8 @@
 //! An [`Acceptor`] decides by a keytab, a skew and a memory of seen requests. `specs/Opened` says
 //! what a request is opened as, `specs/Times` and `specs/History` when it may be used, and
 //! `specs/Taken` what is accepted and what is then known. `specs/Causes` is the table of refusals.
+//! `specs/Living` is about a service whose keytab is replaced, and `specs/Sharing` about services
+//! that share what they have seen.
 //! `specs/Reply` and `specs/ErrorReply` say what the service sends back. `specs/Headline` says when
 //! one side accepts what the other one built, and [`laws`] states that it does.
 //!
@@ -38,6 +40,7 @@ pub mod laws;
 mod opening;
 mod pending;
 mod refusal;
+mod renewing;
 mod reply;
 mod request;
 mod request_fault;

@@ -4,7 +4,7 @@ use Rattle.std.specs.Prelude.{◌≤ℤ◌, ◌-ℤ◌}
 use Rattle.std.proofs.lemmas.Int.{ints}
 use Rattle.krb_msg.specs.Moments.{micros_of}
 use Rattle.krb_replay.specs.Stamp.{Stamp}
-use Rattle.krb_ap.specs.Setup.{Arrival, Setup}
+use Rattle.krb_ap.specs.Setup.{Arrival, Setup, decided_now}
 use Rattle.krb_ap.specs.Opened.{stamp_at, stamp_of}
 use Rattle.krb_ap.specs.History.{StandsFor, effective}
 use Rattle.krb_ap.specs.Answer.{taken_of}
@@ -16,11 +16,11 @@ recent : (now sent : ℤ) (skew : ℕ) → now ≤ℤ (sent +ℤ pos skew) → (
 recent now sent skew g = omega (arith, ints)
 
 pub is_remembered : (setup next : Setup) (Has : Stamp → Type 0) (latest : Option ℤ) (history : List Arrival) (call : Arrival) (accepted : Accepted)
-    → Accept setup history call (taken_of accepted) → next ≡ setup → StandsFor next Has latest (call ∷ history) → Has (stamp_told accepted)
+    → Accept setup history call (taken_of accepted) → next ≡ setup → StandsFor next Has latest (decided_now call ∷ history) → Has (stamp_told accepted)
 is_remembered setup next Has latest history call accepted a stays later =
     let is : stamp_told accepted ≡ stamp_of a.request a.part a.auth =
     ap (λ (t : Taken). stamp_at t.service t.client (micros_of t.ctime t.cusec)) a.taken_is in
-    let stands = subst (λ (s : Setup). StandsFor s Has latest (call ∷ history)) stays later in
+    let stands = subst (λ (s : Setup). StandsFor s Has latest (decided_now call ∷ history)) stays later in
     subst Has (sym is) (stands.all (stamp_of a.request a.part a.auth)
     (inl (record { request = a.request; part = a.part; auth = a.auth; opened = a.opened; near = a.near; stamp_is = refl }))
     (recent (effective history call.moment) (stamp_of a.request a.part a.auth).time setup.skew a.near.not_before))

@@ -1,3 +1,5 @@
 pub mod Stamp
+pub mod Bytes
+pub mod Keeping
 pub mod Memory
 pub mod Inner

@@ -19,6 +19,7 @@ mod list;
 mod memory;
 mod names;
 mod skew;
+mod stamp_bytes;
 mod timed;
 mod tuple;
 

@@ -1,15 +1,19 @@
 //! What is remembered of a request.
 
-ghost use Rattle.std.specs.Prelude.{◌≡◌, IfOk};
+ghost use Rattle.std.specs.Prelude.{◌≡◌, IfOk, SomeIff};
 ghost use Rattle.std.proofs.Common.{rules};
 ghost use Rattle.std.specs.Cmp.{partial_order_from_own_ties};
 ghost use Rattle.std.specs.Cmp.Rules.{comparing};
 ghost use Rattle.std.specs.Ordering.{as_partial_cmp, eq_by_cmp};
-ghost use Rattle.krb_msg.specs.Moments.{micros_of};
+ghost use Rattle.krb_msg.specs.Moments.{IsMoment, micros_of};
+ghost use Rattle.krb_replay.specs.Bytes.{IsBytesOf};
+ghost use Rattle.krb_replay.specs.Keeping.{kept_until};
 ghost use Rattle.krb_replay.specs.Stamp.{name_of};
 ghost use Rattle.krb_replay.specs.Inner.Order.{stamp_cmp, stamp_total};
 
 use crate::names::compare_names;
+use crate::skew::Skew;
+use crate::stamp_bytes::{write_name, write_time};
 use krb_msg::{Microseconds, Moment, Principal, Seconds};
 use std::alloc::{AllocError, Global};
 use std::cmp::Ordering;
@@ -77,6 +81,49 @@ impl Tuple {
     {
         self.time
     }
+
+    /// Writes the tuple as one string of bytes, for a store that several services share. Two tuples
+    /// have the same bytes exactly if they are equal.
+    ///
+    /// The bytes are the server's name, the client's, and the authenticator's time. A name is its
+    /// realm, the number of its components, and each component. A realm or a component is its
+    /// length and its bytes. The time is in microseconds since 1970-01-01T00:00:00Z. Lengths, the
+    /// number of components and the time have 8 bytes each, the highest first; the time is in two's
+    /// complement. The form is our own.
+    ///
+    /// # Errors
+    /// `AllocError`: there is no memory for the bytes.
+    pub fn to_bytes(&self, alloc: Global) -> Result<Vec<u8>, AllocError>
+        ensures { IfOk result (λ bytes. IsBytesOf self.now bytes.items) }
+    {
+        let mut out = Vec::new(alloc);
+        write_name(&mut out, &self.names.server)?;
+        write_name(&mut out, &self.names.client)?;
+        write_time(&mut out, self.time)?;
+        Ok(out)
+    }
+
+    /// Returns the last moment at which a shared store must still have the tuple, by its own clock:
+    /// the authenticator's time plus twice `skew`. Returns `None` if that is after the year 9999.
+    ///
+    /// A service accepts a request until its clock is later than the authenticator's time by more
+    /// than the skew (RFC 4120, section 3.2.3). The store's clock may be ahead of the service's by
+    /// the skew again.
+    pub fn keep_until(&self, skew: Skew) -> Option<Moment>
+        ensures { SomeIff result (IsMoment (kept_until self.now skew)) (kept_until self.now skew) }
+    {
+        moment_of(self.time().micros() + 2 * skew.micros())
+    }
+}
+
+// The moment so many microseconds after 1970-01-01T00:00:00Z, if it is of the years 0000 to 9999.
+fn moment_of(micros: i64) -> Option<Moment>
+    ensures { SomeIff result (IsMoment micros) micros }
+{
+    Moment::new(
+        micros.div_euclid(1_000_000),
+        micros.rem_euclid(1_000_000) as u32,
+    )
 }
 
 impl Ord for Tuple {

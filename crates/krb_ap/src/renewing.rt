@@ -1,0 +1,43 @@
+//! A new keytab for a living service.
+
+ghost use Rattle.std.specs.Prelude.{◌≡◌, List};
+ghost use Rattle.krb_replay.specs.Memory.{SameStamps};
+ghost use Rattle.krb_ap.specs.Setup.{Arrival, as_decided, with_entries};
+ghost use Rattle.krb_ap.specs.History.{IsShown, StandsFor};
+
+use crate::acceptor::Acceptor;
+use krb_keytab::Keytab;
+use krb_replay::ReplayMemory;
+use std::mem;
+
+impl<M: ReplayMemory> Acceptor<M> {
+    /// Replaces the keytab, and returns the old one. The service decides by `keytab` from now on.
+    ///
+    /// It keeps everything else: what it has seen, the latest moment, the skew and the start. So a
+    /// request that was accepted under the old keytab is a repeat under the new one, too. A ticket
+    /// whose key the new keytab hasn't got any more is refused by the cause that says so.
+    pub fn replace_keytab(&mut self, keytab: Keytab) -> Keytab
+        ensures setup { self.new.setup ≡ with_entries self.old.setup keytab }
+        ensures memory { self.new.memory ≡ self.old.memory }
+        ensures old { result ≡ self.old.setup.entries }
+
+        // For each history that the memory stands for, it stands for the same one, decided by the old keytab; and that shows the same.
+        ensures stands { (history : List Arrival)
+            → StandsFor self.old.setup (M.has self.old.memory) (M.newest self.old.memory) history
+            → StandsFor self.new.setup (M.has self.new.memory) (M.newest self.new.memory) (as_decided self.old.setup history) }
+        ensures shown { (history : List Arrival)
+            → SameStamps (IsShown self.old.setup history) (IsShown self.new.setup (as_decided self.old.setup history)) }
+    {
+        self.put_keytab(keytab)
+    }
+
+    // The keys that were derived from the old keytab go with it.
+    fn put_keytab(&mut self, keytab: Keytab) -> Keytab
+        ensures setup { self.new.setup ≡ with_entries self.old.setup keytab }
+        ensures memory { self.new.memory ≡ self.old.memory }
+        ensures old { result ≡ self.old.setup.entries }
+    {
+        self.ready = None;
+        mem::replace(&mut self.keytab, keytab)
+    }
+}
