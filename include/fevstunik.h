@@ -14,7 +14,7 @@
  *    use.
  *  - Any thread may make a call, but only one call at a time may use a handle, even a const one. Put
  *    a lock around calls that share a handle. Two handles share nothing, in one process or in two.
- *    After a fork the child's handles are copies, and the child doesn't use them. A call that takes
+ *    After a fork the child's handles are copies, and the child must not use them. A call that takes
  *    a const handle may write to it while it runs, and leaves it unchanged when it returns. So no
  *    handle is defined as const.
  *  - Pointers are valid. Only a pointer to bytes whose size is 0 may be NULL (this is tested, not
@@ -23,23 +23,23 @@
  *    the call is given.
  *  - A bool is 0 or 1. Sizes are at most PTRDIFF_MAX.
  *  - malloc, realloc and free belong to one allocator, which aligns memory as C requires.
- * No function is called from a signal handler, or in a child that a process with threads has
- * forked.
+ * Never call a function of this library from a signal handler, or in the child of a process that
+ * forked while it had several threads.
  *
  * The library keeps its state in handles only. It reads no clock and no random numbers, and has no
  * output but its results. Freed memory isn't wiped of keys, and nothing is promised about how long
  * a call takes.
  *
- * Arguments stay the caller's: no function keeps a pointer to them or frees them. The library
- * allocates what a handle holds. Each handle has a function whose name ends in _free, which frees
- * that. There is nothing else to free. Files have at most 16,777,216 bytes, and requests, replies
- * and errors at most 1,048,576: anything longer is a fault. Other sizes are limited by memory
- * alone, unless a limit is named.
+ * Arguments belong to the caller: no function keeps a pointer to them or frees them. The library
+ * allocates what a handle holds, and the handle's function whose name ends in _free frees it. There
+ * is nothing else to free. Files have at most 16,777,216 bytes, and requests, replies and errors at
+ * most 1,048,576: anything longer is a fault. Other sizes are limited by memory alone, unless a
+ * limit is named.
  *
  * A function that returns bytes writes them to the start of the caller's buffer, and leaves the
  * rest of the buffer unchanged. If the buffer is too short, the code is FEVSTUNIK_SHORT_BUFFER,
  * `size` is the number of bytes needed, and the buffer is unchanged: make the call again with a
- * longer one. To learn the size, a call without a handle may be made with a short buffer first.
+ * longer one. To learn the size first, make a call that takes no handle with a short buffer.
  */
 #ifndef FEVSTUNIK_H
 #define FEVSTUNIK_H
@@ -322,7 +322,7 @@ typedef struct fevstunik_span {
     size_t size;
 } fevstunik_span;
 
-/* What is known of an accepted request. The spans are places in the buffer that the call was given. */
+/* What is known of an accepted request. The spans are places in the buffer of the call. */
 typedef struct fevstunik_known {
     fevstunik_span client;      /* the client as text, such as alice@EX, without a zero byte at its end */
     fevstunik_span session_key; /* the key that client and service share: 16 or 32 bytes */
@@ -353,9 +353,7 @@ typedef enum fevstunik_list {
     FEVSTUNIK_LIST_CHECKSUM = 4                     /* the authenticator's checksum, a list of one; it wasn't verified */
 } fevstunik_list;
 
-/* What a client and a service agreed on. The spans are places in the buffer that the call was
- * given.
- */
+/* What a client and a service agreed on. The spans are places in the buffer of the call. */
 typedef struct fevstunik_agreement {
     fevstunik_span client;         /* the client as text */
     fevstunik_span session_key;    /* the key that client and service share: 16 or 32 bytes */
@@ -376,7 +374,7 @@ typedef struct fevstunik_choice {
     bool wants_reply;    /* whether a client asks for a reply; a service ignores it */
 } fevstunik_choice;
 
-/* An entry of a keytab. The spans are places in the buffer that the call was given. */
+/* An entry of a keytab. The spans are places in the buffer of the call. */
 typedef struct fevstunik_key_entry {
     fevstunik_span name; /* whose key it is, as text */
     fevstunik_span key;  /* the key's bytes, up to 65,535 */
@@ -386,7 +384,7 @@ typedef struct fevstunik_key_entry {
     int16_t key_type;    /* the encryption type of the key; any type */
 } fevstunik_key_entry;
 
-/* What an added entry has beside its name and its key. */
+/* What an added entry has besides its name and its key. */
 typedef struct fevstunik_key_parts {
     uint32_t timestamp; /* when the entry is written, in seconds */
     uint32_t kvno;      /* the key's version number */
@@ -394,7 +392,7 @@ typedef struct fevstunik_key_parts {
     int16_t key_type;   /* the encryption type of the key */
 } fevstunik_key_parts;
 
-/* A credential of a cache. The spans are places in the buffer that the call was given. */
+/* A credential of a cache. The spans are places in the buffer of the call. */
 typedef struct fevstunik_cache_entry {
     fevstunik_span client; /* whose ticket it is, as text */
     fevstunik_span server; /* the ticket's service, as text; a configuration entry has the realm X-CACHECONF: */
@@ -411,9 +409,7 @@ typedef struct fevstunik_cache_entry {
     bool is_skey;          /* whether the ticket is sealed under another ticket's session key */
 } fevstunik_cache_entry;
 
-/* The owner of a cache, and its KDC's clock. The span is a place in the buffer that the call was
- * given.
- */
+/* The owner of a cache, and its KDC's clock. The span is a place in the buffer of the call. */
 typedef struct fevstunik_owner {
     fevstunik_span name;    /* the default principal, as text */
     int32_t name_type;      /* the type of its name */
@@ -532,9 +528,8 @@ fevstunik_answer fevstunik_cache_owner(const uint8_t *cache, size_t cache_size, 
 
 /* Adds an entry to a keytab, and returns the bytes of the new file. `name` is the name's text.
  * `key` has the key's bytes, which may be of any type. The entry goes into the first hole that is
- * long enough. If there is none, it goes after the last record, in place of the end word (a
- * record's size of 0), and the bytes after an end word are lost. The bytes 05 02 are an empty
- * keytab.
+ * long enough. If there is none, it goes after the last record. Then an end word (a record's size
+ * of 0) and the bytes after it are lost. The bytes 05 02 are an empty keytab.
  *
  * Answers FEVSTUNIK_OK or FEVSTUNIK_SHORT_BUFFER; or writes nothing and answers the first that
  * applies: FEVSTUNIK_NOT_UTF8, _BAD_TEXT or _NO_REALM for the name; FEVSTUNIK_TOO_LONG if the name
@@ -549,8 +544,7 @@ fevstunik_answer fevstunik_keytab_add(const uint8_t *keytab, size_t keytab_size,
                                       size_t key_size, const fevstunik_key_parts *parts, uint8_t *buffer, size_t buffer_size);
 
 /* Removes one entry of a keytab, and returns the bytes of the new file; `index` counts from 0. The
- * entry's record becomes a hole of zeros, and all else is as it was, so the file's size stays the
- * same.
+ * entry's record becomes a hole of zeros. Nothing else changes, so the file's size stays the same.
  *
  * Answers FEVSTUNIK_OK or FEVSTUNIK_SHORT_BUFFER; or writes nothing and answers FEVSTUNIK_TOO_LONG,
  * _FILE_VERSION, _FILE_TRUNCATED, _FILE_BAD_ITEM, FEVSTUNIK_NO_SUCH_ENTRY or
@@ -561,7 +555,7 @@ fevstunik_answer fevstunik_keytab_add(const uint8_t *keytab, size_t keytab_size,
 fevstunik_answer fevstunik_keytab_remove(const uint8_t *keytab, size_t keytab_size, size_t index, uint8_t *buffer, size_t buffer_size);
 
 /* Returns the bytes of a new file with the entries of a keytab, in their order. Holes, and whatever
- * follows an end word, are left out. Each key is followed by the version number of 32 bits.
+ * follows an end word, are left out. Each entry has its version number in 32 bits too.
  *
  * Answers FEVSTUNIK_OK or FEVSTUNIK_SHORT_BUFFER; or writes nothing and answers FEVSTUNIK_TOO_LONG
  * (for the keytab or the new file), _FILE_VERSION, _FILE_TRUNCATED, _FILE_BAD_ITEM or
@@ -587,14 +581,15 @@ fevstunik_answer fevstunik_name_check(const uint8_t *name, size_t name_size);
 
 /* ---- the service's side ---- */
 
-/* Makes a service that has seen no request, and stores it in the handle. The service decides by the
- * keys of a keytab (the bytes of a file of version 0x0502), and by `skew`, a number of seconds (300
- * is usual). What the handle held is freed: a service made in a used handle forgets what the old
- * one has seen. The keytab's bytes aren't needed afterwards.
+/* Makes a service that has seen no request, and stores it in the handle. The service uses the keys
+ * of a keytab (the bytes of a file of version 0x0502). `skew` is by how many seconds clocks may
+ * differ (300 is usual). What the handle held is freed: a service made in a used handle forgets
+ * what the old one has seen. The keytab's bytes aren't needed afterwards.
  *
  * `service` is the text of the one name that is served, such as host/web@EX: a ticket for any other
  * name is answered NOT_US. If `service_size` is 0, each name of the keytab is served. Name the
- * service if the keytab has keys of several: otherwise a ticket for any of them lets its client in.
+ * service if the keytab has keys of several names: otherwise a ticket for any of them lets its
+ * client in.
  * The name in a ticket isn't sealed, so someone who records a request can write another name into
  * it. If two served names have the same key, a recorded request is accepted once more under the
  * other name.
@@ -617,14 +612,15 @@ fevstunik_answer fevstunik_acceptor_new(fevstunik_acceptor *handle, const uint8_
  * first: it answers JUST_STARTED until its clock and the client's are both later than `start` by
  * more than the skew. So no request that was accepted before is accepted again. This holds on three
  * conditions: the keytab is the same, `start` is no earlier than any moment that was given before,
- * and the skew is no smaller than it was.
+ * and the skew is no smaller than it was. So round `start` up if it comes from a coarser clock than
+ * those moments.
  *
  * Answers FEVSTUNIK_OK; or leaves the handle unchanged and answers the first that applies:
  * FEVSTUNIK_BAD_MOMENT for `start`; FEVSTUNIK_BAD_SKEW; FEVSTUNIK_TOO_LONG, _FILE_VERSION,
  * _FILE_TRUNCATED or _FILE_BAD_ITEM for the keytab; FEVSTUNIK_NOT_UTF8, _BAD_TEXT or _NO_REALM for
  * the service; or FEVSTUNIK_OUT_OF_MEMORY.
  *
- *     fevstunik_time start = {time(NULL), 0};
+ *     fevstunik_time start = {time(NULL) + 1, 0};
  *     answer = fevstunik_acceptor_started(&service, file, file_size, 300, (const uint8_t *)"host/web@EX", 11, &start);
  */
 fevstunik_answer fevstunik_acceptor_started(fevstunik_acceptor *handle, const uint8_t *keytab, size_t keytab_size, uint32_t skew,
@@ -647,8 +643,8 @@ fevstunik_answer fevstunik_acceptor_replace_keytab(fevstunik_acceptor *handle, c
 
 /* Prepares the handle for fevstunik_acceptor_accept, which keeps an accepted request in it. The
  * handle keeps nothing yet, and what it held before is freed. One handle serves for any number of
- * requests, one after the other. If threads share a service, each has a handle of its own for what
- * is accepted, and reads it without a lock.
+ * requests, one after the other. If threads share a service, each thread has such a handle of its
+ * own, and reads it without a lock.
  *
  * Answers FEVSTUNIK_OK; or leaves the handle unchanged and answers FEVSTUNIK_OUT_OF_MEMORY.
  *
@@ -658,14 +654,14 @@ fevstunik_answer fevstunik_acceptor_replace_keytab(fevstunik_acceptor *handle, c
 fevstunik_answer fevstunik_accepted_new(fevstunik_accepted *accepted);
 
 /* Decides whether a request (the bytes of an AP-REQ) is accepted at `now`, a moment of the
- * service's clock, and remembers what it must to recognize a repeat. Time doesn't go back: the
- * latest moment given so far is the one that counts.
+ * service's clock. Remembers what it needs to recognize a repeat. Time doesn't go back: the latest
+ * moment given so far is the one that counts.
  *
  * Keeps an accepted request in the handle `accepted`, which fevstunik_accepted_new prepared, until
  * the next call with that handle. fevstunik_accepted_known reads it, and fevstunik_accepted_reply
  * replies to it. What was kept there before is freed. After any answer but FEVSTUNIK_OK nothing is
- * kept there. Threads that share a service need to lock it for this call only, if each has a handle
- * of its own for what is accepted.
+ * kept there. Threads that share a service lock it for this call, as for each call with its handle.
+ * If each thread has an accepted handle of its own, what was accepted needs no lock.
  *
  * The service keeps the cause of a refusal until its next call, and fevstunik_acceptor_error builds
  * an error for the client from it. fevstunik_error builds the same error from the answer's code
@@ -781,7 +777,7 @@ void fevstunik_accepted_free(fevstunik_accepted *accepted);
  * fevstunik_acceptor_accept refused a request. `service` has the service's name as text, such as
  * host/web@EX. `name_type` is the type of that name (RFC 4120, section 6.2; 3 for a service on a
  * host). `now` is the service's time. The error contains these and the refusal's code, and nothing
- * else. It isn't sealed: anyone could have written it.
+ * else. It isn't sealed: anyone can write such an error.
  *
  * Answers FEVSTUNIK_OK or FEVSTUNIK_SHORT_BUFFER; or writes nothing and answers the first that
  * applies: FEVSTUNIK_EMPTY_HANDLE; FEVSTUNIK_NOTHING_THERE; FEVSTUNIK_NOT_UTF8, _BAD_TEXT or
@@ -833,9 +829,9 @@ void fevstunik_acceptor_free(fevstunik_acceptor *handle);
 
 /* ---- the client's side ---- */
 
-/* Reads a credential cache (the bytes of a file of version 0x0503 or 0x0504) and keeps it in the
- * handle. It is read once, and serves for any number of requests. What the handle held is freed.
- * The file's bytes aren't needed afterwards.
+/* Reads a credential cache (the bytes of a file of version 0x0503 or 0x0504), and keeps it in the
+ * handle for any number of requests. What the handle held is freed. The file's bytes aren't needed
+ * afterwards.
  *
  * Answers FEVSTUNIK_OK; or leaves the handle unchanged and answers the first that applies:
  * FEVSTUNIK_FILE_VERSION, _FILE_HEADER, _FILE_BAD_ITEM, _TOO_LONG or FEVSTUNIK_OUT_OF_MEMORY.
@@ -883,8 +879,7 @@ fevstunik_answer fevstunik_request(const fevstunik_cache *cache, fevstunik_pendi
 /* Reads the reply (the bytes of an AP-REP) to the request that is kept in the handle, and returns
  * what both sides agree on. Writes the client's text, the session key and the service's subkey to
  * the buffer, one after the other, and their places and the numbers to `agreement`. `agreement` is
- * written even if the buffer is too short. The handle stays as it was, so another reply may be
- * read.
+ * written even if the buffer is too short. The handle is unchanged, so another reply may be read.
  *
  * Answers FEVSTUNIK_OK or FEVSTUNIK_SHORT_BUFFER; or writes nothing and answers the first that
  * applies: FEVSTUNIK_EMPTY_HANDLE, FEVSTUNIK_REPLY_TYPE, _REPLY_MALFORMED, _REPLY_INTEGRITY,
@@ -906,8 +901,8 @@ void fevstunik_pending_free(fevstunik_pending *pending);
 /* ---- texts (RFC 8009, sections 5 and 6) ---- */
 
 /* Seals a plain text under a key (16 bytes for type 19, 32 for type 20) for a usage (RFC 4120,
- * section 7.5.1). `confounder` is 16 random bytes, new for each call. The sealed text has 16 bytes
- * more than the plain text, and another 16 (type 19) or 24 (type 20).
+ * section 7.5.1). `confounder` is 16 random bytes, new for each call. The sealed text is 32 bytes
+ * (type 19) or 40 bytes (type 20) longer than the plain text.
  *
  * Answers FEVSTUNIK_OK or FEVSTUNIK_SHORT_BUFFER; or writes nothing and answers the first that
  * applies: FEVSTUNIK_KEY_TYPE, FEVSTUNIK_KEY_LENGTH, FEVSTUNIK_BAD_CONFOUNDER or
@@ -944,8 +939,8 @@ fevstunik_answer fevstunik_checksum(int32_t key_type, const uint8_t *key, size_t
 /* Checks that a tag is the whole checksum of a text under a key for a usage. The call allocates no
  * memory.
  *
- * Answers FEVSTUNIK_OK if it is, FEVSTUNIK_TEXT_INTEGRITY if it isn't, or FEVSTUNIK_KEY_TYPE or
- * FEVSTUNIK_KEY_LENGTH.
+ * Answers FEVSTUNIK_OK if the tag is the checksum, FEVSTUNIK_TEXT_INTEGRITY if it isn't, or
+ * FEVSTUNIK_KEY_TYPE or FEVSTUNIK_KEY_LENGTH.
  *
  *     if (fevstunik_checksum_check(20, key, 32, 1025, text, text_size, tag, 24).code == FEVSTUNIK_OK) ...
  */

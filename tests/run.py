@@ -7,7 +7,8 @@ Then it compares the tables of the crates' tests with the scripts that make them
 (tests/documents.py), runs the script krbtool (tests/script.py), refuses the program's calls for memory one after another
 (tests/refused.py), and those of further calls of the library (tests/calls.py and tests/refused_lines.py, by the programs of the crates
 krb_calls and krb_calls_exchange), runs it within less and less memory (tests/limited.py), hands the calls of files lengths and counts that
-the bytes don't bear out (tests/claimed.py, by the program of the crate krb_calls_files), lets its reads and writes fail (tests/failing.py),
+the bytes don't bear out (tests/claimed.py, by the program of the crate krb_calls_files), gives each command a file without an end and counts
+what is taken of it (tests/endless.py), lets its reads and writes fail (tests/failing.py),
 compares it with a second client and service on generated input (tests/exchange.py), starts a service again and again (tests/restarts.py),
 and ends with what MIT's tools say of files that the program wrote (tests/peers.py; Debian's package krb5-user).
 
@@ -52,6 +53,7 @@ import calls  # noqa: E402
 import claimed  # noqa: E402
 import dialogue  # noqa: E402
 import documents  # noqa: E402
+import endless  # noqa: E402
 import exchange  # noqa: E402
 import failing  # noqa: E402
 import generated  # noqa: E402
@@ -66,7 +68,8 @@ import tables  # noqa: E402
 WORDS = """name args files folders links umask stdin output closed status stdout stdout_begins stdout_holds stderr stderr_begins
     after modes gone"""
 KEYS = set(WORDS.split())
-PARTS = (tables, documents, script, refused, calls, refused_lines, limited, claimed, failing, dialogue, exchange, restarts, peers)
+PARTS = (tables, documents, script, refused, calls, refused_lines, limited, claimed, endless, failing, dialogue, exchange, restarts,
+         peers)
 
 
 def content(text):

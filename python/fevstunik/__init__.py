@@ -1,11 +1,11 @@
 """The application exchange of Kerberos 5 (RFC 4120, section 3.2), with the encryption types of RFC 8009.
 
-A service makes one Acceptor of its Keytab, and asks it about each request:
+A service makes one Acceptor from its Keytab, and passes each request to it:
 
 >>> from fevstunik import Acceptor, CredentialCache, Keytab, Refused, make_request
 >>> service = Acceptor(Keytab.read("examples/service.keytab"), "host/web@EX", started=None)
 
-(`started` is time.time() for each service that may have run before.) A client makes a request from the tickets of its CredentialCache:
+(For a service that may have run before, `started` is time.time().) A client makes a request from a ticket of its CredentialCache:
 
 >>> cache = CredentialCache.read("examples/client.ccache")
 >>> request, pending = make_request(cache, "host/web@EX", now=1_700_000_100)
@@ -21,7 +21,7 @@ The service accepts it, or says why not, and the client reads the reply:
 >>> pending.finish(accepted.reply()).client
 'alice@EX'
 
-All of it is done by the shared library libfevstunik, whose functions are proved. What the package adds is tested, not proved. Keys aren't
+The shared library libfevstunik does all of this, and its functions are proved. What the package adds is tested, not proved. Keys aren't
 wiped from memory, and nothing is promised about how long a call takes.
 """
 from ._client import Agreed, Pending, make_request

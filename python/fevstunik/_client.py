@@ -36,7 +36,7 @@ class Agreed:
 class Pending:
     """A request whose reply is awaited, as make_request returns it.
 
-    It is a context manager: at its end, or by close(), what the library holds of it is freed, and it takes no further reply.
+    It is a context manager. At the end of the block, or by close(), the library frees what it holds. Then no more replies can be read.
 
     >>> from fevstunik import CredentialCache, make_request
     >>> with CredentialCache.read("examples/client.ccache") as cache:
@@ -48,7 +48,7 @@ class Pending:
         self._handle = handle
 
     def finish(self, reply: Bytes) -> Agreed:
-        """Read the bytes of the reply. Another reply raises Fault, and the right one may still be read afterwards.
+        """Read the bytes of the reply. A wrong reply raises Fault, and the right one may still be read afterwards.
 
         >>> from fevstunik import Acceptor, CredentialCache, Keytab, make_request
         >>> cache = CredentialCache.read("examples/client.ccache")
@@ -67,7 +67,7 @@ class Pending:
             found.service_seq if found.has_service_seq else None, found.name_type)
 
     def close(self) -> None:
-        """Free what the library holds for it. A second call does nothing.
+        """Free what the library holds. A second call does nothing.
 
         >>> from fevstunik import CredentialCache, make_request
         >>> request, pending = make_request(CredentialCache.read("examples/client.ccache"), "host/web@EX", now=1_700_000_100)
@@ -88,12 +88,12 @@ def make_request(cache: CredentialCache, service: str, *, now: When | None = Non
 
     cache        has a ticket of its owner for the service
     service      the service's name, as ``host/web@EX``
-    now          the client's clock: the machine's by default. Never make two requests with one moment
+    now          the client's clock: the machine's by default. Never make two requests with the same moment
     subkey       a key that the client chooses, as Key.random(20), or None
     seq          the client's first sequence number, or None
-    wants_reply  whether the service is asked for a reply
+    wants_reply  whether to ask the service for a reply
 
-    If the cache has no ticket that fits, Fault is raised: NO_CREDENTIAL, NO_USABLE_KEY, CREDENTIAL_EXPIRED or BAD_TICKET.
+    If the cache has no ticket that fits, raises the Fault NO_CREDENTIAL, NO_USABLE_KEY, CREDENTIAL_EXPIRED or BAD_TICKET.
 
     >>> from fevstunik import CredentialCache, make_request
     >>> with CredentialCache.read("examples/client.ccache") as cache:

@@ -1,11 +1,11 @@
-"""What is raised."""
+"""The exceptions."""
 from __future__ import annotations
 
 from ._codes import Code
 
 
 class Error(Exception):
-    """An answer of the library that isn't success.
+    """An answer of the library other than success.
 
     code      the code of the answer
     name      its name, as ``"REPEAT"``
@@ -33,7 +33,7 @@ class Error(Exception):
 
 
 class Fault(Error):
-    """Something is wrong with a file, a name, a key, a number or a reply, or there is no ticket for a request.
+    """A file, a name, a key, a number or a reply is invalid, or there is no ticket for a request.
 
     >>> from fevstunik import Fault, Keytab
     >>> try:
@@ -45,7 +45,7 @@ class Fault(Error):
 
 
 class LibraryError(OSError):
-    """The shared library isn't there, or isn't one that this package knows.
+    """The shared library can't be loaded, or lacks a function that this package calls.
 
     >>> import fevstunik
     >>> fevstunik.load("/nowhere/libfevstunik.so.0")

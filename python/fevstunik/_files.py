@@ -42,7 +42,7 @@ class KeytabEntry:
 
 
 class Keytab:
-    """The keytab in the bytes of a file of version 0x0502. Invalid bytes raise Fault, with an offset.
+    """A keytab, from the bytes of a file of version 0x0502. Invalid bytes raise Fault, with an offset.
 
     >>> keytab = Keytab.read("examples/service.keytab")
     >>> keytab
@@ -75,7 +75,7 @@ class Keytab:
 
     @property
     def entries(self) -> tuple[KeytabEntry, ...]:
-        """The entries, in the file's order. They are read on first use; the time for that grows with the square of the size.
+        """The entries, in the file's order. They are read on first use, which takes time that grows with the square of the file's size.
 
         >>> [entry.kvno for entry in Keytab.read("examples/mit-holes.keytab").entries]
         [2, 2, 4, 4]
@@ -105,7 +105,7 @@ class Keytab:
             "keytab_add", self._data, len(self._data), name, len(name), key, len(key), byref(parts), *into)))
 
     def removed(self, index: int) -> Keytab:
-        """Return a keytab without the entry of an index, whose place becomes a hole of zeros.
+        """Return a keytab without the entry at an index. The entry's place becomes a hole of zeros.
 
         >>> Keytab.read("examples/service.keytab").removed(0).entries
         ()
@@ -113,7 +113,7 @@ class Keytab:
         return Keytab(filled(lambda *into: library().call("keytab_remove", self._data, len(self._data), fitting(index, 64), *into)))
 
     def compacted(self) -> Keytab:
-        """Return a keytab of the same entries, without holes.
+        """Return a keytab with the same entries and without holes.
 
         >>> keytab = Keytab.read("examples/mit-holes.keytab")
         >>> len(keytab.data), len(keytab.compacted().data)
@@ -127,7 +127,7 @@ class Keytab:
 
 @dataclass(frozen=True)
 class Owner:
-    """Whose cache it is: the default principal, and the offset of its KDC's clock as (seconds, microseconds), if the cache has one.
+    """The owner of a cache: the default principal, and the offset of its KDC's clock as (seconds, microseconds), if the cache has one.
 
     >>> CredentialCache.read("examples/client.ccache").owner
     Owner(name='alice@EX', name_type=1, clock_offset=None)
@@ -143,7 +143,7 @@ class Credential:
     """A credential of a cache. `repr` leaves out its key and its ticket.
 
     client      whose ticket it is
-    server      for which service; if its realm is X-CACHECONF: the credential is a configuration entry
+    server      the ticket's service; a configuration entry has the realm X-CACHECONF:
     key         the session key, of any type
     ticket      the bytes of the ticket, or the value of a configuration entry
     authtime    when the client was authenticated, in seconds
@@ -172,9 +172,9 @@ class Credential:
 
 
 class CredentialCache:
-    """The credential cache in the bytes of a file of version 0x0503 or 0x0504. Invalid bytes raise Fault, with an offset.
+    """A credential cache, from the bytes of a file of version 0x0503 or 0x0504. Invalid bytes raise Fault, with an offset.
 
-    It is a context manager: at its end, or by close(), what the library holds of it is freed, and no further request is made with it.
+    It is a context manager. At the end of the block, or by close(), the library frees what it holds. Then it makes no more requests.
 
     >>> with CredentialCache.read("examples/client.ccache") as cache:
     ...     cache
@@ -199,7 +199,7 @@ class CredentialCache:
 
     @property
     def owner(self) -> Owner:
-        """Whose cache it is.
+        """The owner of the cache.
 
         >>> CredentialCache.read("examples/client.ccache").owner.name
         'alice@EX'
@@ -213,7 +213,7 @@ class CredentialCache:
 
     @property
     def credentials(self) -> tuple[Credential, ...]:
-        """The credentials, with the configuration entries, in the file's order. They are read on first use.
+        """The credentials, including configuration entries, in the file's order. They are read on first use.
 
         >>> [credential.server for credential in CredentialCache.read("examples/client.ccache").credentials]
         ['host/web@EX']

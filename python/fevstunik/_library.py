@@ -165,10 +165,10 @@ _loaded: Library | None = None
 
 
 def load(path: str | os.PathLike[str] | None = None) -> None:
-    """Load the shared library of this path, for all objects that are made from now on.
+    """Load the shared library at a path, for all objects that are made from now on.
 
-    You needn't call it: the library is loaded when it is first needed. Without a path it is the one that the environment variable
-    FEVSTUNIK_LIBRARY names, or else the libfevstunik.so.0 that the system's loader finds. LibraryError is raised if it isn't there.
+    You needn't call this: the library is loaded when it is first needed. Without a path, loads the file that the environment variable
+    FEVSTUNIK_LIBRARY names, or else the libfevstunik.so.0 that the system's loader finds. Raises LibraryError if it can't be loaded.
 
     >>> import fevstunik
     >>> fevstunik.load()

@@ -1,4 +1,4 @@
-"""The service's side: requests are accepted or refused."""
+"""The service's side: accepts or refuses requests."""
 from __future__ import annotations
 
 import enum
@@ -19,9 +19,9 @@ FIRST_CAUSE, AFTER_CAUSES = 100, 400
 
 
 class Refused(Error):
-    """A request is refused.
+    """A refusal of a request.
 
-    cause     why: the first cause that applies, such as ``Code.REPEAT``
+    cause     the first cause that applies, such as ``Code.REPEAT``
     code      the same
     kerberos  the error code of RFC 4120, section 7.5.9, that belongs to it
     offset    the place of the fault, if the cause is MALFORMED
@@ -40,13 +40,13 @@ class Refused(Error):
         self.cause = self.code
 
     def error(self, service: str, *, now: When | None = None, name_type: int = 3) -> bytes:
-        """Return the bytes of the KRB-ERROR that says why, for the client.
+        """Return the bytes of the KRB-ERROR for the client, which says why.
 
         service    the service's name, as ``host/web@EX``
         now        the service's time: the machine's clock by default
         name_type  the type of the service's name (RFC 4120, section 6.2; 3 is a service on a host)
 
-        It isn't sealed: anyone could have written it.
+        It isn't sealed: anyone can write such an error.
 
         >>> len(Refused(Code.REPEAT).error("host/web@EX", now=1_700_000_100))
         73
@@ -97,7 +97,7 @@ class Accepted:
     authenticator_authorization  the authenticator's, likewise
     checksum                     the authenticator's checksum, which wasn't verified, or None
 
-    It is a context manager: at its end, or by close(), what the library holds of it is freed, and there is no further reply.
+    It is a context manager. At the end of the block, or by close(), the library frees what it holds. Then no more replies can be built.
 
     >>> from fevstunik import Acceptor, Keytab
     >>> request = bytes.fromhex(open("examples/calls.txt").readline().split()[2])
@@ -175,7 +175,7 @@ class Accepted:
         return Stamp(data, Moment(until.seconds, until.micros))
 
     def close(self) -> None:
-        """Free what the library holds for it. Values that were read stay valid. A second call does nothing.
+        """Free what the library holds. Values that were read stay valid. A second call does nothing.
 
         >>> from fevstunik import Acceptor, Keytab
         >>> request = bytes.fromhex(open("examples/calls.txt").readline().split()[2])
@@ -229,20 +229,20 @@ def _item(handle: Handle, pointer: object, which: _List, index: int) -> TypedDat
 
 
 class Acceptor:
-    """A service that accepts requests, and remembers what it accepted.
+    """A service. It accepts requests, and remembers them to recognize a repeat.
 
     keytab   its keys
-    service  the name that is served, as ``host/web@EX``, or None for each name of the keytab. Name it if the keytab has keys of several:
-             the name in a ticket isn't sealed, so with two names under one key a recorded request is accepted once for each
+    service  the name that is served, as ``host/web@EX``, or None for each name of the keytab. Name it if the keytab has keys of several
+             names. The name in a ticket isn't sealed: if two names share a key, a recorded request is accepted once for each
     skew     by how many seconds clocks may differ
-    started  the service's clock at this start, as time.time(). It has forgotten what it accepted before, so it is quiet at first: until the
-             skew has passed, requests are refused for the cause JUST_STARTED. None is for a service that never ran before, and for no other:
-             it accepts at once, and would accept again what an earlier run has accepted
+    started  the service's clock at this start, as time.time(). A restarted service has forgotten what it accepted, so it is quiet at first:
+             until the skew has passed, it refuses requests with the cause JUST_STARTED. Pass None only for a service that never ran before:
+             it accepts at once, and would accept again what an earlier run accepted
 
-    Make one and keep it. Any thread may call it: a lock lets in one decision at a time, and what was accepted is read without that lock. An
-    Acceptor belongs to the process that made it: after a fork the child's calls raise RuntimeError.
+    Make one and keep it. Any thread may call it. A lock lets one decision run at a time; what was accepted is read without that lock. An
+    Acceptor belongs to the process that made it: after a fork, the child's calls raise RuntimeError.
 
-    It is a context manager: at its end, or by close(), what the library holds of it is freed, and it decides nothing more.
+    It is a context manager. At the end of the block, or by close(), the library frees what it holds. Then it decides no more requests.
 
     >>> import time
     >>> from fevstunik import Acceptor, Keytab
@@ -262,9 +262,9 @@ class Acceptor:
                 done(self._handle.library.call("acceptor_started", pointer, *words, byref(clock(started))))
 
     def accept(self, request: Bytes, now: When | None = None) -> Accepted:
-        """Decide about the bytes of a request, at a moment: that of the machine's clock by default.
+        """Accept the bytes of a request, or raise Refused. `now` is the moment, by default of the machine's clock.
 
-        Time doesn't go back: the latest moment given so far is the one that counts. A request that isn't accepted raises Refused.
+        Time doesn't go back: the latest moment given so far is the one that counts.
 
         >>> from fevstunik import Acceptor, Keytab
         >>> request = bytes.fromhex(open("examples/calls.txt").readline().split()[2])
@@ -316,7 +316,7 @@ class Acceptor:
 
     @property
     def latest(self) -> Moment | None:
-        """The latest moment that was given so far, by which the service decides, or None.
+        """The latest moment that accept was given so far, or None. The service decides by it.
 
         >>> from fevstunik import Acceptor, Keytab
         >>> print(Acceptor(Keytab.read("examples/service.keytab"), "host/web@EX", started=None).latest)
@@ -331,7 +331,7 @@ class Acceptor:
         return Moment(latest.seconds, latest.micros)
 
     def close(self) -> None:
-        """Free what the library holds for it, including what is remembered. A second call does nothing.
+        """Free what the library holds, including what is remembered. A second call does nothing.
 
         >>> from fevstunik import Acceptor, Keytab
         >>> Acceptor(Keytab.read("examples/service.keytab"), "host/web@EX", started=None).close()

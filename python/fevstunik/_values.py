@@ -48,7 +48,7 @@ class Moment:
 
     @classmethod
     def of(cls, when: When) -> Moment:
-        """Return the moment of a number of seconds, as time.time() returns it.
+        """Return the moment of a number of seconds, such as time.time() returns.
 
         >>> Moment.of(1_700_000_100.5)
         Moment(seconds=1700000100, micros=500000)
@@ -108,8 +108,8 @@ class TypedData:
 class Key:
     """A key: the number of its encryption type, and its bytes, which `repr` leaves out.
 
-    Keys of the types 19 (16 bytes) and 20 (32 bytes) seal and open texts, and make checksums (RFC 8009), for a usage (RFC 4120, section
-    7.5.1). A key of another type or length raises Fault there.
+    Keys of types 19 (16 bytes) and 20 (32 bytes) seal and open texts, and make checksums (RFC 8009), for a usage (RFC 4120, section 7.5.1).
+    With a key of another type or length, these methods raise Fault.
 
     >>> Key(19, bytes(16))
     Key(kind=19)
@@ -130,7 +130,7 @@ class Key:
         return cls(kind, os.urandom(16 if kind == 19 else 32))
 
     def seal(self, usage: int, plain: Bytes) -> bytes:
-        """Return a plain text, sealed with a new random confounder.
+        """Seal a plain text with a new random confounder, and return the sealed bytes.
 
         >>> len(Key.random(19).seal(1024, b"hello"))
         37
@@ -139,7 +139,7 @@ class Key:
         return filled(lambda *into: library().call("seal", *self._words(usage), confounder, CONFOUNDER, plain, len(plain), *into))
 
     def open(self, usage: int, sealed: Bytes) -> bytes:
-        """Return the plain text of a sealed one. The Fault TEXT_INTEGRITY says that it wasn't sealed under this key for this usage.
+        """Return the plain text of a sealed text. Raise the Fault TEXT_INTEGRITY if it wasn't sealed under this key for this usage.
 
         >>> key = Key.random(19)
         >>> key.open(1024, key.seal(1024, b"hello"))
@@ -188,7 +188,7 @@ def chosen(subkey: Key | None, seq: int | None, wants_reply: bool) -> tuple[obje
 
 
 def check_name(text: str) -> int:
-    """Check that a text is that of a name, as ``host/web@EX``, and return the number of its components.
+    """Check that a text is a valid name, such as ``host/web@EX``, and return the number of its components.
 
     >>> check_name("host/web@EX")
     2

@@ -38,12 +38,12 @@ taken_of x = record {
 }
 
 -- after a history an arrival is accepted with what is then known, or refused for the first cause,
--- or refused for lack of memory
+-- or refused with out of memory
 abbrev pub Answers : Setup → List Arrival → Arrival → Result Accepted Refusal → Type 0
 Answers setup history call (Ok accepted) = Accept setup history call (taken_of accepted)
 Answers setup history call (Err refusal) = refusal ≢ OutOfMemory → Cause setup history call refusal
 
--- the history afterwards: with the call, or unchanged if memory was lacking
+-- the history afterwards: with the call, or unchanged if memory ran out
 abbrev pub after_refusal : List Arrival → Arrival → Refusal → List Arrival
 after_refusal history call OutOfMemory = history
 after_refusal history call _ = decided_now call ∷ history
@@ -63,7 +63,7 @@ Run setup history _ _ end = ⊥
 abbrev pub arrival_of : Call → Arrival
 arrival_of call = arrival call.bytes.now call.now
 
--- if memory was lacking, the bytes were a request of the ordinary kind
+-- if memory ran out, the bytes were a request of the ordinary kind
 abbrev pub MemoryWantedByRequests : List Arrival → List (Result Accepted Refusal) → Type 0
 MemoryWantedByRequests [] [] = Unit {0}
 MemoryWantedByRequests (call ∷ calls) (answer ∷ answers) =
@@ -78,8 +78,8 @@ TellsPlacesWithin (call ∷ calls) (answer ∷ answers) =
 TellsPlacesWithin _ _ = ⊥
 
 -- There is such a history afterwards, and the memory stands for it. If the memory keeps everything
--- and had exactly what was shown, it has so again. If it forgets and had exactly what was shown and
--- is recent, it has so again.
+-- and had exactly what was shown, it still has. If it forgets, and had exactly what was shown and
+-- is recent, it still has.
 pub record Served (keeping forgetting : Bool) (setup : Setup) (history : List Arrival) (calls : List Arrival) (answers : List (Result Accepted Refusal))
     (Old New : Stamp → Type 0) (latest : Option ℤ) : Type 0 where
   pub end : List Arrival

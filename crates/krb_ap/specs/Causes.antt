@@ -19,9 +19,9 @@ use Rattle.krb_ap.specs.History.{effective, IsShown}
 use Rattle.krb_ap.specs.declared.refusal.Refusal.{Refusal}
 use Rattle.krb_ap.specs.declared.refusal.Refusal.TheVariants.{MessageType, Malformed, UserToUser, TicketEtype, NotUs, NoKey, BadKeyVersion, TicketIntegrity, SessionKey, AuthenticatorIntegrity, BadMatch, Skew, JustStarted, Repeat, NotYetValid, Expired, Transited, Authorization, OutOfMemory}
 
--- ---- what a cause says; each presupposes what the ones before it let through
+-- ---- what each cause says of what the causes before it let through
 
--- there is a first byte, and it is another
+-- there is a first byte, and it isn't this one
 pub record BeginsOtherwise (tag : ℕ) (bytes : List ℕ) : Type 0 where
   pub first : ℕ
   pub rest : List ℕ
@@ -72,7 +72,7 @@ pub record OfOpened (setup : Setup) (bytes : List ℕ) (P : ValueOf ap_req → V
 
 -- ---- the table
 
--- A row: its place in the order, its name, its error code (none: it is sent to nobody), whether a
+-- A row: its place in the order, its name, its error code (none: no error is sent), whether a
 -- request that is refused for it is remembered, and what must hold. Places are hundreds, so a row
 -- can be put between two others without moving any.
 pub record Row : Type 1 where

@@ -40,7 +40,7 @@ pub record IsUsed (cache : Cache) (service : Principal) (at : ℤ) (credential :
   pub fit : IsFit cache service at credential
   pub first : All (λ other. ¬ IsFit cache service at other) before
 
--- some credential of the list is so
+-- P holds of some credential of the list
 pub record HasCredential (P : Credential → Type 0) (credentials : List Credential) : Type 0 where
   pub before : List Credential
   pub credential : Credential

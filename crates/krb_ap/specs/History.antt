@@ -1,4 +1,4 @@
--- What a service was given before, newest first. Calls that were answered for lack of memory are
+-- What a service was given before, newest first. Calls that were answered with out of memory are
 -- left out.
 use Rattle.std.specs.Prelude.{◌≡◌, ◌⊎◌, ℕ, ℤ, List, [], ◌∷◌, Option, Some, None, IfSome}
 use Rattle.krb_der.specs.Kind.{ValueOf}
@@ -27,7 +27,7 @@ pub record Shows (setup : Setup) (now : ℤ) (bytes : List ℕ) (stamp : Stamp) 
   pub near : Near (sent_at auth) now setup.skew
   pub stamp_is : stamp ≡ stamp_of request part auth
 
--- some call of the history did so, by the keytab that it was decided by
+-- some call of the history showed this stamp, by the keytab that it was decided by
 abbrev pub IsShown : Setup → List Arrival → Stamp → Type 0
 IsShown setup [] stamp = ⊥
 IsShown setup (a ∷ history) stamp = Shows (setup_for setup a) (effective history a.moment) a.bytes stamp ⊎ IsShown setup history stamp

@@ -105,7 +105,7 @@ pub record HasBadTicket (cache : Cache) (service : Principal) (at : ℤ) : Type 
   pub used : IsUsed cache service at credential
   pub bad : (ticket : ValueOf ticket_kind) → ¬ IsMessage ticket_kind ticket credential.ticket
 
--- they are a ticket
+-- those bytes are a ticket
 pub record HasGoodTicket (cache : Cache) (service : Principal) (at : ℤ) : Type 0 where
   pub credential : Credential
   pub used : IsUsed cache service at credential

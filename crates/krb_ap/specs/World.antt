@@ -114,8 +114,8 @@ abbrev pub started_again : Setup → ℤ → ℕ → Setup
 started_again setup start skew = record { entries = setup.entries; skew = skew; start = Some start }
 
 -- The client sends a request that is built with the credential. The service accepts any bytes that
--- arrive, whether a packet or what others send; or refuses them for the first cause or for lack of
--- memory. It replies to what it accepted of the client's requests, or sends an error. The client
+-- arrive, whether a packet or what others send. Or it refuses them, for the first cause or with out
+-- of memory. It replies to what it accepted of the client's requests, or sends an error. The client
 -- agrees to a packet as the reply to a request. The service is started again.
 abbrev pub Can : Credential → World → Event → Type 0
 Can credential w (sends s) = IsBuilt credential s.at s.confounder s.options s.bytes × All (λ other. other.at ≢ s.at) w.sent
@@ -156,7 +156,7 @@ pub record HoldSame (credential : Credential) (e : Ended) (r : Replied) : Type 0
   pub service_subkey : option_map key_value r.options.subkey ≡ e.agreement.service_subkey
   pub service_seq : r.options.seq ≡ e.agreement.service_seq
 
--- the service's reply to this request, of which there is only one
+-- the service's reply to this request; there is only one
 pub record IsReplyTo (w : World) (sent : Sent) (r : Replied) : Type 0 where
   pub replied : IsOf w.replied r
   pub held : IsOf w.held r.held
@@ -174,12 +174,12 @@ abbrev pub IsHeldAmong : Setup → List Held → Stamp → Type 0
 IsHeldAmong setup [] stamp = ⊥
 IsHeldAmong setup (h ∷ held) stamp = HasStamp setup h.call.bytes stamp ⊎ IsHeldAmong setup held stamp
 
--- no stamp was accepted twice by the service, before and after it was started again together
+-- the service accepted no stamp twice, even across its starts
 abbrev pub HoldsOnce : Setup → List Held → Type 0
 HoldsOnce setup [] = Unit {0}
 HoldsOnce setup (h ∷ held) = ((stamp : Stamp) → HasStamp setup h.call.bytes stamp → ¬ IsHeldAmong setup held stamp) × HoldsOnce setup held
 
--- and what the service holds of a request is one, and so is its reply to it
+-- and it holds one value for a request, and sent one reply to it
 pub record IsHeldOnce (setup : Setup) (w : World) : Type 0 where
   pub stamps : HoldsOnce setup w.held
   pub held : (g h : Held) → IsOf w.held g → IsOf w.held h → g.call.bytes ≡ h.call.bytes → g ≡ h

@@ -25,7 +25,7 @@ abbrev pub Judgement : Setup → List Arrival → Arrival → (Stamp → Type 0)
 Judgement setup history call Has (Ok judged) = IsJudged setup history call judged.tuple judged.answer
 Judgement setup history call Has (Err refusal) = refusal ≢ OutOfMemory → IsTurnedAway setup history call Has refusal
 
--- the refusal tells no place in the bytes, whichever it is
+-- the refusal names no place in the bytes, whichever it is
 abbrev pub IsPlaceless : Result Judged Refusal → Type 0
 IsPlaceless (Ok judged) = IfErr judged.answer (λ refusal. offset_of refusal ≡ None)
 IsPlaceless (Err refusal) = offset_of refusal ≡ None
