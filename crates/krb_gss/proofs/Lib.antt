@@ -2,3 +2,5 @@ pub mod PartLaws
 pub mod ReadLaws
 pub mod OpenLaws
 pub mod ChecksumLaws
+pub mod WrapLaws
+pub mod WrittenLaws

@@ -3,4 +3,5 @@ pub mod Token
 pub mod Fault
 pub mod Opening
 pub mod Checksum
+pub mod Wrapping
 pub mod Inner

@@ -23,13 +23,17 @@ mod checksum;
 mod fault;
 mod flags;
 mod framing;
+pub mod laws;
 mod mechanism;
 mod negotiation;
 mod opening;
 mod parts;
+mod putting;
+mod wrapping;
 
 pub use checksum::{Checksum, ChecksumFault, ChecksumWriteFault};
 pub use fault::TokenFault;
 pub use flags::{ContextFlag, ContextFlags};
 pub use mechanism::{Foreign, Mechanism};
 pub use opening::{Opened, Wrapping, open_token};
+pub use wrapping::{WrapFault, wrap_request};
