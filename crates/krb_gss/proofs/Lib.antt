@@ -4,3 +4,4 @@ pub mod OpenLaws
 pub mod ChecksumLaws
 pub mod WrapLaws
 pub mod WrittenLaws
+pub mod AnswerLaws

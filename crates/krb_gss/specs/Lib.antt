@@ -4,4 +4,5 @@ pub mod Fault
 pub mod Opening
 pub mod Checksum
 pub mod Wrapping
+pub mod Answer
 pub mod Inner

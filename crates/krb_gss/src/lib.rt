@@ -19,6 +19,7 @@
 //! and mechListMIC of a negotiation hold isn't looked at. No call runs longer than linear in its bytes.
 #![tactic(auto)]
 
+mod answering;
 mod checksum;
 mod fault;
 mod flags;
@@ -31,9 +32,10 @@ mod parts;
 mod putting;
 mod wrapping;
 
+pub use answering::Answer;
 pub use checksum::{Checksum, ChecksumFault, ChecksumWriteFault};
 pub use fault::TokenFault;
 pub use flags::{ContextFlag, ContextFlags};
 pub use mechanism::{Foreign, Mechanism};
 pub use opening::{Opened, Wrapping, open_token};
-pub use wrapping::{WrapFault, wrap_request};
+pub use wrapping::{WrapFault, wrap_answer, wrap_request};

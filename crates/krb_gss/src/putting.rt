@@ -1,16 +1,17 @@
 //! Writing the parts of a token.
 
-ghost use Rattle.std.specs.Prelude.{◌≡◌, ◌≤◌, ◌^◌, length, drop, OnOk};
+ghost use Rattle.std.specs.Prelude.{◌≡◌, ◌≤◌, ◌^◌, ◌∷◌, [], length, drop, OnOk};
 ghost use Rattle.krb_der.specs.Spells.{IsElement, IsJoined, limit};
 ghost use Rattle.krb_der.specs.Writing.{Appends};
 ghost use Rattle.krb_gss.specs.Mechanism.{oid_of};
 ghost use Rattle.krb_gss.specs.Wrapping.{IsOid, IsPlain, IsMechTypes, IsTokenField, IsProposal, WritesRequest};
+ghost use Rattle.krb_gss.specs.Answer.{message_of, bytes_of, id_of, state_of, IsState, IsSupported, IsResponding, WritesAnswer};
 ghost use Rattle.krb_gss.specs.Inner.Putting.{WrapsTwice};
 
 use crate::framing::{FRAME, OID};
 use crate::mechanism::SPNEGO;
 use crate::negotiation::SEQUENCE;
-use crate::{Mechanism, Wrapping};
+use crate::{Answer, Mechanism, Wrapping};
 use krb_der::Writer;
 use std::alloc::AllocError;
 
@@ -122,5 +123,72 @@ pub fn put_request(
     match wrapping {
         Wrapping::Bare => put_plain(out, mechanism, 0x01, request),
         Wrapping::Negotiated(first) => put_proposal(out, first, mechanism, request),
+    }
+}
+
+/// Writes a negState.
+fn put_state(out: &mut Writer, state: u8) -> Result<(), AllocError>
+    ensures { OnOk result (Appends (IsState state) out.old out.new) }
+{
+    let start = out.len();
+    out.raw(&[state])?;
+    put_around(out, start, 0xa0, 0x0a)
+}
+
+/// Writes a supportedMech.
+fn put_supported(out: &mut Writer, first: Mechanism) -> Result<(), AllocError>
+    ensures { OnOk result (Appends (IsSupported first) out.old out.new) }
+{
+    let start = out.len();
+    put_oid(out, first.oid())?;
+    out.wrap(0xa1, start)
+}
+
+/// What is written of an answer: its identifier, its state and its message.
+fn parts<'a>(answer: Answer<'a>) -> (u8, u8, &'a [u8])
+    ensures id { result.0 ≡ id_of (message_of answer.entry) }
+    ensures state { result.1 ≡ state_of (message_of answer.entry) }
+    ensures message { result.2.now ≡ bytes_of (message_of answer.entry) }
+{
+    match answer {
+        Answer::Reply(message) => (0x02, 0, message),
+        Answer::Error(message) => (0x03, 2, message),
+    }
+}
+
+/// Writes a NegTokenResp.
+fn put_response(
+    out: &mut Writer,
+    first: Mechanism,
+    mechanism: Mechanism,
+    answer: Answer<'_>,
+) -> Result<(), AllocError>
+    requires { length (bytes_of (message_of answer)) ≤ limit }
+    ensures { OnOk result (Appends (IsResponding first mechanism (message_of answer.entry)) out.old out.new) }
+{
+    let (id, state, message) = parts(answer);
+    let start = out.len();
+    put_state(out, state)?;
+    put_supported(out, first)?;
+    put_token(out, mechanism, id, message)?;
+    put_around(out, start, 0xa1, SEQUENCE)
+}
+
+/// Writes an answer in its wrapping.
+pub fn put_answer(
+    out: &mut Writer,
+    wrapping: Wrapping,
+    mechanism: Mechanism,
+    answer: Answer<'_>,
+) -> Result<(), AllocError>
+    requires { length (bytes_of (message_of answer)) ≤ limit }
+    ensures { OnOk result (Appends (WritesAnswer wrapping mechanism (message_of answer.entry)) out.old out.new) }
+{
+    match wrapping {
+        Wrapping::Bare => {
+            let (id, _, message) = parts(answer);
+            put_plain(out, mechanism, id, message)
+        }
+        Wrapping::Negotiated(first) => put_response(out, first, mechanism, answer),
     }
 }

@@ -1,12 +1,13 @@
-//! Wrapping a request in the first token of a client.
+//! Wrapping a request in the first token of a client, and the service's answer to it.
 
 ghost use Rattle.std.specs.Prelude.{◌≡◌, ◌<◌, ◌≤◌, length, IfOk, OnOk, IsErrOf};
 ghost use Rattle.krb_der.specs.Spells.{limit};
 ghost use Rattle.krb_gss.specs.Token.{IsToken};
 ghost use Rattle.krb_gss.specs.Wrapping.{WritesRequest, request_size};
+ghost use Rattle.krb_gss.specs.Answer.{message_of, bytes_of, IsAnswer, WritesAnswer, answer_size};
 
-use crate::putting::put_request;
-use crate::{Mechanism, Wrapping};
+use crate::putting::{put_answer, put_request};
+use crate::{Answer, Mechanism, Wrapping};
 use krb_der::Writer;
 use std::alloc::{AllocError, Global};
 use thiserror::Error;
@@ -58,6 +59,37 @@ pub fn wrap_request(
     }
     let mut out = Writer::new(alloc);
     put_request(&mut out, wrapping, mechanism, request)?;
+    if out.len() > LIMIT {
+        return Err(WrapFault::TooLong);
+    }
+    Ok(out.into_bytes())
+}
+
+/// Wraps the service's answer as the request was wrapped. The message may be any bytes.
+///
+/// In a negotiation the answer is a NegTokenResp of three fields: its negState is accept-completed for
+/// a reply and reject for an error, and its supportedMech is the mechanism of `wrapping`.
+///
+/// # Errors
+/// - `TooLong`: the token would have more than 1,048,576 bytes.
+/// - `OutOfMemory`.
+pub fn wrap_answer(
+    alloc: Global,
+    wrapping: Wrapping,
+    mechanism: Mechanism,
+    answer: Answer<'_>,
+) -> Result<Vec<u8>, WrapFault>
+    ensures answer { IfOk result (λ bytes. IsAnswer wrapping mechanism (message_of answer.entry) bytes.items) }
+    ensures written { IfOk result (λ bytes. WritesAnswer wrapping mechanism (message_of answer.entry) bytes.items) }
+    ensures fits { OnOk result (answer_size wrapping (length (bytes_of (message_of answer.entry))) ≤ limit) }
+    ensures too_long { IsErrOf result WrapFault.TooLong
+        → limit < answer_size wrapping (length (bytes_of (message_of answer.entry))) }
+{
+    if answer.bytes().len() > LIMIT {
+        return Err(WrapFault::TooLong);
+    }
+    let mut out = Writer::new(alloc);
+    put_answer(&mut out, wrapping, mechanism, answer)?;
     if out.len() > LIMIT {
         return Err(WrapFault::TooLong);
     }
