@@ -3,4 +3,6 @@ pub mod Token
 pub mod Fault
 pub mod Opening
 pub mod Checksum
+pub mod Wrapping
+pub mod Answer
 pub mod Inner

@@ -19,17 +19,23 @@
 //! and mechListMIC of a negotiation hold isn't looked at. No call runs longer than linear in its bytes.
 #![tactic(auto)]
 
+mod answering;
 mod checksum;
 mod fault;
 mod flags;
 mod framing;
+pub mod laws;
 mod mechanism;
 mod negotiation;
 mod opening;
 mod parts;
+mod putting;
+mod wrapping;
 
+pub use answering::Answer;
 pub use checksum::{Checksum, ChecksumFault, ChecksumWriteFault};
 pub use fault::TokenFault;
 pub use flags::{ContextFlag, ContextFlags};
 pub use mechanism::{Foreign, Mechanism};
 pub use opening::{Opened, Wrapping, open_token};
+pub use wrapping::{WrapFault, wrap_answer, wrap_request};
