@@ -11,6 +11,7 @@ pub mod Editing
 pub mod Listing
 pub mod Finishing
 pub mod Tokens
+pub mod Wrapping
 pub mod Contexts
 pub mod Stamps
 pub mod Renewing

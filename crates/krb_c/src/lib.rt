@@ -57,3 +57,4 @@ mod slot;
 mod stamps;
 mod tokens;
 mod version;
+mod wrapping;
