@@ -8,7 +8,7 @@ use crate::{Mechanism, TokenFault};
 use krb_der::{Cursor, Fault};
 
 /// The tag of a SEQUENCE.
-const SEQUENCE: u8 = 0x30;
+pub const SEQUENCE: u8 = 0x30;
 
 /// The first mechanism of a MechTypeList.
 fn mechanisms<'a>(list: Cursor<'a>) -> Result<Cursor<'a>, Fault>
