@@ -2,8 +2,8 @@
 #
 #   make                  krbtool, libfevstunik.a and libfevstunik.so, in build/
 #   make check            all proofs and tests, as ./test runs them
-#   make install          below DESTDIR and PREFIX (/usr/local), libraries in LIBDIR
-#   make uninstall        removes what install put there
+#   make install          below DESTDIR and PREFIX (/usr/local), libraries in LIBDIR; without DESTDIR it runs ldconfig, if root
+#   make uninstall        removes what install put there, and the folders of these files that are empty then
 #   make dist             a tarball of what was built, with checksums, for people without the toolchain
 
 VERSION := $(shell packaging/version)
@@ -11,10 +11,17 @@ PREFIX ?= /usr/local
 LIBDIR ?= $(PREFIX)/lib
 BINDIR = $(DESTDIR)$(PREFIX)/bin
 INCLUDEDIR = $(DESTDIR)$(PREFIX)/include
-MANDIR = $(DESTDIR)$(PREFIX)/share/man
-BASH_COMPLETION = $(DESTDIR)$(PREFIX)/share/bash-completion/completions/krbtool
-ZSH_COMPLETION = $(DESTDIR)$(PREFIX)/share/zsh/vendor-completions/_krbtool
+SHARE = $(DESTDIR)$(PREFIX)/share
+MANDIR = $(SHARE)/man
+BASH_COMPLETION = $(SHARE)/bash-completion/completions/krbtool
+ZSHDIR ?= $(PREFIX)/share/zsh/site-functions
+ZSH_COMPLETION = $(DESTDIR)$(ZSHDIR)/_krbtool
 TO_LIB = $(DESTDIR)$(LIBDIR)
+# What install may have made and no system has from the start; inner folders first.
+FOLDERS = $(NEWER:%=$(TO_LIB)/glibc-hwcaps/%) $(TO_LIB)/glibc-hwcaps $(TO_LIB)/pkgconfig $(MANDIR)/man1 $(MANDIR)/man3 \
+  $(SHARE)/bash-completion/completions $(SHARE)/bash-completion $(DESTDIR)$(ZSHDIR) $(SHARE)/zsh
+# The loader finds a new library when its cache has it. (A library that is staged for packing isn't in use yet.)
+RUN_LDCONFIG = [ -n "$(DESTDIR)" ] || [ "$$(id -u)" != 0 ] || ldconfig
 BUILD := build
 # The library for every x86-64, and those for newer processors, which the loader takes by itself.
 NEWER := x86-64-v2
@@ -60,6 +67,7 @@ install: all
 	for page in $(MANUALS); do \
 	  install -D -m 644 $$page $(MANDIR)/man$${page##*.}/$${page##*/} || exit; \
 	done
+	$(RUN_LDCONFIG)
 
 uninstall:
 	rm -f $(BASH_COMPLETION) $(ZSH_COMPLETION)
@@ -67,6 +75,8 @@ uninstall:
 	rm -f $(TO_LIB)/libfevstunik.so $(TO_LIB)/libfevstunik.so.0 $(TO_LIB)/libfevstunik.so.$(VERSION)
 	rm -f $(NEWER:%=$(TO_LIB)/glibc-hwcaps/%/libfevstunik.so.0) $(NEWER:%=$(TO_LIB)/glibc-hwcaps/%/libfevstunik.so.$(VERSION))
 	for page in $(MANUALS); do rm -f $(MANDIR)/man$${page##*.}/$${page##*/}; done
+	for folder in $(FOLDERS); do [ ! -d $$folder ] || rmdir --ignore-fail-on-non-empty $$folder; done
+	$(RUN_LDCONFIG)
 
 dist: all
 	packaging/dist $(VERSION) $(BUILD)
