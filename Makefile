@@ -30,7 +30,7 @@ LIBRARIES := $(BUILD)/x86-64/libfevstunik.a $(NEWER:%=$(BUILD)/%/libfevstunik.a)
 MANUALS := $(wildcard docs/man/*.[1-8])
 
 .PHONY: all check install uninstall dist clean
-all: $(BUILD)/krbtool $(LIBRARIES) $(BUILD)/fevstunik.pc
+all: $(BUILD)/krbtool $(LIBRARIES)
 
 # (each build leaves its archive in the crate's out/, so they are made one after another)
 .NOTPARALLEL:
@@ -42,10 +42,6 @@ $(BUILD)/krbtool: $(SOURCES)
 $(BUILD)/%/libfevstunik.a: $(SOURCES) packaging/build-library packaging/archive.py packaging/fevstunik.map
 	packaging/build-library $* $(BUILD)/$* $(VERSION)
 
-$(BUILD)/fevstunik.pc: packaging/fevstunik.pc.in Makefile include/fevstunik.h
-	mkdir -p $(BUILD)
-	sed 's|@PREFIX@|$(PREFIX)|; s|@LIBDIR@|$(LIBDIR)|; s|@VERSION@|$(VERSION)|' $< >$@
-
 check:
 	./test
 
@@ -54,8 +50,8 @@ install: all
 	install -D -m 644 packaging/completion/krbtool.bash $(BASH_COMPLETION)
 	install -D -m 644 packaging/completion/_krbtool $(ZSH_COMPLETION)
 	install -D -m 644 include/fevstunik.h $(INCLUDEDIR)/fevstunik.h
-	sed 's|@PREFIX@|$(PREFIX)|; s|@LIBDIR@|$(LIBDIR)|; s|@VERSION@|$(VERSION)|' packaging/fevstunik.pc.in >$(BUILD)/fevstunik.pc
-	install -D -m 644 $(BUILD)/fevstunik.pc $(TO_LIB)/pkgconfig/fevstunik.pc
+	install -D -m 644 packaging/fevstunik.pc.in $(TO_LIB)/pkgconfig/fevstunik.pc
+	sed -i 's|@PREFIX@|$(PREFIX)|; s|@LIBDIR@|$(LIBDIR)|; s|@VERSION@|$(VERSION)|' $(TO_LIB)/pkgconfig/fevstunik.pc
 	install -D -m 644 $(BUILD)/x86-64/libfevstunik.a $(TO_LIB)/libfevstunik.a
 	install -D -m 644 $(BUILD)/x86-64/libfevstunik.so.$(VERSION) $(TO_LIB)/libfevstunik.so.$(VERSION)
 	ln -sf libfevstunik.so.$(VERSION) $(TO_LIB)/libfevstunik.so.0

@@ -11,6 +11,7 @@ The last line is 'N passed, M failed'.
 import re
 import sys
 import tempfile
+from concurrent.futures import ThreadPoolExecutor
 from pathlib import Path
 
 ROOT = Path(__file__).resolve().parent.parent
@@ -66,6 +67,8 @@ def of_shared(path):
     names = {line.split()[-1].split("@")[0] for line in lines}
     name = path.parent.name
     yield f"{name}: the shared library exports the header's functions", differs(names - {"FEVSTUNIK_0"}, header_functions())
+    calls = set(re.findall(r" U (\w+)", run("nm", "-D", "--undefined-only", path).stdout))
+    yield f"{name}: what it calls", differs(calls - {"malloc", "realloc", "free", "memcpy", "memmove", "memset", "memcmp"}, set())
     yield f"{name}: it needs the C library alone", differs(re.findall(r"NEEDED.*\[(.*)\]", run("readelf", "-dW", path).stdout), ["libc.so.6"])
     told = run("readelf", "-dlW", path).stdout
     yield f"{name}: its name", None if "[libfevstunik.so.0]" in told else told
@@ -118,7 +121,8 @@ def tarball(room):
     yield "make dist: the tarball's checksum", wrong(run("sha256sum", "-c", f"{file.name}.sha256", cwd=file.parent))
     yield "make dist: it is unpacked", wrong(run("tar", "-xzf", file, "-C", room))
     root = room / name
-    wanted = {f"usr/lib/{it}" for it in LIBRARIES} | {f"usr/{it}" for it in OTHERS} | {"COMMIT", "SHA256SUMS"}
+    python = run("git", "ls-files", "python").stdout.split()
+    wanted = {f"usr/lib/{it}" for it in LIBRARIES} | {f"usr/{it}" for it in OTHERS} | {"COMMIT", "INSTALL", "SHA256SUMS", *python}
     yield "make dist: what it has", differs(files_below(root), wanted)
     sums = [line.split()[1].removeprefix("./") for line in (root / "SHA256SUMS").read_text().splitlines()]
     files = {it for it in wanted if not (root / it).is_symlink()} - {"SHA256SUMS"}
@@ -127,12 +131,23 @@ def tarball(room):
     commit = run("git", "rev-parse", "HEAD").stdout
     changed = "with changes that are not committed\n" if run("git", "status", "--porcelain").stdout else ""
     yield "make dist: the commit", differs((root / "COMMIT").read_text(), commit + changed)
-    yield "make dist: the program", said(run(root / "usr/bin/krbtool", "check-keytab", ROOT / "examples/mit-holes.keytab"), "ok 4\n")
-    where = {"PATH": "/usr/bin:/bin", "PKG_CONFIG_PATH": str(root / "usr/lib/pkgconfig"), "LD_LIBRARY_PATH": str(root / "usr/lib")}
-    flags = run("pkg-config", "--cflags", "--libs", "fevstunik", env=where).stdout.split()
-    yield "make dist: a program is linked", wrong(run("gcc", "-std=c99", ROOT / "tests/c/installed.c", *flags, "-o", room / "of-dist", env=where))
-    request = fixture.request().hex()
-    yield "make dist: a request", said(run(room / "of-dist", ROOT / "examples/service.keytab", "host/web@EX", request, env=where), "alice@EX\n")
+    yield from where_it_lies(root, room)
+
+
+def where_it_lies(root, room):
+    """The tarball's files, used by the commands that its INSTALL gives."""
+    exports = "\n".join(re.findall(r"^    (export .*)$", (root / "INSTALL").read_text(), re.M))
+    words = [ROOT / "examples/service.keytab", "host/web@EX", fixture.request().hex()]
+
+    def shell(script, *more):
+        env = {"PATH": "/usr/bin:/bin", "PYTHONDONTWRITEBYTECODE": "1", "here": str(root)}
+        return run("sh", "-ec", f"{exports}\n{script}", "sh", *more, env=env)
+
+    yield "INSTALL: the program", said(shell('krbtool check-keytab "$1"', ROOT / "examples/mit-holes.keytab"), "ok 4\n")
+    built = shell('cc -std=c99 "$1" $(pkg-config --cflags --libs fevstunik) -o "$2"', ROOT / "tests/c/installed.c", room / "of-dist")
+    yield "INSTALL: a program is linked", wrong(built)
+    yield "INSTALL: a request", said(shell('"$@"', room / "of-dist", *words), "alice@EX\n")
+    yield "INSTALL: from Python", said(shell('/usr/bin/python3 -c "$@"', package_root.FROM_PYTHON, *words), "alice@EX\n")
 
 
 # ---------------------------------------------------------------- Debian packages
@@ -157,7 +172,8 @@ def symbols(source):
     file.write_text(listed)
 
 
-def debian(room):
+def debian(room, root, making):
+    """The packages, and a fresh root that is being made meanwhile."""
     ran, made = packed(room)
     yield "the packages are built", wrong(ran)
     yield "their names", differs({it.name.split("_")[0] for it in made}, set(PACKAGES))
@@ -171,8 +187,10 @@ def debian(room):
         base = "python3:any" if name.startswith("python3") else "libc6"
         yield f"what {name} needs", None if name.endswith("-dev") or any(need.startswith(base) for need in depends) else depends
     yield from symbols(room / "source")
-    yield from of_python(unpacked(made, room / "root"))
-    yield from package_root.checks(room, made)
+    installed = unpacked(made, room / "root")
+    yield from of_python(installed)
+    yield from package_programs.speed(installed)
+    yield from package_root.checks(root, making.result(), made)
 
 
 def of_python(installed):
@@ -184,8 +202,10 @@ def of_python(installed):
 
 def checks():
     yield "make", wrong(run("make"))
-    with tempfile.TemporaryDirectory(prefix="package-") as folder:
+    with tempfile.TemporaryDirectory(prefix="package-") as folder, ThreadPoolExecutor() as meanwhile:
         room = Path(folder)
+        debian_root = package_root.Root(room / "debian")
+        making = meanwhile.submit(debian_root.make)
         yield from installs(room)
         root = room / "root"
         yield "make install", wrong(run("make", "install", f"DESTDIR={root}", *PLACES[0][0]))
@@ -194,7 +214,7 @@ def checks():
         yield from of_static(root / LIBDIR / "libfevstunik.a")
         yield from package_programs.checks(Installed(root), room)
         yield from tarball(room)
-        yield from debian(room / "packed")
+        yield from debian(room / "packed", debian_root, making)
 
 
 def main():

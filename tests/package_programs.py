@@ -5,7 +5,6 @@ Each check is a pair: its name, and what is wrong, or None.
 """
 import re
 import shutil
-import sys
 
 import fixture
 from packing import LIBDIR, NEWER, ROOT, run, said, wrong
@@ -119,14 +118,15 @@ def speed(installed):
 
 
 def krbtool(installed):
-    """The program on the processor without extensions: it runs, or it says which processor it needs."""
+    """The program runs on a processor of x86-64-v2. On another it says what it needs, and does nothing."""
     if not shutil.which("qemu-x86_64"):
         yield "krbtool on other processors", "there is no qemu-user"
         return
     words = [installed.root / "usr/bin/krbtool", "check-keytab", ROOT / "examples/mit-holes.keytab"]
     yield f"krbtool on {NEW}", said(run("qemu-x86_64", "-cpu", NEW, *words), "ok 4\n")
     ran = run("qemu-x86_64", "-cpu", PLAIN, *words)
-    print("krbtool on plain:", ran, file=sys.stderr)
+    well = ran.returncode == 127 and ran.stdout == "" and "lacks a feature of x86-64-v2" in ran.stderr
+    yield f"krbtool on {PLAIN}", None if well else str(ran)
 
 
 def checks(installed, room):
@@ -135,5 +135,4 @@ def checks(installed, room):
     yield from in_go(installed, room)
     yield from on_processors(installed, room)
     yield from instructions(installed)
-    yield from speed(installed)
     yield from krbtool(installed)

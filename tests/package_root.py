@@ -4,6 +4,7 @@ and removed.
 Each check is a pair: its name, and what is wrong, or None.
 """
 import os
+import re
 import shutil
 import subprocess
 from pathlib import Path
@@ -33,6 +34,8 @@ class Root:
         self.folder = folder
 
     def make(self):
+        if not shutil.which("mmdebstrap"):
+            return subprocess.CompletedProcess("mmdebstrap", 127, "", "there is no mmdebstrap")
         release = dict(line.split("=", 1) for line in Path("/etc/os-release").read_text().splitlines() if "=" in line)
         return run("mmdebstrap", "--quiet", "--variant=apt", f"--include={HAS}", "--dpkgopt=force-unsafe-io", release["VERSION_CODENAME"], self.folder)
 
@@ -81,8 +84,10 @@ def from_c(root):
         yield f"root: a {name} program is compiled", wrong(root.shell(command))
         for service, answer in (("host/web@EX", "alice@EX\n"), ("host/mail@EX", "FEVSTUNIK_NOT_US\n")):
             yield f"root: the {name} program asked for {service}", said(root.shell(f"./{name} service.keytab {service} {request}"), answer)
-    listed = root.shell("ldd shared | sed -n 's/.*libfevstunik.so.0 => \\([^ ]*\\) .*/\\1/p'")
-    yield "root: the library that the loader takes", said(listed, f"/{NEWER if has_newer() else LIBDIR}/libfevstunik.so.0\n")
+    listed = root.shell("ldd shared")
+    found = re.findall(r"libfevstunik\.so\.0 => (?:/usr)?(/\S+)/libfevstunik\.so\S+ ", listed.stdout)
+    folder = (NEWER if has_newer() else LIBDIR).removeprefix("usr")
+    yield "root: the library that the loader takes", wrong(listed) or differs(found, [folder])
 
 
 def has_newer():
@@ -104,11 +109,10 @@ def by_the_program(root):
     yield "root: krbtool lists a keytab", said(listed, "".join(f"{kvno} {etype} {name}\n" for kvno in (2, 4) for etype in (20, 19)))
 
 
-def checks(room, packages):
-    root = Root(room / "debian")
-    made = root.make() if shutil.which("mmdebstrap") else None
-    yield "root: a fresh Debian", wrong(made) if made else "there is no mmdebstrap"
-    if not made or made.returncode:
+def checks(root, made, packages):
+    """The checks in a root, and the run that made it."""
+    yield "root: a fresh Debian", wrong(made)
+    if made.returncode:
         return
     with_work(root, packages)
     before = root.files()

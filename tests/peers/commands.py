@@ -11,6 +11,8 @@ from tickets import AES128, AES256, NUMBERS
 # What their services choose for a reply.
 CHOICES = [[], ["number"], ["subkey"], ["number", "subkey"]]
 MICROS = 7
+# How the protocol's version number, 5, stands in a message (RFC 4120, section 5.5.2).
+VERSION = bytes.fromhex("a003020105")
 
 
 class Exchange:
@@ -65,7 +67,7 @@ def bent(exchange, other):
     yield "of no bytes", "", fault_of("")
     yield "without its last byte", reply[:-2], fault_of(reply[:-2])
     yield "with a byte more", reply + "00", fault_of(reply + "00")
-    yield "with another version number", changed(reply, 8 if reply[2:4] == "81" else 6), None
+    yield "with another version number", changed(reply, bytes.fromhex(reply).index(VERSION) + len(VERSION) - 1), None
     yield "whose first byte is of a request", changed(reply, 0), "MessageType"
     yield "that is the request", exchange.request, "MessageType"
     yield "with its last byte changed", changed(reply, -1), "Integrity"
