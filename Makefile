@@ -2,8 +2,8 @@
 #
 #   make                  krbtool, libfevstunik.a and libfevstunik.so, in build/
 #   make check            all proofs and tests, as ./test runs them
-#   make install          below DESTDIR and PREFIX (/usr/local), libraries in LIBDIR
-#   make uninstall        removes what install put there
+#   make install          below DESTDIR and PREFIX (/usr/local), libraries in LIBDIR; without DESTDIR it runs ldconfig, if root
+#   make uninstall        removes what install put there, and the folders of these files that are empty then
 #   make dist             a tarball of what was built, with checksums, for people without the toolchain
 
 VERSION := $(shell packaging/version)
@@ -11,10 +11,17 @@ PREFIX ?= /usr/local
 LIBDIR ?= $(PREFIX)/lib
 BINDIR = $(DESTDIR)$(PREFIX)/bin
 INCLUDEDIR = $(DESTDIR)$(PREFIX)/include
-MANDIR = $(DESTDIR)$(PREFIX)/share/man
-BASH_COMPLETION = $(DESTDIR)$(PREFIX)/share/bash-completion/completions/krbtool
-ZSH_COMPLETION = $(DESTDIR)$(PREFIX)/share/zsh/vendor-completions/_krbtool
+SHARE = $(DESTDIR)$(PREFIX)/share
+MANDIR = $(SHARE)/man
+BASH_COMPLETION = $(SHARE)/bash-completion/completions/krbtool
+ZSHDIR ?= $(PREFIX)/share/zsh/site-functions
+ZSH_COMPLETION = $(DESTDIR)$(ZSHDIR)/_krbtool
 TO_LIB = $(DESTDIR)$(LIBDIR)
+# What install may have made and no system has from the start; inner folders first.
+FOLDERS = $(NEWER:%=$(TO_LIB)/glibc-hwcaps/%) $(TO_LIB)/glibc-hwcaps $(TO_LIB)/pkgconfig $(MANDIR)/man1 $(MANDIR)/man3 \
+  $(SHARE)/bash-completion/completions $(SHARE)/bash-completion $(DESTDIR)$(ZSHDIR) $(SHARE)/zsh
+# The loader finds a new library when its cache has it. (A library that is staged for packing isn't in use yet.)
+RUN_LDCONFIG = [ -n "$(DESTDIR)" ] || [ "$$(id -u)" != 0 ] || ldconfig
 BUILD := build
 # The library for every x86-64, and those for newer processors, which the loader takes by itself.
 NEWER := x86-64-v2
@@ -23,7 +30,7 @@ LIBRARIES := $(BUILD)/x86-64/libfevstunik.a $(NEWER:%=$(BUILD)/%/libfevstunik.a)
 MANUALS := $(wildcard docs/man/*.[1-8])
 
 .PHONY: all check install uninstall dist clean
-all: $(BUILD)/krbtool $(LIBRARIES) $(BUILD)/fevstunik.pc
+all: $(BUILD)/krbtool $(LIBRARIES)
 
 # (each build leaves its archive in the crate's out/, so they are made one after another)
 .NOTPARALLEL:
@@ -35,10 +42,6 @@ $(BUILD)/krbtool: $(SOURCES)
 $(BUILD)/%/libfevstunik.a: $(SOURCES) packaging/build-library packaging/archive.py packaging/fevstunik.map
 	packaging/build-library $* $(BUILD)/$* $(VERSION)
 
-$(BUILD)/fevstunik.pc: packaging/fevstunik.pc.in Makefile include/fevstunik.h
-	mkdir -p $(BUILD)
-	sed 's|@PREFIX@|$(PREFIX)|; s|@LIBDIR@|$(LIBDIR)|; s|@VERSION@|$(VERSION)|' $< >$@
-
 check:
 	./test
 
@@ -47,8 +50,8 @@ install: all
 	install -D -m 644 packaging/completion/krbtool.bash $(BASH_COMPLETION)
 	install -D -m 644 packaging/completion/_krbtool $(ZSH_COMPLETION)
 	install -D -m 644 include/fevstunik.h $(INCLUDEDIR)/fevstunik.h
-	sed 's|@PREFIX@|$(PREFIX)|; s|@LIBDIR@|$(LIBDIR)|; s|@VERSION@|$(VERSION)|' packaging/fevstunik.pc.in >$(BUILD)/fevstunik.pc
-	install -D -m 644 $(BUILD)/fevstunik.pc $(TO_LIB)/pkgconfig/fevstunik.pc
+	install -D -m 644 packaging/fevstunik.pc.in $(TO_LIB)/pkgconfig/fevstunik.pc
+	sed -i 's|@PREFIX@|$(PREFIX)|; s|@LIBDIR@|$(LIBDIR)|; s|@VERSION@|$(VERSION)|' $(TO_LIB)/pkgconfig/fevstunik.pc
 	install -D -m 644 $(BUILD)/x86-64/libfevstunik.a $(TO_LIB)/libfevstunik.a
 	install -D -m 644 $(BUILD)/x86-64/libfevstunik.so.$(VERSION) $(TO_LIB)/libfevstunik.so.$(VERSION)
 	ln -sf libfevstunik.so.$(VERSION) $(TO_LIB)/libfevstunik.so.0
@@ -60,6 +63,7 @@ install: all
 	for page in $(MANUALS); do \
 	  install -D -m 644 $$page $(MANDIR)/man$${page##*.}/$${page##*/} || exit; \
 	done
+	$(RUN_LDCONFIG)
 
 uninstall:
 	rm -f $(BASH_COMPLETION) $(ZSH_COMPLETION)
@@ -67,6 +71,8 @@ uninstall:
 	rm -f $(TO_LIB)/libfevstunik.so $(TO_LIB)/libfevstunik.so.0 $(TO_LIB)/libfevstunik.so.$(VERSION)
 	rm -f $(NEWER:%=$(TO_LIB)/glibc-hwcaps/%/libfevstunik.so.0) $(NEWER:%=$(TO_LIB)/glibc-hwcaps/%/libfevstunik.so.$(VERSION))
 	for page in $(MANUALS); do rm -f $(MANDIR)/man$${page##*.}/$${page##*/}; done
+	for folder in $(FOLDERS); do [ ! -d $$folder ] || rmdir --ignore-fail-on-non-empty $$folder; done
+	$(RUN_LDCONFIG)
 
 dist: all
 	packaging/dist $(VERSION) $(BUILD)

@@ -2,8 +2,8 @@
  * types of RFC 8009, for C and C++.
  *
  * Each function calls a proved function of this repository; crates/krb_c has their contracts. Link
- * with libkrb_c.a, which `rt lib` builds, and with the toolchain's liblibc_c.a, through which the
- * library calls malloc, realloc and free.
+ * with `pkg-config --libs fevstunik`. The library calls malloc, realloc, free and memory functions
+ * of the C library, and nothing else.
  *
  * What is proved of a call holds if its caller follows these rules. Otherwise nothing is promised:
  *  - A handle is empty (all zero) before its first use, as

@@ -32,6 +32,12 @@ def built(folder):
         kdc.ran(["gcc", *strict, f"-I{TOP}/examples/service", TOP / f"tests/c/{name}.c", *flags, "-o", folder / name])
 
 
+def bend(keytab, bent):
+    """Writes a keytab with other keys under the same names and numbers."""
+    turned = [{**it, "key": it["key"][::-1]} for it in reference.keytab(keytab.read_bytes())]
+    bent.write_bytes(b"\x05\x02" + b"".join(map(reference.record_of, turned)))
+
+
 def realm_in(folder):
     """A realm with a KDC, a service for each type, a user's cache with a ticket for each, a keytab, and one with other keys."""
     permitted, _, ktadd = tickets.advice()
@@ -40,8 +46,7 @@ def realm_in(folder):
     for etype, adding in ((20, ktadd), (19, f"ktadd -e {tickets.AES128}:normal")):
         realm.kadmin("addprinc", "-randkey", SERVICES[etype])
         realm.kadmin(*adding.split(), "-k", realm.folder / "good.keytab", SERVICES[etype])
-    turned = [{**it, "key": it["key"][::-1]} for it in reference.keytab((realm.folder / "good.keytab").read_bytes())]
-    (realm.folder / "bent.keytab").write_bytes(b"\x05\x02" + b"".join(map(reference.record_of, turned)))
+    bend(realm.folder / "good.keytab", realm.folder / "bent.keytab")
     try:
         realm.start("default", [permitted])
         realm.cache("alice", "default", SERVICES.values())
@@ -64,11 +69,11 @@ def said(service, clients, env):
         serving.wait()
 
 
-def conversation(folder, realm, etype, client, service, keytab):
-    """One client, which sends its request twice, to one service."""
+def conversation(folder, realm, etype, client, service, keytab, more):
+    """One client, which sends its request twice, to one service, with more words in the environment."""
     name = f"{SERVICES[etype]}@{REALM}"
     programs = {"our": ("client", "service"), "MIT's": ("mit_client", "mit_service")}
-    env = realm.environment("default", KRB5RCACHENAME=f"file2:{folder}/replays.{client}.{etype}.{keytab}".replace("'", ""))
+    env = realm.environment("default", KRB5RCACHENAME=f"file2:{folder}/replays.{client}.{etype}.{keytab}".replace("'", ""), **more)
     first = ["first"] if service == "our" else []
     return said([folder / programs[service][1], realm.folder / f"{keytab}.keytab", name, "2", *first],
                 [[folder / programs[client][0], realm.folder / "alice.ccache", name, "a text", "twice"]], env)
@@ -86,13 +91,14 @@ def differs(found, service, client):
     return None if well else f"{found}, not {service}, {client}"
 
 
-def conversations(folder, realm):
+def conversations(folder, realm, **more):
+    """Conversations of programs in the folder: the realm's folder has good.keytab and bent.keytab, and alice.ccache with the tickets."""
     for client, service in (("MIT's", "our"), ("our", "MIT's")):
         for etype in SERVICES:
-            found = conversation(folder, realm, etype, client, service, "good")
+            found = conversation(folder, realm, etype, client, service, "good", more)
             yield f"{client} client to {service} service, type {etype}", differs(
                 found, [f"alice@{REALM}: a text", f"refused {REPEAT[service]}"], [f"agreed as alice@{REALM}", refused(client, 34)])
-            found = conversation(folder, realm, etype, client, service, "bent")
+            found = conversation(folder, realm, etype, client, service, "bent", more)
             yield f"{client} client to {service} service with other keys, type {etype}", differs(
                 found, [f"refused {BENT_KEY[service]}"] * 2, [refused(client, 31)] * 2)
 

@@ -9,6 +9,7 @@ import tomllib
 from itertools import combinations
 from pathlib import Path
 
+import generated_edits
 import generated_exchange
 import reference
 
@@ -206,6 +207,7 @@ def cases():
     yield from keytab_cases()
     yield from cache_cases()
     yield from request_cases()
+    yield from generated_edits.cases()
     yield from generated_exchange.cases()
     yield from stream_cases()
     yield from mode_cases()

@@ -1,7 +1,9 @@
 """Tokens of GSS-API (RFC 2743, section 3.1; RFC 4121, section 4.1; RFC 4178, section 4.2), and which fault a token has.
 
-The model knows DER by itself. It draws tokens as clients send them and bends them in structure; `drawn` gives the cases.
+The model knows DER by itself. It draws tokens as clients send them and bends them in structure; `drawn` gives the cases. It also
+writes requests and answers in their wrapping, and checksums of authenticators (RFC 4121, section 4.1.1).
 """
+import hashlib
 import random
 
 PROGRAM = "krb_calls_gss"
@@ -196,6 +198,88 @@ def large():
         ]
 
 
+def response(name, token, state):
+    """A NegTokenResp of negState, supportedMech and responseToken."""
+    fields = element(0xA0, element(0x0A, bytes([state]))) + element(0xA1, element(0x06, name)) + element(0xA2, element(0x04, token))
+    return element(0xA1, element(0x30, fields))
+
+
+def wrapped(rng):
+    """A request or an answer that is wrapped: the line and what is answered."""
+    place, name = rng.choice((None, KERBEROS, MICROSOFT)), rng.choice((KERBEROS, MICROSOFT))
+    message = rng.randbytes(rng.choice((0, 1, 2, 90, 97, 113, 127, 128, 250, 300)))
+    kind, token_id, state = rng.choice((("request", 1, None), ("answer", 2, 0), ("answer", 3, 2)))
+    token = kerberos(name, message, bytes([token_id, 0]))
+    if place:
+        token = negotiation([place], token) if state is None else response(place, token, state)
+    words = [kind, NAMES[place] if place else "bare", NAMES[name]]
+    if state is not None:
+        words.append("reply" if state == 0 else "error")
+    return " ".join([*words, message.hex() or "-"]), token
+
+
+def too_long():
+    """The longest messages that fit, and one byte more."""
+    for words, around in (("request bare Kerberos", lambda it: kerberos(KERBEROS, it)),
+                          ("request Kerberos Microsoft", lambda it: negotiation([KERBEROS], kerberos(MICROSOFT, it))),
+                          ("answer bare Kerberos reply", lambda it: kerberos(KERBEROS, it, b"\x02\x00")),
+                          ("answer Microsoft Kerberos error", lambda it: response(MICROSOFT, kerberos(KERBEROS, it, b"\x03\x00"), 2))):
+        most = next(count for count in range(LIMIT, 0, -1) if len(around(bytes(count))) <= LIMIT)
+        token = around(b"m" * most)
+        shown = f"#{len(token)}:{hashlib.sha256(token).hexdigest()}"
+        long = "refused the token would be longer than 1048576 bytes"
+        for count, answer_is in ((most, shown), (most + 1, long), (LIMIT, long), (LIMIT + 1, long), (4 * LIMIT, long)):
+            yield f"{words} of {count} bytes", f"{words} 6d*{count}", answer_is
+
+
+FLAGS = {1: "Delegation", 2: "Mutual", 4: "Replay", 8: "Sequence", 16: "Confidentiality", 32: "Integrity"}
+
+
+def checksum_bytes(flags, bindings, message, extensions):
+    text = (16).to_bytes(4, "little") + bindings + flags.to_bytes(4, "little")
+    if message is not None:
+        text += (1).to_bytes(2, "little") + len(message).to_bytes(2, "little") + message
+    return text + extensions
+
+
+def checksum_answer(text):
+    """What `checksum` answers."""
+    if len(text) < 24:
+        return "refused the checksum is cut off"
+    if text[:4] != b"\x10\0\0\0":
+        return "refused the length of the bindings isn't 16"
+    flags, rest, shown = int.from_bytes(text[20:24], "little"), text[24:], "none"
+    if flags % 2:
+        if len(rest) < 4:
+            return "refused the checksum is cut off"
+        if rest[:2] != b"\x01\0":
+            return "refused the option of the delegation isn't 1"
+        size = int.from_bytes(rest[2:4], "little")
+        if len(rest) < 4 + size:
+            return "refused the checksum is cut off"
+        shown, rest = rest[4 : 4 + size].hex() or "-", rest[4 + size :]
+    return " ".join([str(flags), text[4:20].hex(), shown, rest.hex() or "-", *(name for bit, name in FLAGS.items() if flags & bit)])
+
+
+def checksums(rng):
+    """A checksum that is written, read, bent and read again, and asked for bindings: the lines and what is answered."""
+    flags = rng.choice((0, 1, 2, 3, 0x3E, 0x3F, 0x123, rng.randrange(2**32)))
+    bindings = rng.choice((bytes(16), rng.randbytes(16)))
+    message = rng.randbytes(rng.choice((0, 1, 5, 255, 256, 400))) if rng.random() < 0.5 else None
+    extensions = rng.randbytes(rng.choice((0, 0, 1, 9)))
+    words = f"encode {flags} {bindings.hex()} {'none' if message is None else message.hex() or '-'} {extensions.hex() or '-'}"
+    agrees = (message is not None) == bool(flags % 2)
+    text = checksum_bytes(flags, bindings, message, extensions)
+    yield words, text.hex() if agrees else "refused the flag doesn't agree with the delegation"
+    yield f"checksum {text.hex()}", checksum_answer(text)
+    for _ in range(3):
+        other = bent(rng, text)
+        yield f"checksum {other.hex() or '-'}", checksum_answer(other)
+    wanted = rng.choice((bindings, bytes(16), bindings[:15] + b"\x01"))
+    read = checksum_answer(text)
+    yield f"bindings {text.hex()} {wanted.hex()}", read if read.startswith("refused") else str(wanted == bindings).lower()
+
+
 def drawn():
     rng = random.Random(4178)
     for number in range(CASES):
@@ -205,3 +289,10 @@ def drawn():
         yield PROGRAM, f"gss: token {number}", [f"open {text.hex()}"], [answer(text)]
     for name, lines, answers in large():
         yield PROGRAM, f"gss: {name}", lines, answers
+    for number in range(CASES // 10):
+        line, token = wrapped(rng)
+        yield PROGRAM, f"gss: wrapped {number}", [line], [token.hex()]
+        both = list(checksums(rng))
+        yield PROGRAM, f"gss: checksum {number}", [line for line, _ in both], [it for _, it in both]
+    for name, line, answer_is in too_long():
+        yield PROGRAM, f"gss: {name}", [line], [answer_is]

@@ -6,6 +6,7 @@ import tempfile
 from dataclasses import dataclass
 from pathlib import Path
 
+import drawn_files
 import generated
 
 HERE = Path(__file__).resolve().parent
@@ -54,6 +55,7 @@ def file_commands():
     yield requested()
     yield finished()
     yield picked()
+    yield removed(keytab)
 
 
 def requested():
@@ -70,6 +72,11 @@ def finished():
 def picked():
     words = "pick-key f host/web@EX 19 --kvno 3".split()
     return Command(words, fixture.keytab(), b"", b"3 19 1700000000 host/web@EX\n", OLD)
+
+
+def removed(keytab):
+    made = drawn_files.removed(keytab, 2)
+    return Command("remove-key f out 2".split(), keytab, b"", f"wrote {len(made)}\n".encode(), made)
 
 
 def called(lines, *more):

@@ -26,8 +26,10 @@ SIDES = HERE.parent / "crates/krb_sides/out/krb_sides"
 sys.dont_write_bytecode = True
 sys.path[:0] = [str(HERE), str(HERE / "peers")]
 
+import commands  # noqa: E402
 import exchanges  # noqa: E402
 import files  # noqa: E402
+import installed  # noqa: E402
 import reference  # noqa: E402
 import replies  # noqa: E402
 import tickets  # noqa: E402
@@ -61,6 +63,13 @@ class Cases:
             self.passed += 1
 
 
+def keytabs(cases, peers, mit, heimdal):
+    paths = [*files.of_mit(mit), *files.of_heimdal(heimdal), *commands.rotated_keytabs(mit, heimdal)]
+    files.keytabs(cases, peers, heimdal, paths)
+    for realm, path in paths:
+        commands.picks(cases, peers, heimdal, realm, path)
+
+
 def parts(cases, peers, mit, heimdal, sides):
     """Each part of the cases, in order; a later one may use what an earlier one made."""
     of_mit, of_heimdal = tickets.of_mit(mit), tickets.of_heimdal(heimdal)
@@ -73,12 +82,15 @@ def parts(cases, peers, mit, heimdal, sides):
             yield lambda: part(cases, peers, ticket)
     for part in (exchanges.turned_keys, exchanges.old_types, exchanges.postdated, exchanges.wrong_keys, exchanges.other_messages):
         yield lambda: part(cases, peers, mit)
-    yield lambda: files.keytabs(cases, peers, heimdal, [*files.of_mit(mit), *files.of_heimdal(heimdal)])
+    yield lambda: keytabs(cases, peers, mit, heimdal)
     yield lambda: files.caches(cases, peers, [(realm, path) for realm in (mit, heimdal) for path in sorted(realm.folder.glob("*.ccache"))])
     yield lambda: files.old_cache(cases, peers, of_heimdal[-1])
     yield lambda: files.used(cases, peers, mit, "one", "host/plain.example")
     yield lambda: files.used(cases, peers, heimdal, "default", "host/web.example")
     yield lambda: replies.exchanged(cases, peers, sides, of_each_type)
+    for ticket, other in zip(of_each_type, of_each_type[1:] + of_each_type[:1]):
+        yield lambda: commands.finishes(cases, peers, ticket, other)
+    yield lambda: installed.checks(cases, peers, peers.folder / "installed", mit, of_each_type)
 
 
 def run(cases, *rest):

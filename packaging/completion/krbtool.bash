@@ -3,7 +3,7 @@ _krbtool() {
     local word=${COMP_WORDS[COMP_CWORD]} before=${COMP_WORDS[COMP_CWORD-1]} options
     COMPREPLY=()
     if [ "$COMP_CWORD" -eq 1 ]; then
-        COMPREPLY=($(compgen -W 'list-keytab list-ccache check-keytab check-ccache convert-keytab convert-ccache request accept finish pick-key help --help --version' -- "$word"))
+        COMPREPLY=($(compgen -W 'list-keytab list-ccache check-keytab check-ccache convert-keytab convert-ccache request accept finish pick-key remove-key help --help --version' -- "$word"))
         return
     fi
     case $before in
@@ -20,7 +20,8 @@ _krbtool() {
         accept) options='--skew --started --service --only --help' ;;
         finish) options='--time --usec --reply --help' ;;
         pick-key) options='--kvno --help' ;;
-        help) options='list-keytab list-ccache check-keytab check-ccache convert-keytab convert-ccache request accept finish pick-key' ;;
+        remove-key) options='--help' ;;
+        help) options='list-keytab list-ccache check-keytab check-ccache convert-keytab convert-ccache request accept finish pick-key remove-key' ;;
         *) return ;;
     esac
     case $word in

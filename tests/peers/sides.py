@@ -12,12 +12,12 @@ SKEW = 300
 
 
 class Peers:
-    """The program, and the client and the service that are built of each library."""
+    """The program, and the client, the service and what picks keys, which are built of each library."""
 
     def __init__(self, program, folder):
         self.program, self.folder, self.replays = program, folder, 0
         folder.mkdir()
-        for source in ("ask", "serve"):
+        for source in ("ask", "serve", "pick"):
             for library, config, defined in (("MIT", "krb5-config.mit", []), ("Heimdal", "krb5-config.heimdal", ["-DHEIMDAL"])):
                 flags = ran([config, "--cflags", "--libs", "krb5"]).split()
                 ran(["cc", "-O1", *defined, "-o", self.path(source, library), HERE / f"{source}.c", *flags])

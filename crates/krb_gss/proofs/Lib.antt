@@ -5,3 +5,4 @@ pub mod ChecksumLaws
 pub mod WrapLaws
 pub mod WrittenLaws
 pub mod AnswerLaws
+pub mod AnsweredLaws

@@ -99,7 +99,7 @@ too_long-fault bytes f g not_within is e =
       | inr le ↦ absurd (not_within le)
     ]
 
-both : (bytes : List ℕ) → begins 0xa1 bytes ≡ true → begins 0x60 bytes ≡ true → ⊥
+pub both : (bytes : List ℕ) → begins 0xa1 bytes ≡ true → begins 0x60 bytes ≡ true → ⊥
 both [] e f = false≢true e
 both (b ∷ bytes) e f = grind (arith, nat_tests)
 

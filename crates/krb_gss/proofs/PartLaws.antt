@@ -187,7 +187,7 @@ mechanisms-entered here inside new e are =
     }
 
 -- ---- the fields after mechTypes
-passed : (outer inner : ℕ) (others : List (ℕ × ℕ)) (o : Option Place) (here after : Place) (f : Fault) → MayHaveField outer inner here o after
+pub passed : (outer inner : ℕ) (others : List (ℕ × ℕ)) (o : Option Place) (here after : Place) (f : Fault) → MayHaveField outer inner here o after
     → AreFieldsFault others after f → AreFieldsFault ((outer, inner) ∷ others) here f
 passed outer inner others None here after f h fault = absent h.0 (subst (λ (p : Place). AreFieldsFault others p f) h.1 fault)
 passed outer inner others (Some x) here after f h fault = present x after h fault

@@ -1,3 +1,4 @@
 pub mod Reading
 pub mod Checked
 pub mod Putting
+pub mod Answers

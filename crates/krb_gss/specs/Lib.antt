@@ -5,4 +5,5 @@ pub mod Opening
 pub mod Checksum
 pub mod Wrapping
 pub mod Answer
+pub mod Answered
 pub mod Inner

@@ -8,3 +8,4 @@ pub mod CountLaws
 pub mod EndLaws
 pub mod CommandLaws
 pub mod PickLaws
+pub mod RemoveLaws

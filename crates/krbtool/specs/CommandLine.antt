@@ -9,9 +9,10 @@ use Rattle.std.specs.Option.{option_map}
 use Rattle.krbtool.specs.declared.order.AcceptWords.{AcceptWords}
 use Rattle.krbtool.specs.declared.order.FinishWords.{FinishWords}
 use Rattle.krbtool.specs.declared.order.PickWords.{PickWords}
+use Rattle.krbtool.specs.declared.order.RemoveWords.{RemoveWords}
 use Rattle.krbtool.specs.declared.order.RequestWords.{RequestWords}
 use Rattle.krbtool.specs.declared.order.Order.{Order}
-use Rattle.krbtool.specs.declared.order.Order.TheVariants.{ListKeytab, ListCcache, CheckKeytab, CheckCcache, ConvertKeytab, ConvertCcache, Request, Accept, Finish, PickKey}
+use Rattle.krbtool.specs.declared.order.Order.TheVariants.{ListKeytab, ListCcache, CheckKeytab, CheckCcache, ConvertKeytab, ConvertCcache, Request, Accept, Finish, PickKey, RemoveKey}
 
 -- an operand that has to be there
 abbrev pub operand : Text → Rule
@@ -81,6 +82,10 @@ pick_operands =
 abbrev pub pick_key : App
 pick_key = with_rule pick_operands (free_number (codes "kvno") 4_294_967_295)
 
+-- remove-key KEYTAB OUT INDEX
+abbrev pub remove_key : App
+remove_key = with_rule (with_rule (of_keytab (codes "remove-key")) (operand (codes "OUT"))) (number_operand (codes "INDEX") 4_294_967_295)
+
 -- accept KEYTAB [--skew SECONDS] [--started SECONDS] [--service NAME] [--only NAME]
 abbrev pub accept_with_skew : App
 accept_with_skew = with_rule (of_keytab (codes "accept")) (number_option (codes "skew") 86_400 (codes "300"))
@@ -111,8 +116,11 @@ with_conversions = with_two with_checks (of_file_and_out (codes "convert-keytab"
 abbrev pub with_exchange : App
 with_exchange = with_two with_conversions request accept
 
+abbrev pub with_keys : App
+with_keys = with_two with_exchange finish pick_key
+
 unfoldable pub krbtool : App
-krbtool = with_two with_exchange finish pick_key
+krbtool = with_subcommand with_keys remove_key.top
 
 -- an operand or an option has this value
 abbrev pub HasOperand : List Row → Text → Text → Type 0
@@ -167,6 +175,12 @@ pub record AsksPick (rows : List Row) (words : PickWords) : Type 0 where
   pub etype : HasOperand rows (codes "ETYPE") words.etype.now
   pub kvno : HasOption rows (codes "kvno") words.kvno
 
+-- the operands of remove-key
+pub record AsksRemoval (rows : List Row) (words : RemoveWords) : Type 0 where
+  pub keytab : HasOperand rows (codes "KEYTAB") words.keytab.now
+  pub out : HasOperand rows (codes "OUT") words.out.now
+  pub index : HasOperand rows (codes "INDEX") words.index.now
+
 -- the order is the subcommand's, with the values that its entries have
 abbrev pub IsOrder : Order → Option (Text × List Row) → Type 0
 IsOrder order None = ⊥
@@ -180,3 +194,4 @@ IsOrder (Request words) (Some (name, rows)) = (name ≡ codes "request") × Asks
 IsOrder (Accept words) (Some (name, rows)) = (name ≡ codes "accept") × AsksAcceptance rows words
 IsOrder (Finish words) (Some (name, rows)) = (name ≡ codes "finish") × AsksFinish rows words
 IsOrder (PickKey words) (Some (name, rows)) = (name ≡ codes "pick-key") × AsksPick rows words
+IsOrder (RemoveKey words) (Some (name, rows)) = (name ≡ codes "remove-key") × AsksRemoval rows words

@@ -2,3 +2,4 @@ pub mod Counting
 pub mod Moments
 pub mod Held
 pub mod Going
+pub mod Whole

@@ -6,6 +6,7 @@ pub mod FaultText
 pub mod Requesting
 pub mod Finishing
 pub mod Picking
+pub mod Removing
 pub mod CallLine
 pub mod Tails
 pub mod Answering

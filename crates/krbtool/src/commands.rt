@@ -3,7 +3,7 @@
 ghost use Rattle.std.specs.Prelude.{◌≡◌, false, IfOk, codes};
 ghost use Rattle.clap.specs.Words.{app_of, rule_of};
 ghost use Rattle.clap.specs.declared.builder.command.Command.TheViews.{out-Command};
-ghost use Rattle.krbtool.specs.CommandLine.{krbtool, accept, accept_with_times, bare, finish, flag, free_number, free_option, needed_number, needed_option, number_operand, number_option, operand, pick_key, pick_operands, request, with_two, with_lists, with_checks, with_conversions, with_exchange, of_file, of_file_and_out, of_keytab, of_moment, of_service};
+ghost use Rattle.krbtool.specs.CommandLine.{krbtool, remove_key, accept, accept_with_times, bare, finish, flag, free_number, free_option, needed_number, needed_option, number_operand, number_option, operand, pick_key, pick_operands, request, with_two, with_lists, with_checks, with_conversions, with_exchange, with_keys, of_file, of_file_and_out, of_keytab, of_moment, of_service};
 
 use clap::builder::ValueParser;
 use clap::{Arg, ArgAction, Command};
@@ -14,9 +14,9 @@ macro_rules! with_statuses {
     ($text:literal, $refused:literal) => {
         concat!(
             $text,
-            "\n\nExit status: 0 if all is well, 1 ",
+            "\n\nExit status: 0 for success, 1 ",
             $refused,
-            ", 2 if these words are wrong, 3 if something can't be opened, read or written, or for want of memory"
+            ", 2 if the command line is wrong, 3 if something can't be opened, read or written, or memory ran out"
         )
     };
 }
@@ -50,43 +50,43 @@ const LIST_CCACHE: Help<'static> = Help {
     about: "Lists a credential cache: its principal, clock offset, configuration entries and tickets",
     file: CCACHE,
     end: of_faulty_file!(
-        "Lines:\n  default PRINCIPAL\n  offset SECONDS MICROSECONDS\n  config PRINCIPAL\n  ticket ENCTYPE AUTHTIME STARTTIME ENDTIME RENEW-TILL FLAGS CLIENT SERVER\nTimes are in seconds since 1970-01-01, 0 where there is none; flags are 8 hexadecimal digits."
+        "Lines:\n  default PRINCIPAL\n  offset SECONDS MICROSECONDS\n  config PRINCIPAL\n  ticket ENCTYPE AUTHTIME STARTTIME ENDTIME RENEW-TILL FLAGS CLIENT SERVER\nTimes are in seconds since 1970-01-01, 0 if absent; flags are 8 hexadecimal digits."
     ),
 };
 
 const CHECK_KEYTAB: Help<'static> = Help {
-    about: "Checks a keytab: says how many entries it has, or where it is faulty",
+    about: "Checks a keytab, and prints how many entries it has, or where the fault is",
     file: KEYTAB,
     end: of_faulty_file!(
-        "It prints 'ok COUNT', or on standard error what is wrong, and at which byte."
+        "Prints 'ok COUNT', or on standard error the fault and its offset in bytes."
     ),
 };
 
 const CHECK_CCACHE: Help<'static> = Help {
-    about: "Checks a credential cache: says how many credentials it has, or where it is faulty",
+    about: "Checks a credential cache, and prints how many credentials it has, or where the fault is",
     file: CCACHE,
     end: of_faulty_file!(
-        "It prints 'ok COUNT', or on standard error what is wrong, and at which byte."
+        "Prints 'ok COUNT', or on standard error the fault and its offset in bytes."
     ),
 };
 
 const CONVERT_KEYTAB: Help<'static> = Help {
-    about: "Writes a keytab anew, without holes and without what follows its entries",
+    about: "Writes a keytab again, without holes and without what follows its end word",
     file: KEYTAB,
-    end: of_faulty_file!("It prints 'wrote COUNT', of bytes."),
+    end: of_faulty_file!("Prints 'wrote COUNT', the number of bytes."),
 };
 
 const CONVERT_CCACHE: Help<'static> = Help {
     about: "Writes a credential cache again, as one of version 0x0504",
     file: CCACHE,
-    end: of_faulty_file!("It prints 'wrote COUNT', of bytes."),
+    end: of_faulty_file!("Prints 'wrote COUNT', the number of bytes."),
 };
 
 const REQUEST: Help<'static> = Help {
     about: "Builds a request for a service with a ticket of a credential cache, and prints it in hexadecimal",
     file: CCACHE,
     end: with_statuses!(
-        "It prints one line of hexadecimal digits.",
+        "Prints one line of hexadecimal digits. Use a time at most once for each ticket.",
         "if the file is faulty, or there is no request"
     ),
 };
@@ -95,7 +95,7 @@ const FINISH: Help<'static> = Help {
     about: "Reads the reply to a request that was built with a credential cache, and says what client and service agree on",
     file: CCACHE,
     end: with_statuses!(
-        "It prints one line: agreed CLIENT ENCTYPE [seq N] [subkey ENCTYPE], the encryption types of the session key and of the service's key.",
+        "Prints one line: agreed CLIENT ENCTYPE [seq N] [subkey ENCTYPE], the encryption types of the session key and of the service's key.",
         "if the file is faulty, there is no request, or the reply is refused"
     ),
 };
@@ -104,7 +104,7 @@ const ACCEPT: Help<'static> = Help {
     about: "Answers requests: for each line SECONDS MICROS HEX [CONFOUNDER] of standard input, whether a service accepts it",
     file: "The service's keytab",
     end: with_statuses!(
-        "A line of input: the service's clock (seconds since 1970-01-01, and microseconds), the request in hexadecimal (- for no bytes), and a confounder for the reply (32 digits). Its answer:\n  accepted CLIENT ENCTYPE SECONDS MICROS plain|mutual [reply HEX]\n  refused CODE NAME [error HEX]\n  bad line",
+        "A line of input: the service's clock (seconds since 1970-01-01, and microseconds), the request in hexadecimal (- for no bytes), and a confounder for the reply (32 digits). Its answer:\n  accepted CLIENT ENCTYPE SECONDS MICROS plain|mutual [reply HEX]\n  refused CODE NAME [error HEX]\n  bad line\nEach run remembers only its own requests.",
         "if the keytab is faulty, or a request or a line is refused"
     ),
 };
@@ -113,8 +113,17 @@ const PICK_KEY: Help<'static> = Help {
     about: "Prints the entry of a keytab that a ticket would be opened with",
     file: KEYTAB,
     end: with_statuses!(
-        "It prints the entry's line: KVNO ENCTYPE TIMESTAMP PRINCIPAL. Without an entry it says on standard error NoName, NoKey or NoVersion: which of the three no entry has.",
+        "Prints the entry's line: KVNO ENCTYPE TIMESTAMP PRINCIPAL. If no entry is picked, the fault says why: NoName, NoKey or NoVersion.",
         "if the file is faulty, or no entry is picked"
+    ),
+};
+
+const REMOVE_KEY: Help<'static> = Help {
+    about: "Writes a keytab again, with a hole in place of one entry",
+    file: KEYTAB,
+    end: with_statuses!(
+        "Prints 'wrote COUNT', the number of bytes. If there is no such entry, the fault is NoSuchEntry.",
+        "if the file is faulty, or has no such entry"
     ),
 };
 
@@ -144,7 +153,7 @@ fn of_file_and_out_command<'a>(
     ensures local { IfOk result (λ c. (out-Command c).has_globals ≡ false) }
 {
     let out = Arg::new(alloc, "OUT").required(true).help(
-        "The file to write. It is emptied before FILE is read, so it must not be FILE; a new one is its owner's alone",
+        "The file to write. It is emptied before FILE is read, so it must not be FILE; a new file has mode 0600",
     );
     of_file_command(alloc, name, help)?.arg(out)
 }
@@ -202,7 +211,7 @@ fn of_service_command<'a>(
 {
     let service = Arg::new(alloc, "SERVICE")
         .required(true)
-        .help("The service's name, as host/web@EXAMPLE.COM");
+        .help("The service's name, such as host/web@EXAMPLE.COM");
     of_file_command(alloc, name, help)?.arg(service)
 }
 
@@ -285,7 +294,7 @@ fn pick_key_with_operands<'a>(alloc: Global) -> Result<Command<'a>, AllocError>
 {
     let name = Arg::new(alloc, "NAME")
         .required(true)
-        .help("The service's name, as host/web@EXAMPLE.COM");
+        .help("The service's name, such as host/web@EXAMPLE.COM");
     let etype = number_operand(
         alloc,
         "ETYPE",
@@ -318,6 +327,24 @@ fn free_arg<'a>(alloc: Global, name: &'a str, help: &'a str) -> Arg<'a>
     Arg::new(alloc, name).long(name).help(help)
 }
 
+fn remove_key_command<'a>(alloc: Global) -> Result<Command<'a>, AllocError>
+    ensures app { IfOk result (λ c. app_of c ≡ remove_key) }
+    ensures local { IfOk result (λ c. (out-Command c).has_globals ≡ false) }
+{
+    let out = Arg::new(alloc, "OUT").required(true).help(
+        "The file to write. It is emptied before KEYTAB is read, so it must not be KEYTAB; a new file has mode 0600",
+    );
+    let index = number_operand(
+        alloc,
+        "INDEX",
+        4_294_967_295,
+        "Which entry to remove, in the order of list-keytab: 0 is the first",
+    );
+    of_keytab_command(alloc, "remove-key", &REMOVE_KEY)?
+        .arg(out)?
+        .arg(index)
+}
+
 // The command `accept` with its keytab and its times.
 fn accept_with_times<'a>(alloc: Global) -> Result<Command<'a>, AllocError>
     ensures app { IfOk result (λ c. app_of c ≡ accept_with_times) }
@@ -334,7 +361,7 @@ fn accept_with_times<'a>(alloc: Global) -> Result<Command<'a>, AllocError>
         alloc,
         "started",
         253_402_300_799,
-        "The service was started again at this second since 1970-01-01 and has forgotten what it accepted: until the skew has passed, requests are refused as JustStarted",
+        "When the service was started again, in seconds since 1970-01-01. Until it is past by more than the skew on both clocks, requests are refused as JustStarted; omit it only for a service that never ran before",
     );
     of_keytab_command(alloc, "accept", &ACCEPT)?
         .arg(skew)?
@@ -348,7 +375,7 @@ fn accept_command<'a>(alloc: Global) -> Result<Command<'a>, AllocError>
     let service = free_arg(
         alloc,
         "service",
-        "The name that errors carry: an error follows what is refused with a code. Requests are accepted for any name of the keytab",
+        "The name that errors contain. It doesn't affect which requests are accepted",
     );
     let only = free_arg(
         alloc,
@@ -412,11 +439,18 @@ fn command_with_exchange<'a>(alloc: Global) -> Result<Command<'a>, AllocError>
     with_two(command_with_conversions(alloc)?, request, accept)
 }
 
-#[tactic(auto, unfolding(crate::specs::CommandLine::krbtool))]
-pub(crate) fn krbtool_command<'a>(alloc: Global) -> Result<Command<'a>, AllocError>
-    ensures { IfOk result (λ c. app_of c ≡ krbtool) }
+fn command_with_keys<'a>(alloc: Global) -> Result<Command<'a>, AllocError>
+    ensures { IfOk result (λ c. app_of c ≡ with_keys) }
 {
     let finish = finish_command(alloc)?;
     let pick_key = pick_key_command(alloc)?;
     with_two(command_with_exchange(alloc)?, finish, pick_key)
+}
+
+#[tactic(auto, unfolding(crate::specs::CommandLine::krbtool))]
+pub(crate) fn krbtool_command<'a>(alloc: Global) -> Result<Command<'a>, AllocError>
+    ensures { IfOk result (λ c. app_of c ≡ krbtool) }
+{
+    let remove_key = remove_key_command(alloc)?;
+    command_with_keys(alloc)?.subcommand(remove_key)
 }

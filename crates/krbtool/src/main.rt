@@ -19,14 +19,17 @@ mod list;
 mod order;
 mod part_line;
 mod pick;
+mod remove;
 mod request;
 mod run;
 mod run_accept;
+mod run_edit;
 mod run_finish;
 mod run_pick;
 mod run_request;
 mod streams;
 mod tail;
+mod whole;
 mod words;
 
 use crate::fault::{EngineFault, FAILED, WRONG_WORDS};

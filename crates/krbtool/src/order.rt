@@ -43,6 +43,8 @@ pub enum Order<'a> {
     Finish(FinishWords<'a>),
     /// `pick-key KEYTAB NAME ETYPE [--kvno N]`: the entry of a keytab that a ticket would be opened with.
     PickKey(PickWords<'a>),
+    /// `remove-key KEYTAB OUT INDEX`: a keytab with a hole in place of an entry.
+    RemoveKey(RemoveWords<'a>),
 }
 
 /// The words of `accept`.
@@ -86,6 +88,17 @@ pub struct PickWords<'a> {
     pub etype: &'a str,
     /// The version number, in decimal: 0 to 4294967295; any if absent.
     pub kvno: Option<&'a str>,
+}
+
+/// The words of `remove-key`.
+#[derive(Clone, Copy, Debug, PartialEq, Eq)]
+pub struct RemoveWords<'a> {
+    /// The keytab's path.
+    pub keytab: &'a str,
+    /// The path of what is written.
+    pub out: &'a str,
+    /// The index of the entry, in decimal: 0 to 4294967295.
+    pub index: &'a str,
 }
 
 /// The words of `request`.

@@ -10,6 +10,7 @@ use crate::fault_line::{FaultLine, fault_line, file_line};
 use crate::list::{list_ccache, list_keytab};
 use crate::order::Order;
 use crate::run_accept::run_accept;
+use crate::run_edit::run_remove;
 use crate::run_finish::run_finish;
 use crate::run_pick::run_pick;
 use crate::run_request::run_request;
@@ -102,6 +103,7 @@ pub(crate) fn run<R: AllocGlobal + Files + Input + Print + Eprint>(rt: &R, order
         Order::Accept(words) => run_accept(rt, words),
         Order::Finish(words) => run_finish(rt, words),
         Order::PickKey(words) => run_pick(rt, words),
+        Order::RemoveKey(words) => run_remove(rt, words),
     }
 }
 
@@ -176,7 +178,7 @@ pub(crate) fn source_of<F: Read + Drop>(
 }
 
 // Makes OUT, for its owner alone since it holds keys; or empties the one that is there, whose mode stays.
-fn make<R: Files>(rt: &R, out: &str) -> io::Result<R::File> {
+pub(crate) fn make<R: Files>(rt: &R, out: &str) -> io::Result<R::File> {
     OpenOptions::new()
         .write(true)
         .create(true)
@@ -185,7 +187,8 @@ fn make<R: Files>(rt: &R, out: &str) -> io::Result<R::File> {
         .open(rt, out)
 }
 
-fn tell_wrote<R: Print + Eprint>(rt: &R, count: usize) -> u8 {
+// Prints how many bytes were written, and answers the status.
+pub(crate) fn tell_wrote<R: Print + Eprint>(rt: &R, count: usize) -> u8 {
     match println!(rt; "wrote {count}") {
         Ok(()) => 0,
         Err(_) => {

@@ -2,10 +2,10 @@
 
 ghost use Rattle.std.specs.Prelude.{◌≡◌, Some, IfOk, IfSome, codes, map};
 ghost use Rattle.clap.specs.Words.{rows_of, found_of, subcommand_of, subcommand_rows_of};
-ghost use Rattle.krbtool.specs.CommandLine.{krbtool, AsksAcceptance, AsksFinish, AsksPick, AsksRequest, HasFlag, HasFile, HasFiles, IsOrder};
+ghost use Rattle.krbtool.specs.CommandLine.{krbtool, AsksAcceptance, AsksFinish, AsksPick, AsksRemoval, AsksRequest, HasFlag, HasFile, HasFiles, IsOrder};
 
 use crate::commands::krbtool_command;
-use crate::order::{AcceptWords, FinishWords, Order, PickWords, RequestWords};
+use crate::order::{AcceptWords, FinishWords, Order, PickWords, RemoveWords, RequestWords};
 use clap::error::ErrorKind;
 use clap::{ArgMatches, Error};
 use std::alloc::Global;
@@ -112,6 +112,17 @@ fn pick_of<'a>(matches: &ArgMatches<'a>) -> Option<PickWords<'a>>
     })
 }
 
+// The values of KEYTAB, OUT and INDEX.
+#[tactic(auto, using(crate::proofs::Getters::getters))]
+fn removal_of<'a>(matches: &ArgMatches<'a>) -> Option<RemoveWords<'a>>
+    ensures { IfSome result (λ words. AsksRemoval (rows_of (found_of matches.now)) words) }
+{
+    let keytab = matches.get_str("KEYTAB")?;
+    let out = matches.get_str("OUT")?;
+    let index = matches.get_str("INDEX")?;
+    Some(RemoveWords { keytab, out, index })
+}
+
 // What a command of this name asks for, with these values.
 fn order_of<'a>(name: &str, matches: &ArgMatches<'a>) -> Option<Order<'a>>
     ensures { IfSome result (λ order. IsOrder order (Some (name.now, rows_of (found_of matches.now)))) }
@@ -152,6 +163,10 @@ fn order_of<'a>(name: &str, matches: &ArgMatches<'a>) -> Option<Order<'a>>
         "pick-key" => {
             let words = pick_of(matches)?;
             Some(Order::PickKey(words))
+        }
+        "remove-key" => {
+            let words = removal_of(matches)?;
+            Some(Order::RemoveKey(words))
         }
         _ => None,
     }

@@ -7,10 +7,10 @@ use Rattle.krb_gss.proofs.wrapping.wrap_answer.Goals as goal
 pub returns-then-len-gt-LIMIT-clause-too_long : goal.returns-then-len-gt-LIMIT-clause-too_long
 returns-then-len-gt-LIMIT-clause-too_long c =
     λ e.
-        let w =
-                from-nothing (WritesAnswer c.args.wrapping c.args.mechanism (message_of c.args.answer)) c.new-out.result c.put_answer.new.out c.new-out.ensures c.in_ok-put_answer.ensures
-            in
-        omega (arith, c.if-len-gt-LIMIT.true, c.len.ensures, answer-sized c.args.wrapping c.args.mechanism (message_of c.args.answer) c.put_answer.new.out w)
+    let w =
+    from-nothing (WritesAnswer c.args.wrapping c.args.mechanism (message_of c.args.answer)) c.new-out.result c.put_answer.new.out c.new-out.ensures c.in_ok-put_answer.ensures
+    in
+    omega (arith, c.if-len-gt-LIMIT.true, c.len.ensures, answer-sized c.args.wrapping c.args.mechanism (message_of c.args.answer) c.put_answer.new.out w)
 
 pub returns-clause-answer : goal.returns-clause-answer
 returns-clause-answer c =
