@@ -1001,8 +1001,9 @@ fevstunik_answer fevstunik_token_error(const fevstunik_wrapped *wrapped, const u
  * `is_error` says which; it is set on FEVSTUNIK_OK and FEVSTUNIK_SHORT_BUFFER. The call allocates no
  * memory.
  *
- * Answers FEVSTUNIK_OK or FEVSTUNIK_SHORT_BUFFER; or writes nothing and answers one of the codes
- * from FEVSTUNIK_NOT_A_TOKEN to FEVSTUNIK_NESTED_NEGOTIATION.
+ * Answers FEVSTUNIK_OK or FEVSTUNIK_SHORT_BUFFER; or writes nothing and answers
+ * FEVSTUNIK_NOT_A_TOKEN, _TOKEN_MALFORMED, _TOKEN_EMPTY or _TOKEN_ID, or one of the codes from
+ * FEVSTUNIK_OTHER_MECHANISM to FEVSTUNIK_NESTED_NEGOTIATION.
  *
  *     bool is_error;
  *     answer = fevstunik_token_answer(token, token_size, &is_error, reply, sizeof reply);

@@ -67,6 +67,19 @@ def with_lists():
     return request(ticket(part), auth)
 
 
+def with_start():
+    """A request whose ticket is valid from a minute after the client was authenticated on."""
+    fields = der.ticket_part()[4:].split(der.field(7, der.time("20231115081320Z")))
+    return request(ticket(der.element(0x63, der.element(0x30, der.field(6, der.time("20231114221420Z")).join((fields[0], b"")) + der.field(
+        7, der.time("20231115081320Z")) + fields[1]))))
+
+
+def at_the_end():
+    """A request of the last second of the year 9999."""
+    part = replaced(der.ticket_part(), b"20231115081320Z", b"99991231235959Z")
+    return request(ticket(part), replaced(der.authenticator(), b"20231114221500Z", b"99991231235959Z"))
+
+
 def refused():
     """Requests to the fixture's service, each with the name of its answer."""
     other_realm = b"\x1b\x02EX", b"\x1b\x02EY"

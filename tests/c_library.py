@@ -153,7 +153,8 @@ def from_c(room, answered):
     if built.returncode == 0:
         messages = [fixture("request"), fixture(KEYED), fixture("reply"), fixture("reply with a subkey and a number"),
                     fixture("error"), c_cases.two_credentials().hex(), c_cases.for_another_service().hex(), c_cases.with_lists().hex(),
-                    shared.request(number=-1).hex(), shared.reply(number=-2**31).hex()]
+                    shared.request(number=-1).hex(), shared.reply(number=-2**31).hex(), c_cases.with_start().hex(),
+                    c_cases.at_the_end().hex()]
         yield from counted("the C program", answered, program, *files, *messages)
     program, built = watched(room, "faults")
     yield "the program of faults is linked", wrong(built)

@@ -52,6 +52,52 @@ def answering(number, negotiated, kind, message):
     return element(0xA1, element(0x30, b"".join(element(outer, element(tag, content)) for outer, tag, content in fields)))
 
 
+def answered(text):
+    """Whether a service's answer is an error, and its message."""
+    if len(text) > gss_rules.LIMIT:
+        raise gss_rules.Fault("TooLong at 0")
+    if text[:1] not in (b"\x60", b"\xa1"):
+        raise gss_rules.Fault("no token of a mechanism")
+    token = gss_rules.Reader(text, 0, len(text))
+    if text[:1] == b"\xa1":
+        fields = token.last(0xA1).last(0x30)
+        fields.optional(0xA0, 0x0A)
+        oid = fields.enter(0xA1).last(0x06)
+        token = fields.optional(0xA2, 0x04)
+        fields.optional(0xA3, 0x04)
+        fields.finish()
+        gss_rules.name_of(oid)
+        if token is None:
+            raise gss_rules.Fault(f"no token of the mechanism at {oid.at}")
+    oid, inner = gss_rules.framed(token)
+    gss_rules.name_of(oid)
+    if inner.left()[:2] not in (b"\2\0", b"\3\0"):
+        raise gss_rules.Fault(f"another token identifier at {inner.at}")
+    return int(inner.left()[0] == 3), inner.left()[2:]
+
+
+def opening_answer(codes, token):
+    try:
+        is_error, message = answered(token)
+    except gss_rules.Fault as fault:
+        code, at = coded(codes, str(fault))
+        return f"answer {code} {at} 0 {digits(token)} -"
+    return f"answer 0 0 {is_error} {digits(token)} {digits(message)}"
+
+
+def drawn_answer(rng):
+    """A service's answer as some service may send it."""
+    name = rng.choice((KERBEROS, KERBEROS, MICROSOFT, gss_rules.NTLM))
+    message = rng.randbytes(rng.choice((0, 1, 5, 100, 130, 300)))
+    inner = gss_rules.kerberos(name, message, rng.choice((b"\2\0", b"\2\0", b"\3\0", b"\1\0", b"\2")))
+    if rng.random() < 0.3:
+        return inner
+    parts = [(0xA0, 0x0A, rng.choice((b"\0", b"\2", b"\1"))), (0xA1, 0x06, rng.choice((KERBEROS, KERBEROS, MICROSOFT, gss_rules.NTLM, gss_rules.IAKERB,
+             gss_rules.SPNEGO, b"\x2a"))), (0xA2, 0x04, inner), (0xA3, 0x04, b"mic")]
+    kept = [it for it, share in zip(parts, (0.8, 0.95, 0.9, 0.3)) if rng.random() < share]
+    return element(0xA1, element(0x30, b"".join(element(outer, element(tag, content)) for outer, tag, content in kept)))
+
+
 def asking(number, negotiated, message):
     inner = bare(number, b"\x01\x00", message)
     return gss_rules.negotiation([NAMES[negotiated]], inner) if negotiated else inner
@@ -96,5 +142,9 @@ def lines(codes):
         for _ in range(rng.choice((0, 0, 1, 1, 2))):
             token = gss_rules.bent(rng, token) or b"\0"
         yield opening(codes, token)
+        answer = drawn_answer(rng)
+        for _ in range(rng.choice((0, 0, 1, 1, 2))):
+            answer = gss_rules.bent(rng, answer) or b"\0"
+        yield opening_answer(codes, answer)
     yield from writing(codes)
     yield from contexts(codes)

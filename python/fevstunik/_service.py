@@ -167,7 +167,7 @@ class Accepted:
         >>> service = Acceptor(Keytab.read("examples/service.keytab"), "host/web@EX", started=None)
         >>> stamp = service.accept(request, now=1_700_000_100).stamp()
         >>> len(stamp.data), stamp.keep_until
-        (89, Moment(seconds=1700000700, micros=5))
+        (80, Moment(seconds=1700000700, micros=5))
         """
         until = _library.Time()
         with self._handle.used() as pointer:

@@ -96,6 +96,7 @@ static void is_no_keytab(const char *what, const uint8_t *file, size_t size, uns
     is("it stays", service.opaque == held, 1);
     is_answer(what, fevstunik_acceptor_started(&service, file, size, 86400, EACH_NAME, &sent), code, 0, at, 0);
     is("it stays then", service.opaque == held, 1);
+    is_answer(what, fevstunik_acceptor_replace_keytab(&service, file, size, EACH_NAME), code, 0, at, 0);
     fevstunik_acceptor_free(&service);
     is_answer(what, fevstunik_keytab_check(file, size), code, 0, at, 0);
     is_answer(what, fevstunik_keytab_entry(file, size, 0, &entry, buffer, sizeof buffer), code, 0, at, 0);
@@ -167,6 +168,7 @@ static void is_no_service(const char *what, const uint8_t *name, size_t size, un
     is("it stays", service.opaque == held, 1);
     is_answer(what, fevstunik_acceptor_started(&service, keytab.at, keytab.size, 86400, name, size, &sent), code, 0, at, 0);
     is("it stays then", service.opaque == held, 1);
+    is_answer(what, fevstunik_acceptor_replace_keytab(&service, keytab.at, keytab.size, name, size), code, 0, at, 0);
     is_answer("the skew first", fevstunik_acceptor_new(&service, keytab.at, keytab.size, 86401, name, size), FEVSTUNIK_BAD_SKEW, 0, 0, 0);
     is_answer("the keytab then", fevstunik_acceptor_new(&service, keytab.at, 1, 86400, name, size), FEVSTUNIK_FILE_VERSION, 0, 0, 0);
     fevstunik_acceptor_free(&service);

@@ -12,7 +12,7 @@
 #define FAR ((size_t)1 << 32)
 #define FILLED ((size_t)0x5a5a5a5a5a5a5a5a)
 
-static struct bytes keytab, cache, request, keyed, reply, keyed_reply, error, two, other, listed, negative, negative_reply;
+static struct bytes keytab, cache, request, keyed, reply, keyed_reply, error, two, other, listed, negative, negative_reply, with_start, at_the_end;
 static uint8_t buffer[4096];
 /* What is accepted is kept here, if not said otherwise; the fixture's cache; and what is awaited of its requests. */
 static fevstunik_accepted accepted = FEVSTUNIK_ACCEPTED_INIT;
@@ -1026,11 +1026,107 @@ static void no_bytes(void)
     is_answer("no room for it", fevstunik_checksum(19, key, 16, 2, NULL, 0, NULL, 0), FEVSTUNIK_SHORT_BUFFER, 0, 0, 16);
 }
 
+/* The code that a service answers to a request at a moment. */
+static unsigned accepted_by(fevstunik_acceptor *service, const struct bytes *sent, fevstunik_time at)
+{
+    return fevstunik_acceptor_accept(service, &accepted, sent->at, sent->size, &at).code;
+}
+
+static void is_stamp(const char *what, uint32_t skew, size_t room, unsigned code, size_t size)
+{
+    fevstunik_time until = {7, 7};
+
+    is_answer(what, fevstunik_accepted_stamp(&accepted, skew, &until, buffer, room), code, 0, 0, size);
+    is("it stays", until.seconds == 7 && until.micros == 7, size == 0);
+}
+
+/* What stands for a request in a store that services share: its names and its time, and until when it is kept. */
+static void stamps(void)
+{
+    static const char wanted[] = "00000000000000024558" "0000000000000002" "0000000000000004686f7374" "0000000000000003776562"
+                                 "00000000000000024558" "0000000000000001" "0000000000000005616c696365" "00060a241e142105";
+    fevstunik_acceptor service = FEVSTUNIK_ACCEPTOR_INIT;
+    fevstunik_accepted none = FEVSTUNIK_ACCEPTED_INIT;
+    fevstunik_time until = {7, 7};
+    struct bytes stamp;
+
+    from_hex(&stamp, wanted);
+    is_answer("stamp of none", fevstunik_accepted_stamp(&none, 300, &until, buffer, sizeof buffer), FEVSTUNIK_EMPTY_HANDLE, 0, 0, 0);
+    is_answer("ready", fevstunik_accepted_new(&accepted), FEVSTUNIK_OK, 0, 0, 0);
+    is_stamp("nothing yet", 300, sizeof buffer, FEVSTUNIK_NOTHING_THERE, 0);
+    is_answer("new", fevstunik_acceptor_new(&service, keytab.at, keytab.size, 300, EACH_NAME), FEVSTUNIK_OK, 0, 0, 0);
+    is("accept", accepted_by(&service, &request, moment(1700000100, 5)), FEVSTUNIK_OK);
+    is_stamp("skew", 86401, sizeof buffer, FEVSTUNIK_BAD_SKEW, 0);
+    is_stamp("short", 86400, 79, FEVSTUNIK_SHORT_BUFFER, 80);
+    is_answer("stamp", fevstunik_accepted_stamp(&accepted, 300, &until, buffer, 80), FEVSTUNIK_OK, 0, 0, 80);
+    is("its size", (long long)stamp.size, 80);
+    is_bytes("its bytes", buffer, stamp.at, stamp.size);
+    is("until", until.seconds, 1700000700);
+    is("until its microsecond", until.micros, 5);
+    is("accept at the end", accepted_by(&service, &at_the_end, moment(253402300799, 999999)), FEVSTUNIK_OK);
+    is_stamp("no moment", 300, sizeof buffer, FEVSTUNIK_BAD_MOMENT, 0);
+    is_stamp("the last moment", 0, 0, FEVSTUNIK_SHORT_BUFFER, 80);
+    fevstunik_acceptor_free(&service);
+}
+
+static void starts(void)
+{
+    fevstunik_acceptor service = FEVSTUNIK_ACCEPTOR_INIT;
+    fevstunik_accepted none = FEVSTUNIK_ACCEPTED_INIT;
+    fevstunik_time start = {7, 7};
+
+    is_answer("start of none", fevstunik_accepted_start(&none, &start), FEVSTUNIK_EMPTY_HANDLE, 0, 0, 0);
+    is_answer("ready", fevstunik_accepted_new(&accepted), FEVSTUNIK_OK, 0, 0, 0);
+    is_answer("nothing yet", fevstunik_accepted_start(&accepted, &start), FEVSTUNIK_NOTHING_THERE, 0, 0, 0);
+    is_answer("new", fevstunik_acceptor_new(&service, keytab.at, keytab.size, 300, EACH_NAME), FEVSTUNIK_OK, 0, 0, 0);
+    is("accept", accepted_by(&service, &request, moment(1700000100, 5)), FEVSTUNIK_OK);
+    is_answer("it doesn't say", fevstunik_accepted_start(&accepted, &start), FEVSTUNIK_NOTHING_THERE, 0, 0, 0);
+    is("it stays", start.seconds == 7 && start.micros == 7, 1);
+    is_answer("new", fevstunik_acceptor_new(&service, keytab.at, keytab.size, 300, EACH_NAME), FEVSTUNIK_OK, 0, 0, 0);
+    is("accept then", accepted_by(&service, &with_start, moment(1700000100, 5)), FEVSTUNIK_OK);
+    is_answer("it says so", fevstunik_accepted_start(&accepted, &start), FEVSTUNIK_OK, 0, 0, 0);
+    is("the second", start.seconds, 1700000060);
+    is("no microseconds", start.micros, 0);
+    fevstunik_acceptor_free(&service);
+}
+
+/* A living service gets another keytab, and keeps what it has seen. */
+static void new_keytabs(void)
+{
+    fevstunik_acceptor service = FEVSTUNIK_ACCEPTOR_INIT;
+    fevstunik_time latest;
+    void *held;
+
+    is_answer("none", fevstunik_acceptor_replace_keytab(&service, keytab.at, keytab.size, EACH_NAME), FEVSTUNIK_EMPTY_HANDLE, 0, 0, 0);
+    is("none then", service.opaque == NULL, 1);
+    is_answer("new", fevstunik_acceptor_new(&service, keytab.at, keytab.size, 300, WEB), FEVSTUNIK_OK, 0, 0, 0);
+    is("accept", accepted_by(&service, &request, moment(1700000101, 5)), FEVSTUNIK_OK);
+    held = service.opaque;
+    is_answer("no keytab", fevstunik_acceptor_replace_keytab(&service, keytab.at, keytab.size - 1, WEB), FEVSTUNIK_FILE_TRUNCATED, 0, 2, 0);
+    is_answer("no name", fevstunik_acceptor_replace_keytab(&service, keytab.at, keytab.size, (const uint8_t *)"host", 4), FEVSTUNIK_NO_REALM,
+              0, 0, 0);
+    is_answer("the keytab first", fevstunik_acceptor_replace_keytab(&service, keytab.at, 1, (const uint8_t *)"host", 4), FEVSTUNIK_FILE_VERSION,
+              0, 0, 0);
+    is("a repeat", accepted_by(&service, &request, moment(1700000101, 5)), FEVSTUNIK_REPEAT);
+    is_answer("no entries", fevstunik_acceptor_replace_keytab(&service, keytab.at, 2, WEB), FEVSTUNIK_OK, 0, 0, 0);
+    is("no key", accepted_by(&service, &request, moment(1700000101, 5)), FEVSTUNIK_NOT_US);
+    is_answer("the same", fevstunik_acceptor_replace_keytab(&service, keytab.at, keytab.size, WEB), FEVSTUNIK_OK, 0, 0, 0);
+    is("a repeat still", accepted_by(&service, &request, moment(1700000100, 5)), FEVSTUNIK_REPEAT);
+    is("remembered", (long long)fevstunik_acceptor_count(&service), 1);
+    is_answer("latest", fevstunik_acceptor_latest(&service, &latest), FEVSTUNIK_OK, 0, 0, 0);
+    is("the latest", latest.seconds, 1700000101);
+    is_answer("another name", fevstunik_acceptor_replace_keytab(&service, keytab.at, keytab.size, (const uint8_t *)"host/mail@EX", 12),
+              FEVSTUNIK_OK, 0, 0, 0);
+    is("not us", accepted_by(&service, &request, moment(1700000101, 5)), FEVSTUNIK_NOT_US);
+    is("one service", held != NULL && service.opaque != NULL, 1);
+    fevstunik_acceptor_free(&service);
+}
+
 int main(int count, char **words)
 {
     fevstunik_acceptor service = FEVSTUNIK_ACCEPTOR_INIT;
 
-    if (count != 13)
+    if (count != 15)
         return 2;
     from_file(&keytab, words[1]);
     from_file(&cache, words[2]);
@@ -1044,6 +1140,8 @@ int main(int count, char **words)
     from_hex(&listed, words[10]);
     from_hex(&negative, words[11]);
     from_hex(&negative_reply, words[12]);
+    from_hex(&with_start, words[13]);
+    from_hex(&at_the_end, words[14]);
     empty_handles();
     started_again();
     negative_number();
@@ -1065,6 +1163,9 @@ int main(int count, char **words)
     is_keyed();
     another_service();
     lists();
+    stamps();
+    starts();
+    new_keytabs();
     errors();
     names();
     files();

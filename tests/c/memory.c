@@ -67,6 +67,18 @@ static fevstunik_answer starting(void)
     return fevstunik_acceptor_started(&service, keytab.at, keytab.size, 300, WEB, &start);
 }
 
+static fevstunik_answer renewing(void)
+{
+    return fevstunik_acceptor_replace_keytab(&service, keytab.at, keytab.size, WEB);
+}
+
+static fevstunik_answer stamping(void)
+{
+    fevstunik_time until;
+
+    return fevstunik_accepted_stamp(&accepted, 300, &until, buffer, sizeof buffer);
+}
+
 static fevstunik_answer getting_ready(void)
 {
     return fevstunik_accepted_new(&accepted);
@@ -336,6 +348,8 @@ int main(int count, char **words)
     is_at("a ready place", 0, telling().code, FEVSTUNIK_NOTHING_THERE);
     is_at("new again", 0, making().code, FEVSTUNIK_OK);
     is_told("accept again", accepting);
+    is_told("stamp", stamping);
+    is_told("new keytab", renewing);
     is_told("reply", replying);
     is_at("a repeat", 0, accepting().code, FEVSTUNIK_REPEAT);
     is_told("error", refusing);

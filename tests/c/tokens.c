@@ -136,8 +136,31 @@ static void contexts(void)
     is_written(wanted, 0);
 }
 
+/* What is longer than a token may be. */
+static void too_long(void)
+{
+    static uint8_t message[1048577];
+    const fevstunik_wrapped wrapped = {FEVSTUNIK_MECHANISM_KERBEROS, FEVSTUNIK_MECHANISM_NONE};
+    fevstunik_wrapped found;
+    bool is_error;
+    size_t size = sizeof message;
+
+    message[0] = 0x60;
+    for (; size > 1048500; size -= 1048577 - 1048550) {
+        is_answer("long request", fevstunik_token_request(&wrapped, message, size, buffer, ROOM), FEVSTUNIK_TOO_LONG, 0, 0, 0);
+        is_answer("long reply", fevstunik_token_reply(&wrapped, message, size, buffer, ROOM), FEVSTUNIK_TOO_LONG, 0, 0, 0);
+        is_answer("long error", fevstunik_token_error(&wrapped, message, size, buffer, ROOM), FEVSTUNIK_TOO_LONG, 0, 0, 0);
+        if (size < 1048560)
+            break;
+    }
+    is("almost", fevstunik_token_request(&wrapped, message, 1048500, buffer, ROOM).code, FEVSTUNIK_SHORT_BUFFER);
+    is_answer("long token", fevstunik_token_open(message, sizeof message, &found, buffer, ROOM), FEVSTUNIK_TOKEN_MALFORMED, 0, 0, 0);
+    is_answer("long answer", fevstunik_token_answer(message, sizeof message, &is_error, buffer, ROOM), FEVSTUNIK_TOKEN_MALFORMED, 0, 0, 0);
+}
+
 int main(void)
 {
+    too_long();
     while (fgets(text, sizeof text, stdin) != NULL) {
         text[strcspn(text, "\n")] = 0;
         sscanf(text, "%s %s %s %s %s %s %s %s", word[0], word[1], word[2], word[3], word[4], word[5], word[6], word[7]);

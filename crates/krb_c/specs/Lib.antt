@@ -12,6 +12,7 @@ pub mod Listing
 pub mod Finishing
 pub mod Tokens
 pub mod Wrapping
+pub mod TokenAnswers
 pub mod Contexts
 pub mod Stamps
 pub mod Renewing

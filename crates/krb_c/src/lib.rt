@@ -55,6 +55,7 @@ mod renewing;
 mod sealing;
 mod slot;
 mod stamps;
+mod token_answers;
 mod tokens;
 mod version;
 mod wrapping;

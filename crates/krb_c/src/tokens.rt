@@ -57,7 +57,7 @@ fn number_of(mechanism: Mechanism) -> u32
     }
 }
 
-fn token_told(fault: TokenFault) -> Answer
+pub(crate) fn token_told(fault: TokenFault) -> Answer
     ensures { result ≡ token_answer fault }
 {
     match fault {
