@@ -147,6 +147,58 @@ def opened(text):
     return f"negotiated {listed} {name}", request
 
 
+def response_of(part):
+    fields = part.last(0xA1).last(0x30)
+    fields.optional(0xA0, 0x0A)
+    oid = fields.enter(0xA1).last(0x06)
+    token = fields.optional(0xA2, 0x04)
+    fields.optional(0xA3, 0x04)
+    fields.finish()
+    return oid, token
+
+
+def reply_of(oid, inner):
+    name, kinds = name_of(oid), {b"\x02\x00": "reply", b"\x03\x00": "error"}
+    if inner.left()[:2] not in kinds:
+        raise Fault(f"another token identifier at {inner.at}")
+    return f"{name} {kinds[inner.left()[:2]]} {inner.left()[2:].hex() or '-'}"
+
+
+def answered(text):
+    """What `answered` answers."""
+    try:
+        if len(text) > LIMIT:
+            raise Fault("TooLong at 0")
+        part = Reader(text, 0, len(text))
+        if text[:1] == b"\x60":
+            return f"bare {reply_of(*framed(part))}"
+        if text[:1] != b"\xa1":
+            raise Fault("no token of a mechanism")
+        oid, token = response_of(part)
+        listed = name_of(oid)
+        if token is None:
+            raise Fault(f"no token of the mechanism at {oid.at}")
+        return f"negotiated {listed} {reply_of(*framed(token))}"
+    except Fault as fault:
+        return f"refused {fault}"
+
+
+def straight_answer(rng):
+    """An answer as some service may send it."""
+    message = rng.randbytes(rng.choice((0, 1, 5, 100, 130, 300)))
+    token_id = rng.choice((b"\x02\x00",) * 4 + (b"\x03\x00",) * 4 + (b"\x01\x00", b"\x02\x01", b"\x03", b""))
+    inner = kerberos(rng.choice((KERBEROS, KERBEROS, MICROSOFT, NTLM, SPNEGO)), message, token_id)
+    if rng.random() < 0.3:
+        return inner
+    oid = rng.choice((KERBEROS, KERBEROS, MICROSOFT, MICROSOFT, NTLM, IAKERB))
+    fields = b""
+    for outer, tag, content in ((0xA0, 0x0A, rng.choice((b"\0", b"\1", b"\2", None, b"", b"\0\0"))), (0xA1, 0x06, rng.choice((oid,) * 9 + (None,))),
+                                (0xA2, 0x04, rng.choice((inner,) * 9 + (None,))), (0xA3, 0x04, rng.choice((None, None, b"mic")))):
+        if content is not None:
+            fields += element(outer, element(tag, content))
+    return element(0xA1, element(0x30, fields))
+
+
 def answer(text):
     try:
         front, request = opened(text)
@@ -289,9 +341,15 @@ def drawn():
         yield PROGRAM, f"gss: token {number}", [f"open {text.hex()}"], [answer(text)]
     for name, lines, answers in large():
         yield PROGRAM, f"gss: {name}", lines, answers
+    for number in range(CASES // 2):
+        text = straight_answer(rng)
+        for _ in range(rng.choice((0, 0, 1, 1, 2))):
+            text = bent(rng, text) or b"\0"
+        yield PROGRAM, f"gss: answer {number}", [f"answered {text.hex()}"], [answered(text)]
     for number in range(CASES // 10):
         line, token = wrapped(rng)
-        yield PROGRAM, f"gss: wrapped {number}", [line], [token.hex()]
+        back = answer(token) if line.startswith("request") else answered(token)
+        yield PROGRAM, f"gss: wrapped {number}", [line, f"{'open' if line.startswith('request') else 'answered'} {token.hex()}"], [token.hex(), back]
         both = list(checksums(rng))
         yield PROGRAM, f"gss: checksum {number}", [line for line, _ in both], [it for _, it in both]
     for name, line, answer_is in too_long():

@@ -12,6 +12,7 @@
 //!                  the first token of a client for this request: IN is `bare`, or the NAME in the list of a negotiation
 //! answer IN NAME (reply|error) BYTES
 //!                  the service's answer, likewise
+//! answered BYTES   what such an answer holds: `bare NAME` or `negotiated NAME NAME`, then `reply` or `error`, and the message
 //! checksum BYTES   an authenticator's checksum: `FLAGS BINDINGS DELEGATION EXTENSIONS` and the names of the flags that are set; the
 //!                  delegation is `none` if there is none
 //! encode FLAGS BINDINGS DELEGATION EXTENSIONS
@@ -26,8 +27,8 @@
 mod words;
 
 use krb_gss::{
-    Answer, Checksum, ContextFlag, ContextFlags, Mechanism, Opened, WrapFault, Wrapping,
-    open_token, wrap_answer, wrap_request,
+    Answer, Answered, Checksum, ContextFlag, ContextFlags, Mechanism, Opened, WrapFault, Wrapping,
+    open_answer, open_token, wrap_answer, wrap_request,
 };
 use std::alloc::Global;
 use std::fmt::Write;
@@ -64,6 +65,10 @@ fn answer(alloc: Global, line: &str, text: &mut String) -> Option<()> {
         Some(("oid", name)) => show_bytes(alloc, text, mechanism_of(name)?.oid()),
         Some(("request", words)) => request(alloc, words, text),
         Some(("answer", words)) => service_answer(alloc, words, text),
+        Some(("answered", word)) => {
+            let bytes = bytes_of(alloc, word)?;
+            answered(alloc, &bytes, text)
+        }
         Some(("checksum", word)) => checksum(alloc, word, text),
         Some(("encode", words)) => encode(alloc, words, text),
         Some(("bindings", words)) => bindings(alloc, words, text),
@@ -86,6 +91,26 @@ fn show_opened(alloc: Global, opened: Opened, text: &mut String) -> Option<()> {
         Wrapping::Negotiated(first) => write!(text, "negotiated {first:?} {name:?} ").ok()?,
     }
     show_bytes(alloc, text, opened.request)
+}
+
+fn answered(alloc: Global, bytes: &[u8], text: &mut String) -> Option<()> {
+    match open_answer(bytes) {
+        Ok(opened) => show_answered(alloc, opened, text),
+        Err(fault) => write!(text, "refused {fault}").ok(),
+    }
+}
+
+fn show_answered(alloc: Global, opened: Answered, text: &mut String) -> Option<()> {
+    let name = opened.mechanism;
+    match opened.wrapping {
+        Wrapping::Bare => write!(text, "bare {name:?} ").ok()?,
+        Wrapping::Negotiated(first) => write!(text, "negotiated {first:?} {name:?} ").ok()?,
+    }
+    match opened.answer {
+        Answer::Reply(_) => text.push_str("reply ").ok()?,
+        Answer::Error(_) => text.push_str("error ").ok()?,
+    }
+    show_bytes(alloc, text, opened.answer.bytes())
 }
 
 fn mechanism_of(name: &str) -> Option<Mechanism> {

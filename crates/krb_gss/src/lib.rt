@@ -13,16 +13,19 @@
 //! ```
 //!
 //! [`wrap_request`] writes such a token for a request, and [`wrap_answer`] writes the service's answer in the same wrapping.
+//! [`open_answer`] opens that answer on the client's side.
+//!
 //! [`Checksum`] is the checksum of type 0x8003 that a client of GSS-API puts into its authenticator (RFC 4121, section 4.1.1): its
 //! flags, its channel bindings and the credentials that it delegates. What is after these, the extensions, stays bytes.
 //!
 //! `specs::Token` says which bytes are a token, in places of the bytes: where an element stands, where its content does, and what
 //! is after it. `specs::Fault` says which rule other bytes break, and where. `specs::Mechanism` lists the names. `specs::Wrapping` and
-//! `specs::Answer` say which bytes are written, and how many. `specs::Checksum` says which bytes are a checksum. [`laws`] states that
+//! `specs::Answer` say which bytes are written, and how many. `specs::Answer` and `specs::Answered` say which bytes are an answer, and
+//! what is wrong with others. `specs::Checksum` says which bytes are a checksum. [`laws`] states that
 //! a checksum has one meaning and one spelling.
 //!
-//! Only what is written is allocated. DER is strict: lengths have their shortest form, and nothing follows the token. What the fields reqFlags
-//! and mechListMIC of a negotiation hold isn't looked at. No call runs longer than linear in its bytes.
+//! Only what is written is allocated. DER is strict: lengths have their shortest form, and nothing follows the token. What the fields reqFlags,
+//! negState and mechListMIC of a negotiation hold isn't looked at. No call runs longer than linear in its bytes.
 #![tactic(auto)]
 
 mod answered;
