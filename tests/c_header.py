@@ -28,7 +28,7 @@ def header_functions():
 
 
 def header_codes():
-    return {name: int(value) for name, value in re.findall(r"\bFEVSTUNIK_(?!LIST_)(\w+) = (\d+)", without_comments(HEADER.read_text()))}
+    return {name: int(value) for name, value in re.findall(r"\bFEVSTUNIK_(?!LIST_|MECHANISM_)(\w+) = (\d+)", without_comments(HEADER.read_text()))}
 
 
 def lists():
@@ -53,7 +53,7 @@ def documented():
     numbers = header_codes()
     found = {}
     for function, (kind, text) in comments().items():
-        named = set(re.findall(r"\b(?:FEVSTUNIK)?_([A-Z][A-Z0-9_]*)\b", re.sub(r"\bFEVSTUNIK_(\w+_INIT|LIST_\w+)\b", "", text)))
+        named = set(re.findall(r"\b(?:FEVSTUNIK)?_([A-Z][A-Z0-9_]*)\b", re.sub(r"\bFEVSTUNIK_(\w+_INIT|LIST_\w+|MECHANISM_\w+)\b", "", text)))
         for first, last in re.findall(r"from FEVSTUNIK_(\w+) to[\s*]+FEVSTUNIK_(\w+)", text):
             named |= {name for name, number in numbers.items() if numbers[first] <= number <= numbers[last]}
         if kind == "fevstunik_answer":
@@ -79,7 +79,7 @@ def differs(found, wanted):
 def names_and_texts():
     """fevstunik_code_name and fevstunik_code_text answer each code's name, and its comment without the code of RFC 4120."""
     found = {function: dict(re.findall(r'case FEVSTUNIK_(\w+): return "([^"]*)";', body)) for function, body in inline_functions().items()}
-    said = dict(re.findall(r"\bFEVSTUNIK_(?!LIST_)(\w+) = \d+,?\s*/\* (?:\d+: )?(.*?) \*/", HEADER.read_text()))
+    said = dict(re.findall(r"\bFEVSTUNIK_(?!LIST_|MECHANISM_)(\w+) = \d+,?\s*/\* (?:\d+: )?(.*?) \*/", HEADER.read_text()))
     wanted = {"fevstunik_code_name": {name: f"FEVSTUNIK_{name}" for name in header_codes()}, "fevstunik_code_text": said}
     return None if found == wanted and set(said) == set(header_codes()) else f"{found}, not {wanted}"
 
