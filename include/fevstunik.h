@@ -1002,8 +1002,8 @@ fevstunik_answer fevstunik_token_error(const fevstunik_wrapped *wrapped, const u
  * memory.
  *
  * Answers FEVSTUNIK_OK or FEVSTUNIK_SHORT_BUFFER; or writes nothing and answers
- * FEVSTUNIK_NOT_A_TOKEN, _TOKEN_MALFORMED, _TOKEN_EMPTY or _TOKEN_ID, or one of the codes from
- * FEVSTUNIK_OTHER_MECHANISM to FEVSTUNIK_NESTED_NEGOTIATION.
+ * FEVSTUNIK_NOT_A_TOKEN, _TOKEN_MALFORMED, _TOKEN_EMPTY or _TOKEN_ID, or one of the codes of other
+ * mechanisms from FEVSTUNIK_OTHER_MECHANISM to FEVSTUNIK_NESTED_NEGOTIATION.
  *
  *     bool is_error;
  *     answer = fevstunik_token_answer(token, token_size, &is_error, reply, sizeof reply);

@@ -284,7 +284,7 @@ def from_python(room):
         yield from example_in_python(path)
         yield from package_tests(room, path)
         yield from c_web.checks(room, path)
-        yield from c_shared.checks(room, path, ROOT / "examples/client.ccache", 1_700_000_100)
+        yield from c_shared.checks(room, path, room / "cache")
 
 
 def fuzzed(room, inputs):

@@ -48,8 +48,8 @@ class Store:
 
 
 class Instance:
-    def __init__(self, store, library, now):
-        self.words = [PYTHON, "-B", TOP / "examples/shared.py", TOP / "examples/service.keytab", "host/web@EX", "--redis", store.socket, "--at", now]
+    def __init__(self, store, library):
+        self.words = [PYTHON, "-B", TOP / "examples/shared.py", TOP / "examples/service.keytab", "host/web@EX", "--redis", store.socket]
         self.env = {**os.environ, "FEVSTUNIK_LIBRARY": str(library), "PYTHONPATH": str(TOP / "python")}
         self.start()
 
@@ -83,8 +83,9 @@ def accepted_in(answers):
     return Counter(sum(it[0] == "accepted" for it in each) for each in answers)
 
 
-def checks(folder, library, cache, now):
-    """`cache` has a ticket for host/web@EX that is valid at the second `now`."""
+def checks(folder, library, cache):
+    """`cache` has a ticket for host/web@EX that is valid now."""
+    now = int(time.time())
     where = {**os.environ, "FEVSTUNIK_LIBRARY": str(library), "PYTHONPATH": str(TOP / "python")}
     made = subprocess.run([PYTHON, "-B", "-c", MAKE, str(cache), str(3 * REQUESTS), str(now)], capture_output=True, text=True, env=where)
     requests = made.stdout.split()
@@ -96,7 +97,7 @@ def checks(folder, library, cache, now):
     except OSError as error:
         yield "a store", str(error)
         return
-    rng, instances = random.Random(now), [Instance(store, library, now) for _ in range(INSTANCES)]
+    rng, instances = random.Random(now), [Instance(store, library) for _ in range(INSTANCES)]
     try:
         yield from lives(rng, store, instances, requests)
     except (OSError, ValueError) as error:

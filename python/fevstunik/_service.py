@@ -69,6 +69,9 @@ class Stamp:
 
     data        service, client and client's time as one string of bytes: two requests have the same only if one repeats the other
     keep_until  until when the store must keep it, by its own clock: the client's time plus twice the skew
+
+    >>> Stamp(b"service, client and time", Moment(1_700_000_700)).keep_until.seconds
+    1700000700
     """
 
     data: bytes

@@ -116,6 +116,9 @@ class TokenAnswer:
 
     message   the reply, for `Pending.finish`; or the KRB-ERROR
     is_error  whether it is a KRB-ERROR
+
+    >>> TokenAnswer(b"a reply", is_error=False).message
+    b'a reply'
     """
 
     message: bytes
@@ -155,7 +158,14 @@ class Context:
 
     @classmethod
     def read(cls, checksum: Bytes) -> Context:
-        """Read the bytes of a checksum of type 0x8003. Other bytes raise Fault."""
+        """Read the bytes of a checksum of type 0x8003. Other bytes raise Fault.
+
+        >>> from fevstunik import Context
+        >>> Context.read(bytes([16]) + bytes(22))
+        Traceback (most recent call last):
+            ...
+        fevstunik.Fault: CONTEXT_TRUNCATED: the checksum of type 0x8003 is cut off
+        """
         checksum = octets(checksum)
         found, data = read(_library.Context, lambda *into: library().call("context_read", checksum, len(checksum), *into))
         delegation = found.delegation.of(data) if found.has_delegation else None

@@ -143,17 +143,15 @@ static void too_long(void)
     const fevstunik_wrapped wrapped = {FEVSTUNIK_MECHANISM_KERBEROS, FEVSTUNIK_MECHANISM_NONE};
     fevstunik_wrapped found;
     bool is_error;
-    size_t size = sizeof message;
+    const size_t sizes[] = {1048559, 1048576, 1048577};
 
     message[0] = 0x60;
-    for (; size > 1048500; size -= 1048577 - 1048550) {
-        is_answer("long request", fevstunik_token_request(&wrapped, message, size, buffer, ROOM), FEVSTUNIK_TOO_LONG, 0, 0, 0);
-        is_answer("long reply", fevstunik_token_reply(&wrapped, message, size, buffer, ROOM), FEVSTUNIK_TOO_LONG, 0, 0, 0);
-        is_answer("long error", fevstunik_token_error(&wrapped, message, size, buffer, ROOM), FEVSTUNIK_TOO_LONG, 0, 0, 0);
-        if (size < 1048560)
-            break;
+    for (int i = 0; i < 3; i++) {
+        is_answer("long request", fevstunik_token_request(&wrapped, message, sizes[i], buffer, ROOM), FEVSTUNIK_TOO_LONG, 0, 0, 0);
+        is_answer("long reply", fevstunik_token_reply(&wrapped, message, sizes[i], buffer, ROOM), FEVSTUNIK_TOO_LONG, 0, 0, 0);
+        is_answer("long error", fevstunik_token_error(&wrapped, message, sizes[i], buffer, ROOM), FEVSTUNIK_TOO_LONG, 0, 0, 0);
     }
-    is("almost", fevstunik_token_request(&wrapped, message, 1048500, buffer, ROOM).code, FEVSTUNIK_SHORT_BUFFER);
+    is_answer("almost", fevstunik_token_request(&wrapped, message, 1048558, buffer, ROOM), FEVSTUNIK_SHORT_BUFFER, 0, 0, 1048576);
     is_answer("long token", fevstunik_token_open(message, sizeof message, &found, buffer, ROOM), FEVSTUNIK_TOKEN_MALFORMED, 0, 0, 0);
     is_answer("long answer", fevstunik_token_answer(message, sizeof message, &is_error, buffer, ROOM), FEVSTUNIK_TOKEN_MALFORMED, 0, 0, 0);
 }
