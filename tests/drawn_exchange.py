@@ -57,7 +57,7 @@ def accepted(request, part, shown):
     """What is answered to an accepted request, of its fields, its ticket's and its authenticator's."""
     return " ".join([
         "accepted", name_word(part[3][0], part[2], part[3][1]), name_word(request[3][2][0], request[3][1], request[3][2][1]), pair(part[1]),
-        str(part[0]), str(part[5]), str(part[7]), elements(part.get(9)), elements(part.get(10)), str(shown[5]), str(shown[4]),
+        str(part[0]), str(part[5]), or_none(part.get(6)), str(part[7]), elements(part.get(9)), elements(part.get(10)), str(shown[5]), str(shown[4]),
         pair(shown.get(6)), or_none(shown.get(7)), pair(shown.get(3)), elements(shown.get(8)),
         "mutual" if model.bit(request[2], model.MUTUAL) else "plain",
     ])
@@ -67,15 +67,20 @@ class Told:
     """A second service, and what it says."""
 
     def __init__(self, seals, file, skew, started=None):
-        self.service, self.taken = model.Service(seals, file, skew, started), None
+        self.service, self.asked, self.taken = model.Service(seals, file, skew, started), None, None
 
     def answer(self, data, now):
         try:
-            request, *self.taken = self.service.accept(data, now)
+            self.asked, *self.taken = self.service.accept(data, now)
         except model.Refused as refusal:
             cause = str(refusal)
             return f"refused {cause} {fault_of(msg_rules.AP_REQ, data)}" if cause == "Malformed" else f"refused {cause}"
-        return accepted(request, *self.taken)
+        return accepted(self.asked, *self.taken)
+
+    def stamp(self):
+        """Of what was accepted last."""
+        ticket, (part, shown) = self.asked[3], self.taken
+        return word_of(exchange_made.stamp_bytes((ticket[1], ticket[2][1]), (part[2], part[3][1]), shown[5], shown[4]))
 
     def held(self, memory):
         service = self.service
@@ -126,10 +131,18 @@ def conversation(draw):
         answers.append(said[0] if len(calls) == 1 else " | ".join([str(len(calls)), *said]))
         lines.append("held")
         answers.append([told.held(it) for it in MEMORIES])
+        if told.taken:
+            lines.append("stamp")
+            answers.append(told.stamp())
         if told.taken and draw.random() < 0.5:
             confounder, choice = draw.randbytes(16), some_choice(draw)
             lines.append(f"reply {confounder.hex()} {choice_words(choice)}")
             answers.append(word_of(reply_of(seals, *told.taken, confounder, choice)))
+        if draw.random() < 0.05:
+            file = exchange.keytab(draw)
+            told.service.replace_keytab(file)
+            lines.append(f"keytab {word_of(file)}")
+            answers.append("keytab")
     return lines, answers
 
 

@@ -8,6 +8,7 @@ The cases of the program krb_calls_exchange (tests/library.py) name them in brac
     {cache [CREDENTIAL ..]}          alice@EX's cache with the credentials of these names (CREDENTIALS)
     {cache-of ..}                    the cache of the ticket's client, with the one ticket of what differs; of Made, and `realm` its realm
     {accepted ..}                    what a service answers to the request
+    {stamp ..}                       the bytes of what it remembers of the request
     {reply ..}                       of what differs from the fixture's reply: the fields of Replied
     {error CODE}                     the fixture's error with this code
     {cut LENGTH WHAT ..}             the first bytes of this
@@ -245,10 +246,27 @@ def accepted(made):
     is_mutual = made.options >> 31 - model.MUTUAL & 1
     return " ".join([
         "accepted", name_word(1, *parts_of(made.ticket_client)), name_word(3, *parts_of(made.service)),
-        f"{made.session_etype}/{session_key(made.session_etype).hex()}", str(made.flags), str(AUTHTIME), str(ENDTIME), items_word(addresses),
-        items_word(ticket_data), str(made.seconds), str(made.micros), or_none(made.subkey), or_none(made.number),
+        f"{made.session_etype}/{session_key(made.session_etype).hex()}", str(made.flags), str(AUTHTIME), or_none(made.starttime),
+        str(ENDTIME), items_word(addresses), items_word(ticket_data), str(made.seconds), str(made.micros), or_none(made.subkey), or_none(made.number),
         f"{CHECKSUM[0]}/{CHECKSUM[1].hex()}" if made.full else "none", items_word(data), "mutual" if is_mutual else "plain",
     ])
+
+
+def counted(text):
+    return struct.pack(">Q", len(text)) + text
+
+
+def name_bytes(realm, components):
+    return counted(realm) + struct.pack(">Q", len(components)) + b"".join(map(counted, components))
+
+
+def stamp_bytes(service, client, seconds, micros):
+    """What a service remembers of a request, as the bytes that a shared store may keep; of names in their parts."""
+    return name_bytes(*service) + name_bytes(*client) + struct.pack(">q", 1_000_000 * seconds + micros)
+
+
+def stamp(made):
+    return stamp_bytes(parts_of(made.service), parts_of(made.ticket_client), made.seconds, made.micros)
 
 
 def reply_part(replied):
@@ -349,6 +367,7 @@ def made_of(words):
         "cache-of": lambda it: cache_of(of_words(Made, it)),
         "reply": lambda it: reply(of_words(Replied, it)),
         "error": lambda it: der.error(int(it[0])),
+        "stamp": lambda it: stamp(of_words(Made, it)),
     }[what](words)
 
 

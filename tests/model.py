@@ -117,6 +117,10 @@ class Service:
         self.quiet_until = None if started is None else 1_000_000 * started + self.skew
         self.latest, self.shown = None, set()
 
+    def replace_keytab(self, keytab):
+        """It decides by this keytab from now on, and keeps all else."""
+        self.entries = reference.keytab(keytab)
+
     def opened(self, data):
         """The request, its ticket's part and its authenticator."""
         if data and data[0] != 0x6E:

@@ -11,9 +11,11 @@
 //! service list|timed SKEW BYTES [TIME]  a service over this keytab, with a new memory, which was started again at that time: `service`,
 //!                                       the keytab's fault, or `none` where there is no such skew
 //! accept TIME MESSAGE                   what it answers to a request: `refused CAUSE [FAULT]`, or `accepted CLIENT SERVICE KEY FLAGS
-//!                                       AUTHTIME ENDTIME ADDRESSES AUTHORIZATION CTIME CUSEC SUBKEY NUMBER CHECKSUM AUTHORIZATION
+//!                                       AUTHTIME STARTTIME|none ENDTIME ADDRESSES AUTHORIZATION CTIME CUSEC SUBKEY NUMBER CHECKSUM AUTHORIZATION
 //!                                       mutual|plain`, first of the ticket's data, then of the authenticator's
 //! serve [TIME MESSAGE ..]               the same of a list of calls, with `|` between
+//! keytab BYTES                          the service gets this keytab: `keytab`, or the keytab's fault, and then it keeps the one it has
+//! stamp                                 the bytes of the tuple of the request that was accepted last
 //! held                                  how many tuples its memory has, and the latest moment
 //! reply BYTES KEY|none NUMBER|none      the reply to the request that was accepted last, with this confounder
 //! error CAUSE TIME NAME                 the error that tells of a refusal, or why there is none
@@ -26,6 +28,8 @@
 //! advance TIME SKEW, len, latest
 //! tuple time NAME NAME TIME             the tuple's time
 //! tuple compare NAME NAME TIME NAME NAME TIME
+//! tuple bytes NAME NAME TIME            the tuple's bytes
+//! tuple until NAME NAME TIME SKEW       until when a shared store keeps the tuple, or `none`
 //! skew SECONDS                          its microseconds, or `none`
 //! cause CAUSE                           place, code and name of a cause, and its text
 //! fault request|finish|reply FAULT      the text of a fault
@@ -114,7 +118,7 @@ fn answered(kept: &mut Kept, words: &mut Words, out: &mut Answer) -> Option<()> 
 
 fn call(kept: &mut Kept, first: &str, words: &mut Words, out: &mut Answer) -> Option<()> {
     match first {
-        "service" | "accept" | "serve" | "held" | "reply" => {
+        "service" | "accept" | "serve" | "keytab" | "stamp" | "held" | "reply" => {
             services::answer(&mut kept.served, &mut kept.messages, first, words, out)
         }
         "cache" | "request" | "finish" => {
@@ -133,7 +137,11 @@ fn laws(out: &mut Answer) -> Option<()> {
     krb_ap::laws::built_or_prevented();
     krb_ap::laws::agreed_or_refused();
     krb_ap::laws::no_stamp_twice();
+    krb_ap::laws::no_stamp_twice_in_a_life();
+    krb_ap::laws::accepted_has_its_stamp();
+    krb_ap::laws::a_store_lets_in_once();
     krb_ap::laws::both_agree();
     krb_replay::laws::a_set_has_one_size();
+    krb_replay::laws::bytes_are_the_stamps();
     out.word("laws")
 }

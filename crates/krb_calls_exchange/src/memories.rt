@@ -102,6 +102,11 @@ fn of_tuple(words: &mut Words, out: &mut Answer) -> Option<()> {
             out.named(one.partial_cmp(&other))?;
             out.truth(one == other)
         }
+        "bytes" => out.bytes(&tuple(words)?.to_bytes(words.alloc).ok()?),
+        "until" => {
+            let tuple = tuple(words)?;
+            show_latest(tuple.keep_until(Skew::new(words.number()?)?), out)
+        }
         _ => None,
     }
 }

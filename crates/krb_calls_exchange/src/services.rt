@@ -6,7 +6,7 @@ use crate::names::{key_or_none, show_key, show_list, show_name, show_raw_key, sh
 use crate::words::{Answer, Words};
 use krb_ap::{Accepted, Acceptor, Call, Outcome, Refusal, ReplyOptions};
 use krb_keytab::Keytab;
-use krb_msg::Moment;
+use krb_msg::{Moment, Seconds};
 use krb_replay::{ListMemory, ReplayMemory, Skew, TimedMemory};
 use std::alloc::{AllocError, Global};
 
@@ -45,6 +45,8 @@ pub(crate) fn answer(
         "service" => start(served, words, out),
         "accept" => accept(served, messages, words, out),
         "serve" => serve(served, messages, words, out),
+        "keytab" => renew(served.service.as_mut()?, words, out),
+        "stamp" => stamp(served.accepted.as_ref()?, words, out),
         "held" => held(served.service.as_ref()?, out),
         "reply" => reply(served.accepted.as_ref()?, messages, words, out),
         _ => None,
@@ -167,6 +169,7 @@ fn show_of_ticket(accepted: &Accepted, out: &mut Answer) -> Option<()> {
     show_key(&accepted.session_key, out)?;
     out.shown(accepted.flags.bits())?;
     out.shown(accepted.authtime.get())?;
+    out.shown_or_none(accepted.starttime.map(Seconds::get))?;
     out.shown(accepted.endtime.get())?;
     show_list(&accepted.addresses, out)?;
     show_list(&accepted.ticket_authorization, out)
@@ -244,6 +247,25 @@ fn keep_all(kept: &mut Option<Accepted>, outcomes: Vec<Outcome>, out: &mut Answe
         keep(kept, outcome, out)?;
     }
     Some(())
+}
+
+fn renew(service: &mut Service, words: &mut Words, out: &mut Answer) -> Option<()> {
+    let file = words.bytes()?;
+    match Keytab::parse(words.alloc, &file) {
+        Ok(keytab) => {
+            let _old = match service {
+                Service::List(acceptor) => acceptor.replace_keytab(keytab),
+                Service::Timed(acceptor) => acceptor.replace_keytab(keytab),
+            };
+            out.word("keytab")
+        }
+        Err(fault) => out.named(fault),
+    }
+}
+
+fn stamp(accepted: &Accepted, words: &Words, out: &mut Answer) -> Option<()> {
+    let tuple = accepted.tuple(words.alloc).ok()?;
+    out.bytes(&tuple.to_bytes(words.alloc).ok()?)
 }
 
 fn held(service: &Service, out: &mut Answer) -> Option<()> {
