@@ -594,8 +594,9 @@ fevstunik_answer fevstunik_name_check(const uint8_t *name, size_t name_size);
  * it. If two served names have the same key, a recorded request is accepted once more under the
  * other name.
  *
- * Use this function only for a service that never ran before. After a restart use
- * fevstunik_acceptor_started: a service that forgot its requests may accept one of them again.
+ * Use this function only for a service that never ran before, or whose instances share a store of
+ * stamps (fevstunik_accepted_stamp). After a restart use fevstunik_acceptor_started: a service that
+ * forgot its requests may accept one of them again.
  *
  * Answers FEVSTUNIK_OK; or leaves the handle unchanged and answers the first that applies:
  * FEVSTUNIK_BAD_SKEW; FEVSTUNIK_TOO_LONG, _FILE_VERSION, _FILE_TRUNCATED or _FILE_BAD_ITEM for the
@@ -699,8 +700,8 @@ fevstunik_answer fevstunik_acceptor_accept(fevstunik_acceptor *handle, fevstunik
 fevstunik_answer fevstunik_accepted_known(const fevstunik_accepted *accepted, fevstunik_known *known, uint8_t *buffer, size_t buffer_size);
 
 /* Writes the stamp of the accepted request to the buffer: the service, the client and the client's
- * time as one string of bytes. Two requests have the same stamp only if one repeats the other. Use it
- * if several instances of a service share a store: let the client in only if the store hadn't got
+ * time as one string of bytes. A repeat has the stamp of the request that it repeats, and no other
+ * request has it. Use it if several instances of a service share a store: let the client in only if the store hadn't got
  * the stamp, and have the store keep it until `keep_until`, which is the client's time plus twice
  * `skew`, in seconds. `keep_until` is written even if the buffer is too short.
  *
@@ -951,8 +952,8 @@ fevstunik_answer fevstunik_checksum_check(int32_t key_type, const uint8_t *key, 
 
 /* Opens the first token of a client, and returns the request. The token is one of Kerberos alone
  * (RFC 4121, section 4.1), or a negotiation (SPNEGO; RFC 4178, section 4.2.1) whose first mechanism
- * is Kerberos. `wrapped` is filled on FEVSTUNIK_OK and FEVSTUNIK_SHORT_BUFFER: its answer is wrapped
- * in the same. The call allocates no memory.
+ * is Kerberos. `wrapped` is filled on FEVSTUNIK_OK and FEVSTUNIK_SHORT_BUFFER: pass it to the call
+ * that wraps the answer. The call allocates no memory.
  *
  * Answers FEVSTUNIK_OK or FEVSTUNIK_SHORT_BUFFER; or writes nothing and answers one of the codes
  * from FEVSTUNIK_NOT_A_TOKEN to FEVSTUNIK_NESTED_NEGOTIATION.

@@ -67,7 +67,7 @@ class _List(enum.IntEnum):
 class Stamp:
     """What stands for an accepted request in a store that several instances of a service share.
 
-    data        service, client and client's time as one string of bytes: two requests have the same only if one repeats the other
+    data        service, client and client's time as bytes: a repeat has those of the request that it repeats, no other has them
     keep_until  until when the store must keep it, by its own clock: the client's time plus twice the skew
 
     >>> Stamp(b"service, client and time", Moment(1_700_000_700)).keep_until.seconds
