@@ -1,7 +1,7 @@
 """Runs calls of the library that the command doesn't make, by the program of the crate krb_calls, built as crates/krb_calls/out/krb_calls.
 
 Each call is made twice in a run, and of each run one call for memory is refused, or one and all after it, until a run meets none
-(tests/refuse.c). The answer is then want of memory and no other, what there was before is as it was, and what follows is answered as if
+(tests/refuse.c). The answer is then out of memory and no other, what there was before is as it was, and what follows is answered as if
 the refused call had never been made. And sweeps over sizes, in which nothing is refused and each trial gives what it should.
 
 Each check is a pair: its name, and what is wrong, or None.

@@ -319,7 +319,7 @@ SIZES = [0, 1, 127, 128, 255, 256, 65_535, 65_536, 100_000, 500_000, 1_000_000, 
 
 
 def sizes():
-    """Texts of any length are written and read: none is refused for lack of memory, which no contract can say."""
+    """Texts of any length are written and read: none is refused because memory runs out, which no contract can say."""
     for size in SIZES:
         content = b"\x07" * size
         word = packed(content)

@@ -13,7 +13,7 @@ of RFC 4120 (sections 5.2, 5.3, 5.5.1, 5.5.2 and 5.9.1), written out from that d
 * Messages whose sequence numbers stand as negative numbers are read, and written again without them; beyond either end of the range
   they are refused.
 * Messages with many components and elements, and with a part of many bytes, are written, read, copied and written again: none is refused
-  for lack of memory, which no contract can say. Those at the limit are written, those above it refused.
+  because memory runs out, which no contract can say. Those at the limit are written, those above it refused.
 
 The second, the third and the sixth are worked out here too, and this script fails where they do not hold.
 """

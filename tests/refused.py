@@ -2,7 +2,7 @@
 
 Of each command every call is refused in turn, alone and with all that come after it, until a run meets no refusal. Such a run ends by
 itself, says that there was no memory, and writes nothing that is wrong. (Only std's `collect` passes over a refusal: where room for
-all words at once is refused, it asks again as it goes.) Where accept answers a line for want of memory, its later answers are those
+all words at once is refused, it asks again as it goes.) Where accept answers a line with out of memory, its later answers are those
 of a service that never got that line; and where it has no room for a reply or an error, the answer ends without it.
 
 Each check is a pair: its name, and what is wrong, or None.

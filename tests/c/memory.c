@@ -269,7 +269,7 @@ static void is_told(const char *what, fevstunik_answer (*call)(void))
     is_at(what, at, answer.code, FEVSTUNIK_OK);
 }
 
-/* No error tells of want of memory. */
+/* No error tells of out of memory. */
 static void without_a_code(void)
 {
     is_at("new", 0, making().code, FEVSTUNIK_OK);

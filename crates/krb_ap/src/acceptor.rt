@@ -159,14 +159,14 @@ impl<M: ReplayMemory> Acceptor<M> {
         // The service is the one that the ticket is for, whatever the memory stands for.
         ensures service { IfOk result (λ accepted. AsksFor bytes.now accepted.service) }
 
-        // Each answer but want of memory, refusals too, moves the latest moment to the one that counts; time doesn't go back.
+        // Each answer but out of memory, refusals too, moves the latest moment to the one that counts; time doesn't go back.
         ensures moves { (IsErrOf result OutOfMemory → ⊥)
             → M.newest self.new.memory ≡ Some (later_of (M.newest self.old.memory) now) }
 
         // The offset in a refusal is that of one of the bytes, or their end.
         ensures offset { IfErr result (λ refusal. IfSome (offset_of refusal) (λ at. at ≤ length bytes.now)) }
 
-        // Want of memory is answered for requests of the ordinary kind alone, and changes nothing.
+        // Out of memory is answered for requests of the ordinary kind alone, and changes nothing.
         ensures memory { IsErrOf result OutOfMemory → (request : ValueOf ap_req) × Asks bytes.now request }
         ensures unchanged { IsErrOf result OutOfMemory → SameStamps (M.has self.old.memory) (M.has self.new.memory)
             × (M.newest self.new.memory ≡ M.newest self.old.memory) }

@@ -30,7 +30,7 @@ cache_fault (Cache cache.OutOfMemory) = None
 cache_fault (Cache fault) = Some fault
 cache_fault _ = None
 
--- why no request is built, other than for want of memory
+-- why no request is built, other than out of memory
 abbrev pub request_fault : EngineFault → Option RequestFault
 request_fault (Request request.OutOfMemory) = None
 request_fault (Request fault) = Some fault
@@ -41,13 +41,13 @@ abbrev pub pick_fault : EngineFault → Option PickFault
 pick_fault (Pick fault) = Some fault
 pick_fault _ = None
 
--- why a reply is refused, other than for want of memory
+-- why a reply is refused, other than out of memory
 abbrev pub finish_fault : EngineFault → Option FinishFault
 finish_fault (Finish finish.OutOfMemory) = None
 finish_fault (Finish fault) = Some fault
 finish_fault _ = None
 
--- the faults that an engine over a keytab answers: its own, a failed sink, and want of memory
+-- the faults that an engine over a keytab answers: its own, a failed sink, and out of memory
 abbrev pub IsOfKeytab : EngineFault → Type 0
 IsOfKeytab (Keytab fault) = Unit {0}
 IsOfKeytab Write = Unit {0}

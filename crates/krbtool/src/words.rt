@@ -183,7 +183,7 @@ fn matches_of<'a>(alloc: Global, words: &'a [&'a str]) -> Result<ArgMatches<'a>,
 /// Answers what the words of a command line ask for; the first is the program's name.
 ///
 /// # Errors
-/// `clap`'s own: a fault of the words, help where it was asked for, or want of memory.
+/// `clap`'s own: a fault of the words, help where it was asked for, or out of memory.
 pub fn read_words<'a>(alloc: Global, words: &'a [&'a str]) -> Result<Order<'a>, Error>
     ensures order { IfOk result (λ order. IsOrder order (subcommand_of krbtool (map (λ w. w.now) words.entry.now))) }
 {
