@@ -120,7 +120,7 @@ def large_ticket():
 
 
 def cache_with(credentials):
-    """A cache of so many credentials, of which the last is for the fixture's service, with a large ticket."""
+    """A cache of so many credentials. The last is for the fixture's service, with a large ticket."""
     client, server = client_and_server()
     times = (1_700_000_000, 0, 1_700_036_000, 0)
     others = [

@@ -65,7 +65,7 @@ def keytab_checks(program, folder):
 
 
 def listed_caches(path):
-    """What klist tells of a cache: its principal, and the times and the service of each ticket."""
+    """What klist prints of a cache: its principal, and the times and the service of each ticket."""
     return ran(["klist", "-e", "-f", "-c", f"FILE:{path}"], env={**os.environ, "TZ": "UTC"}).splitlines()[1:]
 
 

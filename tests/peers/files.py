@@ -99,7 +99,7 @@ def old_cache(cases, peers, ticket):
 
 
 def converted(lines):
-    """What Heimdal's klist tells of a cache, as of the newer version."""
+    """What Heimdal's klist prints of a cache, as of the newer version."""
     return [line.replace("Cache version: 3", "Cache version: 4") for line in lines]
 
 

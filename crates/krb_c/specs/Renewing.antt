@@ -18,8 +18,8 @@ renewed login entries = record {
   refusal = login.refusal;
 }
 
--- the bytes are a keytab, of which a service of this name (all, if the text is empty) has these
--- entries
+-- The bytes are a keytab, and these are its entries of the service of this name (all, if the text
+-- is empty).
 pub record IsServed (text bytes : List ℕ) (kept : List KeytabEntry) : Type 0 where
   pub entries : List KeytabEntry
   pub keytab : IsKeytab bytes entries

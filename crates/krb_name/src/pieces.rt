@@ -10,7 +10,7 @@ use crate::sink::{Sink, SinkFailed};
 use crate::source::{Source, SourceFailed};
 use std::marker::Model;
 
-/// A source over a slice that gives a few bytes in each read, and fails once if it is told to.
+/// A source over a slice that gives a few bytes in each read, and fails once if it is asked to.
 #[derive(Drop)]
 pub struct PieceSource<'a> {
     rest: &'a [u8],
@@ -90,7 +90,7 @@ impl Source for PieceSource<'_> {
     }
 }
 
-/// A sink over a slice that takes a few bytes in each write. It fails once if it is told to, and at
+/// A sink over a slice that takes a few bytes in each write. It fails once if it is asked to, and at
 /// each write for which the slice has no room.
 #[derive(Drop)]
 pub struct PieceSink<'a> {
