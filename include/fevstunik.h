@@ -39,7 +39,8 @@
  * A function that returns bytes writes them to the start of the caller's buffer, and leaves the
  * rest of the buffer unchanged. If the buffer is too short, the code is FEVSTUNIK_SHORT_BUFFER,
  * `size` is the number of bytes needed, and the buffer is unchanged: make the call again with a
- * longer one. To learn the size first, make a call that takes no handle with a short buffer.
+ * longer one. A buffer of size 0 asks for the number alone. fevstunik_request keeps in its handle
+ * what it made even then.
  */
 #ifndef FEVSTUNIK_H
 #define FEVSTUNIK_H
@@ -450,6 +451,11 @@ typedef struct fevstunik_accepted {
     void *opaque;
 } fevstunik_accepted;
 
+/* A keytab that was read: opaque, and all zero before its first use. */
+typedef struct fevstunik_keytab {
+    void *opaque;
+} fevstunik_keytab;
+
 /* A credential cache that was read: opaque, and all zero before its first use. */
 typedef struct fevstunik_cache {
     void *opaque;
@@ -463,6 +469,7 @@ typedef struct fevstunik_pending {
 /* The values that initialize handles as empty. */
 #define FEVSTUNIK_ACCEPTOR_INIT {NULL}
 #define FEVSTUNIK_ACCEPTED_INIT {NULL}
+#define FEVSTUNIK_KEYTAB_INIT {NULL}
 #define FEVSTUNIK_CACHE_INIT {NULL}
 #define FEVSTUNIK_PENDING_INIT {NULL}
 
@@ -488,43 +495,80 @@ fevstunik_answer fevstunik_keytab_check(const uint8_t *keytab, size_t keytab_siz
  */
 fevstunik_answer fevstunik_cache_check(const uint8_t *cache, size_t cache_size);
 
+/* Reads a keytab (the bytes of a file of version 0x0502), and keeps it in the handle, so that its
+ * entries can be read one by one. What the handle held is freed. The file's bytes aren't needed
+ * afterwards. `size` is the number of its entries.
+ *
+ * Answers FEVSTUNIK_OK; or leaves the handle unchanged and answers FEVSTUNIK_TOO_LONG,
+ * _FILE_VERSION, _FILE_TRUNCATED, _FILE_BAD_ITEM or FEVSTUNIK_OUT_OF_MEMORY.
+ *
+ *     fevstunik_keytab keytab = FEVSTUNIK_KEYTAB_INIT;
+ *     answer = fevstunik_keytab_new(&keytab, file, file_size);
+ */
+fevstunik_answer fevstunik_keytab_new(fevstunik_keytab *keytab, const uint8_t *file, size_t file_size);
+
 /* Reads one entry of a keytab; `index` counts from 0. Writes the text of the entry's name and then
  * its key to the buffer, and their places and the numbers to `entry`. `entry` is written even if
- * the buffer is too short. Each call reads the whole file.
+ * the buffer is too short. The handle is unchanged.
  *
- * Answers FEVSTUNIK_OK or FEVSTUNIK_SHORT_BUFFER; or writes nothing and answers FEVSTUNIK_TOO_LONG,
- * _FILE_VERSION, _FILE_TRUNCATED, _FILE_BAD_ITEM, FEVSTUNIK_NO_SUCH_ENTRY or
- * FEVSTUNIK_OUT_OF_MEMORY.
+ * Answers FEVSTUNIK_OK or FEVSTUNIK_SHORT_BUFFER; or writes nothing and answers
+ * FEVSTUNIK_EMPTY_HANDLE, FEVSTUNIK_NO_SUCH_ENTRY or FEVSTUNIK_OUT_OF_MEMORY.
  *
- *     for (index = 0; fevstunik_keytab_entry(file, file_size, index, &entry, buffer, sizeof buffer).code == FEVSTUNIK_OK; index++) ...
+ *     for (index = 0; fevstunik_keytab_entry(&keytab, index, &entry, buffer, sizeof buffer).code == FEVSTUNIK_OK; index++) ...
  */
-fevstunik_answer fevstunik_keytab_entry(const uint8_t *keytab, size_t keytab_size, size_t index, fevstunik_key_entry *entry,
-                                        uint8_t *buffer, size_t buffer_size);
+fevstunik_answer fevstunik_keytab_entry(const fevstunik_keytab *keytab, size_t index, fevstunik_key_entry *entry, uint8_t *buffer,
+                                        size_t buffer_size);
+
+/* Frees what the handle holds. The handle is empty then, and may be used again. Calling it with an
+ * empty handle has no effect. It can't fail.
+ *
+ *     fevstunik_keytab_free(&keytab);
+ */
+void fevstunik_keytab_free(fevstunik_keytab *keytab);
+
+/* Reads a credential cache (the bytes of a file of version 0x0503 or 0x0504), and keeps it in the
+ * handle, for any number of requests and to read its credentials one by one. What the handle held is
+ * freed. The file's bytes aren't needed afterwards. `size` is the number of its credentials;
+ * configuration entries count too.
+ *
+ * Answers FEVSTUNIK_OK; or leaves the handle unchanged and answers the first that applies:
+ * FEVSTUNIK_FILE_VERSION, _FILE_HEADER, _FILE_BAD_ITEM, _TOO_LONG or FEVSTUNIK_OUT_OF_MEMORY.
+ *
+ *     fevstunik_cache cache = FEVSTUNIK_CACHE_INIT;
+ *     answer = fevstunik_cache_new(&cache, file, file_size);
+ */
+fevstunik_answer fevstunik_cache_new(fevstunik_cache *cache, const uint8_t *file, size_t file_size);
 
 /* Reads one credential of a cache; `index` counts from 0. Writes the client's text, the service's
  * text, the session key and the ticket to the buffer, one after the other, and their places and the
  * numbers to `credential`. `credential` is written even if the buffer is too short. Addresses,
- * authorization data and a second ticket aren't returned. Each call reads the whole file.
+ * authorization data and a second ticket aren't returned. The handle is unchanged.
  *
- * Answers FEVSTUNIK_OK or FEVSTUNIK_SHORT_BUFFER; or writes nothing and answers FEVSTUNIK_TOO_LONG,
- * _FILE_VERSION, _FILE_HEADER, _FILE_BAD_ITEM, FEVSTUNIK_NO_SUCH_ENTRY or FEVSTUNIK_OUT_OF_MEMORY.
+ * Answers FEVSTUNIK_OK or FEVSTUNIK_SHORT_BUFFER; or writes nothing and answers
+ * FEVSTUNIK_EMPTY_HANDLE, FEVSTUNIK_NO_SUCH_ENTRY or FEVSTUNIK_OUT_OF_MEMORY.
  *
- *     for (index = 0; fevstunik_cache_credential(file, file_size, index, &entry, buffer, sizeof buffer).code == FEVSTUNIK_OK; index++) ...
+ *     for (index = 0; fevstunik_cache_credential(&cache, index, &entry, buffer, sizeof buffer).code == FEVSTUNIK_OK; index++) ...
  */
-fevstunik_answer fevstunik_cache_credential(const uint8_t *cache, size_t cache_size, size_t index, fevstunik_cache_entry *credential,
-                                            uint8_t *buffer, size_t buffer_size);
+fevstunik_answer fevstunik_cache_credential(const fevstunik_cache *cache, size_t index, fevstunik_cache_entry *credential, uint8_t *buffer,
+                                            size_t buffer_size);
 
 /* Reads the owner of a cache. Writes the default principal's text to the buffer, and its place and
  * the numbers to `owner`, with the KDC's clock offset if the cache has one. `owner` is written even
- * if the buffer is too short.
+ * if the buffer is too short. The handle is unchanged.
  *
- * Answers FEVSTUNIK_OK or FEVSTUNIK_SHORT_BUFFER; or writes nothing and answers FEVSTUNIK_TOO_LONG,
- * _FILE_VERSION, _FILE_HEADER, _FILE_BAD_ITEM or FEVSTUNIK_OUT_OF_MEMORY.
+ * Answers FEVSTUNIK_OK or FEVSTUNIK_SHORT_BUFFER; or writes nothing and answers
+ * FEVSTUNIK_EMPTY_HANDLE or FEVSTUNIK_OUT_OF_MEMORY.
  *
- *     answer = fevstunik_cache_owner(file, file_size, &owner, buffer, sizeof buffer);
+ *     answer = fevstunik_cache_owner(&cache, &owner, buffer, sizeof buffer);
  */
-fevstunik_answer fevstunik_cache_owner(const uint8_t *cache, size_t cache_size, fevstunik_owner *owner, uint8_t *buffer,
-                                       size_t buffer_size);
+fevstunik_answer fevstunik_cache_owner(const fevstunik_cache *cache, fevstunik_owner *owner, uint8_t *buffer, size_t buffer_size);
+
+/* Frees what the handle holds. The handle is empty then, and may be used again. Calling it with an
+ * empty handle has no effect. It can't fail.
+ *
+ *     fevstunik_cache_free(&cache);
+ */
+void fevstunik_cache_free(fevstunik_cache *cache);
 
 /* Adds an entry to a keytab, and returns the bytes of the new file. `name` is the name's text.
  * `key` has the key's bytes, which may be of any type. The entry goes into the first hole that is
@@ -829,25 +873,6 @@ fevstunik_answer fevstunik_acceptor_latest(const fevstunik_acceptor *handle, fev
 void fevstunik_acceptor_free(fevstunik_acceptor *handle);
 
 /* ---- the client's side ---- */
-
-/* Reads a credential cache (the bytes of a file of version 0x0503 or 0x0504), and keeps it in the
- * handle for any number of requests. What the handle held is freed. The file's bytes aren't needed
- * afterwards.
- *
- * Answers FEVSTUNIK_OK; or leaves the handle unchanged and answers the first that applies:
- * FEVSTUNIK_FILE_VERSION, _FILE_HEADER, _FILE_BAD_ITEM, _TOO_LONG or FEVSTUNIK_OUT_OF_MEMORY.
- *
- *     fevstunik_cache cache = FEVSTUNIK_CACHE_INIT;
- *     answer = fevstunik_cache_new(&cache, file, file_size);
- */
-fevstunik_answer fevstunik_cache_new(fevstunik_cache *cache, const uint8_t *file, size_t file_size);
-
-/* Frees what the handle holds. The handle is empty then, and may be used again. Calling it with an
- * empty handle has no effect. It can't fail.
- *
- *     fevstunik_cache_free(&cache);
- */
-void fevstunik_cache_free(fevstunik_cache *cache);
 
 /* Builds a request (the bytes of an AP-REQ) for a service from the first credential of a cache that
  * fits. It fits if it has a ticket of the cache's default principal for the service, its session

@@ -9,8 +9,9 @@ TOP = Path(__file__).resolve().parent.parent
 CRATE = TOP / "crates/krb_c"
 HEADER = TOP / "include/fevstunik.h"
 TYPES = {"u32": "uint32_t", "i16": "int16_t", "i32": "int32_t", "i64": "int64_t", "usize": "size_t", "bool": "bool",
-         "Handle": "fevstunik_acceptor", "Slot": "fevstunik_accepted", "CacheHandle": "fevstunik_cache", "PendingHandle": "fevstunik_pending"}
-HANDLES = {"Handle", "Slot", "CacheHandle", "PendingHandle"}
+         "Handle": "fevstunik_acceptor", "Slot": "fevstunik_accepted", "KeytabHandle": "fevstunik_keytab", "CacheHandle": "fevstunik_cache",
+         "PendingHandle": "fevstunik_pending"}
+HANDLES = {"Handle", "Slot", "KeytabHandle", "CacheHandle", "PendingHandle"}
 
 
 def without_comments(text):

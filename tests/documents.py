@@ -192,6 +192,13 @@ def unknown_names(part):
     return [word for word in words if word.rstrip(":").split("::")[-1] not in known]
 
 
+def toolchain():
+    """README and CONTRIBUTING name the toolchain that is used here."""
+    version = subprocess.run(["rt", "version"], capture_output=True, text=True).stdout.strip()
+    other = [it for it in ("README.md", "CONTRIBUTING.md") if version not in " ".join(text_of(it).split())]
+    return f"{other} don't name {version!r}" if other or not version else None
+
+
 def names():
     parts = re.split(r"^## ", text_of("docs/PROOFS.md"), flags=re.M)
     unknown = {part.partition("\n")[0]: unknown_names(part) for part in parts if part.startswith("`krb")}
@@ -206,6 +213,7 @@ def checks(program):
     yield "README.md: its C compiles", c_code("README.md")
     yield "README.md: its Python is Python", python_code("README.md")
     yield "docs/PROOFS.md: what is proved has these names", names()
+    yield "README.md and CONTRIBUTING.md: the toolchain", toolchain()
     yield "the manual and KRBTOOL.md: commands and options", options(program)
     yield "docs/man/fevstunik.3: what its script makes", manual()
     yield "packaging/completion: what its script makes", completions(program)

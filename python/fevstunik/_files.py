@@ -6,6 +6,7 @@ from ctypes import byref
 from dataclasses import dataclass, field
 from functools import cached_property
 from types import TracebackType
+from typing import Callable, TypeVar
 
 from . import _library
 from ._library import Bytes, Handle, done, filled, fitting, library, octets, read
@@ -13,11 +14,22 @@ from ._values import Key, TicketFlags
 
 # How long a file may be. One byte more is read, so that the library sees that a longer file is too long.
 LIMIT = 16_777_216
+Item = TypeVar("Item")
 
 
 def content(path: str | os.PathLike[str]) -> bytes:
     with open(path, "rb") as file:
         return file.read(LIMIT + 1)
+
+
+def _listed(kind: str, data: bytes, item: Callable[[object, int], Item]) -> tuple[Item, ...]:
+    """The items of a file, which is read once for all of them."""
+    handle = Handle(kind)
+    with handle.used() as pointer:
+        count = done(handle.library.call(f"{kind}_new", pointer, data, len(data))).size
+        items = tuple(item(pointer, index) for index in range(count))
+    handle.close()
+    return items
 
 
 @dataclass(frozen=True)
@@ -75,7 +87,7 @@ class Keytab:
 
     @property
     def entries(self) -> tuple[KeytabEntry, ...]:
-        """The entries, in the file's order. They are read on first use, which takes time that grows with the square of the file's size.
+        """The entries, in the file's order. They are read on first use.
 
         >>> [entry.kvno for entry in Keytab.read("examples/mit-holes.keytab").entries]
         [2, 2, 4, 4]
@@ -84,11 +96,11 @@ class Keytab:
 
     @cached_property
     def _entries(self) -> tuple[KeytabEntry, ...]:
-        return tuple(map(self._entry, range(self._count)))
+        return _listed("keytab", self._data, self._entry)
 
-    def _entry(self, index: int) -> KeytabEntry:
-        entry, data = read(_library.KeyEntry, lambda struct, *into: library().call(
-            "keytab_entry", self._data, len(self._data), index, struct, *into))
+    @staticmethod
+    def _entry(pointer: object, index: int) -> KeytabEntry:
+        entry, data = read(_library.KeyEntry, lambda struct, *into: library().call("keytab_entry", pointer, index, struct, *into))
         return KeytabEntry(entry.name.text(data), Key(entry.key_type, entry.key.of(data)), entry.kvno, entry.timestamp, entry.name_type)
 
     def added(self, entry: KeytabEntry) -> Keytab:
@@ -171,6 +183,11 @@ class Credential:
     is_skey: bool
 
 
+def _owner(pointer: object) -> Owner:
+    owner, data = read(_library.Owner, lambda struct, *into: library().call("cache_owner", pointer, struct, *into))
+    return Owner(owner.name.text(data), owner.name_type, (owner.offset_seconds, owner.offset_micros) if owner.has_offset else None)
+
+
 class CredentialCache:
     """A credential cache, from the bytes of a file of version 0x0503 or 0x0504. Invalid bytes raise Fault, with an offset.
 
@@ -183,10 +200,10 @@ class CredentialCache:
 
     def __init__(self, data: Bytes) -> None:
         self._data = octets(data)
-        self._count = done(library().call("cache_check", self._data, len(self._data))).size
         self._handle = Handle("cache")
         with self._handle.used() as pointer:
             done(self._handle.library.call("cache_new", pointer, self._data, len(self._data)))
+            self._owner = _owner(pointer)
 
     @classmethod
     def read(cls, path: str | os.PathLike[str]) -> CredentialCache:
@@ -206,11 +223,6 @@ class CredentialCache:
         """
         return self._owner
 
-    @cached_property
-    def _owner(self) -> Owner:
-        owner, data = read(_library.Owner, lambda struct, *into: library().call("cache_owner", self._data, len(self._data), struct, *into))
-        return Owner(owner.name.text(data), owner.name_type, (owner.offset_seconds, owner.offset_micros) if owner.has_offset else None)
-
     @property
     def credentials(self) -> tuple[Credential, ...]:
         """The credentials, including configuration entries, in the file's order. They are read on first use.
@@ -222,11 +234,11 @@ class CredentialCache:
 
     @cached_property
     def _credentials(self) -> tuple[Credential, ...]:
-        return tuple(map(self._credential, range(self._count)))
+        return _listed("cache", self._data, self._credential)
 
-    def _credential(self, index: int) -> Credential:
-        entry, data = read(_library.CacheEntry, lambda struct, *into: library().call(
-            "cache_credential", self._data, len(self._data), index, struct, *into))
+    @staticmethod
+    def _credential(pointer: object, index: int) -> Credential:
+        entry, data = read(_library.CacheEntry, lambda struct, *into: library().call("cache_credential", pointer, index, struct, *into))
         return Credential(
             entry.client.text(data), entry.server.text(data), Key(entry.key_type, entry.key.of(data)), entry.ticket.of(data),
             entry.authtime, entry.starttime, entry.endtime, entry.renew_till, TicketFlags(entry.flags), entry.client_type,

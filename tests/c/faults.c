@@ -4,6 +4,7 @@
  *     request CODE KERBEROS HEX      a new service with the keytab answers this to the request
  *     cache CODE KERBEROS HEX        this is answered where a request is asked for with the cache */
 #include "checks.h"
+#include "listed.h"
 
 /* One byte more than a file may have, and than a message may have. */
 #define LONG_FILE (16777216 + 1)
@@ -99,7 +100,7 @@ static void is_no_keytab(const char *what, const uint8_t *file, size_t size, uns
     is_answer(what, fevstunik_acceptor_replace_keytab(&service, file, size, EACH_NAME), code, 0, at, 0);
     fevstunik_acceptor_free(&service);
     is_answer(what, fevstunik_keytab_check(file, size), code, 0, at, 0);
-    is_answer(what, fevstunik_keytab_entry(file, size, 0, &entry, buffer, sizeof buffer), code, 0, at, 0);
+    is_answer(what, entry_in(file, size, 0, &entry, buffer, sizeof buffer), code, 0, at, 0);
     is_answer(what, fevstunik_keytab_add(file, size, (const uint8_t *)"a@EX", 4, cache.at, 16, &parts, buffer, sizeof buffer), code, 0, at, 0);
     is_answer(what, fevstunik_keytab_remove(file, size, 0, buffer, sizeof buffer), code, 0, at, 0);
     is_answer(what, fevstunik_keytab_write(file, size, buffer, sizeof buffer), code, 0, at, 0);
@@ -116,8 +117,8 @@ static void is_no_cache(const char *what, const uint8_t *file, size_t size, unsi
     it.cache_size = size;
     prevented(what, it, code, at);
     is_answer(what, fevstunik_cache_check(file, size), code, 0, at, 0);
-    is_answer(what, fevstunik_cache_credential(file, size, 0, &credential, buffer, sizeof buffer), code, 0, at, 0);
-    is_answer(what, fevstunik_cache_owner(file, size, &owner, buffer, sizeof buffer), code, 0, at, 0);
+    is_answer(what, credential_in(file, size, 0, &credential, buffer, sizeof buffer), code, 0, at, 0);
+    is_answer(what, owner_in(file, size, &owner, buffer, sizeof buffer), code, 0, at, 0);
 }
 
 static void files(void)

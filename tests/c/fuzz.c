@@ -9,6 +9,7 @@
 #include <string.h>
 
 #include "fevstunik.h"
+#include "listed.h"
 
 #define ROOM 2048
 #define GUARD 16
@@ -247,7 +248,7 @@ static void one(fevstunik_acceptor *service, fevstunik_accepted *accepted, long 
         look(fevstunik_acceptor_started(&other, keytab.at, keytab.size, below(86402), bent.at, below(20), &now), 20, ROOM, at);
         look(fevstunik_acceptor_error(&other, bent.at, bent.size, 3, &now, buffer, room), bent.size, room, at);
         look(fevstunik_error(below(300), bent.at, bent.size, 3, &now, buffer, room), bent.size, room, at);
-        look(fevstunik_keytab_entry(bent.at, bent.size, below(3), &entry, buffer, room), bent.size, room, at);
+        look(entry_in(bent.at, bent.size, below(3), &entry, buffer, room), bent.size, room, at);
         look(fevstunik_keytab_remove(bent.at, bent.size, below(3), buffer, room), bent.size, room, at);
         look(fevstunik_keytab_write(bent.at, bent.size, buffer, room), bent.size, room, at);
         look(fevstunik_keytab_add(bent.at, bent.size, (const uint8_t *)"a@EX", 4, cache.at, 16, &parts, buffer, room), bent.size + 4, room, at);
@@ -259,8 +260,8 @@ static void one(fevstunik_acceptor *service, fevstunik_accepted *accepted, long 
         look(fevstunik_request(&held, &pending, (const uint8_t *)"host/web@EX", 11, &now, cache.at, 16, &nothing, cache.at, 0, buffer, room),
              bent.size, room, at);
         fevstunik_cache_free(&held);
-        look(fevstunik_cache_credential(bent.at, bent.size, below(3), &credential, buffer, room), bent.size, room, at);
-        look(fevstunik_cache_owner(bent.at, bent.size, &owner, buffer, room), bent.size, room, at);
+        look(credential_in(bent.at, bent.size, below(3), &credential, buffer, room), bent.size, room, at);
+        look(owner_in(bent.at, bent.size, &owner, buffer, room), bent.size, room, at);
         look(fevstunik_name_check(bent.at, bent.size), bent.size, ROOM, at);
         break;
     case 2:

@@ -2,6 +2,7 @@
  * with much authorization data. The arguments are the number of entries and of credentials, and the files of the keytab, of the cache
  * and of the request. Each line of output that begins with `wrong` is one. */
 #include "checks.h"
+#include "listed.h"
 
 /* Bytes of authorization data, and of the record of the last entry. */
 #define DATA 100000
@@ -38,10 +39,10 @@ static void keys(size_t entries)
     size_t last = entries - 1, size = keytab.size;
 
     is_answer("entries", fevstunik_keytab_check(keytab.at, size), FEVSTUNIK_OK, 0, 0, entries);
-    is_answer("the last entry", fevstunik_keytab_entry(keytab.at, size, last, &entry, buffer, room), FEVSTUNIK_OK, 0, 0, 27);
+    is_answer("the last entry", entry_in(keytab.at, size, last, &entry, buffer, room), FEVSTUNIK_OK, 0, 0, 27);
     is_bytes("its name", buffer + entry.name.at, "host/web@EX", 11);
     is("its version", entry.kvno, 3);
-    is_answer("no more", fevstunik_keytab_entry(keytab.at, size, entries, &entry, buffer, room), FEVSTUNIK_NO_SUCH_ENTRY, 0, 0, 0);
+    is_answer("no more", entry_in(keytab.at, size, entries, &entry, buffer, room), FEVSTUNIK_NO_SUCH_ENTRY, 0, 0, 0);
     is_answer("write", fevstunik_keytab_write(keytab.at, size, buffer, room), FEVSTUNIK_OK, 0, 0, size);
     is_bytes("what is written", buffer, keytab.at, size);
     is_answer("remove", fevstunik_keytab_remove(keytab.at, size, last, buffer, room), FEVSTUNIK_OK, 0, 0, size);
@@ -98,7 +99,7 @@ static void acceptance(void)
     is_bytes("client", buffer + known.client.at, "alice@EX", 8);
     accepted_item(&accepted);
     is_answer("again", fevstunik_acceptor_accept(&service, &accepted, request.at, request.size, &now), FEVSTUNIK_REPEAT, 34, 0, 0);
-    is_answer("cache", fevstunik_cache_new(&credentials, cache.at, cache.size), FEVSTUNIK_OK, 0, 0, 0);
+    is("cache", fevstunik_cache_new(&credentials, cache.at, cache.size).code, FEVSTUNIK_OK);
     answer = fevstunik_request(&credentials, &pending, WEB, &now, buffer, 16, &choice, buffer, 0, buffer, room);
     is("request", answer.code, FEVSTUNIK_OK);
     is("its size", answer.size > DATA, 1);
@@ -117,11 +118,11 @@ static void credentials(size_t count)
     fevstunik_answer answer;
 
     is_answer("credentials", fevstunik_cache_check(cache.at, cache.size), FEVSTUNIK_OK, 0, 0, count);
-    answer = fevstunik_cache_credential(cache.at, cache.size, count - 1, &credential, buffer, room);
+    answer = credential_in(cache.at, cache.size, count - 1, &credential, buffer, room);
     is("the last credential", answer.code, FEVSTUNIK_OK);
     is_bytes("its service", buffer + credential.server.at, "host/web@EX", 11);
     is("its ticket", credential.ticket.size > DATA, 1);
-    answer = fevstunik_cache_credential(cache.at, cache.size, count, &credential, buffer, room);
+    answer = credential_in(cache.at, cache.size, count, &credential, buffer, room);
     is("no more", answer.code, FEVSTUNIK_NO_SUCH_ENTRY);
 }
 

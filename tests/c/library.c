@@ -2,6 +2,7 @@
  * keytab and of the cache, and in hex the request, the request with a subkey, the reply, the reply with a subkey, the error, a cache of
  * two credentials with an offset, a request for another service, and a request with lists (tests/c_cases.py). */
 #include "checks.h"
+#include "listed.h"
 
 /* Where the credential begins in the cache: behind the version, an empty header and the default principal. */
 #define CREDENTIAL_AT 27
@@ -459,7 +460,7 @@ static void listings(void)
     size_t size;
     int i;
 
-    is_answer("entry", fevstunik_keytab_entry(keytab.at, keytab.size, 0, &entry, buffer, 27), FEVSTUNIK_OK, 0, 0, 27);
+    is_answer("entry", entry_in(keytab.at, keytab.size, 0, &entry, buffer, 27), FEVSTUNIK_OK, 0, 0, 27);
     is_bytes("entry name", buffer, "host/web@EX", 11);
     is_bytes("entry key", buffer + 11, keytab.at + keytab.size - 20, 16);
     is("name at", (long long)entry.name.at, 0);
@@ -470,14 +471,14 @@ static void listings(void)
     is("kvno", entry.kvno, 3);
     is("entry name type", entry.name_type, 3);
     is("entry key type", entry.key_type, 19);
-    is_answer("entry short", fevstunik_keytab_entry(keytab.at, keytab.size, 0, &entry, buffer, 26), FEVSTUNIK_SHORT_BUFFER, 0, 0, 27);
+    is_answer("entry short", entry_in(keytab.at, keytab.size, 0, &entry, buffer, 26), FEVSTUNIK_SHORT_BUFFER, 0, 0, 27);
     memset(&entry, 0x5a, sizeof entry);
-    is_answer("past the last", fevstunik_keytab_entry(keytab.at, keytab.size, ENTRIES, &entry, buffer, 27), FEVSTUNIK_NO_SUCH_ENTRY, 0, 0, 0);
-    is_answer("far past it", fevstunik_keytab_entry(keytab.at, keytab.size, FAR, &entry, buffer, 27), FEVSTUNIK_NO_SUCH_ENTRY, 0, 0, 0);
+    is_answer("past the last", entry_in(keytab.at, keytab.size, ENTRIES, &entry, buffer, 27), FEVSTUNIK_NO_SUCH_ENTRY, 0, 0, 0);
+    is_answer("far past it", entry_in(keytab.at, keytab.size, FAR, &entry, buffer, 27), FEVSTUNIK_NO_SUCH_ENTRY, 0, 0, 0);
     is("the entry stays", entry.kvno == 0x5a5a5a5a && entry.name.size == FILLED && entry.key_type == 0x5a5a, 1);
-    is_answer("entry of none", fevstunik_keytab_entry(keytab.at, 10, 0, &entry, buffer, 27), FEVSTUNIK_FILE_TRUNCATED, 0, 2, 0);
+    is_answer("entry of none", entry_in(keytab.at, 10, 0, &entry, buffer, 27), FEVSTUNIK_FILE_TRUNCATED, 0, 2, 0);
     size = 8 + 11 + 16 + 214;
-    is_answer("credential", fevstunik_cache_credential(cache.at, cache.size, 0, &credential, buffer, size), FEVSTUNIK_OK, 0, 0, size);
+    is_answer("credential", credential_in(cache.at, cache.size, 0, &credential, buffer, size), FEVSTUNIK_OK, 0, 0, size);
     is_bytes("names", buffer, "alice@EXhost/web@EX", 19);
     for (i = 0; i < 16; i++)
         is("session key", buffer[19 + i], i);
@@ -494,14 +495,14 @@ static void listings(void)
     is("server type", credential.server_type, 3);
     is("session key type", credential.key_type, 19);
     is("is_skey", credential.is_skey, 0);
-    is_answer("credential short", fevstunik_cache_credential(cache.at, cache.size, 0, &credential, buffer, size - 1), FEVSTUNIK_SHORT_BUFFER,
+    is_answer("credential short", credential_in(cache.at, cache.size, 0, &credential, buffer, size - 1), FEVSTUNIK_SHORT_BUFFER,
               0, 0, size);
     memset(&credential, 0x5a, sizeof credential);
-    is_answer("past the last", fevstunik_cache_credential(cache.at, cache.size, 1, &credential, buffer, size), FEVSTUNIK_NO_SUCH_ENTRY, 0, 0, 0);
-    is_answer("far past it", fevstunik_cache_credential(cache.at, cache.size, FAR, &credential, buffer, size), FEVSTUNIK_NO_SUCH_ENTRY, 0, 0, 0);
+    is_answer("past the last", credential_in(cache.at, cache.size, 1, &credential, buffer, size), FEVSTUNIK_NO_SUCH_ENTRY, 0, 0, 0);
+    is_answer("far past it", credential_in(cache.at, cache.size, FAR, &credential, buffer, size), FEVSTUNIK_NO_SUCH_ENTRY, 0, 0, 0);
     is("the credential stays", credential.flags == 0x5a5a5a5a && credential.client.size == FILLED && credential.key_type == 0x5a5a, 1);
-    is_answer("of none", fevstunik_cache_credential(cache.at, 3, 0, &credential, buffer, size), FEVSTUNIK_FILE_HEADER, 0, 0, 0);
-    is_answer("owner", fevstunik_cache_owner(cache.at, cache.size, &owner, buffer, 8), FEVSTUNIK_OK, 0, 0, 8);
+    is_answer("of none", credential_in(cache.at, 3, 0, &credential, buffer, size), FEVSTUNIK_FILE_HEADER, 0, 0, 0);
+    is_answer("owner", owner_in(cache.at, cache.size, &owner, buffer, 8), FEVSTUNIK_OK, 0, 0, 8);
     is_bytes("owner", buffer, "alice@EX", 8);
     is("owner at", (long long)owner.name.at, 0);
     is("owner size", (long long)owner.name.size, 8);
@@ -509,8 +510,61 @@ static void listings(void)
     is("no offset", owner.has_offset, 0);
     is("no seconds", owner.offset_seconds, 0);
     is("no micros", owner.offset_micros, 0);
-    is_answer("owner short", fevstunik_cache_owner(cache.at, cache.size, &owner, buffer, 7), FEVSTUNIK_SHORT_BUFFER, 0, 0, 8);
-    is_answer("owner of none", fevstunik_cache_owner(cache.at, 1, &owner, buffer, 8), FEVSTUNIK_FILE_VERSION, 0, 0, 0);
+    is_answer("owner short", owner_in(cache.at, cache.size, &owner, buffer, 7), FEVSTUNIK_SHORT_BUFFER, 0, 0, 8);
+    is_answer("owner of none", owner_in(cache.at, 1, &owner, buffer, 8), FEVSTUNIK_FILE_VERSION, 0, 0, 0);
+}
+
+/* What a handle keeps: a keytab is read once, and asked as often as one likes. */
+static void kept_keytab(void)
+{
+    fevstunik_keytab keys = FEVSTUNIK_KEYTAB_INIT;
+    fevstunik_key_entry entry;
+    void *held;
+
+    memset(&entry, 0x5a, sizeof entry);
+    memset(buffer, 0xaa, 32);
+    is_answer("of no keytab", fevstunik_keytab_entry(&keys, 0, &entry, buffer, sizeof buffer), FEVSTUNIK_EMPTY_HANDLE, 0, 0, 0);
+    is("no entry is written", entry.kvno == 0x5a5a5a5a && buffer[0] == 0xaa, 1);
+    is("it stays empty", keys.opaque == NULL, 1);
+    fevstunik_keytab_free(&keys);
+    is_answer("keytab", fevstunik_keytab_new(&keys, keytab.at, keytab.size), FEVSTUNIK_OK, 0, 0, ENTRIES);
+    held = keys.opaque;
+    is("it is kept", held != NULL, 1);
+    is_answer("cut off", fevstunik_keytab_new(&keys, keytab.at, keytab.size - 1), FEVSTUNIK_FILE_TRUNCATED, 0, 2, 0);
+    is_answer("of no version", fevstunik_keytab_new(&keys, NULL, 0), FEVSTUNIK_FILE_VERSION, 0, 0, 0);
+    is("it stays", keys.opaque == held, 1);
+    is_answer("its entry", fevstunik_keytab_entry(&keys, 0, &entry, buffer, sizeof buffer), FEVSTUNIK_OK, 0, 0, 27);
+    is("its version", entry.kvno, 3);
+    is_answer("the same again", fevstunik_keytab_entry(&keys, 0, &entry, buffer, sizeof buffer), FEVSTUNIK_OK, 0, 0, 27);
+    is_answer("to no room", fevstunik_keytab_entry(&keys, 0, &entry, NULL, 0), FEVSTUNIK_SHORT_BUFFER, 0, 0, 27);
+    is_answer("no other", fevstunik_keytab_entry(&keys, ENTRIES, &entry, buffer, sizeof buffer), FEVSTUNIK_NO_SUCH_ENTRY, 0, 0, 0);
+    is_answer("a keytab of none", fevstunik_keytab_new(&keys, keytab.at, 2), FEVSTUNIK_OK, 0, 0, 0);
+    is_answer("nothing in it", fevstunik_keytab_entry(&keys, 0, &entry, buffer, sizeof buffer), FEVSTUNIK_NO_SUCH_ENTRY, 0, 0, 0);
+    fevstunik_keytab_free(&keys);
+    is("it is freed", keys.opaque == NULL, 1);
+    fevstunik_keytab_free(&keys);
+}
+
+/* An empty handle has no credentials and no owner. A cache that is kept has these as often as one likes. */
+static void kept_cache(void)
+{
+    fevstunik_cache held = FEVSTUNIK_CACHE_INIT;
+    fevstunik_cache_entry credential;
+    fevstunik_owner owner;
+
+    memset(&credential, 0x5a, sizeof credential);
+    memset(&owner, 0x5a, sizeof owner);
+    is_answer("of no cache", fevstunik_cache_credential(&held, 0, &credential, buffer, sizeof buffer), FEVSTUNIK_EMPTY_HANDLE, 0, 0, 0);
+    is_answer("of no owner", fevstunik_cache_owner(&held, &owner, buffer, sizeof buffer), FEVSTUNIK_EMPTY_HANDLE, 0, 0, 0);
+    is("nothing is written", credential.flags == 0x5a5a5a5a && owner.name_type == 0x5a5a5a5a && held.opaque == NULL, 1);
+    is_answer("two credentials", fevstunik_cache_new(&held, two.at, two.size), FEVSTUNIK_OK, 0, 0, 2);
+    is_answer("the second", fevstunik_cache_credential(&held, 1, &credential, buffer, sizeof buffer), FEVSTUNIK_OK, 0, 0, 8 + 11 + 16 + 214);
+    is("its flags", credential.flags, 0x40610000);
+    is_answer("the owner", fevstunik_cache_owner(&held, &owner, buffer, sizeof buffer), FEVSTUNIK_OK, 0, 0, 8);
+    is("its offset", owner.offset_seconds, -2);
+    is_answer("the first", fevstunik_cache_credential(&held, 0, &credential, NULL, 0), FEVSTUNIK_SHORT_BUFFER, 0, 0, 56);
+    is_answer("no third", fevstunik_cache_credential(&held, 2, &credential, buffer, sizeof buffer), FEVSTUNIK_NO_SUCH_ENTRY, 0, 0, 0);
+    fevstunik_cache_free(&held);
 }
 
 /* The second entry of a keytab is told, and taken out, and not the first. */
@@ -525,14 +579,14 @@ static void second_entry(void)
     file.size = keytab.size + 46;
     is_answer("two entries", added(&keytab, "a@EX", key, 16, sizeof buffer), FEVSTUNIK_OK, 0, 0, file.size);
     memcpy(file.at, buffer, file.size);
-    is_answer("the second", fevstunik_keytab_entry(file.at, file.size, 1, &entry, buffer, sizeof buffer), FEVSTUNIK_OK, 0, 0, 20);
+    is_answer("the second", entry_in(file.at, file.size, 1, &entry, buffer, sizeof buffer), FEVSTUNIK_OK, 0, 0, 20);
     is_bytes("its name", buffer, "a@EX", 4);
     is_bytes("its key", buffer + 4, key, 16);
     is("its name at", (long long)entry.name.at, 0);
     is("its name's size", (long long)entry.name.size, 4);
     is("its key at", (long long)entry.key.at, 4);
     is("its key's size", (long long)entry.key.size, 16);
-    is_answer("no third", fevstunik_keytab_entry(file.at, file.size, 2, &entry, buffer, sizeof buffer), FEVSTUNIK_NO_SUCH_ENTRY, 0, 0, 0);
+    is_answer("no third", entry_in(file.at, file.size, 2, &entry, buffer, sizeof buffer), FEVSTUNIK_NO_SUCH_ENTRY, 0, 0, 0);
     is_answer("remove it", fevstunik_keytab_remove(file.at, file.size, 1, made, sizeof made), FEVSTUNIK_OK, 0, 0, file.size);
     is_bytes("the first stays", made, file.at, keytab.size);
     is_bytes("the second's hole", made + keytab.size, "\xff\xff\xff\xd6", 4);
@@ -550,19 +604,19 @@ static void second_credential(void)
     size_t size = 8 + 11 + 16 + 214;
 
     is_answer("two credentials", fevstunik_cache_check(two.at, two.size), FEVSTUNIK_OK, 0, 0, 2);
-    is_answer("the owner", fevstunik_cache_owner(two.at, two.size, &owner, buffer, sizeof buffer), FEVSTUNIK_OK, 0, 0, 8);
+    is_answer("the owner", owner_in(two.at, two.size, &owner, buffer, sizeof buffer), FEVSTUNIK_OK, 0, 0, 8);
     is_bytes("its name", buffer, "alice@EX", 8);
     is("an offset", owner.has_offset, 1);
     is("its seconds", owner.offset_seconds, -2);
     is("its micros", owner.offset_micros, 7);
-    is_answer("the first", fevstunik_cache_credential(two.at, two.size, 0, &credential, buffer, sizeof buffer), FEVSTUNIK_OK, 0, 0,
+    is_answer("the first", credential_in(two.at, two.size, 0, &credential, buffer, sizeof buffer), FEVSTUNIK_OK, 0, 0,
               sizeof names - 1);
     is_bytes("what it tells", buffer, names, sizeof names - 1);
     is("no key", (long long)credential.key.size, 0);
     is("where it tells", (long long)credential.ticket.at, sizeof names - 4);
     is("no type", credential.key_type, 0);
     is("not under a session key", credential.is_skey, 0);
-    is_answer("the second", fevstunik_cache_credential(two.at, two.size, 1, &credential, buffer, sizeof buffer), FEVSTUNIK_OK, 0, 0, size);
+    is_answer("the second", credential_in(two.at, two.size, 1, &credential, buffer, sizeof buffer), FEVSTUNIK_OK, 0, 0, size);
     is_bytes("its names", buffer, "alice@EXhost/web@EX", 19);
     is_bytes("its ticket", buffer + 35, "\x61\x81\xd3", 3);
     is("its type", credential.key_type, 19);
@@ -572,7 +626,7 @@ static void second_credential(void)
     is("renew_till", credential.renew_till, 1700600000);
     is("flags", credential.flags, 0x40610000);
     is("under a session key", credential.is_skey, 1);
-    is_answer("no third", fevstunik_cache_credential(two.at, two.size, 2, &credential, buffer, sizeof buffer), FEVSTUNIK_NO_SUCH_ENTRY, 0, 0, 0);
+    is_answer("no third", credential_in(two.at, two.size, 2, &credential, buffer, sizeof buffer), FEVSTUNIK_NO_SUCH_ENTRY, 0, 0, 0);
 }
 
 /* The client's subkey and number are told. */
@@ -788,7 +842,7 @@ static void requests(void)
     is_answer("the cache stays", asked("host/web@EX", at, 16, 0, sizeof buffer), FEVSTUNIK_OK, 0, 0, request.size);
     is_answer("a cache of none", fevstunik_cache_new(&credentials, cache.at, CREDENTIAL_AT), FEVSTUNIK_OK, 0, 0, 0);
     is_answer("no credential", asked("host/web@EX", at, 16, 0, sizeof buffer), FEVSTUNIK_NO_CREDENTIAL, 0, 0, 0);
-    is_answer("the cache", fevstunik_cache_new(&credentials, cache.at, cache.size), FEVSTUNIK_OK, 0, 0, 0);
+    is_answer("the cache", fevstunik_cache_new(&credentials, cache.at, cache.size), FEVSTUNIK_OK, 0, 0, 1);
 }
 
 /* Handles of the client's side that are empty answer so, and stay so; what is awaited stays where there is no request. */
@@ -983,12 +1037,12 @@ static void no_bytes(void)
 
     is_answer("keytab", fevstunik_keytab_check(NULL, 0), FEVSTUNIK_FILE_VERSION, 0, 0, 0);
     is_answer("cache", fevstunik_cache_check(NULL, 0), FEVSTUNIK_FILE_VERSION, 0, 0, 0);
-    is_answer("entry", fevstunik_keytab_entry(keytab.at, keytab.size, 0, &entry, NULL, 0), FEVSTUNIK_SHORT_BUFFER, 0, 0, 27);
-    is_answer("no entry", fevstunik_keytab_entry(NULL, 0, 0, &entry, NULL, 0), FEVSTUNIK_FILE_VERSION, 0, 0, 0);
-    is("credential", fevstunik_cache_credential(cache.at, cache.size, 0, &credential, NULL, 0).code, FEVSTUNIK_SHORT_BUFFER);
-    is_answer("no credential", fevstunik_cache_credential(NULL, 0, 0, &credential, NULL, 0), FEVSTUNIK_FILE_VERSION, 0, 0, 0);
-    is_answer("owner", fevstunik_cache_owner(cache.at, cache.size, &owner, NULL, 0), FEVSTUNIK_SHORT_BUFFER, 0, 0, 8);
-    is_answer("no owner", fevstunik_cache_owner(NULL, 0, &owner, NULL, 0), FEVSTUNIK_FILE_VERSION, 0, 0, 0);
+    is_answer("entry", entry_in(keytab.at, keytab.size, 0, &entry, NULL, 0), FEVSTUNIK_SHORT_BUFFER, 0, 0, 27);
+    is_answer("no entry", entry_in(NULL, 0, 0, &entry, NULL, 0), FEVSTUNIK_FILE_VERSION, 0, 0, 0);
+    is("credential", credential_in(cache.at, cache.size, 0, &credential, NULL, 0).code, FEVSTUNIK_SHORT_BUFFER);
+    is_answer("no credential", credential_in(NULL, 0, 0, &credential, NULL, 0), FEVSTUNIK_FILE_VERSION, 0, 0, 0);
+    is_answer("owner", owner_in(cache.at, cache.size, &owner, NULL, 0), FEVSTUNIK_SHORT_BUFFER, 0, 0, 8);
+    is_answer("no owner", owner_in(NULL, 0, &owner, NULL, 0), FEVSTUNIK_FILE_VERSION, 0, 0, 0);
     is("a key of none", fevstunik_keytab_add(keytab.at, keytab.size, WEB, NULL, 0, &parts, buffer, sizeof buffer).code, FEVSTUNIK_OK);
     is_answer("a name of none", fevstunik_keytab_add(keytab.at, keytab.size, NULL, 0, NULL, 0, &parts, NULL, 0), FEVSTUNIK_NO_REALM, 0, 0, 0);
     is_answer("add to none", fevstunik_keytab_add(NULL, 0, WEB, key, 16, &parts, NULL, 0), FEVSTUNIK_FILE_VERSION, 0, 0, 0);
@@ -1170,11 +1224,13 @@ int main(int count, char **words)
     names();
     files();
     listings();
+    kept_keytab();
+    kept_cache();
     second_credential();
     edits();
     additions();
     second_entry();
-    is_answer("cache", fevstunik_cache_new(&credentials, cache.at, cache.size), FEVSTUNIK_OK, 0, 0, 0);
+    is_answer("cache", fevstunik_cache_new(&credentials, cache.at, cache.size), FEVSTUNIK_OK, 0, 0, 1);
     requests();
     negative_answer();
     empty_askings();

@@ -3,6 +3,7 @@
  * in hex the request with a subkey and the reply to it. It is linked with --wrap=malloc, --wrap=realloc and --wrap=free. Each line of output
  * that begins with `wrong` is one. */
 #include "checks.h"
+#include "listed.h"
 
 /* Where the request has its options, and the encryption type of its ticket. */
 #define OPTIONS_AT 23
@@ -53,6 +54,7 @@ static const uint8_t *const service_name = (const uint8_t *)"host/web@EX";
 static fevstunik_acceptor service;
 static fevstunik_accepted accepted;
 static fevstunik_cache credentials;
+static fevstunik_keytab keys;
 static fevstunik_pending pending;
 
 static fevstunik_answer making(void)
@@ -121,6 +123,11 @@ static fevstunik_answer reading_cache(void)
     return fevstunik_cache_new(&credentials, cache.at, cache.size);
 }
 
+static fevstunik_answer reading_keytab(void)
+{
+    return fevstunik_keytab_new(&keys, keytab.at, keytab.size);
+}
+
 static fevstunik_answer finishing(void)
 {
     fevstunik_agreement agreement;
@@ -156,21 +163,21 @@ static fevstunik_answer listing(void)
 {
     fevstunik_key_entry entry;
 
-    return fevstunik_keytab_entry(keytab.at, keytab.size, 0, &entry, buffer, sizeof buffer);
+    return entry_in(keytab.at, keytab.size, 0, &entry, buffer, sizeof buffer);
 }
 
 static fevstunik_answer listing_cache(void)
 {
     fevstunik_cache_entry entry;
 
-    return fevstunik_cache_credential(cache.at, cache.size, 0, &entry, buffer, sizeof buffer);
+    return credential_in(cache.at, cache.size, 0, &entry, buffer, sizeof buffer);
 }
 
 static fevstunik_answer owning(void)
 {
     fevstunik_owner owner;
 
-    return fevstunik_cache_owner(cache.at, cache.size, &owner, buffer, sizeof buffer);
+    return owner_in(cache.at, cache.size, &owner, buffer, sizeof buffer);
 }
 
 static fevstunik_answer adding(void)
@@ -242,7 +249,7 @@ static void is_told(const char *what, fevstunik_answer (*call)(void))
 {
     long at, before = held;
     size_t count = fevstunik_acceptor_count(&service), i;
-    void *opaque = service.opaque, *kept = accepted.opaque, *read = credentials.opaque, *awaited = pending.opaque;
+    void *opaque = service.opaque, *kept = accepted.opaque, *read = credentials.opaque, *awaited = pending.opaque, *listed = keys.opaque;
     fevstunik_time moment_before = latest();
     fevstunik_answer answer;
 
@@ -256,7 +263,7 @@ static void is_told(const char *what, fevstunik_answer (*call)(void))
         is_at("size", at, (long long)answer.size, 0);
         is_at("pieces held", at, held, before);
         is_at("the handle", at, service.opaque == opaque && accepted.opaque == kept, 1);
-        is_at("the client's handles", at, credentials.opaque == read && pending.opaque == awaited, 1);
+        is_at("the client's handles", at, credentials.opaque == read && pending.opaque == awaited && keys.opaque == listed, 1);
         is_at("what is remembered", at, (long long)fevstunik_acceptor_count(&service), (long long)count);
         is_at("the latest second", at, latest().seconds, moment_before.seconds);
         is_at("the latest microsecond", at, latest().micros, moment_before.micros);
@@ -314,8 +321,8 @@ static void faults_without_memory(void)
     left = 0;
     is_at("version", 0, fevstunik_cache_check(cache.at, 1).code, FEVSTUNIK_FILE_VERSION);
     is_at("cut off", 0, fevstunik_cache_check(cache.at, cache.size - 1).code, FEVSTUNIK_FILE_BAD_ITEM);
-    is_at("credential", 0, fevstunik_cache_credential(cache.at, cache.size - 1, 0, &entry, buffer, sizeof buffer).code, FEVSTUNIK_FILE_BAD_ITEM);
-    is_at("owner", 0, fevstunik_cache_owner(cache.at, 3, &owner, buffer, sizeof buffer).code, FEVSTUNIK_FILE_HEADER);
+    is_at("credential", 0, credential_in(cache.at, cache.size - 1, 0, &entry, buffer, sizeof buffer).code, FEVSTUNIK_FILE_BAD_ITEM);
+    is_at("owner", 0, owner_in(cache.at, 3, &owner, buffer, sizeof buffer).code, FEVSTUNIK_FILE_HEADER);
     is_at("cache", 0, fevstunik_cache_new(&credentials, cache.at, 1).code, FEVSTUNIK_FILE_VERSION);
     is_at("seal type", 0, fevstunik_seal(17, cache.at, 16, 2, cache.at, 16, cache.at, 5, buffer, sizeof buffer).code, FEVSTUNIK_KEY_TYPE);
     is_at("seal confounder", 0, fevstunik_seal(19, cache.at, 16, 2, cache.at, 15, cache.at, 5, buffer, sizeof buffer).code,
@@ -362,6 +369,8 @@ int main(int count, char **words)
     is_at("ready", 1, getting_ready().code, FEVSTUNIK_OK);
     is_told("cache", reading_cache);
     is_told("cache again", reading_cache);
+    is_told("keytab", reading_keytab);
+    is_told("keytab again", reading_keytab);
     is_told("request", asking);
     is_told("request again", asking);
     is_told("finish", finishing);
@@ -386,6 +395,7 @@ int main(int count, char **words)
     faults_without_memory();
     fevstunik_accepted_free(&accepted);
     fevstunik_cache_free(&credentials);
+    fevstunik_keytab_free(&keys);
     fevstunik_pending_free(&pending);
     is_at("freed", 1, held, 0);
     printf("%d passed, %d failed\n", passed, failed);

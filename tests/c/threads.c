@@ -4,6 +4,7 @@
 #include <pthread.h>
 
 #include "checks.h"
+#include "listed.h"
 
 #define THREADS 8
 #define CLIENTS 40
@@ -46,7 +47,7 @@ static void make(int at)
 
     is("a request", answer.code, FEVSTUNIK_OK);
     requests[at].size = answer.size;
-    is("its client", fevstunik_cache_owner(cache->at, cache->size, &owner, name, sizeof name).size, 8);
+    is("its client", owner_in(cache->at, cache->size, &owner, name, sizeof name).size, 8);
     memcpy(requests[at].client, name, 8);
 }
 

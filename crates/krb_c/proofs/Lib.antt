@@ -2,6 +2,7 @@ mod Values
 mod Handles
 mod Slots
 mod CacheHandles
+mod KeytabHandles
 mod PendingHandles
 mod Making
 mod Requests

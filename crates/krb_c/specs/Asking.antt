@@ -138,7 +138,9 @@ Sends a confounder was is old new answer =
     ((bytes : List ℕ) × ((awaited : Awaited) × (Asks a confounder bytes awaited × ((is ≡ Some awaited) × Hands bytes old new answer))))
     ⊎ (IsAskFault a confounder answer × ((is ≡ was) × (new ≡ old)))
 
--- the bytes are a cache, which is kept; or the reason is reported, and what was kept is unchanged
+-- the bytes are a cache, which is kept, and how many credentials it has; or the reason is reported,
+-- and what was kept is unchanged
 abbrev pub Keeps : List ℕ → Option Cache → Option Cache → Answer → Type 0
 Keeps bytes was is answer =
-    ((cache : Cache) × (IsCache bytes cache × ((answer ≡ plain ok) × (is ≡ Some cache)))) ⊎ (HasCacheFault bytes answer × (is ≡ was))
+    ((cache : Cache) × (IsCache bytes cache × ((answer ≡ sized ok (length cache.credentials)) × (is ≡ Some cache))))
+    ⊎ (HasCacheFault bytes answer × (is ≡ was))

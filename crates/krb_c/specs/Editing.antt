@@ -1,6 +1,6 @@
--- How the file of a keytab is changed: an entry is removed or added, or all entries are written
--- again.
-use Rattle.std.specs.Prelude.{◌≡◌, ◌≢◌, ◌<◌, ◌⊎◌, ℕ, List, length, Ok}
+-- The file of a keytab: it is read and kept; an entry is removed or added, or all entries are
+-- written again.
+use Rattle.std.specs.Prelude.{◌≡◌, ◌≢◌, ◌<◌, ◌⊎◌, ℕ, List, length, Option, Some, Ok}
 use Rattle.krb_name.specs.Reading.{IsReadAs}
 use Rattle.krb_name.specs.declared.principal.Principal.{Principal}
 use Rattle.krb_keytab.specs.Edit.{AddsEntry, IsRefusal, LacksEntry}
@@ -10,9 +10,9 @@ use Rattle.krb_keytab.specs.Format.{IsFaultOf, IsKeytab}
 use Rattle.krb_keytab.specs.Written.{written}
 use Rattle.krb_keytab.specs.declared.fault.KeytabFault.{KeytabFault}
 use Rattle.krb_keytab.specs.declared.fault.KeytabFault.TheVariants as keytab
-use Rattle.krb_c.specs.Answer.{keytab_answer, plain}
+use Rattle.krb_c.specs.Answer.{keytab_answer, plain, sized}
 use Rattle.krb_c.specs.Asking.{HasName, IsNameFault}
-use Rattle.krb_c.specs.Codes.{out_of_memory, too_long}
+use Rattle.krb_c.specs.Codes.{ok, out_of_memory, too_long}
 use Rattle.krb_c.specs.declared.answer.Answer.{Answer}
 use Rattle.krb_c.specs.declared.editing.KeyParts.{KeyParts}
 
@@ -21,6 +21,15 @@ pub record HasKeytabFault (bytes : List ℕ) (answer : Answer) : Type 0 where
   pub fault : KeytabFault
   pub holds : fault ≢ keytab.OutOfMemory → IsFaultOf bytes fault
   pub answer_is : answer ≡ keytab_answer fault
+
+-- ---- keeping
+
+-- the bytes are a keytab, which is kept, and how many entries it has; or the reason is reported, and
+-- what was kept is unchanged
+abbrev pub KeepsKeytab : List ℕ → Option (List KeytabEntry) → Option (List KeytabEntry) → Answer → Type 0
+KeepsKeytab bytes was is answer =
+    ((entries : List KeytabEntry) × (IsKeytab bytes entries × ((answer ≡ sized ok (length entries)) × (is ≡ Some entries))))
+    ⊎ (HasKeytabFault bytes answer × (is ≡ was))
 
 -- ---- removing
 

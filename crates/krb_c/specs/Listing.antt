@@ -1,18 +1,14 @@
--- What is returned of files: the entry of a keytab or the credential of a cache at an index; and
--- the owner of a cache.
+-- What is returned of files that are kept: the entry of a keytab or the credential of a cache at an
+-- index; and the owner of a cache.
 use Rattle.std.specs.Prelude.{◌≡◌, ◌⊎◌, ℕ, ℤ, pos, List, [], ◌++◌, Option, Some, None}
 use Rattle.std.specs.List.{slice_get}
 use Rattle.krb_name.specs.Text.{text_of}
 use Rattle.krb_keytab.specs.Entry.{KeytabEntry}
-use Rattle.krb_keytab.specs.Format.{IsKeytab}
-use Rattle.krb_ccache.specs.Format.{IsCache}
 use Rattle.krb_ccache.specs.Offset.{clock_offset}
 use Rattle.krb_ccache.specs.Value.{Cache}
 use Rattle.krb_ccache.specs.declared.credential.Credential.{Credential}
 use Rattle.krb_c.specs.Answer.{Hands, plain}
-use Rattle.krb_c.specs.Asking.{HasCacheFault}
-use Rattle.krb_c.specs.Codes.{no_such_entry, out_of_memory}
-use Rattle.krb_c.specs.Editing.{HasKeytabFault}
+use Rattle.krb_c.specs.Codes.{empty_handle, no_such_entry, out_of_memory}
 use Rattle.krb_c.specs.Known.{is_there, span}
 use Rattle.krb_c.specs.declared.answer.Answer.{Answer}
 use Rattle.krb_c.specs.declared.listing.CacheEntry.{CacheEntry}
@@ -23,6 +19,10 @@ use Rattle.krb_c.specs.declared.listing.Owner.{Owner}
 abbrev pub Tells : {Told : Type 0} → List ℕ → Told → Told → Told → List ℕ → List ℕ → Answer → Type 0
 Tells bytes told was is old new answer =
     (Hands bytes old new answer × (is ≡ told)) ⊎ ((answer ≡ plain out_of_memory) × ((is ≡ was) × (new ≡ old)))
+
+-- the handle is empty, so nothing is written
+abbrev pub IsEmpty : {Told : Type 0} → Told → Told → List ℕ → List ℕ → Answer → Type 0
+IsEmpty was is old new answer = (answer ≡ plain empty_handle) × ((is ≡ was) × (new ≡ old))
 
 -- ---- a keytab's entry: its name's text and its key
 
@@ -46,12 +46,10 @@ abbrev pub TellsEntryIf : Option KeytabEntry → KeyEntry → KeyEntry → List 
 TellsEntryIf None was is old new answer = (answer ≡ plain no_such_entry) × ((is ≡ was) × (new ≡ old))
 TellsEntryIf (Some x) was is old new answer = TellsEntry x was is old new answer
 
--- the bytes are a keytab, and what it has at the index is returned; or the reason why they aren't
--- one is reported
-abbrev pub ListsEntry : List ℕ → ℕ → KeyEntry → KeyEntry → List ℕ → List ℕ → Answer → Type 0
-ListsEntry bytes index was is old new answer =
-    ((entries : List KeytabEntry) × (IsKeytab bytes entries × TellsEntryIf (slice_get entries index) was is old new answer))
-    ⊎ (HasKeytabFault bytes answer × ((is ≡ was) × (new ≡ old)))
+-- what the keytab that is kept has at the index; or nothing is kept
+abbrev pub ListsEntry : Option (List KeytabEntry) → ℕ → KeyEntry → KeyEntry → List ℕ → List ℕ → Answer → Type 0
+ListsEntry None index was is old new answer = IsEmpty was is old new answer
+ListsEntry (Some entries) index was is old new answer = TellsEntryIf (slice_get entries index) was is old new answer
 
 -- ---- a cache's credential: its client's and its service's text, its session key and its ticket
 
@@ -82,10 +80,10 @@ abbrev pub TellsCredentialIf : Option Credential → CacheEntry → CacheEntry �
 TellsCredentialIf None was is old new answer = (answer ≡ plain no_such_entry) × ((is ≡ was) × (new ≡ old))
 TellsCredentialIf (Some x) was is old new answer = TellsCredential x was is old new answer
 
-abbrev pub ListsCredential : List ℕ → ℕ → CacheEntry → CacheEntry → List ℕ → List ℕ → Answer → Type 0
-ListsCredential bytes index was is old new answer =
-    ((cache : Cache) × (IsCache bytes cache × TellsCredentialIf (slice_get cache.credentials index) was is old new answer))
-    ⊎ (HasCacheFault bytes answer × ((is ≡ was) × (new ≡ old)))
+-- what the cache that is kept has at the index; or nothing is kept
+abbrev pub ListsCredential : Option Cache → ℕ → CacheEntry → CacheEntry → List ℕ → List ℕ → Answer → Type 0
+ListsCredential None index was is old new answer = IsEmpty was is old new answer
+ListsCredential (Some cache) index was is old new answer = TellsCredentialIf (slice_get cache.credentials index) was is old new answer
 
 -- ---- the owner of a cache, and its KDC's clock offset in seconds and microseconds
 
@@ -109,7 +107,6 @@ owner_of x = record {
 abbrev pub TellsOwner : Cache → Owner → Owner → List ℕ → List ℕ → Answer → Type 0
 TellsOwner x = Tells (text_of x.default_principal) (owner_of x)
 
-abbrev pub ListsOwner : List ℕ → Owner → Owner → List ℕ → List ℕ → Answer → Type 0
-ListsOwner bytes was is old new answer =
-    ((cache : Cache) × (IsCache bytes cache × TellsOwner cache was is old new answer))
-    ⊎ (HasCacheFault bytes answer × ((is ≡ was) × (new ≡ old)))
+abbrev pub ListsOwner : Option Cache → Owner → Owner → List ℕ → List ℕ → Answer → Type 0
+ListsOwner None was is old new answer = IsEmpty was is old new answer
+ListsOwner (Some cache) was is old new answer = TellsOwner cache was is old new answer

@@ -19,16 +19,17 @@ use krb_ccache::{CCache, CacheFault};
 use krb_name::{Principal, TextFault};
 use std::alloc::Global;
 
-/// Reads a credential cache from the bytes of its file, and keeps it in the handle. What the handle
-/// held is freed. If no cache is read, the handle is unchanged.
+/// Reads a credential cache from the bytes of its file, keeps it in the handle, and returns how many
+/// credentials it has. What the handle held is freed. If no cache is read, the handle is unchanged.
 #[unsafe(no_mangle)]
 pub extern "C" fn fevstunik_cache_new(cache: &mut CacheHandle, alloc: Global, file: &[u8]) -> Answer
     ensures { Keeps file.now cache.old.value cache.new.value result }
 {
     match kept_of(alloc, file) {
         Ok(kept) => {
+            let count = kept.credentials().len();
             *cache = CacheHandle::of(kept);
-            Answer::plain(code::OK)
+            Answer::sized(code::OK, count)
         }
         Err(answer) => answer,
     }

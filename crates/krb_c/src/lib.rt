@@ -9,7 +9,8 @@
 //!
 //! What outlives a call is kept behind a handle: one pointer that is null while the handle is
 //! empty. A [`Handle`](handle::Handle) has a service, a [`Slot`](slot::Slot) an accepted request, a
-//! [`CacheHandle`](cache_handle::CacheHandle) a credential cache, and a
+//! [`CacheHandle`](cache_handle::CacheHandle) a credential cache, a
+//! [`KeytabHandle`](keytab_handle::KeytabHandle) a keytab, and a
 //! [`PendingHandle`](pending_handle::PendingHandle) a request whose reply is awaited.
 //!
 //! `specs/Accepting` says how a call changes a service and what it accepted. `specs/Known` says
@@ -44,7 +45,9 @@ mod files;
 mod handle;
 mod held;
 mod items;
+mod keeping;
 mod kept;
+mod keytab_handle;
 mod known;
 mod listing;
 mod login;

@@ -1,12 +1,14 @@
-//! The contents of files, one by one.
+//! The contents of files that are kept, one by one.
 
 ghost use Rattle.std.specs.Prelude.{◌≡◌, IfOk};
-ghost use Rattle.krb_c.specs.Listing.{ListsCredential, ListsEntry, ListsOwner, TellsCredential, TellsEntry, TellsOwner, credential_bytes, credential_of, entry_bytes, entry_of, micros_or_zero, owner_of, seconds_or_zero};
+ghost use Rattle.std.specs.List.{slice_get};
+ghost use Rattle.krb_c.specs.Listing.{ListsCredential, ListsEntry, ListsOwner, TellsCredential, TellsCredentialIf, TellsEntry, TellsEntryIf, TellsOwner, credential_bytes, credential_of, entry_bytes, entry_of, micros_or_zero, owner_of, seconds_or_zero};
 ghost use Rattle.krb_c.specs.Known.{is_there};
 
 use crate::answer::{Answer, hand_over};
-use crate::asking::cache_of;
+use crate::cache_handle::CacheHandle;
 use crate::code;
+use crate::keytab_handle::KeytabHandle;
 use crate::known::{Span, append};
 use krb_ccache::{CCache, Credential};
 use krb_keytab::{Entry, Keytab};
@@ -78,24 +80,41 @@ pub struct Owner {
     pub has_offset: bool,
 }
 
-/// Reads one entry of a keytab; `index` counts from 0. Writes the text of its name and its key to
-/// the buffer, and their places and the numbers to `entry`.
+/// Reads one entry of a keytab that is kept; `index` counts from 0. Writes the text of its name and
+/// its key to the buffer, and their places and the numbers to `entry`.
 #[unsafe(no_mangle)]
 pub extern "C" fn fevstunik_keytab_entry(
+    keytab: &mut KeytabHandle,
     alloc: Global,
-    keytab: &[u8],
     index: usize,
     entry: &mut KeyEntry,
     buffer: &mut [u8],
 ) -> Answer
-    ensures { ListsEntry keytab.now index entry.old entry.new buffer.old buffer.new result }
+    ensures entry { ListsEntry keytab.old.value index entry.old entry.new buffer.old buffer.new result }
+    ensures stays { keytab.new.value ≡ keytab.old.value }
 {
-    match Keytab::parse(alloc, keytab) {
-        Ok(keytab) => match keytab.entries().get(index) {
-            Some(found) => tell_entry(alloc, found, entry, buffer),
-            None => Answer::plain(code::NO_SUCH_ENTRY),
-        },
-        Err(fault) => Answer::keytab(fault),
+    match keytab.take(alloc) {
+        Some(held) => {
+            let answer = tell_entry_at(alloc, &held, index, entry, buffer);
+            *keytab = KeytabHandle::of(held);
+            answer
+        }
+        None => Answer::plain(code::EMPTY_HANDLE),
+    }
+}
+
+fn tell_entry_at(
+    alloc: Global,
+    keytab: &Keytab,
+    index: usize,
+    entry: &mut KeyEntry,
+    buffer: &mut [u8],
+) -> Answer
+    ensures { TellsEntryIf (slice_get keytab.now index) entry.old entry.new buffer.old buffer.new result }
+{
+    match keytab.entries().get(index) {
+        Some(found) => tell_entry(alloc, found, entry, buffer),
+        None => Answer::plain(code::NO_SUCH_ENTRY),
     }
 }
 
@@ -133,25 +152,42 @@ fn entry_told(alloc: Global, found: &Entry) -> Result<(Vec<u8>, KeyEntry), Alloc
     Ok((bytes, told))
 }
 
-/// Reads one credential of a cache; `index` counts from 0. Writes the client's text, the service's
-/// text, the session key and the ticket to the buffer, and their places and the numbers to
-/// `credential`.
+/// Reads one credential of a cache that is kept; `index` counts from 0. Writes the client's text,
+/// the service's text, the session key and the ticket to the buffer, and their places and the
+/// numbers to `credential`.
 #[unsafe(no_mangle)]
 pub extern "C" fn fevstunik_cache_credential(
+    cache: &mut CacheHandle,
     alloc: Global,
-    cache: &[u8],
     index: usize,
     credential: &mut CacheEntry,
     buffer: &mut [u8],
 ) -> Answer
-    ensures { ListsCredential cache.now index credential.old credential.new buffer.old buffer.new result }
+    ensures credential { ListsCredential cache.old.value index credential.old credential.new buffer.old buffer.new result }
+    ensures stays { cache.new.value ≡ cache.old.value }
 {
-    match cache_of(alloc, cache) {
-        Ok(cache) => match cache.credentials().get(index) {
-            Some(found) => tell_credential(alloc, found, credential, buffer),
-            None => Answer::plain(code::NO_SUCH_ENTRY),
-        },
-        Err(answer) => answer,
+    match cache.take(alloc) {
+        Some(held) => {
+            let answer = tell_credential_at(alloc, &held, index, credential, buffer);
+            *cache = CacheHandle::of(held);
+            answer
+        }
+        None => Answer::plain(code::EMPTY_HANDLE),
+    }
+}
+
+fn tell_credential_at(
+    alloc: Global,
+    cache: &CCache,
+    index: usize,
+    credential: &mut CacheEntry,
+    buffer: &mut [u8],
+) -> Answer
+    ensures { TellsCredentialIf (slice_get cache.now.credentials index) credential.old credential.new buffer.old buffer.new result }
+{
+    match cache.credentials().get(index) {
+        Some(found) => tell_credential(alloc, found, credential, buffer),
+        None => Answer::plain(code::NO_SUCH_ENTRY),
     }
 }
 
@@ -204,20 +240,25 @@ fn credential_told(alloc: Global, found: &Credential) -> Result<(Vec<u8>, CacheE
     Ok((bytes, told))
 }
 
-/// Reads the owner of a cache. Writes the default principal's text to the buffer, and the numbers
-/// to `owner`, with the KDC's clock offset if the cache has one.
+/// Reads the owner of a cache that is kept. Writes the default principal's text to the buffer, and
+/// the numbers to `owner`, with the KDC's clock offset if the cache has one.
 #[unsafe(no_mangle)]
 pub extern "C" fn fevstunik_cache_owner(
+    cache: &mut CacheHandle,
     alloc: Global,
-    cache: &[u8],
     owner: &mut Owner,
     buffer: &mut [u8],
 ) -> Answer
-    ensures { ListsOwner cache.now owner.old owner.new buffer.old buffer.new result }
+    ensures owner { ListsOwner cache.old.value owner.old owner.new buffer.old buffer.new result }
+    ensures stays { cache.new.value ≡ cache.old.value }
 {
-    match cache_of(alloc, cache) {
-        Ok(cache) => tell_owner(alloc, &cache, owner, buffer),
-        Err(answer) => answer,
+    match cache.take(alloc) {
+        Some(held) => {
+            let answer = tell_owner(alloc, &held, owner, buffer);
+            *cache = CacheHandle::of(held);
+            answer
+        }
+        None => Answer::plain(code::EMPTY_HANDLE),
     }
 }
 
