@@ -8,6 +8,7 @@ import time
 from pathlib import Path
 
 import files
+from pairs import PAIRS as SHORT_PAIRS, compared, time_of
 
 TOP = Path(__file__).resolve().parent.parent
 sys.path.append(str(TOP / "tests" / "vectors"))
@@ -86,17 +87,14 @@ def shown(etype, entries, extra, held):
     return f"type {etype}{more}, {entries:,} entries, {held:,} tuples held"
 
 
-def table(folder, ours, mit, best_in_turn):
-    print("\n| | make_request | MIT krb5's | ratio | accept | MIT krb5's | ratio |\n|---|---|---|---|---|---|---|")
+def table(folder, ours, mit, run_of):
+    print("\n| | | ours | MIT krb5 | MIT's time / ours |\n|---|---|---|---|---|")
     for etype, entries, extra, held in rows():
         keys, tickets, now = laid_out(folder, etype, entries, extra)
-        count = "5000"
-        make, there, accept, reads = best_in_turn([
-            [ours, "make", keys, tickets, now, "0", count], [mit, "make", keys, tickets, count],
-            [ours, "accept", keys, tickets, now, str(held), count], [mit, "accept", keys, tickets, count],
-        ])
-        print(f"| {shown(etype, entries, extra, held)} | {make / 1000:.1f} µs | {there / 1000:.1f} µs | {there / make:.2f} "
-              f"| {accept / 1000:.1f} µs | {reads / 1000:.1f} µs | {reads / accept:.2f} |")
+        count = "1000"
+        for word in ("make", "accept"):
+            it = compared(run_of([ours, word, keys, tickets, now, str(held), count]), run_of([mit, word, keys, tickets, count]))
+            print(f"| {shown(etype, entries, extra, held)} | {word} | {time_of(it.ours)} | {time_of(it.theirs)} | {it.shown} |", flush=True)
 
 
 def processor_seconds(command, **more):
@@ -107,17 +105,17 @@ def processor_seconds(command, **more):
     return after.ru_utime + after.ru_stime - before.ru_utime - before.ru_stime
 
 
-def lines_row(folder, ours, krbtool, mit, count=10_000, runs=5):
-    """The command accept over lines, as a whole process, beside krb5_rd_req in a loop of C over as many requests."""
+def lines_table(folder, ours, krbtool, mit, count=10_000):
+    """The command accept over lines, as a whole process, beside krb5_rd_req in a loop of C that reads and prints as many lines."""
+    print("\n| | krbtool accept | krb5_rd_req in a loop | its time / ours |\n|---|---|---|---|")
     for etype in (19, 20):
         keys, tickets, now = laid_out(folder, etype, 1, 0)
         lines = folder / "lines"
         lines.write_bytes(subprocess.run([ours, "lines", keys, tickets, now, "0", str(count)], check=True, capture_output=True).stdout)
-        here, there = [], []
-        for _ in range(runs):
+
+        def over(command):
             with open(lines, "rb") as given:
-                here.append(processor_seconds([krbtool, "accept", keys], stdin=given))
-            made = subprocess.run([mit, "accept", keys, tickets, str(count)], check=True, capture_output=True, text=True)
-            there.append(float(made.stdout) * count / 1e9)
-        print(f"\n{count:,} lines of krbtool accept, type {etype}: {min(here) * 1000:.0f} ms; krb5_rd_req in a loop: {min(there) * 1000:.0f} ms; "
-              f"ratio {min(there) / min(here):.2f}")
+                return processor_seconds(command, stdin=given) * 1e9
+
+        it = compared(lambda: over([krbtool, "accept", keys]), lambda: over([mit, "lines", keys, tickets, str(count)]), SHORT_PAIRS)
+        print(f"| {count:,} lines, type {etype} | {time_of(it.ours)} | {time_of(it.theirs)} | {it.shown} |", flush=True)

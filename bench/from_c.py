@@ -11,12 +11,14 @@ import subprocess
 import sys
 import tempfile
 from pathlib import Path
+from statistics import median
 
 import exchange
+from pairs import PAIRS, SHORT, Compared, time_of
 
 HERE = Path(__file__).resolve().parent
 TOP = HERE.parent
-COUNT, RUNS = 5_000, 5
+COUNT = 1_000
 
 
 def said(command, **more):
@@ -37,21 +39,27 @@ def built(folder, crate):
 
 
 def least(command):
-    """The least of some runs, of each number that the program prints."""
-    runs = [map(float, said(command).split()) for _ in range(RUNS)]
+    """The least of some short runs, of each number that the program prints."""
+    runs = [list(map(float, said(command).split())) for _ in range(SHORT)]
     return [min(numbers) for numbers in zip(*runs)]
 
 
+def of_pairs(runs):
+    """Both sides of a call, from runs in which each program timed one after the other."""
+    ratios = [there / here for here, there in runs]
+    return Compared(min(it[0] for it in runs), min(it[1] for it in runs), median(ratios), min(ratios), max(ratios))
+
+
 def table(folder, program):
-    print("\n| from C, processor time | fevstunik_request | krb5_mk_req_extended | ratio | fevstunik_acceptor_accept and fevstunik_accepted_known | krb5_rd_req "
-          "| ratio |\n|---|---|---|---|---|---|---|")
+    print("\n| from C, processor time | call | ours | MIT krb5 | MIT's time / ours |\n|---|---|---|---|---|")
     for etype in (19, 20):
         for extra in (0, exchange.PAC):
             keys, tickets, _ = exchange.laid_out(folder, etype, 1, extra)
-            make, their_make, accept, their_accept = least([program, keys, tickets, COUNT])
+            runs = [least([program, keys, tickets, COUNT]) for _ in range(PAIRS)]
             more = f", {extra:,} bytes of authorization data" if extra else ""
-            print(f"| type {etype}{more} | {make / 1000:.1f} µs | {their_make / 1000:.1f} µs | {their_make / make:.2f} "
-                  f"| {accept / 1000:.1f} µs | {their_accept / 1000:.1f} µs | {their_accept / accept:.2f} |", flush=True)
+            for at, call in ((0, "fevstunik_request, krb5_mk_req_extended"), (2, "fevstunik_acceptor_accept and _accepted_known, krb5_rd_req")):
+                it = of_pairs([(run[at], run[at + 1]) for run in runs])
+                print(f"| type {etype}{more} | {call} | {time_of(it.ours)} | {time_of(it.theirs)} | {it.shown} |", flush=True)
 
 
 def main():

@@ -1,6 +1,7 @@
 /* Times MIT krb5's krb5_mk_req_extended and krb5_rd_req, as fast as they go: keytab in memory, no replay cache.
  *
  *   mit_exchange make|accept KEYTAB CACHE COUNT      prints nanoseconds a call
+ *   mit_exchange lines KEYTAB CACHE COUNT            answers lines of standard input as krbtool accept does
  *
  * Requests are for the first credential of the cache, at the moment that the clock shows.
  */
@@ -92,6 +93,51 @@ static double accept(krb5_keytab keytab, krb5_creds *credential, long count)
     return (now() - start) / count;
 }
 
+/* The bytes of hexadecimal digits; answers how many. */
+static size_t unhex(const char *text, char *bytes)
+{
+    static const char digits[] = "0123456789abcdef";
+    size_t size = 0;
+    for (; strchr(digits, text[0]) && text[0] && text[1]; text += 2)
+        bytes[size++] = (char)((strchr(digits, text[0]) - digits) << 4 | (strchr(digits, text[1]) - digits));
+    return size;
+}
+
+static void answer(krb5_keytab keytab, krb5_principal server, krb5_data *request)
+{
+    krb5_auth_context state = without_times();
+    krb5_authenticator *authenticator;
+    krb5_ticket *ticket;
+    char *client;
+    must(krb5_rd_req(context, &state, request, server, keytab, NULL, &ticket), "a call");
+    must(krb5_auth_con_getauthenticator(context, state, &authenticator), "an authenticator");
+    must(krb5_unparse_name(context, ticket->enc_part2->client, &client), "a name");
+    printf("accepted %s %d %ld %d plain\n", client, (int)ticket->enc_part2->session->enctype, (long)authenticator->ctime, (int)authenticator->cusec);
+    fflush(stdout);
+    krb5_free_unparsed_name(context, client);
+    krb5_free_authenticator(context, authenticator);
+    krb5_free_ticket(context, ticket);
+    krb5_auth_con_free(context, state);
+}
+
+/* Each line is `seconds micros hex`; the clock is the library's own. An answer is written before the next line is read, as by krbtool. */
+static int lines(krb5_keytab keytab, krb5_principal server)
+{
+    char *line = NULL, *bytes = NULL;
+    size_t room = 0;
+    while (getline(&line, &room, stdin) > 0) {
+        char *hex = strrchr(line, ' ');
+        bytes = realloc(bytes, room);
+        if (hex == NULL || bytes == NULL)
+            return 1;
+        krb5_data request = {.data = bytes, .length = (unsigned)unhex(hex + 1, bytes)};
+        answer(keytab, server, &request);
+    }
+    free(line);
+    free(bytes);
+    return 0;
+}
+
 int main(int argc, char **argv)
 {
     if (argc != 5)
@@ -99,6 +145,8 @@ int main(int argc, char **argv)
     must(krb5_init_context(&context), "a context");
     krb5_creds credential = first_credential(argv[3]);
     long count = atol(argv[4]);
+    if (strcmp(argv[1], "lines") == 0)
+        return lines(keytab_in_memory(argv[2]), credential.server);
     double each = strcmp(argv[1], "make") ? accept(keytab_in_memory(argv[2]), &credential, count) : make(&credential, NULL, count);
     printf("%.1f\n", each);
     return 0;

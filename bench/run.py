@@ -1,11 +1,13 @@
 #!/usr/bin/env python3
 """Times this repository's cipher, sealing, messages, memory of what was seen, requests (also from C) and listings in one run, most of them
-beside OpenSSL and MIT krb5, and prints tables of ratios.
+beside OpenSSL and MIT krb5, and prints all tables of bench/README.md but those of shared stores (stores.py) and of growth (growth.py).
 
-    bench/run.py
+    bench/run.py [TABLE..]      the tables of these names, or all: cipher, sealing, messages, memory, requests, c, process, listings
 
-Needs a C compiler and Debian's packages krb5-user, libkrb5-dev, libssl-dev and pkg-config. It proves and builds what it
-times, which takes a while on a new clone. Nothing here is a test: it asserts nothing but that all programs end well.
+Both sides of a row run in turn, in nine pairs; a row says the median of the pairs' ratios, and the least and the greatest of them. If these
+differ by more than a third of the median, the row says that the machine was too busy to tell. Needs a C compiler and Debian's packages
+krb5-user, libkrb5-dev, libssl-dev and pkg-config. It proves and builds what it times, which takes a while on a new clone. Nothing here is a
+test: it asserts nothing but that all programs end well.
 """
 import os
 import shutil
@@ -17,6 +19,7 @@ from pathlib import Path
 import exchange
 import files
 import from_c
+from pairs import compared, time_of
 
 HERE = Path(__file__).resolve().parent
 TOP = HERE.parent
@@ -34,7 +37,6 @@ KRBTOOL = str(TOP / "crates" / "krbtool" / "out" / "krbtool")
 NO_AES_NI = {"OPENSSL_ia32cap": "~0x200000200000000"}
 SIZES = [(60, "60 bytes"), (1024, "1 KiB"), (65_536, "64 KiB"), (1_048_576, "1 MiB")]
 RUNS = 5
-SHORT_RUNS = 25
 
 
 def said(command, **more):
@@ -83,9 +85,9 @@ def once(command, env=None):
     return float(said(command, env={**os.environ, **(env or {})}).split()[0])
 
 
-def best(command, env=None):
-    """The least of some runs."""
-    return min(once(command, env) for _ in range(RUNS))
+def run_of(command, env=None):
+    """A run of a program, for pairs."""
+    return lambda: once(command, env)
 
 
 def best_in_turn(commands, count=RUNS):
@@ -94,24 +96,22 @@ def best_in_turn(commands, count=RUNS):
 
 
 def block_table(ours, blocks):
-    count = "2000000"
-    print("| one block after another | lanes | byte by byte | OpenSSL | OpenSSL without AES-NI | bytes / lanes | lanes / OpenSSL without |")
-    print("|---|---|---|---|---|---|---|")
+    count = "200000"
+    print("| one block after another | ours | OpenSSL without AES-NI | OpenSSL's time / ours | byte by byte | OpenSSL |")
+    print("|---|---|---|---|---|---|")
     for bits in ("128", "256"):
         for way in ("encrypt", "decrypt"):
-            lanes, by_bytes = (best([ours, way, how, bits, count]) for how in ("lanes", "bytes"))
-            fast, slow = best([blocks, way, bits, count]), best([blocks, way, bits, count], NO_AES_NI)
-            print(f"| AES-{bits}, {way} | {lanes:.0f} ns | {by_bytes:.0f} ns | {fast:.0f} ns | {slow:.0f} ns "
-                  f"| {by_bytes / lanes:.1f} | {lanes / slow:.1f} |")
+            it = compared(run_of([ours, way, "lanes", bits, count]), run_of([blocks, way, bits, count], NO_AES_NI))
+            slow, fast = best_in_turn([[ours, way, "bytes", bits, count], [blocks, way, bits, count]])
+            print(f"| AES-{bits}, {way} | {time_of(it.ours)} | {time_of(it.theirs)} | {it.shown} | {time_of(slow)} | {time_of(fast)} |", flush=True)
 
 
 def sealing_row(ours, mit, way, etype, size, name, ready=False):
-    """Many short runs, since the machine's pace changes from second to second."""
     count = str(max(4, 4_000_000 // (size + 2_000)))
     word = f"{way}-ready" if ready else way
-    here, there = best_in_turn([[ours, word, etype, str(size), count], [mit, way, etype, str(size), count]], SHORT_RUNS)
+    it = compared(run_of([ours, word, etype, str(size), count]), run_of([mit, way, etype, str(size), count]))
     more = ", the key made ready" if ready else ""
-    print(f"| {way}, type {etype}, {name}{more} | {here / 1000:,.1f} µs | {there / 1000:,.1f} µs | {there / here:.2f} |", flush=True)
+    print(f"| {way}, type {etype}, {name}{more} | {time_of(it.ours)} | {time_of(it.theirs)} | {it.shown} |", flush=True)
 
 
 def sealing_table(ours, mit):
@@ -141,16 +141,13 @@ def messages():
 
 def message_table(ours, mit):
     """Ours is read in place, or read and copied; MIT's decoding always copies. Each time includes freeing what was made."""
-    ways = [(ours, "parse"), (ours, "own"), (ours, "encode"), (mit, "decode"), (mit, "encode")]
-    print("\n| | bytes | parse | parse and to_owned | encode | MIT krb5's decode | its encode "
-          "| decode / parse | decode / parse and to_owned | its encode / encode |")
-    print("|---|---|---|---|---|---|---|---|---|---|")
+    print("\n| | bytes | | ours | MIT krb5 | MIT's time / ours |\n|---|---|---|---|---|---|")
     for name, word, message in messages():
         size = len(message)
-        times = best_in_turn([[program, word, way, message.hex(), str(20_000_000 // size)] for program, way in ways])
-        parse, own, encode, decoded, encoded = times
-        shown = " | ".join(f"{time:,.0f} ns" for time in times)
-        print(f"| {name} | {size} | {shown} | {decoded / parse:.1f} | {decoded / own:.1f} | {encoded / encode:.2f} |")
+        for way, said, other in (("parse", "parse", "decode"), ("own", "parse and copy", "decode"), ("encode", "encode", "encode")):
+            words = [message.hex(), str(4_000_000 // size)]
+            it = compared(run_of([ours, word, way, *words]), run_of([mit, word, other, *words]))
+            print(f"| {name} | {size} | {said} | {time_of(it.ours)} | {time_of(it.theirs)} | {it.shown} |", flush=True)
 
 
 def memory_table(ours):
@@ -167,20 +164,28 @@ def memory_table(ours):
     print(f"\nadvance drops 500,000 tuples in {half * 500_000 / 1e6:.0f} ms, and 250,000 in {quarter * 250_000 / 1e6:.0f} ms.")
 
 
+TABLES = {
+    "cipher": lambda folder, programs: block_table(programs["krb_bench"], programs["aes_blocks"]),
+    "sealing": lambda folder, programs: sealing_table(programs["krb_bench"], programs["mit_crypto"]),
+    "messages": lambda folder, programs: message_table(programs["krb_bench"], programs["mit_messages"]),
+    "memory": lambda folder, programs: memory_table(programs["krb_bench"]),
+    "requests": lambda folder, programs: exchange.table(folder, programs["krb_exchange"], programs["mit_exchange"], run_of),
+    "c": lambda folder, programs: from_c.table(folder, from_c.built(folder, folder / "crates/krb_c")),
+    "process": lambda folder, programs: exchange.lines_table(folder, programs["krb_exchange"], KRBTOOL, programs["mit_exchange"]),
+    "listings": lambda folder, programs: files.tables(KRBTOOL),
+}
+
+
 def main():
+    unknown = set(sys.argv[1:]) - set(TABLES)
+    if unknown:
+        sys.exit(f"no table {' '.join(sorted(unknown))}: there are {' '.join(TABLES)}")
+    said([str(TOP / "krbtool"), "--help"])
     with tempfile.TemporaryDirectory() as name:
         programs = built(Path(name))
-        ours = programs["krb_bench"]
-        block_table(ours, programs["aes_blocks"])
-        sealing_table(ours, programs["mit_crypto"])
-        message_table(ours, programs["mit_messages"])
-        memory_table(ours)
-        exchange.table(Path(name), programs["krb_exchange"], programs["mit_exchange"], best_in_turn)
-        from_c.table(Path(name), from_c.built(Path(name), Path(name) / "crates/krb_c"))
-        said([str(TOP / "krbtool"), "--help"])
-        exchange.lines_row(Path(name), programs["krb_exchange"], KRBTOOL, programs["mit_exchange"])
-    print()
-    files.tables(KRBTOOL)
+        for table in sys.argv[1:] or TABLES:
+            TABLES[table](Path(name), programs)
+            print()
 
 
 if __name__ == "__main__":
