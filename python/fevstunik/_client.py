@@ -9,7 +9,7 @@ from types import TracebackType
 from . import _library
 from ._files import CredentialCache
 from ._library import Bytes, Handle, filled, octets, read
-from ._values import CONFOUNDER, Key, When, chosen, clock
+from ._values import CONFOUNDER, Key, When, chosen, clock_of_request
 
 
 @dataclass(frozen=True)
@@ -88,7 +88,8 @@ def make_request(cache: CredentialCache, service: str, *, now: When | None = Non
 
     cache        has a ticket of its owner for the service
     service      the service's name, as ``host/web@EX``
-    now          the client's clock: the machine's by default. Never make two requests with the same moment
+    now          the client's clock. By default the machine's, and then no two requests of this process have the same moment. Else see to that
+                 yourself: a service refuses the second of two requests with one moment
     subkey       a key that the client chooses, as Key.random(20), or None
     seq          the client's first sequence number, or None
     wants_reply  whether to ask the service for a reply
@@ -101,7 +102,7 @@ def make_request(cache: CredentialCache, service: str, *, now: When | None = Non
     >>> request[0] == 0x6e
     True
     """
-    name, at, confounder, choice = service.encode(), clock(now), os.urandom(CONFOUNDER), chosen(subkey, seq, wants_reply)
+    name, at, confounder, choice = service.encode(), clock_of_request(now), os.urandom(CONFOUNDER), chosen(subkey, seq, wants_reply)
     pending = Handle("pending")
     with cache._handle.used() as held, pending.used() as pointer:
         request = filled(lambda *into: pending.library.call(

@@ -3,6 +3,7 @@ from __future__ import annotations
 
 import enum
 import os
+import threading
 import time
 from ctypes import byref
 from dataclasses import dataclass, field
@@ -66,8 +67,34 @@ When = Union[Moment, int, float]
 
 def clock(when: When | None) -> _library.Time:
     """The moment as the library takes it: the machine's clock by default."""
-    moment = Moment.now() if when is None else Moment.of(when)
+    return _taken(Moment.now() if when is None else Moment.of(when))
+
+
+def _taken(moment: Moment) -> _library.Time:
     return _library.Time(moment.seconds, moment.micros)
+
+
+class _OwnMoments:
+    """Moments of the machine's clock, each handed out once, in any number of threads. A clock that stands still, or is set back by less than
+    a second, is counted on by microseconds."""
+
+    def __init__(self) -> None:
+        self._lock = threading.Lock()
+        self._last = 0
+
+    def next(self) -> Moment:
+        with self._lock:
+            now = time.time_ns() // 1000
+            self._last = self._last + 1 if 0 <= self._last - now < 1_000_000 else now
+            return Moment(*divmod(self._last, 1_000_000))
+
+
+_own_moments = _OwnMoments()
+
+
+def clock_of_request(when: When | None) -> _library.Time:
+    """The same for a client's request: by default a moment that no other request of this process has."""
+    return _taken(_own_moments.next() if when is None else Moment.of(when))
 
 
 class TicketFlags(enum.IntFlag):

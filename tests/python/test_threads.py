@@ -77,3 +77,21 @@ def test_closed_while_it_is_used(sent):
             return getattr(fault, "name", repr(fault))
     found = Counter(each_of(lambda number: sent[number:4_000:THREADS], work))
     assert set(found) <= {True, "closed", "EMPTY_HANDLE"} and found["closed"] == 1
+
+
+def test_each_request_has_a_moment_of_its_own(monkeypatch):
+    """Also while the clock stands still: no request is refused as the repeat of another."""
+    monkeypatch.setattr("time.time_ns", lambda: AT * 1_000_000_000)
+    with CredentialCache(der.cache()) as cache, Acceptor(Keytab(der.keytab()), SERVICE, started=None) as service:
+        made = each_of(lambda _: range(EACH), lambda _: make_request(cache, SERVICE)[0])
+        times = Counter(service.accept(request, AT).time for request in made)
+    assert len(times) == THREADS * EACH and set(times.values()) == {1}
+
+
+def test_a_clock_that_is_set_back(monkeypatch):
+    """A little back: the moments go on. Far back: they follow the clock."""
+    nanoseconds = iter([AT * 1_000_000_000, AT * 1_000_000_000 - 500_000_000, (AT - 60) * 1_000_000_000, (AT - 60) * 1_000_000_000 + 3_000])
+    monkeypatch.setattr("time.time_ns", lambda: next(nanoseconds))
+    with CredentialCache(der.cache()) as cache, Acceptor(Keytab(der.keytab()), SERVICE, started=None) as service:
+        times = [service.accept(make_request(cache, SERVICE)[0], AT).time for _ in range(4)]
+    assert times == [Moment(AT), Moment(AT, 1), Moment(AT - 60), Moment(AT - 60, 3)]
