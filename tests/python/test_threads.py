@@ -90,8 +90,10 @@ def test_each_request_has_a_moment_of_its_own(monkeypatch):
 
 def test_a_clock_that_is_set_back(monkeypatch):
     """A little back: the moments go on. Far back: they follow the clock."""
-    nanoseconds = iter([AT * 1_000_000_000, AT * 1_000_000_000 - 500_000_000, (AT - 60) * 1_000_000_000, (AT - 60) * 1_000_000_000 + 3_000])
+    second = AT + 50
+    nanoseconds = iter([second * 1_000_000_000, second * 1_000_000_000 - 500_000_000, (second - 60) * 1_000_000_000,
+                        (second - 60) * 1_000_000_000 + 3_000])
     monkeypatch.setattr("time.time_ns", lambda: next(nanoseconds))
     with CredentialCache(der.cache()) as cache, Acceptor(Keytab(der.keytab()), SERVICE, started=None) as service:
         times = [service.accept(make_request(cache, SERVICE)[0], AT).time for _ in range(4)]
-    assert times == [Moment(AT), Moment(AT, 1), Moment(AT - 60), Moment(AT - 60, 3)]
+    assert times == [Moment(second), Moment(second, 1), Moment(second - 60), Moment(second - 60, 3)]
