@@ -478,7 +478,7 @@ typedef struct fevstunik_pending {
 /* Checks that the bytes of a file are a keytab of version 0x0502. `size` is the number of its
  * entries.
  *
- * Answers FEVSTUNIK_OK, or FEVSTUNIK_TOO_LONG, _FILE_VERSION, _FILE_TRUNCATED, _FILE_BAD_ITEM or
+ * Returns FEVSTUNIK_OK, or FEVSTUNIK_TOO_LONG, _FILE_VERSION, _FILE_TRUNCATED, _FILE_BAD_ITEM or
  * FEVSTUNIK_OUT_OF_MEMORY.
  *
  *     if (fevstunik_keytab_check(file, file_size).code == FEVSTUNIK_OK) ...
@@ -488,7 +488,7 @@ fevstunik_answer fevstunik_keytab_check(const uint8_t *keytab, size_t keytab_siz
 /* Checks that the bytes of a file are a credential cache of version 0x0503 or 0x0504. `size` is the
  * number of its credentials; configuration entries count too.
  *
- * Answers FEVSTUNIK_OK, or FEVSTUNIK_TOO_LONG, _FILE_VERSION, _FILE_HEADER, _FILE_BAD_ITEM or
+ * Returns FEVSTUNIK_OK, or FEVSTUNIK_TOO_LONG, _FILE_VERSION, _FILE_HEADER, _FILE_BAD_ITEM or
  * FEVSTUNIK_OUT_OF_MEMORY.
  *
  *     if (fevstunik_cache_check(file, file_size).code == FEVSTUNIK_OK) ...
@@ -499,7 +499,7 @@ fevstunik_answer fevstunik_cache_check(const uint8_t *cache, size_t cache_size);
  * entries can be read one by one. What the handle held is freed. The file's bytes aren't needed
  * afterwards. `size` is the number of its entries.
  *
- * Answers FEVSTUNIK_OK; or leaves the handle unchanged and answers FEVSTUNIK_TOO_LONG,
+ * Returns FEVSTUNIK_OK; or leaves the handle unchanged and returns FEVSTUNIK_TOO_LONG,
  * _FILE_VERSION, _FILE_TRUNCATED, _FILE_BAD_ITEM or FEVSTUNIK_OUT_OF_MEMORY.
  *
  *     fevstunik_keytab keytab = FEVSTUNIK_KEYTAB_INIT;
@@ -511,7 +511,7 @@ fevstunik_answer fevstunik_keytab_new(fevstunik_keytab *keytab, const uint8_t *f
  * its key to the buffer, and their places and the numbers to `entry`. `entry` is written even if
  * the buffer is too short. The handle is unchanged.
  *
- * Answers FEVSTUNIK_OK or FEVSTUNIK_SHORT_BUFFER; or writes nothing and answers
+ * Returns FEVSTUNIK_OK or FEVSTUNIK_SHORT_BUFFER; or writes nothing and returns
  * FEVSTUNIK_EMPTY_HANDLE, FEVSTUNIK_NO_SUCH_ENTRY or FEVSTUNIK_OUT_OF_MEMORY.
  *
  *     for (index = 0; fevstunik_keytab_entry(&keytab, index, &entry, buffer, sizeof buffer).code == FEVSTUNIK_OK; index++) ...
@@ -531,7 +531,7 @@ void fevstunik_keytab_free(fevstunik_keytab *keytab);
  * freed. The file's bytes aren't needed afterwards. `size` is the number of its credentials;
  * configuration entries count too.
  *
- * Answers FEVSTUNIK_OK; or leaves the handle unchanged and answers the first that applies:
+ * Returns FEVSTUNIK_OK; or leaves the handle unchanged and returns the first that applies:
  * FEVSTUNIK_FILE_VERSION, _FILE_HEADER, _FILE_BAD_ITEM, _TOO_LONG or FEVSTUNIK_OUT_OF_MEMORY.
  *
  *     fevstunik_cache cache = FEVSTUNIK_CACHE_INIT;
@@ -544,7 +544,7 @@ fevstunik_answer fevstunik_cache_new(fevstunik_cache *cache, const uint8_t *file
  * numbers to `credential`. `credential` is written even if the buffer is too short. Addresses,
  * authorization data and a second ticket aren't returned. The handle is unchanged.
  *
- * Answers FEVSTUNIK_OK or FEVSTUNIK_SHORT_BUFFER; or writes nothing and answers
+ * Returns FEVSTUNIK_OK or FEVSTUNIK_SHORT_BUFFER; or writes nothing and returns
  * FEVSTUNIK_EMPTY_HANDLE, FEVSTUNIK_NO_SUCH_ENTRY or FEVSTUNIK_OUT_OF_MEMORY.
  *
  *     for (index = 0; fevstunik_cache_credential(&cache, index, &entry, buffer, sizeof buffer).code == FEVSTUNIK_OK; index++) ...
@@ -556,7 +556,7 @@ fevstunik_answer fevstunik_cache_credential(const fevstunik_cache *cache, size_t
  * the numbers to `owner`, with the KDC's clock offset if the cache has one. `owner` is written even
  * if the buffer is too short. The handle is unchanged.
  *
- * Answers FEVSTUNIK_OK or FEVSTUNIK_SHORT_BUFFER; or writes nothing and answers
+ * Returns FEVSTUNIK_OK or FEVSTUNIK_SHORT_BUFFER; or writes nothing and returns
  * FEVSTUNIK_EMPTY_HANDLE or FEVSTUNIK_OUT_OF_MEMORY.
  *
  *     answer = fevstunik_cache_owner(&cache, &owner, buffer, sizeof buffer);
@@ -575,7 +575,7 @@ void fevstunik_cache_free(fevstunik_cache *cache);
  * long enough. If there is none, it goes after the last record. Then an end word (a record's size
  * of 0) and the bytes after it are lost. The bytes 05 02 are an empty keytab.
  *
- * Answers FEVSTUNIK_OK or FEVSTUNIK_SHORT_BUFFER; or writes nothing and answers the first that
+ * Returns FEVSTUNIK_OK or FEVSTUNIK_SHORT_BUFFER; or writes nothing and returns the first that
  * applies: FEVSTUNIK_NOT_UTF8, _BAD_TEXT or _NO_REALM for the name; FEVSTUNIK_TOO_LONG if the name
  * has more than 65,535 parts, or a part of it or the key has more than 65,535 bytes;
  * FEVSTUNIK_TOO_LONG, _FILE_VERSION, _FILE_TRUNCATED or _FILE_BAD_ITEM for the keytab;
@@ -590,7 +590,7 @@ fevstunik_answer fevstunik_keytab_add(const uint8_t *keytab, size_t keytab_size,
 /* Removes one entry of a keytab, and returns the bytes of the new file; `index` counts from 0. The
  * entry's record becomes a hole of zeros. Nothing else changes, so the file's size stays the same.
  *
- * Answers FEVSTUNIK_OK or FEVSTUNIK_SHORT_BUFFER; or writes nothing and answers FEVSTUNIK_TOO_LONG,
+ * Returns FEVSTUNIK_OK or FEVSTUNIK_SHORT_BUFFER; or writes nothing and returns FEVSTUNIK_TOO_LONG,
  * _FILE_VERSION, _FILE_TRUNCATED, _FILE_BAD_ITEM, FEVSTUNIK_NO_SUCH_ENTRY or
  * FEVSTUNIK_OUT_OF_MEMORY.
  *
@@ -601,7 +601,7 @@ fevstunik_answer fevstunik_keytab_remove(const uint8_t *keytab, size_t keytab_si
 /* Returns the bytes of a new file with the entries of a keytab, in their order. Holes, and whatever
  * follows an end word, are left out. Each entry has its version number in 32 bits too.
  *
- * Answers FEVSTUNIK_OK or FEVSTUNIK_SHORT_BUFFER; or writes nothing and answers FEVSTUNIK_TOO_LONG
+ * Returns FEVSTUNIK_OK or FEVSTUNIK_SHORT_BUFFER; or writes nothing and returns FEVSTUNIK_TOO_LONG
  * (for the keytab or the new file), _FILE_VERSION, _FILE_TRUNCATED, _FILE_BAD_ITEM or
  * FEVSTUNIK_OUT_OF_MEMORY.
  *
@@ -616,7 +616,7 @@ fevstunik_answer fevstunik_keytab_write(const uint8_t *keytab, size_t keytab_siz
  * and a byte that isn't a visible ASCII character is written as `\x` and two hexadecimal digits in
  * lower case. `size` is the number of components. A name has only one text.
  *
- * Answers FEVSTUNIK_OK, FEVSTUNIK_NOT_UTF8, FEVSTUNIK_BAD_TEXT with the offset in `at`,
+ * Returns FEVSTUNIK_OK, FEVSTUNIK_NOT_UTF8, FEVSTUNIK_BAD_TEXT with the offset in `at`,
  * FEVSTUNIK_NO_REALM or FEVSTUNIK_OUT_OF_MEMORY.
  *
  *     if (fevstunik_name_check((const uint8_t *)"host/web@EX", 11).code == FEVSTUNIK_OK) ...
@@ -642,7 +642,7 @@ fevstunik_answer fevstunik_name_check(const uint8_t *name, size_t name_size);
  * stamps (fevstunik_accepted_stamp). After a restart use fevstunik_acceptor_started: a service that
  * forgot its requests may accept one of them again.
  *
- * Answers FEVSTUNIK_OK; or leaves the handle unchanged and answers the first that applies:
+ * Returns FEVSTUNIK_OK; or leaves the handle unchanged and returns the first that applies:
  * FEVSTUNIK_BAD_SKEW; FEVSTUNIK_TOO_LONG, _FILE_VERSION, _FILE_TRUNCATED or _FILE_BAD_ITEM for the
  * keytab; FEVSTUNIK_NOT_UTF8, _BAD_TEXT or _NO_REALM for the service; or FEVSTUNIK_OUT_OF_MEMORY.
  *
@@ -660,7 +660,7 @@ fevstunik_answer fevstunik_acceptor_new(fevstunik_acceptor *handle, const uint8_
  * and the skew is no smaller than it was. So round `start` up if it comes from a coarser clock than
  * those moments.
  *
- * Answers FEVSTUNIK_OK; or leaves the handle unchanged and answers the first that applies:
+ * Returns FEVSTUNIK_OK; or leaves the handle unchanged and returns the first that applies:
  * FEVSTUNIK_BAD_MOMENT for `start`; FEVSTUNIK_BAD_SKEW; FEVSTUNIK_TOO_LONG, _FILE_VERSION,
  * _FILE_TRUNCATED or _FILE_BAD_ITEM for the keytab; FEVSTUNIK_NOT_UTF8, _BAD_TEXT or _NO_REALM for
  * the service; or FEVSTUNIK_OUT_OF_MEMORY.
@@ -677,7 +677,7 @@ fevstunik_answer fevstunik_acceptor_started(fevstunik_acceptor *handle, const ui
  * that holds a service forget what that service has seen.) `service` is as in
  * fevstunik_acceptor_new.
  *
- * Answers FEVSTUNIK_OK; or leaves the service unchanged and answers FEVSTUNIK_EMPTY_HANDLE;
+ * Returns FEVSTUNIK_OK; or leaves the service unchanged and returns FEVSTUNIK_EMPTY_HANDLE;
  * FEVSTUNIK_TOO_LONG, _FILE_VERSION, _FILE_TRUNCATED or _FILE_BAD_ITEM for the keytab;
  * FEVSTUNIK_NOT_UTF8, _BAD_TEXT or _NO_REALM for the service; or FEVSTUNIK_OUT_OF_MEMORY.
  *
@@ -691,7 +691,7 @@ fevstunik_answer fevstunik_acceptor_replace_keytab(fevstunik_acceptor *handle, c
  * requests, one after the other. If threads share a service, each thread has such a handle of its
  * own, and reads it without a lock.
  *
- * Answers FEVSTUNIK_OK; or leaves the handle unchanged and answers FEVSTUNIK_OUT_OF_MEMORY.
+ * Returns FEVSTUNIK_OK; or leaves the handle unchanged and returns FEVSTUNIK_OUT_OF_MEMORY.
  *
  *     fevstunik_accepted accepted = FEVSTUNIK_ACCEPTED_INIT;
  *     if (fevstunik_accepted_new(&accepted).code == FEVSTUNIK_OK) ...
@@ -712,7 +712,7 @@ fevstunik_answer fevstunik_accepted_new(fevstunik_accepted *accepted);
  * an error for the client from it. fevstunik_error builds the same error from the answer's code
  * alone, and needs no lock.
  *
- * Answers FEVSTUNIK_OK; a cause from FEVSTUNIK_MESSAGE_TYPE to FEVSTUNIK_AUTHORIZATION;
+ * Returns FEVSTUNIK_OK; a cause from FEVSTUNIK_MESSAGE_TYPE to FEVSTUNIK_AUTHORIZATION;
  * FEVSTUNIK_BAD_MOMENT; FEVSTUNIK_EMPTY_HANDLE if either handle is empty; or
  * FEVSTUNIK_OUT_OF_MEMORY. FEVSTUNIK_EMPTY_HANDLE leaves the service unchanged.
  * FEVSTUNIK_BAD_MOMENT and FEVSTUNIK_OUT_OF_MEMORY leave what is remembered and the latest moment
@@ -733,7 +733,7 @@ fevstunik_answer fevstunik_acceptor_accept(fevstunik_acceptor *handle, fevstunik
  * though they are two names.) The ticket's addresses weren't compared with anything:
  * fevstunik_accepted_item returns them, the authorization data and the checksum.
  *
- * Answers FEVSTUNIK_OK or FEVSTUNIK_SHORT_BUFFER; or writes nothing and answers
+ * Returns FEVSTUNIK_OK or FEVSTUNIK_SHORT_BUFFER; or writes nothing and returns
  * FEVSTUNIK_EMPTY_HANDLE, FEVSTUNIK_NOTHING_THERE or FEVSTUNIK_OUT_OF_MEMORY.
  *
  *     fevstunik_known known;
@@ -749,7 +749,7 @@ fevstunik_answer fevstunik_accepted_known(const fevstunik_accepted *accepted, fe
  * the stamp, and have the store keep it until `keep_until`, which is the client's time plus twice
  * `skew`, in seconds. `keep_until` is written even if the buffer is too short.
  *
- * Answers FEVSTUNIK_OK or FEVSTUNIK_SHORT_BUFFER; or writes nothing and answers
+ * Returns FEVSTUNIK_OK or FEVSTUNIK_SHORT_BUFFER; or writes nothing and returns
  * FEVSTUNIK_EMPTY_HANDLE, FEVSTUNIK_NOTHING_THERE, FEVSTUNIK_BAD_SKEW (more than 86,400 seconds),
  * FEVSTUNIK_BAD_MOMENT (`keep_until` would be after the year 9999) or FEVSTUNIK_OUT_OF_MEMORY.
  *
@@ -762,7 +762,7 @@ fevstunik_answer fevstunik_accepted_stamp(const fevstunik_accepted *accepted, ui
 /* Returns when the ticket of the accepted request becomes valid, if the ticket says so. Otherwise it
  * is valid from `authtime` on. The call allocates no memory.
  *
- * Answers FEVSTUNIK_OK; or writes nothing and answers FEVSTUNIK_EMPTY_HANDLE, or
+ * Returns FEVSTUNIK_OK; or writes nothing and returns FEVSTUNIK_EMPTY_HANDLE, or
  * FEVSTUNIK_NOTHING_THERE if nothing was accepted or the ticket doesn't say.
  *
  *     fevstunik_time start;
@@ -773,7 +773,7 @@ fevstunik_answer fevstunik_accepted_start(const fevstunik_accepted *accepted, fe
 /* Counts the items of a list of the accepted request. `list` is a fevstunik_list, and `size` is the
  * number of its items. A list that the request has may have no items. The call allocates no memory.
  *
- * Answers FEVSTUNIK_OK, FEVSTUNIK_EMPTY_HANDLE, FEVSTUNIK_NOTHING_THERE, or FEVSTUNIK_NO_SUCH_ENTRY
+ * Returns FEVSTUNIK_OK, FEVSTUNIK_EMPTY_HANDLE, FEVSTUNIK_NOTHING_THERE, or FEVSTUNIK_NO_SUCH_ENTRY
  * if the request doesn't have the list.
  *
  *     answer = fevstunik_accepted_count(&accepted, FEVSTUNIK_LIST_TICKET_AUTHORIZATION);
@@ -785,7 +785,7 @@ fevstunik_answer fevstunik_accepted_count(const fevstunik_accepted *accepted, ui
  * of authorization data (section 7.5.4) or of a checksum (section 7.5.6). `kind` is written even if
  * the buffer is too short. The call allocates no memory.
  *
- * Answers FEVSTUNIK_OK or FEVSTUNIK_SHORT_BUFFER; or writes nothing and answers
+ * Returns FEVSTUNIK_OK or FEVSTUNIK_SHORT_BUFFER; or writes nothing and returns
  * FEVSTUNIK_EMPTY_HANDLE, FEVSTUNIK_NOTHING_THERE, or FEVSTUNIK_NO_SUCH_ENTRY if the request
  * doesn't have the list or the list doesn't have the item.
  *
@@ -798,7 +798,7 @@ fevstunik_answer fevstunik_accepted_item(const fevstunik_accepted *accepted, uin
  * it doesn't check that itself. `confounder` is 16 random bytes, new for each call. `subkey` has
  * the bytes of the subkey whose type is in `choice`. If that type is 0, they are ignored.
  *
- * Answers FEVSTUNIK_OK or FEVSTUNIK_SHORT_BUFFER; or writes nothing and answers the first that
+ * Returns FEVSTUNIK_OK or FEVSTUNIK_SHORT_BUFFER; or writes nothing and returns the first that
  * applies: FEVSTUNIK_EMPTY_HANDLE; FEVSTUNIK_NOTHING_THERE; FEVSTUNIK_BAD_CONFOUNDER;
  * FEVSTUNIK_KEY_TYPE or _KEY_LENGTH for the subkey; or FEVSTUNIK_OUT_OF_MEMORY. A reply has fewer
  * than 256 bytes.
@@ -824,7 +824,7 @@ void fevstunik_accepted_free(fevstunik_accepted *accepted);
  * host). `now` is the service's time. The error contains these and the refusal's code, and nothing
  * else. It isn't sealed: anyone can write such an error.
  *
- * Answers FEVSTUNIK_OK or FEVSTUNIK_SHORT_BUFFER; or writes nothing and answers the first that
+ * Returns FEVSTUNIK_OK or FEVSTUNIK_SHORT_BUFFER; or writes nothing and returns the first that
  * applies: FEVSTUNIK_EMPTY_HANDLE; FEVSTUNIK_NOTHING_THERE; FEVSTUNIK_NOT_UTF8, _BAD_TEXT or
  * _NO_REALM for the service; FEVSTUNIK_BAD_MOMENT; FEVSTUNIK_NO_CODE; FEVSTUNIK_TOO_LONG; or
  * FEVSTUNIK_OUT_OF_MEMORY.
@@ -839,7 +839,7 @@ fevstunik_answer fevstunik_acceptor_error(const fevstunik_acceptor *handle, cons
  * fevstunik_acceptor_accept answered. It needs no handle, so another request's cause can't get into
  * the error. `service`, `name_type` and `now` are as for fevstunik_acceptor_error.
  *
- * Answers FEVSTUNIK_OK or FEVSTUNIK_SHORT_BUFFER; or writes nothing and answers the first that
+ * Returns FEVSTUNIK_OK or FEVSTUNIK_SHORT_BUFFER; or writes nothing and returns the first that
  * applies: FEVSTUNIK_NO_CODE if `code` isn't the code of a cause; FEVSTUNIK_NOT_UTF8, _BAD_TEXT or
  * _NO_REALM for the service; FEVSTUNIK_BAD_MOMENT; FEVSTUNIK_TOO_LONG; or FEVSTUNIK_OUT_OF_MEMORY.
  *
@@ -857,7 +857,7 @@ size_t fevstunik_acceptor_count(const fevstunik_acceptor *handle);
 /* Reads the latest moment that fevstunik_acceptor_accept was given so far. The service decides by
  * it. Calls that answered OUT_OF_MEMORY or BAD_MOMENT don't count.
  *
- * Answers FEVSTUNIK_OK; or writes nothing and answers FEVSTUNIK_EMPTY_HANDLE or
+ * Returns FEVSTUNIK_OK; or writes nothing and returns FEVSTUNIK_EMPTY_HANDLE or
  * FEVSTUNIK_NOTHING_THERE.
  *
  *     fevstunik_time latest;
@@ -883,8 +883,8 @@ void fevstunik_acceptor_free(fevstunik_acceptor *handle);
  * Keeps what is needed to read the reply in the handle `pending`, even if the buffer is too short.
  * What that handle held is freed.
  *
- * Answers FEVSTUNIK_OK or FEVSTUNIK_SHORT_BUFFER; or writes nothing, leaves `pending` unchanged,
- * and answers the first that applies: FEVSTUNIK_EMPTY_HANDLE if `cache` is empty;
+ * Returns FEVSTUNIK_OK or FEVSTUNIK_SHORT_BUFFER; or writes nothing, leaves `pending` unchanged,
+ * and returns the first that applies: FEVSTUNIK_EMPTY_HANDLE if `cache` is empty;
  * FEVSTUNIK_NOT_UTF8, _BAD_TEXT or _NO_REALM for the service; FEVSTUNIK_BAD_MOMENT;
  * FEVSTUNIK_BAD_CONFOUNDER; FEVSTUNIK_KEY_TYPE or _KEY_LENGTH; FEVSTUNIK_NO_CREDENTIAL,
  * _NO_USABLE_KEY, _CREDENTIAL_EXPIRED, _BAD_TICKET or _TOO_LONG; or FEVSTUNIK_OUT_OF_MEMORY.
@@ -907,7 +907,7 @@ fevstunik_answer fevstunik_request(const fevstunik_cache *cache, fevstunik_pendi
  * the buffer, one after the other, and their places and the numbers to `agreement`. `agreement` is
  * written even if the buffer is too short. The handle is unchanged, so another reply may be read.
  *
- * Answers FEVSTUNIK_OK or FEVSTUNIK_SHORT_BUFFER; or writes nothing and answers the first that
+ * Returns FEVSTUNIK_OK or FEVSTUNIK_SHORT_BUFFER; or writes nothing and returns the first that
  * applies: FEVSTUNIK_EMPTY_HANDLE, FEVSTUNIK_REPLY_TYPE, _REPLY_MALFORMED, _REPLY_INTEGRITY,
  * _REPLY_MISMATCH or FEVSTUNIK_OUT_OF_MEMORY.
  *
@@ -930,7 +930,7 @@ void fevstunik_pending_free(fevstunik_pending *pending);
  * section 7.5.1). `confounder` is 16 random bytes, new for each call. The sealed text is 32 bytes
  * (type 19) or 40 bytes (type 20) longer than the plain text.
  *
- * Answers FEVSTUNIK_OK or FEVSTUNIK_SHORT_BUFFER; or writes nothing and answers the first that
+ * Returns FEVSTUNIK_OK or FEVSTUNIK_SHORT_BUFFER; or writes nothing and returns the first that
  * applies: FEVSTUNIK_KEY_TYPE, FEVSTUNIK_KEY_LENGTH, FEVSTUNIK_BAD_CONFOUNDER or
  * FEVSTUNIK_OUT_OF_MEMORY.
  *
@@ -941,7 +941,7 @@ fevstunik_answer fevstunik_seal(int32_t key_type, const uint8_t *key, size_t key
 
 /* Opens a text that was sealed under a key for a usage, and returns the plain text.
  *
- * Answers FEVSTUNIK_OK or FEVSTUNIK_SHORT_BUFFER; or writes nothing and answers the first that
+ * Returns FEVSTUNIK_OK or FEVSTUNIK_SHORT_BUFFER; or writes nothing and returns the first that
  * applies: FEVSTUNIK_KEY_TYPE, FEVSTUNIK_KEY_LENGTH, FEVSTUNIK_TEXT_SHORT, FEVSTUNIK_TEXT_INTEGRITY
  * or FEVSTUNIK_OUT_OF_MEMORY.
  *
@@ -953,7 +953,7 @@ fevstunik_answer fevstunik_open(int32_t key_type, const uint8_t *key, size_t key
 /* Returns the checksum of a text under a key for a usage: 16 bytes (type 19) or 24 (type 20). The
  * call allocates no memory.
  *
- * Answers FEVSTUNIK_OK or FEVSTUNIK_SHORT_BUFFER; or writes nothing and answers FEVSTUNIK_KEY_TYPE
+ * Returns FEVSTUNIK_OK or FEVSTUNIK_SHORT_BUFFER; or writes nothing and returns FEVSTUNIK_KEY_TYPE
  * or FEVSTUNIK_KEY_LENGTH.
  *
  *     uint8_t tag[24];
@@ -965,7 +965,7 @@ fevstunik_answer fevstunik_checksum(int32_t key_type, const uint8_t *key, size_t
 /* Checks that a tag is the whole checksum of a text under a key for a usage. The call allocates no
  * memory.
  *
- * Answers FEVSTUNIK_OK if the tag is the checksum, FEVSTUNIK_TEXT_INTEGRITY if it isn't, or
+ * Returns FEVSTUNIK_OK if the tag is the checksum, FEVSTUNIK_TEXT_INTEGRITY if it isn't, or
  * FEVSTUNIK_KEY_TYPE or FEVSTUNIK_KEY_LENGTH.
  *
  *     if (fevstunik_checksum_check(20, key, 32, 1025, text, text_size, tag, 24).code == FEVSTUNIK_OK) ...
@@ -980,7 +980,7 @@ fevstunik_answer fevstunik_checksum_check(int32_t key_type, const uint8_t *key, 
  * is Kerberos. `wrapped` is filled on FEVSTUNIK_OK and FEVSTUNIK_SHORT_BUFFER: pass it to the call
  * that wraps the answer. The call allocates no memory.
  *
- * Answers FEVSTUNIK_OK or FEVSTUNIK_SHORT_BUFFER; or writes nothing and answers one of the codes
+ * Returns FEVSTUNIK_OK or FEVSTUNIK_SHORT_BUFFER; or writes nothing and returns one of the codes
  * from FEVSTUNIK_NOT_A_TOKEN to FEVSTUNIK_NESTED_NEGOTIATION.
  *
  *     fevstunik_wrapped wrapped;
@@ -991,7 +991,7 @@ fevstunik_answer fevstunik_token_open(const uint8_t *token, size_t token_size, f
 
 /* Returns the first token of a client for a request.
  *
- * Answers FEVSTUNIK_OK or FEVSTUNIK_SHORT_BUFFER; or writes nothing and answers
+ * Returns FEVSTUNIK_OK or FEVSTUNIK_SHORT_BUFFER; or writes nothing and returns
  * FEVSTUNIK_BAD_MECHANISM, FEVSTUNIK_TOO_LONG (the token would have more than 1,048,576 bytes) or
  * FEVSTUNIK_OUT_OF_MEMORY.
  *
@@ -1004,7 +1004,7 @@ fevstunik_answer fevstunik_token_request(const fevstunik_wrapped *wrapped, const
 /* Returns the token that answers a client with a reply. In a negotiation it says that the login is
  * complete.
  *
- * Answers FEVSTUNIK_OK or FEVSTUNIK_SHORT_BUFFER; or writes nothing and answers
+ * Returns FEVSTUNIK_OK or FEVSTUNIK_SHORT_BUFFER; or writes nothing and returns
  * FEVSTUNIK_BAD_MECHANISM, FEVSTUNIK_TOO_LONG or FEVSTUNIK_OUT_OF_MEMORY.
  *
  *     answer = fevstunik_token_reply(&wrapped, reply, reply_size, buffer, sizeof buffer);
@@ -1015,7 +1015,7 @@ fevstunik_answer fevstunik_token_reply(const fevstunik_wrapped *wrapped, const u
 /* Returns the token that answers a client with a KRB-ERROR. In a negotiation it says that the login
  * is rejected.
  *
- * Answers FEVSTUNIK_OK or FEVSTUNIK_SHORT_BUFFER; or writes nothing and answers
+ * Returns FEVSTUNIK_OK or FEVSTUNIK_SHORT_BUFFER; or writes nothing and returns
  * FEVSTUNIK_BAD_MECHANISM, FEVSTUNIK_TOO_LONG or FEVSTUNIK_OUT_OF_MEMORY.
  *
  *     answer = fevstunik_token_error(&wrapped, error, error_size, buffer, sizeof buffer);
@@ -1027,7 +1027,7 @@ fevstunik_answer fevstunik_token_error(const fevstunik_wrapped *wrapped, const u
  * `is_error` says which; it is set on FEVSTUNIK_OK and FEVSTUNIK_SHORT_BUFFER. The call allocates no
  * memory.
  *
- * Answers FEVSTUNIK_OK or FEVSTUNIK_SHORT_BUFFER; or writes nothing and answers
+ * Returns FEVSTUNIK_OK or FEVSTUNIK_SHORT_BUFFER; or writes nothing and returns
  * FEVSTUNIK_NOT_A_TOKEN, _TOKEN_MALFORMED, _TOKEN_EMPTY or _TOKEN_ID, or one of the codes of other
  * mechanisms from FEVSTUNIK_OTHER_MECHANISM to FEVSTUNIK_NESTED_NEGOTIATION.
  *
@@ -1042,7 +1042,7 @@ fevstunik_answer fevstunik_token_answer(const uint8_t *token, size_t token_size,
  * FEVSTUNIK_SHORT_BUFFER. The call compares the bindings with nothing: compare them with the MD5
  * hash of your channel's.
  *
- * Answers FEVSTUNIK_OK or FEVSTUNIK_SHORT_BUFFER; or writes nothing and answers
+ * Returns FEVSTUNIK_OK or FEVSTUNIK_SHORT_BUFFER; or writes nothing and returns
  * FEVSTUNIK_CONTEXT_TRUNCATED, FEVSTUNIK_CONTEXT_BINDINGS, FEVSTUNIK_CONTEXT_DELEGATION or
  * FEVSTUNIK_OUT_OF_MEMORY.
  *

@@ -44,13 +44,13 @@ def crate_codes():
 
 
 def comments():
-    """The header's comment at each function, with what the function answers."""
+    """The header's comment at each function, with what the function returns."""
     form = r"/\*((?:(?!\*/).)*)\*/\n(fevstunik_answer|size_t|uint32_t|void|static inline const char) \*?(fevstunik_\w+)\("
     return {function: (kind, text) for text, kind, function in re.findall(form, HEADER.read_text(), re.S)}
 
 
 def documented():
-    """The names of the codes that the header names at each function that answers one; a range stands for all of it."""
+    """The names of the codes that the header names at each function that returns one; a range stands for all of it."""
     numbers = header_codes()
     found = {}
     for function, (kind, text) in comments().items():
