@@ -12,6 +12,7 @@ ghost use Rattle.krb_msg.specs.Owned.{owned_authenticator_of};
 use crate::key::{KeyRef, RawKey, owned_key};
 use crate::name::{NameIn, NameRef};
 use crate::seq_number::{seq_number_in, seq_number_of};
+use crate::tag;
 use crate::typed::{Typed, TypedListRef, TypedRef, owned_list, owned_typed};
 use krb_der::{
     Constant, Cursor, Element, Encode, EncodeFault, Fault, Field, Maybe, MaybeRef, Message,
@@ -57,7 +58,7 @@ impl<'a> Element<'a> for AuthenticatorRef<'a> {
     ghost clear = { refl };
 
     fn read(cursor: &mut Cursor<'a>) -> Result<AuthenticatorRef<'a>, Fault> {
-        let row: Result<AuthenticatorRow<'a>, Fault> = cursor.application(0x62);
+        let row: Result<AuthenticatorRow<'a>, Fault> = cursor.application(tag::AUTHENTICATOR);
         match row {
             Ok((_, (crealm, (cname, tail)))) => Ok(AuthenticatorRef {
                 crealm: crealm.0.0,
@@ -223,7 +224,7 @@ impl Encode for Authenticator {
             Field(Constant),
             (Field(Text(self.client.realm.as_slice())), rest),
         );
-        write_application(&row, 0x62, out)
+        write_application(&row, tag::AUTHENTICATOR, out)
     }
 }
 

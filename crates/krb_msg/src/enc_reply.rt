@@ -9,6 +9,7 @@ ghost use Rattle.krb_msg.specs.Owned.{owned_enc_ap_rep_part_of};
 
 use crate::key::{KeyRef, RawKey, owned_key};
 use crate::seq_number::{seq_number_in, seq_number_of};
+use crate::tag;
 use krb_der::{
     Cursor, Element, Encode, EncodeFault, Fault, Field, Maybe, MaybeRef, Message, Microseconds,
     Seconds, SeqNumber, Writer, write_application,
@@ -47,7 +48,7 @@ impl<'a> Element<'a> for EncApRepRef<'a> {
     ghost clear = { refl };
 
     fn read(cursor: &mut Cursor<'a>) -> Result<EncApRepRef<'a>, Fault> {
-        let row: Result<EncApRepRow<'a>, Fault> = cursor.application(0x7b);
+        let row: Result<EncApRepRow<'a>, Fault> = cursor.application(tag::ENC_AP_REP_PART);
         match row {
             Ok((ctime, (cusec, (subkey, (seq_number, ()))))) => Ok(EncApRepRef {
                 ctime: ctime.0,
@@ -121,7 +122,7 @@ impl Encode for EncApRepPart {
                 (MaybeRef<0xa2, RawKey>, (Maybe<0xa3, SeqNumber>, ())),
             ),
         ) = (Field(self.ctime), (Field(self.cusec), rest));
-        write_application(&row, 0x7b, out)
+        write_application(&row, tag::ENC_AP_REP_PART, out)
     }
 }
 

@@ -7,6 +7,7 @@ ghost use Rattle.krb_msg.specs.Owned.{owned_enc_ticket_part_of};
 
 use crate::key::RawKey;
 use crate::name::NameIn;
+use crate::tag;
 use crate::typed::Typed;
 use krb_der::{
     Encode, EncodeFault, Field, Flags, MaybeRef, Seconds, Text, Writer, write_application,
@@ -81,7 +82,7 @@ impl Encode for EncTicketPart {
         let rest = (Field(NameIn(&self.client)), (Field(&self.transited), rest));
         let rest = (Field(Text(self.client.realm.as_slice())), rest);
         let row: EncTicketOut = (Field(self.flags), (Field(&self.key), rest));
-        write_application(&row, 0x63, out)
+        write_application(&row, tag::ENC_TICKET_PART, out)
     }
 }
 

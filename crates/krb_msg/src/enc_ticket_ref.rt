@@ -10,6 +10,7 @@ ghost use Rattle.krb_msg.specs.Owned.{owned_enc_ticket_part_of};
 use crate::enc_ticket_part::EncTicketPart;
 use crate::key::KeyRef;
 use crate::name::NameRef;
+use crate::tag;
 use crate::typed::{TypedListRef, TypedRef, owned_list};
 use krb_der::{Cursor, Element, Fault, Field, Flags, Maybe, Message, Row, Seconds, Text};
 use std::alloc::{AllocError, Global};
@@ -60,7 +61,7 @@ impl<'a> Element<'a> for EncTicketRef<'a> {
     ghost clear = { refl };
 
     fn read(cursor: &mut Cursor<'a>) -> Result<EncTicketRef<'a>, Fault> {
-        let row: Result<EncTicketRow<'a>, Fault> = cursor.application(0x63);
+        let row: Result<EncTicketRow<'a>, Fault> = cursor.application(tag::ENC_TICKET_PART);
         match row {
             Ok((flags, (key, (crealm, (cname, tail))))) => Ok(EncTicketRef {
                 flags: flags.0,

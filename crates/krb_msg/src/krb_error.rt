@@ -8,6 +8,7 @@ ghost use Rattle.krb_msg.specs.Module.{krb_error, principal_name};
 ghost use Rattle.krb_msg.specs.Owned.{owned_krb_error_of, owned_name_of, principal_name_of};
 
 use crate::name::{Name, NameIn};
+use crate::{message_type, tag};
 use krb_der::{
     Constant, Encode, EncodeFault, EncodeRow, Field, Maybe, MaybeRef, Microseconds, Octets,
     Seconds, Text, Writer, write_application,
@@ -113,7 +114,7 @@ fn octets_in(octets: &Option<Vec<u8>>) -> Option<Octets<'_>>
 type KrbErrorOut<'a> = (
     Field<0xa0, Constant<5>>,
     (
-        Field<0xa1, Constant<30>>,
+        Field<0xa1, Constant<{ message_type::KRB_ERROR }>>,
         (
             MaybeRef<'a, 0xa2, Seconds>,
             (
@@ -133,7 +134,7 @@ impl Encode for KrbError {
         let rest = (Field(self.stime), (Field(self.susec), Tail(self)));
         let rest = (MaybeRef(&self.ctime), (MaybeRef(&self.cusec), rest));
         let row: KrbErrorOut = (Field(Constant), (Field(Constant), rest));
-        write_application(&row, 0x7e, out)
+        write_application(&row, tag::KRB_ERROR, out)
     }
 }
 

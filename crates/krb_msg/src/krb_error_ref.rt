@@ -11,6 +11,7 @@ ghost use Rattle.krb_msg.specs.Owned.{owned_krb_error_of};
 use crate::krb_error::KrbError;
 use crate::name::{NameRef, owned_name};
 use crate::texts::owned_text;
+use crate::{message_type, tag};
 use krb_der::{
     Constant, Cursor, Element, Fault, Field, Maybe, Message, Microseconds, Octets, Row, Seconds,
     Text,
@@ -47,7 +48,7 @@ pub struct KrbErrorRef<'a> {
 type KrbErrorRow<'a> = (
     Field<0xa0, Constant<5>>,
     (
-        Field<0xa1, Constant<30>>,
+        Field<0xa1, Constant<{ message_type::KRB_ERROR }>>,
         (
             Maybe<0xa2, Seconds>,
             (Maybe<0xa3, Microseconds>, KrbErrorMiddleRow<'a>),
@@ -68,7 +69,7 @@ impl<'a> Element<'a> for KrbErrorRef<'a> {
     ghost clear = { refl };
 
     fn read(cursor: &mut Cursor<'a>) -> Result<KrbErrorRef<'a>, Fault> {
-        let row: Result<KrbErrorRow<'a>, Fault> = cursor.application(0x7e);
+        let row: Result<KrbErrorRow<'a>, Fault> = cursor.application(tag::KRB_ERROR);
         match row {
             Ok((_, (_, (ctime, (cusec, (stime, (susec, tail))))))) => Ok(KrbErrorRef {
                 ctime: ctime.0,

@@ -13,6 +13,8 @@
 //! read as the negative numbers of the same 32 bits, because some senders write them so. `encode`
 //! never does.
 //!
+//! Assigned numbers have their names in [`tag`], [`message_type`], [`usage`] and [`error_code`].
+//!
 //! ```rust
 //! let request = ApReqRef::parse(bytes)?;
 //! let is_mutual = request.options.has(MUTUAL_REQUIRED);
@@ -39,18 +41,22 @@ mod bits;
 mod enc_reply;
 mod enc_ticket_part;
 mod enc_ticket_ref;
+pub mod error_code;
 mod key;
 mod krb_error;
 mod krb_error_ref;
 pub mod laws;
+pub mod message_type;
 mod moment;
 mod name;
 mod reply;
 mod request;
 mod seq_number;
+pub mod tag;
 mod texts;
 mod ticket;
 mod typed;
+pub mod usage;
 
 pub use authenticator::{Authenticator, AuthenticatorRef};
 pub use bits::{INVALID, MUTUAL_REQUIRED, TRANSITED_POLICY_CHECKED, USE_SESSION_KEY};

@@ -8,6 +8,7 @@ ghost use Rattle.krb_msg.specs.Module.{ap_rep};
 ghost use Rattle.krb_msg.specs.Owned.{owned_ap_rep_of};
 
 use crate::ticket::{Encrypted, EncryptedRef};
+use crate::{message_type, tag};
 use krb_der::{
     Constant, Cursor, Element, Encode, EncodeFault, Fault, Field, Message, Writer,
     write_application,
@@ -24,7 +25,7 @@ pub struct ApRepRef<'a> {
 type ApRepRow<'a> = (
     Field<0xa0, Constant<5>>,
     (
-        Field<0xa1, Constant<15>>,
+        Field<0xa1, Constant<{ message_type::AP_REP }>>,
         (Field<0xa2, EncryptedRef<'a>>, ()),
     ),
 );
@@ -37,7 +38,7 @@ impl<'a> Element<'a> for ApRepRef<'a> {
     ghost clear = { refl };
 
     fn read(cursor: &mut Cursor<'a>) -> Result<ApRepRef<'a>, Fault> {
-        let row: Result<ApRepRow<'a>, Fault> = cursor.application(0x6f);
+        let row: Result<ApRepRow<'a>, Fault> = cursor.application(tag::AP_REP);
         match row {
             Ok((_, (_, (enc_part, ())))) => Ok(ApRepRef {
                 enc_part: enc_part.0,
@@ -89,12 +90,15 @@ impl Encode for ApRep {
     fn write(&self, out: &mut Writer) -> Result<(), EncodeFault> {
         let row: (
             Field<0xa0, Constant<5>>,
-            (Field<0xa1, Constant<15>>, (Field<0xa2, &Encrypted>, ())),
+            (
+                Field<0xa1, Constant<{ message_type::AP_REP }>>,
+                (Field<0xa2, &Encrypted>, ()),
+            ),
         ) = (
             Field(Constant),
             (Field(Constant), (Field(&self.enc_part), ())),
         );
-        write_application(&row, 0x6f, out)
+        write_application(&row, tag::AP_REP, out)
     }
 }
 

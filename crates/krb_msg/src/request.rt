@@ -8,6 +8,7 @@ ghost use Rattle.krb_msg.specs.Module.{ap_req};
 ghost use Rattle.krb_msg.specs.Owned.{owned_ap_req_of};
 
 use crate::ticket::{Encrypted, EncryptedRef, Ticket, TicketRef};
+use crate::{message_type, tag};
 use krb_der::{
     Constant, Cursor, Element, Encode, EncodeFault, Fault, Field, Flags, Message, Writer,
     write_application,
@@ -28,7 +29,7 @@ pub struct ApReqRef<'a> {
 type ApReqRow<'a> = (
     Field<0xa0, Constant<5>>,
     (
-        Field<0xa1, Constant<14>>,
+        Field<0xa1, Constant<{ message_type::AP_REQ }>>,
         (
             Field<0xa2, Flags>,
             (Field<0xa3, TicketRef<'a>>, ApReqEndRow<'a>),
@@ -46,7 +47,7 @@ impl<'a> Element<'a> for ApReqRef<'a> {
     ghost clear = { refl };
 
     fn read(cursor: &mut Cursor<'a>) -> Result<ApReqRef<'a>, Fault> {
-        let row: Result<ApReqRow<'a>, Fault> = cursor.application(0x6e);
+        let row: Result<ApReqRow<'a>, Fault> = cursor.application(tag::AP_REQ);
         match row {
             Ok((_, (_, (options, (ticket, (authenticator, ())))))) => Ok(ApReqRef {
                 options: options.0,
@@ -108,7 +109,7 @@ impl Encode for ApReq {
         let row: (
             Field<0xa0, Constant<5>>,
             (
-                Field<0xa1, Constant<14>>,
+                Field<0xa1, Constant<{ message_type::AP_REQ }>>,
                 (
                     Field<0xa2, Flags>,
                     (Field<0xa3, &Ticket>, (Field<0xa4, &Encrypted>, ())),
@@ -118,7 +119,7 @@ impl Encode for ApReq {
             Field(Constant),
             (Field(Constant), (Field(self.options), rest)),
         );
-        write_application(&row, 0x6e, out)
+        write_application(&row, tag::AP_REQ, out)
     }
 }
 

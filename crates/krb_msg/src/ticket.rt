@@ -8,6 +8,7 @@ ghost use Rattle.krb_msg.specs.Module.{encrypted_data, ticket};
 ghost use Rattle.krb_msg.specs.Owned.{owned_encrypted_of, owned_ticket_of};
 
 use crate::name::{NameIn, NameRef};
+use crate::tag;
 use krb_der::{
     Constant, Cursor, Element, Encode, EncodeFault, Fault, Field, Maybe, MaybeRef, Message, Octets,
     Text, Writer, write_application, write_sequence,
@@ -129,7 +130,7 @@ impl<'a> Element<'a> for TicketRef<'a> {
     ghost clear = { refl };
 
     fn read(cursor: &mut Cursor<'a>) -> Result<TicketRef<'a>, Fault> {
-        let row: Result<TicketRow<'a>, Fault> = cursor.application(0x61);
+        let row: Result<TicketRow<'a>, Fault> = cursor.application(tag::TICKET);
         match row {
             Ok((_, (realm, (sname, (enc_part, ()))))) => Ok(TicketRef {
                 realm: realm.0.0,
@@ -195,7 +196,7 @@ impl Encode for Ticket {
             Field(Constant),
             (Field(Text(self.service.realm.as_slice())), rest),
         );
-        write_application(&row, 0x61, out)
+        write_application(&row, tag::TICKET, out)
     }
 }
 
