@@ -3,6 +3,7 @@
 ghost use Rattle.std.specs.Prelude.{◌≡◌, ◌↔◌, ◌⊎◌, ◌≤◌, ◌<◌, ◌+◌, ℕ, List, length, vec_len, Some, IsTrue, IfOk, IsOk, IsErrOf, MatchResult};
 
 use crate::enctype::Enctype;
+use crate::etype::{AES128_CTS_HMAC_SHA256_128, AES256_CTS_HMAC_SHA384_192};
 use crate::fault::{KeyFault, OpenFault};
 use crate::profiles::{Sha256Aes128, Sha384Aes256};
 use crate::tag::Tag;
@@ -61,11 +62,11 @@ impl Key {
             ↔ (IsKnown etype × (IsUsable (record { etype = etype; bytes = bytes.now }) → ⊥)) }
     {
         let bytes = match etype {
-            19 => KeyBytes::Short(
+            AES128_CTS_HMAC_SHA256_128 => KeyBytes::Short(
                 bytes.try_into().map_err(|_| KeyFault::WrongLength)?,
                 HmacSha256::new(bytes),
             ),
-            20 => KeyBytes::Long(
+            AES256_CTS_HMAC_SHA384_192 => KeyBytes::Long(
                 bytes.try_into().map_err(|_| KeyFault::WrongLength)?,
                 HmacSha384::new(bytes),
             ),
@@ -79,8 +80,8 @@ impl Key {
         ensures { IsTrue result ↔ IsUsable (record { etype = etype; bytes = bytes.now }) }
     {
         match etype {
-            19 => bytes.len() == Sha256Aes128::KEY_LEN,
-            20 => bytes.len() == Sha384Aes256::KEY_LEN,
+            AES128_CTS_HMAC_SHA256_128 => bytes.len() == Sha256Aes128::KEY_LEN,
+            AES256_CTS_HMAC_SHA384_192 => bytes.len() == Sha384Aes256::KEY_LEN,
             _ => false,
         }
     }

@@ -14,12 +14,16 @@
 //! ```
 //!
 //! The number before the confounder or the text is the key usage (RFC 4120, section 7.5.1). The
-//! caller passes the confounder: 16 random bytes, new for each call. The contracts speak of the
-//! definitions of `specs/Sealed` and `specs/Opens`: a text opens to a plain text if some confounder
-//! seals the plain text to it. `laws` has what holds for all keys and texts. `Debug` prints no key.
+//! caller passes the confounder: 16 random bytes, new for each call. [`etype`] has the names of the
+//! encryption types.
+//!
+//! The contracts speak of the definitions of `specs/Sealed` and `specs/Opens`: a text opens to a
+//! plain text if some confounder seals the plain text to it. `laws` has what holds for all keys and
+//! texts. `Debug` prints no key.
 #![tactic(auto)]
 
 mod enctype;
+pub mod etype;
 mod fault;
 mod key;
 pub mod laws;

@@ -5,6 +5,7 @@ ghost use Rattle.std.proofs.Common.{inl, inr};
 ghost use Rattle.krb_enc.specs.Sealed.{aes128_sha256, aes256_sha384};
 
 use crate::enctype::{Enctype, Inside};
+use crate::etype::{AES128_CTS_HMAC_SHA256_128, AES256_CTS_HMAC_SHA384_192};
 use crate::tag::Tag;
 use crate::texts::INITIAL_VECTOR;
 use crate::usage_key::UsageKey;
@@ -18,7 +19,7 @@ use krb_kdf::{
 pub struct Sha256Aes128;
 
 impl Enctype for Sha256Aes128 {
-    const ETYPE: i32 = 19;
+    const ETYPE: i32 = AES128_CTS_HMAC_SHA256_128;
 
     const KEY_LEN: usize = 16;
 
@@ -65,7 +66,7 @@ impl Enctype for Sha256Aes128 {
 pub struct Sha384Aes256;
 
 impl Enctype for Sha384Aes256 {
-    const ETYPE: i32 = 20;
+    const ETYPE: i32 = AES256_CTS_HMAC_SHA384_192;
 
     const KEY_LEN: usize = 32;
 

@@ -7,6 +7,7 @@ ghost use Rattle.krb_enc.specs.Sealed.{encryption_key, tag_of, sealed};
 ghost use Rattle.krb_enc.specs.Opens.{IsShort, HasTag, Opens, OpensOnlyTo, OpensToNothing};
 ghost use Rattle.krb_enc.specs.Inner.KeyBytes.{value_of, IsReadyFor};
 
+use crate::etype::{AES128_CTS_HMAC_SHA256_128, AES256_CTS_HMAC_SHA384_192};
 use crate::fault::OpenFault;
 use crate::key::KeyBytes;
 use crate::tag::{Tag, are_same};
@@ -73,8 +74,9 @@ impl UsageKey {
             ↔ (self.now ≡ record { key = record { etype = etype; bytes = key.now }; usage = usage }) }
     {
         let is_same_key = match &self.bytes {
-            KeyBytes::Short(bytes, _) => etype == 19 && are_same(bytes, key),
-            KeyBytes::Long(bytes, _) => etype == 20 && are_same(bytes, key),
+            KeyBytes::Short(bytes, _) => etype == AES128_CTS_HMAC_SHA256_128
+                && are_same(bytes, key),
+            KeyBytes::Long(bytes, _) => etype == AES256_CTS_HMAC_SHA384_192 && are_same(bytes, key),
         };
         is_same_key && self.usage == usage
     }

@@ -1,0 +1,7 @@
+//! The numbers of the encryption types (RFC 8009, section 7).
+
+/// aes128-cts-hmac-sha256-128: keys of 16 bytes, tags of 16.
+pub const AES128_CTS_HMAC_SHA256_128: i32 = 19;
+
+/// aes256-cts-hmac-sha384-192: keys of 32 bytes, tags of 24.
+pub const AES256_CTS_HMAC_SHA384_192: i32 = 20;
