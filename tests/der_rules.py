@@ -13,8 +13,8 @@ The rules (X.690, sections 8.1, 8.3, 8.6, 8.7 and 10.1; RFC 4120, section 5.2):
   left out is there exactly where its tag is the next byte; a SEQUENCE OF has elements up to its end.
 * Elements are read from left to right, contents before what follows, and the first fault is the answer.
 * Where a fault comes: nothing left, or a length or content cut off: Truncated at the end of what encloses the element;
-  another tag: Tag at the element; a length that is none: Length behind the tag; a content that spells no value: Integer,
-  Flags or Time at the element; bytes behind the last element: Trailing at the first of them; a message above 1,048,576
+  another tag: Tag at the element; an invalid length: Length after the tag; a content that spells no value: Integer,
+  Flags or Time at the element; bytes after the last element: Trailing at the first of them; a message above 1,048,576
   bytes: TooLong at 0, before all else.
 
 The cases are calls of the program krb_calls_wire (tests/library.py). What is read is shown value by value: numbers in decimal digits, a
@@ -269,7 +269,7 @@ def sequence(*parts):
 def nested_cases():
     one, five, name = element(2, [1]), element(2, [5]), element(0x1B, b"alice")
     text, flags, time = element(4, b"xy"), element(3, [0, 0, 0, 0, 3]), element(0x18, b"19700101000010Z")
-    # an element with a tag round it: no content, a cut one, another tag inside, a bad value, something behind it inside and outside
+    # an element with a tag round it: no content, a cut one, another tag inside, a bad value, something after it inside and outside
     for data in (tagged(0, one), b"", b"\xa0", b"\xa0\x03\x02\x01", tagged(0), tagged(1, one), tagged(0, name), tagged(0, one, one), tagged(0, one) + b"\0",
         bytes.fromhex("a003020201"), bytes.fromhex("a004028101ff"), bytes.fromhex("a002 0200"), bytes.fromhex("a004 02020001"), bytes.fromhex("a0810302 0101"),
         bytes.fromhex("a0 01 02"), bytes.fromhex("a0 02 0280"), bytes.fromhex("a0 02 0281"), one):

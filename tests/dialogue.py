@@ -43,7 +43,7 @@ def line_by_line(program, keytab, request, accepted):
 
 
 def long_lines(program, keytab):
-    """A line of 4,194,304 bytes is read; one of a byte more is bad, and so is one of 64 MiB; the line behind each is answered."""
+    """A line of 4,194,304 bytes is read; one of a byte more is bad, and so is one of 64 MiB; the line after each is answered."""
     fits, over = "1700000100 05 " + "30" * 2_097_145, "1700000100 005 " + "30" * 2_097_145
     assert len(fits) == 4_194_304 and len(over) == 4_194_305
     lines = "\n".join([fits, "1700000100 5 -", over, "1700000100 5 30", "3" * 2**26, "1700000100 5 -"])

@@ -68,7 +68,7 @@ def authorization(draw):
 
 
 def bent(draw, data):
-    """The message, now and then with a byte changed, cut off or put behind it, or with a length in another form."""
+    """The message, now and then with a byte changed, cut off or put after it, or with a length in another form."""
     how = draw.random()
     if how > 0.06 or not data:
         return data

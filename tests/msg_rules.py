@@ -6,7 +6,7 @@ of RFC 4120 (sections 5.2, 5.3, 5.5.1, 5.5.2 and 5.9.1), written out from that d
 
 * Each message as it stands is read, with all its fields; copied and written again, it is the same bytes; and so is one made of its fields.
 * Each beginning of it that is not the whole is Truncated at its end.
-* With a zero byte behind it, it is Trailing at its end.
+* With a zero byte after it, it is Trailing at its end.
 * With one byte changed by xor 01 or xor 80, it is either a message still, with its fields, or has the fault that the rules tell.
 * Without one of its fields, or of the fields of its parts, the same; of each type a message without optional fields is taken.
 * As each other type it has the wrong tag.

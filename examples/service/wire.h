@@ -1,4 +1,4 @@
-/* What both sides of the example say on the wire: messages behind their length in four bytes, over TCP on the loopback. First the client's
+/* What both sides of the example say on the wire: messages after their length in four bytes, over TCP on the loopback. First the client's
  * request and the service's reply, or its error, which ends it. Then a text that the client seals under the key that the service chose, and
  * the service's receipt for it: the text's checksum under the key that the client chose. */
 #ifndef WIRE_H

@@ -4,7 +4,7 @@
 #include "checks.h"
 #include "listed.h"
 
-/* Where the credential begins in the cache: behind the version, an empty header and the default principal. */
+/* Where the credential begins in the cache: after the version, an empty header and the default principal. */
 #define CREDENTIAL_AT 27
 /* How many entries the keytab has. */
 #define ENTRIES 1
@@ -215,7 +215,7 @@ static void is_accepted(fevstunik_acceptor *service)
     is_answer("short", fevstunik_accepted_known(&accepted, &known, buffer, 34), FEVSTUNIK_SHORT_BUFFER, 0, 0, 35);
     is("not written", buffer[0], 0xaa);
     is_answer("told", fevstunik_accepted_known(&accepted, &known, buffer, 35), FEVSTUNIK_OK, 0, 0, 35);
-    is("behind", buffer[35], 0xaa);
+    is("after", buffer[35], 0xaa);
     is("client at", (long long)known.client.at, 0);
     is("client size", (long long)known.client.size, 8);
     is_bytes("client", buffer, "alice@EX", 8);
@@ -338,7 +338,7 @@ static void errors(void)
     is("not written", buffer[0], 0xaa);
     is_answer("error", error_of(&service, "host/web@EX", now, error.size), FEVSTUNIK_OK, 0, 0, error.size);
     is_bytes("error", buffer, error.at, error.size);
-    is("behind it", buffer[error.size], 0xaa);
+    is("after it", buffer[error.size], 0xaa);
     is_answer("another type", fevstunik_acceptor_accept(&service, &accepted, reply.at, reply.size, &now), FEVSTUNIK_MESSAGE_TYPE, 40, 0, 0);
     is_answer("its error", error_of(&service, "host/web@EX", now, sizeof buffer), FEVSTUNIK_OK, 0, 0, error.size);
     is("its code", buffer[42], 40);
@@ -435,7 +435,7 @@ static void additions(void)
     is_answer("add", added(&file, "host/web@EX", key, 16, sizeof buffer), FEVSTUNIK_OK, 0, 0, keytab.size);
     is_bytes("the fixture's file", buffer, keytab.at, keytab.size);
     is_answer("add short", added(&file, "host/web@EX", key, 16, keytab.size - 1), FEVSTUNIK_SHORT_BUFFER, 0, 0, keytab.size);
-    is_answer("add behind", added(&keytab, "a@EX", key, 16, sizeof buffer), FEVSTUNIK_OK, 0, 0, keytab.size + 46);
+    is_answer("add after", added(&keytab, "a@EX", key, 16, sizeof buffer), FEVSTUNIK_OK, 0, 0, keytab.size + 46);
     is_bytes("what was there", buffer, keytab.at, keytab.size);
     is_answer("two", fevstunik_keytab_check(buffer, keytab.size + 46), FEVSTUNIK_OK, 0, 0, ENTRIES + 1);
     is_answer("an empty realm", added(&file, "a@", key, 16, sizeof buffer), FEVSTUNIK_OK, 0, 0, 46);
@@ -670,7 +670,7 @@ static void is_item(const char *what, uint32_t list, size_t index, int32_t kind,
     is_answer(what, item(list, index, &found, size), FEVSTUNIK_OK, 0, 0, size);
     is(what, found, kind);
     is_bytes(what, buffer, bytes, size);
-    is("behind it", buffer[size], 0xaa);
+    is("after it", buffer[size], 0xaa);
     if (size == 0)
         return;
     is_answer(what, item(list, index, &found, size - 1), FEVSTUNIK_SHORT_BUFFER, 0, 0, size);
@@ -996,7 +996,7 @@ static void two_faults(void)
     is_answer("name that is no text", fevstunik_name_check((const uint8_t *)" \xff@b@c", 6), FEVSTUNIK_NOT_UTF8, 0, 0, 0);
 }
 
-/* A moment that is none lets go of what was accepted, and of why it was refused; what is remembered and the latest moment stay. */
+/* After an invalid moment nothing accepted and no refusal is kept; what is remembered and the latest moment stay. */
 static void bad_moments(void)
 {
     fevstunik_acceptor service = FEVSTUNIK_ACCEPTOR_INIT;

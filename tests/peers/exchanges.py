@@ -185,7 +185,7 @@ def other_messages(cases, peers, realm):
         ("user-to-user", session, "refused 45 UserToUser"),
         ("inside a GSS-API token", wrapped.hex(), "refused 40 MessageType"),
         ("without its last byte", asked[:-1].hex(), "refused 60 Malformed"),
-        ("with a byte behind it", asked.hex() + "00", "refused 60 Malformed"),
+        ("with a byte after it", asked.hex() + "00", "refused 60 Malformed"),
         ("with its last byte changed", asked[:-1].hex() + f"{asked[-1] ^ 1:02x}", "refused 31 AuthenticatorIntegrity"),
     ):
         cases.equal(f"refusal: a request {name}", peers.accept(ticket.keytab, [f"{now()} 0 {message}"]), [answer])

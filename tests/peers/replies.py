@@ -56,7 +56,7 @@ def ours_to_theirs(cases, peers, program, ticket):
 
 
 def commands_to_theirs(cases, peers, ticket):
-    """What the command accept puts behind its answers, given to their clients: a reply, and the error for the same request again."""
+    """What the command accept puts after its answers, given to their clients: a reply, and the error for the same request again."""
     for library in LIBRARIES:
         second = now()
         client, request = peers.client(ticket.realm, library, ticket.cache, ticket.service, 0, ["mutual"])
