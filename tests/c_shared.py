@@ -1,6 +1,6 @@
 """Instances of a service that share a store: examples/service/shared.c and examples/shared.py over Redis, and the latter over PostgreSQL.
 
-Each of thousands of requests is delivered to four instances at the same time, to each in an order of its own: it is let in exactly once.
+Each of thousands of requests is delivered to four instances at the same time, in random order: it is let in exactly once.
 Meanwhile instances are killed and started again, or the store is: then none is let in twice, and none while the store is down. A store that
 doesn't answer in time lets nobody in, nor does an instance that gets the answer too late. Each check is a pair: its name, and what is
 wrong, or None.
@@ -84,7 +84,8 @@ class Instance:
 
 
 class Delivery:
-    """Requests that every instance gets once, in an order of its own: what came of each, and over which an instance was killed.
+    """Requests that every instance gets once: what came of each, and over which an instance was killed. The order is random, and each
+    instance has one of its own. Those of a half are near to each other, so that these instances meet at the store.
 
     kills   how often each instance is killed, in the midst of its work
     midway  what is called once, when an instance is in the midst of its work
@@ -94,8 +95,11 @@ class Delivery:
         self.requests, self.midway = requests, midway
         self.answers, self.killed_over, self.lock = [[] for _ in requests], set(), threading.Lock()
         self.count = Counter()
-        numbers = range(len(requests))
-        works = [(one, rng.sample(numbers, len(numbers)), set(rng.sample(range(len(numbers) // BATCH), kills)), rng.randrange(BATCH)) for one in instances]
+        order = rng.sample(range(len(requests)), len(requests))
+        near = [[order[at] for at in sorted(range(len(order)), key=lambda it: it + rng.uniform(0, 10))] for _ in instances]
+        half = len(instances) // 2
+        near[half:] = [[*it[len(it) // 2:], *it[:len(it) // 2]] for it in near[half:]]
+        works = [(one, it, set(rng.sample(range(len(order) // BATCH), kills)), rng.randrange(BATCH)) for one, it in zip(instances, near)]
         watch = threading.Timer(SECONDS, lambda: [one.kill() for one in instances])
         watch.start()
         try:
