@@ -7,9 +7,9 @@ package (tests/python), over a shared object. tests/c/faults.c asks for each fau
 tests/c/tokens.c opens and writes tokens of GSS-API. Together they see
 just the codes that the header names at each function. tests/c/large.c hands in files of thousands of items. A service and a client (examples/service) talk over TCP, to each
 other and to a client and a service over MIT krb5 (tests/c_peers.py). Threads share a service (tests/c/threads.c). tests/c/fuzz.c hands the
-library good and broken files and messages, some of them under valgrind.
+library good and broken files and messages, some of them under valgrind, and tests/c/fuzz_tokens.c tokens of GSS-API.
 
-    tests/c_library.py [--inputs N]     so many inputs, 50,000 if left out
+    tests/c_library.py [--inputs N] [--tokens N]     so many inputs, 50,000 if left out, and so many tokens, 200,000
 
 The last line is 'N passed, M failed'.
 """
@@ -43,6 +43,8 @@ SEED = 20_261_123
 # Of the fixture's messages.
 KEYED = "mutual request with a subkey and a number"
 WATCHED = 5_000
+# How many microseconds of processor time a call may take that opens a token.
+SLOW = 50_000
 # Of a large keytab and a large cache.
 ITEMS = 3_000
 STRICT = ["-Wall", "-Wextra", "-Werror", "-pedantic"]
@@ -312,6 +314,20 @@ def fuzzed(room, inputs):
     yield "inputs under valgrind", wrong(watched)
 
 
+def fuzzed_tokens(room, tokens):
+    """The library is handed tokens, straight and bent in structure; a few of them under valgrind, where a call may take longer."""
+    given = [ROOT / "examples/service.keytab", fixture("request")]
+    program = room / "fuzz_tokens"
+    built = run("gcc", "-std=c99", "-O1", "-g", *STRICT, f"-I{HEADER.parent}", ROOT / "tests/c/fuzz_tokens.c", ARCHIVE, toolchain(), "-o", program)
+    yield "the program that draws tokens is linked", wrong(built)
+    if built.returncode:
+        return
+    yield f"{tokens} tokens", wrong(run(program, *given, tokens, SEED, SLOW))
+    if shutil.which("valgrind"):
+        watched = run("valgrind", "-q", "--error-exitcode=9", "--leak-check=full", "--errors-for-leak-kinds=all", program, *given, WATCHED, SEED, 100 * SLOW)
+        yield "tokens under valgrind", wrong(watched)
+
+
 def over_ci():
     """Builds the archive over the libraries that `rt ci` left, which `rt lib` would prove and build anew; or None where it left none."""
     crate = edits.crates_of(str(ROOT))[CRATE.name]
@@ -330,7 +346,7 @@ def built_archive():
     return built if built and built.returncode == 0 else run("rt", "lib", cwd=CRATE)
 
 
-def checks(inputs):
+def checks(inputs, tokens):
     built = built_archive()
     yield "the archive is built", wrong(built)
     if built.returncode:
@@ -347,13 +363,16 @@ def checks(inputs):
         yield from c_peers.checks(room)
         yield from from_python(room)
         yield from fuzzed(room, inputs)
+        yield from fuzzed_tokens(room, tokens)
 
 
 def main():
     words = argparse.ArgumentParser()
     words.add_argument("--inputs", type=int, default=50_000)
+    words.add_argument("--tokens", type=int, default=200_000)
+    given = words.parse_args()
     passed = failed = 0
-    for name, fault in checks(words.parse_args().inputs):
+    for name, fault in checks(given.inputs, given.tokens):
         if fault is None:
             passed += 1
         else:
