@@ -285,15 +285,15 @@ def from_python(room):
     if built.returncode == 0:
         yield from example_in_python(path)
         yield from package_tests(room, path)
+        yield "another clock is built", wrong(run("gcc", "-shared", "-fPIC", *STRICT[:3], ROOT / "tests/clock.c", "-o", room / "clock.so"))
         yield from c_web.checks(room, path)
         yield from over_stores(room, path)
 
 
 def over_stores(room, path):
-    """Instances in C and in Python that share a store, some with another clock."""
+    """Instances in C and in Python that share a store."""
     program = room / "shared"
     yield "the service over a store is linked", wrong(linked(program, "-D_DEFAULT_SOURCE", ROOT / "examples/service/shared.c", "-lhiredis"))
-    yield "another clock is built", wrong(run("gcc", "-shared", "-fPIC", *STRICT[:3], ROOT / "tests/clock.c", "-o", room / "clock.so"))
     yield from c_shared.checks(room, path, program, room / "cache")
 
 
