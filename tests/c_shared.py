@@ -18,7 +18,7 @@ from concurrent.futures import ThreadPoolExecutor
 from itertools import islice
 from pathlib import Path
 
-import stores
+import store_servers
 
 TOP = Path(__file__).resolve().parent.parent
 PYTHON = "/usr/bin/python3"
@@ -254,13 +254,14 @@ def old_stamps(store):
     """The document's statement deletes stamps that are no longer needed, and no others."""
     count = int(store.run("SELECT count(*) FROM stamps").split()[2])
     store.run("INSERT INTO stamps VALUES ('old', now() - interval '1 second'), ('new', now() + interval '1 hour')")
-    yield "old stamps are deleted", is_it(store.run(stores.statements()[1]), "DELETE 1")
+    yield "old stamps are deleted", is_it(store.run(store_servers.statements()[1]), "DELETE 1")
     yield "others aren't", is_it(store.run("SELECT count(*) FROM stamps").split()[2], str(count + 1))
 
 
-def made_requests(cache, count, library):
+def made_requests(cache, count, library, ago=0):
+    """Requests of one second, so many seconds ago."""
     where = {**os.environ, "FEVSTUNIK_LIBRARY": str(library), "PYTHONPATH": str(TOP / "python")}
-    ran = subprocess.run([PYTHON, "-B", "-c", MAKE, str(cache), str(count), str(int(time.time()))], capture_output=True, text=True, env=where)
+    ran = subprocess.run([PYTHON, "-B", "-c", MAKE, str(cache), str(count), str(int(time.time()) - ago)], capture_output=True, text=True, env=where)
     if ran.returncode:
         raise OSError(ran.stderr[-500:])
     return ran.stdout.split()
@@ -274,14 +275,14 @@ def checks(folder, library, program, cache):
     def in_python(store, wait):
         return [PYTHON, "-B", TOP / "examples/shared.py", *SERVICE, *store.words, "--wait", wait]
 
-    for make, kinds in ((stores.Redis, [in_c, in_c, in_python, in_python]), (stores.Postgres, [in_python] * 4)):
+    for make, kinds in ((store_servers.Redis, [in_c, in_c, in_python, in_python]), (store_servers.Postgres, [in_python] * 4)):
         store = None
         try:
             requests = made_requests(cache, sum(REQUESTS[make.name]) + MORE, library)
             store = make()
             for name, fault in over(store, kinds, folder, library, requests):
                 yield f"{store.name}: {name}", fault
-            if make is stores.Postgres:
+            if make is store_servers.Postgres:
                 yield from old_stamps(store)
         except (OSError, ValueError, IndexError, subprocess.SubprocessError) as error:
             yield f"{make.name}: instances that share a store", repr(error)
