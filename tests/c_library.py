@@ -7,7 +7,8 @@ package (tests/python), over a shared object. tests/c/faults.c asks for each fau
 tests/c/tokens.c opens and writes tokens of GSS-API. Together they see
 just the codes that the header names at each function. tests/c/large.c hands in files of thousands of items. A service and a client (examples/service) talk over TCP, to each
 other and to a client and a service over MIT krb5 (tests/c_peers.py). Threads share a service (tests/c/threads.c). tests/c/fuzz.c hands the
-library good and broken files and messages, some of them under valgrind, and tests/c/fuzz_tokens.c tokens of GSS-API.
+library good and broken files and messages, some of them under valgrind, and tests/c/fuzz_tokens.c tokens of GSS-API. Real clients log in
+at a web service (tests/c_web.py), and instances share a store (tests/c_shared.py).
 
     tests/c_library.py [--inputs N] [--tokens N]     so many inputs, 50,000 if left out, and so many tokens, 200,000
 

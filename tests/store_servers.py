@@ -68,7 +68,7 @@ class Postgres:
     def __init__(self):
         self.folder = Path(tempfile.mkdtemp(prefix="postgres-"))
         self.tools = Path(max(glob.glob("/usr/lib/postgresql/*/bin"), key=lambda it: float(it.split("/")[-2])))
-        self.words = ["--postgres", f"host={self.folder} dbname=postgres user=postgres"]
+        self.words = ["--postgres", f"host={self.folder} dbname=postgres user=web"]
         self.user = {}
         if os.geteuid() == 0:
             account = pwd.getpwnam("postgres")
@@ -87,6 +87,7 @@ class Postgres:
             self.process = subprocess.Popen([str(it) for it in words], cwd=self.folder, stdout=log, stderr=log, **self.user)
         wait_for(lambda: said([self.tools / "pg_isready", "-q", "-h", self.folder]).returncode == 0, "postgres doesn't answer", self.process)
         if not self.has_table:
+            self.run("CREATE ROLE web LOGIN")
             self.run(statements()[0])
             self.has_table = True
 
