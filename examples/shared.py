@@ -50,9 +50,10 @@ class Postgres:
 
     def __init__(self, where: str, wait: float) -> None:
         import psycopg2.extensions
-        self.driver, self.where, self.wait = psycopg2, where, wait
+        self.driver: Any = psycopg2
         self.connection: Any = None
-        psycopg2.extensions.set_wait_callback(self.wait_for)
+        self.where, self.wait = where, wait
+        self.driver.extensions.set_wait_callback(self.wait_for)
 
     def wait_for(self, connection: Any) -> None:
         """Wait for the server's answer. The driver calls this; without it, it would wait for ever."""
@@ -87,7 +88,10 @@ class Postgres:
             raise NoAnswer(str(fault).strip()) from None
 
 
-def let_in(acceptor: Acceptor, store: Redis | Postgres, request: bytes, clock: Callable[[], float]) -> str:
+Store = Redis | Postgres
+
+
+def let_in(acceptor: Acceptor, store: Store, request: bytes, clock: Callable[[], float]) -> str:
     with acceptor.accept(request, clock()) as accepted:
         stamp = accepted.stamp(SKEW)
         if not store.add(stamp):
@@ -98,7 +102,7 @@ def let_in(acceptor: Acceptor, store: Redis | Postgres, request: bytes, clock: C
         return f"accepted {accepted.client} {accepted.reply().hex() if accepted.wants_reply else '-'}"
 
 
-def answered(acceptor: Acceptor, store: Redis | Postgres, service: str, line: str, clock: Callable[[], float]) -> str:
+def answered(acceptor: Acceptor, store: Store, service: str, line: str, clock: Callable[[], float]) -> str:
     try:
         return let_in(acceptor, store, bytes.fromhex(line), clock)
     except ValueError:
@@ -120,10 +124,14 @@ def main() -> None:
     words.add_argument("--wait", type=float, default=1, help="for how many seconds to wait for the store")
     words.add_argument("--at", type=int, help="a moment in place of the clock's, in seconds since 1970-01-01")
     given = words.parse_args()
-    store = Redis(given.redis, given.wait) if given.redis else Postgres(given.postgres, given.wait)
+    store: Store = Redis(given.redis, given.wait) if given.redis else Postgres(given.postgres, given.wait)
+
+    def clock() -> float:
+        return time.time() if given.at is None else float(given.at)
+
     with Acceptor(Keytab.read(given.keytab), given.service, SKEW, started=None) as acceptor:
         for line in sys.stdin:
-            print(answered(acceptor, store, given.service, line, time.time if given.at is None else lambda: given.at), flush=True)
+            print(answered(acceptor, store, given.service, line, clock), flush=True)
 
 
 if __name__ == "__main__":
