@@ -6,6 +6,7 @@ doesn't answer in time lets nobody in, nor does an instance that gets the answer
 wrong, or None.
 """
 import contextlib
+import itertools
 import os
 import random
 import signal
@@ -15,7 +16,6 @@ import threading
 import time
 from collections import Counter
 from concurrent.futures import ThreadPoolExecutor
-from itertools import islice
 from pathlib import Path
 
 import store_servers
@@ -68,10 +68,11 @@ class Instance:
         self.process.kill()
         self.process.wait()
 
-    def killed(self, count):
-        """The rest of so many answers, after it is killed and started again."""
+    def killed(self, count, before):
+        """What it answers of so many requests if it is killed after the first answers; then it is started again."""
+        answers = self.answers(before)
         self.kill()
-        answers = self.answers(count)
+        answers += self.answers(count - before)
         self.close()
         self.start()
         return answers
@@ -108,25 +109,24 @@ class Delivery:
         finally:
             watch.cancel()
 
-    def deliver(self, one, order, killed_at, read_before):
-        number = 0
-        while order:
+    def deliver(self, one, order, killed_at, before):
+        for number in itertools.count():
+            if not order:
+                return
             batch, order = order[:BATCH], order[BATCH:]
             one.send(self.requests[at] for at in batch)
-            answers = []
             if number in killed_at:
-                answers = one.answers(read_before)
-                answers += one.killed(len(batch) - len(answers))
-                self.killed_over.update(batch[len(answers):][:1])
-                order = batch[len(answers):] + order
-            elif len(order) < len(self.requests) // 2:
-                self.meet()
-            if number not in killed_at:
+                answers = one.killed(len(batch), min(before, len(batch)))
+                left = batch[len(answers):]
+                self.killed_over.update(left[:1])
+                order = left + order
+            else:
+                if len(order) < len(self.requests) // 2:
+                    self.meet()
                 answers = one.answers(len(batch))
                 if len(answers) < len(batch):
                     raise OSError(f"an instance ended, or had no time, after {answers[-1:]}")
             self.note(zip(batch, answers))
-            number += 1
 
     def meet(self):
         with self.lock:
@@ -140,10 +140,6 @@ class Delivery:
                 self.answers[at].append(answer)
                 self.count[answer] += 1
 
-    def often(self):
-        """How many requests were let in how often."""
-        return Counter(each.count(ACCEPTED) for each in self.answers)
-
 
 def is_it(found, wanted):
     return None if found == wanted else f"{found!r}, not {wanted!r}"
@@ -156,18 +152,28 @@ class Phases:
         self.rng, self.store, self.instances = random.Random(4120), store, instances
         self.plain, self.killed = plain, killed
         self.broken, self.down, self.back = last[::4], last[1::4], [*last[2::4], *last[3::4]]
+        # How often each request was let in so far.
+        self.let_in = Counter()
 
     def delivered(self, requests, **more):
-        return Delivery(self.rng, self.instances, requests, **more)
+        found = Delivery(self.rng, self.instances, requests, **more)
+        self.let_in.update({request: answers.count(ACCEPTED) for request, answers in zip(requests, found.answers)})
+        return found
+
+    def none_twice(self):
+        twice = [request for request, count in self.let_in.items() if count > 1]
+        return f"{len(twice)} are, of {len(self.let_in)}" if twice else None
+
+    def each_once(self, requests):
+        """What comes of requests that are new."""
+        return is_it(self.delivered(requests).count, Counter({ACCEPTED: len(requests), REPEAT: len(requests) * (len(self.instances) - 1)}))
 
     def once(self):
-        found = self.delivered(self.plain).count
-        wanted = Counter({ACCEPTED: len(self.plain), REPEAT: len(self.plain) * (len(self.instances) - 1)})
-        yield f"{len(self.plain)} requests to {len(self.instances)} instances: each is let in exactly once", is_it(found, wanted)
+        yield f"{len(self.plain)} requests to {len(self.instances)} instances: each is let in exactly once", self.each_once(self.plain)
 
     def instances_killed(self):
         found = self.delivered(self.killed, kills=KILLS)
-        yield "while instances are killed, none is let in twice", None if set(found.often()) <= {0, 1} else str(found.often())
+        yield "while instances are killed, none is let in twice", self.none_twice()
         lost = {at for at, each in enumerate(found.answers) if ACCEPTED not in each}
         yield "each is let in, unless an instance was killed over it", None if lost <= found.killed_over else str(lost - found.killed_over)
         yield "all else is a repeat", is_it(set(found.count), {ACCEPTED, REPEAT})
@@ -175,29 +181,21 @@ class Phases:
 
     def store_killed(self):
         found = self.delivered(self.broken, midway=self.store.kill)
-        yield "while the store is killed, none is let in twice", None if set(found.often()) <= {0, 1} else str(found.often())
-        yield "some were let in before, and none after", is_it(set(found.count), {ACCEPTED, REPEAT, STORE})
+        yield "while the store is killed, none is let in twice", self.none_twice()
+        yield "the store was killed in its work", is_it(set(found.count), {ACCEPTED, REPEAT, STORE})
         down = self.delivered(self.down).count
         yield "while the store is down, none is let in", is_it(down, Counter({STORE: len(self.down) * len(self.instances)}))
         self.store.start()
-        back = self.delivered(self.back).count
-        wanted = Counter({ACCEPTED: len(self.back), REPEAT: len(self.back) * (len(self.instances) - 1)})
-        yield "each is let in exactly once when the store is back", is_it(back, wanted)
+        yield "each is let in exactly once when the store is back", self.each_once(self.back)
+
+    def all_again(self):
+        """Instances that have forgotten all get what they got before."""
         for one in self.instances:
             one.close()
             one.start()
-        yield from self.again(found)
-
-    def again(self, broken):
-        """Instances that have forgotten all get all once more."""
-        again = self.delivered([*self.plain[:500], *self.killed, *self.back]).often()
-        lost = again.pop(1, 0)
-        most = KILLS * len(self.instances)
-        yield "what was let in before isn't let in again", None if set(again) == {0} and lost <= most else f"{again} and {lost}"
-        once_more = self.delivered(self.broken)
-        both = [before.count(ACCEPTED) + after.count(ACCEPTED) for before, after in zip(broken.answers, once_more.answers)]
-        yield "nor what was let in before the store was killed", None if set(both) <= {0, 1} else str(Counter(both))
-        down = self.delivered(self.down).often()
+        self.delivered([*self.plain[:500], *self.killed, *self.broken, *self.down, *self.back])
+        yield "what was let in before isn't let in again by instances that have forgotten it", self.none_twice()
+        down = Counter(self.let_in[it] for it in self.down)
         yield "what wasn't let in because the store was down is let in once", is_it(down, Counter({1: len(self.down)}))
 
 
@@ -235,9 +233,9 @@ def over(store, kinds, folder, library, requests):
 
     try:
         given = iter(requests)
-        parts = [list(islice(given, count)) for count in REQUESTS[store.name]]
+        parts = [list(itertools.islice(given, count)) for count in REQUESTS[store.name]]
         phases = Phases(store, [instance(it, PATIENT) for it in kinds], *parts)
-        for checks in (phases.once, phases.instances_killed, phases.store_killed):
+        for checks in (phases.once, phases.instances_killed, phases.store_killed, phases.all_again):
             yield from checks()
         for kind in dict.fromkeys(kinds):
             yield from in_time(store, instance(kind, IMPATIENT), given)
