@@ -1,10 +1,12 @@
 /* Times MIT krb5's krb5_mk_req_extended and krb5_rd_req, as fast as they go: keytab in memory, no replay cache.
  *
- *   mit_exchange make|accept KEYTAB CACHE COUNT      prints nanoseconds a call
- *   mit_exchange lines KEYTAB CACHE COUNT            answers lines of standard input as krbtool accept does
+ *   mit_exchange make|accept|remember KEYTAB CACHE COUNT      prints nanoseconds a call
+ *   mit_exchange lines KEYTAB CACHE COUNT                     answers lines of standard input as krbtool accept does
  *
- * Requests are for the first credential of the cache, at the moment that the clock shows.
+ * Requests are for the first credential of the cache, at the moment that the clock shows. With `remember` each is looked up and kept in the
+ * replay cache that KRB5RCACHENAME names, and a repeat has to be refused at the end.
  */
+#include <errno.h>
 #include <krb5.h>
 #include <stdio.h>
 #include <stdlib.h>
@@ -54,17 +56,18 @@ static krb5_keytab keytab_in_memory(const char *name)
     return memory;
 }
 
-static krb5_auth_context without_times(void)
+/* Without the flag KRB5_AUTH_CONTEXT_DO_TIME the replay cache isn't used. */
+static krb5_auth_context state_with(krb5_flags flags)
 {
     krb5_auth_context state;
     must(krb5_auth_con_init(context, &state), "a context");
-    must(krb5_auth_con_setflags(context, state, 0), "flags");
+    must(krb5_auth_con_setflags(context, state, flags), "flags");
     return state;
 }
 
 static double make(krb5_creds *credential, krb5_data *made, long count)
 {
-    krb5_auth_context state = without_times();
+    krb5_auth_context state = state_with(0);
     double start = now();
     for (long i = 0; i < count; i++) {
         krb5_data bytes;
@@ -77,20 +80,28 @@ static double make(krb5_creds *credential, krb5_data *made, long count)
     return (now() - start) / count;
 }
 
-static double accept(krb5_keytab keytab, krb5_creds *credential, long count)
+static krb5_error_code read_request(krb5_keytab keytab, krb5_creds *credential, const krb5_data *request, krb5_flags flags)
+{
+    /* one that was used holds a key, and would read a request of user to user */
+    krb5_auth_context state = state_with(flags);
+    krb5_ticket *ticket = NULL;
+    krb5_error_code code = krb5_rd_req(context, &state, request, credential->server, keytab, NULL, &ticket);
+    krb5_free_ticket(context, ticket);
+    krb5_auth_con_free(context, state);
+    return code;
+}
+
+static double accept(krb5_keytab keytab, krb5_creds *credential, long count, krb5_flags flags)
 {
     krb5_data *requests = calloc(count, sizeof *requests);
     make(credential, requests, count);
     double start = now();
-    for (long i = 0; i < count; i++) {
-        /* one that was used holds a key, and would read a request of user to user */
-        krb5_auth_context state = without_times();
-        krb5_ticket *ticket;
-        must(krb5_rd_req(context, &state, &requests[i], credential->server, keytab, NULL, &ticket), "a call");
-        krb5_free_ticket(context, ticket);
-        krb5_auth_con_free(context, state);
-    }
-    return (now() - start) / count;
+    for (long i = 0; i < count; i++)
+        must(read_request(keytab, credential, &requests[i], flags), "a call");
+    double took = (now() - start) / count;
+    if (flags && read_request(keytab, credential, &requests[0], flags) != KRB5KRB_AP_ERR_REPEAT)
+        must(EINVAL, "a repeat that isn't refused");
+    return took;
 }
 
 /* The bytes of hexadecimal digits; answers how many. */
@@ -105,7 +116,7 @@ static size_t unhex(const char *text, char *bytes)
 
 static void answer(krb5_keytab keytab, krb5_principal server, krb5_data *request)
 {
-    krb5_auth_context state = without_times();
+    krb5_auth_context state = state_with(0);
     krb5_authenticator *authenticator;
     krb5_ticket *ticket;
     char *client;
@@ -147,7 +158,8 @@ int main(int argc, char **argv)
     long count = atol(argv[4]);
     if (strcmp(argv[1], "lines") == 0)
         return lines(keytab_in_memory(argv[2]), credential.server);
-    double each = strcmp(argv[1], "make") ? accept(keytab_in_memory(argv[2]), &credential, count) : make(&credential, NULL, count);
+    krb5_flags flags = strcmp(argv[1], "remember") ? 0 : KRB5_AUTH_CONTEXT_DO_TIME;
+    double each = strcmp(argv[1], "make") ? accept(keytab_in_memory(argv[2]), &credential, count, flags) : make(&credential, NULL, count);
     printf("%.1f\n", each);
     return 0;
 }

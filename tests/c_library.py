@@ -7,9 +7,10 @@ package (tests/python), over a shared object. tests/c/faults.c asks for each fau
 tests/c/tokens.c opens and writes tokens of GSS-API. Together they see
 just the codes that the header names at each function. tests/c/large.c hands in files of thousands of items. A service and a client (examples/service) talk over TCP, to each
 other and to a client and a service over MIT krb5 (tests/c_peers.py). Threads share a service (tests/c/threads.c). tests/c/fuzz.c hands the
-library good and broken files and messages, some of them under valgrind.
+library good and broken files and messages, some of them under valgrind, and tests/c/fuzz_tokens.c tokens of GSS-API. Real clients log in
+at a web service (tests/c_web.py), and instances share a store (tests/c_shared.py).
 
-    tests/c_library.py [--inputs N]     so many inputs, 50,000 if left out
+    tests/c_library.py [--inputs N] [--tokens N]     so many inputs, 50,000 if left out, and so many tokens, 200,000
 
 The last line is 'N passed, M failed'.
 """
@@ -43,6 +44,8 @@ SEED = 20_261_123
 # Of the fixture's messages.
 KEYED = "mutual request with a subkey and a number"
 WATCHED = 5_000
+# How many microseconds of processor time a call may take that opens a token.
+SLOW = 50_000
 # Of a large keytab and a large cache.
 ITEMS = 3_000
 STRICT = ["-Wall", "-Wextra", "-Werror", "-pedantic"]
@@ -283,8 +286,16 @@ def from_python(room):
     if built.returncode == 0:
         yield from example_in_python(path)
         yield from package_tests(room, path)
+        yield "another clock is built", wrong(run("gcc", "-shared", "-fPIC", *STRICT[:3], ROOT / "tests/clock.c", "-o", room / "clock.so"))
         yield from c_web.checks(room, path)
-        yield from c_shared.checks(room, path, room / "cache")
+        yield from over_stores(room, path)
+
+
+def over_stores(room, path):
+    """Instances in C and in Python that share a store."""
+    program = room / "shared"
+    yield "the service over a store is linked", wrong(linked(program, "-D_DEFAULT_SOURCE", ROOT / "examples/service/shared.c", "-lhiredis"))
+    yield from c_shared.checks(room, path, program, room / "cache")
 
 
 def fuzzed(room, inputs):
@@ -302,6 +313,20 @@ def fuzzed(room, inputs):
     watched = run("valgrind", "-q", "--error-exitcode=9", "--leak-check=full", "--show-leak-kinds=all", "--errors-for-leak-kinds=all",
                   program, *files, WATCHED, SEED)
     yield "inputs under valgrind", wrong(watched)
+
+
+def fuzzed_tokens(room, tokens):
+    """The library is handed tokens, straight and bent in structure; a few of them under valgrind, where a call may take longer."""
+    given = [ROOT / "examples/service.keytab", fixture("request")]
+    program = room / "fuzz_tokens"
+    built = run("gcc", "-std=c99", "-O1", "-g", *STRICT, f"-I{HEADER.parent}", ROOT / "tests/c/fuzz_tokens.c", ARCHIVE, toolchain(), "-o", program)
+    yield "the program that draws tokens is linked", wrong(built)
+    if built.returncode:
+        return
+    yield f"{tokens} tokens", wrong(run(program, *given, tokens, SEED, SLOW))
+    if shutil.which("valgrind"):
+        watched = run("valgrind", "-q", "--error-exitcode=9", "--leak-check=full", "--errors-for-leak-kinds=all", program, *given, WATCHED, SEED, 100 * SLOW)
+        yield "tokens under valgrind", wrong(watched)
 
 
 def over_ci():
@@ -322,7 +347,7 @@ def built_archive():
     return built if built and built.returncode == 0 else run("rt", "lib", cwd=CRATE)
 
 
-def checks(inputs):
+def checks(inputs, tokens):
     built = built_archive()
     yield "the archive is built", wrong(built)
     if built.returncode:
@@ -339,13 +364,16 @@ def checks(inputs):
         yield from c_peers.checks(room)
         yield from from_python(room)
         yield from fuzzed(room, inputs)
+        yield from fuzzed_tokens(room, tokens)
 
 
 def main():
     words = argparse.ArgumentParser()
     words.add_argument("--inputs", type=int, default=50_000)
+    words.add_argument("--tokens", type=int, default=200_000)
+    given = words.parse_args()
     passed = failed = 0
-    for name, fault in checks(words.parse_args().inputs):
+    for name, fault in checks(given.inputs, given.tokens):
         if fault is None:
             passed += 1
         else:

@@ -1,0 +1,129 @@
+#!/usr/bin/env python3
+"""Times instances of a service that share a store, and prints a table of accepted requests a second.
+
+    bench/stores.py
+
+Beside them are one instance without a store, and MIT krb5's krb5_rd_req with its replay cache in a file, which its processes share. Needs what
+tests/c_shared.py and bench/from_c.py need. Each number is the best of some runs. Nothing here is a test, but each request has to be accepted.
+"""
+import itertools
+import os
+import subprocess
+import sys
+import tempfile
+import time
+from concurrent.futures import ThreadPoolExecutor
+from pathlib import Path
+
+import exchange
+
+TOP = Path(__file__).resolve().parent.parent
+sys.path += [str(TOP / "tests")]
+import c_library  # noqa: E402
+import c_shared  # noqa: E402
+import store_servers  # noqa: E402
+
+INSTANCES, REQUESTS, RUNS = (1, 2, 4), 4_000, 3
+
+
+def must(ran):
+    if ran.returncode:
+        sys.exit(f"{ran.args} ended with {ran.returncode}: {(ran.stdout + ran.stderr)[-2000:]}")
+    return ran.stdout
+
+
+def built(folder):
+    """Builds the library, and the service in C with a store and without one."""
+    must(c_library.built_archive())
+    must(c_library.run("gcc", "-shared", "-o", folder / "libfevstunik.so", "-Wl,--whole-archive", c_library.ARCHIVE, "-Wl,--no-whole-archive",
+                       c_library.toolchain()))
+    service = "-O2", "-D_DEFAULT_SOURCE", TOP / "examples/service/shared.c"
+    must(c_library.linked(folder / "shared", *service, "-lhiredis"))
+    must(c_library.linked(folder / "alone", *service, TOP / "bench/no_store.c"))
+    flags = must(c_library.run("pkg-config", "--cflags", "--libs", "krb5")).split()
+    must(c_library.run("gcc", "-O2", TOP / "bench/mit_exchange.c", *flags, "-o", folder / "mit"))
+
+
+def answered(instance, requests):
+    """Sends requests, some at a time, and counts those that are accepted."""
+    count = 0
+    for at in range(0, len(requests), c_shared.BATCH):
+        batch = requests[at:at + c_shared.BATCH]
+        instance.send(batch)
+        count += instance.answers(len(batch)).count(c_shared.ACCEPTED)
+    return count
+
+
+def rate(words, count, requests):
+    """How many requests so many instances accept in a second, each a part of them."""
+    instances = [c_shared.Instance(words) for _ in range(count)]
+    try:
+        for one in instances:
+            if answered(one, ["00"]):
+                sys.exit("a byte was accepted")
+        with ThreadPoolExecutor(count) as pool:
+            began = time.monotonic()
+            accepted = sum(pool.map(answered, instances, [requests[at::count] for at in range(count)]))
+            took = time.monotonic() - began
+    finally:
+        for one in instances:
+            one.close()
+    if accepted != len(requests):
+        sys.exit(f"{accepted} requests were accepted of {len(requests)}")
+    return len(requests) / took
+
+
+def with_file(folder, count):
+    """The same for MIT's processes that share a replay cache; each times its own loop."""
+    keys, tickets, _ = exchange.laid_out(folder, 19, 1, 0)
+    cache = folder / "rcache"
+    cache.unlink(missing_ok=True)
+    env = {**os.environ, "KRB5RCACHENAME": f"file2:{cache}"}
+    words = [str(folder / "mit"), "remember", keys, tickets, str(REQUESTS // count)]
+    started = [subprocess.Popen(words, stdout=subprocess.PIPE, text=True, env=env) for _ in range(count)]
+    seconds = [float(it.communicate()[0]) * (REQUESTS // count) / 1e9 for it in started]
+    return REQUESTS / max(seconds)
+
+
+def row(name, counts, measured):
+    """A row of the table; `measured` takes a number of instances."""
+    best = [max(measured(count) for _ in range(RUNS)) if count in counts else None for count in INSTANCES]
+    print(f"| {name} | " + " | ".join("" if it is None else f"{it:,.0f}" for it in best) + " |", flush=True)
+
+
+def table(folder):
+    cache = folder / "cache"
+    cache.write_bytes(c_library.current_cache(int(time.time()) - 60))
+    library = folder / "libfevstunik.so"
+    os.environ["FEVSTUNIK_LIBRARY"] = str(library)
+
+    ago = itertools.count(250, -1)
+
+    def timed(words):
+        """Each time with requests of another second, which no store has seen."""
+        return lambda count: rate(words, count, c_shared.made_requests(cache, REQUESTS, library, next(ago)))
+
+    print("\n| accepted requests a second | " + " | ".join(f"{count} instance{'s' * (count > 1)}" for count in INSTANCES) + " |\n|---|---|---|---|")
+    in_python = [c_shared.PYTHON, "-B", TOP / "examples/shared.py", *c_shared.SERVICE]
+    row("C, no store", (1,), timed([folder / "alone", *c_shared.SERVICE, "none"]))
+    row("Python, no store", (1,), timed([c_shared.PYTHON, "-B", TOP / "examples/serve.py", *c_shared.SERVICE, "--first"]))
+    for make in (store_servers.Redis, store_servers.Postgres):
+        store = make()
+        try:
+            store.start()
+            if make is store_servers.Redis:
+                row("C, Redis", INSTANCES, timed([folder / "shared", *c_shared.SERVICE, store.socket, 20]))
+            row(f"Python, {store.name}", INSTANCES, timed([*in_python, *store.words, "--wait", "20"]))
+        finally:
+            store.close()
+    row("MIT krb5 in C, a replay cache in a file", INSTANCES, lambda count: with_file(folder, count))
+
+
+def main():
+    with tempfile.TemporaryDirectory() as name:
+        built(Path(name))
+        table(Path(name))
+
+
+if __name__ == "__main__":
+    main()
