@@ -13,6 +13,7 @@ ghost use Rattle.krb_keytab.specs.Written.{written};
 
 use crate::entry::Entry;
 use crate::fault::KeytabFault;
+use crate::index::NameIndex;
 use crate::next::next_record;
 use crate::opening::{VERSION, open};
 use crate::pick::Picked;
@@ -20,19 +21,26 @@ use crate::record::Record;
 use crate::step::read_entries;
 use crate::writing::put_record;
 use krb_name::{FILE_LIMIT, Principal, Source, Window};
-use std::alloc::Global;
+use std::alloc::{AllocError, Global};
 use std::marker::Model;
 
 /// A keytab: the entries of a file, in their order. A contract sees it as their list.
 #[derive(Debug, Drop)]
 pub struct Keytab {
     entries: Vec<Entry>,
+    index: NameIndex,
 }
 
 impl Model for Keytab {
+    ghost use Rattle.std.specs.Prelude.{List};
+    ghost use Rattle.krb_keytab.specs.Entry.{KeytabEntry};
+    ghost use Rattle.krb_keytab.specs.Inner.Index.{IsIndexOf};
+
     ghost Value = { List KeytabEntry };
 
     ghost view = { λ k. k.entries.items };
+
+    ghost invariant = { λ k. IsIndexOf k.index k.entries.items };
 }
 
 impl Keytab {
@@ -99,7 +107,7 @@ impl Keytab {
         ensures lent { S.lender window.new.source ≡ S.lender window.old.source }
     {
         match read_entries(alloc, window) {
-            Ok(entries) => Ok(Keytab { entries }),
+            Ok(entries) => Ok(Keytab::of_entries(alloc, entries)?),
             Err(fault) => Err(fault),
         }
     }
@@ -113,11 +121,18 @@ impl Keytab {
         let mut entries = Vec::new(alloc);
         loop {
             match next_record(&mut cursor)? {
-                Record::End => return Ok(Keytab { entries }),
+                Record::End => return Ok(Keytab::of_entries(alloc, entries)?),
                 Record::Hole => {}
                 Record::Entry(entry) => entries.push(entry.to_entry(alloc)?)?,
             }
         }
+    }
+
+    fn of_entries(alloc: Global, entries: Vec<Entry>) -> Result<Keytab, AllocError>
+        ensures { IfOk result (λ keytab. keytab ≡ entries.items) }
+    {
+        let index = NameIndex::new(alloc, entries.as_slice())?;
+        Ok(Keytab { entries, index })
     }
 
     /// Writes the entries as the bytes of a file: their records, without holes and without an end.
@@ -166,6 +181,7 @@ impl Keytab {
     {
         self.entries
             .retain(|entry| entry.principal().same_name(name));
+        self.index.renew(self.entries.as_slice());
         self
     }
 
@@ -180,8 +196,10 @@ impl Keytab {
         ensures { IsPicked self.now name.now etype kvno result }
     {
         let mut picked = Picked::NoName;
-        for entry in self.entries() {
-            picked = picked.or_entry(entry, name, etype, kvno);
+        let mut at = self.index.first(name);
+        while at < self.entries.len() {
+            picked = picked.or_entry(&self.entries[at], name, etype, kvno);
+            at = self.index.next(at);
         }
         picked
     }

@@ -1,12 +1,41 @@
-use Rattle.std.proofs.Common.{w32}
+use Rattle.std.proofs.Common.{◌+◌, ◌<◌, ◌≤◌, length, take, arith, w32, to_z, of_z}
 use Rattle.std.proofs.lemmas.Int.{to_z-of_z}
+use Rattle.krb_keytab.specs.declared.pick.Picked.TheVariants.{NoName}
 use Rattle.krb_keytab.proofs.PickLaws.{one_more, all_seen}
+use Rattle.krb_keytab.proofs.IndexLaws.{first_leads, next_leads, passed_over, none_seen}
 use Rattle.krb_keytab.proofs.keytab.Keytab.pick.Goals as goal
 
-pub loop-entry-preserved : goal.loop-entry-preserved
-loop-entry-preserved c =
-    one_more c.entries-entry-items.result.now c.loop-entry.entry-index c.entry-item.result c.args.name.now _ c.args.kvno c.or_entry-picked.result c.loop-entry-test.true c.entry-item.is (c.or_entry-picked.ensures _ c.loop-entry.invariant)
+pub loop-at-init : goal.loop-at-init
+loop-at-init c =
+    let entries = c.self.inside.entries.items in
+    let index = c.self.inside.index in
+    let count = length index.firsts.items in
+    let name = c.args.name.now in
+    let etype = to_z w32 (of_z w32 c.args.etype) in
+    let on = first_leads entries count name index.firsts.items index.nexts.items c.first-at.result c.self.invariant.some c.self.invariant.linked c.first-at.ensures in
+    record {
+      picked = passed_over entries name etype c.args.kvno NoName count 0 c.first-at.result on.leads (none_seen entries name etype c.args.kvno);
+      lands = on.lands;
+    }
+
+pub loop-at-preserved : goal.loop-at-preserved
+loop-at-preserved c =
+    let entries = c.self.inside.entries.items in
+    let index = c.self.inside.index in
+    let count = length index.firsts.items in
+    let name = c.args.name.now in
+    let etype = to_z w32 (of_z w32 c.args.etype) in
+    let at = c.loop-at.at in
+    let now = c.loop-at.invariant in
+    let within : at < length entries = omega arith in
+    let on = next_leads entries count name index.firsts.items index.nexts.items at c.next-at.result within (now.lands within) c.self.invariant.linked c.next-at.ensures in
+    let seen = one_more entries at c.index.result.now name etype c.args.kvno c.or_entry-picked.result within c.index.ensures (c.or_entry-picked.ensures (take at entries) now.picked) in
+    record {
+      picked = passed_over entries name etype c.args.kvno c.or_entry-picked.result count (at + 1) c.next-at.result on.leads seen;
+      lands = on.lands;
+    }
 
 pub returns : goal.returns
 returns c =
-    all_seen c.entries-entry-items.result.now c.args.self.now c.loop-entry.entry-index c.args.name.now c.args.etype _ c.args.kvno c.loop-entry.picked c.loop-entry-test.false c.entries-entry-items.ensures (to_z-of_z w32 c.args.etype c.ranges.etype) c.loop-entry.invariant
+    let all : length c.self.inside.entries.items ≤ c.loop-at.at = omega arith in
+    all_seen c.self.inside.entries.items c.args.self.now c.loop-at.at c.args.name.now c.args.etype _ c.args.kvno c.loop-at.picked all c.self.view_is (to_z-of_z w32 c.args.etype c.ranges.etype) c.loop-at.invariant.picked

@@ -1,0 +1,102 @@
+//! An index of the entries of a keytab by name.
+
+ghost use Rattle.std.specs.Prelude.{◌≡◌, ◌<◌, ◌≤◌, IfOk, length, slice_index};
+ghost use Rattle.krb_keytab.specs.Inner.Index.{hash_of, bucket_of, buckets_of, IsLinkedFrom, IsIndexOf};
+
+use crate::entry::Entry;
+use krb_name::Principal;
+use std::alloc::{AllocError, Global};
+use std::hash::{FoldHasher, Hasher};
+
+/// Where the entries of each name are in a list of entries.
+///
+/// Each name falls into a bucket, by a hash of its realm and components. The entries of a bucket
+/// are linked by their places, from the first to the last.
+#[derive(Debug, Drop)]
+pub(crate) struct NameIndex {
+    // The place of the first entry of each bucket. It is past the last place if there is none.
+    firsts: Vec<usize>,
+    // After each entry, the place of the next of its bucket. It is past the last place if there
+    // is none.
+    nexts: Vec<usize>,
+}
+
+impl NameIndex {
+    /// Makes the index of `entries`.
+    pub(crate) fn new(alloc: Global, entries: &[Entry]) -> Result<NameIndex, AllocError>
+        ensures { IfOk result (λ index. IsIndexOf index entries.now) }
+    {
+        let mut firsts = vec![in alloc; 0; entries.len() + 1]?;
+        let mut nexts = vec![in alloc; 0; entries.len()]?;
+        link(entries, firsts.as_mut_slice(), nexts.as_mut_slice());
+        Ok(NameIndex { firsts, nexts })
+    }
+
+    /// Makes it the index of `entries`, which are no more than it was made for. Allocates no memory.
+    pub(crate) fn renew(&mut self, entries: &[Entry])
+        requires some { 0 < length self.old.firsts.items }
+        requires fewer { length entries.now ≤ length self.old.nexts.items }
+        ensures { IsIndexOf self.new entries.now }
+    {
+        self.nexts.truncate(entries.len());
+        link(
+            entries,
+            self.firsts.as_mut_slice(),
+            self.nexts.as_mut_slice(),
+        );
+    }
+
+    /// Returns the first place at which there may be an entry of this name.
+    pub(crate) fn first(&self, name: &Principal) -> usize
+        requires { 0 < length self.now.firsts.items }
+        ensures { result ≡ slice_index self.now.firsts.items
+            (bucket_of (length self.now.firsts.items) name.now) }
+    {
+        self.firsts[bucket_of(name, self.firsts.len())]
+    }
+
+    /// Returns the next place after `at` at which there may be an entry of the same name.
+    pub(crate) fn next(&self, at: usize) -> usize
+        requires { at < length self.now.nexts.items }
+        ensures { result ≡ slice_index self.now.nexts.items at }
+    {
+        self.nexts[at]
+    }
+}
+
+// Links the entries of each bucket.
+fn link(entries: &[Entry], firsts: &mut [usize], nexts: &mut [usize])
+    requires some { 0 < length firsts.old }
+    requires nexts { length nexts.old ≡ length entries.now }
+    ensures { IsLinkedFrom (buckets_of (length firsts.old) entries.now) (length firsts.old) 0
+        firsts.new nexts.new }
+{
+    firsts.fill(entries.len());
+    for at in (0..entries.len()).rev() {
+        let bucket = bucket_of(entries[at].principal(), firsts.len());
+        nexts[at] = firsts[bucket];
+        firsts[bucket] = at;
+    }
+}
+
+// The bucket of a name, among `count`.
+fn bucket_of(name: &Principal, count: usize) -> usize
+    requires { 0 < count }
+    ensures bucket { result ≡ bucket_of count name.now }
+    ensures within { result < count }
+{
+    (hash_of(name) % count as u64) as usize
+}
+
+// A hash of the realm and the components.
+#[tactic(auto, unfolding(crate::specs::Inner::Index::hash_of))]
+fn hash_of(name: &Principal) -> u64
+    ensures { result ≡ hash_of name.now }
+{
+    let mut hasher = FoldHasher::default();
+    hasher.write(name.realm.as_slice());
+    for component in name.components.as_slice() {
+        hasher.write(component.as_slice());
+    }
+    hasher.finish()
+}
