@@ -12,7 +12,7 @@ use std::hash::{FoldHasher, Hasher};
 ///
 /// Each name falls into a bucket, by a hash of its realm and components. The entries of a bucket
 /// are linked by their places, from the first to the last.
-#[derive(Debug, Drop)]
+#[derive(Drop)]
 pub(crate) struct NameIndex {
     // The place of the first entry of each bucket. It is past the last place if there is none.
     firsts: Vec<usize>,

@@ -22,10 +22,11 @@ use crate::step::read_entries;
 use crate::writing::put_record;
 use krb_name::{FILE_LIMIT, Principal, Source, Window};
 use std::alloc::{AllocError, Global};
+use std::fmt;
 use std::marker::Model;
 
 /// A keytab: the entries of a file, in their order. A contract sees it as their list.
-#[derive(Debug, Drop)]
+#[derive(Drop)]
 pub struct Keytab {
     entries: Vec<Entry>,
     index: NameIndex,
@@ -47,10 +48,11 @@ impl Keytab {
     /// Parses the bytes of a file.
     ///
     /// Allocates memory as entries are read, and never because of a count or a length that the
-    /// bytes don't bear out.
+    /// bytes don't bear out. After the last entry it allocates 16 bytes for each, by which `pick`
+    /// finds the entries of a name.
     ///
     /// # Errors
-    /// `OutOfMemory` if there is no memory for an entry; else the first that applies:
+    /// `OutOfMemory` if there is no memory for this; else the first that applies:
     /// - `TooLong`: there are more than 16,777,216 bytes.
     /// - `Version`: they don't begin with 0x05 0x02.
     /// - `Truncated` or `BadEntry`, with the offset of the first record that has too few bytes, or
@@ -74,7 +76,8 @@ impl Keytab {
     /// Reads a keytab from a source, to its end or to one byte past 16,777,216, as `parse` does
     /// from bytes.
     ///
-    /// Holds the entries and the bytes of one record at a time. A hole's bytes aren't kept.
+    /// Holds the entries and the bytes of one record at a time. A hole's bytes aren't kept. After
+    /// the last entry it allocates 16 bytes for each, as `parse` does.
     ///
     /// Condition: fewer than 18,446,744,073,709,551,615 reads of the source have failed so far.
     ///
@@ -192,6 +195,8 @@ impl Keytab {
     /// a version number, the first such entry of that number is picked; without one, the first of
     /// the highest number. Names are compared as by `Principal::same_name`. Decrypts nothing and
     /// allocates no memory.
+    ///
+    /// Looks at the entries of that name, and at few others, however many there are.
     pub fn pick(&self, name: &Principal, etype: i32, kvno: Option<u32>) -> Picked<'_>
         ensures { IsPicked self.now name.now etype kvno result }
     {
@@ -202,5 +207,13 @@ impl Keytab {
             at = self.index.next(at);
         }
         picked
+    }
+}
+
+impl fmt::Debug for Keytab {
+    fn fmt<W: fmt::Write>(&self, f: &mut fmt::Formatter<W>) -> fmt::Result {
+        f.debug_struct("Keytab")
+            .field("entries", &self.entries)
+            .finish()
     }
 }
