@@ -1,6 +1,6 @@
 -- An index of entries by name is made from the last entry to the first, and passes over entries of
 -- other names alone.
-use Rattle.std.proofs.Common.{◌≡◌, ℕ, zero, suc, ◌+◌, ◌-◌, ◌<◌, ◌≤◌, ◌%◌, ℤ, pos, subst, List, [], length, take, get_or, Option, sym, ap, ◌∙◌, inl, inr, arith}
+use Rattle.std.proofs.Common.{◌≡◌, ℕ, zero, suc, ◌+◌, ◌-◌, ◌<◌, ◌≤◌, ◌%◌, ◌^◌, ℤ, pos, subst, List, [], length, take, get_or, Option, sym, ap, ◌∙◌, inl, inr, arith}
 use Rattle.std.specs.Prelude.{◌≢◌, slice_index, slice_set}
 use Rattle.std.specs.List.{fold}
 use Rattle.std.specs.Hash.FoldHasher.{initial, write, finish}
@@ -12,7 +12,8 @@ use Rattle.krb_name.specs.declared.principal.Principal.{Principal}
 use Rattle.krb_name.specs.Name.{SameName}
 use Rattle.krb_keytab.specs.Entry.{KeytabEntry}
 use Rattle.krb_keytab.specs.Pick.{IsChoice, Choice, choice_of, IsPicked}
-use Rattle.krb_keytab.specs.Inner.Index.{hash_of, bucket_of, buckets_of, LeadsTo, IsLinkedFrom}
+use Rattle.krb_keytab.specs.Inner.Hash.{hash_of}
+use Rattle.krb_keytab.specs.Inner.Index.{bucket_of, buckets_of, LeadsTo, IsLinkedFrom}
 use Rattle.krb_keytab.specs.declared.pick.Picked.{Picked}
 use Rattle.krb_keytab.specs.declared.pick.Picked.TheVariants.{NoName}
 use Rattle.krb_keytab.proofs.PickLaws.{other_name}
@@ -59,8 +60,8 @@ one_linked buckets firsts nexts count place bucket within small here h = record 
 same_hash : (one other : Principal) → SameName one other → hash_of one ≡ hash_of other
 unfolding hash_of
 same_hash one other same =
-    ap (λ (realm : List ℕ). finish (fold write (write initial realm) one.components)) same.realm
-    ∙ ap (λ (components : List (List ℕ)). finish (fold write (write initial other.realm) components)) same.components
+    ap (λ (realm : List ℕ). finish (fold write (write initial realm) one.components) % 2 ^ 32) same.realm
+    ∙ ap (λ (components : List (List ℕ)). finish (fold write (write initial other.realm) components) % 2 ^ 32) same.components
 
 pub bucket_at : (count : ℕ) (entries : List KeytabEntry) (k : ℕ) (e : KeytabEntry) → k < length entries → slice_index (buckets_of count entries) k ≡ bucket_of count (get_or entries k e).principal
 bucket_at count entries k e lt = get_or-map (λ entry. bucket_of count entry.principal) entries k e 0 lt

@@ -1,6 +1,7 @@
 pub mod Components
 pub mod Entry
 pub mod Finding
+pub mod Hash
 pub mod Index
 pub mod Meeting
 pub mod Pick

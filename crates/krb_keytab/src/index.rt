@@ -1,12 +1,12 @@
 //! An index of the entries of a keytab by name.
 
-ghost use Rattle.std.specs.Prelude.{◌≡◌, ◌<◌, ◌≤◌, IfOk, length, slice_index};
-ghost use Rattle.krb_keytab.specs.Inner.Index.{hash_of, bucket_of, buckets_of, IsLinkedFrom, IsIndexOf};
+ghost use Rattle.std.specs.Prelude.{◌≡◌, ◌<◌, ◌≤◌, ◌%◌, IfOk, length, slice_index};
+ghost use Rattle.krb_keytab.specs.Inner.Index.{bucket_of, buckets_of, IsLinkedFrom, IsIndexOf};
 
 use crate::entry::Entry;
+use crate::hash::hash_of;
 use krb_name::Principal;
 use std::alloc::{AllocError, Global};
-use std::hash::{FoldHasher, Hasher};
 
 /// Where the entries of each name are in a list of entries.
 ///
@@ -52,7 +52,7 @@ impl NameIndex {
         ensures { result ≡ slice_index self.now.firsts.items
             (bucket_of (length self.now.firsts.items) name.now) }
     {
-        self.firsts[bucket_of(name, self.firsts.len())]
+        self.firsts[bucket_of(hash_of(name), self.firsts.len())]
     }
 
     /// Returns the next place after `at` at which there may be an entry of the same name.
@@ -73,30 +73,17 @@ fn link(entries: &[Entry], firsts: &mut [usize], nexts: &mut [usize])
 {
     firsts.fill(entries.len());
     for at in (0..entries.len()).rev() {
-        let bucket = bucket_of(entries[at].principal(), firsts.len());
+        let bucket = bucket_of(entries[at].hash(), firsts.len());
         nexts[at] = firsts[bucket];
         firsts[bucket] = at;
     }
 }
 
-// The bucket of a name, among `count`.
-fn bucket_of(name: &Principal, count: usize) -> usize
+// The bucket of a hash, among `count`.
+fn bucket_of(hash: u32, count: usize) -> usize
     requires { 0 < count }
-    ensures bucket { result ≡ bucket_of count name.now }
+    ensures bucket { result ≡ hash % count }
     ensures within { result < count }
 {
-    (hash_of(name) % count as u64) as usize
-}
-
-// A hash of the realm and the components.
-#[tactic(auto, unfolding(crate::specs::Inner::Index::hash_of))]
-fn hash_of(name: &Principal) -> u64
-    ensures { result ≡ hash_of name.now }
-{
-    let mut hasher = FoldHasher::default();
-    hasher.write(name.realm.as_slice());
-    for component in name.components.as_slice() {
-        hasher.write(component.as_slice());
-    }
-    hasher.finish()
+    hash as usize % count
 }

@@ -11,7 +11,7 @@ loop-at-preserved c =
     let now = c.loop-at.invariant in
     let place = c.loop-at.at - 1 in
     let within : place < length c.args.entries.now = omega arith in
-    let bucket = rw (now.firsts_count, c.principal.ensures) at c.bucket_of-bucket.ensures.bucket in
+    let bucket = rw (now.firsts_count, c.hash.ensures) at c.bucket_of-bucket.ensures.bucket in
     let here = bucket_at count c.args.entries.now place c.index-entries-at.result within ∙ ap (λ (entry : KeytabEntry). bucket_of count entry.principal) (sym c.index-entries-at.is) ∙ sym bucket in
     let before : c.loop-at.at ≡ place + 1 = omega arith in
     one_linked (buckets_of count c.args.entries.now) c.loop-at.firsts c.loop-at.nexts count place c.bucket_of-bucket.result
