@@ -1,6 +1,6 @@
 //! An index of the entries of a keytab by name.
 
-ghost use Rattle.std.specs.Prelude.{◌≡◌, ◌<◌, ◌≤◌, ◌%◌, IfOk, length, slice_index};
+ghost use Rattle.std.specs.Prelude.{◌≡◌, ◌<◌, ◌≤◌, ◌%◌, IfOk, IfSome, length, slice_index};
 ghost use Rattle.krb_keytab.specs.Inner.Index.{bucket_of, buckets_of, IsLinkedFrom, IsIndexOf};
 
 use crate::entry::Entry;
@@ -32,20 +32,6 @@ impl NameIndex {
         Ok(NameIndex { firsts, nexts })
     }
 
-    /// Makes it the index of `entries`, which are no more than it was made for. Allocates no memory.
-    pub(crate) fn renew(&mut self, entries: &[Entry])
-        requires some { 0 < length self.old.firsts.items }
-        requires fewer { length entries.now ≤ length self.old.nexts.items }
-        ensures { IsIndexOf self.new entries.now }
-    {
-        self.nexts.truncate(entries.len());
-        link(
-            entries,
-            self.firsts.as_mut_slice(),
-            self.nexts.as_mut_slice(),
-        );
-    }
-
     /// Returns the first place at which there may be an entry of this name.
     pub(crate) fn first(&self, name: &Principal) -> usize
         requires { 0 < length self.now.firsts.items }
@@ -61,6 +47,23 @@ impl NameIndex {
         ensures { result ≡ slice_index self.now.nexts.items at }
     {
         self.nexts[at]
+    }
+}
+
+/// Makes an index, if there is one, that of `entries`. They are no more than it was made for.
+/// Allocates no memory.
+pub(crate) fn renew(index: &mut Option<NameIndex>, entries: &[Entry])
+    requires some { IfSome index.old (λ made. 0 < length made.firsts.items) }
+    requires fewer { IfSome index.old (λ made. length entries.now ≤ length made.nexts.items) }
+    ensures { IfSome index.new (λ made. IsIndexOf made entries.now) }
+{
+    if let Some(made) = index {
+        made.nexts.truncate(entries.len());
+        link(
+            entries,
+            made.firsts.as_mut_slice(),
+            made.nexts.as_mut_slice(),
+        );
     }
 }
 

@@ -13,10 +13,10 @@ ghost use Rattle.krb_keytab.specs.Written.{written};
 
 use crate::entry::Entry;
 use crate::fault::KeytabFault;
-use crate::index::NameIndex;
+use crate::index::{NameIndex, renew};
 use crate::next::next_record;
 use crate::opening::{VERSION, open};
-use crate::pick::Picked;
+use crate::pick::{Picked, pick_each, pick_indexed};
 use crate::record::Record;
 use crate::step::read_entries;
 use crate::writing::put_record;
@@ -29,11 +29,12 @@ use std::marker::Model;
 #[derive(Drop)]
 pub struct Keytab {
     entries: Vec<Entry>,
-    index: NameIndex,
+    // None if there are few entries.
+    index: Option<NameIndex>,
 }
 
 impl Model for Keytab {
-    ghost use Rattle.std.specs.Prelude.{List};
+    ghost use Rattle.std.specs.Prelude.{List, IfSome};
     ghost use Rattle.krb_keytab.specs.Entry.{KeytabEntry};
     ghost use Rattle.krb_keytab.specs.Inner.Index.{IsIndexOf};
 
@@ -41,8 +42,11 @@ impl Model for Keytab {
 
     ghost view = { λ k. k.entries.items };
 
-    ghost invariant = { λ k. IsIndexOf k.index k.entries.items };
+    ghost invariant = { λ k. IfSome k.index (λ index. IsIndexOf index k.entries.items) };
 }
+
+// As many entries are searched one by one.
+const FEW: usize = 8;
 
 impl Keytab {
     /// Parses the bytes of a file.
@@ -134,7 +138,11 @@ impl Keytab {
     fn of_entries(alloc: Global, entries: Vec<Entry>) -> Result<Keytab, AllocError>
         ensures { IfOk result (λ keytab. keytab ≡ entries.items) }
     {
-        let index = NameIndex::new(alloc, entries.as_slice())?;
+        let index = if entries.len() > FEW {
+            Some(NameIndex::new(alloc, entries.as_slice())?)
+        } else {
+            None
+        };
         Ok(Keytab { entries, index })
     }
 
@@ -184,7 +192,7 @@ impl Keytab {
     {
         self.entries
             .retain(|entry| entry.principal().same_name(name));
-        self.index.renew(self.entries.as_slice());
+        renew(&mut self.index, self.entries.as_slice());
         self
     }
 
@@ -200,13 +208,11 @@ impl Keytab {
     pub fn pick(&self, name: &Principal, etype: i32, kvno: Option<u32>) -> Picked<'_>
         ensures { IsPicked self.now name.now etype kvno result }
     {
-        let mut picked = Picked::NoName;
-        let mut at = self.index.first(name);
-        while at < self.entries.len() {
-            picked = picked.or_entry(&self.entries[at], name, etype, kvno);
-            at = self.index.next(at);
+        let entries = self.entries.as_slice();
+        match &self.index {
+            Some(index) => pick_indexed(entries, index, name, etype, kvno),
+            None => pick_each(entries, name, etype, kvno),
         }
-        picked
     }
 }
 
