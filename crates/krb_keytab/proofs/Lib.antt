@@ -5,6 +5,7 @@ pub mod FileLaws
 pub mod OpeningLaws
 pub mod SourceLaws
 pub mod PickLaws
+pub mod IndexLaws
 pub mod OnlyLaws
 pub mod AnswerLaws
 pub mod ChoiceLaws

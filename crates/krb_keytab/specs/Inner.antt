@@ -1,6 +1,8 @@
 pub mod Components
 pub mod Entry
 pub mod Finding
+pub mod Hash
+pub mod Index
 pub mod Meeting
 pub mod Pick
 pub mod Putting

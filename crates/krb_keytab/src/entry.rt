@@ -5,8 +5,10 @@ ghost use Rattle.std.specs.Int.{w16};
 ghost use Rattle.std.specs.List.{flat_map};
 ghost use Rattle.krb_name.specs.Cursor.{data_bytes};
 ghost use Rattle.krb_keytab.specs.Entry.{KeytabEntry, LengthsFit, FitsEntry};
+ghost use Rattle.krb_keytab.specs.Inner.Hash.{hash_of};
 ghost use Rattle.krb_keytab.specs.Written.{record_length};
 
+use crate::hash::hash_of;
 use krb_name::{Bytes, Principal};
 use std::fmt;
 use std::marker::Model;
@@ -22,6 +24,8 @@ pub struct Entry {
     timestamp: u32,
     kvno: u32,
     etype: i16,
+    // That of the principal.
+    hash: u32,
     key: Vec<u8>,
 }
 
@@ -36,7 +40,7 @@ impl Model for Entry {
       key = e.key.items;
     } };
 
-    ghost invariant = { λ e. LengthsFit e.principal e.key.items };
+    ghost invariant = { λ e. LengthsFit e.principal e.key.items × (e.hash ≡ hash_of e.principal) };
 }
 
 // The greatest count, and the greatest length in bytes, of a field of 16 bits.
@@ -87,6 +91,7 @@ impl Entry {
         } }
     {
         Entry {
+            hash: hash_of(&principal),
             principal,
             timestamp,
             kvno,
@@ -128,6 +133,13 @@ impl Entry {
         ensures { result ≡ self.now.etype }
     {
         self.etype
+    }
+
+    // The hash of the principal's name.
+    pub(crate) fn hash(&self) -> u32
+        ensures { result ≡ hash_of self.now.principal }
+    {
+        self.hash
     }
 
     // How many bytes its record has, the size at its front among them.

@@ -13,36 +13,50 @@ ghost use Rattle.krb_keytab.specs.Written.{written};
 
 use crate::entry::Entry;
 use crate::fault::KeytabFault;
+use crate::index::{NameIndex, renew};
 use crate::next::next_record;
 use crate::opening::{VERSION, open};
-use crate::pick::Picked;
+use crate::pick::{Picked, pick_each, pick_indexed};
 use crate::record::Record;
 use crate::step::read_entries;
 use crate::writing::put_record;
 use krb_name::{FILE_LIMIT, Principal, Source, Window};
-use std::alloc::Global;
+use std::alloc::{AllocError, Global};
+use std::fmt;
 use std::marker::Model;
 
 /// A keytab: the entries of a file, in their order. A contract sees it as their list.
-#[derive(Debug, Drop)]
+#[derive(Drop)]
 pub struct Keytab {
     entries: Vec<Entry>,
+    // None if there are few entries.
+    index: Option<NameIndex>,
 }
 
 impl Model for Keytab {
+    ghost use Rattle.std.specs.Prelude.{List, IfSome};
+    ghost use Rattle.krb_keytab.specs.Entry.{KeytabEntry};
+    ghost use Rattle.krb_keytab.specs.Inner.Index.{IsIndexOf};
+
     ghost Value = { List KeytabEntry };
 
     ghost view = { λ k. k.entries.items };
+
+    ghost invariant = { λ k. IfSome k.index (λ index. IsIndexOf index k.entries.items) };
 }
+
+// As many entries are searched one by one.
+const FEW: usize = 8;
 
 impl Keytab {
     /// Parses the bytes of a file.
     ///
     /// Allocates memory as entries are read, and never because of a count or a length that the
-    /// bytes don't bear out.
+    /// bytes don't bear out. After the last entry it allocates 16 bytes for each, by which `pick`
+    /// finds the entries of a name.
     ///
     /// # Errors
-    /// `OutOfMemory` if there is no memory for an entry; else the first that applies:
+    /// `OutOfMemory` if there is no memory for this; else the first that applies:
     /// - `TooLong`: there are more than 16,777,216 bytes.
     /// - `Version`: they don't begin with 0x05 0x02.
     /// - `Truncated` or `BadEntry`, with the offset of the first record that has too few bytes, or
@@ -66,7 +80,8 @@ impl Keytab {
     /// Reads a keytab from a source, to its end or to one byte past 16,777,216, as `parse` does
     /// from bytes.
     ///
-    /// Holds the entries and the bytes of one record at a time. A hole's bytes aren't kept.
+    /// Holds the entries and the bytes of one record at a time. A hole's bytes aren't kept. After
+    /// the last entry it allocates 16 bytes for each, as `parse` does.
     ///
     /// Condition: fewer than 18,446,744,073,709,551,615 reads of the source have failed so far.
     ///
@@ -99,7 +114,7 @@ impl Keytab {
         ensures lent { S.lender window.new.source ≡ S.lender window.old.source }
     {
         match read_entries(alloc, window) {
-            Ok(entries) => Ok(Keytab { entries }),
+            Ok(entries) => Ok(Keytab::of_entries(alloc, entries)?),
             Err(fault) => Err(fault),
         }
     }
@@ -113,11 +128,22 @@ impl Keytab {
         let mut entries = Vec::new(alloc);
         loop {
             match next_record(&mut cursor)? {
-                Record::End => return Ok(Keytab { entries }),
+                Record::End => return Ok(Keytab::of_entries(alloc, entries)?),
                 Record::Hole => {}
                 Record::Entry(entry) => entries.push(entry.to_entry(alloc)?)?,
             }
         }
+    }
+
+    fn of_entries(alloc: Global, entries: Vec<Entry>) -> Result<Keytab, AllocError>
+        ensures { IfOk result (λ keytab. keytab ≡ entries.items) }
+    {
+        let index = if entries.len() > FEW {
+            Some(NameIndex::new(alloc, entries.as_slice())?)
+        } else {
+            None
+        };
+        Ok(Keytab { entries, index })
     }
 
     /// Writes the entries as the bytes of a file: their records, without holes and without an end.
@@ -166,6 +192,7 @@ impl Keytab {
     {
         self.entries
             .retain(|entry| entry.principal().same_name(name));
+        renew(&mut self.index, self.entries.as_slice());
         self
     }
 
@@ -176,13 +203,23 @@ impl Keytab {
     /// a version number, the first such entry of that number is picked; without one, the first of
     /// the highest number. Names are compared as by `Principal::same_name`. Decrypts nothing and
     /// allocates no memory.
+    ///
+    /// Looks at the entries of that name, and at few others, however many there are.
     pub fn pick(&self, name: &Principal, etype: i32, kvno: Option<u32>) -> Picked<'_>
         ensures { IsPicked self.now name.now etype kvno result }
     {
-        let mut picked = Picked::NoName;
-        for entry in self.entries() {
-            picked = picked.or_entry(entry, name, etype, kvno);
+        let entries = self.entries.as_slice();
+        match &self.index {
+            Some(index) => pick_indexed(entries, index, name, etype, kvno),
+            None => pick_each(entries, name, etype, kvno),
         }
-        picked
+    }
+}
+
+impl fmt::Debug for Keytab {
+    fn fmt<W: fmt::Write>(&self, f: &mut fmt::Formatter<W>) -> fmt::Result {
+        f.debug_struct("Keytab")
+            .field("entries", &self.entries)
+            .finish()
     }
 }

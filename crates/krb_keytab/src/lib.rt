@@ -20,6 +20,8 @@ mod entry;
 mod fault;
 mod finding;
 mod found;
+mod hash;
+mod index;
 mod keytab;
 pub mod laws;
 mod next;

@@ -2,8 +2,11 @@
 
 ghost use Rattle.std.specs.Prelude.{◌≡◌, ◌∷◌, ◌++◌, [], List};
 ghost use Rattle.krb_keytab.specs.Entry.{KeytabEntry};
+ghost use Rattle.krb_keytab.specs.Inner.Index.{IsIndexOf};
+ghost use Rattle.krb_keytab.specs.Pick.{IsPicked};
 
 use crate::entry::Entry;
+use crate::index::NameIndex;
 use crate::usable::{has_version, is_key};
 use krb_name::Principal;
 
@@ -67,4 +70,40 @@ impl<'a> Picked<'a> {
             _ => self,
         }
     }
+}
+
+/// Picks an entry, and looks at each.
+pub(crate) fn pick_each<'a>(
+    entries: &'a [Entry],
+    name: &Principal,
+    etype: i32,
+    kvno: Option<u32>,
+) -> Picked<'a>
+    ensures { IsPicked entries.now name.now etype kvno result }
+{
+    let mut picked = Picked::NoName;
+    for entry in entries {
+        picked = picked.or_entry(entry, name, etype, kvno);
+    }
+    picked
+}
+
+/// Picks an entry, and looks at those that the index leads to.
+pub(crate) fn pick_indexed<'a>(
+    entries: &'a [Entry],
+    index: &NameIndex,
+    name: &Principal,
+    etype: i32,
+    kvno: Option<u32>,
+) -> Picked<'a>
+    requires { IsIndexOf index.now entries.now }
+    ensures { IsPicked entries.now name.now etype kvno result }
+{
+    let mut picked = Picked::NoName;
+    let mut at = index.first(name);
+    while at < entries.len() {
+        picked = picked.or_entry(&entries[at], name, etype, kvno);
+        at = index.next(at);
+    }
+    picked
 }

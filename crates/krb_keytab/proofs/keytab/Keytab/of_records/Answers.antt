@@ -20,7 +20,7 @@ pub returns-in-End-clause-found : goal.returns-in-End-clause-found
 returns-in-End-clause-found c =
     let now = c.loop-entries.invariant in
     let read = rw c.in-End.is at c.in_ok-next_record.ensures in
-    keytab_found c.args.bytes.now c.loop-entries.cursor _ c.loop-entries.entries.items now.limit now.reached now.fits read
+    rw c.in_ok-of_entries-in-End.ensures (keytab_found c.args.bytes.now c.loop-entries.cursor _ c.loop-entries.entries.items now.limit now.reached now.fits read)
 
 pub loop-entries-smaller-in-Hole : goal.loop-entries-smaller-in-Hole
 loop-entries-smaller-in-Hole c =

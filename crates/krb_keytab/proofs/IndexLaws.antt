@@ -1,0 +1,130 @@
+-- An index of entries by name is made from the last entry to the first, and passes over entries of
+-- other names alone.
+use Rattle.std.proofs.Common.{◌≡◌, ℕ, zero, suc, ◌+◌, ◌-◌, ◌<◌, ◌≤◌, ◌%◌, ◌^◌, ℤ, pos, subst, List, [], length, take, get_or, Option, sym, ap, ◌∙◌, inl, inr, arith}
+use Rattle.std.specs.Prelude.{◌≢◌, slice_index, slice_set}
+use Rattle.std.specs.List.{fold}
+use Rattle.std.specs.Hash.FoldHasher.{initial, write, finish}
+use Rattle.std.proofs.lemmas.Bool.{cases_eq, cases_lt}
+use Rattle.std.proofs.Math.Nat.{mod-lt}
+use Rattle.std.proofs.lemmas.List.Elements.{All-nil}
+use Rattle.std.proofs.lemmas.List.{length-map, get_or-map, get_or-set_same, get_or-set_other, take_more, take_all, length-set}
+use Rattle.krb_name.specs.declared.principal.Principal.{Principal}
+use Rattle.krb_name.specs.Name.{SameName}
+use Rattle.krb_keytab.specs.Entry.{KeytabEntry}
+use Rattle.krb_keytab.specs.Pick.{IsChoice, Choice, choice_of, IsPicked}
+use Rattle.krb_keytab.specs.Inner.Hash.{hash_of}
+use Rattle.krb_keytab.specs.Inner.Index.{bucket_of, buckets_of, LeadsTo, IsLinkedFrom}
+use Rattle.krb_keytab.specs.declared.pick.Picked.{Picked}
+use Rattle.krb_keytab.specs.declared.pick.Picked.TheVariants.{NoName}
+use Rattle.krb_keytab.proofs.PickLaws.{other_name}
+
+-- ---- linking
+
+leads_here : (buckets : List ℕ) (bucket place to : ℕ) → to ≡ place → slice_index buckets place ≡ bucket → LeadsTo buckets bucket place to
+leads_here buckets bucket place to is here = record {
+  forward = omega arith;
+  skips = λ k from below within. absurd (omega arith);
+  lands = λ within. ap (slice_index buckets) is ∙ here;
+}
+
+leads_past : (buckets : List ℕ) (bucket place to past : ℕ) → past ≡ to → slice_index buckets place ≢ bucket → LeadsTo buckets bucket (place + 1) to → LeadsTo buckets bucket place past
+leads_past buckets bucket place to past is other h = let f = h.forward in record {
+  forward = omega arith;
+  skips = λ k from below within. elim (cases_eq k place) [
+    | inl same ↦ λ e. other (ap (slice_index buckets) (sym same) ∙ e)
+    | inr behind ↦ h.skips k (omega arith) (omega arith) within
+  ];
+  lands = λ within. ap (slice_index buckets) is ∙ h.lands (omega arith);
+}
+
+-- the place before goes to the front of its bucket
+pub one_linked : (buckets firsts nexts : List ℕ) (count place bucket : ℕ) → place < length buckets → bucket < count → slice_index buckets place ≡ bucket → IsLinkedFrom buckets count (place + 1) firsts nexts
+    → IsLinkedFrom buckets count place (slice_set firsts bucket place) (slice_set nexts place (slice_index firsts bucket))
+one_linked buckets firsts nexts count place bucket within small here h = record {
+  firsts_count = length-set firsts bucket place ∙ h.firsts_count;
+  nexts_count = length-set nexts place (slice_index firsts bucket) ∙ h.nexts_count;
+  first = λ b lt. elim (cases_eq b bucket) [
+    | inl same ↦ leads_here buckets b place _ (ap (slice_index (slice_set firsts bucket place)) same ∙ get_or-set_same firsts bucket place 0 (subst (λ n. bucket < n) (sym h.firsts_count) small)) (here ∙ sym same)
+    | inr other ↦ leads_past buckets b place (slice_index firsts b) _ (get_or-set_other firsts bucket b place 0 other) (λ e. other (sym e ∙ here)) (h.first b lt)
+  ];
+  next = λ k from lt. elim (cases_eq k place) [
+    | inl same ↦ subst (λ n. LeadsTo buckets (slice_index buckets n) (n + 1) (slice_index (slice_set nexts place (slice_index firsts bucket)) n)) (sym same)
+        (subst (LeadsTo buckets (slice_index buckets place) (place + 1)) (sym (get_or-set_same nexts place (slice_index firsts bucket) 0 (subst (λ n. place < n) (sym h.nexts_count) within)))
+        (subst (λ b. LeadsTo buckets b (place + 1) (slice_index firsts bucket)) (sym here) (h.first bucket small)))
+    | inr behind ↦ subst (LeadsTo buckets (slice_index buckets k) (k + 1)) (sym (get_or-set_other nexts place k (slice_index firsts bucket) 0 behind)) (h.next k (omega arith) lt)
+  ];
+}
+
+-- ---- names and buckets
+
+same_hash : (one other : Principal) → SameName one other → hash_of one ≡ hash_of other
+unfolding hash_of
+same_hash one other same =
+    ap (λ (realm : List ℕ). finish (fold write (write initial realm) one.components) % 2 ^ 32) same.realm
+    ∙ ap (λ (components : List (List ℕ)). finish (fold write (write initial other.realm) components) % 2 ^ 32) same.components
+
+pub bucket_at : (count : ℕ) (entries : List KeytabEntry) (k : ℕ) (e : KeytabEntry) → k < length entries → slice_index (buckets_of count entries) k ≡ bucket_of count (get_or entries k e).principal
+bucket_at count entries k e lt = get_or-map (λ entry. bucket_of count entry.principal) entries k e 0 lt
+
+-- ---- passing over other names
+
+-- an entry to stand for those past the list
+nobody : Principal → KeytabEntry
+nobody name = record { principal = name; timestamp = 0; kvno = 0; etype = pos 0; key = [] }
+
+OtherAt : List KeytabEntry → Principal → ℕ → Type 0
+OtherAt entries name k = k < length entries → ¬ SameName (get_or entries k (nobody name)).principal name
+
+pass_one : (entries : List KeytabEntry) (name : Principal) (etype : ℤ) (kvno : Option ℕ) (choice : Choice) (k : ℕ) → (k < length entries → ¬ SameName (get_or entries k (nobody name)).principal name)
+    → IsChoice (take k entries) name etype kvno choice → IsChoice (take (k + 1) entries) name etype kvno choice
+pass_one entries name etype kvno choice k other h = elim (cases_lt k (length entries)) [
+  | inl lt ↦ subst (λ (t : List KeytabEntry). IsChoice t name etype kvno choice) (sym (take_more entries k (nobody name) lt)) (other_name (take k entries) name etype kvno (get_or entries k (nobody name)) choice (other lt) h)
+  | inr le ↦ subst (λ (t : List KeytabEntry). IsChoice t name etype kvno choice) (take_all k entries le ∙ sym (take_all (k + 1) entries (omega arith))) h
+]
+
+pass_some : (entries : List KeytabEntry) (name : Principal) (etype : ℤ) (kvno : Option ℕ) (choice : Choice) (from count : ℕ) → ((k : ℕ) → from ≤ k → k < from + count → k < length entries → ¬ SameName (get_or entries k (nobody name)).principal name)
+    → IsChoice (take from entries) name etype kvno choice → IsChoice (take (from + count) entries) name etype kvno choice
+pass_some entries name etype kvno choice from zero others h = subst (λ n. IsChoice (take n entries) name etype kvno choice) (omega arith) h
+pass_some entries name etype kvno choice from (suc count) others h =
+    let before = pass_some entries name etype kvno choice from count (λ k ge lt within. others k ge (omega arith) within) h in
+    let here = pass_one entries name etype kvno choice (from + count) (others (from + count) (omega arith) (omega arith)) before in
+    let place : from + count + 1 ≡ from + suc count = omega arith in
+    subst (λ n. IsChoice (take n entries) name etype kvno choice) place here
+
+pub passed_over : (entries : List KeytabEntry) (name : Principal) (etype : ℤ) (kvno : Option ℕ) (picked : Picked) (count from to : ℕ) → LeadsTo (buckets_of count entries) (bucket_of count name) from to
+    → IsPicked (take from entries) name etype kvno picked → IsPicked (take to entries) name etype kvno picked
+passed_over entries name etype kvno picked count from to leads h =
+    let f = leads.forward in
+    let place : from + (to - from) ≡ to = omega arith in
+    subst (λ n. IsChoice (take n entries) name etype kvno (choice_of picked)) place
+    (pass_some entries name etype kvno (choice_of picked) from (to - from) (λ k ge lt within same.
+    leads.skips k ge (omega arith) (subst (λ n. k < n) (sym (length-map entries (λ (entry : KeytabEntry). bucket_of count entry.principal))) within)
+    (bucket_at count entries k (nobody name) within ∙ ap (λ n. n % count) (same_hash _ name same))) h)
+
+-- ---- as a loop over the places of a bucket does it
+
+-- what an index leads to: the places of a name
+pub record LeadsOn (entries : List KeytabEntry) (count : ℕ) (name : Principal) (from to : ℕ) : Type 0 where
+  pub leads : LeadsTo (buckets_of count entries) (bucket_of count name) from to
+  pub lands : to < length entries → slice_index (buckets_of count entries) to ≡ bucket_of count name
+
+leads_on : (entries : List KeytabEntry) (count : ℕ) (name : Principal) (from to : ℕ) → LeadsTo (buckets_of count entries) (bucket_of count name) from to → LeadsOn entries count name from to
+leads_on entries count name from to h = record {
+  leads = h;
+  lands = λ within. h.lands (subst (λ n. to < n) (sym (length-map entries (λ (entry : KeytabEntry). bucket_of count entry.principal))) within);
+}
+
+pub first_leads : (entries : List KeytabEntry) (count : ℕ) (name : Principal) (firsts nexts : List ℕ) (to : ℕ) → 0 < count → IsLinkedFrom (buckets_of count entries) count 0 firsts nexts → to ≡ slice_index firsts (bucket_of count name)
+    → LeadsOn entries count name 0 to
+first_leads entries count name firsts nexts to some linked is =
+    leads_on entries count name 0 to (subst (LeadsTo (buckets_of count entries) (bucket_of count name) 0) (sym is) (linked.first (bucket_of count name) (mod-lt (hash_of name) some)))
+
+pub next_leads : (entries : List KeytabEntry) (count : ℕ) (name : Principal) (firsts nexts : List ℕ) (at to : ℕ) → at < length entries → slice_index (buckets_of count entries) at ≡ bucket_of count name → IsLinkedFrom (buckets_of count entries) count 0 firsts nexts → to ≡ slice_index nexts at
+    → LeadsOn entries count name (at + 1) to
+next_leads entries count name firsts nexts at to within here linked is =
+    leads_on entries count name (at + 1) to (subst (LeadsTo (buckets_of count entries) (bucket_of count name) (at + 1)) (sym is)
+    (subst (λ b. LeadsTo (buckets_of count entries) b (at + 1) (slice_index nexts at)) here
+    (linked.next at (omega arith) (subst (λ n. at < n) (sym (length-map entries (λ (entry : KeytabEntry). bucket_of count entry.principal))) within))))
+
+pub none_seen : (entries : List KeytabEntry) (name : Principal) (etype : ℤ) (kvno : Option ℕ) → IsPicked (take 0 entries) name etype kvno NoName
+none_seen entries name etype kvno = All-nil (λ e. ¬ SameName e.principal name)

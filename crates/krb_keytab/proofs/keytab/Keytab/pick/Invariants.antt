@@ -1,6 +1,0 @@
-use Rattle.std.proofs.Common.{take}
-use Rattle.krb_keytab.specs.Pick.{IsPicked}
-use Rattle.krb_keytab.proofs.keytab.Keytab.pick.Given as goal
-
-abbrev pub invariant-loop-entry : goal.invariant-loop-entry
-invariant-loop-entry l = IsPicked (take l.entry-index l.entry-items) l.name l.etype l.kvno l.picked
