@@ -25,6 +25,7 @@ pub mod Once
 pub mod NewKeytab
 pub mod Life
 pub mod Sharing
+pub mod LetIn
 pub mod Sending
 pub mod Worlds
 pub mod WorldsOnce
