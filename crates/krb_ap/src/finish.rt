@@ -21,10 +21,8 @@ use crate::laws::both_agree;
 use crate::opening::begins_otherwise;
 use crate::pending::Pending;
 use krb_enc::{Key, OpenFault};
-use krb_msg::{ApRepRef, EncApRepRef, Moment, Principal, RawKey};
+use krb_msg::{ApRepRef, EncApRepRef, Moment, Principal, RawKey, tag, usage};
 use std::alloc::Global;
-
-const REPLY_USAGE: u32 = 12;
 
 /// What a client and a service agree on, as the client holds it. There is no `Debug`, so no log
 /// shows a key.
@@ -100,7 +98,7 @@ fn read_reply<'a>(bytes: &'a [u8]) -> Result<ApRepRef<'a>, FinishFault>
     ensures read { IfOk result (λ reply. IsMessage ap_rep (ap_rep_of reply) bytes.entry.now) }
     ensures refused { IfErr result (λ fault. (awaited : Awaited) → FinishCause awaited bytes.entry.now fault) }
 {
-    if begins_otherwise(bytes, 0x6f) {
+    if begins_otherwise(bytes, tag::AP_REP) {
         return Err(FinishFault::MessageType);
     }
     match ApRepRef::parse(bytes) {
@@ -121,7 +119,7 @@ fn open_reply(alloc: Global, key: &Key, reply: &ApRepRef) -> Result<Vec<u8>, Fin
     if reply.enc_part.etype != key.etype() {
         return Err(FinishFault::Integrity);
     }
-    match key.open(alloc, REPLY_USAGE, reply.enc_part.cipher) {
+    match key.open(alloc, usage::AP_REP, reply.enc_part.cipher) {
         Ok(plain) => Ok(plain),
         Err(OpenFault::OutOfMemory) => Err(FinishFault::OutOfMemory),
         Err(OpenFault::Short) => Err(FinishFault::Integrity),

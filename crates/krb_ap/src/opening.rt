@@ -16,14 +16,12 @@ ghost use Rattle.krb_ap.specs.declared.refusal.Refusal.TheVariants.{OutOfMemory,
 
 use crate::inner_laws::facts;
 use crate::refusal::Refusal;
-use krb_enc::{Key, OpenFault, UsageKey};
+use krb_enc::{Key, OpenFault, UsageKey, etype};
 use krb_msg::{
     ApReqRef, AuthenticatorRef, EncTicketRef, EncryptedRef, KeyRef, NameRef, Principal, TicketRef,
-    USE_SESSION_KEY,
+    USE_SESSION_KEY, tag, usage,
 };
 use std::alloc::{AllocError, Global};
-
-const AUTHENTICATOR_USAGE: u32 = 11;
 
 /// Reads a request of the ordinary kind (not user-to-user). It allocates no memory.
 pub(crate) fn read_request<'a>(bytes: &'a [u8]) -> Result<ApReqRef<'a>, Refusal>
@@ -33,7 +31,7 @@ pub(crate) fn read_request<'a>(bytes: &'a [u8]) -> Result<ApReqRef<'a>, Refusal>
     ensures early { IfErr result (λ refusal. place refusal < place Skew) }
 {
     facts();
-    if begins_otherwise(bytes, 0x6e) {
+    if begins_otherwise(bytes, tag::AP_REQ) {
         return Err(Refusal::MessageType);
     }
     let request = match ApReqRef::parse(bytes) {
@@ -62,7 +60,8 @@ pub(crate) fn begins_otherwise(bytes: &[u8], tag: u8) -> bool
 fn is_known(sealed: &EncryptedRef) -> bool
     ensures { IsTrue result ↔ IsKnown sealed.now.etype }
 {
-    sealed.etype == 19 || sealed.etype == 20
+    sealed.etype == etype::AES128_CTS_HMAC_SHA256_128
+        || sealed.etype == etype::AES256_CTS_HMAC_SHA384_192
 }
 
 /// The service that a ticket is for.
@@ -103,7 +102,7 @@ pub(crate) fn open_authenticator(
     ensures refused { IfErr result (λ refusal. refusal ≢ OutOfMemory → refusal ≡ AuthenticatorIntegrity) }
     ensures nothing { IfErr result (λ refusal. refusal ≢ OutOfMemory → IsShut key.now authenticator_usage cipher.now) }
 {
-    let ready = key.for_usage(AUTHENTICATOR_USAGE);
+    let ready = key.for_usage(usage::AUTHENTICATOR);
     open_under(alloc, &ready, cipher, Refusal::AuthenticatorIntegrity)
 }
 

@@ -4,7 +4,7 @@ ghost use Rattle.std.specs.Prelude.{◌≡◌, Some};
 ghost use Rattle.krb_ap.specs.Causes.{code_of, name_of, place};
 ghost use Rattle.krb_ap.specs.declared.refusal.Refusal.TheVariants.{OutOfMemory};
 
-use krb_msg::Fault;
+use krb_msg::{Fault, error_code};
 use std::alloc::AllocError;
 use thiserror::Error;
 
@@ -92,24 +92,36 @@ impl Refusal {
         ensures code { result.code ≡ code_of self.now }
     {
         match self {
-            Refusal::MessageType => row_of(100, "MessageType", 40),
-            Refusal::Malformed(_) => row_of(200, "Malformed", 60),
-            Refusal::UserToUser => row_of(300, "UserToUser", 45),
-            Refusal::TicketEtype => row_of(400, "TicketEtype", 14),
-            Refusal::NotUs => row_of(500, "NotUs", 35),
-            Refusal::NoKey => row_of(600, "NoKey", 45),
-            Refusal::BadKeyVersion => row_of(700, "BadKeyVersion", 44),
-            Refusal::TicketIntegrity => row_of(800, "TicketIntegrity", 31),
-            Refusal::SessionKey => row_of(900, "SessionKey", 14),
-            Refusal::AuthenticatorIntegrity => row_of(1_000, "AuthenticatorIntegrity", 31),
-            Refusal::BadMatch => row_of(1_100, "BadMatch", 36),
-            Refusal::Skew => row_of(1_200, "Skew", 37),
-            Refusal::JustStarted => row_of(1_250, "JustStarted", 37),
-            Refusal::Repeat => row_of(1_300, "Repeat", 34),
-            Refusal::NotYetValid => row_of(1_400, "NotYetValid", 33),
-            Refusal::Expired => row_of(1_500, "Expired", 32),
-            Refusal::Transited => row_of(1_600, "Transited", 60),
-            Refusal::Authorization => row_of(1_700, "Authorization", 60),
+            Refusal::MessageType => row_of(100, "MessageType", error_code::KRB_AP_ERR_MSG_TYPE),
+            Refusal::Malformed(_) => row_of(200, "Malformed", error_code::KRB_ERR_GENERIC),
+            Refusal::UserToUser => row_of(300, "UserToUser", error_code::KRB_AP_ERR_NOKEY),
+            Refusal::TicketEtype => row_of(400, "TicketEtype", error_code::KDC_ERR_ETYPE_NOSUPP),
+            Refusal::NotUs => row_of(500, "NotUs", error_code::KRB_AP_ERR_NOT_US),
+            Refusal::NoKey => row_of(600, "NoKey", error_code::KRB_AP_ERR_NOKEY),
+            Refusal::BadKeyVersion => row_of(
+                700,
+                "BadKeyVersion",
+                error_code::KRB_AP_ERR_BADKEYVER,
+            ),
+            Refusal::TicketIntegrity => row_of(
+                800,
+                "TicketIntegrity",
+                error_code::KRB_AP_ERR_BAD_INTEGRITY,
+            ),
+            Refusal::SessionKey => row_of(900, "SessionKey", error_code::KDC_ERR_ETYPE_NOSUPP),
+            Refusal::AuthenticatorIntegrity => row_of(
+                1_000,
+                "AuthenticatorIntegrity",
+                error_code::KRB_AP_ERR_BAD_INTEGRITY,
+            ),
+            Refusal::BadMatch => row_of(1_100, "BadMatch", error_code::KRB_AP_ERR_BADMATCH),
+            Refusal::Skew => row_of(1_200, "Skew", error_code::KRB_AP_ERR_SKEW),
+            Refusal::JustStarted => row_of(1_250, "JustStarted", error_code::KRB_AP_ERR_SKEW),
+            Refusal::Repeat => row_of(1_300, "Repeat", error_code::KRB_AP_ERR_REPEAT),
+            Refusal::NotYetValid => row_of(1_400, "NotYetValid", error_code::KRB_AP_ERR_TKT_NYV),
+            Refusal::Expired => row_of(1_500, "Expired", error_code::KRB_AP_ERR_TKT_EXPIRED),
+            Refusal::Transited => row_of(1_600, "Transited", error_code::KRB_ERR_GENERIC),
+            Refusal::Authorization => row_of(1_700, "Authorization", error_code::KRB_ERR_GENERIC),
             Refusal::OutOfMemory => Row {
                 place: 1_800,
                 name: "OutOfMemory",

@@ -10,10 +10,8 @@ use crate::accepted::Accepted;
 use crate::inner_laws::writing;
 use crate::keys::{encrypted, raw_key, seal};
 use krb_enc::Key;
-use krb_msg::{ApRep, EncApRepPart, EncodeFault};
+use krb_msg::{ApRep, EncApRepPart, EncodeFault, usage};
 use std::alloc::{AllocError, Global};
-
-const REPLY_USAGE: u32 = 12;
 
 /// What a service chooses for a reply. There is no `Debug`, so no log shows a key.
 #[derive(Drop)]
@@ -48,7 +46,7 @@ impl Accepted {
         let cipher = seal(
             alloc,
             &self.session_key,
-            REPLY_USAGE,
+            usage::AP_REP,
             confounder,
             plain.as_slice(),
         )?;

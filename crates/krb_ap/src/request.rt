@@ -17,11 +17,9 @@ use crate::request_fault::RequestFault;
 use krb_ccache::{CCache, Credential};
 use krb_enc::Key;
 use krb_msg::{
-    ApReq, Authenticator, EncodeFault, Flags, MUTUAL_REQUIRED, Moment, Principal, TicketRef,
+    ApReq, Authenticator, EncodeFault, Flags, MUTUAL_REQUIRED, Moment, Principal, TicketRef, usage,
 };
 use std::alloc::Global;
-
-const AUTHENTICATOR_USAGE: u32 = 11;
 
 /// What a client chooses for a request. There is no `Debug`, so no log shows a key.
 #[derive(Drop)]
@@ -119,7 +117,7 @@ fn build(
         Ok(plain) => plain,
         Err(fault) => return Err(fault),
     };
-    let cipher = seal(alloc, key, AUTHENTICATOR_USAGE, confounder, &plain)?;
+    let cipher = seal(alloc, key, usage::AUTHENTICATOR, confounder, &plain)?;
     let request = ApReq {
         options: flags(options.mutual),
         ticket: ticket.to_owned(alloc)?,

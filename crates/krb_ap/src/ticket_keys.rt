@@ -13,10 +13,8 @@ use crate::opening::open_under;
 use crate::refusal::Refusal;
 use krb_enc::{Key, UsageKey};
 use krb_keytab::{Entry, Keytab, Picked};
-use krb_msg::{EncryptedRef, Principal};
+use krb_msg::{EncryptedRef, Principal, usage};
 use std::alloc::Global;
-
-const TICKET_USAGE: u32 = 2;
 
 /// Makes `ready` the keys for tickets of the key that a keytab has for a service's ticket. If it
 /// has them already, nothing is derived. It allocates no memory.
@@ -53,7 +51,7 @@ fn is_ready(ready: &Option<UsageKey>, entry: &Entry) -> bool
     ensures { IsTrue result ↔ (ready.now ≡ Some (ready_key (entry_key entry.now))) }
 {
     match ready {
-        Some(key) => key.is_for(i32::from(entry.etype()), entry.key(), TICKET_USAGE),
+        Some(key) => key.is_for(i32::from(entry.etype()), entry.key(), usage::TICKET),
         None => false,
     }
 }
@@ -63,7 +61,7 @@ fn derived(entry: &Entry) -> UsageKey
     ensures { result ≡ ready_key (entry_key entry.now) }
 {
     match Key::new(i32::from(entry.etype()), entry.key()) {
-        Ok(key) => key.for_usage(TICKET_USAGE),
+        Ok(key) => key.for_usage(usage::TICKET),
         Err(_) => unreachable!(),
     }
 }
