@@ -11,6 +11,7 @@ use crate::code;
 use crate::known::{Span, append, bytes_of, has_key, has_number, number, type_of};
 use crate::pending_handle::PendingHandle;
 use krb_ap::{Agreed, FinishFault, Pending};
+use krb_msg::error_code;
 use std::alloc::{AllocError, Global};
 
 /// What a client and a service agreed on. Texts and keys are in the buffer.
@@ -86,7 +87,7 @@ fn finish_told(fault: FinishFault) -> Answer
         FinishFault::Integrity => Answer::plain(code::REPLY_INTEGRITY),
         FinishFault::Mismatch => Answer {
             code: code::REPLY_MISMATCH,
-            kerberos: 46,
+            kerberos: error_code::KRB_AP_ERR_MUT_FAIL,
             at: 0,
             size: 0,
         },
