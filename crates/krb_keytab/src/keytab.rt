@@ -45,15 +45,15 @@ impl Model for Keytab {
     ghost invariant = { λ k. IfSome k.index (λ index. IsIndexOf index k.entries.items) };
 }
 
-// As many entries are searched one by one.
+// As many entries have no index. They are looked at one by one.
 const FEW: usize = 8;
 
 impl Keytab {
     /// Parses the bytes of a file.
     ///
     /// Allocates memory as entries are read, and never because of a count or a length that the
-    /// bytes don't bear out. After the last entry it allocates 16 bytes for each, by which `pick`
-    /// finds the entries of a name.
+    /// bytes don't bear out. After the last entry it allocates an index by name, of 16 bytes for
+    /// each entry and 8 more. A keytab of at most 8 entries has none.
     ///
     /// # Errors
     /// `OutOfMemory` if there is no memory for this; else the first that applies:
@@ -81,7 +81,7 @@ impl Keytab {
     /// from bytes.
     ///
     /// Holds the entries and the bytes of one record at a time. A hole's bytes aren't kept. After
-    /// the last entry it allocates 16 bytes for each, as `parse` does.
+    /// the last entry it allocates an index, as `parse` does.
     ///
     /// Condition: fewer than 18,446,744,073,709,551,615 reads of the source have failed so far.
     ///
@@ -204,7 +204,8 @@ impl Keytab {
     /// the highest number. Names are compared as by `Principal::same_name`. Decrypts nothing and
     /// allocates no memory.
     ///
-    /// Looks at the entries of that name, and at few others, however many there are.
+    /// If there are more than 8 entries, it looks at those of the name's bucket in the index alone:
+    /// those of that name, and few others.
     pub fn pick(&self, name: &Principal, etype: i32, kvno: Option<u32>) -> Picked<'_>
         ensures { IsPicked self.now name.now etype kvno result }
     {
