@@ -6,7 +6,7 @@ use Rattle.krb_der.specs.Fault.{IsFault}
 use Rattle.krb_der.specs.declared.fault.Fault.{Fault}
 use Rattle.krb_msg.specs.Module.{ap_req, ap_rep}
 use Rattle.krb_ap.specs.Setup.{Setup, Arrival}
-use Rattle.krb_ap.specs.Causes.{Cause, Holds, offset_of}
+use Rattle.krb_ap.specs.Causes.{Cause, Holds, TellsPlaceWithin, offset_of}
 use Rattle.krb_ap.specs.Request.{Awaited}
 use Rattle.krb_ap.specs.Finish.{FinishCause, finish_offset_of}
 use Rattle.krb_ap.specs.declared.finish_fault.FinishFault.{FinishFault}
@@ -24,10 +24,10 @@ placeless : (r : Refusal) → (offset_of r ≡ None) ⊎ (r ≡ Malformed (fault
 placeless r = grind arith
 
 pub cause_within : Within → (setup : Setup) (history : List Arrival) (call : Arrival) (r : Refusal) → Cause setup history call r
-    → IfSome (offset_of r) (λ at. at ≤ length call.bytes)
+    → TellsPlaceWithin call.bytes r
 cause_within within setup history call r cause = elim (placeless r) [
   | inl none ↦ subst (λ (o : Option ℕ). IfSome o (λ at. at ≤ length call.bytes)) (sym none) tt
-  | inr is ↦ subst (λ (x : Refusal). IfSome (offset_of x) (λ at. at ≤ length call.bytes)) (sym is)
+  | inr is ↦ subst (λ (x : Refusal). TellsPlaceWithin call.bytes x) (sym is)
       (of_malformed (fault_in r) (subst (λ (x : Refusal). Holds setup history call x) is cause.holds))
 ]
   where

@@ -1,18 +1,16 @@
 -- Runs of calls.
-use Rattle.std.proofs.Common.{◌≡◌, ℕ, ◌<◌, ◌≤◌, ◌+◌, List, [], ◌∷◌, ◌++◌, ap, sym, ◌∙◌, subst, Result, length, map, take, get_or, Option, ℤ, Bool, Ok, Err, inl, inr}
-use Rattle.std.specs.Prelude.{IsTrue, IsErrOf, IfErr, IfSome}
+use Rattle.std.proofs.Common.{◌≡◌, ℕ, ◌<◌, ◌+◌, List, [], ◌∷◌, ◌++◌, ap, sym, ◌∙◌, subst, Result, length, map, take, get_or, Option, ℤ, Bool, Ok, Err, inl, inr}
+use Rattle.std.specs.Prelude.{IsTrue, IsErrOf, IfErr}
 use Rattle.std.proofs.lemmas.List.{take_more, map-append}
 use Rattle.krb_replay.specs.Stamp.{Stamp}
 use Rattle.krb_replay.specs.Memory.{SameStamps}
-use Rattle.krb_der.specs.Kind.{ValueOf}
-use Rattle.krb_msg.specs.Module.{ap_req}
-use Rattle.krb_ap.specs.Opened.{Asks}
+use Rattle.krb_ap.specs.Opened.{IsOrdinary}
 use Rattle.krb_ap.specs.History.{IsShown, IsShownLately, StandsFor}
 use Rattle.krb_ap.proofs.Afterwards.{memory_or_not, refusal_of}
 use Rattle.krb_ap.specs.declared.refusal.Refusal.TheVariants.{OutOfMemory}
 use Rattle.krb_ap.specs.Setup.{Setup, Arrival}
 use Rattle.krb_ap.specs.Answer.{Answers, MemoryWantedByRequests, Run, Served, TellsPlacesWithin, after, after_refusal, arrival_of}
-use Rattle.krb_ap.specs.Causes.{offset_of}
+use Rattle.krb_ap.specs.Causes.{TellsPlaceWithin}
 use Rattle.krb_ap.specs.declared.call.Call.{Call}
 use Rattle.krb_ap.specs.declared.accepted.Accepted.{Accepted}
 use Rattle.krb_ap.specs.declared.refusal.Refusal.{Refusal}
@@ -34,7 +32,7 @@ mapped calls i call below is =
 
 -- where memory was wanting, and one call more
 pub memory_push : (calls : List Arrival) (answers : List (Result Accepted Refusal)) (call : Arrival) (answer : Result Accepted Refusal)
-    → MemoryWantedByRequests calls answers → (IsErrOf answer OutOfMemory → (request : ValueOf ap_req) × Asks call.bytes request)
+    → MemoryWantedByRequests calls answers → (IsErrOf answer OutOfMemory → IsOrdinary call.bytes)
     → MemoryWantedByRequests (calls ++ call ∷ []) (answers ++ answer ∷ [])
 memory_push [] [] call answer h one = (one, tt)
 memory_push (c ∷ cs) (a ∷ rest) call answer h one = (h.0, memory_push cs rest call answer h.1 one)
@@ -43,14 +41,14 @@ memory_push (c ∷ cs) [] call answer h one = absurd h
 
 pub memory_more : (calls : List Arrival) (answers all : List (Result Accepted Refusal)) (whole : List Arrival) (call : Arrival) (answer : Result Accepted Refusal)
     → calls ++ call ∷ [] ≡ whole → all ≡ answers ++ answer ∷ [] → MemoryWantedByRequests calls answers
-    → (IsErrOf answer OutOfMemory → (request : ValueOf ap_req) × Asks call.bytes request) → MemoryWantedByRequests whole all
+    → (IsErrOf answer OutOfMemory → IsOrdinary call.bytes) → MemoryWantedByRequests whole all
 memory_more calls answers all whole call answer e f h one =
     subst (λ (l : List (Result Accepted Refusal)). MemoryWantedByRequests whole l) (sym f)
     (subst (λ (l : List Arrival). MemoryWantedByRequests l (answers ++ answer ∷ [])) e (memory_push calls answers call answer h one))
 
 -- which places were told, and one call more
 places_push : (calls : List Arrival) (answers : List (Result Accepted Refusal)) (call : Arrival) (answer : Result Accepted Refusal)
-    → TellsPlacesWithin calls answers → IfErr answer (λ refusal. IfSome (offset_of refusal) (λ at. at ≤ length call.bytes))
+    → TellsPlacesWithin calls answers → IfErr answer (TellsPlaceWithin call.bytes)
     → TellsPlacesWithin (calls ++ call ∷ []) (answers ++ answer ∷ [])
 places_push [] [] call answer h one = (one, tt)
 places_push (c ∷ cs) (a ∷ rest) call answer h one = (h.0, places_push cs rest call answer h.1 one)
@@ -59,7 +57,7 @@ places_push (c ∷ cs) [] call answer h one = absurd h
 
 pub places_more : (calls : List Arrival) (answers all : List (Result Accepted Refusal)) (whole : List Arrival) (call : Arrival) (answer : Result Accepted Refusal)
     → calls ++ call ∷ [] ≡ whole → all ≡ answers ++ answer ∷ [] → TellsPlacesWithin calls answers
-    → IfErr answer (λ refusal. IfSome (offset_of refusal) (λ at. at ≤ length call.bytes)) → TellsPlacesWithin whole all
+    → IfErr answer (TellsPlaceWithin call.bytes) → TellsPlacesWithin whole all
 places_more calls answers all whole call answer e f h one =
     subst (λ (l : List (Result Accepted Refusal)). TellsPlacesWithin whole l) (sym f)
     (subst (λ (l : List Arrival). TellsPlacesWithin l (answers ++ answer ∷ [])) e (places_push calls answers call answer h one))

@@ -1,6 +1,6 @@
 -- Why a service refuses an arrival: a table of causes. The first that holds is the answer. The
 -- order is our own; the codes are of RFC 4120, section 7.5.9.
-use Rattle.std.specs.Prelude.{◌≡◌, ◌≢◌, ◌<◌, ℕ, ℤ, pos, Bool, true, false, IsTrue, List, ◌∷◌, Option, Some, None, codes}
+use Rattle.std.specs.Prelude.{◌≡◌, ◌≢◌, ◌<◌, ◌≤◌, ℕ, ℤ, pos, Bool, true, false, IsTrue, List, ◌∷◌, length, Option, Some, None, IfSome, codes}
 use Rattle.krb_der.specs.Kind.{ValueOf}
 use Rattle.krb_der.specs.Spells.{IsMessage}
 use Rattle.krb_der.specs.Fault.{IsFault}
@@ -169,6 +169,10 @@ IsRemembered refusal = IsTrue (row refusal).remembered
 abbrev pub offset_of : Refusal → Option ℕ
 offset_of (Malformed fault) = Some fault.at
 offset_of _ = None
+
+-- it is the place of one of the bytes, or their end
+abbrev pub TellsPlaceWithin : List ℕ → Refusal → Type 0
+TellsPlaceWithin bytes refusal = IfSome (offset_of refusal) (λ at. at ≤ length bytes)
 
 -- the first cause that holds
 pub record IsFirst (setup : Setup) (history : List Arrival) (call : Arrival) (refusal : Refusal) : Type 0 where

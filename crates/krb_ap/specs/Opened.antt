@@ -57,6 +57,10 @@ pub record Asks (bytes : List ℕ) (request : ValueOf ap_req) : Type 0 where
   pub ordinary : ¬ HasBit (options_of request) use_session_key
   pub known : IsKnown (etype_of (sealed_ticket request))
 
+-- they are such a request, whatever it says
+abbrev pub IsOrdinary : List ℕ → Type 0
+IsOrdinary bytes = (request : ValueOf ap_req) × Asks bytes request
+
 -- and its ticket is for this service
 abbrev pub AsksFor : List ℕ → Principal → Type 0
 AsksFor bytes service = (request : ValueOf ap_req) × (Asks bytes request × (service ≡ service_of request))

@@ -1,15 +1,14 @@
 //! The service's side.
 
-ghost use Rattle.std.specs.Prelude.{◌≡◌, ◌≤◌, ◌↔◌, ◌⊎◌, List, None, Some, [], length, IsErrAnd, IfOk, IfErr, IfSome, IsErrOf, IsTrue, map, MatchResult, OnOk, OnErr};
-ghost use Rattle.krb_der.specs.Kind.{ValueOf};
-ghost use Rattle.krb_msg.specs.Module.{ap_req};
+ghost use Rattle.std.specs.Prelude.{◌≡◌, ◌↔◌, ◌⊎◌, List, None, Some, [], IsErrAnd, IfOk, IfErr, IsErrOf, IsTrue, map, MatchResult, OnOk, OnErr};
 ghost use Rattle.krb_replay.specs.Memory.{later_of, AddsStamp, IsRecent, SameStamps};
 ghost use Rattle.krb_replay.specs.Stamp.{Stamp};
 ghost use Rattle.krb_ap.specs.Setup.{Arrival, arrival};
-ghost use Rattle.krb_ap.specs.Opened.{Asks, AsksFor};
-ghost use Rattle.krb_ap.specs.History.{IsShown, IsShownLately, StandsFor};
+ghost use Rattle.krb_ap.specs.Opened.{AsksFor, IsOrdinary};
+ghost use Rattle.krb_ap.specs.History.{IsShown, IsShownLately};
+ghost use Rattle.krb_ap.specs.Service.{SameMemory, Stands};
 ghost use Rattle.krb_ap.specs.Taken.{Accept, Taken};
-ghost use Rattle.krb_ap.specs.Causes.{Cause, offset_of, place};
+ghost use Rattle.krb_ap.specs.Causes.{Cause, TellsPlaceWithin, place};
 ghost use Rattle.krb_ap.specs.Inner.GoingOn.{GoesOn};
 ghost use Rattle.krb_ap.specs.Answer.{Answers, MemoryWantedByRequests, Served, TellsPlacesWithin, after, arrival_of, taken_of};
 ghost use Rattle.krb_ap.specs.Once.{TakesAmong, TakesOnce};
@@ -67,7 +66,7 @@ impl<M: ReplayMemory> Acceptor<M> {
         requires empty { (stamp : Stamp) → M.has memory stamp → ⊥ }
         ensures setup { result.setup ≡ record { entries = keytab; skew = skew; start = None } }
         ensures memory { result.memory ≡ memory }
-        ensures stands { StandsFor result.setup (M.has result.memory) (M.newest result.memory) [] }
+        ensures stands { Stands M.has M.newest result [] }
     {
         Acceptor::of(keytab, skew, memory, None)
     }
@@ -88,7 +87,7 @@ impl<M: ReplayMemory> Acceptor<M> {
         requires empty { (stamp : Stamp) → M.has memory stamp → ⊥ }
         ensures setup { result.setup ≡ record { entries = keytab; skew = skew; start = Some start } }
         ensures memory { result.memory ≡ memory }
-        ensures stands { StandsFor result.setup (M.has result.memory) (M.newest result.memory) [] }
+        ensures stands { Stands M.has M.newest result [] }
     {
         Acceptor::of(keytab, skew, memory, Some(start))
     }
@@ -129,30 +128,29 @@ impl<M: ReplayMemory> Acceptor<M> {
 
         // For each history that the memory stands for: accepted as defined, or the first cause; and what it stands for afterwards.
         ensures answer { (history : List Arrival)
-            → StandsFor self.old.setup (M.has self.old.memory) (M.newest self.old.memory) history
+            → Stands M.has M.newest self.old history
             → Answers self.old.setup history (arrival bytes.now now) result }
         ensures goes_on { (history : List Arrival)
-            → StandsFor self.old.setup (M.has self.old.memory) (M.newest self.old.memory) history
-            → StandsFor self.new.setup (M.has self.new.memory) (M.newest self.new.memory)
-            (after history (arrival bytes.now now) result) }
+            → Stands M.has M.newest self.old history
+            → Stands M.has M.newest self.new (after history (arrival bytes.now now) result) }
 
         // What is accepted by the definition is accepted with just that, and what has a cause is refused for it, memory aside.
         ensures taken { (history : List Arrival) (taken : Taken)
-            → StandsFor self.old.setup (M.has self.old.memory) (M.newest self.old.memory) history
+            → Stands M.has M.newest self.old history
             → Accept self.old.setup history (arrival bytes.now now) taken
             → MatchResult result (λ x. taken_of x ≡ taken) (λ r. r ≡ OutOfMemory) }
         ensures refused { (history : List Arrival) (cause : Refusal)
-            → StandsFor self.old.setup (M.has self.old.memory) (M.newest self.old.memory) history
+            → Stands M.has M.newest self.old history
             → Cause self.old.setup history (arrival bytes.now now) cause
             → IsErrAnd result (λ r. (place r ≡ place cause) ⊎ (r ≡ OutOfMemory)) }
 
         // A memory that keeps all has exactly what was shown, and one that forgets exactly what of that is recent.
         ensures keeps { IsTrue M.KEEPS → (history : List Arrival)
-            → StandsFor self.old.setup (M.has self.old.memory) (M.newest self.old.memory) history
+            → Stands M.has M.newest self.old history
             → SameStamps (IsShown self.old.setup history) (M.has self.old.memory)
             → SameStamps (IsShown self.old.setup (after history (arrival bytes.now now) result)) (M.has self.new.memory) }
         ensures forgets { IsTrue M.FORGETS → (history : List Arrival)
-            → StandsFor self.old.setup (M.has self.old.memory) (M.newest self.old.memory) history
+            → Stands M.has M.newest self.old history
             → (IsErrOf result OutOfMemory → ⊥)
             → SameStamps (IsShownLately self.old.setup (after history (arrival bytes.now now) result)) (M.has self.new.memory) }
 
@@ -164,12 +162,11 @@ impl<M: ReplayMemory> Acceptor<M> {
             → M.newest self.new.memory ≡ Some (later_of (M.newest self.old.memory) now) }
 
         // The offset in a refusal is that of one of the bytes, or their end.
-        ensures offset { IfErr result (λ refusal. IfSome (offset_of refusal) (λ at. at ≤ length bytes.now)) }
+        ensures offset { IfErr result (TellsPlaceWithin bytes.now) }
 
         // Out of memory is answered for requests of the ordinary kind alone, and changes nothing.
-        ensures memory { IsErrOf result OutOfMemory → (request : ValueOf ap_req) × Asks bytes.now request }
-        ensures unchanged { IsErrOf result OutOfMemory → SameStamps (M.has self.old.memory) (M.has self.new.memory)
-            × (M.newest self.new.memory ≡ M.newest self.old.memory) }
+        ensures memory { IsErrOf result OutOfMemory → IsOrdinary bytes.now }
+        ensures unchanged { IsErrOf result OutOfMemory → SameMemory M.has M.newest self.old.memory self.new.memory }
     {
         facts();
         self.decide(alloc, bytes, now)
@@ -187,16 +184,16 @@ impl<M: ReplayMemory> Acceptor<M> {
 
         // Each outcome is right after the calls before it, for each history that the memory stands for; and what it stands for then.
         ensures served { (history : List Arrival)
-            → StandsFor self.old.setup (M.has self.old.memory) (M.newest self.old.memory) history
+            → Stands M.has M.newest self.old history
             → IfOk result (λ outcomes. Served M.KEEPS M.FORGETS self.old.setup history (map arrival_of calls.now) outcomes.items
             (M.has self.old.memory) (M.has self.new.memory) (M.newest self.new.memory)) }
         // No two requests of one stamp (names of service and client, and the client's time) are accepted.
         ensures once { (history : List Arrival)
-            → StandsFor self.old.setup (M.has self.old.memory) (M.newest self.old.memory) history
+            → Stands M.has M.newest self.old history
             → IfOk result (λ outcomes. TakesOnce self.old.setup (map arrival_of calls.now) outcomes.items) }
         // Nor is one of a stamp that was shown before.
         ensures before { (history : List Arrival) (stamp : Stamp)
-            → StandsFor self.old.setup (M.has self.old.memory) (M.newest self.old.memory) history
+            → Stands M.has M.newest self.old history
             → IsShown self.old.setup history stamp
             → IfOk result (λ outcomes. ¬ TakesAmong self.old.setup (map arrival_of calls.now) outcomes.items stamp) }
         ensures offset { IfOk result (λ outcomes. TellsPlacesWithin (map arrival_of calls.now) outcomes.items) }
@@ -215,19 +212,18 @@ impl<M: ReplayMemory> Acceptor<M> {
     fn decide(&mut self, alloc: Global, bytes: &[u8], now: Moment) -> Result<Accepted, Refusal>
         ensures setup { self.new.setup ≡ self.old.setup }
         ensures answer { (history : List Arrival)
-            → StandsFor self.old.setup (M.has self.old.memory) (M.newest self.old.memory) history
+            → Stands M.has M.newest self.old history
             → Answers self.old.setup history (arrival bytes.now now) result }
         ensures goes_on { (history : List Arrival)
-            → StandsFor self.old.setup (M.has self.old.memory) (M.newest self.old.memory) history
+            → Stands M.has M.newest self.old history
             → GoesOn M.KEEPS M.FORGETS self.old.setup self.new.setup history (after history (arrival bytes.now now) result)
             (M.has self.old.memory) (M.has self.new.memory) (M.newest self.new.memory) (IsErrOf result OutOfMemory) }
         ensures moves { (IsErrOf result OutOfMemory → ⊥)
             → M.newest self.new.memory ≡ Some (later_of (M.newest self.old.memory) now) }
-        ensures offset { IfErr result (λ refusal. IfSome (offset_of refusal) (λ at. at ≤ length bytes.now)) }
-        ensures memory { IsErrOf result OutOfMemory → (request : ValueOf ap_req) × Asks bytes.now request }
+        ensures offset { IfErr result (TellsPlaceWithin bytes.now) }
+        ensures memory { IsErrOf result OutOfMemory → IsOrdinary bytes.now }
         ensures service { IfOk result (λ accepted. AsksFor bytes.now accepted.service) }
-        ensures unchanged { IsErrOf result OutOfMemory → SameStamps (M.has self.old.memory) (M.has self.new.memory)
-            × (M.newest self.new.memory ≡ M.newest self.old.memory) }
+        ensures unchanged { IsErrOf result OutOfMemory → SameMemory M.has M.newest self.old.memory self.new.memory }
     {
         facts();
         let now = self.effective(now);

@@ -1,16 +1,14 @@
 //! What a service decides about a request, before it remembers or answers anything.
 
-ghost use Rattle.std.specs.Prelude.{◌≡◌, ◌≢◌, ◌↔◌, ℕ, List, IfErr, IfOk, IsErrOf, IsTrue};
+ghost use Rattle.std.specs.Prelude.{◌≡◌, ◌↔◌, ℕ, List, IfOk, IsErrOf, IsTrue};
 ghost use Rattle.std.specs.Option.{option_map};
-ghost use Rattle.krb_der.specs.Kind.{ValueOf};
 ghost use Rattle.krb_msg.specs.Borrowed.{ap_req_of, authenticator_of, enc_ticket_part_of, typed_of};
-ghost use Rattle.krb_msg.specs.Module.{ap_req};
 ghost use Rattle.krb_msg.specs.Owned.{owned_list_of, owned_typed_of};
-ghost use Rattle.krb_ap.specs.Opened.{Asks, AsksFor, OpenedAs, Ticketed, session_key as key_of_part, service_of};
+ghost use Rattle.krb_ap.specs.Opened.{Asks, AsksFor, IsOrdinary, OpenedAs, Ticketed, session_key as key_of_part, service_of};
 ghost use Rattle.krb_ap.specs.Quiet.{Settled};
 ghost use Rattle.krb_ap.specs.Taken.{taken_from};
 ghost use Rattle.krb_ap.specs.Answer.{taken_of};
-ghost use Rattle.krb_ap.specs.Inner.Judging.{IsPlacedWithin, IsPlaceless, Judges};
+ghost use Rattle.krb_ap.specs.Inner.Judging.{IsFor, IsNamed, IsPlacedWithin, IsPlaceless, JudgedBy};
 ghost use Rattle.krb_ap.specs.declared.refusal.Refusal.TheVariants.{OutOfMemory};
 
 use crate::accepted::Accepted;
@@ -49,11 +47,11 @@ impl<M: ReplayMemory> Acceptor<M> {
         now: Moment,
     ) -> Result<Judged, Refusal>
         ensures same { self.new ≡ self.old }
-        ensures judged { Judges self.old.setup (M.has self.old.memory) (M.newest self.old.memory) bytes.now now result }
-        ensures named { IfOk result (λ j. IfErr j.answer (λ r. r ≢ OutOfMemory)) }
+        ensures judged { JudgedBy M.has M.newest self.old bytes.now now result }
+        ensures named { IsNamed result }
         ensures placed { IsPlacedWithin bytes.now result }
-        ensures asks { IfOk result (λ _. (request : ValueOf ap_req) × Asks bytes.now request) }
-        ensures memory { IsErrOf result OutOfMemory → (request : ValueOf ap_req) × Asks bytes.now request }
+        ensures asks { IfOk result (λ _. IsOrdinary bytes.now) }
+        ensures memory { IsErrOf result OutOfMemory → IsOrdinary bytes.now }
         ensures service { IfOk result (λ j. IfOk j.answer (λ x. AsksFor bytes.now x.service)) }
     {
         facts();
@@ -76,11 +74,11 @@ impl<M: ReplayMemory> Acceptor<M> {
         now: Moment,
     ) -> Result<Judged, Refusal>
         ensures same { self.new ≡ self.old }
-        ensures named { IfOk result (λ j. IfErr j.answer (λ r. r ≢ OutOfMemory)) }
+        ensures named { IsNamed result }
         ensures placeless { IsPlaceless result }
-        ensures service { IfOk result (λ j. IfOk j.answer (λ x. x.service ≡ service_of (ap_req_of request.now))) }
+        ensures service { IsFor (service_of (ap_req_of request.now)) result }
         ensures judged { (bytes : List ℕ) → Asks bytes (ap_req_of request.now) → server ≡ service_of (ap_req_of request.now)
-            → Judges self.old.setup (M.has self.old.memory) (M.newest self.old.memory) bytes now result }
+            → JudgedBy M.has M.newest self.old bytes now result }
     {
         facts();
         let sealed = &request.ticket.enc_part;
@@ -107,12 +105,12 @@ impl<M: ReplayMemory> Acceptor<M> {
         part: &EncTicketRef,
         now: Moment,
     ) -> Result<Judged, Refusal>
-        ensures named { IfOk result (λ j. IfErr j.answer (λ r. r ≢ OutOfMemory)) }
+        ensures named { IsNamed result }
         ensures placeless { IsPlaceless result }
-        ensures service { IfOk result (λ j. IfOk j.answer (λ x. x.service ≡ service_of (ap_req_of request.now))) }
+        ensures service { IsFor (service_of (ap_req_of request.now)) result }
         ensures judged { (bytes : List ℕ) → Ticketed self.now.setup bytes (ap_req_of request.now) (enc_ticket_part_of part.now)
             → server ≡ service_of (ap_req_of request.now)
-            → Judges self.now.setup (M.has self.now.memory) (M.newest self.now.memory) bytes now result }
+            → JudgedBy M.has M.newest self.now bytes now result }
     {
         facts();
         let key = match usable_key(&part.key) {
@@ -147,13 +145,13 @@ impl<M: ReplayMemory> Acceptor<M> {
         auth: &AuthenticatorRef,
         now: Moment,
     ) -> Result<Judged, Refusal>
-        ensures named { IfOk result (λ j. IfErr j.answer (λ r. r ≢ OutOfMemory)) }
+        ensures named { IsNamed result }
         ensures placeless { IsPlaceless result }
-        ensures service { IfOk result (λ j. IfOk j.answer (λ x. x.service ≡ service_of (ap_req_of request.now))) }
+        ensures service { IsFor (service_of (ap_req_of request.now)) result }
         ensures judged { (bytes : List ℕ)
             → OpenedAs self.now.setup bytes (ap_req_of request.now) (enc_ticket_part_of part.now) (authenticator_of auth.now)
             → server ≡ service_of (ap_req_of request.now) → session_key ≡ key_of_part (enc_ticket_part_of part.now)
-            → Judges self.now.setup (M.has self.now.memory) (M.newest self.now.memory) bytes now result }
+            → JudgedBy M.has M.newest self.now bytes now result }
     {
         facts();
         let sent = Moment::at(auth.ctime, auth.cusec);

@@ -3,7 +3,8 @@
 ghost use Rattle.std.specs.Prelude.{◌≡◌, List};
 ghost use Rattle.krb_replay.specs.Memory.{SameStamps};
 ghost use Rattle.krb_ap.specs.Setup.{Arrival, as_decided, with_entries};
-ghost use Rattle.krb_ap.specs.History.{IsShown, StandsFor};
+ghost use Rattle.krb_ap.specs.History.{IsShown};
+ghost use Rattle.krb_ap.specs.Service.{Stands};
 
 use crate::acceptor::Acceptor;
 use krb_keytab::Keytab;
@@ -23,8 +24,8 @@ impl<M: ReplayMemory> Acceptor<M> {
 
         // For each history that the memory stands for, it stands for the same one, decided by the old keytab; and that shows the same.
         ensures stands { (history : List Arrival)
-            → StandsFor self.old.setup (M.has self.old.memory) (M.newest self.old.memory) history
-            → StandsFor self.new.setup (M.has self.new.memory) (M.newest self.new.memory) (as_decided self.old.setup history) }
+            → Stands M.has M.newest self.old history
+            → Stands M.has M.newest self.new (as_decided self.old.setup history) }
         ensures shown { (history : List Arrival)
             → SameStamps (IsShown self.old.setup history) (IsShown self.new.setup (as_decided self.old.setup history)) }
     {

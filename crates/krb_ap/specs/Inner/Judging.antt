@@ -1,10 +1,12 @@
 -- What is decided of a request before it is remembered or answered, as words of private contracts.
-use Rattle.std.specs.Prelude.{◌≡◌, ◌≢◌, ◌≤◌, ℕ, ℤ, List, Option, None, Result, Ok, Err, IfErr, IfSome, length}
+use Rattle.std.specs.Prelude.{◌≡◌, ◌≢◌, ℕ, ℤ, List, Option, None, Result, Ok, Err, IfErr, IfOk}
+use Rattle.krb_name.specs.declared.principal.Principal.{Principal}
 use Rattle.krb_replay.specs.Stamp.{Stamp}
 use Rattle.krb_ap.specs.Setup.{Setup, Arrival, arrival}
 use Rattle.krb_ap.specs.History.{effective, Shows, StandsFor}
-use Rattle.krb_ap.specs.Causes.{Cause, offset_of}
+use Rattle.krb_ap.specs.Causes.{Cause, TellsPlaceWithin, offset_of}
 use Rattle.krb_ap.specs.Answer.{Answers}
+use Rattle.krb_ap.specs.Service.{Service}
 use Rattle.krb_ap.specs.declared.accepted.Accepted.{Accepted}
 use Rattle.krb_ap.specs.declared.judging.Judged.{Judged}
 use Rattle.krb_ap.specs.declared.refusal.Refusal.{Refusal}
@@ -25,6 +27,14 @@ abbrev pub Judgement : Setup → List Arrival → Arrival → (Stamp → Type 0)
 Judgement setup history call Has (Ok judged) = IsJudged setup history call judged.tuple judged.answer
 Judgement setup history call Has (Err refusal) = refusal ≢ OutOfMemory → IsTurnedAway setup history call Has refusal
 
+-- an answer that is remembered isn't out of memory
+abbrev pub IsNamed : Result Judged Refusal → Type 0
+IsNamed result = IfOk result (λ judged. IfErr judged.answer (λ refusal. refusal ≢ OutOfMemory))
+
+-- what is accepted is for this service
+abbrev pub IsFor : Principal → Result Judged Refusal → Type 0
+IsFor service result = IfOk result (λ judged. IfOk judged.answer (λ accepted. accepted.service ≡ service))
+
 -- the refusal names no place in the bytes, whichever it is
 abbrev pub IsPlaceless : Result Judged Refusal → Type 0
 IsPlaceless (Ok judged) = IfErr judged.answer (λ refusal. offset_of refusal ≡ None)
@@ -32,11 +42,15 @@ IsPlaceless (Err refusal) = offset_of refusal ≡ None
 
 -- or one within them
 abbrev pub IsPlacedWithin : List ℕ → Result Judged Refusal → Type 0
-IsPlacedWithin bytes (Ok judged) = IfErr judged.answer (λ refusal. IfSome (offset_of refusal) (λ at. at ≤ length bytes))
-IsPlacedWithin bytes (Err refusal) = IfSome (offset_of refusal) (λ at. at ≤ length bytes)
+IsPlacedWithin bytes (Ok judged) = IfErr judged.answer (TellsPlaceWithin bytes)
+IsPlacedWithin bytes (Err refusal) = TellsPlaceWithin bytes refusal
 
 -- so for each history that the memory stands for
 abbrev pub Judges : Setup → (Stamp → Type 0) → Option ℤ → List ℕ → ℤ → Result Judged Refusal → Type 0
 Judges setup Has latest bytes now result =
     (history : List Arrival) (moment : ℤ) → StandsFor setup Has latest history → now ≡ effective history moment
     → Judgement setup history (arrival bytes moment) Has result
+
+-- as of a service
+abbrev pub JudgedBy : {M : Type 0} → (M → Stamp → Type 0) → (M → Option ℤ) → Service M → List ℕ → ℤ → Result Judged Refusal → Type 0
+JudgedBy has newest service bytes now result = Judges service.setup (has service.memory) (newest service.memory) bytes now result

@@ -4,7 +4,7 @@ use Rattle.krb_msg.specs.Module.{enc_ticket_part}
 use Rattle.krb_ap.specs.Setup.{arrival}
 use Rattle.krb_ap.specs.Opened.{ticket_usage}
 use Rattle.krb_ap.specs.Service.{Service}
-use Rattle.krb_ap.specs.Inner.Judging.{IsTurnedAway, Judges}
+use Rattle.krb_ap.specs.Inner.Judging.{IsTurnedAway, JudgedBy}
 use Rattle.krb_ap.specs.declared.refusal.Refusal.{Refusal}
 use Rattle.krb_ap.proofs.TurnedAway.{wanted, wants_by, keyed_by, shut_by, none_by, opens_by, ticket_shut}
 use Rattle.krb_ap.proofs.acceptor.Acceptor.judge_request.Goals as goal
@@ -35,7 +35,7 @@ returns-in-Err-read_part-clause-judged g c = λ bytes asks server history moment
 
 pub returns-clause-judged : goal.returns-clause-judged
 returns-clause-judged g c = λ bytes asks server.
-    subst (λ (s : Service g.row.M.Denot). Judges s.setup (g.M.ReplayMemory.has s.memory) (g.M.ReplayMemory.newest s.memory) bytes c.args.now c.judge_ticket.result)
+    subst (λ (s : Service g.row.M.Denot). JudgedBy g.M.ReplayMemory.has g.M.ReplayMemory.newest s bytes c.args.now c.judge_ticket.result)
     c.self.view_is
     (c.judge_ticket.ensures.judged bytes (record {
       entry = c.in-Ok.ensures.chosen.chosen.entry;
