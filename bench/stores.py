@@ -23,7 +23,7 @@ import c_library  # noqa: E402
 import c_shared  # noqa: E402
 import store_servers  # noqa: E402
 
-INSTANCES, REQUESTS, RUNS = (1, 2, 4), 4_000, 3
+INSTANCES, REQUESTS, RUNS = (1, 2, 4), 2_000, 3
 
 
 def must(ran):

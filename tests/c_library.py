@@ -10,7 +10,7 @@ other and to a client and a service over MIT krb5 (tests/c_peers.py). Threads sh
 library good and broken files and messages, some of them under valgrind, and tests/c/fuzz_tokens.c tokens of GSS-API. Real clients log in
 at a web service (tests/c_web.py), and instances share a store (tests/c_shared.py).
 
-    tests/c_library.py [--inputs N] [--tokens N]     so many inputs, 50,000 if left out, and so many tokens, 200,000
+    tests/c_library.py [--inputs N] [--tokens N]     so many inputs, 50,000 if left out, and so many tokens, 1,000,000
 
 The last line is 'N passed, M failed'.
 """
@@ -45,7 +45,7 @@ SEED = 20_261_123
 KEYED = "mutual request with a subkey and a number"
 WATCHED = 5_000
 # How many microseconds of processor time a call may take that opens a token.
-SLOW = 50_000
+SLOW = 10_000
 # Of a large keytab and a large cache.
 ITEMS = 3_000
 STRICT = ["-Wall", "-Wextra", "-Werror", "-pedantic"]
@@ -325,7 +325,7 @@ def fuzzed_tokens(room, tokens):
         return
     yield f"{tokens} tokens", wrong(run(program, *given, tokens, SEED, SLOW))
     if shutil.which("valgrind"):
-        watched = run("valgrind", "-q", "--error-exitcode=9", "--leak-check=full", "--errors-for-leak-kinds=all", program, *given, WATCHED, SEED, 100 * SLOW)
+        watched = run("valgrind", "-q", "--error-exitcode=9", "--leak-check=full", "--errors-for-leak-kinds=all", program, *given, WATCHED, SEED, 500 * SLOW)
         yield "tokens under valgrind", wrong(watched)
 
 
@@ -370,7 +370,7 @@ def checks(inputs, tokens):
 def main():
     words = argparse.ArgumentParser()
     words.add_argument("--inputs", type=int, default=50_000)
-    words.add_argument("--tokens", type=int, default=200_000)
+    words.add_argument("--tokens", type=int, default=1_000_000)
     given = words.parse_args()
     passed = failed = 0
     for name, fault in checks(given.inputs, given.tokens):
