@@ -67,14 +67,8 @@ impl Pending {
         facts();
         krb_der::laws::within();
         both_agree();
-        let message = match read_reply(reply) {
-            Ok(message) => message,
-            Err(fault) => return Err(fault),
-        };
-        let plain = match open_reply(alloc, &self.key, &message) {
-            Ok(plain) => plain,
-            Err(fault) => return Err(fault),
-        };
+        let message = read_reply(reply)?;
+        let plain = open_reply(alloc, &self.key, &message)?;
         let part = match EncApRepRef::parse(plain.as_slice()) {
             Ok(part) => part,
             Err(_) => return Err(FinishFault::Integrity),

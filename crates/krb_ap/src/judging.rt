@@ -56,10 +56,7 @@ impl<M: ReplayMemory> Acceptor<M> {
     {
         facts();
         krb_der::laws::within();
-        let request = match read_request(bytes) {
-            Ok(request) => request,
-            Err(refusal) => return Err(refusal),
-        };
+        let request = read_request(bytes)?;
         match service(alloc, &request.ticket) {
             Ok(server) => self.judge_request(alloc, server, &request, now),
             Err(_) => Err(Refusal::OutOfMemory),
@@ -82,18 +79,9 @@ impl<M: ReplayMemory> Acceptor<M> {
     {
         facts();
         let sealed = &request.ticket.enc_part;
-        match make_ready(&mut self.ready, &self.keytab, &server, sealed) {
-            Ok(()) => {}
-            Err(refusal) => return Err(refusal),
-        }
-        let plain = match open_ticket(alloc, &self.ready, sealed.cipher) {
-            Ok(plain) => plain,
-            Err(refusal) => return Err(refusal),
-        };
-        let part = match read_part(plain.as_slice()) {
-            Ok(part) => part,
-            Err(refusal) => return Err(refusal),
-        };
+        make_ready(&mut self.ready, &self.keytab, &server, sealed)?;
+        let plain = open_ticket(alloc, &self.ready, sealed.cipher)?;
+        let part = read_part(plain.as_slice())?;
         self.judge_ticket(alloc, server, request, &part, now)
     }
 
@@ -113,22 +101,13 @@ impl<M: ReplayMemory> Acceptor<M> {
             → JudgedBy M.has M.newest self.now bytes now result }
     {
         facts();
-        let key = match usable_key(&part.key) {
-            Ok(key) => key,
-            Err(refusal) => return Err(refusal),
-        };
+        let key = usable_key(&part.key)?;
         let sealed = &request.authenticator;
         if !is_of_type(sealed, &part.key) {
             return Err(Refusal::AuthenticatorIntegrity);
         }
-        let plain = match open_authenticator(alloc, &key, sealed.cipher) {
-            Ok(plain) => plain,
-            Err(refusal) => return Err(refusal),
-        };
-        let auth = match read_authenticator(plain.as_slice()) {
-            Ok(auth) => auth,
-            Err(refusal) => return Err(refusal),
-        };
+        let plain = open_authenticator(alloc, &key, sealed.cipher)?;
+        let auth = read_authenticator(plain.as_slice())?;
         if !is_same_client(part, &auth) {
             return Err(Refusal::BadMatch);
         }

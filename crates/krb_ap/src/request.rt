@@ -71,10 +71,7 @@ pub fn make_request(
         Err(_) => return Err(RequestFault::BadTicket),
     };
     let key = session_key(credential);
-    let bytes = match build(alloc, credential, &key, &ticket, at, confounder, &options) {
-        Ok(bytes) => bytes,
-        Err(fault) => return Err(fault),
-    };
+    let bytes = build(alloc, credential, &key, &ticket, at, confounder, &options)?;
     let pending = Pending {
         client: credential.client.clone()?,
         key,
@@ -113,10 +110,7 @@ fn build(
 {
     facts();
     writing();
-    let plain = match authenticator(alloc, credential, at, options) {
-        Ok(plain) => plain,
-        Err(fault) => return Err(fault),
-    };
+    let plain = authenticator(alloc, credential, at, options)?;
     let cipher = seal(alloc, key, usage::AUTHENTICATOR, confounder, &plain)?;
     let request = ApReq {
         options: flags(options.mutual),

@@ -1,4 +1,5 @@
 use Rattle.std.proofs.Common.{refl, ◌∙◌, subst, ◌<◌}
+use Rattle.std.proofs.lemmas.Result.{err_from_is_err_and}
 use Rattle.krb_der.specs.Kind.{ValueOf}
 use Rattle.krb_der.specs.Size.{size_of}
 use Rattle.krb_der.specs.Spells.{limit}
@@ -10,23 +11,25 @@ use Rattle.krb_ap.specs.Credentials.{credential_key}
 use Rattle.krb_ap.proofs.Building.{copied_request, sealed_by, told_type, too_long_to_build}
 use Rattle.krb_ap.proofs.request.build.Goals as goal
 
-pub returns-in-Err-clause-fault : goal.returns-in-Err-clause-fault
-returns-in-Err-clause-fault c = λ named. ((c.in-Err.ensures.fault named).0, λ bytes b. (c.in-Err.ensures.fault named).1 b.text_is.plain b.text_is.told)
+pub returns-in_err-plain-clause-fault : goal.returns-in_err-plain-clause-fault
+returns-in_err-plain-clause-fault c =
+    let p = err_from_is_err_and c.from_residual.result c.from_residual.ensures.1 in
+    rw (p.1, p.2) (λ named. ((c.in_err-plain.ensures.fault named).0, λ bytes b. (c.in_err-plain.ensures.fault named).1 b.text_is.plain b.text_is.told))
 
-pub returns-in-Ok-encode-clause-built : goal.returns-in-Ok-encode-clause-built
-returns-in-Ok-encode-clause-built c = record {
+pub returns-in-Ok-clause-built : goal.returns-in-Ok-clause-built
+returns-in-Ok-clause-built c = record {
   ticket = ticket_of c.args.ticket.now;
   ticket_is = c.requires.ticket;
   text = c.in_ok-cipher.cipher.items;
   text_is = record {
-    plain = c.in-Ok.plain.items;
-    told = c.in-Ok.ensures.told;
+    plain = c.in_ok-plain.plain.items;
+    told = c.in_ok-plain.ensures.told;
     text_is = sealed_by _ (credential_key c.args.credential.now) authenticator_usage _ _ _ _ c.requires.key c.deref.ensures.value c.in_ok-cipher.ensures.sealed;
   };
-  bytes_are = subst (λ (v : ValueOf ap_req). IsWritten ap_req v c.in-Ok-encode.bytes.items)
+  bytes_are = subst (λ (v : ValueOf ap_req). IsWritten ap_req v c.in-Ok.bytes.items)
       (copied_request c.args.credential.now c.args.options.now (ticket_of c.args.ticket.now) c.in_ok-cipher.cipher.items _ _ _
       c.flags.ensures c.in_ok-to_owned.ensures (c.encrypted.ensures ∙ told_type c.args.credential.now c.args.key.now c.in_ok-cipher.cipher.items c.requires.key))
-      (record { message = c.in-Ok-encode.ensures.ok; written = c.in-Ok-encode.ensures.written });
+      (record { message = c.in-Ok.ensures.ok; written = c.in-Ok.ensures.written });
 }
 
 pub returns-in-Err-TooLong-clause-fault : goal.returns-in-Err-TooLong-clause-fault
@@ -35,8 +38,8 @@ returns-in-Err-TooLong-clause-fault c = λ named. (
   too_long_to_build c.writing.ensures c.args.credential.now c.args.at c.args.options.now c.facts.ensures c.args.confounder.now c.in_ok-cipher.cipher.items
       (ticket_of c.args.ticket.now) c.requires.ticket
       (record {
-        plain = c.in-Ok.plain.items;
-        told = c.in-Ok.ensures.told;
+        plain = c.in_ok-plain.plain.items;
+        told = c.in_ok-plain.ensures.told;
         text_is = sealed_by _ (credential_key c.args.credential.now) authenticator_usage _ _ _ _ c.requires.key c.deref.ensures.value c.in_ok-cipher.ensures.sealed;
       })
       (subst (λ (v : ValueOf ap_req). limit < size_of ap_req v)

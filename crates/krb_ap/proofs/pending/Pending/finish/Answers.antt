@@ -1,5 +1,6 @@
 use Rattle.std.proofs.Common.{◌≡◌, Err, ap, sym, subst, ◌∙◌}
 use Rattle.std.specs.Option.{option_map}
+use Rattle.std.proofs.lemmas.Result.{err_from_is_err_and}
 use Rattle.krb_der.specs.Kind.{ValueOf}
 use Rattle.krb_msg.specs.Borrowed.{ap_rep_of, enc_ap_rep_part_of}
 use Rattle.krb_msg.specs.Module.{enc_ap_rep_part}
@@ -14,52 +15,60 @@ use Rattle.krb_ap.proofs.Finishing.{fault_of, reply_shut, of_another, opens_repl
 use Rattle.krb_ap.proofs.Offsets.{finish_within, shut_within}
 use Rattle.krb_ap.proofs.pending.Pending.finish.Goals as goal
 
+pub returns-in_err-message-clause-fault : goal.returns-in_err-message-clause-fault
+returns-in_err-message-clause-fault c =
+    let p = err_from_is_err_and c.from_residual.result c.from_residual.ensures.1 in
+    rw (p.1, p.2) (λ named. c.in_err-message.ensures.refused _)
+
+pub returns-in_err-message-clause-offset : goal.returns-in_err-message-clause-offset
+returns-in_err-message-clause-offset c =
+    let p = err_from_is_err_and c.from_residual.result c.from_residual.ensures.1 in
+    rw (p.1, p.2) (finish_within c.within.ensures c.args.self.now c.args.reply.now c.in_err-message.field-0.0 (c.in_err-message.ensures.refused c.args.self.now))
+
+pub returns-in_err-plain-clause-offset : goal.returns-in_err-plain-clause-offset
+returns-in_err-plain-clause-offset c =
+    let p = err_from_is_err_and c.from_residual-in_err-plain.result c.from_residual-in_err-plain.ensures.1 in
+    rw (p.1, p.2) (shut_within c.args.reply.now c.in_err-plain.field-0.0 (λ named. (c.in_err-plain.ensures.shut named).0))
+
+pub returns-in_err-plain-clause-fault : goal.returns-in_err-plain-clause-fault
+returns-in_err-plain-clause-fault c =
+    let p = err_from_is_err_and c.from_residual-in_err-plain.result c.from_residual-in_err-plain.ensures.1 in
+    rw (p.1, p.2) (λ named.
+    subst (λ (f : FinishFault). FinishCause c.args.self.now c.args.reply.now f) (sym (c.in_err-plain.ensures.shut named).0)
+    (reply_shut c.facts.ensures c.args.self.now c.args.reply.now (ap_rep_of c.in_ok-message.message) c.in_ok-message.ensures.read
+    (subst (λ (a : Awaited). (part : ValueOf enc_ap_rep_part) → ¬ OpensReply a.key (ap_rep_of c.in_ok-message.message) part) c.self.view_is
+    (c.in_err-plain.ensures.shut named).1)))
+
 pub returns-in-Err-clause-fault : goal.returns-in-Err-clause-fault
-returns-in-Err-clause-fault c = λ named. c.in-Err.ensures.refused _
-
-pub returns-in-Err-clause-offset : goal.returns-in-Err-clause-offset
-returns-in-Err-clause-offset c = finish_within c.within.ensures c.args.self.now c.args.reply.now c.in-Err.fault (c.in-Err.ensures.refused c.args.self.now)
-
-pub returns-in-Err-open_reply-clause-offset : goal.returns-in-Err-open_reply-clause-offset
-returns-in-Err-open_reply-clause-offset c = shut_within c.args.reply.now c.in-Err-open_reply.fault (λ named. (c.in-Err-open_reply.ensures.shut named).0)
-
-pub returns-in-Err-open_reply-clause-fault : goal.returns-in-Err-open_reply-clause-fault
-returns-in-Err-open_reply-clause-fault c = λ named.
-    subst (λ (f : FinishFault). FinishCause c.args.self.now c.args.reply.now f) (sym (c.in-Err-open_reply.ensures.shut named).0)
-    (reply_shut c.facts.ensures c.args.self.now c.args.reply.now (ap_rep_of c.in-Ok.message) c.in-Ok.ensures.read
-    (subst (λ (a : Awaited). (part : ValueOf enc_ap_rep_part) → ¬ OpensReply a.key (ap_rep_of c.in-Ok.message) part) c.self.view_is
-    (c.in-Err-open_reply.ensures.shut named).1))
-
-pub returns-in-Err-parse-clause-fault : goal.returns-in-Err-parse-clause-fault
-returns-in-Err-parse-clause-fault c = λ named.
-    reply_shut c.facts.ensures c.args.self.now c.args.reply.now (ap_rep_of c.in-Ok.message) c.in-Ok.ensures.read
-    (subst (λ (a : Awaited). (part : ValueOf enc_ap_rep_part) → ¬ OpensReply a.key (ap_rep_of c.in-Ok.message) part) c.self.view_is
-    (opens_to_other c.facts.ensures c.self.inside.key (ap_rep_of c.in-Ok.message) _ _ c.as_slice.ensures.value c.in-Ok-open_reply.ensures.opened c.in-Err-parse.ensures.only))
+returns-in-Err-clause-fault c = λ named.
+    reply_shut c.facts.ensures c.args.self.now c.args.reply.now (ap_rep_of c.in_ok-message.message) c.in_ok-message.ensures.read
+    (subst (λ (a : Awaited). (part : ValueOf enc_ap_rep_part) → ¬ OpensReply a.key (ap_rep_of c.in_ok-message.message) part) c.self.view_is
+    (opens_to_other c.facts.ensures c.self.inside.key (ap_rep_of c.in_ok-message.message) _ _ c.as_slice.ensures.value c.in_ok-plain.ensures.opened c.in-Err.ensures.only))
 
 pub returns-then-not-is_at-clause-fault : goal.returns-then-not-is_at-clause-fault
 returns-then-not-is_at-clause-fault c = λ named.
-    of_another c.facts.ensures c.args.self.now c.args.reply.now (enc_ap_rep_part_of c.in-Ok-parse.part)
+    of_another c.facts.ensures c.args.self.now c.args.reply.now (enc_ap_rep_part_of c.in-Ok.part)
     (record {
-      reply = ap_rep_of c.in-Ok.message;
-      message = c.in-Ok.ensures.read;
-      opens = subst (λ (a : Awaited). OpensReply a.key (ap_rep_of c.in-Ok.message) (enc_ap_rep_part_of c.in-Ok-parse.part)) c.self.view_is
-          (opens_reply c.self.inside.key (ap_rep_of c.in-Ok.message) _ _ (enc_ap_rep_part_of c.in-Ok-parse.part)
-          c.in-Ok-open_reply.ensures.same_type c.as_slice.ensures.value c.in-Ok-open_reply.ensures.opened c.in-Ok-parse.ensures.found);
+      reply = ap_rep_of c.in_ok-message.message;
+      message = c.in_ok-message.ensures.read;
+      opens = subst (λ (a : Awaited). OpensReply a.key (ap_rep_of c.in_ok-message.message) (enc_ap_rep_part_of c.in-Ok.part)) c.self.view_is
+          (opens_reply c.self.inside.key (ap_rep_of c.in_ok-message.message) _ _ (enc_ap_rep_part_of c.in-Ok.part)
+          c.in_ok-plain.ensures.same_type c.as_slice.ensures.value c.in_ok-plain.ensures.opened c.in-Ok.ensures.found);
     })
     (λ same. is_not _ _ c.is_at.ensures c.if-not-is_at.true (same ∙ sym (ap (λ (a : Awaited). a.at) c.self.view_is)))
 
 pub returns-clause-agreed : goal.returns-clause-agreed
 returns-clause-agreed c = record {
-  part = enc_ap_rep_part_of c.in-Ok-parse.part;
+  part = enc_ap_rep_part_of c.in-Ok.part;
   opened = record {
-    reply = ap_rep_of c.in-Ok.message;
-    message = c.in-Ok.ensures.read;
-    opens = subst (λ (a : Awaited). OpensReply a.key (ap_rep_of c.in-Ok.message) (enc_ap_rep_part_of c.in-Ok-parse.part)) c.self.view_is
-        (opens_reply c.self.inside.key (ap_rep_of c.in-Ok.message) _ _ (enc_ap_rep_part_of c.in-Ok-parse.part)
-        c.in-Ok-open_reply.ensures.same_type c.as_slice.ensures.value c.in-Ok-open_reply.ensures.opened c.in-Ok-parse.ensures.found);
+    reply = ap_rep_of c.in_ok-message.message;
+    message = c.in_ok-message.ensures.read;
+    opens = subst (λ (a : Awaited). OpensReply a.key (ap_rep_of c.in_ok-message.message) (enc_ap_rep_part_of c.in-Ok.part)) c.self.view_is
+        (opens_reply c.self.inside.key (ap_rep_of c.in_ok-message.message) _ _ (enc_ap_rep_part_of c.in-Ok.part)
+        c.in_ok-plain.ensures.same_type c.as_slice.ensures.value c.in_ok-plain.ensures.opened c.in-Ok.ensures.found);
   };
   same = is_so _ _ c.is_at.ensures c.if-not-is_at.false ∙ ap (λ (a : Awaited). a.at) c.self.view_is;
-  agreement_is = copied_agreement c.args.self.now (enc_ap_rep_part_of c.in-Ok-parse.part) c.in_ok-clone.field-0 c.copy.result c.own_key.result c.self.inside.seq
+  agreement_is = copied_agreement c.args.self.now (enc_ap_rep_part_of c.in-Ok.part) c.in_ok-clone.field-0 c.copy.result c.own_key.result c.self.inside.seq
       (option_map owned_key_of c.in_ok-owned_key.field-0)
       (c.in_ok-clone.ensures.cases ∙ ap (λ (a : Awaited). a.client) c.self.view_is)
       (c.copy.ensures ∙ ap (λ (a : Awaited). a.key) c.self.view_is)
@@ -71,22 +80,33 @@ returns-clause-agreed c = record {
 pub returns-clause-held : goal.returns-clause-held
 returns-clause-held c = c.both_agree.ensures.each c.args.self.now c.args.reply.now _ (returns-clause-agreed c)
 
-pub returns-in-Err-clause-memory : goal.returns-in-Err-clause-memory
-returns-in-Err-clause-memory c = λ memory.
-    absurd (subst (λ (f : FinishFault). FinishCause c.args.self.now c.args.reply.now f) (fault_of c.in-Err.fault OutOfMemory memory)
-    (c.in-Err.ensures.refused c.args.self.now)).holds
+pub returns-in_err-message-clause-memory : goal.returns-in_err-message-clause-memory
+returns-in_err-message-clause-memory c =
+    let p = err_from_is_err_and c.from_residual.result c.from_residual.ensures.1 in
+    rw (p.1, p.2) (λ memory.
+    absurd (subst (λ (f : FinishFault). FinishCause c.args.self.now c.args.reply.now f) (fault_of c.in_err-message.field-0.0 OutOfMemory memory)
+    (c.in_err-message.ensures.refused c.args.self.now)).holds)
 
-pub returns-in-Err-open_reply-clause-memory : goal.returns-in-Err-open_reply-clause-memory
-returns-in-Err-open_reply-clause-memory c = λ memory. record {
-  reply = ap_rep_of c.in-Ok.message;
-  message = c.in-Ok.ensures.read;
-  same_type = subst (λ (a : Awaited). etype_of (reply_enc_part (ap_rep_of c.in-Ok.message)) ≡ a.key.etype) c.self.view_is
-      (c.in-Err-open_reply.ensures.memory (ap Err (fault_of c.in-Err-open_reply.fault OutOfMemory memory)));
-}
+pub returns-in_err-plain-clause-memory : goal.returns-in_err-plain-clause-memory
+returns-in_err-plain-clause-memory c =
+    let p = err_from_is_err_and c.from_residual-in_err-plain.result c.from_residual-in_err-plain.ensures.1 in
+    rw (p.1, p.2) (λ memory. record {
+      reply = ap_rep_of c.in_ok-message.message;
+      message = c.in_ok-message.ensures.read;
+      same_type = subst (λ (a : Awaited). etype_of (reply_enc_part (ap_rep_of c.in_ok-message.message)) ≡ a.key.etype) c.self.view_is
+          (c.in_err-plain.ensures.memory (ap Err (fault_of c.in_err-plain.field-0.0 OutOfMemory memory)));
+    })
 
 pub returns-in_err-clone-clause-memory : goal.returns-in_err-clone-clause-memory
 returns-in_err-clone-clause-memory c = λ memory. record {
-  reply = ap_rep_of c.in-Ok.message;
-  message = c.in-Ok.ensures.read;
-  same_type = subst (λ (a : Awaited). etype_of (reply_enc_part (ap_rep_of c.in-Ok.message)) ≡ a.key.etype) c.self.view_is c.in-Ok-open_reply.ensures.same_type;
+  reply = ap_rep_of c.in_ok-message.message;
+  message = c.in_ok-message.ensures.read;
+  same_type = subst (λ (a : Awaited). etype_of (reply_enc_part (ap_rep_of c.in_ok-message.message)) ≡ a.key.etype) c.self.view_is c.in_ok-plain.ensures.same_type;
+}
+
+pub returns-in_err-owned_key-clause-memory : goal.returns-in_err-owned_key-clause-memory
+returns-in_err-owned_key-clause-memory c = λ memory. record {
+  reply = ap_rep_of c.in_ok-message.message;
+  message = c.in_ok-message.ensures.read;
+  same_type = subst (λ (a : Awaited). etype_of (reply_enc_part (ap_rep_of c.in_ok-message.message)) ≡ a.key.etype) c.self.view_is c.in_ok-plain.ensures.same_type;
 }
