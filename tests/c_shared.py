@@ -282,7 +282,7 @@ def checks(folder, library, program, cache):
                 yield f"{store.name}: {name}", fault
             if make is store_servers.Postgres:
                 yield from old_stamps(store)
-        except (OSError, ValueError, IndexError, subprocess.SubprocessError) as error:
+        except (OSError, ValueError, LookupError, subprocess.SubprocessError) as error:
             yield f"{make.name}: instances that share a store", repr(error)
         finally:
             if store:

@@ -1,4 +1,4 @@
-"""Servers of Redis and PostgreSQL for tests (Debian's redis-server and postgresql): each in a folder and on a socket of its own, with no port.
+"""Servers of Redis and PostgreSQL for tests (Debian's redis-server and postgresql): each in a folder of its own, on a socket there, with no port.
 
 They keep what they were told, also when they are killed, as docs/OPERATING.md configures it. The table of PostgreSQL is the document's.
 """
@@ -35,19 +35,11 @@ def said(words, **more):
     return subprocess.run([str(it) for it in words], capture_output=True, text=True, timeout=SECONDS, **more)
 
 
-class Redis:
-    name = "Redis"
+class Server:
+    """A process over a folder, which is removed at the end."""
 
     def __init__(self):
-        self.folder = Path(tempfile.mkdtemp(prefix="redis-"))
-        self.socket = self.folder / "redis.sock"
-        self.words = ["--redis", self.socket]
-
-    def start(self):
-        configured = re.search(r"```text\n(appendonly .*?)```", (TOP / "docs/OPERATING.md").read_text(), re.S)[1]
-        (self.folder / "redis.conf").write_text(f'{configured}port 0\nunixsocket {self.socket}\ndir {self.folder}\nsave ""\n')
-        self.process = subprocess.Popen(["redis-server", self.folder / "redis.conf"], stdout=subprocess.DEVNULL, stderr=subprocess.DEVNULL)
-        wait_for(lambda: said(["redis-cli", "-s", self.socket, "ping"]).stdout == "PONG\n", "redis-server doesn't answer", self.process)
+        self.folder, self.process = Path(tempfile.mkdtemp(prefix=f"{self.name.lower()}-")), None
 
     def signalled(self, number):
         self.process.send_signal(number)
@@ -57,39 +49,58 @@ class Redis:
         self.process.wait()
 
     def close(self):
-        self.kill()
+        if self.process and self.process.poll() is None:
+            self.kill()
         shutil.rmtree(self.folder)
 
 
-class Postgres:
-    """It refuses to run as root, so it then runs as the user postgres, whom the package makes."""
+class Redis(Server):
+    name = "Redis"
+
+    def __init__(self):
+        super().__init__()
+        self.socket = self.folder / "redis.sock"
+        self.words = ["--redis", self.socket]
+
+    def start(self):
+        configured = re.search(r"```text\n(appendonly .*?)```", (TOP / "docs/OPERATING.md").read_text(), re.S)[1]
+        (self.folder / "redis.conf").write_text(f'{configured}port 0\nunixsocket {self.socket}\ndir {self.folder}\nsave ""\n')
+        self.process = subprocess.Popen(["redis-server", self.folder / "redis.conf"], stdout=subprocess.DEVNULL, stderr=subprocess.DEVNULL)
+        wait_for(lambda: said(["redis-cli", "-s", self.socket, "ping"]).stdout == "PONG\n", "redis-server doesn't answer", self.process)
+
+
+class Postgres(Server):
+    """It refuses to run as root, so it then runs as the user postgres, whom the package makes. Instances are the user web of its own."""
     name = "PostgreSQL"
 
     def __init__(self):
-        self.folder = Path(tempfile.mkdtemp(prefix="postgres-"))
-        self.tools = Path(max(glob.glob("/usr/lib/postgresql/*/bin"), key=lambda it: float(it.split("/")[-2])))
+        super().__init__()
         self.words = ["--postgres", f"host={self.folder} dbname=postgres user=web"]
-        self.user = {}
+        self.user, self.tools = {}, None
+
+    def make(self):
+        self.tools = Path(max(glob.glob("/usr/lib/postgresql/*/bin"), key=lambda it: float(it.split("/")[-2])))
         if os.geteuid() == 0:
             account = pwd.getpwnam("postgres")
             os.chown(self.folder, account.pw_uid, account.pw_gid)
             self.user = {"user": account.pw_uid, "group": account.pw_gid, "extra_groups": []}
-        made = said([self.tools / "initdb", "-D", self.folder / "data", "-A", "trust", "-U", "postgres", "-E", "UTF8", "--locale=C", "--no-sync"],
-                    cwd=self.folder, **self.user)
+        words = ["-D", self.folder / "data", "-A", "trust", "-U", "postgres", "-E", "UTF8", "--locale=C", "--no-sync"]
+        made = said([self.tools / "initdb", *words], cwd=self.folder, **self.user)
         if made.returncode:
             raise OSError(made.stderr)
-        self.has_table = False
 
     def start(self):
+        is_first = self.tools is None
+        if is_first:
+            self.make()
         settings = {"listen_addresses": "", "unix_socket_directories": self.folder, "shared_buffers": "16MB", "fsync": "on", "synchronous_commit": "on"}
         words = [self.tools / "postgres", "-D", self.folder / "data", *(word for it in settings.items() for word in ("-c", "=".join(map(str, it))))]
         with open(self.folder / "log", "ab") as log:
             self.process = subprocess.Popen([str(it) for it in words], cwd=self.folder, stdout=log, stderr=log, **self.user)
         wait_for(lambda: said([self.tools / "pg_isready", "-q", "-h", self.folder]).returncode == 0, "postgres doesn't answer", self.process)
-        if not self.has_table:
+        if is_first:
             self.run("CREATE ROLE web LOGIN")
             self.run(statements()[0])
-            self.has_table = True
 
     def run(self, statement):
         """What psql says of a statement."""
@@ -99,10 +110,9 @@ class Postgres:
         return ran.stdout.strip()
 
     def signalled(self, number):
-        """Signals the server, and then each process that it started, so that it starts no more after a stop or a kill."""
-        server = self.process.pid
+        """Signals each process that the server started, and the server, which is stopped before, so that it starts no more."""
         self.process.send_signal(signal.SIGSTOP)
-        started = Path(f"/proc/{server}/task/{server}/children").read_text().split()
+        started = Path(f"/proc/{self.process.pid}/task/{self.process.pid}/children").read_text().split()
         for it in started:
             with contextlib.suppress(ProcessLookupError):
                 os.kill(int(it), number)
@@ -113,8 +123,3 @@ class Postgres:
         started = self.signalled(signal.SIGKILL)
         self.process.wait()
         wait_for(lambda: not any(Path(f"/proc/{it}/exe").exists() for it in started), "a process of postgres goes on")
-
-    def close(self):
-        if self.process.poll() is None:
-            self.kill()
-        shutil.rmtree(self.folder)
