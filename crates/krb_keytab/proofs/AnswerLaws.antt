@@ -8,8 +8,8 @@ use Rattle.krb_name.specs.File.{file_limit}
 use Rattle.krb_keytab.specs.Format.{version, IsReached, IsAnswerOf}
 use Rattle.krb_keytab.specs.declared.fault.KeytabFault.{KeytabFault}
 use Rattle.krb_keytab.specs.declared.fault.KeytabFault.TheVariants.{Version, TooLong}
-use Rattle.krb_keytab.specs.declared.record.Record.{Record}
-use Rattle.krb_keytab.specs.declared.record.Record.TheVariants.{End, Hole, Entry}
+use Rattle.krb_keytab.specs.declared.found.Found.{Found}
+use Rattle.krb_keytab.specs.declared.found.Found.TheVariants.{End, Hole, Entry}
 use Rattle.krb_keytab.specs.Inner.Reading.{record_at}
 use Rattle.krb_keytab.proofs.FileLaws.{reach_start, start_fits, Goes, hole_goes, entry_goes, keytab_found, fault_found}
 
@@ -17,7 +17,7 @@ abbrev pub HasAnswer : List ℕ → Type 0
 HasAnswer bytes = (answer : Result (List KeytabEntry) KeytabFault) × IsAnswerOf bytes answer
 
 step : (bytes : List ℕ) (place : Place) (entries : List KeytabEntry) → length bytes ≤ file_limit → IsReached bytes place.at entries place.rest → IsBytes place.rest
-    → ((after : Place) (more : List KeytabEntry) → Goes bytes place more after → HasAnswer bytes) → (read : Result (Record × Place) KeytabFault) → record_at place ≡ read → HasAnswer bytes
+    → ((after : Place) (more : List KeytabEntry) → Goes bytes place more after → HasAnswer bytes) → (read : Result (Found KeytabEntry × Place) KeytabFault) → record_at place ≡ read → HasAnswer bytes
 step bytes place entries limit reached fits next (Ok (End, after)) e = (Ok entries, keytab_found bytes place after entries limit reached fits e)
 step bytes place entries limit reached fits next (Ok (Hole, after)) e = next after entries (hole_goes bytes place after entries reached fits e)
 step bytes place entries limit reached fits next (Ok (Entry one, after)) e = next after (entries ++ one ∷ []) (entry_goes bytes place after entries one reached fits e)

@@ -13,8 +13,8 @@ use Rattle.krb_name.specs.File.{file_limit}
 use Rattle.krb_keytab.specs.Format.{version, KeytabRecord, hole, entry, entry_bytes, record_bytes, FitsRecord, entries_of, IsReached, IsKeytab, IsCutOff, HoldsNoEntry, StandsAt, IsFaultOf}
 use Rattle.krb_keytab.specs.declared.fault.KeytabFault.{KeytabFault}
 use Rattle.krb_keytab.specs.declared.fault.KeytabFault.TheVariants.{Version, Truncated, BadEntry, TooLong, NoSuchEntry, Read, OutOfMemory}
-use Rattle.krb_keytab.specs.declared.record.Record.{Record}
-use Rattle.krb_keytab.specs.declared.record.Record.TheVariants.{End, Hole, Entry}
+use Rattle.krb_keytab.specs.declared.found.Found.{Found}
+use Rattle.krb_keytab.specs.declared.found.Found.TheVariants.{End, Hole, Entry}
 use Rattle.krb_keytab.specs.Inner.Reading.{record_at}
 use Rattle.krb_keytab.specs.Inner.Standing.{IsBetween, Stands}
 use Rattle.krb_keytab.proofs.RecordLaws.{standing, take_record}
@@ -42,26 +42,26 @@ reach_start bytes rest e = record { records = []; fit = All-from_recursion FitsR
 
 -- ---- one record
 
-abbrev read_one : Record × Place → Result (Record × Place) KeytabFault
+abbrev read_one : Found KeytabEntry × Place → Result (Found KeytabEntry × Place) KeytabFault
 read_one x = Ok x
 
-ok_is : (x y : Record × Place) → read_one x ≡ read_one y → x ≡ y
+ok_is : (x y : Found KeytabEntry × Place) → read_one x ≡ read_one y → x ≡ y
 ok_is x y e = cc
 
 pub same_standing : (one other : KeytabRecord) (p q : Place) → standing one p ≡ standing other q → (entries_of one ≡ entries_of other) × (p ≡ q)
-same_standing (hole x) (hole y) p q e = (refl, ap (λ (k : Record × Place). k.1) (ok_is (Hole, p) (Hole, q) e))
-same_standing (hole x) (entry f t r) p q e = absurd (hole_is_no_entry f (ap (λ (k : Record × Place). k.0) (ok_is (Hole, p) (Entry f, q) e)))
+same_standing (hole x) (hole y) p q e = (refl, ap (λ (k : Found KeytabEntry × Place). k.1) (ok_is (Hole, p) (Hole, q) e))
+same_standing (hole x) (entry f t r) p q e = absurd (hole_is_no_entry f (ap (λ (k : Found KeytabEntry × Place). k.0) (ok_is (Hole, p) (Entry f, q) e)))
   where
-    hole_is_no_entry : (f : KeytabEntry) → (let x : Record = Hole in x) ≡ Entry f → ⊥
+    hole_is_no_entry : (f : KeytabEntry) → (let x : Found KeytabEntry = Hole in x) ≡ Entry f → ⊥
     hole_is_no_entry f e = cc
-same_standing (entry d s r) (hole y) p q e = absurd (entry_is_no_hole d (ap (λ (k : Record × Place). k.0) (ok_is (Entry d, p) (Hole, q) e)))
+same_standing (entry d s r) (hole y) p q e = absurd (entry_is_no_hole d (ap (λ (k : Found KeytabEntry × Place). k.0) (ok_is (Entry d, p) (Hole, q) e)))
   where
-    entry_is_no_hole : (d : KeytabEntry) → Entry d ≡ (let x : Record = Hole in x) → ⊥
+    entry_is_no_hole : (d : KeytabEntry) → Entry d ≡ (let x : Found KeytabEntry = Hole in x) → ⊥
     entry_is_no_hole d e = cc
 same_standing (entry d s r) (entry f t u) p q e =
-    (same_entries d f (ap (λ (k : Record × Place). k.0) (ok_is (Entry d, p) (Entry f, q) e)), ap (λ (k : Record × Place). k.1) (ok_is (Entry d, p) (Entry f, q) e))
+    (same_entries d f (ap (λ (k : Found KeytabEntry × Place). k.0) (ok_is (Entry d, p) (Entry f, q) e)), ap (λ (k : Found KeytabEntry × Place). k.1) (ok_is (Entry d, p) (Entry f, q) e))
   where
-    same_entries : (d f : KeytabEntry) → (let x : Record = Entry d in x) ≡ Entry f → d ∷ [] ≡ f ∷ []
+    same_entries : (d f : KeytabEntry) → (let x : Found KeytabEntry = Entry d in x) ≡ Entry f → d ∷ [] ≡ f ∷ []
     same_entries d f e = cc
 
 -- ---- what lies behind
@@ -94,7 +94,7 @@ between_goes bytes place after entries more reached between = record {
   smaller = omega (arith, record_first between.one, ap length between.takes.parts, length-append (record_bytes between.one) after.rest);
 }
 
-pub read_stands : (place : Place) (read : Result (Record × Place) KeytabFault) → IsBytes place.rest → record_at place ≡ read → Stands place read
+pub read_stands : (place : Place) (read : Result (Found KeytabEntry × Place) KeytabFault) → IsBytes place.rest → record_at place ≡ read → Stands place read
 read_stands place read fits e = subst (Stands place) e (take_record place fits)
 
 pub hole_goes : (bytes : List ℕ) (place after : Place) (entries : List KeytabEntry) → IsReached bytes place.at entries place.rest → IsBytes place.rest → record_at place ≡ Ok (Hole, after) → Goes bytes place entries after

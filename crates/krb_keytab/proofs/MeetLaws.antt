@@ -205,7 +205,7 @@ fills_within from to old new count answer f = came_within answer count f.piece t
 
 -- ---- a record
 
-pub record_met : {S : Type 0} (from mid to : Option (List ℕ)) (old between new : AtHand S) (at : ℕ) (size : ℤ) (answer : Result Found KeytabFault) → MeetsSizeAt from mid old between (Ok (Some size)) → at ≡ old.given
+pub record_met : {S : Type 0} (from mid to : Option (List ℕ)) (old between new : AtHand S) (at : ℕ) (size : ℤ) (answer : Result (Found Unit) KeytabFault) → MeetsSizeAt from mid old between (Ok (Some size)) → at ≡ old.given
     → MeetsBody mid to between new at (to_z w32 (of_z w32 size)) answer → MeetsOne from to old new answer
 record_met from mid to old between new at size answer first is handed =
     let behind = subst (λ (z : ℤ). MeetsBody mid to between new at z answer) (to_z-of_z w32 size first.meets.fits) handed in

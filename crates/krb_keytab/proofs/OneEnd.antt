@@ -11,8 +11,8 @@ use Rattle.krb_name.specs.File.{file_limit}
 use Rattle.krb_keytab.specs.Format.{version, KeytabRecord, hole, entry, entry_bytes, record_bytes, FitsRecord, entries_of, IsReached, IsEnd, IsCutOff, HoldsNoEntry, IsKeytab, IsFaultOf, IsAnswerOf}
 use Rattle.krb_keytab.specs.declared.fault.KeytabFault.{KeytabFault}
 use Rattle.krb_keytab.specs.declared.fault.KeytabFault.TheVariants.{Version, Truncated, BadEntry, TooLong, NoSuchEntry, Read, OutOfMemory}
-use Rattle.krb_keytab.specs.declared.record.Record.{Record}
-use Rattle.krb_keytab.specs.declared.record.Record.TheVariants.{End, Hole, Entry}
+use Rattle.krb_keytab.specs.declared.found.Found.{Found}
+use Rattle.krb_keytab.specs.declared.found.Found.TheVariants.{End, Hole, Entry}
 use Rattle.krb_keytab.specs.Inner.Entry.{entry_at}
 use Rattle.krb_keytab.specs.Inner.Reading.{record_at, entry_in}
 use Rattle.krb_keytab.proofs.RecordLaws.{standing, again_record, again_end, again_cut, body_again}
@@ -26,7 +26,7 @@ Ends at behind entries (Err (Truncated place)) = (place ≡ at) × IsCutOff behi
 Ends at behind entries (Err (BadEntry place)) = (place ≡ at) × HoldsNoEntry behind
 Ends at behind entries (Err _) = ⊥
 
-abbrev answer_of : Result (Record × Place) KeytabFault → Result (Record × Place) KeytabFault
+abbrev answer_of : Result (Found KeytabEntry × Place) KeytabFault → Result (Found KeytabEntry × Place) KeytabFault
 answer_of answer = answer
 
 -- ---- what is read there
@@ -34,12 +34,12 @@ answer_of answer = answer
 bad_read : (at : ℕ) (behind : List ℕ) (h : HoldsNoEntry behind) → record_at (record { at = at; rest = behind }) ≡ entry_in at (record { at = (at + 4) + length h.body; rest = h.others }) (entry_at h.body)
 bad_read at behind h = ap (λ (t : List ℕ). record_at (record { at = at; rest = t })) h.behind_is ∙ body_again at h.body h.others h.size h.size_fits
 
-not_so : (at : ℕ) (after : Place) (read : Option KeytabEntry) (kind : Record) (place : Place) → ((e : KeytabEntry) → kind ≡ Entry e → ⊥) → entry_in at after read ≡ Ok (kind, place) → ⊥
+not_so : (at : ℕ) (after : Place) (read : Option KeytabEntry) (kind : Found KeytabEntry) (place : Place) → ((e : KeytabEntry) → kind ≡ Entry e → ⊥) → entry_in at after read ≡ Ok (kind, place) → ⊥
 not_so at after None kind place other e = absurd cc
 not_so at after (Some made) kind place other e = other made (sym (kind_is (Entry made, after) (kind, place) e))
   where
-    kind_is : (x y : Record × Place) → answer_of (Ok x) ≡ answer_of (Ok y) → x.0 ≡ y.0
-    kind_is x y e = let same : x ≡ y = cc in ap (λ (k : Record × Place). k.0) same
+    kind_is : (x y : Found KeytabEntry × Place) → answer_of (Ok x) ≡ answer_of (Ok y) → x.0 ≡ y.0
+    kind_is x y e = let same : x ≡ y = cc in ap (λ (k : Found KeytabEntry × Place). k.0) same
 
 not_cut : (at place : ℕ) (after : Place) (read : Option KeytabEntry) → entry_in at after read ≡ Err (Truncated place) → ⊥
 not_cut at place after None e = absurd cc
@@ -47,24 +47,24 @@ not_cut at place after (Some made) e = absurd cc
 
 place_is : (at : ℕ) (after : Place) (read : Option KeytabEntry) (e : KeytabEntry) (place : Place) → entry_in at after read ≡ Ok (Entry e, place) → after ≡ place
 place_is at after None e place q = absurd cc
-place_is at after (Some made) e place q = let same : (let x : Record × Place = (Entry made, after) in x) ≡ (Entry e, place) = cc in ap (λ (k : Record × Place). k.1) same
+place_is at after (Some made) e place q = let same : (let x : Found KeytabEntry × Place = (Entry made, after) in x) ≡ (Entry e, place) = cc in ap (λ (k : Found KeytabEntry × Place). k.1) same
 
-ok_or_err : (x : Record × Place) (fault : KeytabFault) → answer_of (Ok x) ≡ Err fault → ⊥
+ok_or_err : (x : Found KeytabEntry × Place) (fault : KeytabFault) → answer_of (Ok x) ≡ Err fault → ⊥
 ok_or_err x fault e = cc
 
 -- ---- no record stands where the records end
 
-end_is_no_hole : (let x : Record = End in x) ≡ Hole → ⊥
+end_is_no_hole : (let x : Found KeytabEntry = End in x) ≡ Hole → ⊥
 end_is_no_hole e = cc
 
-end_is_no_entry : (e : KeytabEntry) → (let x : Record = End in x) ≡ Entry e → ⊥
+end_is_no_entry : (e : KeytabEntry) → (let x : Found KeytabEntry = End in x) ≡ Entry e → ⊥
 end_is_no_entry e q = cc
 
-hole_is_no_entry : (e : KeytabEntry) → (let x : Record = Hole in x) ≡ Entry e → ⊥
+hole_is_no_entry : (e : KeytabEntry) → (let x : Found KeytabEntry = Hole in x) ≡ Entry e → ⊥
 hole_is_no_entry e q = cc
 
-kind_of : (x y : Record × Place) → answer_of (Ok x) ≡ answer_of (Ok y) → x.0 ≡ y.0
-kind_of x y e = let same : x ≡ y = cc in ap (λ (k : Record × Place). k.0) same
+kind_of : (x y : Found KeytabEntry × Place) → answer_of (Ok x) ≡ answer_of (Ok y) → x.0 ≡ y.0
+kind_of x y e = let same : x ≡ y = cc in ap (λ (k : Found KeytabEntry × Place). k.0) same
 
 no_end : (one : KeytabRecord) (x : List ℕ) → FitsRecord one → IsEnd (record_bytes one ++ x) → ⊥
 no_end (hole i) x fits end = let r = again_end 0 (record_bytes (hole i) ++ x) end in end_is_no_hole (sym (kind_of (Hole, _) (End, r.0) (sym (again_record 0 (hole i) x fits) ∙ r.1)))

@@ -11,8 +11,8 @@ use Rattle.krb_keytab.specs.Entry.{KeytabEntry}
 use Rattle.krb_keytab.specs.Format.{version, KeytabRecord, hole, entry, entry_bytes, record_bytes, FitsRecord, entries_of, IsEnd}
 use Rattle.krb_keytab.specs.Edit.{IsMadeOf}
 use Rattle.krb_keytab.specs.declared.fault.KeytabFault.{KeytabFault}
-use Rattle.krb_keytab.specs.declared.record.Record.{Record}
-use Rattle.krb_keytab.specs.declared.record.Record.TheVariants.{End, Hole, Entry}
+use Rattle.krb_keytab.specs.declared.found.Found.{Found}
+use Rattle.krb_keytab.specs.declared.found.Found.TheVariants.{End, Hole, Entry}
 use Rattle.krb_keytab.specs.Inner.Reading.{record_at}
 use Rattle.krb_keytab.proofs.RecordLaws.{standing, again_record, again_end}
 use Rattle.krb_keytab.proofs.FileLaws.{same_standing}
@@ -75,20 +75,20 @@ same_record (entry d s r) (entry f t w) p q e b =
 
 -- ---- all records
 
-abbrev answer_of : Result (Record × Place) KeytabFault → Result (Record × Place) KeytabFault
+abbrev answer_of : Result (Found KeytabEntry × Place) KeytabFault → Result (Found KeytabEntry × Place) KeytabFault
 answer_of answer = answer
 
-kind_is : (x y : Record × Place) → answer_of (Ok x) ≡ answer_of (Ok y) → x.0 ≡ y.0
-kind_is x y e = let same : x ≡ y = cc in ap (λ (k : Record × Place). k.0) same
+kind_is : (x y : Found KeytabEntry × Place) → answer_of (Ok x) ≡ answer_of (Ok y) → x.0 ≡ y.0
+kind_is x y e = let same : x ≡ y = cc in ap (λ (k : Found KeytabEntry × Place). k.0) same
 
 not_end : (one : KeytabRecord) (p q : Place) → standing one p ≡ Ok (End, q) → ⊥
 not_end (hole x) p q e = hole_is_no_end (kind_is (Hole, p) (End, q) e)
   where
-    hole_is_no_end : (let x : Record = Hole in x) ≡ End → ⊥
+    hole_is_no_end : (let x : Found KeytabEntry = Hole in x) ≡ End → ⊥
     hole_is_no_end e = cc
 not_end (entry d s r) p q e = entry_is_no_end d (kind_is (Entry d, p) (End, q) e)
   where
-    entry_is_no_end : (d : KeytabEntry) → (let x : Record = Entry d in x) ≡ End → ⊥
+    entry_is_no_end : (d : KeytabEntry) → (let x : Found KeytabEntry = Entry d in x) ≡ End → ⊥
     entry_is_no_end d e = cc
 
 pub first_is : (one : KeytabRecord) (ones : List KeytabRecord) (b : List ℕ) → flat_map record_bytes (one ∷ ones) ++ b ≡ record_bytes one ++ (flat_map record_bytes ones ++ b)

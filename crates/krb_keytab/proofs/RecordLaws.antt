@@ -12,8 +12,8 @@ use Rattle.krb_keytab.specs.Entry.{KeytabEntry}
 use Rattle.krb_keytab.specs.Format.{entry_bytes, IsEntry, KeytabRecord, hole, entry, record_bytes, FitsRecord, IsEnd, IsCutOff}
 use Rattle.krb_keytab.specs.declared.fault.KeytabFault.{KeytabFault}
 use Rattle.krb_keytab.specs.declared.fault.KeytabFault.TheVariants.{Truncated}
-use Rattle.krb_keytab.specs.declared.record.Record.{Record}
-use Rattle.krb_keytab.specs.declared.record.Record.TheVariants.{End, Hole, Entry}
+use Rattle.krb_keytab.specs.declared.found.Found.{Found}
+use Rattle.krb_keytab.specs.declared.found.Found.TheVariants.{End, Hole, Entry}
 use Rattle.krb_keytab.specs.Inner.Entry.{entry_at}
 use Rattle.krb_keytab.specs.Inner.Reading.{record_at, size_in, sized_at, hole_in, body_in, entry_in}
 use Rattle.krb_keytab.specs.Inner.Standing.{Stands}
@@ -112,7 +112,7 @@ take_record place fits = first_stands place (eqb (length place.rest) 0) refl fit
 -- ---- what stands at a place is read
 
 -- what is read of a record, and the place behind it
-abbrev pub standing : KeytabRecord → Place → Result (Record × Place) KeytabFault
+abbrev pub standing : KeytabRecord → Place → Result (Found KeytabEntry × Place) KeytabFault
 standing (hole ignored) behind = Ok (Hole, behind)
 standing (entry e short_kvno rest) behind = Ok (Entry e, behind)
 

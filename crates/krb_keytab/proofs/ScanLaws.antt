@@ -15,7 +15,7 @@ use Rattle.krb_keytab.specs.Inner.Finding.{LiesAt, IsFoundEntry, HasRoom}
 use Rattle.krb_keytab.specs.Inner.Reading.{record_at}
 use Rattle.krb_keytab.specs.declared.fault.KeytabFault.{KeytabFault}
 use Rattle.krb_keytab.specs.declared.finding.Extent.{Extent}
-use Rattle.krb_keytab.specs.declared.record.Record.TheVariants.{End, Hole, Entry}
+use Rattle.krb_keytab.specs.declared.found.Found.TheVariants.{End, Hole, Entry}
 use Rattle.krb_keytab.proofs.FileLaws.{start_fits, read_stands, record_first, fault_found}
 use Rattle.krb_keytab.proofs.MadeLaws.{made_keytab}
 

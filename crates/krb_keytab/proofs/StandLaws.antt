@@ -205,7 +205,7 @@ passes_hole from mid to old between new h m = record {
       (met_record (bytes ++ h.piece) m.piece entries between.peak new.peak (h.reaches bytes entries given reached) m.peaks (h.met bytes entries given reached was));
 }
 
-next_by : {S : Type 0} (from mid to : Option (List ℕ)) (old between new : AtHand S) (found : Result Found KeytabFault) (answer : Result (Option KeytabEntry) KeytabFault) (P : ℕ → Type 0) → PassesHoles from mid old between → (m : MeetsOne mid to between new found) → P between.given
+next_by : {S : Type 0} (from mid to : Option (List ℕ)) (old between new : AtHand S) (found : Result (Found Unit) KeytabFault) (answer : Result (Option KeytabEntry) KeytabFault) (P : ℕ → Type 0) → PassesHoles from mid old between → (m : MeetsOne mid to between new found) → P between.given
     → IsWithin (stage_after answer) new.given → GivesMore answer old.given new.given
     → ((some : List ℕ) (entries : List KeytabEntry) → IsReached some (length some) entries [] → length some ≤ file_limit → P (length some) → StandsTo to new.peak (stage_after answer) (some ++ m.piece) (entries_after entries answer))
     → MeetsNext from to old new answer
@@ -229,12 +229,12 @@ next_by from mid to old between new found answer P h m meets within more ends = 
 pub next_end : {S : Type 0} (from mid to : Option (List ℕ)) (old between new : AtHand S) → PassesHoles from mid old between → MeetsOne mid to between new (Ok End) → MeetsNext from to old new (Ok None)
 next_end from mid to old between new h m = next_by from mid to old between new (Ok End) (Ok None) (λ (n : ℕ). MeetsLast to n m.piece None) h m m.meets tt tt (λ some entries reached limit meets. end_stands some entries reached to new.peak m.piece meets)
 
-pub next_entry : {S : Type 0} (from mid to : Option (List ℕ)) (old between new : AtHand S) → PassesHoles from mid old between → (m : MeetsOne mid to between new (Ok Entry)) → MeetsNext from to old new (Ok (Some m.meets.0))
+pub next_entry : {S : Type 0} (from mid to : Option (List ℕ)) (old between new : AtHand S) → PassesHoles from mid old between → (m : MeetsOne mid to between new (Ok (Entry tt))) → MeetsNext from to old new (Ok (Some m.meets.0))
 next_entry from mid to old between new h m =
     let e = m.meets.0 in
     let room : length m.piece ≤ 4 + new.peak = m.meets.2 in
     let whole : IsWhole between.given m.piece (e ∷ []) = m.meets.3 in
-    next_by from mid to old between new (Ok Entry) (Ok (Some e)) (λ (n : ℕ). IsWhole n m.piece (e ∷ [])) h m whole (omega (arith, whole.limit, m.moves.given))
+    next_by from mid to old between new (Ok (Entry tt)) (Ok (Some e)) (λ (n : ℕ). IsWhole n m.piece (e ∷ [])) h m whole (omega (arith, whole.limit, m.moves.given))
     (omega (arith, m.moves.given, h.moves.given, ap length whole.piece_is, record_first whole.one), omega (arith, whole.limit, m.moves.given)) (λ some entries reached limit meets. entry_stands some entries reached to new.peak m.piece e room meets)
 
 pub next_fault : {S : Type 0} (from mid to : Option (List ℕ)) (old between new : AtHand S) (fault : KeytabFault) → PassesHoles from mid old between → MeetsOne mid to between new (Err fault) → MeetsNext from to old new (Err fault)

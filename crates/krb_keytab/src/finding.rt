@@ -6,9 +6,9 @@ ghost use Rattle.krb_keytab.specs.Format.{IsFaultOf};
 ghost use Rattle.krb_keytab.specs.Inner.Finding.{IsFoundEntry, IsFoundRoom};
 
 use crate::fault::KeytabFault;
+use crate::found::Found;
 use crate::next::next_record;
 use crate::opening::open;
-use crate::record::Record;
 
 /// Where a record lies in a file: the offset of its size, and the offset after its last byte.
 #[derive(Drop)]
@@ -40,9 +40,9 @@ pub(crate) fn find_entry(bytes: &[u8], index: usize) -> Result<Option<Extent>, K
     'each_record: loop {
         let from = cursor.at();
         match next_record(&mut cursor)? {
-            Record::End => return Ok(found),
-            Record::Hole => {}
-            Record::Entry(_) => {
+            Found::End => return Ok(found),
+            Found::Hole => {}
+            Found::Entry(_) => {
                 if count == index {
                     found = Some(Extent {
                         from,
@@ -68,14 +68,14 @@ pub(crate) fn find_room(bytes: &[u8], size: usize) -> Result<Room, KeytabFault>
     loop {
         let from = cursor.at();
         match next_record(&mut cursor)? {
-            Record::End => {
+            Found::End => {
                 return match hole {
                     Some(place) => Ok(Room::Hole(place)),
                     None => Ok(Room::End(from)),
                 };
             }
-            Record::Entry(_) => {}
-            Record::Hole => {
+            Found::Entry(_) => {}
+            Found::Hole => {
                 let to = cursor.at();
                 if hole.is_none() && size <= to - from {
                     hole = Some(Extent { from, to });

@@ -13,11 +13,11 @@ ghost use Rattle.krb_keytab.specs.Written.{written};
 
 use crate::entry::Entry;
 use crate::fault::KeytabFault;
+use crate::found::Found;
 use crate::index::{NameIndex, renew};
 use crate::next::next_record;
 use crate::opening::{VERSION, open};
 use crate::pick::{Picked, pick_each, pick_indexed};
-use crate::record::Record;
 use crate::step::read_entries;
 use crate::writing::put_record;
 use krb_name::{FILE_LIMIT, Principal, Source, Window};
@@ -128,9 +128,9 @@ impl Keytab {
         let mut entries = Vec::new(alloc);
         loop {
             match next_record(&mut cursor)? {
-                Record::End => return Ok(Keytab::of_entries(alloc, entries)?),
-                Record::Hole => {}
-                Record::Entry(entry) => entries.push(entry.to_entry(alloc)?)?,
+                Found::End => return Ok(Keytab::of_entries(alloc, entries)?),
+                Found::Hole => {}
+                Found::Entry(entry) => entries.push(entry.to_entry(alloc)?)?,
             }
         }
     }

@@ -28,7 +28,6 @@ mod next;
 mod opening;
 mod pick;
 mod reader;
-mod record;
 mod stage;
 mod step;
 mod usable;

@@ -4,7 +4,7 @@ ghost use Rattle.std.specs.Prelude.{◌≡◌, Ok, Err, MatchResult};
 ghost use Rattle.krb_keytab.specs.Inner.Reading.{record_at};
 
 use crate::fault::KeytabFault;
-use crate::record::Record;
+use crate::found::Found;
 use crate::view::EntryView;
 use krb_name::{FileCursor, Short};
 
@@ -13,29 +13,31 @@ use krb_name::{FileCursor, Short};
 /// # Errors
 /// `Truncated` or `BadEntry`, with the offset at which the cursor was.
 #[tactic(auto, unfolding(crate::specs::Inner::Reading::record_at))]
-pub(crate) fn next_record<'a>(cursor: &mut FileCursor<'a>) -> Result<Record<'a>, KeytabFault>
+pub(crate) fn next_record<'a>(
+    cursor: &mut FileCursor<'a>,
+) -> Result<Found<EntryView<'a>>, KeytabFault>
     ensures { MatchResult result
         (λ found. record_at cursor.old ≡ Ok (found, cursor.new))
         (λ fault. record_at cursor.old ≡ Err fault) }
 {
     let at = cursor.at();
     if cursor.is_at_end() {
-        return Ok(Record::End);
+        return Ok(Found::End);
     }
     let Ok(size) = cursor.read_i32() else {
         return Err(KeytabFault::Truncated { at });
     };
     if size == 0 {
-        return Ok(Record::End);
+        return Ok(Found::End);
     }
     let Ok(body) = cursor.read_bytes(size.unsigned_abs() as usize) else {
         return Err(KeytabFault::Truncated { at });
     };
     if size < 0 {
-        return Ok(Record::Hole);
+        return Ok(Found::Hole);
     }
     match EntryView::read(body) {
-        Ok(entry) => Ok(Record::Entry(entry)),
+        Ok(entry) => Ok(Found::Entry(entry)),
         Err(Short) => Err(KeytabFault::BadEntry { at }),
     }
 }

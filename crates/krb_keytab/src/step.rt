@@ -105,12 +105,12 @@ pub(crate) fn pass_entry<S: Source>(window: &mut Window<S>) -> Result<bool, Keyt
         match read_record(window)? {
             Found::End => return Ok(false),
             Found::Hole => {}
-            Found::Entry => return Ok(true),
+            Found::Entry(()) => return Ok(true),
         }
     }
 }
 
-fn read_record<S: Source>(window: &mut Window<S>) -> Result<Found, KeytabFault>
+fn read_record<S: Source>(window: &mut Window<S>) -> Result<Found<()>, KeytabFault>
     requires reads { S.failure_count window.old.source < 2 ^ 64 - 1 }
     requires limit { window.old.given ≤ file_limit }
     ensures meets { MeetsOne (S.remaining window.old.source) (S.remaining window.new.source)
@@ -184,7 +184,11 @@ fn size_of(bytes: &[u8]) -> Result<i32, Short>
 }
 
 // Takes the bytes of a hole, after its size.
-fn pass_hole<S: Source>(window: &mut Window<S>, at: usize, size: i32) -> Result<Found, KeytabFault>
+fn pass_hole<S: Source>(
+    window: &mut Window<S>,
+    at: usize,
+    size: i32,
+) -> Result<Found<()>, KeytabFault>
     requires reads { S.failure_count window.old.source < 2 ^ 64 - 1 }
     requires limit { window.old.given ≤ file_limit }
     requires at { window.old.given ≡ at + 4 }
@@ -208,7 +212,11 @@ fn pass_hole<S: Source>(window: &mut Window<S>, at: usize, size: i32) -> Result<
 }
 
 // Reads the bytes of an entry, after their size.
-fn read_body<S: Source>(window: &mut Window<S>, at: usize, size: i32) -> Result<Found, KeytabFault>
+fn read_body<S: Source>(
+    window: &mut Window<S>,
+    at: usize,
+    size: i32,
+) -> Result<Found<()>, KeytabFault>
     requires reads { S.failure_count window.old.source < 2 ^ 64 - 1 }
     requires limit { window.old.given ≤ file_limit }
     requires at { window.old.given ≡ at + 4 }
@@ -230,7 +238,7 @@ fn read_body<S: Source>(window: &mut Window<S>, at: usize, size: i32) -> Result<
         return Err(KeytabFault::Truncated { at });
     }
     match has_entry(window.bytes()) {
-        Ok(()) => Ok(Found::Entry),
+        Ok(()) => Ok(Found::Entry(())),
         Err(Short) => conclude(window, Err(KeytabFault::BadEntry { at })),
     }
 }

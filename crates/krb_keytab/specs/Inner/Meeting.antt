@@ -93,13 +93,13 @@ MeetsLast left at piece (Some OutOfMemory) = ⊤
 MeetsLast left at piece last = IsLastAt left at piece last
 
 -- a record that begins there; the bytes of an entry, behind its size, are at hand, and the peak counts them
-abbrev pub Meets : Option (List ℕ) → ℕ → List ℕ → ℕ → List ℕ → Result Found KeytabFault → Type 0
+abbrev pub Meets : Option (List ℕ) → ℕ → List ℕ → ℕ → List ℕ → Result (Found Unit) KeytabFault → Type 0
 Meets left at piece peak at_hand (Ok End) = MeetsLast left at piece None
 Meets left at piece peak at_hand (Ok Hole) = IsWhole at piece []
-Meets left at piece peak at_hand (Ok Entry) = (e : KeytabEntry) × (entry_at at_hand ≡ Some e) × (length piece ≤ 4 + peak) × IsWhole at piece (e ∷ [])
+Meets left at piece peak at_hand (Ok (Entry unit)) = (e : KeytabEntry) × (entry_at at_hand ≡ Some e) × (length piece ≤ 4 + peak) × IsWhole at piece (e ∷ [])
 Meets left at piece peak at_hand (Err fault) = MeetsLast left at piece (Some fault)
 
-pub record MeetsOne {S : Type 0} (from to : Option (List ℕ)) (old new : AtHand S) (answer : Result Found KeytabFault) : Type 0 where
+pub record MeetsOne {S : Type 0} (from to : Option (List ℕ)) (old new : AtHand S) (answer : Result (Found Unit) KeytabFault) : Type 0 where
   pub piece : List ℕ
   pub moves : Moves from to old new piece
   pub peaks : Peaks IsPartOfRecord piece old.peak new.peak
@@ -137,7 +137,7 @@ abbrev pub kept_of : ℤ → ℕ
 kept_of (pos n) = n
 kept_of (negsuc n) = 0
 
-pub record MeetsBody {S : Type 0} (from to : Option (List ℕ)) (old new : AtHand S) (at : ℕ) (size : ℤ) (answer : Result Found KeytabFault) : Type 0 where
+pub record MeetsBody {S : Type 0} (from to : Option (List ℕ)) (old new : AtHand S) (at : ℕ) (size : ℤ) (answer : Result (Found Unit) KeytabFault) : Type 0 where
   pub piece : List ℕ
   pub moves : Moves from to old new piece
   pub peaks : Peaks (λ part. length part ≤ kept_of size) piece old.peak new.peak
