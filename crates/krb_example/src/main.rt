@@ -6,7 +6,7 @@ use krb_ap::{Acceptor, ReplyOptions, RequestOptions, make_request};
 use krb_ccache::CCache;
 use krb_enc::Key;
 use krb_keytab::{Keytab, Picked};
-use krb_msg::{ApReqRef, Moment};
+use krb_msg::{ApReqRef, Moment, usage};
 use krb_name::{Principal, ReadSource};
 use krb_replay::{Skew, TimedMemory};
 use std::alloc::Global;
@@ -21,8 +21,7 @@ fn opened_ticket(alloc: Global, keytab: &Keytab, request: &[u8]) -> Result<Vec<u
     match keytab.pick(&service, sealed.etype, sealed.kvno) {
         Picked::Entry(entry) => {
             let key = Key::new(sealed.etype, entry.key())?;
-            // 2 is the key usage of tickets.
-            Ok(key.open(alloc, 2, sealed.cipher)?)
+            Ok(key.open(alloc, usage::TICKET, sealed.cipher)?)
         }
         _ => Err(anyhow!("the keytab has no key for this ticket")),
     }
