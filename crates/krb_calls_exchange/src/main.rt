@@ -140,6 +140,7 @@ fn laws(out: &mut Answer) -> Option<()> {
     krb_ap::laws::no_stamp_twice_in_a_life();
     krb_ap::laws::accepted_has_its_stamp();
     krb_ap::laws::a_store_lets_in_once();
+    krb_ap::laws::built_is_let_in();
     krb_ap::laws::both_agree();
     krb_replay::laws::a_set_has_one_size();
     krb_replay::laws::bytes_are_the_stamps();
