@@ -22,12 +22,16 @@ KEYTAB = b"\x05\x02" + struct.pack(">i", -0x7fffffff)
 CACHE = (generated.EXAMPLES / "client.ccache").read_bytes()
 LONG = CACHE[:-4] + struct.pack(">I", 0x7fffffff)
 SERVICE = "host/web.example.com@EXAMPLE.COM"
+OTHER = str(generated.EXAMPLES / "service.keytab")
 AT = ["--time", "1700000000", "--usec", "0"]
 COMMANDS = (
     (KEYTAB, ["list-keytab", "f"]),
     (KEYTAB, ["check-keytab", "f"]),
     (KEYTAB, ["convert-keytab", "f", "out"]),
     (KEYTAB, ["pick-key", "f", SERVICE, "19"]),
+    (KEYTAB, ["remove-key", "f", "out", "0"]),
+    (KEYTAB, ["add-keys", "f", OTHER, "out"]),
+    (KEYTAB, ["add-keys", OTHER, "f", "out"]),
     (KEYTAB, ["accept", "f"]),
     (LONG, ["list-ccache", "f"]),
     (LONG, ["check-ccache", "f"]),

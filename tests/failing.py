@@ -32,13 +32,16 @@ def answers_to(command, reads):
     return b"".join(command.wrote.splitlines(keepends=True)[:came])
 
 
-def is_unread(command, found, failed, reads_of_file):
-    """Whether the run is that of a failed read: of the file, or of standard input."""
+def is_unread(command, found, failed):
+    """Whether the run is that of a failed read: of a file, or of standard input."""
     if found.status != 3:
         return False
-    if failed <= reads_of_file:
-        return found.said == "krbtool: f: Read\n" and not found.wrote and found.out == (OLD if command.out == OLD else b"")
-    wrote = answers_to(command, failed - reads_of_file - 1)
+    # each file is read once more, to find its end
+    files = "ff" if command.other is None else "ffgg"
+    if failed <= len(files):
+        said = f"krbtool: {files[failed - 1]}: Read\n"
+        return found.said == said and not found.wrote and found.out == (OLD if command.out == OLD else b"")
+    wrote = answers_to(command, failed - len(files) - 1)
     return found.said == "krbtool: input: Read\n" and found.wrote == wrote and found.out == OLD
 
 
@@ -59,8 +62,7 @@ def is_right(command, call, how, lasting, failed, found):
     if lasting and call == "write":
         # no fault's line can be written then
         return found.status == 3 and not found.said and command.wrote.startswith(found.wrote) and command.out.startswith(found.out)
-    # a file is read once more, to find its end
-    return is_unread(command, found, failed, 2) if call == "read" else is_unwritten(command, found)
+    return is_unread(command, found, failed) if call == "read" else is_unwritten(command, found)
 
 
 def swept(program, command, call, how, lasting, preloaded):

@@ -5,6 +5,7 @@ Each check is a pair: its name, and what is wrong, or None.
 import os
 import subprocess
 import tempfile
+from itertools import product
 from pathlib import Path
 
 import generated
@@ -64,6 +65,25 @@ def keytab_checks(program, folder):
         yield f"ktutil on the converted {name}", None if found == [it[:3] for it in wanted] else f"it lists {found}"
 
 
+def keys_of(path):
+    """Key version number, principal, enctype and key of each entry, without its time, as klist prints them."""
+    return [(it[0], *it[3:6]) for it in listed_by_klist(path)]
+
+
+def added_checks(program, folder):
+    """The keys of a keytab added to another are those that ktutil puts into one from both, and none is there more often than before."""
+    for (name, data), (other, keys) in product(keytabs(), repeat=2):
+        one, two, made, merged = (folder / f"added.{word}" for word in ("one", "two", "made", "merged"))
+        one.write_bytes(data)
+        two.write_bytes(keys)
+        merged.unlink(missing_ok=True)
+        ran([program, "add-keys", str(one), str(two), str(made)])
+        ran(["ktutil"], input=f"read_kt {one}\nread_kt {two}\nwrite_kt {merged}\nquit\n")
+        found, held, theirs = keys_of(made), keys_of(one), keys_of(merged)
+        wanted = sorted([*held, *(set(theirs) - set(held))])
+        yield f"ktutil's keys of {name} and of {other}", None if sorted(found) == wanted else f"it has {found}, not {wanted}"
+
+
 def listed_caches(path):
     """What klist prints of a cache: its principal, and the times and the service of each ticket."""
     return ran(["klist", "-e", "-f", "-c", f"FILE:{path}"], env={**os.environ, "TZ": "UTC"}).splitlines()[1:]
@@ -87,6 +107,7 @@ def checks(program):
     with tempfile.TemporaryDirectory(prefix="krbtool-peers-") as folder:
         try:
             yield from keytab_checks(program, Path(folder))
+            yield from added_checks(program, Path(folder))
             yield from cache_checks(program, Path(folder))
         except (RuntimeError, StopIteration) as error:
             yield "a tool of krb5-user", str(error)

@@ -8,6 +8,9 @@ from pathlib import Path
 
 import drawn_files
 import generated
+import generated_edits
+import reference
+from generated_exchange import entry
 
 HERE = Path(__file__).resolve().parent
 sys.path.append(str(HERE / "vectors"))
@@ -17,18 +20,21 @@ OLD = b"what OUT held"
 ALL = 1_000_000
 SECONDS = 60
 TAILS = ("--service", "host/web@EX")
+# A key that no hole of the examples is long enough for.
+LONG = entry([b"host", b"w" * 300], 7, 20, bytes(range(32)))
 
 
 @dataclass
 class Command:
     """A command's words; the bytes of its file and of standard input; what it writes where all goes well, on standard output (None where
-    that is clap's text) and into OUT; and its status then."""
+    that is clap's text) and into OUT; its status then; and the bytes of a second file, if it has one."""
     words: list
     file: bytes
     stdin: bytes
     wrote: bytes
     out: bytes
     status: int = 0
+    other: bytes | None = None
 
 
 @dataclass
@@ -56,6 +62,7 @@ def file_commands():
     yield finished()
     yield picked()
     yield removed(keytab)
+    yield added(keytab)
 
 
 def requested():
@@ -79,6 +86,13 @@ def removed(keytab):
     return Command("remove-key f out 2".split(), keytab, b"", f"wrote {len(made)}\n".encode(), made)
 
 
+def added(keytab):
+    """Two keys are added to a keytab with a hole: one fits, the other comes last."""
+    others = (generated.EXAMPLES / "service.keytab").read_bytes() + reference.record_of(LONG)
+    made = generated_edits.extended(keytab, others)
+    return Command("add-keys f g out".split(), keytab, b"", f"wrote {len(made)}\n".encode(), made, other=others)
+
+
 def called(lines, *more):
     """The command accept over these lines. What it answers is not known yet."""
     return Command(["accept", "f", *more], (generated.EXAMPLES / "service.keytab").read_bytes(), b"".join(lines), None, OLD)
@@ -95,6 +109,8 @@ def run(program, command, preloaded=None, told=None, **more):
     with tempfile.TemporaryDirectory(prefix="krbtool-preload-") as name:
         room = Path(name)
         (room / "f").write_bytes(command.file)
+        if command.other is not None:
+            (room / "g").write_bytes(command.other)
         (room / "out").write_bytes(OLD)
         (room / "stdin").write_bytes(command.stdin)
         if preloaded:

@@ -68,6 +68,9 @@ def keytabs(cases, peers, mit, heimdal):
     files.keytabs(cases, peers, heimdal, paths)
     for realm, path in paths:
         commands.picks(cases, peers, heimdal, realm, path)
+    for realm, path in paths:
+        commands.additions(cases, peers, heimdal, realm, path, paths[0][1])
+        commands.additions(cases, peers, heimdal, realm, path, paths[-1][1])
 
 
 def parts(cases, peers, mit, heimdal, sides):

@@ -19,8 +19,8 @@ PASSED_OVER = 2
 # What is refused, by the line that says so, in the order of a run; and the status.
 WORDS = ("krbtool: words: OutOfMemory\n", 2)
 CLAP = ("error: out of memory\n", 3)
-# What else of a command is refused memory: its file, and words of its own.
-PARTS = {f"krbtool: {part}: OutOfMemory\n" for part in ("f", "service", "name", "reply")}
+# What else of a command is refused memory: its files, and words of its own.
+PARTS = {f"krbtool: {part}: OutOfMemory\n" for part in ("f", "g", "service", "name", "reply")}
 # The request whose reply is read.
 PENDING = ("finish", "krbtool: request: OutOfMemory\n")
 # The answer of accept to a line whose call was refused memory.

@@ -3,7 +3,7 @@ _krbtool() {
     local word=${COMP_WORDS[COMP_CWORD]} before=${COMP_WORDS[COMP_CWORD-1]} options
     COMPREPLY=()
     if [ "$COMP_CWORD" -eq 1 ]; then
-        COMPREPLY=($(compgen -W 'list-keytab list-ccache check-keytab check-ccache convert-keytab convert-ccache request accept finish pick-key remove-key help --help --version' -- "$word"))
+        COMPREPLY=($(compgen -W 'list-keytab list-ccache check-keytab check-ccache convert-keytab convert-ccache request accept finish pick-key remove-key add-keys help --help --version' -- "$word"))
         return
     fi
     case $before in
@@ -21,7 +21,8 @@ _krbtool() {
         finish) options='--time --usec --reply --help' ;;
         pick-key) options='--kvno --help' ;;
         remove-key) options='--help' ;;
-        help) options='list-keytab list-ccache check-keytab check-ccache convert-keytab convert-ccache request accept finish pick-key remove-key' ;;
+        add-keys) options='--help' ;;
+        help) options='list-keytab list-ccache check-keytab check-ccache convert-keytab convert-ccache request accept finish pick-key remove-key add-keys' ;;
         *) return ;;
     esac
     case $word in

@@ -1,4 +1,5 @@
-"""`krbtool finish` given the replies of their services, and `krbtool pick-key` beside what their tools list and their libraries pick."""
+"""`krbtool finish` given the replies of their services; `krbtool pick-key` beside what their tools list and their libraries pick; and
+`krbtool add-keys` beside their tools."""
 import der_rules
 import files
 import msg_rules
@@ -180,3 +181,27 @@ def picks(cases, peers, heimdal, realm, path):
         usable = [it for it in asked if it[1] in USABLE and (library != "MIT" or is_clear(lines, *it))]
         ours = [f"{it[0]} {it[1]} {it[3]}" if isinstance(it, tuple) else "none" for it in map(found.get, usable)]
         cases.equal(f"{label}, by {library}'s krb5_kt_get_entry", ours, picked_by(peers, realm, library, path, usable))
+
+
+# ---------------------------------------------------------------- add-keys
+
+
+def keys_of(realm, path):
+    """The version number, type, name and bytes of each key of a keytab, as MIT's `klist -kteK` prints them."""
+    for line, key in files.klist_keytab(realm, path):
+        kvno, etype, _, name = line.split()
+        yield kvno, etype, name, key
+
+
+def additions(cases, peers, heimdal, realm, one, other):
+    """The keys of a keytab added to another, as MIT's `ktutil` puts both into one; no key is there more often than before."""
+    made, merged = one.with_suffix(f".with-{other.stem}"), one.with_suffix(f".beside-{other.stem}")
+    label = f"add-keys: {other.name} to {one.name} of {realm.name}"
+    cases.equal(label, peers.said("add-keys", one, other, made), f"wrote {made.stat().st_size}\n")
+    realm.run("default", "ktutil", input=f"rkt {one}\nrkt {other}\nwkt {merged}\nquit\n")
+    held, found = list(keys_of(realm, one)), list(keys_of(realm, made))
+    lacking = {key for key in keys_of(realm, other)} - set(held)
+    cases.equal(f"{label}, by MIT's ktutil", set(found), set(keys_of(realm, merged)))
+    cases.equal(f"{label}, each once", sorted(found), sorted([*held, *lacking]))
+    listed = sorted((kvno, etype, name) for kvno, etype, name, _ in found)
+    cases.equal(f"{label}, by Heimdal's ktutil", sorted(listed_by_heimdal(heimdal, made)), listed)

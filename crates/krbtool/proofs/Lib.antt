@@ -9,3 +9,5 @@ pub mod EndLaws
 pub mod CommandLaws
 pub mod PickLaws
 pub mod RemoveLaws
+pub mod WholeLaws
+pub mod AddLaws

@@ -40,9 +40,6 @@ pub unremoved_known : (from : Option (List ℕ)) (bytes : List ℕ) (index : ℕ
 unremoved_known None bytes index fault holds is = tt
 unremoved_known (Some whole) bytes index fault holds is = of_taken whole bytes index fault holds is
 
-pub taken_of : (from : Option (List ℕ)) (whole bytes : List ℕ) → IfSome from (λ it. HoldsFile it bytes) → from ≡ Some whole → HoldsFile whole bytes
-taken_of from whole bytes holds tells = rw tells at holds
-
 -- the call that makes a hole fails so
 pub answer_means : {X : Type 0} (result : Result X KeytabFault) (bytes : List ℕ) (index : ℕ) (fault : KeytabFault)
     → (result ≡ Err NoSuchEntry) ↔ LacksEntry bytes index

@@ -7,12 +7,13 @@ use Rattle.clap.specs.declared.builder.action.ArgAction.TheVariants.{SetTrue}
 use Rattle.std.specs.Borrow.{Bor}
 use Rattle.std.specs.Option.{option_map}
 use Rattle.krbtool.specs.declared.order.AcceptWords.{AcceptWords}
+use Rattle.krbtool.specs.declared.order.AddWords.{AddWords}
 use Rattle.krbtool.specs.declared.order.FinishWords.{FinishWords}
 use Rattle.krbtool.specs.declared.order.PickWords.{PickWords}
 use Rattle.krbtool.specs.declared.order.RemoveWords.{RemoveWords}
 use Rattle.krbtool.specs.declared.order.RequestWords.{RequestWords}
 use Rattle.krbtool.specs.declared.order.Order.{Order}
-use Rattle.krbtool.specs.declared.order.Order.TheVariants.{ListKeytab, ListCcache, CheckKeytab, CheckCcache, ConvertKeytab, ConvertCcache, Request, Accept, Finish, PickKey, RemoveKey}
+use Rattle.krbtool.specs.declared.order.Order.TheVariants.{ListKeytab, ListCcache, CheckKeytab, CheckCcache, ConvertKeytab, ConvertCcache, Request, Accept, Finish, PickKey, RemoveKey, AddKeys}
 
 -- an operand that has to be there
 abbrev pub operand : Text → Rule
@@ -86,6 +87,10 @@ pick_key = with_rule pick_operands (free_number (codes "kvno") 4_294_967_295)
 abbrev pub remove_key : App
 remove_key = with_rule (with_rule (of_keytab (codes "remove-key")) (operand (codes "OUT"))) (number_operand (codes "INDEX") 4_294_967_295)
 
+-- add-keys KEYTAB FROM OUT
+abbrev pub add_keys : App
+add_keys = with_rule (with_rule (of_keytab (codes "add-keys")) (operand (codes "FROM"))) (operand (codes "OUT"))
+
 -- accept KEYTAB [--skew SECONDS] [--started SECONDS] [--service NAME] [--only NAME]
 abbrev pub accept_with_skew : App
 accept_with_skew = with_rule (of_keytab (codes "accept")) (number_option (codes "skew") 86_400 (codes "300"))
@@ -120,7 +125,7 @@ abbrev pub with_keys : App
 with_keys = with_two with_exchange finish pick_key
 
 unfoldable pub krbtool : App
-krbtool = with_subcommand with_keys remove_key.top
+krbtool = with_two with_keys remove_key add_keys
 
 -- an operand or an option has this value
 abbrev pub HasOperand : List Row → Text → Text → Type 0
@@ -181,6 +186,12 @@ pub record AsksRemoval (rows : List Row) (words : RemoveWords) : Type 0 where
   pub out : HasOperand rows (codes "OUT") words.out.now
   pub index : HasOperand rows (codes "INDEX") words.index.now
 
+-- the operands of add-keys
+pub record AsksAddition (rows : List Row) (words : AddWords) : Type 0 where
+  pub keytab : HasOperand rows (codes "KEYTAB") words.keytab.now
+  pub from : HasOperand rows (codes "FROM") words.from.now
+  pub out : HasOperand rows (codes "OUT") words.out.now
+
 -- the order is the subcommand's, with the values that its entries have
 abbrev pub IsOrder : Order → Option (Text × List Row) → Type 0
 IsOrder order None = ⊥
@@ -195,3 +206,4 @@ IsOrder (Accept words) (Some (name, rows)) = (name ≡ codes "accept") × AsksAc
 IsOrder (Finish words) (Some (name, rows)) = (name ≡ codes "finish") × AsksFinish rows words
 IsOrder (PickKey words) (Some (name, rows)) = (name ≡ codes "pick-key") × AsksPick rows words
 IsOrder (RemoveKey words) (Some (name, rows)) = (name ≡ codes "remove-key") × AsksRemoval rows words
+IsOrder (AddKeys words) (Some (name, rows)) = (name ≡ codes "add-keys") × AsksAddition rows words

@@ -10,7 +10,7 @@ use Rattle.krb_ap.specs.declared.finish_fault.FinishFault.{FinishFault}
 use Rattle.krb_ap.specs.declared.finish_fault.FinishFault.TheVariants as finish
 use Rattle.krbtool.specs.declared.fault.PickFault.{PickFault}
 use Rattle.krbtool.specs.declared.fault.EngineFault.{EngineFault}
-use Rattle.krbtool.specs.declared.fault.EngineFault.TheVariants.{Keytab, Cache, Request, Pick, Finish, Write, OutOfMemory}
+use Rattle.krbtool.specs.declared.fault.EngineFault.TheVariants.{Keytab, Added, Cache, Request, Pick, Finish, Write, OutOfMemory}
 
 -- the bytes that were to come, where the source tells them, are a file with some value, of which this holds
 abbrev pub OfFile : {V : Type 0} → (List ℕ → V → Type 0) → Option (List ℕ) → (V → Type 0) → Type 0
@@ -22,6 +22,13 @@ keytab_fault (Keytab keytab.Read) = None
 keytab_fault (Keytab keytab.OutOfMemory) = None
 keytab_fault (Keytab fault) = Some fault
 keytab_fault _ = None
+
+-- the same of the keytab whose keys are added
+abbrev pub added_fault : EngineFault → Option KeytabFault
+added_fault (Added keytab.Read) = None
+added_fault (Added keytab.OutOfMemory) = None
+added_fault (Added fault) = Some fault
+added_fault _ = None
 
 -- the same of a credential cache
 abbrev pub cache_fault : EngineFault → Option CacheFault
@@ -76,6 +83,11 @@ abbrev pub IsOfPick : EngineFault → Type 0
 IsOfPick (Pick fault) = Unit {0}
 IsOfPick fault = IsOfKeytab fault
 
+-- and of one that adds the keys of another keytab
+abbrev pub IsOfAdding : EngineFault → Type 0
+IsOfAdding (Added fault) = Unit {0}
+IsOfAdding fault = IsOfKeytab fault
+
 -- the answer is this fault of the keytab, unless its source or memory failed
 abbrev pub FailsWith : {X : Type 0} → Result X EngineFault → KeytabFault → Type 0
 FailsWith result fault = (result ≡ Err (Keytab fault)) ⊎ ((result ≡ Err (Keytab keytab.OutOfMemory)) ⊎ (result ≡ Err (Keytab keytab.Read)))
@@ -89,6 +101,11 @@ abbrev pub failed_reads : {X : Type 0} → Result X EngineFault → ℕ
 failed_reads (Err (Keytab keytab.Read)) = 1
 failed_reads (Err (Cache cache.Read)) = 1
 failed_reads _ = 0
+
+-- how many reads of the keytab whose keys are added failed
+abbrev pub failed_added_reads : {X : Type 0} → Result X EngineFault → ℕ
+failed_added_reads (Err (Added keytab.Read)) = 1
+failed_added_reads _ = 0
 
 -- how many writes failed
 abbrev pub failed_writes : {X : Type 0} → Result X EngineFault → ℕ

@@ -17,7 +17,7 @@ use Rattle.krb_ap.specs.declared.finish_fault.FinishFault.TheVariants as finish
 use Rattle.krbtool.specs.declared.fault.PickFault.{PickFault}
 use Rattle.krbtool.specs.declared.fault.PickFault.TheVariants as pick
 use Rattle.krbtool.specs.declared.fault.EngineFault.{EngineFault}
-use Rattle.krbtool.specs.declared.fault.EngineFault.TheVariants.{Keytab, Cache, Request, Pick, Finish, Input, Write, OutOfMemory}
+use Rattle.krbtool.specs.declared.fault.EngineFault.TheVariants.{Keytab, Added, Cache, Request, Pick, Finish, Input, Write, OutOfMemory}
 
 abbrev pub keytab_name : KeytabFault → List ℕ
 keytab_name keytab.Version = codes "Version"
@@ -58,6 +58,7 @@ finish_name finish.OutOfMemory = codes "OutOfMemory"
 
 abbrev pub name_of : EngineFault → List ℕ
 name_of (Keytab fault) = keytab_name fault
+name_of (Added fault) = keytab_name fault
 name_of (Cache fault) = cache_name fault
 name_of (Request fault) = request_name fault
 name_of (Pick fault) = pick_name fault
@@ -68,6 +69,7 @@ name_of OutOfMemory = codes "OutOfMemory"
 
 abbrev pub place_of : EngineFault → Option ℕ
 place_of (Keytab fault) = offset_of fault
+place_of (Added fault) = offset_of fault
 place_of (Cache fault) = in_cache.offset_of fault
 place_of (Request fault) = None
 place_of (Pick fault) = None

@@ -3,3 +3,4 @@ pub mod Moments
 pub mod Held
 pub mod Going
 pub mod Whole
+pub mod Adding

@@ -7,6 +7,7 @@ pub mod Requesting
 pub mod Finishing
 pub mod Picking
 pub mod Removing
+pub mod Adding
 pub mod CallLine
 pub mod Tails
 pub mod Answering

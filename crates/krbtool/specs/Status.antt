@@ -7,13 +7,16 @@ use Rattle.krb_name.specs.declared.text_fault.TextFault.TheVariants as text
 use Rattle.krb_ap.specs.declared.request_fault.RequestFault.TheVariants as request
 use Rattle.krb_ap.specs.declared.finish_fault.FinishFault.TheVariants as finish
 use Rattle.krbtool.specs.declared.fault.EngineFault.{EngineFault}
-use Rattle.krbtool.specs.declared.fault.EngineFault.TheVariants.{Keytab, Cache, Request, Pick, Finish, Input, Write, OutOfMemory}
+use Rattle.krbtool.specs.declared.fault.EngineFault.TheVariants.{Keytab, Added, Cache, Request, Pick, Finish, Input, Write, OutOfMemory}
 
 -- 1: the content is refused. 3: a file, the output or memory failed
 abbrev pub status_of : EngineFault → ℕ
 status_of (Keytab keytab.Read) = 3
 status_of (Keytab keytab.OutOfMemory) = 3
 status_of (Keytab _) = 1
+status_of (Added keytab.Read) = 3
+status_of (Added keytab.OutOfMemory) = 3
+status_of (Added _) = 1
 status_of (Cache cache.Read) = 3
 status_of (Cache cache.OutOfMemory) = 3
 status_of (Cache _) = 1

@@ -3,7 +3,7 @@
 ghost use Rattle.std.specs.Prelude.{◌≡◌, false, IfOk, codes};
 ghost use Rattle.clap.specs.Words.{app_of, rule_of};
 ghost use Rattle.clap.specs.declared.builder.command.Command.TheViews.{out-Command};
-ghost use Rattle.krbtool.specs.CommandLine.{krbtool, remove_key, accept, accept_with_times, bare, finish, flag, free_number, free_option, needed_number, needed_option, number_operand, number_option, operand, pick_key, pick_operands, request, with_two, with_lists, with_checks, with_conversions, with_exchange, with_keys, of_file, of_file_and_out, of_keytab, of_moment, of_service};
+ghost use Rattle.krbtool.specs.CommandLine.{krbtool, add_keys, remove_key, accept, accept_with_times, bare, finish, flag, free_number, free_option, needed_number, needed_option, number_operand, number_option, operand, pick_key, pick_operands, request, with_two, with_lists, with_checks, with_conversions, with_exchange, with_keys, of_file, of_file_and_out, of_keytab, of_moment, of_service};
 
 use clap::builder::ValueParser;
 use clap::{Arg, ArgAction, Command};
@@ -124,6 +124,15 @@ const REMOVE_KEY: Help<'static> = Help {
     end: with_statuses!(
         "Prints 'wrote COUNT', the number of bytes. If there is no such entry, the fault is NoSuchEntry.",
         "if the file is faulty, or has no such entry"
+    ),
+};
+
+const ADD_KEYS: Help<'static> = Help {
+    about: "Writes a keytab again, with the keys of another that it doesn't have yet",
+    file: KEYTAB,
+    end: with_statuses!(
+        "Prints 'wrote COUNT', the number of bytes. A key of FROM is left out if KEYTAB has its name, encryption type, version number and bytes already.",
+        "if one of the files is faulty"
     ),
 };
 
@@ -345,6 +354,21 @@ fn remove_key_command<'a>(alloc: Global) -> Result<Command<'a>, AllocError>
         .arg(index)
 }
 
+fn add_keys_command<'a>(alloc: Global) -> Result<Command<'a>, AllocError>
+    ensures app { IfOk result (λ c. app_of c ≡ add_keys) }
+    ensures local { IfOk result (λ c. (out-Command c).has_globals ≡ false) }
+{
+    let from = Arg::new(alloc, "FROM")
+        .required(true)
+        .help("The keytab whose keys are added");
+    let out = Arg::new(alloc, "OUT").required(true).help(
+        "The file to write. It is emptied before KEYTAB and FROM are read, so it must be neither; a new file has mode 0600",
+    );
+    of_keytab_command(alloc, "add-keys", &ADD_KEYS)?
+        .arg(from)?
+        .arg(out)
+}
+
 // The command `accept` with its keytab and its times.
 fn accept_with_times<'a>(alloc: Global) -> Result<Command<'a>, AllocError>
     ensures app { IfOk result (λ c. app_of c ≡ accept_with_times) }
@@ -452,5 +476,6 @@ pub(crate) fn krbtool_command<'a>(alloc: Global) -> Result<Command<'a>, AllocErr
     ensures { IfOk result (λ c. app_of c ≡ krbtool) }
 {
     let remove_key = remove_key_command(alloc)?;
-    command_with_keys(alloc)?.subcommand(remove_key)
+    let add_keys = add_keys_command(alloc)?;
+    with_two(command_with_keys(alloc)?, remove_key, add_keys)
 }

@@ -20,6 +20,9 @@ pub enum EngineFault {
     /// written of it would be too long.
     #[error("{0}")]
     Keytab(KeytabFault),
+    /// The keytab whose keys are added couldn't be read, or isn't one, or memory ran out for it.
+    #[error("{0}")]
+    Added(KeytabFault),
     /// The credential cache couldn't be read, there was no room for it, or what was read is none.
     #[error("{0}")]
     Cache(CacheFault),
@@ -127,7 +130,7 @@ impl EngineFault {
         ensures { result.now ≡ name_of self.now }
     {
         match self {
-            EngineFault::Keytab(fault) => keytab_name(fault),
+            EngineFault::Keytab(fault) | EngineFault::Added(fault) => keytab_name(fault),
             EngineFault::Cache(fault) => cache_name(fault),
             EngineFault::Request(fault) => request_name(fault),
             EngineFault::Pick(fault) => pick_name(fault),
@@ -143,7 +146,7 @@ impl EngineFault {
         ensures { result ≡ place_of self.now }
     {
         match self {
-            EngineFault::Keytab(fault) => fault.at(),
+            EngineFault::Keytab(fault) | EngineFault::Added(fault) => fault.at(),
             EngineFault::Cache(fault) => fault.at(),
             EngineFault::Finish(fault) => finish_place(fault),
             EngineFault::Request(_) | EngineFault::Pick(_) => None,
@@ -231,10 +234,11 @@ pub fn status(fault: &EngineFault) -> u8
 {
     match fault {
         EngineFault::Keytab(KeytabFault::Read | KeytabFault::OutOfMemory) => FAILED,
+        EngineFault::Added(KeytabFault::Read | KeytabFault::OutOfMemory) => FAILED,
         EngineFault::Cache(CacheFault::Read | CacheFault::OutOfMemory) => FAILED,
         EngineFault::Request(RequestFault::OutOfMemory) => FAILED,
         EngineFault::Finish(FinishFault::OutOfMemory) => FAILED,
-        EngineFault::Keytab(_) | EngineFault::Cache(_) => REFUSED,
+        EngineFault::Keytab(_) | EngineFault::Added(_) | EngineFault::Cache(_) => REFUSED,
         EngineFault::Request(_) | EngineFault::Pick(_) | EngineFault::Finish(_) => REFUSED,
         EngineFault::Input | EngineFault::Write | EngineFault::OutOfMemory => FAILED,
     }

@@ -5,6 +5,7 @@
 #![tactic(auto)]
 
 mod accept;
+mod add;
 mod answering;
 mod call_line;
 mod check;

@@ -45,6 +45,8 @@ pub enum Order<'a> {
     PickKey(PickWords<'a>),
     /// `remove-key KEYTAB OUT INDEX`: a keytab with a hole in place of an entry.
     RemoveKey(RemoveWords<'a>),
+    /// `add-keys KEYTAB FROM OUT`: a keytab with the keys of another.
+    AddKeys(AddWords<'a>),
 }
 
 /// The words of `accept`.
@@ -60,6 +62,17 @@ pub struct AcceptWords<'a> {
     pub service: Option<&'a str>,
     /// The one name for which requests are accepted; of any name of the keytab if absent.
     pub only: Option<&'a str>,
+}
+
+/// The words of `add-keys`.
+#[derive(Clone, Copy, Debug, PartialEq, Eq)]
+pub struct AddWords<'a> {
+    /// The keytab's path.
+    pub keytab: &'a str,
+    /// The path of the keytab whose keys are added.
+    pub from: &'a str,
+    /// The path of what is written.
+    pub out: &'a str,
 }
 
 /// The words of `finish`.

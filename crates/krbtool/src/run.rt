@@ -10,7 +10,7 @@ use crate::fault_line::{FaultLine, fault_line, file_line};
 use crate::list::{list_ccache, list_keytab};
 use crate::order::Order;
 use crate::run_accept::run_accept;
-use crate::run_edit::run_remove;
+use crate::run_edit::{run_add, run_remove};
 use crate::run_finish::run_finish;
 use crate::run_pick::run_pick;
 use crate::run_request::run_request;
@@ -104,6 +104,7 @@ pub(crate) fn run<R: AllocGlobal + Files + Input + Print + Eprint>(rt: &R, order
         Order::Finish(words) => run_finish(rt, words),
         Order::PickKey(words) => run_pick(rt, words),
         Order::RemoveKey(words) => run_remove(rt, words),
+        Order::AddKeys(words) => run_add(rt, words),
     }
 }
 
@@ -201,7 +202,7 @@ pub(crate) fn tell_wrote<R: Print + Eprint>(rt: &R, count: usize) -> u8 {
 // Prints a fault of a command on this file, and answers the status.
 pub(crate) fn complain_of<R: Eprint>(rt: &R, fault: &EngineFault, file: &str, command: &str) -> u8 {
     let name = match fault {
-        EngineFault::Keytab(_) | EngineFault::Cache(_) => file,
+        EngineFault::Keytab(_) | EngineFault::Added(_) | EngineFault::Cache(_) => file,
         EngineFault::Request(_) => "request",
         EngineFault::Pick(_) => "pick-key",
         EngineFault::Finish(_) => "finish",

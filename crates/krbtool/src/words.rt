@@ -2,10 +2,12 @@
 
 ghost use Rattle.std.specs.Prelude.{◌≡◌, Some, IfOk, IfSome, codes, map};
 ghost use Rattle.clap.specs.Words.{rows_of, found_of, subcommand_of, subcommand_rows_of};
-ghost use Rattle.krbtool.specs.CommandLine.{krbtool, AsksAcceptance, AsksFinish, AsksPick, AsksRemoval, AsksRequest, HasFlag, HasFile, HasFiles, IsOrder};
+ghost use Rattle.krbtool.specs.CommandLine.{krbtool, AsksAcceptance, AsksAddition, AsksFinish, AsksPick, AsksRemoval, AsksRequest, HasFlag, HasFile, HasFiles, IsOrder};
 
 use crate::commands::krbtool_command;
-use crate::order::{AcceptWords, FinishWords, Order, PickWords, RemoveWords, RequestWords};
+use crate::order::{
+    AcceptWords, AddWords, FinishWords, Order, PickWords, RemoveWords, RequestWords,
+};
 use clap::error::ErrorKind;
 use clap::{ArgMatches, Error};
 use std::alloc::Global;
@@ -123,6 +125,17 @@ fn removal_of<'a>(matches: &ArgMatches<'a>) -> Option<RemoveWords<'a>>
     Some(RemoveWords { keytab, out, index })
 }
 
+// The values of KEYTAB, FROM and OUT.
+#[tactic(auto, using(crate::proofs::Getters::getters))]
+fn addition_of<'a>(matches: &ArgMatches<'a>) -> Option<AddWords<'a>>
+    ensures { IfSome result (λ words. AsksAddition (rows_of (found_of matches.now)) words) }
+{
+    let keytab = matches.get_str("KEYTAB")?;
+    let from = matches.get_str("FROM")?;
+    let out = matches.get_str("OUT")?;
+    Some(AddWords { keytab, from, out })
+}
+
 // What a command of this name asks for, with these values.
 fn order_of<'a>(name: &str, matches: &ArgMatches<'a>) -> Option<Order<'a>>
     ensures { IfSome result (λ order. IsOrder order (Some (name.now, rows_of (found_of matches.now)))) }
@@ -167,6 +180,10 @@ fn order_of<'a>(name: &str, matches: &ArgMatches<'a>) -> Option<Order<'a>>
         "remove-key" => {
             let words = removal_of(matches)?;
             Some(Order::RemoveKey(words))
+        }
+        "add-keys" => {
+            let words = addition_of(matches)?;
+            Some(Order::AddKeys(words))
         }
         _ => None,
     }

@@ -1,6 +1,7 @@
 use Rattle.std.proofs.Common.{◌∙◌, ap, sym, arith, inl, Err}
 use Rattle.std.proofs.lemmas.Result.{err_from_is_err_and}
-use Rattle.krbtool.proofs.RemoveLaws.{answer_means, no_failed_read, of_whole, taken_of, unremoved_known}
+use Rattle.krbtool.proofs.RemoveLaws.{answer_means, no_failed_read, of_whole, unremoved_known}
+use Rattle.krbtool.proofs.WholeLaws.{taken_of}
 use Rattle.krbtool.proofs.FaultLaws.{no_ok, same_err}
 use Rattle.krbtool.proofs.remove.removed.Goals as goal
 

@@ -1,0 +1,55 @@
+-- What `add-keys` writes: a keytab with the keys of another that it lacks, or why there is none.
+use Rattle.std.specs.Prelude.{◌≡◌, ◌⊎◌, ℕ, List, [], ◌∷◌, ◌++◌, Any}
+use Rattle.krb_name.specs.Name.{SameName}
+use Rattle.krb_keytab.specs.Edit.{AddsEntry, GainsEntry, WouldPass}
+use Rattle.krb_keytab.specs.Entry.{KeytabEntry}
+use Rattle.krb_keytab.specs.Format.{IsKeytab}
+
+-- two entries have the same key: name, encryption type, version number and bytes; the timestamps
+-- may differ
+pub record IsSameKey (one other : KeytabEntry) : Type 0 where
+  pub name : SameName one.principal other.principal
+  pub etype : one.etype ≡ other.etype
+  pub kvno : one.kvno ≡ other.kvno
+  pub key : one.key ≡ other.key
+
+-- one of the entries has the key of this one
+abbrev pub HasKeyOf : List KeytabEntry → KeytabEntry → Type 0
+HasKeyOf entries entry = Any (λ held. IsSameKey held entry) entries
+
+-- of a list of entries, in order, those whose key no entry of `held` and no earlier one has
+abbrev pub AreLacking : List KeytabEntry → List KeytabEntry → List KeytabEntry → Type 0
+AreLacking held [] lacking = lacking ≡ []
+AreLacking held (entry ∷ others) lacking =
+    (HasKeyOf held entry × AreLacking (held ++ entry ∷ []) others lacking)
+    ⊎ ((¬ HasKeyOf held entry) × ((rest : List KeytabEntry) × ((lacking ≡ entry ∷ rest) × AreLacking (held ++ entry ∷ []) others rest)))
+
+-- one entry after another is added: in the first hole that is long enough, else at the end
+abbrev pub AddsEach : List ℕ → List KeytabEntry → List ℕ → Type 0
+AddsEach old [] new = old ≡ new
+AddsEach old (entry ∷ others) new = (next : List ℕ) × ((AddsEntry old entry next × GainsEntry old entry next) × AddsEach next others new)
+
+-- the keytab with those of the entries that it lacks, and this holds of its bytes
+pub record IsExtended (old : List ℕ) (entries : List KeytabEntry) (Holds : List ℕ → Type 0) : Type 0 where
+  pub held : List KeytabEntry
+  pub lacking : List KeytabEntry
+  pub new : List ℕ
+  pub old_is : IsKeytab old held
+  pub lacking_are : AreLacking held entries lacking
+  pub added : AddsEach old lacking new
+  pub holds : Holds new
+
+-- with the lacking ones of the first entries, the keytab would pass the limit by the next, which is lacking too
+pub record PassesLimit (old : List ℕ) (entries : List KeytabEntry) : Type 0 where
+  pub before : List KeytabEntry
+  pub entry : KeytabEntry
+  pub after : List KeytabEntry
+  pub held : List KeytabEntry
+  pub lacking : List KeytabEntry
+  pub new : List ℕ
+  pub entries_are : entries ≡ before ++ entry ∷ after
+  pub old_is : IsKeytab old held
+  pub lacking_are : AreLacking held before lacking
+  pub added : AddsEach old lacking new
+  pub lacks : ¬ HasKeyOf (held ++ before) entry
+  pub passes : WouldPass new entry
