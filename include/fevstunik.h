@@ -509,12 +509,13 @@ fevstunik_answer fevstunik_keytab_new(fevstunik_keytab *keytab, const uint8_t *f
 
 /* Reads one entry of a keytab; `index` counts from 0. Writes the text of the entry's name and then
  * its key to the buffer, and their places and the numbers to `entry`. `entry` is written even if
- * the buffer is too short. The handle is unchanged.
+ * the buffer is too short: then make the call again with a longer one. The handle is unchanged.
  *
  * Returns FEVSTUNIK_OK or FEVSTUNIK_SHORT_BUFFER; or writes nothing and returns
  * FEVSTUNIK_EMPTY_HANDLE, FEVSTUNIK_NO_SUCH_ENTRY or FEVSTUNIK_OUT_OF_MEMORY.
  *
- *     for (index = 0; fevstunik_keytab_entry(&keytab, index, &entry, buffer, sizeof buffer).code == FEVSTUNIK_OK; index++) ...
+ *     for (index = 0; index < count && answer.code == FEVSTUNIK_OK; index++)
+ *         answer = fevstunik_keytab_entry(&keytab, index, &entry, buffer, sizeof buffer);
  */
 fevstunik_answer fevstunik_keytab_entry(const fevstunik_keytab *keytab, size_t index, fevstunik_key_entry *entry, uint8_t *buffer,
                                         size_t buffer_size);
@@ -532,7 +533,7 @@ void fevstunik_keytab_free(fevstunik_keytab *keytab);
  * configuration entries count too.
  *
  * Returns FEVSTUNIK_OK; or leaves the handle unchanged and returns the first that applies:
- * FEVSTUNIK_FILE_VERSION, _FILE_HEADER, _FILE_BAD_ITEM, _TOO_LONG or FEVSTUNIK_OUT_OF_MEMORY.
+ * FEVSTUNIK_TOO_LONG, _FILE_VERSION, _FILE_HEADER, _FILE_BAD_ITEM or FEVSTUNIK_OUT_OF_MEMORY.
  *
  *     fevstunik_cache cache = FEVSTUNIK_CACHE_INIT;
  *     answer = fevstunik_cache_new(&cache, file, file_size);
@@ -547,7 +548,8 @@ fevstunik_answer fevstunik_cache_new(fevstunik_cache *cache, const uint8_t *file
  * Returns FEVSTUNIK_OK or FEVSTUNIK_SHORT_BUFFER; or writes nothing and returns
  * FEVSTUNIK_EMPTY_HANDLE, FEVSTUNIK_NO_SUCH_ENTRY or FEVSTUNIK_OUT_OF_MEMORY.
  *
- *     for (index = 0; fevstunik_cache_credential(&cache, index, &entry, buffer, sizeof buffer).code == FEVSTUNIK_OK; index++) ...
+ *     for (index = 0; index < count && answer.code == FEVSTUNIK_OK; index++)
+ *         answer = fevstunik_cache_credential(&cache, index, &entry, buffer, sizeof buffer);
  */
 fevstunik_answer fevstunik_cache_credential(const fevstunik_cache *cache, size_t index, fevstunik_cache_entry *credential, uint8_t *buffer,
                                             size_t buffer_size);

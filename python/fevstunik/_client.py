@@ -88,8 +88,8 @@ def make_request(cache: CredentialCache, service: str, *, now: When | None = Non
 
     cache        has a ticket of its owner for the service
     service      the service's name, as ``host/web@EX``
-    now          the client's clock. By default the machine's, and then no two requests of this process have the same moment. Else see to that
-                 yourself: a service refuses the second of two requests with one moment
+    now          the client's clock. By default the machine's, and then no two requests of this process have the same moment, unless the clock
+                 is set back. Else see to that yourself: a service refuses the second of two requests with one moment
     subkey       a key that the client chooses, as Key.random(20), or None
     seq          the client's first sequence number, or None
     wants_reply  whether to ask the service for a reply

@@ -239,8 +239,8 @@ class Acceptor:
              names. The name in a ticket isn't sealed: if two names share a key, a recorded request is accepted once for each
     skew     by how many seconds clocks may differ
     started  the service's clock at this start, as time.time(). A restarted service has forgotten what it accepted, so it is quiet at first:
-             until the skew has passed, it refuses requests with the cause JUST_STARTED. Pass None only for a service that never ran before:
-             it accepts at once, and would accept again what an earlier run accepted
+             until the skew has passed, it refuses requests with the cause JUST_STARTED. Pass None only for a service that never ran before,
+             or whose instances share a store: it accepts at once, and would accept again what an earlier run accepted
 
     Make one and keep it. Any thread may call it. A lock lets one decision run at a time; what was accepted is read without that lock. An
     Acceptor belongs to the process that made it: after a fork, the child's calls raise RuntimeError.

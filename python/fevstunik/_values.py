@@ -75,12 +75,17 @@ def _taken(moment: Moment) -> _library.Time:
 
 
 class _OwnMoments:
-    """Moments of the machine's clock, each handed out once, in any number of threads. A clock that stands still, or is set back by less than
-    a second, is counted on by microseconds."""
+    """Moments of the machine's clock, each handed out once, in any number of threads, unless the clock is set back by a second or more. A
+    clock that stands still, or is set back by less, is counted on by microseconds."""
 
     def __init__(self) -> None:
         self._lock = threading.Lock()
         self._last = 0
+        # (another thread may hold the lock when the process forks)
+        os.register_at_fork(after_in_child=self._forked)
+
+    def _forked(self) -> None:
+        self._lock = threading.Lock()
 
     def next(self) -> Moment:
         with self._lock:
