@@ -1,11 +1,13 @@
 """Eight threads over one Acceptor: each request is answered with its own client, and accepted once. And over one cache and one Pending."""
+import os
+import signal
 import threading
 from collections import Counter
 
 import c_cases
 import fixture as der
 import pytest
-from fevstunik import Acceptor, CredentialCache, Keytab, Moment, Refused, make_request
+from fevstunik import Acceptor, CredentialCache, Keytab, Moment, Refused, _values, make_request
 
 THREADS, EACH, AT, SERVICE = 8, 400, 1_700_000_100, "host/web@EX"
 
@@ -97,3 +99,14 @@ def test_a_clock_that_is_set_back(monkeypatch):
     with CredentialCache(der.cache()) as cache, Acceptor(Keytab(der.keytab()), SERVICE, started=None) as service:
         times = [service.accept(make_request(cache, SERVICE)[0], AT).time for _ in range(4)]
     assert times == [Moment(second), Moment(second, 1), Moment(second - 60), Moment(second - 60, 3)]
+
+
+def test_a_fork_while_a_thread_takes_a_moment():
+    """The child doesn't wait for a lock that no thread of its own holds."""
+    with _values._own_moments._lock:
+        child = os.fork()
+        if not child:
+            signal.alarm(10)
+            _values._own_moments.next()
+            os._exit(0)
+    assert os.waitpid(child, 0)[1] == 0
