@@ -74,8 +74,15 @@ def commands(program, folder):
     yield "accept, lines", 1_000, lines_of(program, folder)
 
 
+def folder_in(folder, name):
+    made = folder / name
+    made.mkdir()
+    return made
+
+
 def lines_of(program, folder):
     """So many requests, each of a microsecond of its own."""
+    folder = folder_in(folder, "requests")
     keys, tickets, _ = exchange.laid_out(folder, 19, 1, 0)
     cache = fevstunik.CredentialCache.read(tickets)
     now = int(time.time())
@@ -90,7 +97,7 @@ def lines_of(program, folder):
 
 def requests_of(folder):
     """A request from a cache with so many other credentials before the one that fits."""
-    _, tickets, now = exchange.laid_out(folder, 19, 1, 0)
+    _, tickets, now = exchange.laid_out(folder_in(folder, "cache"), 19, 1, 0)
     wanted = Path(tickets).read_bytes()
     head = 4 + len(files.principal(b"alice"))
 
@@ -128,7 +135,7 @@ def calls(folder):
     yield "fevstunik_seal, bytes", 1 << 20, lambda size: of_a_call(lambda text=bytes(size): key.seal(7, text))
     yield "fevstunik_checksum, bytes", 1 << 20, lambda size: of_a_call(lambda text=bytes(size): key.checksum(7, text))
     yield "fevstunik_open, bytes", 1 << 20, lambda size: of_a_call(lambda text=key.seal(7, bytes(size)): key.open(7, text))
-    yield "fevstunik_token_open, bytes", 1 << 16, lambda size: of_a_call(
+    yield "fevstunik_token_open, bytes", 1 << 15, lambda size: of_a_call(
         lambda token=fevstunik.wrap_request(bytes(size)): fevstunik.Token.open(token))
 
 
