@@ -106,7 +106,7 @@ def add_cases():
     room = len(reference.record_of(key))
     yield adding("up to the limit", with_a_rest(reference.LIMIT - room), keytab_of([key]))
     yield adding("a byte past the limit", with_a_rest(reference.LIMIT + 1 - room), keytab_of([key]))
-    yield adding("two, of which the second is past the limit", with_a_rest(reference.LIMIT - room), keytab_of([key, {**key, "kvno": 3}]))
+    yield adding("the second of two is past the limit", with_a_rest(reference.LIMIT - room), keytab_of([key, {**key, "kvno": 3}]))
     yield adding("one that is there already, at the limit", with_a_rest(reference.LIMIT), keytab_of([{**key, "kvno": 1}]))
 
 
