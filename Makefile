@@ -23,8 +23,9 @@ FOLDERS = $(NEWER:%=$(TO_LIB)/glibc-hwcaps/%) $(TO_LIB)/glibc-hwcaps $(TO_LIB)/p
 # The loader finds a new library when its cache has it. (A library that is staged for packing isn't in use yet.)
 RUN_LDCONFIG = [ -n "$(DESTDIR)" ] || [ "$$(id -u)" != 0 ] || ldconfig
 BUILD := build
-# The library for every x86-64, and those for newer processors, which the loader takes by itself.
-NEWER := x86-64-v2
+# The library for every x86-64, and those for newer processors, which the loader takes by itself. The static library that is installed needs
+# x86-64-v2, as krbtool does.
+NEWER := x86-64-v2 x86-64-v3
 SOURCES := $(shell find crates -path '*/out' -prune -o -type f \( -name '*.rt' -o -name '*.antt' \) -print) crates.txt
 LIBRARIES := $(BUILD)/x86-64/libfevstunik.a $(NEWER:%=$(BUILD)/%/libfevstunik.a)
 MANUALS := $(wildcard docs/man/*.[1-8])
@@ -52,7 +53,7 @@ install: all
 	install -D -m 644 include/fevstunik.h $(INCLUDEDIR)/fevstunik.h
 	install -D -m 644 packaging/fevstunik.pc.in $(TO_LIB)/pkgconfig/fevstunik.pc
 	sed -i 's|@PREFIX@|$(PREFIX)|; s|@LIBDIR@|$(LIBDIR)|; s|@VERSION@|$(VERSION)|' $(TO_LIB)/pkgconfig/fevstunik.pc
-	install -D -m 644 $(BUILD)/x86-64/libfevstunik.a $(TO_LIB)/libfevstunik.a
+	install -D -m 644 $(BUILD)/x86-64-v2/libfevstunik.a $(TO_LIB)/libfevstunik.a
 	install -D -m 644 $(BUILD)/x86-64/libfevstunik.so.$(VERSION) $(TO_LIB)/libfevstunik.so.$(VERSION)
 	ln -sf libfevstunik.so.$(VERSION) $(TO_LIB)/libfevstunik.so.0
 	ln -sf libfevstunik.so.0 $(TO_LIB)/libfevstunik.so

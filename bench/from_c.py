@@ -3,6 +3,7 @@
 
     bench/from_c.py
 
+The library is built for x86-64-v2, as the static one that is installed, and as the loader takes the shared one for this processor.
 Needs a C compiler and Debian's packages libkrb5-dev and pkg-config. It proves and builds the library, which takes a while on a new clone.
 Nothing here is a test: it asserts nothing but that the program ends well. run.py prints this table too.
 """
@@ -11,10 +12,10 @@ import subprocess
 import sys
 import tempfile
 from pathlib import Path
-from statistics import median
 
+import builds
 import exchange
-from pairs import PAIRS, SHORT, Compared, time_of
+from pairs import PAIRS, SHORT, of_pairs, time_of
 
 HERE = Path(__file__).resolve().parent
 TOP = HERE.parent
@@ -28,14 +29,16 @@ def said(command, **more):
     return done.stdout
 
 
-def built(folder, crate):
-    """The path of the program, which is linked with the archive that is built in the folder of the crate krb_c."""
-    said(["rt", "lib"], cwd=crate)
+def built(folder):
+    """The path of the program over the build of the static library, and over the one that the loader takes here."""
     toolchain = Path(said(["rt", "doc"]).strip()).parent
     flags = said(["pkg-config", "--cflags", "--libs", "krb5"]).split()
-    program = folder / "from_c"
-    said(["cc", "-O2", f"-I{TOP}/include", HERE / "from_c.c", crate / "out/libkrb_c.a", toolchain / "c/liblibc_c.a", *flags, "-o", program])
-    return program
+    programs = {}
+    for cpu in dict.fromkeys((builds.STATIC, builds.supported()[-1])):
+        programs[cpu] = folder / f"from_c-{cpu}"
+        archive = builds.archive_of(folder, cpu)
+        said(["cc", "-O2", f"-I{TOP}/include", HERE / "from_c.c", archive, toolchain / "c/liblibc_c.a", *flags, "-o", programs[cpu]])
+    return programs
 
 
 def least(command):
@@ -44,27 +47,26 @@ def least(command):
     return [min(numbers) for numbers in zip(*runs)]
 
 
-def of_pairs(runs):
-    """Both sides of a call, from runs in which each program timed one after the other."""
-    ratios = [there / here for here, there in runs]
-    return Compared(min(it[0] for it in runs), min(it[1] for it in runs), median(ratios), min(ratios), max(ratios))
+def rows(name, program, cpu, keys, tickets):
+    runs = [least([program, keys, tickets, COUNT]) for _ in range(PAIRS)]
+    for at, call in ((0, "fevstunik_request, krb5_mk_req_extended"), (2, "fevstunik_acceptor_accept and _accepted_known, krb5_rd_req")):
+        it = of_pairs([(run[at], run[at + 1]) for run in runs])
+        print(f"| {name} | {cpu} | {call} | {time_of(it.ours)} | {time_of(it.theirs)} | {it.shown} |", flush=True)
 
 
-def table(folder, program):
-    print("\n| from C, processor time | call | ours | MIT krb5 | MIT's time / ours |\n|---|---|---|---|---|")
+def table(folder, programs):
+    print("\n| from C, processor time | build | call | ours | MIT krb5 | MIT's time / ours |\n|---|---|---|---|---|---|")
     for etype in (19, 20):
         for extra in (0, exchange.PAC):
             keys, tickets, _ = exchange.laid_out(folder, etype, 1, extra)
-            runs = [least([program, keys, tickets, COUNT]) for _ in range(PAIRS)]
-            more = f", {extra:,} bytes of authorization data" if extra else ""
-            for at, call in ((0, "fevstunik_request, krb5_mk_req_extended"), (2, "fevstunik_acceptor_accept and _accepted_known, krb5_rd_req")):
-                it = of_pairs([(run[at], run[at + 1]) for run in runs])
-                print(f"| type {etype}{more} | {call} | {time_of(it.ours)} | {time_of(it.theirs)} | {it.shown} |", flush=True)
+            name = f"type {etype}" + (f", {extra:,} bytes of authorization data" if extra else "")
+            for cpu, program in programs.items():
+                rows(name, program, cpu, keys, tickets)
 
 
 def main():
     with tempfile.TemporaryDirectory() as name:
-        table(Path(name), built(Path(name), TOP / "crates/krb_c"))
+        table(Path(name), built(Path(name)))
 
 
 if __name__ == "__main__":

@@ -29,6 +29,12 @@ class Compared(NamedTuple):
         return f"{said}, too busy to tell" if self.is_busy else said
 
 
+def of_pairs(runs: list[tuple[float, float]]) -> Compared:
+    """Compares both sides by pairs of their times."""
+    ratios = [there / here for here, there in runs]
+    return Compared(min(it[0] for it in runs), min(it[1] for it in runs), median(ratios), min(ratios), max(ratios))
+
+
 def paired(ours: Callable[[], float], theirs: Callable[[], float]) -> tuple[float, float]:
     """The least of some short runs of each side, in turn."""
     runs = [(ours(), theirs()) for _ in range(SHORT)]
@@ -37,9 +43,7 @@ def paired(ours: Callable[[], float], theirs: Callable[[], float]) -> tuple[floa
 
 def compared(ours: Callable[[], float], theirs: Callable[[], float], pairs: int = PAIRS) -> Compared:
     """`ours` and `theirs` run a program once, and return the time that it took."""
-    runs = [paired(ours, theirs) for _ in range(pairs)]
-    ratios = [there / here for here, there in runs]
-    return Compared(min(it[0] for it in runs), min(it[1] for it in runs), median(ratios), min(ratios), max(ratios))
+    return of_pairs([paired(ours, theirs) for _ in range(pairs)])
 
 
 def time_of(nanoseconds: float) -> str:

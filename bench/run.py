@@ -2,7 +2,7 @@
 """Times this repository's cipher, sealing, messages, memory of what was seen, requests (also from C) and listings in one run, most of them
 beside OpenSSL and MIT krb5, and prints all tables of bench/README.md but those of shared stores (stores.py) and of growth (growth.py).
 
-    bench/run.py [TABLE..]      the tables of these names, or all: cipher, sealing, messages, memory, requests, c, process, listings
+    bench/run.py [TABLE..]      the tables of these names, or all: cipher, sealing, messages, memory, requests, c, process, listings, builds
 
 Both sides of a row run in turn, in nine pairs; a row says the median of the pairs' ratios, and the least and the greatest of them. If these
 differ by more than a third of the median, the row says that the machine was too busy to tell. Needs a C compiler and Debian's packages
@@ -16,6 +16,7 @@ import sys
 import tempfile
 from pathlib import Path
 
+import builds
 import exchange
 import files
 import from_c
@@ -170,9 +171,10 @@ TABLES = {
     "messages": lambda folder, programs: message_table(programs["krb_bench"], programs["mit_messages"]),
     "memory": lambda folder, programs: memory_table(programs["krb_bench"]),
     "requests": lambda folder, programs: exchange.table(folder, programs["krb_exchange"], programs["mit_exchange"], run_of),
-    "c": lambda folder, programs: from_c.table(folder, from_c.built(folder, folder / "crates/krb_c")),
+    "c": lambda folder, programs: from_c.table(folder, from_c.built(folder)),
     "process": lambda folder, programs: exchange.lines_table(folder, programs["krb_exchange"], KRBTOOL, programs["mit_exchange"]),
     "listings": lambda folder, programs: files.tables(KRBTOOL),
+    "builds": lambda folder, programs: builds.table(builds.built(folder)),
 }
 
 

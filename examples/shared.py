@@ -9,8 +9,9 @@ Each line of standard input is a request in hex. It is answered by a line, `acce
 or `bad line`. After the service has accepted a request, it asks the store to add the request's stamp, and lets the client in only if the
 stamp is new. If the store doesn't answer in time (--wait SECONDS, 1 if left out), nobody is let in: `refused STORE -`.
 
-The store remembers across restarts of the service, so the service needn't be quiet at first. The store itself must not forget:
-docs/OPERATING.md says how to configure it, and has the table for PostgreSQL. examples/service/shared.c is an instance in C, over Redis.
+The store remembers across restarts of the service, so the service accepts requests at once. The store itself must not forget:
+docs/OPERATING.md says how to configure it, and has the table for PostgreSQL. If it is new, emptied or restored, start each instance with
+--again: it then refuses requests as JUST_STARTED until the skew has passed. examples/service/shared.c is an instance in C, over Redis.
 An option --at SECONDS takes that moment in place of the clock's.
 """
 import argparse
@@ -34,8 +35,11 @@ class Redis:
 
     def __init__(self, socket: str, wait: float) -> None:
         import redis
+        from redis.backoff import NoBackoff
+        from redis.retry import Retry
         self.faults = redis.RedisError
-        self.server = redis.Redis(unix_socket_path=socket, socket_timeout=wait, socket_connect_timeout=wait)
+        # A command that was sent is never sent again: its stamp would seem to be a repeat.
+        self.server = redis.Redis(unix_socket_path=socket, socket_timeout=wait, socket_connect_timeout=wait, retry=Retry(NoBackoff(), 0))
 
     def add(self, stamp: Stamp) -> bool:
         """Add a stamp in one step; whether it wasn't there."""
@@ -122,6 +126,7 @@ def main() -> None:
     which.add_argument("--redis", help="the socket of Redis")
     which.add_argument("--postgres", help="where PostgreSQL is, as 'host=/run/postgresql dbname=web'")
     words.add_argument("--wait", type=float, default=1, help="for how many seconds to wait for the store")
+    words.add_argument("--again", action="store_true", help="refuse requests at first, since the store may have lost stamps")
     words.add_argument("--at", type=int, help="a moment in place of the clock's, in seconds since 1970-01-01")
     given = words.parse_args()
     store: Store = Redis(given.redis, given.wait) if given.redis else Postgres(given.postgres, given.wait)
@@ -129,7 +134,7 @@ def main() -> None:
     def clock() -> float:
         return time.time() if given.at is None else float(given.at)
 
-    with Acceptor(Keytab.read(given.keytab), given.service, SKEW, started=None) as acceptor:
+    with Acceptor(Keytab.read(given.keytab), given.service, SKEW, started=clock() if given.again else None) as acceptor:
         for line in sys.stdin:
             print(answered(acceptor, store, given.service, line, clock), flush=True)
 

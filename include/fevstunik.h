@@ -31,16 +31,18 @@
  * a call takes.
  *
  * Arguments belong to the caller: no function keeps a pointer to them or frees them. The library
- * allocates what a handle holds, and the handle's function whose name ends in _free frees it. There
- * is nothing else to free. Files have at most 16,777,216 bytes, and requests, replies and errors at
- * most 1,048,576: anything longer is a fault. Other sizes are limited by memory alone, unless a
- * limit is named.
+ * allocates what a handle holds, and the handle's function whose name ends in _free frees it.
+ * There is nothing else to free. Files have at most 16,777,216 bytes, and requests, replies and
+ * errors at most 1,048,576: anything longer is a fault. Other sizes are limited by memory alone,
+ * unless a limit is named. FEVSTUNIK_OUT_OF_MEMORY may be returned instead of a fault that is
+ * found only after memory was asked for. It is never returned instead of a fault of a keytab or a
+ * cache, except by fevstunik_keytab_add and fevstunik_keytab_remove, which copy the file first.
  *
  * A function that returns bytes writes them to the start of the caller's buffer, and leaves the
  * rest of the buffer unchanged. If the buffer is too short, the code is FEVSTUNIK_SHORT_BUFFER,
  * `size` is the number of bytes needed, and the buffer is unchanged: make the call again with a
- * longer one. A buffer of size 0 asks for the number alone. fevstunik_request keeps in its handle
- * what it made even then.
+ * longer one. A buffer of size 0 asks for the number alone. fevstunik_request and
+ * fevstunik_context_request keep what they made in the handle `pending` even then.
  */
 #ifndef FEVSTUNIK_H
 #define FEVSTUNIK_H
@@ -140,19 +142,19 @@ typedef enum fevstunik_code {
     FEVSTUNIK_TOKEN_MALFORMED = 901,    /* the bytes aren't a token; `at` is the place of the fault */
     FEVSTUNIK_TOKEN_CONTINUES = 902,    /* the token continues a negotiation, and doesn't begin one */
     FEVSTUNIK_TOKEN_EMPTY = 903,        /* the negotiation has no token of Kerberos; `at` is the place of its mechanism */
-    FEVSTUNIK_TOKEN_ID = 904,           /* the token of Kerberos holds another message; `at` is the place of its identifier */
+    FEVSTUNIK_TOKEN_ID = 904,           /* the token of Kerberos holds a message of another kind; `at` is the place of its identifier */
     FEVSTUNIK_OTHER_MECHANISM = 910,    /* the mechanism at `at` isn't Kerberos */
     FEVSTUNIK_NTLM = 911,               /* the mechanism at `at` is NTLM */
     FEVSTUNIK_IAKERB = 912,             /* the mechanism at `at` is IAKERB */
-    FEVSTUNIK_NESTED_NEGOTIATION = 913, /* the mechanism at `at` is a negotiation once more */
+    FEVSTUNIK_NESTED_NEGOTIATION = 913, /* the mechanism at `at` is a nested negotiation */
     FEVSTUNIK_BAD_MECHANISM = 920,      /* the number of the mechanism is neither 1 nor 2 */
     FEVSTUNIK_CONTEXT_TRUNCATED = 930,  /* the checksum of type 0x8003 is cut off */
     FEVSTUNIK_CONTEXT_BINDINGS = 931,   /* the length of the bindings in it isn't 16 */
-    FEVSTUNIK_CONTEXT_DELEGATION = 932  /* the option of the delegation in it isn't 1 */
+    FEVSTUNIK_CONTEXT_DELEGATION = 932  /* its delegation option isn't 1 */
 } fevstunik_code;
 
-/* Returns the name of a code, such as "FEVSTUNIK_REPEAT", or NULL if the number isn't a code of
- * this header.
+/* Returns the name of a code, such as "FEVSTUNIK_REPEAT", or "FEVSTUNIK_UNKNOWN" if the number
+ * isn't a code of this header.
  *
  *     printf("%s\n", fevstunik_code_name(answer.code));
  */
@@ -220,12 +222,12 @@ static inline const char *fevstunik_code_name(uint32_t code)
     case FEVSTUNIK_CONTEXT_TRUNCATED: return "FEVSTUNIK_CONTEXT_TRUNCATED";
     case FEVSTUNIK_CONTEXT_BINDINGS: return "FEVSTUNIK_CONTEXT_BINDINGS";
     case FEVSTUNIK_CONTEXT_DELEGATION: return "FEVSTUNIK_CONTEXT_DELEGATION";
-    default: return NULL;
+    default: return "FEVSTUNIK_UNKNOWN";
     }
 }
 
 /* Returns the meaning of a code, such as "a request of this service, client and time was seen
- * before", or NULL if the number isn't a code of this header.
+ * before", or "an unknown code" if the number isn't a code of this header.
  *
  *     fprintf(stderr, "%s\n", fevstunik_code_text(answer.code));
  */
@@ -284,16 +286,16 @@ static inline const char *fevstunik_code_text(uint32_t code)
     case FEVSTUNIK_TOKEN_MALFORMED: return "the bytes aren't a token; `at` is the place of the fault";
     case FEVSTUNIK_TOKEN_CONTINUES: return "the token continues a negotiation, and doesn't begin one";
     case FEVSTUNIK_TOKEN_EMPTY: return "the negotiation has no token of Kerberos; `at` is the place of its mechanism";
-    case FEVSTUNIK_TOKEN_ID: return "the token of Kerberos holds another message; `at` is the place of its identifier";
+    case FEVSTUNIK_TOKEN_ID: return "the token of Kerberos holds a message of another kind; `at` is the place of its identifier";
     case FEVSTUNIK_OTHER_MECHANISM: return "the mechanism at `at` isn't Kerberos";
     case FEVSTUNIK_NTLM: return "the mechanism at `at` is NTLM";
     case FEVSTUNIK_IAKERB: return "the mechanism at `at` is IAKERB";
-    case FEVSTUNIK_NESTED_NEGOTIATION: return "the mechanism at `at` is a negotiation once more";
+    case FEVSTUNIK_NESTED_NEGOTIATION: return "the mechanism at `at` is a nested negotiation";
     case FEVSTUNIK_BAD_MECHANISM: return "the number of the mechanism is neither 1 nor 2";
     case FEVSTUNIK_CONTEXT_TRUNCATED: return "the checksum of type 0x8003 is cut off";
     case FEVSTUNIK_CONTEXT_BINDINGS: return "the length of the bindings in it isn't 16";
-    case FEVSTUNIK_CONTEXT_DELEGATION: return "the option of the delegation in it isn't 1";
-    default: return NULL;
+    case FEVSTUNIK_CONTEXT_DELEGATION: return "its delegation option isn't 1";
+    default: return "an unknown code";
     }
 }
 
@@ -441,6 +443,12 @@ typedef struct fevstunik_context {
     bool has_delegation;       /* whether it delegates credentials */
 } fevstunik_context;
 
+/* What a client of GSS-API asks for when it builds a request. */
+typedef struct fevstunik_context_choice {
+    uint32_t flags;       /* 2 mutual, 4 replay, 8 sequence, 16 confidentiality, 32 integrity; 1 (delegation) is left out */
+    uint8_t bindings[16]; /* the MD5 hash of the channel's bindings (RFC 4121, section 4.1.1.2), or zeros if there are none */
+} fevstunik_context_choice;
+
 /* A service that accepts requests: opaque, and all zero before its first use. */
 typedef struct fevstunik_acceptor {
     void *opaque;
@@ -478,8 +486,8 @@ typedef struct fevstunik_pending {
 /* Checks that the bytes of a file are a keytab of version 0x0502. `size` is the number of its
  * entries.
  *
- * Returns FEVSTUNIK_OK, or FEVSTUNIK_TOO_LONG, _FILE_VERSION, _FILE_TRUNCATED, _FILE_BAD_ITEM or
- * FEVSTUNIK_OUT_OF_MEMORY.
+ * Returns FEVSTUNIK_OK, or the first that applies: FEVSTUNIK_TOO_LONG, _FILE_VERSION,
+ * _FILE_TRUNCATED, _FILE_BAD_ITEM or, only if the bytes are a keytab, FEVSTUNIK_OUT_OF_MEMORY.
  *
  *     if (fevstunik_keytab_check(file, file_size).code == FEVSTUNIK_OK) ...
  */
@@ -488,8 +496,8 @@ fevstunik_answer fevstunik_keytab_check(const uint8_t *keytab, size_t keytab_siz
 /* Checks that the bytes of a file are a credential cache of version 0x0503 or 0x0504. `size` is the
  * number of its credentials; configuration entries count too.
  *
- * Returns FEVSTUNIK_OK, or FEVSTUNIK_TOO_LONG, _FILE_VERSION, _FILE_HEADER, _FILE_BAD_ITEM or
- * FEVSTUNIK_OUT_OF_MEMORY.
+ * Returns FEVSTUNIK_OK, or the first that applies: FEVSTUNIK_TOO_LONG, _FILE_VERSION, _FILE_HEADER,
+ * _FILE_BAD_ITEM or, only if the bytes are a cache, FEVSTUNIK_OUT_OF_MEMORY.
  *
  *     if (fevstunik_cache_check(file, file_size).code == FEVSTUNIK_OK) ...
  */
@@ -499,8 +507,9 @@ fevstunik_answer fevstunik_cache_check(const uint8_t *cache, size_t cache_size);
  * entries can be read one by one. What the handle held is freed. The file's bytes aren't needed
  * afterwards. `size` is the number of its entries.
  *
- * Returns FEVSTUNIK_OK; or leaves the handle unchanged and returns FEVSTUNIK_TOO_LONG,
- * _FILE_VERSION, _FILE_TRUNCATED, _FILE_BAD_ITEM or FEVSTUNIK_OUT_OF_MEMORY.
+ * Returns FEVSTUNIK_OK; or leaves the handle unchanged and returns the first that applies:
+ * FEVSTUNIK_TOO_LONG, _FILE_VERSION, _FILE_TRUNCATED, _FILE_BAD_ITEM or, only if the bytes are a
+ * keytab, FEVSTUNIK_OUT_OF_MEMORY.
  *
  *     fevstunik_keytab keytab = FEVSTUNIK_KEYTAB_INIT;
  *     answer = fevstunik_keytab_new(&keytab, file, file_size);
@@ -528,8 +537,8 @@ fevstunik_answer fevstunik_keytab_entry(const fevstunik_keytab *keytab, size_t i
 void fevstunik_keytab_free(fevstunik_keytab *keytab);
 
 /* Reads a credential cache (the bytes of a file of version 0x0503 or 0x0504), and keeps it in the
- * handle, for any number of requests and to read its credentials one by one. What the handle held is
- * freed. The file's bytes aren't needed afterwards. `size` is the number of its credentials;
+ * handle, for any number of requests and to read its credentials one by one. What the handle held
+ * is freed. The file's bytes aren't needed afterwards. `size` is the number of its credentials;
  * configuration entries count too.
  *
  * Returns FEVSTUNIK_OK; or leaves the handle unchanged and returns the first that applies:
@@ -581,7 +590,7 @@ void fevstunik_cache_free(fevstunik_cache *cache);
  * applies: FEVSTUNIK_NOT_UTF8, _BAD_TEXT or _NO_REALM for the name; FEVSTUNIK_TOO_LONG if the name
  * has more than 65,535 parts, or a part of it or the key has more than 65,535 bytes;
  * FEVSTUNIK_TOO_LONG, _FILE_VERSION, _FILE_TRUNCATED or _FILE_BAD_ITEM for the keytab;
- * FEVSTUNIK_TOO_LONG for the new file; or FEVSTUNIK_OUT_OF_MEMORY.
+ * FEVSTUNIK_TOO_LONG for the new file. FEVSTUNIK_OUT_OF_MEMORY may take the place of each.
  *
  *     fevstunik_key_parts parts = {1700000000, 3, 3, 19};
  *     answer = fevstunik_keytab_add(file, file_size, (const uint8_t *)"host/web@EX", 11, key, 16, &parts, buffer, sizeof buffer);
@@ -592,9 +601,9 @@ fevstunik_answer fevstunik_keytab_add(const uint8_t *keytab, size_t keytab_size,
 /* Removes one entry of a keytab, and returns the bytes of the new file; `index` counts from 0. The
  * entry's record becomes a hole of zeros. Nothing else changes, so the file's size stays the same.
  *
- * Returns FEVSTUNIK_OK or FEVSTUNIK_SHORT_BUFFER; or writes nothing and returns FEVSTUNIK_TOO_LONG,
- * _FILE_VERSION, _FILE_TRUNCATED, _FILE_BAD_ITEM, FEVSTUNIK_NO_SUCH_ENTRY or
- * FEVSTUNIK_OUT_OF_MEMORY.
+ * Returns FEVSTUNIK_OK or FEVSTUNIK_SHORT_BUFFER; or writes nothing and returns the first that
+ * applies: FEVSTUNIK_TOO_LONG, _FILE_VERSION, _FILE_TRUNCATED, _FILE_BAD_ITEM or
+ * FEVSTUNIK_NO_SUCH_ENTRY. FEVSTUNIK_OUT_OF_MEMORY may take the place of each.
  *
  *     answer = fevstunik_keytab_remove(file, file_size, 0, buffer, sizeof buffer);
  */
@@ -603,9 +612,9 @@ fevstunik_answer fevstunik_keytab_remove(const uint8_t *keytab, size_t keytab_si
 /* Returns the bytes of a new file with the entries of a keytab, in their order. Holes, and whatever
  * follows an end word, are left out. Each entry has its version number in 32 bits too.
  *
- * Returns FEVSTUNIK_OK or FEVSTUNIK_SHORT_BUFFER; or writes nothing and returns FEVSTUNIK_TOO_LONG
- * (for the keytab or the new file), _FILE_VERSION, _FILE_TRUNCATED, _FILE_BAD_ITEM or
- * FEVSTUNIK_OUT_OF_MEMORY.
+ * Returns FEVSTUNIK_OK or FEVSTUNIK_SHORT_BUFFER; or writes nothing and returns the first that
+ * applies: FEVSTUNIK_TOO_LONG, _FILE_VERSION, _FILE_TRUNCATED or _FILE_BAD_ITEM for the keytab;
+ * FEVSTUNIK_TOO_LONG for the new file; or FEVSTUNIK_OUT_OF_MEMORY.
  *
  *     answer = fevstunik_keytab_write(file, file_size, buffer, sizeof buffer);
  */
@@ -613,10 +622,10 @@ fevstunik_answer fevstunik_keytab_write(const uint8_t *keytab, size_t keytab_siz
 
 /* ---- names ---- */
 
-/* Checks that a text is a valid name, such as host/web@EX: components separated by `/`, then `@` and
- * a realm. Within a component or the realm, a backslash comes before each `/`, `@` and backslash,
- * and a byte that isn't a visible ASCII character is written as `\x` and two hexadecimal digits in
- * lower case. `size` is the number of components. A name has only one text.
+/* Checks that a text is a valid name, such as host/web@EX: components separated by `/`, then `@`
+ * and a realm. Within a component or the realm, a backslash comes before each `/`, `@` and
+ * backslash, and a byte that isn't a visible ASCII character is written as `\x` and two
+ * hexadecimal digits in lower case. `size` is the number of components. A name has only one text.
  *
  * Returns FEVSTUNIK_OK, FEVSTUNIK_NOT_UTF8, FEVSTUNIK_BAD_TEXT with the offset in `at`,
  * FEVSTUNIK_NO_REALM or FEVSTUNIK_OUT_OF_MEMORY.
@@ -634,19 +643,20 @@ fevstunik_answer fevstunik_name_check(const uint8_t *name, size_t name_size);
  *
  * `service` is the text of the one name that is served, such as host/web@EX: a ticket for any other
  * name is answered NOT_US. If `service_size` is 0, each name of the keytab is served. Name the
- * service if the keytab has keys of several names: otherwise a ticket for any of them lets its
- * client in.
+ * service if the keytab has keys of several names: otherwise clients with a ticket for any of these
+ * names are let in.
  * The name in a ticket isn't sealed, so someone who records a request can write another name into
  * it. If two served names have the same key, a recorded request is accepted once more under the
  * other name.
  *
- * Use this function only for a service that never ran before, or whose instances share a store of
- * stamps (fevstunik_accepted_stamp). After a restart use fevstunik_acceptor_started: a service that
- * forgot its requests may accept one of them again.
+ * Use this function only for a service that never ran before, or that shares a store of stamps
+ * (fevstunik_accepted_stamp) which has been used since then and has lost nothing. After a restart
+ * use fevstunik_acceptor_started: a service that forgot its requests may accept one of them again.
  *
  * Returns FEVSTUNIK_OK; or leaves the handle unchanged and returns the first that applies:
  * FEVSTUNIK_BAD_SKEW; FEVSTUNIK_TOO_LONG, _FILE_VERSION, _FILE_TRUNCATED or _FILE_BAD_ITEM for the
- * keytab; FEVSTUNIK_NOT_UTF8, _BAD_TEXT or _NO_REALM for the service; or FEVSTUNIK_OUT_OF_MEMORY.
+ * keytab; FEVSTUNIK_OUT_OF_MEMORY for the keytab; FEVSTUNIK_NOT_UTF8, _BAD_TEXT or _NO_REALM for
+ * the service; or FEVSTUNIK_OUT_OF_MEMORY.
  *
  *     fevstunik_acceptor service = FEVSTUNIK_ACCEPTOR_INIT;
  *     fevstunik_answer answer = fevstunik_acceptor_new(&service, file, file_size, 300, (const uint8_t *)"host/web@EX", 11);
@@ -655,17 +665,17 @@ fevstunik_answer fevstunik_acceptor_new(fevstunik_acceptor *handle, const uint8_
                                         const uint8_t *service, size_t service_size);
 
 /* Makes a service as fevstunik_acceptor_new does, for a service that is started again and has
- * forgotten what it accepted before. `start` is its clock at this start. The service is quiet at
- * first: it answers JUST_STARTED until its clock and the client's are both later than `start` by
- * more than the skew. So no request that was accepted before is accepted again. This holds on three
- * conditions: the keytab is the same, `start` is no earlier than any moment that was given before,
- * and the skew is no smaller than it was. So round `start` up if it comes from a coarser clock than
- * those moments.
+ * forgotten what it accepted before. `start` is its clock at this start. At first it refuses
+ * requests: it answers JUST_STARTED until its clock and the client's are both later than `start`
+ * by more than the skew. So no request that was accepted before is accepted again. This holds on
+ * two conditions: `start` is no earlier than any moment that was given before, and the skew is no
+ * smaller than it was. (The proof also assumes the same keytab; docs/ACCEPTANCE.md has the
+ * argument without that.) Round `start` up if it comes from a coarser clock than those moments.
  *
  * Returns FEVSTUNIK_OK; or leaves the handle unchanged and returns the first that applies:
  * FEVSTUNIK_BAD_MOMENT for `start`; FEVSTUNIK_BAD_SKEW; FEVSTUNIK_TOO_LONG, _FILE_VERSION,
- * _FILE_TRUNCATED or _FILE_BAD_ITEM for the keytab; FEVSTUNIK_NOT_UTF8, _BAD_TEXT or _NO_REALM for
- * the service; or FEVSTUNIK_OUT_OF_MEMORY.
+ * _FILE_TRUNCATED or _FILE_BAD_ITEM for the keytab; FEVSTUNIK_OUT_OF_MEMORY for the keytab;
+ * FEVSTUNIK_NOT_UTF8, _BAD_TEXT or _NO_REALM for the service; or FEVSTUNIK_OUT_OF_MEMORY.
  *
  *     fevstunik_time start = {time(NULL) + 1, 0};
  *     answer = fevstunik_acceptor_started(&service, file, file_size, 300, (const uint8_t *)"host/web@EX", 11, &start);
@@ -675,13 +685,14 @@ fevstunik_answer fevstunik_acceptor_started(fevstunik_acceptor *handle, const ui
 
 /* Gives a service another keytab, for example with a changed key. The service keeps all else: what
  * it has seen, the latest moment, the skew and the start. So a request that was accepted under the
- * old keytab isn't accepted again. (fevstunik_acceptor_new and fevstunik_acceptor_started on a handle
- * that holds a service forget what that service has seen.) `service` is as in
+ * old keytab isn't accepted again. (fevstunik_acceptor_new and fevstunik_acceptor_started on a
+ * handle that holds a service forget what that service has seen.) `service` is as in
  * fevstunik_acceptor_new.
  *
- * Returns FEVSTUNIK_OK; or leaves the service unchanged and returns FEVSTUNIK_EMPTY_HANDLE;
- * FEVSTUNIK_TOO_LONG, _FILE_VERSION, _FILE_TRUNCATED or _FILE_BAD_ITEM for the keytab;
- * FEVSTUNIK_NOT_UTF8, _BAD_TEXT or _NO_REALM for the service; or FEVSTUNIK_OUT_OF_MEMORY.
+ * Returns FEVSTUNIK_OK; or leaves the service unchanged and returns the first that applies:
+ * FEVSTUNIK_EMPTY_HANDLE; FEVSTUNIK_TOO_LONG, _FILE_VERSION, _FILE_TRUNCATED or _FILE_BAD_ITEM for
+ * the keytab; FEVSTUNIK_OUT_OF_MEMORY for the keytab; FEVSTUNIK_NOT_UTF8, _BAD_TEXT or _NO_REALM
+ * for the service; or FEVSTUNIK_OUT_OF_MEMORY.
  *
  *     answer = fevstunik_acceptor_replace_keytab(&service, file, file_size, (const uint8_t *)"host/web@EX", 11);
  */
@@ -710,9 +721,9 @@ fevstunik_answer fevstunik_accepted_new(fevstunik_accepted *accepted);
  * kept there. Threads that share a service lock it for this call, as for each call with its handle.
  * If each thread has an accepted handle of its own, what was accepted needs no lock.
  *
- * The service keeps the cause of a refusal until its next call, and fevstunik_acceptor_error builds
- * an error for the client from it. fevstunik_error builds the same error from the answer's code
- * alone, and needs no lock.
+ * fevstunik_error builds an error for the client from the answer's code, and needs no lock. The
+ * service also keeps the cause of a refusal until a call decides another request or has an invalid
+ * moment, and fevstunik_acceptor_error builds the error from that.
  *
  * Returns FEVSTUNIK_OK; a cause from FEVSTUNIK_MESSAGE_TYPE to FEVSTUNIK_AUTHORIZATION;
  * FEVSTUNIK_BAD_MOMENT; FEVSTUNIK_EMPTY_HANDLE if either handle is empty; or
@@ -746,10 +757,13 @@ fevstunik_answer fevstunik_acceptor_accept(fevstunik_acceptor *handle, fevstunik
 fevstunik_answer fevstunik_accepted_known(const fevstunik_accepted *accepted, fevstunik_known *known, uint8_t *buffer, size_t buffer_size);
 
 /* Writes the stamp of the accepted request to the buffer: the service, the client and the client's
- * time as one string of bytes. A repeat has the stamp of the request that it repeats, and no other
- * request has it. Use it if several instances of a service share a store: let the client in only if the store hadn't got
- * the stamp, and have the store keep it until `keep_until`, which is the client's time plus twice
- * `skew`, in seconds. `keep_until` is written even if the buffer is too short.
+ * time as one string of bytes. Requests have the same stamp exactly if they are of the same
+ * service, client and time. Use it if several instances of a service share a store: let the client
+ * in only if the store adds the stamp, in one step, and says that it was new; and have the store
+ * keep it until `keep_until`, rounded up. That is the client's time plus twice `skew`, in seconds;
+ * `skew` is the largest of all instances. Look at the clock again after the store's answer, and
+ * refuse the request if its time is then past by more than the skew. docs/OPERATING.md says why.
+ * `keep_until` is written even if the buffer is too short.
  *
  * Returns FEVSTUNIK_OK or FEVSTUNIK_SHORT_BUFFER; or writes nothing and returns
  * FEVSTUNIK_EMPTY_HANDLE, FEVSTUNIK_NOTHING_THERE, FEVSTUNIK_BAD_SKEW (more than 86,400 seconds),
@@ -761,8 +775,8 @@ fevstunik_answer fevstunik_accepted_known(const fevstunik_accepted *accepted, fe
 fevstunik_answer fevstunik_accepted_stamp(const fevstunik_accepted *accepted, uint32_t skew, fevstunik_time *keep_until, uint8_t *buffer,
                                           size_t buffer_size);
 
-/* Returns when the ticket of the accepted request becomes valid, if the ticket says so. Otherwise it
- * is valid from `authtime` on. The call allocates no memory.
+/* Returns when the ticket of the accepted request becomes valid, if the ticket says so. Otherwise
+ * it is valid from `authtime` on. The call allocates no memory.
  *
  * Returns FEVSTUNIK_OK; or writes nothing and returns FEVSTUNIK_EMPTY_HANDLE, or
  * FEVSTUNIK_NOTHING_THERE if nothing was accepted or the ticket doesn't say.
@@ -883,7 +897,8 @@ void fevstunik_acceptor_free(fevstunik_acceptor *handle);
  * has the bytes of the subkey whose type is in `choice`. If that type is 0, they are ignored.
  *
  * Keeps what is needed to read the reply in the handle `pending`, even if the buffer is too short.
- * What that handle held is freed.
+ * What that handle held is freed. The cache's handle keeps the keys that were derived, so later
+ * requests with the same credential take less time.
  *
  * Returns FEVSTUNIK_OK or FEVSTUNIK_SHORT_BUFFER; or writes nothing, leaves `pending` unchanged,
  * and returns the first that applies: FEVSTUNIK_EMPTY_HANDLE if `cache` is empty;
@@ -903,6 +918,28 @@ fevstunik_answer fevstunik_request(const fevstunik_cache *cache, fevstunik_pendi
                                    const fevstunik_time *at, const uint8_t *confounder, size_t confounder_size,
                                    const fevstunik_choice *choice, const uint8_t *subkey, size_t subkey_size, uint8_t *buffer,
                                    size_t buffer_size);
+
+/* Builds a request as fevstunik_request does, for a client of GSS-API: the authenticator has a
+ * checksum of type 0x8003 (RFC 4121, section 4.1.1), which says what `context` says. Such a request
+ * also needs a sequence number (`choice->has_seq`), and if it asks for a reply
+ * (`choice->wants_reply`), the flag 2. Pass it to fevstunik_token_request.
+ *
+ * Returns what fevstunik_request returns: FEVSTUNIK_OK or FEVSTUNIK_SHORT_BUFFER; or writes nothing,
+ * leaves `pending` unchanged, and returns the first that applies: FEVSTUNIK_EMPTY_HANDLE if `cache`
+ * is empty; FEVSTUNIK_NOT_UTF8, _BAD_TEXT or _NO_REALM for the service; FEVSTUNIK_BAD_MOMENT;
+ * FEVSTUNIK_BAD_CONFOUNDER; FEVSTUNIK_KEY_TYPE or _KEY_LENGTH; FEVSTUNIK_NO_CREDENTIAL,
+ * _NO_USABLE_KEY, _CREDENTIAL_EXPIRED, _BAD_TICKET or _TOO_LONG; or FEVSTUNIK_OUT_OF_MEMORY.
+ *
+ *     fevstunik_choice choice = {0, number, true, true};
+ *     fevstunik_context_choice context = {2, {0}};
+ *     answer = fevstunik_context_request(&cache, &pending, (const uint8_t *)"host/web@EX", 11, &now, random, 16, &choice, random, 0,
+ *                                        &context, buffer, sizeof buffer);
+ */
+fevstunik_answer fevstunik_context_request(const fevstunik_cache *cache, fevstunik_pending *pending, const uint8_t *service,
+                                           size_t service_size, const fevstunik_time *at, const uint8_t *confounder,
+                                           size_t confounder_size, const fevstunik_choice *choice, const uint8_t *subkey,
+                                           size_t subkey_size, const fevstunik_context_choice *context, uint8_t *buffer,
+                                           size_t buffer_size);
 
 /* Reads the reply (the bytes of an AP-REP) to the request that is kept in the handle, and returns
  * what both sides agree on. Writes the client's text, the session key and the service's subkey to
@@ -991,7 +1028,9 @@ fevstunik_answer fevstunik_checksum_check(int32_t key_type, const uint8_t *key, 
 fevstunik_answer fevstunik_token_open(const uint8_t *token, size_t token_size, fevstunik_wrapped *wrapped, uint8_t *buffer,
                                       size_t buffer_size);
 
-/* Returns the first token of a client for a request.
+/* Returns the first token of a client for a request. Build it with fevstunik_context_request: RFC
+ * 4121, section 4.1.1, requires the checksum of type 0x8003. A service of this library accepts a
+ * request without one, but others may refuse it, or not reply.
  *
  * Returns FEVSTUNIK_OK or FEVSTUNIK_SHORT_BUFFER; or writes nothing and returns
  * FEVSTUNIK_BAD_MECHANISM, FEVSTUNIK_TOO_LONG (the token would have more than 1,048,576 bytes) or
@@ -1026,8 +1065,8 @@ fevstunik_answer fevstunik_token_error(const fevstunik_wrapped *wrapped, const u
                                        size_t buffer_size);
 
 /* Opens a service's answer to a client's first token, and returns the reply or the KRB-ERROR.
- * `is_error` says which; it is set on FEVSTUNIK_OK and FEVSTUNIK_SHORT_BUFFER. The call allocates no
- * memory.
+ * `is_error` says which; it is set on FEVSTUNIK_OK and FEVSTUNIK_SHORT_BUFFER. The call allocates
+ * no memory.
  *
  * Returns FEVSTUNIK_OK or FEVSTUNIK_SHORT_BUFFER; or writes nothing and returns
  * FEVSTUNIK_NOT_A_TOKEN, _TOKEN_MALFORMED, _TOKEN_EMPTY or _TOKEN_ID, or one of the codes of other
@@ -1039,8 +1078,8 @@ fevstunik_answer fevstunik_token_error(const fevstunik_wrapped *wrapped, const u
 fevstunik_answer fevstunik_token_answer(const uint8_t *token, size_t token_size, bool *is_error, uint8_t *buffer, size_t buffer_size);
 
 /* Reads what a client of GSS-API asks for, in the authenticator's checksum of type 0x8003 (32771;
- * RFC 4121, section 4.1.1), as `fevstunik_accepted_item` returns it. The bindings, the delegation and
- * the extensions are written to the buffer. `context` is filled on FEVSTUNIK_OK and
+ * RFC 4121, section 4.1.1), as `fevstunik_accepted_item` returns it. The bindings, the delegation
+ * and the extensions are written to the buffer. `context` is filled on FEVSTUNIK_OK and
  * FEVSTUNIK_SHORT_BUFFER. The call compares the bindings with nothing: compare them with the MD5
  * hash of your channel's.
  *

@@ -33,7 +33,7 @@ ITEM = re.compile(
     re.S | re.M | re.X,
 )
 # Fields of a struct and numbers of an enum, with what is said of them, and comments that stand alone.
-MEMBER = re.compile(r" +(?:(?P<of>[\w ]+ \**)?(?P<name>\w+)(?: = (?P<number>\d+))?[;,]? *)?(?:/\*(?P<comment>(?:(?!\*/).)*)\*/)?", re.S)
+MEMBER = re.compile(r" +(?:(?P<of>[\w ]+ \**)?(?P<name>\w+(?:\[\d+\])?)(?: = (?P<number>\d+))?[;,]? *)?(?:/\*(?P<comment>(?:(?!\*/).)*)\*/)?", re.S)
 # What is marked in a text: what stands in backticks, names of the library, abbreviated names of codes, and C's names.
 MARK = re.compile(r"`(?P<quoted>[^`]+)`|(?P<own>fevstunik_\w+)|\b(?P<big>[A-Z_]*[A-Z]_[A-Z]\w*|_[A-Z]\w*|NULL)\b")
 SENTENCE_ENDS = re.compile(r"[.!?][)'\"]*$")

@@ -130,6 +130,17 @@ def cache_with(credentials):
     return b"\x05\x04\x00\x00" + client + b"".join(others) + der.credential(client, server, 19, der.SESSION_KEY, times, large_ticket())
 
 
+def cache_of_services(count):
+    """A cache with tickets for so many services. Their session keys are few: of both types, some with the same first bytes."""
+    client, times = client_and_server()[0], (1_700_000_000, 0, 1_700_036_000, 0)
+    made = b"\x05\x04\x00\x00" + client
+    for number in range(count):
+        etype, size = ((19, 16), (20, 32))[number % 2]
+        key = bytes((number // 2 % 5 + at) % 256 for at in range(size))
+        made += der.credential(client, der.principal(3, b"EX", b"host", b"n%04d" % number), etype, key, times, der.ticket())
+    return made
+
+
 # Clients with a cache each, for tests with threads.
 CLIENTS = [f"c{number:04d}" for number in range(40)]
 

@@ -8,7 +8,7 @@ from pathlib import Path
 TOP = Path(__file__).resolve().parent.parent
 CRATE = TOP / "crates/krb_c"
 HEADER = TOP / "include/fevstunik.h"
-TYPES = {"u32": "uint32_t", "i16": "int16_t", "i32": "int32_t", "i64": "int64_t", "usize": "size_t", "bool": "bool",
+TYPES = {"u8": "uint8_t", "u32": "uint32_t", "i16": "int16_t", "i32": "int32_t", "i64": "int64_t", "usize": "size_t", "bool": "bool",
          "Handle": "fevstunik_acceptor", "Slot": "fevstunik_accepted", "KeytabHandle": "fevstunik_keytab", "CacheHandle": "fevstunik_cache",
          "PendingHandle": "fevstunik_pending"}
 HANDLES = {"Handle", "Slot", "KeytabHandle", "CacheHandle", "PendingHandle"}
@@ -106,13 +106,19 @@ def crate_text():
     return "\n".join(path.read_text() for path in sorted((CRATE / "src").glob("*.rt")))
 
 
+def fields_of(body):
+    """The fields of a struct of the crate: the name, the type, or that of an array's elements, and how many these are."""
+    found = re.findall(r"^    pub (\w+): (?:(\w+)|\[(\w+); (\d+)\]),$", body, re.M)
+    return [(name, of or element, f"[{count}]" if count else "") for name, of, element, count in found]
+
+
 def structs():
     """The header's structs have the crate's fields, in their order. (Handles are opaque.)"""
     form = r"#\[repr\(C\)\]\n#\[derive\(Clone, Copy\)\]\npub struct (\w+) \{\n(.*?)\n\}"
-    crate = {(c_type(name), tuple((c_type(of), field) for field, of in re.findall(r"^    pub (\w+): (\w+),$", body, re.M)))
+    crate = {(c_type(name), tuple((c_type(of), field + count) for field, of, count in fields_of(body)))
              for name, body in re.findall(form, crate_text(), re.S)}
     form = r"typedef struct (\w+) \{\n(.*?)\n\}"
-    header = {(name, tuple(re.findall(r"^    (\w+) (\w+);", body, re.M)))
+    header = {(name, tuple(re.findall(r"^    (\w+) (\w+(?:\[\d+\])?);", body, re.M)))
               for name, body in re.findall(form, without_comments(HEADER.read_text()), re.S) if name not in map(c_type, HANDLES)}
     return differs(header, crate)
 

@@ -189,6 +189,16 @@ def with_large_files(room):
     yield from counted("the program with large files", Answered(), program, ITEMS, ITEMS, *(room / name for name in made))
 
 
+def with_kept_keys(room):
+    """Requests with keys that the handle of a cache has kept (tests/c/requests.c)."""
+    program, cache, count = room / "requests", room / "services.ccache", 100
+    built = linked(program, ROOT / "tests/c/requests.c")
+    yield "the program of many requests is linked", wrong(built)
+    if built.returncode == 0:
+        cache.write_bytes(c_cases.cache_of_services(count))
+        yield from counted("the program of many requests", Answered(), program, cache, count)
+
+
 def current_cache(now):
     """The fixture's cache with a ticket that is valid now, for ten hours."""
     times = [time.strftime("%Y%m%d%H%M%SZ", time.gmtime(at)).encode() for at in (now, now + 36_000)]
@@ -359,6 +369,7 @@ def checks(inputs, tokens):
         yield from headers(room)
         yield from from_c(room, Answered())
         yield from with_large_files(room)
+        yield from with_kept_keys(room)
         yield from over_threads(room)
         yield from over_tcp(room)
         yield from c_peers.checks(room)

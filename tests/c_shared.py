@@ -243,6 +243,8 @@ def over(store, kinds, folder, library, requests):
             late = instance(kind, PATIENT, LD_PRELOAD=str(folder / "clock.so"), CLOCK_FILE=str(ahead))
             yield "an instance with another clock", is_it(late.asked(next(given)), ACCEPTED)
             yield from too_late(store, late, ahead, next(given))
+            again = instance(lambda *words: kind(*words, again=True), PATIENT)
+            yield "an instance whose store may have lost stamps", is_it(again.asked(next(given)), ("refused", "JUST_STARTED"))
     finally:
         for it in started:
             it.close()
@@ -267,11 +269,11 @@ def made_requests(cache, count, library, ago=0):
 
 def checks(folder, library, program, cache):
     """`cache` has a ticket for host/web@EX that is valid now; `program` is examples/service/shared.c; clock.so is in the folder."""
-    def in_c(store, wait):
-        return [program, *SERVICE, store.socket, wait]
+    def in_c(store, wait, again=False):
+        return [program, *SERVICE, store.socket, wait, *["again"][:again]]
 
-    def in_python(store, wait):
-        return [PYTHON, "-B", TOP / "examples/shared.py", *SERVICE, *store.words, "--wait", wait]
+    def in_python(store, wait, again=False):
+        return [PYTHON, "-B", TOP / "examples/shared.py", *SERVICE, *store.words, "--wait", wait, *["--again"][:again]]
 
     for make, kinds in ((store_servers.Redis, [in_c, in_c, in_python, in_python]), (store_servers.Postgres, [in_python] * 4)):
         store = None

@@ -1,6 +1,8 @@
 """The web service of examples/negotiate beside real clients, with a KDC of MIT krb5: curl, MIT's GSS-API by python3-gssapi, Heimdal's
 GSS-API, Java's GSS-API and HttpURLConnection, gokrb5, our own client, and curl through nginx with auth_request.
 
+Our client, and the tokens of krbtool, log in at a service over MIT's GSS-API, too.
+
 Each is let in with its own name, and verifies the answer token if it can. A ticket for another service, an expired ticket, a wrong clock, a
 repeat, a bent token, another mechanism, a service's start and what isn't a token are refused, by name in the service's log. Java gets each
 ticket from the KDC, which refuses a client with a wrong clock, and gokrb5 asks the kernel for the time. So these two have a right clock, and
@@ -21,6 +23,7 @@ from pathlib import Path
 
 TOP = Path(__file__).resolve().parent.parent
 WEB = TOP / "tests/web"
+KRBTOOL = TOP / "crates/krbtool/out/krbtool"
 sys.path += [str(TOP / "tests"), str(TOP / "tests/peers")]
 import kdc  # noqa: E402
 import tickets  # noqa: E402
@@ -258,6 +261,68 @@ def with_ours(realm, service, library, kind):
     yield from refused(service, f"a repeat, {kind},", header, REPEAT)
 
 
+IN_CONTEXT = """
+import sys
+from fevstunik import ContextFlags, CredentialCache, make_request, open_answer, wrap_request
+cache, service, kind, flags, *bindings = sys.argv[1:]
+bound = bindings[0].encode() if bindings else None
+request, pending = make_request(CredentialCache.read(cache), service, context=ContextFlags(int(flags)), bindings=bound)
+print(wrap_request(request, negotiated=kind == "spnego").hex(), flush=True)
+answer = open_answer(bytes.fromhex(sys.stdin.readline()))
+print("error" if answer.is_error else pending.finish(answer.message).client)
+"""
+# Replay, sequence, confidentiality and integrity; and with a reply that is asked for, and a delegation, which is left out.
+ASKED, DELEGATED = 0x3C, 0x3D
+BINDINGS = "tls-server-end-point:abc"
+
+
+def answered_by_mit(realm, token, *bindings):
+    """What a service over MIT's GSS-API says of a token in hex."""
+    env = realm.environment("default", KRB5_KTNAME=str(realm.folder / "www.keytab"), KRB5RCACHENAME="none:")
+    return kdc.ran([PYTHON, "-B", WEB / "service.py", *bindings], seconds=SECONDS, env=env, input=f"{token}\n").split()
+
+
+def at_mits_service(realm, library, kind, flags, *bindings):
+    """Our client logs in at a service over MIT's GSS-API, and reads its answer."""
+    where = {**os.environ, "FEVSTUNIK_LIBRARY": str(library), "PYTHONPATH": str(TOP / "python")}
+    words = [PYTHON, "-B", "-c", IN_CONTEXT, str(realm.folder / "alice.ccache"), f"{SERVICE}@{REALM}", kind, str(flags), *bindings]
+    client = subprocess.Popen(words, stdin=subprocess.PIPE, stdout=subprocess.PIPE, text=True, env=where)
+    what = f"our client, {' '.join([kind, hex(flags), *bindings])}, at a service of MIT's GSS-API"
+    token = client.stdout.readline().strip()
+    said = answered_by_mit(realm, token, *bindings)
+    yield f"{what} is let in", is_it((said[0], said[2:3]), (ALICE, ["complete"]))
+    yield f"{what} has its flags", is_it(int(said[1]) & 0x3F, ASKED | 2)
+    yield f"{what} reads the answer", is_it(client.communicate(said[3] + "\n", timeout=SECONDS)[0], f"{ALICE}\n")
+    if bindings:
+        yield f"{what}, on another channel, is refused", is_it(answered_by_mit(realm, token, "tls-server-end-point:abd")[0], "refused")
+
+
+def reply_in(token):
+    """The reply in a token, after the identifier of such tokens. (It has a length of one byte, or of two or three with 0x81 or 0x82.)"""
+    reply = token[token.index(b"\2\0\x6f") + 2:]
+    more = max(0, reply[1] - 0x80)
+    return reply[:2 + more + (int.from_bytes(reply[2:2 + more], "big") if more else reply[1])]
+
+
+def of_the_program(realm, kind):
+    """A token of krbtool logs in at a service over MIT's GSS-API, and krbtool reads its answer."""
+    cache, now = realm.folder / "alice.ccache", int(time.time())
+    moment = ["--time", now, "--usec", "5"]
+    token = kdc.ran([KRBTOOL, "request", cache, f"{SERVICE}@{REALM}", *moment, "--confounder", os.urandom(16).hex(), "--mutual", "--token", kind])
+    said = answered_by_mit(realm, token.strip())
+    yield f"a token of krbtool, {kind}, is accepted by MIT's GSS-API", is_it((said[0], int(said[1]) & 0x3F, said[2]), (ALICE, 2, "complete"))
+    agreed = kdc.ran([KRBTOOL, "finish", cache, f"{SERVICE}@{REALM}", *moment, "--reply", reply_in(bytes.fromhex(said[3])).hex()])
+    yield f"krbtool reads the answer, {kind}", is_it(agreed.split()[:2], ["agreed", ALICE])
+
+
+def at_other_services(realm, library):
+    for kind in ("bare", "spnego"):
+        yield from at_mits_service(realm, library, kind, ASKED)
+        yield from at_mits_service(realm, library, kind, DELEGATED, BINDINGS)
+    for kind in ("gss", "spnego"):
+        yield from of_the_program(realm, kind)
+
+
 def refusals(service):
     for header, why in ((None, "no token"), ("Basic YTpi", "no token"), ("Negotiate *", "Only base64 data is allowed"),
                         ("Negotiate " + base64.b64encode(b"NTLMSSP\0\1").decode(), "NOT_A_TOKEN: the first byte is that of no token"),
@@ -327,6 +392,7 @@ def in_the_world(world, library):
     yield from with_curl(world)
     for kind in ("bare", "spnego"):
         yield from with_ours(world.realm, world.service, library, kind)
+    yield from at_other_services(world.realm, library)
     clients, java = built_clients(world.folder, world.realm)
     for client in clients:
         for kind in client.kinds:

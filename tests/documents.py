@@ -115,6 +115,7 @@ def completions(program):
 # The words of a command line, and what the last one is completed to.
 COMPLETED = {
     "krbtool req": "request", "krbtool list-": "list-keytab list-ccache", "krbtool request f --m": "--mutual",
+    "krbtool list-keytab --r": "--readable", "krbtool list-ccache --readable --now -": "",
     "krbtool pick-key k host/web@EX 19 --k": "--kvno", "krbtool finish --time -": "", "krbtool help fin": "finish", "krbtool none -": "",
 }
 
@@ -137,11 +138,23 @@ def well_formed(path):
     return "\n".join(it for it in said if "referenced manual not found" not in it) or None
 
 
+def headings(path):
+    """The names by which the headings of a document are linked to."""
+    text = re.sub(r"^ *```.*?^ *```", "", path.read_text(), flags=re.S | re.M)
+    return {re.sub(r"[^\w\- ]", "", it.lower()).replace(" ", "-") for it in re.findall(r"^#+ (.*)$", text, re.M)}
+
+
 def links(path):
-    """The files that a document links to are there."""
-    found = re.findall(r"\]\(([^)#]+)(?:#[^)]*)?\)", path.read_text())
-    gone = [it for it in found if "://" not in it and not (path.parent / it).exists()]
-    return f"no file {gone}" if gone else None
+    """The files and headings that a document links to are there."""
+    for file, heading in re.findall(r"\]\(([^)#\s]*)(?:#([^)\s]*))?\)", path.read_text()):
+        other = path.parent / file if file else path
+        if "://" in file:
+            continue
+        if not other.exists():
+            return f"no file {file}"
+        if heading and heading not in headings(other):
+            return f"no heading {heading} in {other}"
+    return None
 
 
 def layout(name):

@@ -253,9 +253,10 @@ class Credentials:
         if not self.hand.fill(count):
             raise Stop(True)
 
-    def number(self, form):
+    def number(self, form, after=0):
+        """The number after so many bytes, with which it is taken."""
         size = struct.calcsize(form)
-        self.take(size)
+        self.take(after + size)
         source = self.hand.source
         return struct.unpack(form, source.data[source.at - size : source.at])[0]
 
@@ -263,11 +264,11 @@ class Credentials:
         self.take(self.number(">I"))
 
     def name(self):
-        self.take(4)
-        count = self.number(">I")
-        self.data()
+        count = self.number(">I", 4)
+        length = self.number(">I")
         for _ in range(count):
-            self.data()
+            length = self.number(">I", length)
+        self.take(length)
 
     def list(self):
         for _ in range(self.number(">I")):
@@ -277,9 +278,9 @@ class Credentials:
     def credential(self):
         self.name()
         self.name()
-        self.take(4 if self.found == reference.OLD else 2)
-        self.data()
-        self.take(21)
+        length = self.number(">I", 4 if self.found == reference.OLD else 2)
+        self.number("B", length + 16)
+        self.take(4)
         self.list()
         self.list()
         self.data()

@@ -26,6 +26,7 @@ OTHER = str(generated.EXAMPLES / "service.keytab")
 AT = ["--time", "1700000000", "--usec", "0"]
 COMMANDS = (
     (KEYTAB, ["list-keytab", "f"]),
+    (KEYTAB, ["list-keytab", "--readable", "f"]),
     (KEYTAB, ["check-keytab", "f"]),
     (KEYTAB, ["convert-keytab", "f", "out"]),
     (KEYTAB, ["pick-key", "f", SERVICE, "19"]),
@@ -33,10 +34,13 @@ COMMANDS = (
     (KEYTAB, ["add-keys", "f", OTHER, "out"]),
     (KEYTAB, ["add-keys", OTHER, "f", "out"]),
     (KEYTAB, ["accept", "f"]),
+    (KEYTAB, ["accept", "f", "--tokens"]),
     (LONG, ["list-ccache", "f"]),
+    (LONG, ["list-ccache", "--readable", "--now", "1700000000", "f"]),
     (LONG, ["check-ccache", "f"]),
     (LONG, ["convert-ccache", "f", "out"]),
     (LONG, ["request", "f", SERVICE, *AT, "--confounder", "00" * 16]),
+    (LONG, ["request", "f", SERVICE, *AT, "--confounder", "00" * 16, "--token", "spnego"]),
     (LONG, ["finish", "f", SERVICE, *AT, "--reply", "00"]),
 )
 

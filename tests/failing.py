@@ -22,6 +22,7 @@ def commands(program):
     yield from preload.file_commands()
     yield preload.calls(program)
     yield preload.calls_with_tails(program)
+    yield preload.calls_with_tokens(program)
     lines = preload.calls(program).stdin.splitlines(keepends=True)
     yield preload.with_answer(program, preload.called(lines * MANY))
 

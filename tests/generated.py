@@ -1,7 +1,7 @@
 """Cases that are made and not stored: each beginning of a file, each file with one byte changed, files at the limit, each way of closing
 the standard streams, and a service that was started long ago.
 
-What is expected comes from tests/reference.py. A case is made when it is asked for.
+What is expected comes from tests/reference.py and tests/readable.py. A case is made when it is asked for.
 """
 import struct
 import sys
@@ -11,6 +11,8 @@ from pathlib import Path
 
 import generated_edits
 import generated_exchange
+import generated_tokens
+import readable
 import reference
 
 sys.path.insert(0, str(Path(__file__).resolve().parent / "vectors"))
@@ -34,6 +36,10 @@ FIXTURE_CACHE = fixture.cache()
 OLD_CACHE = fixture.old_cache()
 CONFIGURED_CACHE = fixture.configured_cache()
 
+# A moment, and the words that ask for a table of a cache then.
+NOW = 1_700_036_000
+NOW_TABLE = f"list-ccache --readable --now {NOW}"
+
 
 def expected(command, data):
     """Standard output, standard error and status of a command on a file 'f' of these bytes."""
@@ -44,7 +50,7 @@ def expected(command, data):
 
 
 def on_bytes(word, name, data, command):
-    return {"name": f"{word}: {name}", "args": [word, "f"], "files": {"f": bytes(data)}, **expected(command, data)}
+    return {"name": f"{word}: {name}", "args": [*word.split(), "f"], "files": {"f": bytes(data)}, **expected(command, data)}
 
 
 def converting(word, name, data, command):
@@ -93,12 +99,24 @@ def checked_keytabs(real):
     yield from full_keytabs()
 
 
+def keytab_table(data):
+    return readable.keytab_table(reference.keytab(data))
+
+
+def cache_table_at(now):
+    """What list-ccache prints as a table at this moment."""
+    return lambda data: readable.cache_table(reference.cache(data), now)
+
+
 def keytab_cases():
     real = {path.name: path.read_bytes() for path in sorted(EXAMPLES.glob("*.keytab"))}
     for name, data in {**real, "fixture": FIXTURE_KEYTAB, "holes": HOLED_KEYTAB}.items():
         yield from beginnings("list-keytab", name, data, reference.list_keytab)
+        yield on_bytes("list-keytab --readable", name, data, keytab_table)
     for name, data in {"fixture": FIXTURE_KEYTAB, "holes": HOLED_KEYTAB}.items():
         yield from changes("list-keytab", name, data, reference.list_keytab)
+        yield from beginnings("list-keytab --readable", name, data, keytab_table)
+        yield from changes("list-keytab --readable", name, data, keytab_table)
     yield from checked_keytabs(real)
     over = b"\x05\x02" + bytes(reference.LIMIT - 1)
     yield on_bytes("list-keytab", "one byte past the limit", over, reference.list_keytab)
@@ -129,10 +147,13 @@ def cache_cases():
     small = {"fixture": FIXTURE_CACHE, "old fixture": OLD_CACHE, "configured": CONFIGURED_CACHE, **dict(drawn_files.two_credentials())}
     for name, data in {**real, **small}.items():
         yield from beginnings("list-ccache", name, data, reference.list_ccache)
+        yield on_bytes("list-ccache --readable", name, data, cache_table_at(None))
         yield on_bytes("check-ccache", name, data, reference.check_ccache)
         yield converting("convert-ccache", name, data, reference.convert_ccache)
     for name in ("fixture", "old fixture", "configured"):
         yield from changes("list-ccache", name, small[name], reference.list_ccache)
+        yield from beginnings(NOW_TABLE, name, small[name], cache_table_at(NOW))
+        yield from changes(NOW_TABLE, name, small[name], cache_table_at(NOW))
     for name, data in small.items():
         yield from beginnings("check-ccache", name, data, reference.check_ccache)
         for size in range(len(data)):
@@ -142,9 +163,11 @@ def cache_cases():
 
 COMMANDS = {
     "list-keytab": (HOLED_KEYTAB, reference.list_keytab),
+    "list-keytab --readable": (HOLED_KEYTAB, keytab_table),
     "check-keytab": (HOLED_KEYTAB, reference.check_keytab),
     "convert-keytab": (HOLED_KEYTAB, reference.convert_keytab),
     "list-ccache": (CONFIGURED_CACHE, reference.list_ccache),
+    NOW_TABLE: (CONFIGURED_CACHE, cache_table_at(NOW)),
     "check-ccache": (CONFIGURED_CACHE, reference.check_ccache),
     "convert-ccache": (CONFIGURED_CACHE, reference.convert_ccache),
 }
@@ -209,5 +232,6 @@ def cases():
     yield from request_cases()
     yield from generated_edits.cases()
     yield from generated_exchange.cases()
+    yield from generated_tokens.cases()
     yield from stream_cases()
     yield from mode_cases()

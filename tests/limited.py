@@ -56,17 +56,19 @@ def file_of(word):
     if word == "check-ccache":
         names = fixture.principal(1, b"EX", b"alice"), fixture.principal(3, b"EX", b"host", b"web")
         return cache[:27] + fixture.credential(*names, 19, bytes(16), (0, 0, 0, 0), bytes(LONG))
-    if word.endswith("keytab"):
+    if "keytab" in word:
         return b"\x05\x02" + (struct.pack(">i", len(record)) + record) * 20_000
     return cache[:27] + cache[27:] * 3_000
 
 
 def commands(program):
     for word in generated.COMMANDS:
-        words = [word, "f", "out"] if word.startswith("convert") else [word, "f"]
+        words = [word, "f", "out"] if word.startswith("convert") else [*word.split(), "f"]
         yield Command(words, file_of(word), b"", None, preload.OLD)
     yield preload.requested()
+    yield preload.requested_token()
     yield preload.calls_with_tails(program)
+    yield preload.calls_with_tokens(program)
 
 
 def stepped(program, room, command, first):
@@ -88,4 +90,4 @@ def checks(program):
         room = Path(folder)
         first = least(program, room)
         for command in commands(program):
-            yield f"within less and less memory: {command.words[0]}", stepped(program, room, command, first)
+            yield f"within less and less memory: {' '.join(command.words[:2])}", stepped(program, room, command, first)

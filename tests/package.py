@@ -20,13 +20,13 @@ sys.dont_write_bytecode = True
 import fixture  # noqa: E402
 import package_programs  # noqa: E402
 import package_root  # noqa: E402
-from packing import LIBDIR, Installed, differs, packed, run, said, unpacked, wrong  # noqa: E402
+from packing import BUILDS, LIBDIR, Installed, differs, packed, run, said, unpacked, wrong  # noqa: E402
 
 VERSION = "0.1.0"
 # What has another place under each PREFIX and LIBDIR.
 LIBRARIES = {
     "libfevstunik.a", "libfevstunik.so", "libfevstunik.so.0", f"libfevstunik.so.{VERSION}", "pkgconfig/fevstunik.pc",
-    "glibc-hwcaps/x86-64-v2/libfevstunik.so.0", f"glibc-hwcaps/x86-64-v2/libfevstunik.so.{VERSION}",
+    *(f"glibc-hwcaps/{cpu}/{name}" for cpu in ("x86-64-v2", "x86-64-v3") for name in ("libfevstunik.so.0", f"libfevstunik.so.{VERSION}")),
 }
 OTHERS = {
     "bin/krbtool", "include/fevstunik.h", "share/man/man1/krbtool.1", "share/man/man3/fevstunik.3",
@@ -42,7 +42,7 @@ PLACES = [
 STAY = {"bin", "include", "lib", "lib64", "x86_64-linux-gnu", "share", "man"}
 PACKAGES = {"krbtool": ["usr/bin/krbtool", "usr/share/man/man1/krbtool.1.gz", "usr/share/zsh/vendor-completions/_krbtool",
                         "usr/share/bash-completion/completions/krbtool"],
-            "libfevstunik0": [f"{LIBDIR}/libfevstunik.so.0", f"{LIBDIR}/glibc-hwcaps/x86-64-v2/libfevstunik.so.0"],
+            "libfevstunik0": [f"{folder}/libfevstunik.so.0" for folder in BUILDS.values()],
             "libfevstunik-dev": ["usr/include/fevstunik.h", f"{LIBDIR}/libfevstunik.a", f"{LIBDIR}/libfevstunik.so",
                                  f"{LIBDIR}/pkgconfig/fevstunik.pc", "usr/share/man/man3/fevstunik.3.gz"],
             "python3-fevstunik": ["usr/lib/python3/dist-packages/fevstunik/py.typed", "usr/lib/python3/dist-packages/fevstunik/__init__.py"]}

@@ -1,5 +1,5 @@
 """Programs over the installed library, which lies in a folder: one in C, and those in Rust and Go that docs/FROM_C.md shows; processors with
-and without the extensions that the faster library needs, which qemu plays; and how much faster that one is.
+and without the extensions that the faster builds need, which qemu plays; and how much faster these are.
 
 Each check is a pair: its name, and what is wrong, or None.
 """
@@ -7,13 +7,18 @@ import re
 import shutil
 
 import fixture
-from packing import LIBDIR, NEWER, ROOT, run, said, wrong
+import package_root
+from packing import BUILDS, ROOT, run, said, wrong
 
 KEYTAB = ROOT / "examples/service.keytab"
-# A processor of x86-64 without extensions, and one of x86-64-v2.
-PLAIN, NEW = "qemu64", "Nehalem"
-# Instructions that x86-64-v2 adds.
-ADDED = re.compile(r"\t(pshufb|palignr|pinsr[bdq]|pextr[bdq]|pblendw|pmulld|popcnt|pcmpeqq|pcmpgtq|ptest|crc32\w|roundsd)\b")
+# A processor of x86-64 without extensions, one of x86-64-v2 and one of x86-64-v3, each with the build that the loader takes there.
+PLAIN, NEW, NEWEST = "qemu64", "Nehalem", "Haswell"
+TAKEN = {PLAIN: "x86-64", NEW: "x86-64-v2", NEWEST: "x86-64-v3"}
+# Instructions that x86-64-v2 adds, and those that x86-64-v3 adds.
+ADDED = {
+    "x86-64-v2": re.compile(r"\t(pshufb|palignr|pinsr[bdq]|pextr[bdq]|pblendw|pmulld|popcnt|pcmpeqq|pcmpgtq|ptest|crc32\w|roundsd)\b"),
+    "x86-64-v3": re.compile(r"\t(vp\w+|vmov\w+|vxorps|andn|bextr|mulx|rorx|s[ah][lr]x|movbe|lzcnt)\b"),
+}
 
 
 def blocks(language):
@@ -68,26 +73,37 @@ def in_go(installed, room):
 
 
 def on_processors(installed, room):
-    """The programs in C on both processors, and which of the libraries the loader takes there."""
+    """The programs in C on each processor, and which of the libraries the loader takes there."""
     if not shutil.which("qemu-x86_64"):
         yield "on other processors", "there is no qemu-user"
         return
-    for cpu, folder in ((PLAIN, LIBDIR), (NEW, NEWER)):
+    for cpu, build in TAKEN.items():
         played = ["qemu-x86_64", "-cpu", cpu]
-        for name in ("shared", "static"):
-            yield from accepting(f"on {cpu}, {name}", installed, room / name, *played)
+        yield from accepting(f"on {cpu}, shared", installed, room / "shared", *played)
+        if cpu != PLAIN:
+            yield from accepting(f"on {cpu}, static", installed, room / "static", *played)
         listed = installed.run(*played, "-E", "LD_TRACE_LOADED_OBJECTS=1", room / "shared")
         found = re.findall(r"libfevstunik\.so\.0 => (\S+)", listed.stdout)
-        yield f"on {cpu}: the library that the loader takes", None if found == [f"{installed.root}/{folder}/libfevstunik.so.0"] else f"{found}, {listed.stderr}"
+        yield f"on {cpu}: the library that the loader takes", None if found == [f"{installed.root}/{BUILDS[build]}/libfevstunik.so.0"] else f"{found}, {listed.stderr}"
+
+
+def static_on_another(installed, room):
+    """The static library needs x86-64-v2: elsewhere the program is ended for an instruction that isn't there."""
+    words = [room / "static", KEYTAB, "host/web@EX", fixture.request().hex()]
+    if shutil.which("qemu-x86_64"):
+        ran = installed.run("qemu-x86_64", "-cpu", PLAIN, *words)
+        yield f"on {PLAIN}, static", None if ran.returncode in (-4, 132) else str(ran)
 
 
 def instructions(installed):
-    """The one library has no instruction that x86-64-v2 adds, and the other one has some."""
-    for folder, has in ((LIBDIR, False), (NEWER, True)):
+    """No build has an instruction that only a newer processor has. Those for newer processors have some that these add."""
+    for at, (build, folder) in enumerate(BUILDS.items()):
         code = run("objdump", "-d", "--no-show-raw-insn", installed.root / folder / "libfevstunik.so.0").stdout
-        found = set(ADDED.findall(code))
-        well = bool(found) == has and code.count("\n") > 10_000
-        yield f"{folder}: instructions of x86-64-v2", None if well else f"{sorted(found)} in {code.count(chr(10))} lines"
+        for number, (cpu, added) in enumerate(ADDED.items(), 1):
+            found = set(added.findall(code))
+            if number > at or number == at:
+                well = bool(found) == (number == at) and code.count("\n") > 10_000
+                yield f"{build}: instructions that {cpu} adds", None if well else f"{sorted(found)} in {code.count(chr(10))} lines"
 
 
 SEALING = """import sys, time, fevstunik
@@ -101,20 +117,29 @@ for path in sys.argv[1:]:
         times.append(time.process_time() - start)
     sealed.append(made)
     least.append(min(times))
-print(key.open(1024, sealed[0]) == plain, *least)
-fevstunik.load(sys.argv[1])
-print(key.open(1024, sealed[1]) == plain)
+for path in sys.argv[1:]:
+    fevstunik.load(path)
+    print(all(key.open(1024, it) == plain for it in sealed))
+print(*least)
 """
 
 
+def builds_run_here():
+    """The builds that this processor runs: those up to the one that the loader takes."""
+    names = list(BUILDS)
+    return names[: names.index(package_root.build_for_this()) + 1]
+
+
 def speed(installed):
-    """Each library opens what the other one seals, and the one for x86-64-v2 takes less than three quarters of the time to seal."""
-    paths = [installed.root / folder / "libfevstunik.so.0" for folder in (LIBDIR, NEWER)]
-    ran = installed.run("/usr/bin/python3", "-c", SEALING, *paths)
-    found = re.fullmatch(r"True (\S+) (\S+)\nTrue\n", ran.stdout)
-    yield "each library opens what the other one seals", wrong(ran) or (None if found else ran.stdout)
-    plain, newer = map(float, found.groups()) if found else (0, 0)
-    yield "the library for x86-64-v2 is faster", None if newer < 0.75 * plain else f"{newer:.4f} s, not below 3/4 of {plain:.4f} s"
+    """Each build opens what the others seal, and those for newer processors take less than three quarters of the time to seal."""
+    builds = builds_run_here()
+    ran = installed.run("/usr/bin/python3", "-c", SEALING, *(installed.root / BUILDS[it] / "libfevstunik.so.0" for it in builds))
+    lines = ran.stdout.splitlines()
+    yield "each build opens what the others seal", wrong(ran) or (None if lines[:-1] == ["True"] * len(builds) else ran.stdout)
+    plain, *newer = map(float, lines[-1].split()) if ran.returncode == 0 else (0,)
+    yield "builds for newer processors are there", None if newer else "this processor runs none"
+    for build, took in zip(builds[1:], newer):
+        yield f"the build for {build} is faster", None if took < 0.75 * plain else f"{took:.4f} s, not below 3/4 of {plain:.4f} s"
 
 
 def krbtool(installed):
@@ -134,5 +159,6 @@ def checks(installed, room):
     yield from in_rust(installed, room)
     yield from in_go(installed, room)
     yield from on_processors(installed, room)
+    yield from static_on_another(installed, room)
     yield from instructions(installed)
     yield from krbtool(installed)

@@ -10,7 +10,7 @@ import subprocess
 from pathlib import Path
 
 import fixture
-from packing import LIBDIR, NEWER, ROOT, differs, run, said, wrong
+from packing import BUILDS, ROOT, differs, run, said, wrong
 
 # What the root has besides apt: what compiles a program in C, and the Python that the package needs.
 HAS = "gcc,libc6-dev,pkg-config,python3"
@@ -86,14 +86,26 @@ def from_c(root):
             yield f"root: the {name} program asked for {service}", said(root.shell(f"./{name} service.keytab {service} {request}"), answer)
     listed = root.shell("ldd shared")
     found = re.findall(r"libfevstunik\.so\.0 => (?:/usr)?(/\S+)/libfevstunik\.so\S+ ", listed.stdout)
-    folder = (NEWER if has_newer() else LIBDIR).removeprefix("usr")
+    folder = BUILDS[build_for_this()].removeprefix("usr")
     yield "root: the library that the loader takes", wrong(listed) or differs(found, [folder])
 
 
-def has_newer():
-    """Whether this processor has what x86-64-v2 adds."""
-    flags = Path("/proc/cpuinfo").read_text().partition("\nflags")[2].partition("\n")[0].split()
-    return {"cx16", "lahf_lm", "popcnt", "sse4_1", "sse4_2", "ssse3"} <= set(flags)
+# What each kind of processor adds, as Linux names it.
+ADDED = {
+    "x86-64-v2": {"cx16", "lahf_lm", "popcnt", "sse4_1", "sse4_2", "ssse3"},
+    "x86-64-v3": {"abm", "avx", "avx2", "bmi1", "bmi2", "f16c", "fma", "movbe", "xsave"},
+}
+
+
+def build_for_this():
+    """The build for this processor: that of the last kind, as long as it has what each kind adds."""
+    flags = set(Path("/proc/cpuinfo").read_text().partition("\nflags")[2].partition("\n")[0].split())
+    found = "x86-64"
+    for build, added in ADDED.items():
+        if not added <= flags:
+            break
+        found = build
+    return found
 
 
 def from_python(root):

@@ -6,7 +6,8 @@ from pathlib import Path
 
 ROOT = Path(__file__).resolve().parent.parent
 LIBDIR = "usr/lib/x86_64-linux-gnu"
-NEWER = f"{LIBDIR}/glibc-hwcaps/x86-64-v2"
+# The folder of each build of the shared library: the loader takes the last one that its processor runs.
+BUILDS = {"x86-64": LIBDIR, **{cpu: f"{LIBDIR}/glibc-hwcaps/{cpu}" for cpu in ("x86-64-v2", "x86-64-v3")}}
 IN_PYTHON = "usr/lib/python3/dist-packages"
 
 

@@ -2,14 +2,20 @@
 
 Each check is a pair: its name, and what is wrong, or None.
 """
+import datetime
 import os
+import re
+import struct
 import subprocess
 import tempfile
-from itertools import product
+from itertools import chain, product
 from pathlib import Path
 
 import generated
+import readable
 import reference
+
+import fixture  # noqa: E402, I001  generated makes the folder of the vectors known
 
 TOP = Path(__file__).resolve().parent.parent
 TYPES = {19: "aes128-cts-hmac-sha256-128", 20: "aes256-cts-hmac-sha384-192"}
@@ -89,10 +95,15 @@ def listed_caches(path):
     return ran(["klist", "-e", "-f", "-c", f"FILE:{path}"], env={**os.environ, "TZ": "UTC"}).splitlines()[1:]
 
 
+def caches():
+    for path in sorted((TOP / "examples").glob("*.ccache")):
+        yield path.name, path.read_bytes()
+    yield "fixture cache", generated.FIXTURE_CACHE
+
+
 def cache_checks(program, folder):
     """A converted cache is the same to klist as the one that it was made of, and names the services that we list."""
-    caches = {path.name: path.read_bytes() for path in sorted((TOP / "examples").glob("*.ccache"))}
-    for name, data in {**caches, "fixture cache": generated.FIXTURE_CACHE}.items():
+    for name, data in caches():
         given, made = folder / f"{name}.given", folder / f"{name}.made"
         given.write_bytes(data)
         ran([program, "convert-ccache", str(given), str(made)])
@@ -103,11 +114,75 @@ def cache_checks(program, folder):
         yield f"klist's services of {name}", None if ours == theirs else f"klist lists {theirs}, we {ours}"
 
 
+def moment(day, clock):
+    """A date and a time of klist's, as a table has them."""
+    form = "%m/%d/%y" if len(day) == 8 else "%m/%d/%Y"
+    return datetime.datetime.strptime(f"{day} {clock}", f"{form} %H:%M:%S").isoformat() + "Z"
+
+
+def rows_of(table):
+    """The rows of a table, without its head. (No cell has a space.)"""
+    return [line.split() for line in table.splitlines() if not line.startswith(("default ", "offset ", "KVNO ", "KIND "))]
+
+
+def klist_keys(path):
+    """Key version number, enctype, time and principal of each entry, as klist tells them."""
+    return [[it[0], it[4].strip("()"), moment(it[1], it[2]), it[3]] for it in listed_by_klist(path)]
+
+
+def klist_tickets(path):
+    """Enctype of the session key, beginning, end, renewal, flags and service of each ticket, as klist tells them."""
+    found = []
+    for line in listed_caches(path):
+        if line[:2].isdigit():
+            words = line.split()
+            found.append(["", moment(*words[:2]), moment(*words[2:4]), "-", "-", words[4]])
+        for word, at in ((r"renew until (\S+ [\d:]+)", 3), (r"Flags: (\w+)", 4), (r"Etype \(skey, tkt\): (\S+),", 0)):
+            told = re.search(word, line) if found else None
+            if told:
+                found[-1][at] = moment(*told[1].split()) if at == 3 else told[1]
+    return found
+
+
+def our_tickets(table):
+    """The same of a table of ours: a ticket without starttime begins at its authtime."""
+    tickets = [it for it in rows_of(table) if it[0] != "config"]
+    return [[it[1], it[2] if it[3] == "-" else it[3], it[4], it[5], it[6], it[8]] for it in tickets]
+
+
+def with_flags(number):
+    """A cache whose ticket has these flags, begins after its authtime, and can be renewed."""
+    client, server = fixture.principal(1, b"EX", b"alice"), fixture.principal(3, b"EX", b"host", b"web")
+    times = (1_700_000_000, 1_700_000_060, 1_700_036_000, 1_700_122_400)
+    made = bytearray(fixture.credential(client, server, 20, bytes(32), times, fixture.ticket()))
+    at = len(client) + len(server) + struct.calcsize(">hI32s4IB")
+    made[at:at + 4] = struct.pack(">I", number)
+    return b"\x05\x04\x00\x00" + client + made
+
+
+def flagged():
+    """A cache for each flag."""
+    return ((f"a ticket with flag {bit}", with_flags(1 << (31 - bit))) for bit in range(32))
+
+
+def readable_checks(program, folder):
+    """The tables of real files, and of a ticket with each flag, have the names, types, flags and times that klist prints."""
+    for name, data in keytabs():
+        (folder / "keys").write_bytes(data)
+        ours, theirs = rows_of(ran([program, "list-keytab", "--readable", str(folder / "keys")])), klist_keys(folder / "keys")
+        yield f"the table of {name}, and klist", None if ours == theirs and ours else f"klist lists {theirs}, we {ours}"
+    for name, data in chain(caches(), flagged()):
+        (folder / "cache").write_bytes(data)
+        ours, theirs = our_tickets(ran([program, "list-ccache", "--readable", str(folder / "cache")])), klist_tickets(folder / "cache")
+        yield f"the table of {name}, and klist", None if ours == theirs and ours else f"klist lists {theirs}, we {ours}"
+
+
 def checks(program):
     with tempfile.TemporaryDirectory(prefix="krbtool-peers-") as folder:
         try:
             yield from keytab_checks(program, Path(folder))
             yield from added_checks(program, Path(folder))
             yield from cache_checks(program, Path(folder))
+            yield from readable_checks(program, Path(folder))
         except (RuntimeError, StopIteration) as error:
             yield "a tool of krb5-user", str(error)

@@ -9,6 +9,7 @@ from pathlib import Path
 import drawn_files
 import generated
 import generated_edits
+import gss_rules
 import reference
 from generated_exchange import entry
 
@@ -52,13 +53,14 @@ class Found:
 def file_commands():
     keytab, cache = (generated.EXAMPLES / "mit-holes.keytab").read_bytes(), (generated.EXAMPLES / "heimdal.ccache").read_bytes()
     for word, (_, command) in generated.COMMANDS.items():
-        file = keytab if word.endswith("keytab") else cache
+        file = keytab if "keytab" in word else cache
         if word.startswith("convert"):
             made = command(file)
             yield Command([word, "f", "out"], file, b"", f"wrote {len(made)}\n".encode(), made)
         else:
-            yield Command([word, "f"], file, b"", command(file).encode(), OLD)
+            yield Command([*word.split(), "f"], file, b"", command(file).encode(), OLD)
     yield requested()
+    yield requested_token()
     yield finished()
     yield picked()
     yield removed(keytab)
@@ -68,6 +70,12 @@ def file_commands():
 def requested():
     words = "request f host/web@EX --time 1700000100 --usec 5 --mutual --confounder 202122232425262728292a2b2c2d2e2f".split()
     return Command(words, fixture.cache(), b"", f"{fixture.request(0x20000000).hex()}\n".encode(), OLD)
+
+
+def requested_token():
+    command, request = requested(), fixture.request(0x20000000, number=0, checksum=fixture.context(2))
+    token = gss_rules.negotiation([gss_rules.KERBEROS], gss_rules.kerberos(gss_rules.KERBEROS, request))
+    return Command([*command.words, "--token", "spnego"], command.file, b"", f"{token.hex()}\n".encode(), OLD)
 
 
 def finished():
@@ -137,3 +145,12 @@ def calls_with_tails(program):
     """A service of this name, which gets a request for a reply, no request, another form, and the first again."""
     mutual = f"1700000100 5 {fixture.request(0x20000000).hex()} {'5a' * 16}\n".encode()
     return with_answer(program, called([mutual, b"1700000100 7 -\n", b"hello\n", mutual], *TAILS))
+
+
+def calls_with_tokens(program):
+    """The same service, which gets tokens: a request for a reply, no request, another form, bytes that aren't a token, and the first again."""
+    around = [lambda it: gss_rules.kerberos(gss_rules.KERBEROS, it),
+              lambda it: gss_rules.negotiation([gss_rules.MICROSOFT], gss_rules.kerberos(gss_rules.KERBEROS, it))]
+    mutual, none = around[1](fixture.request(0x20000000)), around[0](b"")
+    lines = [f"1700000100 {micros} {token.hex()} {'5a' * 16}\n".encode() for micros, token in ((5, mutual), (7, none), (8, mutual[:-1]), (9, mutual))]
+    return with_answer(program, called([*lines[:2], b"hello\n", *lines[2:]], *TAILS, "--tokens"))

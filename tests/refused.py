@@ -33,6 +33,7 @@ def commands(program):
     yield from preload.file_commands()
     yield preload.calls(program)
     yield preload.calls_with_tails(program)
+    yield preload.calls_with_tokens(program)
 
 
 def without_the_refused(program, command, answers):

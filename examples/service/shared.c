@@ -1,7 +1,9 @@
 /* One of several instances of a service, which share a store in Redis (or Valkey; docs/OPERATING.md says how to configure it). It needs hiredis.
  *
- *     shared KEYTAB NAME SOCKET [SECONDS]      NAME as host/web@EX; for how long to wait for the store, 1 if left out
+ *     shared KEYTAB NAME SOCKET [SECONDS [again]]      NAME as host/web@EX; for how long to wait for the store, 1 if left out
  *
+ * The store remembers across restarts of the service. If it is new, emptied or restored, start each instance with `again`: it then refuses
+ * requests as FEVSTUNIK_JUST_STARTED until the skew has passed.
  * It reads and writes the same lines as examples/shared.py, so instances of both can be mixed. After it has accepted a request, it asks the
  * store to add the request's stamp, and lets the client in only if the stamp is new. If the store doesn't answer in time, nobody is let in. */
 #include <ctype.h>
@@ -128,6 +130,16 @@ static void answer_to(const char *line, fevstunik_acceptor *service, fevstunik_a
         refuse(name, code);
 }
 
+/* A service over a store that remembers all since the first start, or one that has to refuse requests at first. */
+static fevstunik_answer make_service(fevstunik_acceptor *service, const struct bytes *keytab, const char *name, int is_again)
+{
+    fevstunik_time start = clock_now();
+
+    if (is_again)
+        return fevstunik_acceptor_started(service, keytab->at, keytab->size, SKEW, (const uint8_t *)name, strlen(name), &start);
+    return fevstunik_acceptor_new(service, keytab->at, keytab->size, SKEW, (const uint8_t *)name, strlen(name));
+}
+
 int main(int count, char **words)
 {
     static struct bytes keytab;
@@ -137,12 +149,11 @@ int main(int count, char **words)
     char *line = NULL;
     size_t room = 0;
 
-    if (count != 4 && count != 5)
+    if (count < 4 || count > 6 || (count == 6 && strcmp(words[5], "again") != 0))
         return 2;
     signal(SIGPIPE, SIG_IGN); /* the store may end a connection while we write to it */
     read_file(words[1], &keytab);
-    if (fevstunik_acceptor_new(&service, keytab.at, keytab.size, SKEW, (const uint8_t *)words[2], strlen(words[2])).code != FEVSTUNIK_OK
-        || fevstunik_accepted_new(&accepted).code != FEVSTUNIK_OK)
+    if (make_service(&service, &keytab, words[2], count == 6).code != FEVSTUNIK_OK || fevstunik_accepted_new(&accepted).code != FEVSTUNIK_OK)
         give_up("no acceptor");
     for (; getline(&line, &room, stdin) > 0; fflush(stdout))
         answer_to(line, &service, &accepted, &store, words[2]);

@@ -7,17 +7,17 @@ _krbtool() {
         return
     fi
     case $before in
-        --confounder | --kvno | --only | --reply | --service | --skew | --started | --time | --usec) return ;;
+        --confounder | --kvno | --now | --only | --reply | --service | --skew | --started | --time | --token | --usec) return ;;
     esac
     case ${COMP_WORDS[1]} in
-        list-keytab) options='--help' ;;
-        list-ccache) options='--help' ;;
+        list-keytab) options='--readable --help' ;;
+        list-ccache) options='--readable --now --help' ;;
         check-keytab) options='--help' ;;
         check-ccache) options='--help' ;;
         convert-keytab) options='--help' ;;
         convert-ccache) options='--help' ;;
-        request) options='--time --usec --confounder --mutual --help' ;;
-        accept) options='--skew --started --service --only --help' ;;
+        request) options='--time --usec --confounder --mutual --token --help' ;;
+        accept) options='--skew --started --service --only --tokens --help' ;;
         finish) options='--time --usec --reply --help' ;;
         pick-key) options='--kvno --help' ;;
         remove-key) options='--help' ;;

@@ -2,13 +2,14 @@
 from __future__ import annotations
 
 import os
-from ctypes import byref
+from ctypes import byref, c_uint8
 from dataclasses import dataclass
 from types import TracebackType
 
 from . import _library
 from ._files import CredentialCache
 from ._library import Bytes, Handle, filled, octets, read
+from ._tokens import ContextFlags, bindings_of
 from ._values import CONFOUNDER, Key, When, chosen, clock_of_request
 
 
@@ -83,7 +84,7 @@ class Pending:
 
 
 def make_request(cache: CredentialCache, service: str, *, now: When | None = None, subkey: Key | None = None, seq: int | None = None,
-                 wants_reply: bool = True) -> tuple[bytes, Pending]:
+                 wants_reply: bool = True, context: ContextFlags | None = None, bindings: Bytes | None = None) -> tuple[bytes, Pending]:
     """Return the bytes of a request for a service, and the Pending that reads its reply.
 
     cache        has a ticket of its owner for the service
@@ -93,8 +94,11 @@ def make_request(cache: CredentialCache, service: str, *, now: When | None = Non
     subkey       a key that the client chooses, as Key.random(20), or None
     seq          the client's first sequence number, or None
     wants_reply  whether to ask the service for a reply
+    context      what a client of GSS-API asks for, if the request is to be wrapped in a token. MUTUAL is set exactly if a reply is asked
+                 for, DELEGATION is left out, and the sequence number is random unless `seq` is given
+    bindings     the bindings of such a client's channel, as ``b"tls-server-end-point:" + hash``, or None
 
-    If the cache has no ticket that fits, raises the Fault NO_CREDENTIAL, NO_USABLE_KEY, CREDENTIAL_EXPIRED or BAD_TICKET.
+    If there is no request, raises the Fault NO_CREDENTIAL, NO_USABLE_KEY or CREDENTIAL_EXPIRED (no ticket fits), BAD_TICKET or TOO_LONG.
 
     >>> from fevstunik import CredentialCache, make_request
     >>> with CredentialCache.read("examples/client.ccache") as cache:
@@ -102,9 +106,21 @@ def make_request(cache: CredentialCache, service: str, *, now: When | None = Non
     >>> request[0] == 0x6e
     True
     """
+    if context is None and bindings is not None:
+        raise ValueError("bindings are those of a client of GSS-API: give its context, too")
+    if context is not None and seq is None:
+        seq = int.from_bytes(os.urandom(4), "big") >> 2
     name, at, confounder, choice = service.encode(), clock_of_request(now), os.urandom(CONFOUNDER), chosen(subkey, seq, wants_reply)
+    call, more = ("request", ()) if context is None else ("context_request", (byref(_context(context, wants_reply, bindings)),))
     pending = Handle("pending")
     with cache._handle.used() as held, pending.used() as pointer:
         request = filled(lambda *into: pending.library.call(
-            "request", held, pointer, name, len(name), byref(at), confounder, CONFOUNDER, *choice, *into))
+            call, held, pointer, name, len(name), byref(at), confounder, CONFOUNDER, *choice, *more, *into))
     return request, Pending(pending)
+
+
+def _context(flags: ContextFlags, wants_reply: bool, bindings: Bytes | None) -> _library.ContextChoice:
+    # (as numbers: the complement of a flag leaves out the numbers that no flag has)
+    number = int(flags) & ~int(ContextFlags.MUTUAL) | (int(ContextFlags.MUTUAL) if wants_reply else 0)
+    hashed = bytes(16) if bindings is None else bindings_of(bindings)
+    return _library.ContextChoice(number, (c_uint8 * 16)(*hashed))

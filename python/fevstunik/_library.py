@@ -7,7 +7,7 @@ import threading
 import weakref
 from collections.abc import Callable, Iterator
 from contextlib import contextmanager
-from ctypes import POINTER, byref, c_bool, c_char_p, c_int16, c_int32, c_int64, c_size_t, c_uint32, c_void_p
+from ctypes import POINTER, byref, c_bool, c_char_p, c_int16, c_int32, c_int64, c_size_t, c_uint8, c_uint32, c_void_p
 from typing import Any, TypeVar, Union
 
 from ._codes import Code
@@ -87,6 +87,10 @@ class Context(ctypes.Structure):
     _fields_ = [("bindings", Span), ("delegation", Span), ("extensions", Span), ("flags", c_uint32), ("has_delegation", c_bool)]
 
 
+class ContextChoice(ctypes.Structure):
+    _fields_ = [("flags", c_uint32), ("bindings", c_uint8 * 16)]
+
+
 class Opaque(ctypes.Structure):
     """A handle: made all zero, as the library asks, and never copied."""
     _fields_ = [("opaque", c_void_p)]
@@ -126,6 +130,7 @@ FUNCTIONS: dict[str, tuple[Any, tuple[Any, ...]]] = {
     "cache_new": (Answer, (HANDLE, *DATA)),
     "cache_free": (None, (HANDLE,)),
     "request": (Answer, (HANDLE, HANDLE, *DATA, TIME, *DATA, POINTER(Choice), *DATA, *INTO)),
+    "context_request": (Answer, (HANDLE, HANDLE, *DATA, TIME, *DATA, POINTER(Choice), *DATA, POINTER(ContextChoice), *INTO)),
     "finish": (Answer, (HANDLE, *DATA, POINTER(Agreement), *INTO)),
     "pending_free": (None, (HANDLE,)),
     "seal": (Answer, (*KEY, *DATA, *DATA, *INTO)),

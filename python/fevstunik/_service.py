@@ -67,7 +67,7 @@ class _List(enum.IntEnum):
 class Stamp:
     """What stands for an accepted request in a store that several instances of a service share.
 
-    data        service, client and client's time as bytes: a repeat has those of the request that it repeats, no other has them
+    data        service, client and client's time as bytes: the same exactly for requests of the same service, client and time
     keep_until  until when the store must keep it, by its own clock: the client's time plus twice the skew
 
     >>> Stamp(b"service, client and time", Moment(1_700_000_700)).keep_until.seconds
@@ -163,7 +163,7 @@ class Accepted:
     def stamp(self, skew: int = 300) -> Stamp:
         """Return the stamp of the request, for a store that several instances of the service share.
 
-        skew  the service's skew, in seconds
+        skew  the largest skew of all instances, in seconds
 
         >>> from fevstunik import Acceptor, Keytab
         >>> request = bytes.fromhex(open("examples/calls.txt").readline().split()[2])

@@ -39,6 +39,16 @@ class ContextFlags(enum.IntFlag):
     INTEGRITY = 32
 
 
+def bindings_of(application_data: Bytes) -> bytes:
+    """Return the hash of a channel's bindings that have no addresses (RFC 4121, section 4.1.1.2).
+
+    >>> bindings_of(b"tls-server-end-point:").hex()
+    '2ea6e9ae9674d953e9d23afaf703e260'
+    """
+    data = octets(application_data)
+    return hashlib.md5(bytes(16) + len(data).to_bytes(4, "little") + data, usedforsecurity=False).digest()
+
+
 @dataclass(frozen=True)
 class Token:
     """The first token of a client, and what its answer is wrapped in.
@@ -98,7 +108,8 @@ def _wrapped(mechanism: Mechanism, negotiated: Mechanism | None) -> _library.Wra
 
 
 def wrap_request(request: Bytes, *, negotiated: bool = True) -> bytes:
-    """Return the first token of a client for a request, as make_request returns it.
+    """Return the first token of a client for a request. Make the request with the argument `context`: services over other libraries may
+    refuse it otherwise.
 
     negotiated  whether it is wrapped in a negotiation (SPNEGO), as web services want it
 
@@ -180,6 +191,4 @@ class Context:
         >>> Context(ContextFlags(0), bytes(16), None, b"").is_bound_to(b"tls-server-end-point:")
         False
         """
-        data = octets(application_data)
-        hashed = hashlib.md5(bytes(16) + len(data).to_bytes(4, "little") + data, usedforsecurity=False).digest()
-        return hmac.compare_digest(hashed, self.bindings)
+        return hmac.compare_digest(bindings_of(application_data), self.bindings)

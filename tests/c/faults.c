@@ -34,6 +34,7 @@ static struct asked usual(void)
 static void prevented(const char *what, struct asked it, unsigned code, size_t at)
 {
     fevstunik_choice choice = {0, 0, false, true};
+    const fevstunik_context_choice context = {2, {0}};
     fevstunik_cache held = FEVSTUNIK_CACHE_INIT;
     fevstunik_pending pending = FEVSTUNIK_PENDING_INIT;
     fevstunik_answer answer = fevstunik_cache_new(&held, it.cache, it.cache_size);
@@ -45,6 +46,10 @@ static void prevented(const char *what, struct asked it, unsigned code, size_t a
                                    buffer, sizeof buffer);
     is_answer(what, answer, code, 0, at, 0);
     is("nothing is awaited", pending.opaque == NULL, 1);
+    if (held.opaque != NULL)
+        is_answer(what, fevstunik_context_request(&held, &pending, it.service, it.service_size, &it.at, cache.at, 16, &choice, cache.at,
+                                                  it.subkey_size, &context, buffer, sizeof buffer), code, 0, at, 0);
+    is("nothing is awaited in a context", pending.opaque == NULL, 1);
     fevstunik_cache_free(&held);
 }
 

@@ -209,7 +209,7 @@ static void look(fevstunik_answer answer, size_t handed, size_t room, long at)
 {
     size_t i;
 
-    if (fevstunik_code_name(answer.code) == NULL || answer.code == FEVSTUNIK_OUT_OF_MEMORY)
+    if (strcmp(fevstunik_code_name(answer.code), "FEVSTUNIK_UNKNOWN") == 0 || answer.code == FEVSTUNIK_OUT_OF_MEMORY)
         wrong("a code", at);
     if (answer.at > handed)
         wrong("an offset", at);

@@ -322,7 +322,7 @@ static int is_within(uint32_t code, uint32_t first, uint32_t last)
 /* The answer is one of the header's, of these numbers, and its numbers are within what was handed in. */
 static void look(fevstunik_answer answer, uint32_t first, uint32_t last, size_t handed, const struct bytes *into, size_t room)
 {
-    if (fevstunik_code_name(answer.code) == NULL || !is_within(answer.code, first, last))
+    if (strcmp(fevstunik_code_name(answer.code), "FEVSTUNIK_UNKNOWN") == 0 || !is_within(answer.code, first, last))
         wrong("a code");
     if (answer.at > handed)
         wrong("an offset");

@@ -373,11 +373,11 @@ static void wanted_services(void)
     fevstunik_acceptor_free(&service);
 }
 
-/* Numbers that are no code have neither name nor text; and the header's version is the library's. */
+/* Numbers that aren't codes have a name and a text that say so, and the header's version is the library's. */
 static void constants(void)
 {
-    is("no name", fevstunik_code_name(1) == NULL, 1);
-    is("no text", fevstunik_code_text(505) == NULL, 1);
+    is("no name", strcmp(fevstunik_code_name(1), "FEVSTUNIK_UNKNOWN"), 0);
+    is("no text", strcmp(fevstunik_code_text(505), "an unknown code"), 0);
     is("a name", strcmp(fevstunik_code_name(FEVSTUNIK_REPEAT), "FEVSTUNIK_REPEAT"), 0);
     is("version", fevstunik_version(), FEVSTUNIK_VERSION_MAJOR * 10000 + FEVSTUNIK_VERSION_MINOR * 100 + FEVSTUNIK_VERSION_PATCH);
 }
@@ -845,6 +845,44 @@ static void requests(void)
     is_answer("the cache", fevstunik_cache_new(&credentials, cache.at, cache.size), FEVSTUNIK_OK, 0, 0, 1);
 }
 
+/* What a client of GSS-API asks for is what the service reads. The flag of delegation is left out. */
+static void contexts(void)
+{
+    fevstunik_time at = moment(1700000100, 777);
+    fevstunik_choice choice = {0, 4294967295, true, true};
+    fevstunik_context_choice wanted = {0xffffffff, {0}};
+    fevstunik_acceptor service = FEVSTUNIK_ACCEPTOR_INIT;
+    fevstunik_accepted accepted = FEVSTUNIK_ACCEPTED_INIT;
+    fevstunik_context found;
+    uint8_t confounder[16] = {1}, checksum[32], parts[16];
+    fevstunik_answer answer;
+    int32_t kind = 0;
+    size_t i;
+
+    for (i = 0; i < 16; i++)
+        wanted.bindings[i] = (uint8_t)(0xf0 + i);
+    is_answer("context of no cache", fevstunik_context_request(&(fevstunik_cache)FEVSTUNIK_CACHE_INIT, &pending, WEB, &at, confounder, 16, &choice,
+                                                               confounder, 0, &wanted, buffer, sizeof buffer), FEVSTUNIK_EMPTY_HANDLE, 0, 0, 0);
+    is_answer("confounder in a context", fevstunik_context_request(&credentials, &pending, WEB, &at, confounder, 15, &choice, confounder, 0,
+                                                                   &wanted, buffer, sizeof buffer), FEVSTUNIK_BAD_CONFOUNDER, 0, 0, 0);
+    answer = fevstunik_context_request(&credentials, &pending, WEB, &at, confounder, 16, &choice, confounder, 0, &wanted, buffer, 0);
+    is("short", answer.code, FEVSTUNIK_SHORT_BUFFER);
+    answer = fevstunik_context_request(&credentials, &pending, WEB, &at, confounder, 16, &choice, confounder, 0, &wanted, buffer, sizeof buffer);
+    is("in a context", answer.code, FEVSTUNIK_OK);
+    is_answer("service", fevstunik_acceptor_new(&service, keytab.at, keytab.size, 300, WEB), FEVSTUNIK_OK, 0, 0, 0);
+    is_answer("ready", fevstunik_accepted_new(&accepted), FEVSTUNIK_OK, 0, 0, 0);
+    is_answer("accepted", fevstunik_acceptor_accept(&service, &accepted, buffer, answer.size, &at), FEVSTUNIK_OK, 0, 0, 0);
+    is_answer("checksum", fevstunik_accepted_item(&accepted, FEVSTUNIK_LIST_CHECKSUM, 0, &kind, checksum, sizeof checksum), FEVSTUNIK_OK, 0,
+              0, 24);
+    is("its type", kind, 0x8003);
+    is_answer("context", fevstunik_context_read(checksum, 24, &found, parts, sizeof parts), FEVSTUNIK_OK, 0, 0, 16);
+    is("flags", found.flags, 0xfffffffe);
+    is("no delegation", found.has_delegation, 0);
+    is_bytes("bindings", parts, wanted.bindings, 16);
+    fevstunik_accepted_free(&accepted);
+    fevstunik_acceptor_free(&service);
+}
+
 /* Handles of the client's side that are empty answer so, and stay so; what is awaited stays where there is no request. */
 static void empty_askings(void)
 {
@@ -1233,6 +1271,7 @@ int main(int count, char **words)
     is_answer("cache", fevstunik_cache_new(&credentials, cache.at, cache.size), FEVSTUNIK_OK, 0, 0, 1);
     requests();
     negative_answer();
+    contexts();
     empty_askings();
     agreements();
     texts();

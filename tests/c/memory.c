@@ -118,6 +118,14 @@ static fevstunik_answer asking(void)
     return fevstunik_request(&credentials, &pending, service_name, 11, &now, cache.at, 16, &keyed, cache.at, 16, buffer, sizeof buffer);
 }
 
+static fevstunik_answer asking_in_context(void)
+{
+    static const fevstunik_context_choice context = {2, {0}};
+
+    return fevstunik_context_request(&credentials, &pending, service_name, 11, &now, cache.at, 16, &keyed, cache.at, 16, &context, buffer,
+                                     sizeof buffer);
+}
+
 static fevstunik_answer reading_cache(void)
 {
     return fevstunik_cache_new(&credentials, cache.at, cache.size);
@@ -276,6 +284,40 @@ static void is_told(const char *what, fevstunik_answer (*call)(void))
     is_at(what, at, answer.code, FEVSTUNIK_OK);
 }
 
+/* The first request with a ticket keeps the keys that it derives. If only they can't be kept, the request is the same. */
+static void first_request(void)
+{
+    static uint8_t wanted[sizeof buffer];
+    long at, unkept = 0;
+    fevstunik_answer answer, first = asking();
+    size_t i;
+
+    is_at("first request", 0, first.code, FEVSTUNIK_OK);
+    memcpy(wanted, buffer, sizeof buffer);
+    for (at = 0; at < 1000; at++) {
+        void *awaited = pending.opaque;
+
+        is_at("cache", at, reading_cache().code, FEVSTUNIK_OK);
+        memset(buffer, 0xa5, sizeof buffer);
+        left = at;
+        answer = asking();
+        if (left >= 0)
+            break;
+        unkept += answer.code == FEVSTUNIK_OK;
+        is_at("first request", at, answer.code == FEVSTUNIK_OK || answer.code == FEVSTUNIK_OUT_OF_MEMORY, 1);
+        for (i = 0; i < sizeof buffer && buffer[i] == 0xa5; i++)
+            ;
+        if (answer.code == FEVSTUNIK_OK)
+            is_at("its bytes", at, answer.size == first.size && memcmp(buffer, wanted, first.size) == 0, 1);
+        else
+            is_at("nothing", at, i == sizeof buffer && pending.opaque == awaited, 1);
+    }
+    left = -1;
+    is_at("allocations", at, at > 0 && at < 1000, 1);
+    is_at("requests whose keys aren't kept", at, unkept, 1);
+    is_at("first request", at, answer.code, FEVSTUNIK_OK);
+}
+
 /* No error tells of out of memory. */
 static void without_a_code(void)
 {
@@ -339,8 +381,67 @@ static void faults_without_memory(void)
     fevstunik_acceptor_free(&service);
 }
 
+/* A keytab whose second record lacks its last byte. */
+static struct bytes cut;
+
+static fevstunik_answer checking_cut(void)
+{
+    return fevstunik_keytab_check(cut.at, cut.size);
+}
+
+static fevstunik_answer reading_cut(void)
+{
+    return fevstunik_keytab_new(&keys, cut.at, cut.size);
+}
+
+static fevstunik_answer writing_cut(void)
+{
+    return fevstunik_keytab_write(cut.at, cut.size, buffer, sizeof buffer);
+}
+
+static fevstunik_answer making_of_cut(void)
+{
+    return fevstunik_acceptor_new(&service, cut.at, cut.size, 300, WEB);
+}
+
+static fevstunik_answer renewing_by_cut(void)
+{
+    return fevstunik_acceptor_replace_keytab(&service, cut.at, cut.size, WEB);
+}
+
+/* There is no memory for the first record, and the fault of the second one is reported. */
+static void is_cut(const char *what, fevstunik_answer (*call)(void))
+{
+    left = 0;
+    is_at(what, 0, call().code, FEVSTUNIK_FILE_TRUNCATED);
+    is_at(what, 1, left, -1);
+    left = -1;
+}
+
+static void keytab_faults_without_memory(void)
+{
+    size_t record = keytab.size - 2;
+
+    memcpy(cut.at, keytab.at, keytab.size);
+    memcpy(cut.at + keytab.size, keytab.at + 2, record);
+    cut.size = keytab.size + record;
+    left = 0;
+    is_at("two records without memory", 0, checking_cut().code, FEVSTUNIK_OUT_OF_MEMORY);
+    is_at("two records", 0, (long long)checking_cut().size, 2);
+    is_at("a service", 0, making().code, FEVSTUNIK_OK);
+    cut.size--;
+    is_cut("cut, check", checking_cut);
+    is_cut("cut, new", reading_cut);
+    is_cut("cut, write", writing_cut);
+    is_cut("cut, service", making_of_cut);
+    is_cut("cut, new keytab", renewing_by_cut);
+    fevstunik_acceptor_free(&service);
+}
+
 int main(int count, char **words)
 {
+    long before, again;
+
     if (count != 5)
         return 2;
     from_file(&keytab, words[1]);
@@ -371,8 +472,15 @@ int main(int count, char **words)
     is_told("cache again", reading_cache);
     is_told("keytab", reading_keytab);
     is_told("keytab again", reading_keytab);
+    first_request();
+    before = held;
+    for (again = 0; again < 10; again++)
+        is_at("request once more", again, asking().code, FEVSTUNIK_OK);
+    is_at("the keys are kept once", 0, held, before);
     is_told("request", asking);
     is_told("request again", asking);
+    is_told("request in a context", asking_in_context);
+    is_at("request then", 0, asking().code, FEVSTUNIK_OK);
     is_told("finish", finishing);
     is_told("seal", sealing);
     is_told("token of a request", wrapping_request);
@@ -393,6 +501,7 @@ int main(int count, char **words)
     without_a_code();
     refusals_without_memory();
     faults_without_memory();
+    keytab_faults_without_memory();
     fevstunik_accepted_free(&accepted);
     fevstunik_cache_free(&credentials);
     fevstunik_keytab_free(&keys);

@@ -6,7 +6,7 @@ import time
 import c_cases
 import fixture as der
 import pytest
-from fevstunik import (Acceptor, Code, CredentialCache, Error, Fault, Key, Keytab, Moment, Refused, TicketFlags, TypedData,
+from fevstunik import (Acceptor, Code, ContextFlags, CredentialCache, Error, Fault, Key, Keytab, Moment, Refused, TicketFlags, TypedData,
                        check_name, make_request)
 
 AT = 1_700_000_100
@@ -55,6 +55,21 @@ def test_other_numbers(service):
 def c_cases_entry():
     entry, = Keytab(der.keytab()).entries
     return type(entry)("a\\/b@EX", entry.key, 3)
+
+
+def test_a_context(service, cache):
+    flags, bindings = ContextFlags.DELEGATION | ContextFlags.REPLAY, b"tls-server-end-point:" + bytes(32)
+    accepted = service.accept(make_request(cache, SERVICE, now=AT, context=flags, bindings=bindings)[0], AT)
+    assert accepted.context.flags == ContextFlags.MUTUAL | ContextFlags.REPLAY and accepted.context.delegation is None
+    assert accepted.context.is_bound_to(bindings) and not accepted.context.is_bound_to(bindings[:-1]) and accepted.seq is not None
+    request = make_request(cache, SERVICE, now=AT + 1, seq=7, wants_reply=False, context=ContextFlags.MUTUAL)[0]
+    accepted = service.accept(request, AT + 1)
+    assert (accepted.context.flags, accepted.context.bindings, accepted.seq, accepted.wants_reply) == (0, bytes(16), 7, False)
+    assert service.accept(make_request(cache, SERVICE, now=AT + 2)[0], AT + 2).context is None
+    request = make_request(cache, SERVICE, now=AT + 4, wants_reply=False, context=ContextFlags(0x8000_1003))[0]
+    assert int(service.accept(request, AT + 4).context.flags) == 0x8000_1000
+    with pytest.raises(ValueError):
+        make_request(cache, SERVICE, now=AT + 3, bindings=bindings)
 
 
 def test_lists(service):

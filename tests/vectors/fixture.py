@@ -121,16 +121,21 @@ def present(number, content):
     return [] if content is None else [field(number, content)]
 
 
-def authenticator(subkey=None, number=None):
+def context(flags, bindings=bytes(16)):
+    """The checksum of a client of GSS-API (RFC 4121, section 4.1.1)."""
+    return sequence(field(0, integer(0x8003)), field(1, octets(struct.pack("<I16sI", 16, bindings, flags))))
+
+
+def authenticator(subkey=None, number=None, checksum=None):
     """The client's, at 1,700,000,100 seconds and 5 microseconds."""
     return element(0x62, sequence(
-        field(0, integer(5)), field(1, string(b"EX")), field(2, name(1, b"alice")), field(4, integer(5)),
+        field(0, integer(5)), field(1, string(b"EX")), field(2, name(1, b"alice")), *present(3, checksum), field(4, integer(5)),
         field(5, time("20231114221500Z")), *present(6, subkey), *present(7, None if number is None else integer(number)),
     ))
 
 
-def request(options=0, subkey=None, number=None, of=None):
-    cipher = sealed(19, SESSION_KEY, 11, bytes(range(0x20, 0x30)), authenticator(subkey, number))
+def request(options=0, subkey=None, number=None, of=None, checksum=None):
+    cipher = sealed(19, SESSION_KEY, 11, bytes(range(0x20, 0x30)), authenticator(subkey, number, checksum))
     return element(0x6E, sequence(
         field(0, integer(5)), field(1, integer(14)), field(2, element(3, b"\0" + struct.pack(">I", options))),
         field(3, of or ticket()), field(4, encrypted(19, cipher)),

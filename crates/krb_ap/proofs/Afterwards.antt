@@ -7,7 +7,7 @@ use Rattle.krb_ap.specs.declared.accepted.Accepted.{Accepted}
 use Rattle.krb_ap.specs.declared.refusal.Refusal.{Refusal}
 use Rattle.krb_ap.specs.declared.refusal.Refusal.TheVariants.{OutOfMemory}
 
--- with the call, where the answer isn't want of memory
+-- with the call, if the answer isn't out of memory
 pub after_named : (history : List Arrival) (call : Arrival) (r : Refusal) → r ≢ OutOfMemory → decided_now call ∷ history ≡ after_refusal history call r
 after_named history call r named = grind arith
 

@@ -8,7 +8,7 @@ use Rattle.krb_der.specs.Spells.{IsMessage, limit}
 use Rattle.krb_der.specs.Size.{size_of}
 use Rattle.krb_enc.specs.Key.{KeyValue, profile_of}
 use Rattle.krb_enc.specs.Sealed.{sealed}
-use Rattle.krb_msg.specs.Module.{ap_req, authenticator, encrypted_data, encryption_key, ticket as ticket_kind, is_ticket}
+use Rattle.krb_msg.specs.Module.{ap_req, authenticator, checksum, encrypted_data, encryption_key, ticket as ticket_kind, is_ticket}
 use Rattle.krb_msg.specs.Fields.{authenticator_value, ap_req_value, encrypted_value}
 use Rattle.krb_msg.specs.Moments.{micros_of}
 use Rattle.krb_msg.specs.Owned.{principal_name_of}
@@ -16,7 +16,7 @@ use Rattle.krb_ccache.specs.declared.credential.Credential.{Credential}
 use Rattle.krb_ap.specs.Written.{IsWritten, IsSealed, key_value}
 use Rattle.krb_ap.specs.Opened.{authenticator_usage}
 use Rattle.krb_ap.specs.Credentials.{credential_key}
-use Rattle.krb_ap.specs.Request.{Awaited, authenticator_for, awaited_for, options_for, request_for, IsPlain, IsAuthenticator, IsBuilt}
+use Rattle.krb_ap.specs.Request.{Awaited, authenticator_for, awaited_for, context_checksum, options_for, request_for, IsPlain, IsAuthenticator, IsBuilt}
 use Rattle.krb_ap.specs.Inner.Facts.{Facts, WritingFacts}
 use Rattle.krb_ap.specs.declared.request.RequestOptions.{RequestOptions}
 
@@ -28,39 +28,50 @@ pub micros_in : (s t : ℤ) (m n : ℕ) → m < 1_000_000 → n < 1_000_000 → 
 micros_in s t m n h g e = omega (arith, ints)
 
 -- the value of an authenticator whose parts are copies
-pub copied : (client : Principal) (credential : Credential) (ctime : ℤ) (cusec : ℕ) (subkey : Option (ValueOf encryption_key)) (options : RequestOptions)
-    → client ≡ credential.client → subkey ≡ option_map key_value options.subkey
+pub copied : (client : Principal) (credential : Credential) (ctime : ℤ) (cusec : ℕ) (sum : Option (ValueOf checksum))
+    (subkey : Option (ValueOf encryption_key)) (options : RequestOptions)
+    → client ≡ credential.client → sum ≡ option_map context_checksum options.context → subkey ≡ option_map key_value options.subkey
     → authenticator_value (record {
       crealm = client.realm;
       cname = principal_name_of client;
-      checksum = None;
+      checksum = sum;
       cusec = cusec;
       ctime = ctime;
       subkey = subkey;
       seq_number = options.seq;
       authorization = None;
     }) ≡ authenticator_for credential ctime cusec options
-copied client credential ctime cusec subkey options e f =
+copied client credential ctime cusec sum subkey options e d f =
     ap (λ (p : Principal). authenticator_value (record {
       crealm = p.realm;
       cname = principal_name_of p;
-      checksum = None;
+      checksum = sum;
       cusec = cusec;
       ctime = ctime;
       subkey = subkey;
       seq_number = options.seq;
       authorization = None;
     })) e
+    ∙ (ap (λ (s : Option (ValueOf checksum)). authenticator_value (record {
+      crealm = credential.client.realm;
+      cname = principal_name_of credential.client;
+      checksum = s;
+      cusec = cusec;
+      ctime = ctime;
+      subkey = subkey;
+      seq_number = options.seq;
+      authorization = None;
+    })) d
     ∙ ap (λ (k : Option (ValueOf encryption_key)). authenticator_value (record {
       crealm = credential.client.realm;
       cname = principal_name_of credential.client;
-      checksum = None;
+      checksum = option_map context_checksum options.context;
       cusec = cusec;
       ctime = ctime;
       subkey = k;
       seq_number = options.seq;
       authorization = None;
-    })) f
+    })) f)
 
 too_big : (n m : ℕ) → n ≡ m → n ≤ limit → limit < m → ⊥
 too_big n m e h g = omega arith

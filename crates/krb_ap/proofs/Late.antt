@@ -45,7 +45,7 @@ pub stamp_by : (tuple : Stamp) (server client one other : Principal) (time : ℤ
     → client.realm ≡ other.realm → client.components ≡ other.components → tuple ≡ stamp_at one other time
 stamp_by tuple server client one other time e f g h = cc
 
--- such a refusal isn't want of memory
+-- such a refusal isn't out of memory
 pub times_named : (skew : ℕ) (now : ℤ) (request : ValueOf ap_req) (part : ValueOf enc_ticket_part) (auth : ValueOf authenticator) (r : Refusal)
     → TimesRefuse skew now request part auth r → r ≢ OutOfMemory
 times_named skew now request part auth r h = elim h [

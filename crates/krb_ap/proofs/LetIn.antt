@@ -1,5 +1,5 @@
 -- A built request is let in, if its stamp is new.
-use Rattle.std.proofs.Common.{◌≡◌, ℕ, ℤ, List, Bool, false, refl, sym, ◌∙◌, ap, subst}
+use Rattle.std.proofs.Common.{◌≡◌, ℕ, ℤ, List, Bool, refl, sym, ◌∙◌, ap, subst}
 use Rattle.std.specs.Prelude.{IsTrue}
 use Rattle.krb_name.specs.declared.principal.Principal.{Principal}
 use Rattle.krb_der.specs.Kind.{ValueOf}
@@ -14,15 +14,12 @@ use Rattle.krb_ap.specs.Once.{HasStamp}
 use Rattle.krb_ap.specs.Taken.{Taken, Accept, taken_stamp}
 use Rattle.krb_ap.specs.Request.{Awaited, IsRequest}
 use Rattle.krb_ap.specs.Headline.{Agrees, HasTicket, MayBeTaken}
-use Rattle.krb_ap.specs.Sharing.{Has, IsLetInNext, LetsInAmong, SaysNew, Share, StoreEvent, asked_by, forgets}
+use Rattle.krb_ap.specs.Sharing.{AskedAmong, Has, IsLetInNext, SaysNew, Share, StoreEvent, asked_by, forgets}
 use Rattle.krb_ap.specs.World.{IsOf}
 use Rattle.krb_ap.specs.Inner.Facts.{Facts}
 use Rattle.krb_ap.specs.declared.request.RequestOptions.{RequestOptions}
 use Rattle.krb_ap.proofs.BuiltAccepted.{accepted_by}
 use Rattle.krb_ap.proofs.Sharing.{has_its_stamp, lacked, never_forgotten}
-
-is_false : ¬ IsTrue false
-is_false e = cc
 
 module _ (facts : Facts) (setup : Setup) (history : List Arrival) (moment : ℤ) (cache : Cache) (service : Principal) (at : ℤ) (confounder : List ℕ)
     (options : RequestOptions) (bytes : List ℕ) (awaited : Awaited) (ticket : ValueOf ticket_kind) (part : ValueOf enc_ticket_part)
@@ -61,23 +58,23 @@ module _ (facts : Facts) (setup : Setup) (history : List Arrival) (moment : ℤ)
     λ is_new says. says.1 (subst (λ (s : Stamp). ¬ Has store events s) (sym is_taken.stamp_is) lacks),
   )
 
-  pub let_in : (skew : ℕ) → Share skew store events → ¬ IsOf store its_stamp → ¬ LetsInAmong events its_stamp
+  pub let_in : (skew : ℕ) → Share skew store events → ¬ IsOf store its_stamp → ¬ AskedAmong events its_stamp
       → (taken : Taken) × Agrees taken awaited × IsLetInNext skew store events (asked_by setup history (arrival bytes moment) taken) its_stamp
-  let_in skew share absent unlet =
+  let_in skew share absent unasked =
       let lacks : ¬ Has store events (taken_stamp is_taken.taken) =
-      subst (λ (s : Stamp). ¬ Has store events s) (sym is_taken.stamp_is) (lacked facts skew store events its_stamp share absent unlet) in (
+      subst (λ (s : Stamp). ¬ Has store events s) (sym is_taken.stamp_is) (lacked facts skew store events its_stamp share absent unasked) in (
         is_taken.taken,
         is_taken.agrees,
         record {
-          answered = record {
+          answered = λ looked. record {
             accepted = is_taken.accepted;
             answer = (λ yes. lacks, λ no. refl);
-            clocks = λ when forgot. absurd (never_forgotten facts skew store events its_stamp when share absent unlet
+            clocks = λ when forgot. absurd (never_forgotten facts skew store events its_stamp when share absent unasked
                 (subst (λ (s : Stamp). IsOf events (forgets s when)) is_taken.stamp_is forgot));
           };
-          only = λ answered. is_false (answered.answer.1 lacks);
-          let_in = (
-            refl,
+          only = λ outcome answered. answered.answer.1 lacks;
+          let_in = λ looked in_time. (
+            (refl, in_time),
             subst (λ (s : Stamp). HasStamp setup bytes s) is_taken.stamp_is (has_its_stamp setup history (arrival bytes moment) is_taken.taken is_taken.accepted),
           );
         },

@@ -32,3 +32,4 @@ pub mod WorldsOnce
 pub mod Behind
 pub mod Entries
 pub mod SomeRequest
+pub mod Prevented

@@ -30,7 +30,7 @@ mapped calls i call below is =
     ap (λ (x : Call). map arrival_of (take i calls) ++ arrival_of x ∷ []) is
     ∙ sym (ap (map arrival_of) (take_more calls i call below) ∙ map-append arrival_of (take i calls) (get_or calls i call ∷ []))
 
--- where memory was wanting, and one call more
+-- if memory ran out, and one call more
 pub memory_push : (calls : List Arrival) (answers : List (Result Accepted Refusal)) (call : Arrival) (answer : Result Accepted Refusal)
     → MemoryWantedByRequests calls answers → (IsErrOf answer OutOfMemory → IsOrdinary call.bytes)
     → MemoryWantedByRequests (calls ++ call ∷ []) (answers ++ answer ∷ [])

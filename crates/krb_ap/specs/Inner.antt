@@ -3,3 +3,4 @@ pub mod Facts
 pub mod Judging
 pub mod GoingOn
 pub mod Decisions
+pub mod Requests

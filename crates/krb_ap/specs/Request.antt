@@ -1,6 +1,7 @@
 -- The request that a client builds with a credential (RFC 4120, sections 3.2.2 and 5.5.1), what it
 -- keeps of the request, and why there is none.
-use Rattle.std.specs.Prelude.{◌≡◌, ◌<◌, ℕ, ℤ, List, Bool, true, false, Option, None}
+use Rattle.std.specs.Prelude.{◌≡◌, ◌<◌, ◌*◌, ◌/◌, ◌++◌, ℕ, ℤ, pos, List, Bool, true, false, Option, None}
+use Rattle.std.specs.Int.{w32, to_le_bytes}
 use Rattle.std.specs.Option.{option_map}
 use Rattle.krb_name.specs.declared.principal.Principal.{Principal}
 use Rattle.krb_der.specs.Kind.{ValueOf}
@@ -8,8 +9,8 @@ use Rattle.krb_der.specs.Spells.{IsMessage}
 use Rattle.krb_der.specs.Flags.{weight}
 use Rattle.krb_enc.specs.Key.{KeyValue}
 use Rattle.krb_msg.specs.Bits.{mutual_required}
-use Rattle.krb_msg.specs.Module.{ap_req, authenticator, ticket as ticket_kind}
-use Rattle.krb_msg.specs.Fields.{authenticator_value, ap_req_value, encrypted_value}
+use Rattle.krb_msg.specs.Module.{ap_req, authenticator, checksum as checksum_kind, ticket as ticket_kind}
+use Rattle.krb_msg.specs.Fields.{authenticator_value, ap_req_value, encrypted_value, typed_value}
 use Rattle.krb_msg.specs.Moments.{micros_of}
 use Rattle.krb_msg.specs.Owned.{principal_name_of}
 use Rattle.krb_ccache.specs.Value.{Cache}
@@ -17,6 +18,7 @@ use Rattle.krb_ccache.specs.declared.credential.Credential.{Credential}
 use Rattle.krb_ap.specs.Opened.{authenticator_usage}
 use Rattle.krb_ap.specs.Written.{IsWritten, IsSealed, key_value}
 use Rattle.krb_ap.specs.Credentials.{credential_key, IsUsed, IsWanting}
+use Rattle.krb_ap.specs.declared.request.ContextRequest.{ContextRequest}
 use Rattle.krb_ap.specs.declared.request.RequestOptions.{RequestOptions}
 use Rattle.krb_ap.specs.declared.request_fault.RequestFault.{RequestFault}
 use Rattle.krb_ap.specs.declared.request_fault.RequestFault.TheVariants.{NoCredential, NoUsableKey, Expired, BadTicket, TooLong, OutOfMemory}
@@ -26,13 +28,19 @@ abbrev pub options_for : Bool → ℕ
 options_for true = weight mutual_required
 options_for false = 0
 
--- the authenticator: the credential's client, a time, and the subkey and the sequence number that
--- the client chose; and no more
+-- the checksum by which a client of GSS-API says what it asks for (RFC 4121, section 4.1.1): the
+-- length of the bindings, the bindings, and the flags without that of delegation, numbers with the
+-- least byte first
+abbrev pub context_checksum : ContextRequest → ValueOf checksum_kind
+context_checksum c = typed_value (pos 0x8003) (to_le_bytes w32 16 ++ (c.bindings ++ to_le_bytes w32 (c.flags / 2 * 2)))
+
+-- the authenticator: the credential's client, a time, and the subkey, the sequence number and the
+-- context that the client chose; and no more
 abbrev pub authenticator_for : Credential → ℤ → ℕ → RequestOptions → ValueOf authenticator
 authenticator_for credential ctime cusec options = authenticator_value (record {
   crealm = credential.client.realm;
   cname = principal_name_of credential.client;
-  checksum = None;
+  checksum = option_map context_checksum options.context;
   cusec = cusec;
   ctime = ctime;
   subkey = option_map key_value options.subkey;

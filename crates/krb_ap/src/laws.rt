@@ -22,7 +22,7 @@ ghost use Rattle.krb_ap.specs.Answer.{Run};
 ghost use Rattle.krb_ap.specs.Living.{Lives, Step, TakesInLife, TakesOnceInLife};
 ghost use Rattle.krb_ap.specs.Once.{HasStamp, TakesAmong, TakesOnce};
 ghost use Rattle.krb_ap.specs.Opened.{stamp_at};
-ghost use Rattle.krb_ap.specs.Sharing.{Asked, ClocksAgree, Has, IsLetInNext, LetsInAmong, LetsInOnce, SaysNew, Share, StoreEvent, asked_by, asked_stamp, forgets};
+ghost use Rattle.krb_ap.specs.Sharing.{Asked, AskedAmong, ClocksAgree, Has, InTime, IsLetInNext, LetsInAmong, LetsInOnce, SaysNew, Share, StoreEvent, asked_by, asked_stamp, forgets};
 ghost use Rattle.krb_ap.specs.World.{BothAgree, Comes, Event, IsHeldInEachWorld, IsHeldOnce, IsOf, World, nothing_yet};
 ghost use Rattle.krb_ccache.specs.declared.credential.Credential.{Credential};
 ghost use Rattle.krb_ap.specs.declared.accepted.Accepted.{Accepted};
@@ -155,39 +155,47 @@ pub fn accepted_has_its_stamp()
 }
 
 /// States that services that share one store of stamps let no two requests of the same stamp in,
-/// and none of a stamp that the store had at first. A request is let in if a service accepts it and
-/// the store then says that its stamp is new.
+/// and none of a stamp that the store had at first. A request is let in if a service accepts it, the
+/// store then says that its stamp is new, and the service's clock, read after that, shows no later
+/// time than the request's plus the service's skew.
 ///
-/// Nothing is presupposed of what a service has seen, or of its keytab, its skew and its start: it
-/// may have been started again, and lose everything. `specs/Sharing` says what is presupposed of the
-/// store and of the clocks:
+/// Nothing is presupposed of what a service has seen, or of its keytab and its start: it may have
+/// been started again, and lose everything. `specs/Sharing` says what is presupposed of the store and
+/// of the clocks:
 /// - In one step, the store adds a stamp unless it has it, and says whether it is new.
 /// - The store forgets a stamp only after its clock is past the stamp's time plus twice the skew,
 ///   which is what `Tuple::keep_until` returns.
-/// - No service's skew is larger. The store's clock is ahead of the moment that counts for a call by
-///   at most the skew, until it has answered. (This matters only for stamps that it has forgotten.)
+/// - No service's skew is larger. If the store has forgotten a stamp, then its clock, when it did so,
+///   was ahead of what the service's clock shows after the answer by at most the skew.
 ///
-/// Clause `forgotten` says why the store may forget: if the clocks agree, no service accepts a
-/// request whose stamp the store has forgotten.
+/// Clauses `late` and `forgotten` say why the store may forget: if the clocks agree, it is too late
+/// for each request whose stamp the store has forgotten, and no service whose clock agrees when it
+/// decides accepts it.
 pub fn a_store_lets_in_once()
     ensures once { (skew : ℕ) (store : List Stamp) (events : List StoreEvent) → Share skew store events → LetsInOnce events }
     ensures before { (skew : ℕ) (store : List Stamp) (events : List StoreEvent) (stamp : Stamp)
         → Share skew store events → IsOf store stamp → ¬ LetsInAmong events stamp }
     ensures forgotten { (skew : ℕ) (store : List Stamp) (events : List StoreEvent) (asked : Asked) (at : ℤ)
-        → Share skew store events → IsOf events (forgets (asked_stamp asked) at) → ClocksAgree skew asked at
+        → Share skew store events → IsOf events (forgets (asked_stamp asked) at)
+        → ClocksAgree skew asked (effective asked.history asked.call.moment) at
         → ¬ Accept asked.setup asked.history asked.call asked.taken }
+    ensures late { (skew : ℕ) (store : List Stamp) (events : List StoreEvent) (asked : Asked) (shows at : ℤ)
+        → Share skew store events → IsOf events (forgets (asked_stamp asked) at)
+        → ClocksAgree skew asked shows at → ¬ InTime asked shows }
 {
     facts();
 }
 
 /// States that a service that shares a store lets a request in that a client built, if the request
-/// may be accepted as in `built_is_accepted`, and nobody was let in with its stamp. The stamp has
-/// the names of the ticket's service and client, and the client's moment.
+/// may be accepted as in `built_is_accepted`, and no service has asked the store for its stamp,
+/// whatever became of the answer. The stamp has the names of the ticket's service and client, and
+/// the client's moment.
 ///
 /// Clause `new` says this of one question: the service accepts the request, and if the store hasn't
 /// got the stamp, the store can only say that it is new. Clause `let_in` says it of everything that
-/// has happened at the store: if nobody was let in with the stamp, and the store didn't have it at
-/// first, then the service may ask next, and is let in. The store's clock doesn't matter for this.
+/// has happened at the store: if no service has asked for the stamp, and the store didn't have it at
+/// first, then the service may ask next, and lets the request in unless its clock shows after the
+/// answer that it is too late. The store's clock doesn't matter for this.
 pub fn built_is_let_in()
     ensures new { (setup : Setup) (history : List Arrival) (moment : ℤ) (cache : Cache) (service : Principal) (at : ℤ) (confounder : List ℕ)
         (options : RequestOptions) (bytes : List ℕ) (awaited : Awaited) (ticket : ValueOf ticket_kind) (part : ValueOf enc_ticket_part)
@@ -206,7 +214,7 @@ pub fn built_is_let_in()
         → MayBeTaken setup history moment at ticket part
         → Share skew store events
         → ¬ IsOf store (stamp_at (ticket_service ticket) (part_client part) at)
-        → ¬ LetsInAmong events (stamp_at (ticket_service ticket) (part_client part) at)
+        → ¬ AskedAmong events (stamp_at (ticket_service ticket) (part_client part) at)
         → (taken : Taken) × Agrees taken awaited
         × IsLetInNext skew store events (asked_by setup history (arrival bytes moment) taken) (stamp_at (ticket_service ticket) (part_client part) at) }
 {

@@ -3,7 +3,8 @@
 //!
 //! [`make_request`] builds a request with a ticket of a credential cache, and returns a [`Pending`]
 //! that waits for the reply. `specs/Credentials` says which credential is used, and `specs/Request`
-//! which bytes the request is. `specs/Finish` says what a reply agrees on, or why it is refused.
+//! which bytes the request is. An [`Initiator`] builds many requests, and keeps the keys that it
+//! derived. `specs/Finish` says what a reply agrees on, or why it is refused.
 //!
 //! An [`Acceptor`] decides by a keytab, a skew and a memory of seen requests. `specs/Opened` says
 //! what a request is opened as, `specs/Times` and `specs/History` when it may be used, and
@@ -33,12 +34,14 @@ mod credentials;
 mod errors;
 mod finish;
 mod finish_fault;
+mod initiator;
 mod inner_laws;
 mod judging;
 mod keys;
 pub mod laws;
 mod opening;
 mod pending;
+mod ready_key;
 mod refusal;
 mod renewing;
 mod reply;
@@ -53,8 +56,9 @@ pub use call::{Call, Outcome};
 pub use errors::{ReplyFault, error_reply};
 pub use finish::Agreed;
 pub use finish_fault::FinishFault;
+pub use initiator::Initiator;
 pub use pending::Pending;
 pub use refusal::Refusal;
 pub use reply::ReplyOptions;
-pub use request::{RequestOptions, make_request};
+pub use request::{ContextRequest, RequestOptions, make_request};
 pub use request_fault::RequestFault;

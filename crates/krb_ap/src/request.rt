@@ -1,25 +1,28 @@
 //! The client's side: building a request.
 
 ghost use Rattle.std.specs.Prelude.{◌≡◌, ◌≢◌, ℕ, List, IfOk, IfErr, IsErrOf};
-ghost use Rattle.krb_enc.specs.Key.{IsUsable};
 ghost use Rattle.krb_der.specs.Spells.{IsMessage};
+ghost use Rattle.std.specs.Option.{option_map};
 ghost use Rattle.krb_msg.specs.Borrowed.{ticket_of};
+ghost use Rattle.krb_msg.specs.Owned.{owned_typed_of};
 ghost use Rattle.krb_msg.specs.Module.{ticket as ticket_kind};
 ghost use Rattle.krb_ap.specs.Credentials.{credential_key};
-ghost use Rattle.krb_ap.specs.Request.{HasGoodTicket, IsBuilt, IsPlain, IsRequest, Prevents, options_for};
+ghost use Rattle.krb_ap.specs.Request.{HasGoodTicket, IsBuilt, IsPlain, IsRequest, Prevents, awaited_for, context_checksum, options_for};
+ghost use Rattle.krb_ap.specs.Inner.Requests.{HasTicket, IsUnbuilt};
 ghost use Rattle.krb_ap.specs.declared.request_fault.RequestFault.TheVariants.{TooLong, OutOfMemory};
 
 use crate::credentials::used;
 use crate::inner_laws::{facts, writing};
-use crate::keys::{encrypted, raw_key, seal};
+use crate::keys::{encrypted, raw_key};
 use crate::pending::Pending;
+use crate::ready_key::ReadyKey;
 use crate::request_fault::RequestFault;
 use krb_ccache::{CCache, Credential};
 use krb_enc::Key;
 use krb_msg::{
-    ApReq, Authenticator, EncodeFault, Flags, MUTUAL_REQUIRED, Moment, Principal, TicketRef, usage,
+    ApReq, Authenticator, EncodeFault, Flags, MUTUAL_REQUIRED, Moment, Principal, TicketRef, Typed,
 };
-use std::alloc::Global;
+use std::alloc::{AllocError, Global};
 
 /// What a client chooses for a request. There is no `Debug`, so no log shows a key.
 #[derive(Drop)]
@@ -30,6 +33,19 @@ pub struct RequestOptions {
     pub subkey: Option<Key>,
     /// The client's first sequence number.
     pub seq: Option<u32>,
+    /// What a client of GSS-API asks for. Other clients leave it out.
+    pub context: Option<ContextRequest>,
+}
+
+/// What a client of GSS-API asks for in its authenticator's checksum, of type 0x8003 (RFC 4121,
+/// section 4.1.1).
+#[derive(Clone, Copy, Debug, PartialEq, Eq)]
+pub struct ContextRequest {
+    /// The flags of section 4.1.1.1: 2 mutual, 4 replay, 8 sequence, 16 confidentiality, 32
+    /// integrity. The flag 1, delegation, is left out, since no credentials are delegated.
+    pub flags: u32,
+    /// The MD5 hash of the channel's bindings, or 16 zeros if there are none (section 4.1.1.2).
+    pub bindings: [u8; 16],
 }
 
 /// Builds a request for `service` from the first credential of `cache` that fits. It fits if it has
@@ -39,8 +55,8 @@ pub struct RequestOptions {
 /// `at` is the client's clock. Never use a moment twice for one credential: a service refuses the
 /// second request as a repeat, and a reply doesn't show to which of two requests of one moment it
 /// belongs. `confounder` is 16 random bytes, new for each call. The authenticator contains the
-/// credential's client, `at`, and the options' subkey and sequence number. The request has the
-/// ticket, and no option but mutual-required.
+/// credential's client, `at`, and the options' subkey, sequence number and context. The request has
+/// the ticket, and no option but mutual-required.
 ///
 /// # Errors
 /// The one that applies, or `OutOfMemory`:
@@ -66,15 +82,34 @@ pub fn make_request(
     ensures memory { IsErrOf result OutOfMemory → HasGoodTicket cache.now service.now at }
 {
     let credential = used(cache, service, at)?;
+    let key = ReadyKey::of(credential);
+    request_with(alloc, credential, &key, at, confounder, options)
+}
+
+/// The request with this credential, whose session key is at hand, and what is kept of it.
+pub(crate) fn request_with(
+    alloc: Global,
+    credential: &Credential,
+    key: &ReadyKey,
+    at: Moment,
+    confounder: &[u8; 16],
+    options: RequestOptions,
+) -> Result<(Vec<u8>, Pending), RequestFault>
+    requires key { key.now ≡ credential_key credential.now }
+    ensures built { IfOk result (λ made. IsBuilt credential.now at confounder.now options made.0.items) }
+    ensures awaited { IfOk result (λ made. made.1 ≡ awaited_for credential.now at options) }
+    ensures fault { IfErr result (λ fault. fault ≢ OutOfMemory
+        → IsUnbuilt credential.now at confounder.now options fault) }
+    ensures memory { IsErrOf result OutOfMemory → HasTicket credential.now }
+{
     let ticket = match TicketRef::parse(credential.ticket.as_slice()) {
         Ok(ticket) => ticket,
         Err(_) => return Err(RequestFault::BadTicket),
     };
-    let key = session_key(credential);
-    let bytes = build(alloc, credential, &key, &ticket, at, confounder, &options)?;
+    let bytes = build(alloc, credential, key, &ticket, at, confounder, &options)?;
     let pending = Pending {
         client: credential.client.clone()?,
-        key,
+        key: key.key().copy(),
         at,
         subkey: options.subkey,
         seq: options.seq,
@@ -82,21 +117,11 @@ pub fn make_request(
     Ok((bytes, pending))
 }
 
-fn session_key(credential: &Credential) -> Key
-    requires { IsUsable (credential_key credential.now) }
-    ensures { result ≡ credential_key credential.now }
-{
-    match Key::new(i32::from(credential.etype), credential.key.as_slice()) {
-        Ok(key) => key,
-        Err(_) => unreachable!(),
-    }
-}
-
 // The request with this ticket.
 fn build(
     alloc: Global,
     credential: &Credential,
-    key: &Key,
+    key: &ReadyKey,
     ticket: &TicketRef,
     at: Moment,
     confounder: &[u8; 16],
@@ -111,11 +136,11 @@ fn build(
     facts();
     writing();
     let plain = authenticator(alloc, credential, at, options)?;
-    let cipher = seal(alloc, key, usage::AUTHENTICATOR, confounder, &plain)?;
+    let cipher = key.seal(alloc, confounder, &plain)?;
     let request = ApReq {
         options: flags(options.mutual),
         ticket: ticket.to_owned(alloc)?,
-        authenticator: encrypted(key, cipher),
+        authenticator: encrypted(key.key(), cipher),
     };
     match request.encode(alloc) {
         Ok(bytes) => Ok(bytes),
@@ -134,6 +159,25 @@ fn flags(wants_reply: bool) -> Flags
     }
 }
 
+// The type of the checksum of a client of GSS-API.
+const CONTEXT: i32 = 0x8003;
+
+fn checksum_of(alloc: Global, context: Option<ContextRequest>) -> Result<Option<Typed>, AllocError>
+    ensures { IfOk result (λ made. option_map owned_typed_of made ≡ option_map context_checksum context) }
+{
+    let Some(context) = context else {
+        return Ok(None);
+    };
+    let flags = context.flags / 2 * 2;
+    let mut bytes = Vec::from_slice(alloc, &16u32.to_le_bytes())?;
+    bytes.extend_from_slice(&context.bindings)?;
+    bytes.extend_from_slice(&flags.to_le_bytes())?;
+    Ok(Some(Typed {
+        kind: CONTEXT,
+        bytes,
+    }))
+}
+
 // The authenticator's bytes.
 fn authenticator(
     alloc: Global,
@@ -150,7 +194,7 @@ fn authenticator(
     prove!(cusec.get() < 1_000_000);
     let authenticator = Authenticator {
         client: credential.client.clone()?,
-        checksum: None,
+        checksum: checksum_of(alloc, options.context)?,
         cusec,
         ctime,
         subkey: raw_key(alloc, &options.subkey)?,

@@ -18,7 +18,7 @@ use Rattle.std.specs.declared.option.Option.{Option}
 use Rattle.std_alloc.proofs.ResultValues.{and_tt}
 use Rattle.krb_c.specs.Handle.{handle_owns}
 use Rattle.krb_c.specs.contracts.cache_handle.CacheHandle as slot
-use Rattle.krb_ccache.specs.contracts.cache.CCache.{the_row as V}
+use Rattle.krb_ap.specs.contracts.initiator.Initiator.{the_row as V}
 use Rattle.krb_c.proofs.Values.{both}
 use Rattle.krb_c.proofs.Handles.{Z, al}
 

@@ -2,6 +2,9 @@
 use Rattle.std.proofs.Common.{◌≡◌, ◌⊎◌, inl, inr, ℕ, ℤ, Option, List, [], ap, refl, subst, sym, ◌∙◌}
 use Rattle.std.specs.Prelude.{Result, Ok, Err, None}
 use Rattle.krb_keytab.specs.Entry.{KeytabEntry}
+use Rattle.krb_keytab.specs.Format.{IsAnswerOf as IsKeytabAnswerOf, IsFaultOf as IsKeytabFaultOf}
+use Rattle.krb_keytab.specs.declared.fault.KeytabFault.{KeytabFault}
+use Rattle.krb_keytab.specs.declared.fault.KeytabFault.TheVariants as keytab
 use Rattle.krb_ccache.specs.Format.{IsAnswerOf, IsFaultOf}
 use Rattle.krb_ccache.specs.Value.{Cache}
 use Rattle.krb_ccache.specs.declared.fault.CacheFault.{CacheFault}
@@ -10,6 +13,7 @@ use Rattle.krb_replay.specs.Memory.{Memory}
 use Rattle.krb_ap.specs.Service.{Service}
 use Rattle.krb_c.specs.Accepting.{IsFresh, Serves, fresh}
 use Rattle.krb_c.specs.Asking.{HasCache}
+use Rattle.krb_c.specs.Editing.{HasKeytab}
 use Rattle.krb_c.specs.declared.answer.Answer.{Answer}
 use Rattle.krb_c.specs.declared.login.Login.{Login}
 
@@ -25,7 +29,7 @@ abbrev Succeeds : {X E : Type 0} → Result X E → Type 0
 Succeeds (Ok x) = Unit {0}
 Succeeds (Err e) = ⊥
 
--- What an answer of `parse` tells, where the bytes have one. X is what is read, E why it isn't, and want its want of memory.
+-- What an answer of `parse` says, if the bytes have one. X is what is read, E why it isn't, and want is out of memory.
 module _ (X E : Type 0) (want : E) (told : E → Answer) where
   abbrev R : Type 0
   R = Result X E
@@ -37,9 +41,8 @@ module _ (X E : Type 0) (want : E) (told : E → Answer) where
   wanting a f x is (inl e) = is ∙ ap (λ (r : R). told (fault_or want r)) e
   wanting a f x is (inr e) = is ∙ ap (λ (r : R). told (fault_or want r)) e
 
-  pub same_fault : (a : Answer) (f g : E) → a ≡ told f → Same (Err f) (Err g) ⊎ Same (Err f) (Err want) → (a ≡ told g) ⊎ (a ≡ told want)
-  same_fault a f g is (inl e) = inl (is ∙ ap (λ (r : R). told (fault_or f r)) e)
-  same_fault a f g is (inr e) = inr (is ∙ ap (λ (r : R). told (fault_or f r)) e)
+  pub same_fault : (a : Answer) (f g : E) → a ≡ told f → Same (Err f) (Err g) → a ≡ told g
+  same_fault a f g is e = is ∙ ap (λ (r : R). told (fault_or f r)) e
 
   pub same_value : (x y : X) → Same (Ok x) (Ok y) ⊎ Same (Ok x) (Err want) → x ≡ y
   same_value x y (inl e) = ap (value_or y) e
@@ -49,11 +52,16 @@ module _ (X E : Type 0) (want : E) (told : E → Answer) where
   no_fault x f (inl e) = subst Succeeds e tt
   no_fault x f (inr e) = subst Succeeds e tt
 
--- want of memory is answered of a cache alone, since it is never answered in place of a fault
+-- out of memory is reported only of a cache or a keytab, since it never takes the place of a fault
 pub cache_there : (bytes : List ℕ) (f : CacheFault) (answer : Result Cache CacheFault) → IsAnswerOf bytes answer
     → ((fault : CacheFault) → IsFaultOf bytes fault → ◌≡◌ {A = Result Cache CacheFault} (Err f) (Err fault)) → f ≡ OutOfMemory → HasCache bytes
 cache_there bytes f (Ok cache) is faulty want = (cache, is)
 cache_there bytes f (Err fault) is faulty want = absurd (subst (IsFaultOf bytes) (sym (ap (fault_or f) (faulty fault is)) ∙ want) is)
+
+pub keytab_there : (bytes : List ℕ) (f : KeytabFault) (answer : Result (List KeytabEntry) KeytabFault) → IsKeytabAnswerOf bytes answer
+    → ((fault : KeytabFault) → IsKeytabFaultOf bytes fault → ◌≡◌ {A = Result (List KeytabEntry) KeytabFault} (Err f) (Err fault)) → f ≡ keytab.OutOfMemory → HasKeytab bytes
+keytab_there bytes f (Ok entries) is faulty want = (entries, is)
+keytab_there bytes f (Err fault) is faulty want = absurd (subst (IsKeytabFaultOf bytes) (sym (ap (fault_or f) (faulty fault is)) ∙ want) is)
 
 pub fresh_of : (a : Service Memory) (entries found : List KeytabEntry) (skew micros : ℕ) (start : Option ℤ) (memory : Memory)
     → a.setup ≡ record { entries = found; skew = skew; start = start } → a.memory ≡ memory → memory ≡ record { stamps = []; latest = None }

@@ -3,7 +3,7 @@ use Rattle.std.proofs.Common.{◌≡◌, ℤ, ℕ, List, subst}
 use Rattle.std.specs.Prelude.{◌≢◌}
 use Rattle.krb_name.specs.declared.principal.Principal.{Principal}
 use Rattle.krb_ccache.specs.Value.{Cache}
-use Rattle.krb_ap.specs.Request.{Awaited, IsRequest, Prevents}
+use Rattle.krb_ap.specs.Request.{Awaited, HasGoodTicket, IsRequest, Prevents}
 use Rattle.krb_ap.specs.declared.request.RequestOptions.{RequestOptions}
 use Rattle.krb_ap.specs.declared.request_fault.RequestFault.{RequestFault}
 use Rattle.krb_ap.specs.declared.request_fault.RequestFault.TheVariants.{OutOfMemory}
@@ -20,3 +20,13 @@ module _ (cache : Cache) (service : Principal) (at other : ℤ) (block confounde
   prevents_at fault same alike prevents named =
       subst (λ (m : ℤ). Prevents cache service m confounder options fault) same
       (subst (λ (k : List ℕ). Prevents cache service at k options fault) alike (prevents named))
+
+  -- a request that is built has a ticket
+  pub requested_ticket : (bytes : List ℕ) (awaited : Awaited) → IsRequest cache service other confounder options bytes awaited
+      → HasGoodTicket cache service other
+  requested_ticket bytes awaited request = record {
+    credential = request.credential;
+    used = request.used;
+    ticket = request.built.ticket;
+    ticket_is = request.built.ticket_is;
+  }

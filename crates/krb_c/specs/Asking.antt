@@ -10,7 +10,8 @@ use Rattle.krb_ccache.specs.Format.{IsCache, IsFaultOf}
 use Rattle.krb_ccache.specs.Value.{Cache}
 use Rattle.krb_ccache.specs.declared.fault.CacheFault.{CacheFault}
 use Rattle.krb_ccache.specs.declared.fault.CacheFault.TheVariants as file
-use Rattle.krb_ap.specs.Request.{Awaited, IsRequest, Prevents}
+use Rattle.krb_ap.specs.Request.{Awaited, HasGoodTicket, IsRequest, Prevents}
+use Rattle.krb_ap.specs.declared.request.ContextRequest.{ContextRequest}
 use Rattle.krb_ap.specs.declared.request.RequestOptions.{RequestOptions}
 use Rattle.krb_ap.specs.declared.request_fault.RequestFault.{RequestFault}
 use Rattle.krb_ap.specs.declared.request_fault.RequestFault.TheVariants as request
@@ -20,6 +21,7 @@ use Rattle.krb_c.specs.Choice.{IsChosen, IsConfounderFault, IsSubkeyFault, seq_o
 use Rattle.krb_c.specs.Codes.{bad_moment, bad_text, bad_ticket, credential_expired, file_bad_item, file_header, file_version, no_credential, no_realm, no_usable_key, not_read, not_utf8, ok, out_of_memory, too_long}
 use Rattle.krb_c.specs.declared.answer.Answer.{Answer}
 use Rattle.krb_c.specs.declared.answer.Time.{Time}
+use Rattle.krb_c.specs.declared.asking.ContextChoice.{ContextChoice}
 use Rattle.krb_c.specs.declared.choice.Choice.{Choice}
 
 -- ---- faults
@@ -79,16 +81,23 @@ IsNameChecked bytes answer =
 
 -- ---- what is passed
 
--- a cache, the service's text, the moment, and what the client chooses
+-- a cache, the service's text, the moment, what the client chooses, and what a client of GSS-API asks
+-- for, if it is one
 pub record Ask : Type 0 where
   pub cache : Cache
   pub service : List ℕ
   pub at : Time
   pub choice : Choice
   pub subkey : List ℕ
+  pub context : Option ContextRequest
 
-abbrev pub ask : Cache → List ℕ → Time → Choice → List ℕ → Ask
-ask cache service at choice subkey = record { cache = cache; service = service; at = at; choice = choice; subkey = subkey }
+abbrev pub ask : Cache → List ℕ → Time → Choice → List ℕ → Option ContextRequest → Ask
+ask cache service at choice subkey context =
+    record { cache = cache; service = service; at = at; choice = choice; subkey = subkey; context = context }
+
+-- what a client of GSS-API asks for
+abbrev pub context_for : ContextChoice → ContextRequest
+context_for choice = record { flags = choice.flags; bindings = choice.bindings }
 
 abbrev pub moment_of : Time → ℤ
 moment_of at = micros_of at.seconds at.micros
@@ -100,6 +109,7 @@ pub record IsAsked (a : Ask) (service : Principal) (options : RequestOptions) : 
   pub chosen : IsChosen a.choice.subkey_type a.subkey options.subkey
   pub seq_is : options.seq ≡ seq_of a.choice
   pub reply : options.«mutual» ≡ a.choice.wants_reply
+  pub context_is : options.context ≡ a.context
 
 -- ---- the request
 
@@ -110,13 +120,14 @@ pub record Asks (a : Ask) (confounder bytes : List ℕ) (awaited : Awaited) : Ty
   pub size : length confounder ≡ 16
   pub request : IsRequest a.cache service (moment_of a.at) confounder options bytes awaited
 
--- an argument has a fault
+-- there is no request, for this reason; out of memory only with a ticket
 pub record HasRequestFault (a : Ask) (confounder : List ℕ) (answer : Answer) : Type 0 where
   pub service : Principal
   pub options : RequestOptions
   pub asked : IsAsked a service options
   pub fault : RequestFault
   pub prevents : fault ≢ request.OutOfMemory → Prevents a.cache service (moment_of a.at) confounder options fault
+  pub memory : fault ≡ request.OutOfMemory → HasGoodTicket a.cache service (moment_of a.at)
   pub answer_is : answer ≡ request_answer fault
 
 abbrev pub IsMomentFault : Time → Answer → Type 0

@@ -16,10 +16,14 @@ use Rattle.krb_c.specs.Codes.{ok, out_of_memory, too_long}
 use Rattle.krb_c.specs.declared.answer.Answer.{Answer}
 use Rattle.krb_c.specs.declared.editing.KeyParts.{KeyParts}
 
--- why bytes aren't a keytab, memory aside
+abbrev pub HasKeytab : List ℕ → Type 0
+HasKeytab bytes = (entries : List KeytabEntry) × IsKeytab bytes entries
+
+-- why no keytab is read: a fault of the bytes, or lack of memory for bytes that are a keytab
 pub record HasKeytabFault (bytes : List ℕ) (answer : Answer) : Type 0 where
   pub fault : KeytabFault
   pub holds : fault ≢ keytab.OutOfMemory → IsFaultOf bytes fault
+  pub memory : fault ≡ keytab.OutOfMemory → HasKeytab bytes
   pub answer_is : answer ≡ keytab_answer fault
 
 -- ---- keeping

@@ -7,7 +7,7 @@ use Rattle.krb_c.specs.Accepting.{Serves, Stands}
 use Rattle.krb_c.specs.Answer.{plain}
 use Rattle.krb_c.specs.Asking.{IsUnnamed}
 use Rattle.krb_c.specs.Codes.{empty_handle, ok}
-use Rattle.krb_c.specs.Editing.{HasKeytabFault}
+use Rattle.krb_c.specs.Editing.{HasKeytab, HasKeytabFault}
 use Rattle.krb_c.specs.declared.answer.Answer.{Answer}
 use Rattle.krb_c.specs.declared.login.Login.{Login}
 
@@ -32,9 +32,9 @@ pub record IsRenewed (text bytes : List ℕ) (old new : Login) : Type 0 where
   pub new_is : new ≡ renewed old kept
   pub stands : (history : List Arrival) → Stands old history → Stands new (as_decided old.acceptor.setup history)
 
--- the bytes aren't a keytab, or the text isn't a name
+-- no keytab is read, or it is one and the text isn't a name
 abbrev pub IsUnusable : List ℕ → List ℕ → Answer → Type 0
-IsUnusable text bytes answer = HasKeytabFault bytes answer ⊎ IsUnnamed text answer
+IsUnusable text bytes answer = HasKeytabFault bytes answer ⊎ (HasKeytab bytes × IsUnnamed text answer)
 
 abbrev pub Renews : List ℕ → List ℕ → Login → Login → Answer → Type 0
 Renews text bytes old new answer =

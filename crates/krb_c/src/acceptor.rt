@@ -1,6 +1,6 @@
 //! The service's side: a handle for a service that accepts requests.
 
-ghost use Rattle.std.specs.Prelude.{◌≡◌, ◌≢◌, ◌<◌, ◌≤◌, ◌*◌, ◌↔◌, ◌⊎◌, Contains, List, [], None, Some, IfErr, IfOk, IsErrAnd, IsErrOf, IsSomeAnd, MatchResult};
+ghost use Rattle.std.specs.Prelude.{◌≡◌, ◌≢◌, ◌<◌, ◌≤◌, ◌*◌, ◌↔◌, ◌⊎◌, Contains, List, [], None, Some, Err, IfErr, IfOk, IsErrOf, IsSomeAnd, MatchResult};
 ghost use Rattle.std.specs.Option.{MatchOption, option_map};
 ghost use Rattle.krb_msg.specs.Moments.{micros_of};
 ghost use Rattle.krb_replay.specs.Memory.{IsSizeOf};
@@ -46,7 +46,7 @@ pub extern "C" fn fevstunik_acceptor_new(
         ⊎ (IsUnnamed service.now result ⊎ (result ≡ plain out_of_memory)) }
     ensures stands { result ≡ plain ok → IsSomeAnd handle.new.value (λ login. Stands login []) }
     ensures fault { (fault : KeytabFault) → skew ≤ 86_400 → IsFaultOf keytab.now fault
-        → (result ≡ keytab_answer fault) ⊎ (result ≡ plain out_of_memory) }
+        → result ≡ keytab_answer fault }
     ensures unchanged { result ≢ plain ok → handle.new.value ≡ handle.old.value }
 {
     match service_of(alloc, keytab, skew, service, None) {
@@ -78,7 +78,7 @@ pub extern "C" fn fevstunik_acceptor_started(
         ⊎ (IsUnnamed service.now result ⊎ (result ≡ plain out_of_memory)) }
     ensures stands { result ≡ plain ok → IsSomeAnd handle.new.value (λ login. Stands login []) }
     ensures fault { (fault : KeytabFault) → IsMomentOf start.now → skew ≤ 86_400 → IsFaultOf keytab.now fault
-        → (result ≡ keytab_answer fault) ⊎ (result ≡ plain out_of_memory) }
+        → result ≡ keytab_answer fault }
     ensures unchanged { result ≢ plain ok → handle.new.value ≡ handle.old.value }
 {
     let start = match start.moment() {
@@ -106,7 +106,7 @@ fn service_of(
         → MatchResult result (λ login. IsFresh service.now entries (1_000_000 * skew) start login.value)
         (λ answer. IsUnnamed service.now answer ⊎ (answer ≡ plain out_of_memory)) }
     ensures fault { (fault : KeytabFault) → skew ≤ 86_400 → IsFaultOf keytab.now fault
-        → IsErrAnd result (λ answer. (answer ≡ keytab_answer fault) ⊎ (answer ≡ plain out_of_memory)) }
+        → result ≡ Err (keytab_answer fault) }
     ensures stands { IfOk result (λ login. Stands login.value []) }
     ensures refused { IfErr result (λ answer. answer ≢ plain ok) }
 {

@@ -1,11 +1,11 @@
 //! The client's side: a request from a cache's credential.
 
-ghost use Rattle.std.specs.Prelude.{◌≡◌, IfErr, IfOk, None, Ok};
+ghost use Rattle.std.specs.Prelude.{◌≡◌, IfErr, IfOk, None, Ok, Some};
 ghost use Rattle.std.specs.Option.{MatchOption};
 ghost use Rattle.krb_ccache.specs.Format.{IsCache};
 ghost use Rattle.krb_name.specs.Reading.{IsReadAs};
 ghost use Rattle.krb_c.specs.Answer.{plain};
-ghost use Rattle.krb_c.specs.Asking.{Asks, HasCacheFault, IsAskFault, IsNameFault, Keeps, Sends, ask, cache_answer, name_answer, request_answer};
+ghost use Rattle.krb_c.specs.Asking.{Asks, HasCacheFault, IsAskFault, IsNameFault, Keeps, Sends, ask, context_for, cache_answer, name_answer, request_answer};
 ghost use Rattle.krb_c.specs.Codes.{empty_handle};
 
 use crate::answer::{Answer, Time, hand_over};
@@ -13,7 +13,7 @@ use crate::cache_handle::CacheHandle;
 use crate::choice::{Choice, block_of};
 use crate::code;
 use crate::pending_handle::PendingHandle;
-use krb_ap::{Pending, RequestFault, RequestOptions, make_request};
+use krb_ap::{ContextRequest, Initiator, Pending, RequestFault, RequestOptions};
 use krb_ccache::laws::each_file_has_one_answer;
 use krb_ccache::{CCache, CacheFault};
 use krb_name::{Principal, TextFault};
@@ -27,7 +27,7 @@ pub extern "C" fn fevstunik_cache_new(cache: &mut CacheHandle, alloc: Global, fi
 {
     match kept_of(alloc, file) {
         Ok(kept) => {
-            let count = kept.credentials().len();
+            let count = kept.cache().credentials().len();
             *cache = CacheHandle::of(kept);
             Answer::sized(code::OK, count)
         }
@@ -35,7 +35,7 @@ pub extern "C" fn fevstunik_cache_new(cache: &mut CacheHandle, alloc: Global, fi
     }
 }
 
-fn kept_of(alloc: Global, file: &[u8]) -> Result<Box<CCache>, Answer>
+fn kept_of(alloc: Global, file: &[u8]) -> Result<Box<Initiator>, Answer>
     ensures cache { IfOk result (λ kept. IsCache file.now kept.value) }
     ensures fault { IfErr result (λ answer. HasCacheFault file.now answer) }
 {
@@ -43,7 +43,7 @@ fn kept_of(alloc: Global, file: &[u8]) -> Result<Box<CCache>, Answer>
         Ok(cache) => cache,
         Err(answer) => return Err(answer),
     };
-    match Box::new(alloc, cache) {
+    match Box::new(alloc, Initiator::new(alloc, cache)) {
         Ok(kept) => Ok(kept),
         Err(_) => Err(cache_told(CacheFault::OutOfMemory)),
     }
@@ -58,8 +58,8 @@ pub extern "C" fn fevstunik_cache_free(cache: &mut CacheHandle, alloc: Global)
 }
 
 /// Builds a request for a service from the first credential of a cache that fits
-/// (`krb_ap::make_request`), and keeps in the handle `pending` what is needed to read the reply.
-/// What that held is freed. If no request is built, `pending` is unchanged.
+/// (`krb_ap::Initiator::make_request`), and keeps in the handle `pending` what is needed to read the
+/// reply. What that held is freed. If no request is built, `pending` is unchanged.
 #[unsafe(no_mangle)]
 pub extern "C" fn fevstunik_request(
     cache: &mut CacheHandle,
@@ -74,13 +74,84 @@ pub extern "C" fn fevstunik_request(
 ) -> Answer
     ensures sent { MatchOption cache.old.value
         ((result ≡ plain empty_handle) × ((pending.new.value ≡ pending.old.value) × (buffer.new ≡ buffer.old)))
-        (λ held. Sends (ask held service.now at.now choice.now subkey.now) confounder.now pending.old.value pending.new.value buffer.old buffer.new result) }
+        (λ held. Sends (ask held service.now at.now choice.now subkey.now None) confounder.now pending.old.value pending.new.value buffer.old buffer.new result) }
+    ensures stays { cache.new.value ≡ cache.old.value }
+{
+    request_by(
+        cache, pending, alloc, service, at, confounder, choice, subkey, None, buffer,
+    )
+}
+
+/// What a client of GSS-API asks for.
+#[repr(C)]
+#[derive(Clone, Copy)]
+pub struct ContextChoice {
+    /// The flags. That of delegation is left out.
+    pub flags: u32,
+    /// The MD5 hash of the channel's bindings, or 16 zeros.
+    pub bindings: [u8; 16],
+}
+
+/// Does the same as `fevstunik_request` for a client of GSS-API: the authenticator has the checksum
+/// of type 0x8003.
+#[unsafe(no_mangle)]
+pub extern "C" fn fevstunik_context_request(
+    cache: &mut CacheHandle,
+    pending: &mut PendingHandle,
+    alloc: Global,
+    service: &[u8],
+    at: &Time,
+    confounder: &[u8],
+    choice: &Choice,
+    subkey: &[u8],
+    context: &ContextChoice,
+    buffer: &mut [u8],
+) -> Answer
+    ensures sent { MatchOption cache.old.value
+        ((result ≡ plain empty_handle) × ((pending.new.value ≡ pending.old.value) × (buffer.new ≡ buffer.old)))
+        (λ held. Sends (ask held service.now at.now choice.now subkey.now (Some (context_for context.now))) confounder.now pending.old.value pending.new.value buffer.old buffer.new result) }
+    ensures stays { cache.new.value ≡ cache.old.value }
+{
+    let context = ContextRequest {
+        flags: context.flags,
+        bindings: context.bindings,
+    };
+    request_by(
+        cache,
+        pending,
+        alloc,
+        service,
+        at,
+        confounder,
+        choice,
+        subkey,
+        Some(context),
+        buffer,
+    )
+}
+
+fn request_by(
+    cache: &mut CacheHandle,
+    pending: &mut PendingHandle,
+    alloc: Global,
+    service: &[u8],
+    at: &Time,
+    confounder: &[u8],
+    choice: &Choice,
+    subkey: &[u8],
+    context: Option<ContextRequest>,
+    buffer: &mut [u8],
+) -> Answer
+    ensures sent { MatchOption cache.old.value
+        ((result ≡ plain empty_handle) × ((pending.new.value ≡ pending.old.value) × (buffer.new ≡ buffer.old)))
+        (λ held. Sends (ask held service.now at.now choice.now subkey.now context)
+        confounder.now pending.old.value pending.new.value buffer.old buffer.new result) }
     ensures stays { cache.new.value ≡ cache.old.value }
 {
     match cache.take(alloc) {
-        Some(held) => {
+        Some(mut held) => {
             let answer = send(
-                alloc, &held, pending, service, at, confounder, choice, subkey, buffer,
+                alloc, &mut held, pending, service, at, confounder, choice, subkey, context, buffer,
             );
             *cache = CacheHandle::of(held);
             answer
@@ -91,18 +162,22 @@ pub extern "C" fn fevstunik_request(
 
 fn send(
     alloc: Global,
-    cache: &CCache,
+    cache: &mut Initiator,
     pending: &mut PendingHandle,
     service: &[u8],
     at: &Time,
     confounder: &[u8],
     choice: &Choice,
     subkey: &[u8],
+    context: Option<ContextRequest>,
     buffer: &mut [u8],
 ) -> Answer
-    ensures { Sends (ask cache.now service.now at.now choice.now subkey.now) confounder.now pending.old.value pending.new.value buffer.old buffer.new result }
+    ensures sent { Sends (ask cache.old service.now at.now choice.now subkey.now context) confounder.now pending.old.value pending.new.value buffer.old buffer.new result }
+    ensures kept { cache.new ≡ cache.old }
 {
-    match asked(alloc, cache, service, at, confounder, choice, subkey) {
+    match asked(
+        alloc, cache, service, at, confounder, choice, subkey, context,
+    ) {
         Ok((bytes, kept)) => {
             *pending = PendingHandle::of(kept);
             hand_over(bytes.as_slice(), buffer)
@@ -114,15 +189,17 @@ fn send(
 // The request and what is kept of it.
 fn asked(
     alloc: Global,
-    cache: &CCache,
+    cache: &mut Initiator,
     service: &[u8],
     at: &Time,
     confounder: &[u8],
     choice: &Choice,
     subkey: &[u8],
+    context: Option<ContextRequest>,
 ) -> Result<(Vec<u8>, Box<Pending>), Answer>
-    ensures asks { IfOk result (λ made. Asks (ask cache.now service.now at.now choice.now subkey.now) confounder.now made.0.items made.1.value) }
-    ensures fault { IfErr result (λ answer. IsAskFault (ask cache.now service.now at.now choice.now subkey.now) confounder.now answer) }
+    ensures asks { IfOk result (λ made. Asks (ask cache.old service.now at.now choice.now subkey.now context) confounder.now made.0.items made.1.value) }
+    ensures fault { IfErr result (λ answer. IsAskFault (ask cache.old service.now at.now choice.now subkey.now context) confounder.now answer) }
+    ensures kept { cache.new ≡ cache.old }
 {
     let service = match name_of(alloc, service) {
         Ok(service) => service,
@@ -144,8 +221,9 @@ fn asked(
         mutual: choice.wants_reply,
         subkey,
         seq: choice.seq(),
+        context,
     };
-    let (bytes, pending) = match make_request(alloc, cache, &service, now, &confounder, options) {
+    let (bytes, pending) = match cache.make_request(alloc, &service, now, &confounder, options) {
         Ok(made) => made,
         Err(fault) => return Err(request_told(fault)),
     };

@@ -4,11 +4,11 @@ ghost use Rattle.std.specs.Prelude.{◌≡◌, Option, Some, None};
 ghost use Rattle.std.specs.Option.{option_map, MatchOption};
 ghost use Rattle.std.specs.Coded.{coded_option};
 ghost use Rattle.krb_c.specs.Handle.{handle_owns};
-ghost use Rattle.krb_ccache.specs.contracts.cache.CCache.{the_row as cache_row};
+ghost use Rattle.krb_ap.specs.contracts.initiator.Initiator.{the_row as cache_row};
 ghost use Rattle.krb_ccache.specs.Value.{Cache};
 
 use crate::held::Held;
-use krb_ccache::CCache;
+use krb_ap::Initiator;
 use std::alloc::Global;
 use std::marker::Model;
 use std::mem::replace;
@@ -36,7 +36,7 @@ impl CacheHandle {
         }
     }
 
-    fn of_held(held: Held<CCache, Global>) -> CacheHandle
+    fn of_held(held: Held<Initiator, Global>) -> CacheHandle
         ensures { result.value ≡ Some held.value }
     {
         let Held { at, alloc } = held;
@@ -46,7 +46,7 @@ impl CacheHandle {
         }
     }
 
-    fn into_held(self) -> Option<Held<CCache, Global>>
+    fn into_held(self) -> Option<Held<Initiator, Global>>
         ensures { MatchOption result (self.value ≡ None) (λ held. self.value ≡ Some held.value) }
     {
         let CacheHandle { at, alloc } = self;
@@ -54,19 +54,19 @@ impl CacheHandle {
             None
         } else {
             Some(Held {
-                at: at as *mut CCache,
+                at: at as *mut Initiator,
                 alloc,
             })
         }
     }
 
-    pub(crate) fn of(value: Box<CCache>) -> CacheHandle
+    pub(crate) fn of(value: Box<Initiator>) -> CacheHandle
         ensures { result.value ≡ Some value.value }
     {
         CacheHandle::of_held(Held::of(value))
     }
 
-    pub(crate) fn into_box(self) -> Option<Box<CCache>>
+    pub(crate) fn into_box(self) -> Option<Box<Initiator>>
         ensures { MatchOption result (self.value ≡ None) (λ b. self.value ≡ Some b.value) }
     {
         match self.into_held() {
@@ -78,7 +78,7 @@ impl CacheHandle {
 
 impl CacheHandle {
     /// Takes what the handle holds. The handle is empty then.
-    pub(crate) fn take(&mut self, alloc: Global) -> Option<Box<CCache>>
+    pub(crate) fn take(&mut self, alloc: Global) -> Option<Box<Initiator>>
         ensures empty { self.new.value ≡ None }
         ensures held { MatchOption result (self.old.value ≡ None) (λ held. self.old.value ≡ Some held.value) }
     {

@@ -8,6 +8,7 @@ ghost use Rattle.krb_c.specs.Editing.{Adds, IsAddFault, IsEntryFault, IsEntryOf,
 use crate::answer::{Answer, hand_over};
 use crate::asking::typed_name_of;
 use crate::code;
+use crate::keeping::keytab_of;
 use krb_keytab::{Entry, Keytab};
 use std::alloc::Global;
 
@@ -134,9 +135,9 @@ fn rewritten(alloc: Global, keytab: &[u8]) -> Result<Vec<u8>, Answer>
     ensures written { IfOk result (λ file. WritesAnew keytab.now file.items) }
     ensures fault { IfErr result (λ answer. IsWriteFault keytab.now answer) }
 {
-    let keytab = match Keytab::parse(alloc, keytab) {
+    let keytab = match keytab_of(alloc, keytab) {
         Ok(keytab) => keytab,
-        Err(fault) => return Err(Answer::keytab(fault)),
+        Err(answer) => return Err(answer),
     };
     match keytab.to_bytes(alloc) {
         Ok(file) => Ok(file),

@@ -23,8 +23,7 @@ use std::alloc::Global;
 pub extern "C" fn fevstunik_keytab_check(alloc: Global, keytab: &[u8]) -> Answer
     ensures entries { (entries : List KeytabEntry) → IsKeytab keytab.now entries
         → (result ≡ sized ok (length entries)) ⊎ (result ≡ plain out_of_memory) }
-    ensures fault { (fault : KeytabFault) → IsFaultOf keytab.now fault
-        → (result ≡ keytab_answer fault) ⊎ (result ≡ plain out_of_memory) }
+    ensures fault { (fault : KeytabFault) → IsFaultOf keytab.now fault → result ≡ keytab_answer fault }
 {
     match Keytab::parse(alloc, keytab) {
         Ok(keytab) => Answer::sized(code::OK, keytab.entries().len()),

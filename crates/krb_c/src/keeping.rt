@@ -7,6 +7,7 @@ ghost use Rattle.krb_c.specs.Editing.{HasKeytabFault, KeepsKeytab};
 use crate::answer::Answer;
 use crate::code;
 use crate::keytab_handle::KeytabHandle;
+use krb_keytab::laws::each_file_has_one_answer;
 use krb_keytab::{Keytab, KeytabFault};
 use std::alloc::Global;
 
@@ -34,13 +35,25 @@ fn kept_of(alloc: Global, file: &[u8]) -> Result<Box<Keytab>, Answer>
     ensures keytab { IfOk result (λ kept. IsKeytab file.now kept.value) }
     ensures fault { IfErr result (λ answer. HasKeytabFault file.now answer) }
 {
-    let keytab = match Keytab::parse(alloc, file) {
+    let keytab = match keytab_of(alloc, file) {
         Ok(keytab) => keytab,
-        Err(fault) => return Err(Answer::keytab(fault)),
+        Err(answer) => return Err(answer),
     };
     match Box::new(alloc, keytab) {
         Ok(kept) => Ok(kept),
         Err(_) => Err(Answer::keytab(KeytabFault::OutOfMemory)),
+    }
+}
+
+/// Reads a keytab from the bytes of its file.
+pub(crate) fn keytab_of(alloc: Global, bytes: &[u8]) -> Result<Keytab, Answer>
+    ensures keytab { IfOk result (λ keytab. IsKeytab bytes.now keytab) }
+    ensures fault { IfErr result (λ answer. HasKeytabFault bytes.now answer) }
+{
+    each_file_has_one_answer();
+    match Keytab::parse(alloc, bytes) {
+        Ok(keytab) => Ok(keytab),
+        Err(fault) => Err(Answer::keytab(fault)),
     }
 }
 

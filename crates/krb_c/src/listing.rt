@@ -168,7 +168,7 @@ pub extern "C" fn fevstunik_cache_credential(
 {
     match cache.take(alloc) {
         Some(held) => {
-            let answer = tell_credential_at(alloc, &held, index, credential, buffer);
+            let answer = tell_credential_at(alloc, held.cache(), index, credential, buffer);
             *cache = CacheHandle::of(held);
             answer
         }
@@ -254,7 +254,7 @@ pub extern "C" fn fevstunik_cache_owner(
 {
     match cache.take(alloc) {
         Some(held) => {
-            let answer = tell_owner(alloc, &held, owner, buffer);
+            let answer = tell_owner(alloc, held.cache(), owner, buffer);
             *cache = CacheHandle::of(held);
             answer
         }

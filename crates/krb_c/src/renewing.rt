@@ -7,6 +7,7 @@ use crate::acceptor::wanted;
 use crate::answer::Answer;
 use crate::code;
 use crate::handle::Handle;
+use crate::keeping::keytab_of;
 use crate::login::Login;
 use krb_keytab::Keytab;
 use std::alloc::Global;
@@ -53,9 +54,9 @@ fn served(alloc: Global, keytab: &[u8], service: &[u8]) -> Result<Keytab, Answer
     ensures served { IfOk result (IsServed service.now keytab.now) }
     ensures unusable { IfErr result (IsUnusable service.now keytab.now) }
 {
-    let keytab = match Keytab::parse(alloc, keytab) {
+    let keytab = match keytab_of(alloc, keytab) {
         Ok(keytab) => keytab,
-        Err(fault) => return Err(Answer::keytab(fault)),
+        Err(answer) => return Err(answer),
     };
     wanted(alloc, keytab, service)
 }

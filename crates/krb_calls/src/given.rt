@@ -45,6 +45,7 @@ pub(crate) fn request(alloc: Global, cache: &CCache, micros: u32) -> Option<(Vec
         mutual: true,
         subkey: None,
         seq: Some(micros),
+        context: None,
     };
     make_request(alloc, cache, &service, now, &CONFOUNDER, options).ok()
 }

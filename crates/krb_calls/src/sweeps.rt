@@ -143,6 +143,7 @@ fn is_last_used(alloc: Global, cache: &CCache) -> Option<bool> {
         mutual: false,
         subkey: None,
         seq: None,
+        context: None,
     };
     let now = moment(5)?;
     let made = make_request(alloc, cache, service, now, &CONFOUNDER, options).ok()?;

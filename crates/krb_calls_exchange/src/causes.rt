@@ -1,9 +1,9 @@
 //! Causes and faults: their texts, and the errors that tell of them.
 
-use crate::names::name;
-use crate::words::{Answer, Words};
+use crate::names::{moment, name};
 use krb_ap::{FinishFault, Refusal, ReplyFault, RequestFault, error_reply};
 use krb_msg::{Fault, FaultKind};
+use krb_words::{Answer, Words};
 
 // What is malformed is cut off at the byte 7.
 const CUT: Fault = Fault {
@@ -56,7 +56,7 @@ fn cause(words: &mut Words) -> Option<&'static Refusal> {
 
 fn error(words: &mut Words, out: &mut Answer) -> Option<()> {
     let cause = cause(words)?;
-    let now = words.moment()?;
+    let now = moment(words)?;
     let service = name(words)?;
     match error_reply(words.alloc, cause, now, &service) {
         Ok(bytes) => out.bytes(&bytes),

@@ -1,46 +1,54 @@
 //! Calls of a client.
 
 use crate::messages::Messages;
-use crate::names::{key_or_none, name, show_key, show_name, show_own_key, show_raw_key};
-use crate::words::{Answer, Words};
-use krb_ap::{Agreed, FinishFault, Pending, RequestFault, RequestOptions, make_request};
+use crate::names::{
+    context_at_end, key_or_none, moment, name, show_key, show_name, show_own_key, show_raw_key,
+};
+use krb_ap::{Agreed, FinishFault, Initiator, Pending, RequestFault, RequestOptions, make_request};
 use krb_ccache::CCache;
+use krb_words::{Answer, Words};
 
 /// Answers a call of the client.
 pub(crate) fn answer(
-    cache: &mut Option<CCache>,
+    initiator: &mut Option<Initiator>,
     messages: &mut Messages,
     first: &str,
     words: &mut Words,
     out: &mut Answer,
 ) -> Option<()> {
     match first {
-        "cache" => read_cache(cache, words, out),
-        "request" => request(cache.as_ref()?, messages, words, out),
+        "cache" => read_cache(initiator, words, out),
+        "request" => {
+            let made = made(initiator.as_ref()?.cache(), words)?;
+            tell_made(made, messages, out)
+        }
+        "initiate" => {
+            let made = initiated(initiator.as_mut()?, words)?;
+            tell_made(made, messages, out)
+        }
         "finish" => finish(messages, words, out),
         _ => None,
     }
 }
 
-fn read_cache(kept: &mut Option<CCache>, words: &mut Words, out: &mut Answer) -> Option<()> {
+fn read_cache(kept: &mut Option<Initiator>, words: &mut Words, out: &mut Answer) -> Option<()> {
     let file = words.bytes()?;
     *kept = None;
     match CCache::parse(words.alloc, &file) {
         Ok(cache) => {
-            *kept = Some(cache);
+            *kept = Some(Initiator::new(words.alloc, cache));
             out.word("cache")
         }
         Err(fault) => out.named(fault),
     }
 }
 
-fn request(
-    cache: &CCache,
+fn tell_made(
+    made: Result<(Vec<u8>, Pending), RequestFault>,
     messages: &mut Messages,
-    words: &mut Words,
     out: &mut Answer,
 ) -> Option<()> {
-    match made(cache, words)? {
+    match made {
         Ok((bytes, pending)) => {
             out.bytes(&bytes)?;
             messages.keep_request(bytes, pending)
@@ -55,10 +63,23 @@ fn request(
 fn made(cache: &CCache, words: &mut Words) -> Option<Result<(Vec<u8>, Pending), RequestFault>> {
     let alloc = words.alloc;
     let service = name(words)?;
-    let at = words.moment()?;
-    let confounder = words.confounder()?;
+    let at = moment(words)?;
+    let confounder = words.block()?;
     let options = chosen(words)?;
     Some(make_request(alloc, cache, &service, at, &confounder, options))
+}
+
+// The same by a client that keeps the keys that it derived.
+fn initiated(
+    initiator: &mut Initiator,
+    words: &mut Words,
+) -> Option<Result<(Vec<u8>, Pending), RequestFault>> {
+    let alloc = words.alloc;
+    let service = name(words)?;
+    let at = moment(words)?;
+    let confounder = words.block()?;
+    let options = chosen(words)?;
+    Some(initiator.make_request(alloc, &service, at, &confounder, options))
 }
 
 fn chosen(words: &mut Words) -> Option<RequestOptions> {
@@ -68,16 +89,18 @@ fn chosen(words: &mut Words) -> Option<RequestOptions> {
         _ => return None,
     };
     let subkey = key_or_none(words)?;
-    let seq = words.number_or_none()?;
+    let seq = words.uint32_or_none()?;
+    let context = context_at_end(words)?;
     Some(RequestOptions {
         mutual,
         subkey,
         seq,
+        context,
     })
 }
 
 fn finish(messages: &Messages, words: &mut Words, out: &mut Answer) -> Option<()> {
-    let pending = messages.pending(words.number()? as usize)?;
+    let pending = messages.pending(words.uint32()? as usize)?;
     let reply = messages.taken(words)?;
     match pending.finish(words.alloc, &reply) {
         Ok(agreed) => show_agreed(&agreed, out),

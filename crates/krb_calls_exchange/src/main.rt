@@ -20,7 +20,9 @@
 //! reply BYTES KEY|none NUMBER|none      the reply to the request that was accepted last, with this confounder
 //! error CAUSE TIME NAME                 the error that tells of a refusal, or why there is none
 //! cache BYTES                           a client's cache: `cache`, or its fault
-//! request NAME TIME BYTES plain|mutual KEY|none NUMBER|none      the request for a service, with this confounder; or `refused FAULT`
+//! request NAME TIME BYTES plain|mutual KEY|none NUMBER|none [FLAGS/BINDINGS]      the request for a service, with this confounder; or `refused
+//!                                       FAULT`
+//! initiate ..                           the same by a client that keeps the keys that it derived since the cache was read
 //! finish INDEX MESSAGE                  what the client of that request says of a reply: `agreed CLIENT KEY SUBKEY
 //!                                       NUMBER SUBKEY NUMBER`, first its own, then the service's; or `refused FAULT`
 //! memory list|timed                     a new memory
@@ -43,22 +45,21 @@ mod memories;
 mod messages;
 mod names;
 mod services;
-mod words;
 
-use krb_ccache::CCache;
+use krb_ap::Initiator;
+use krb_words::{Answer, Words};
 use memories::Memory;
 use messages::Messages;
 use services::Served;
 use std::alloc::Global;
 use std::io::{self, BufRead, BufReader, BufWriter, Write};
 use std::process::ExitCode;
-use words::{Answer, Words};
 
 /// What earlier lines made.
 #[derive(Drop)]
 struct Kept {
     served: Served,
-    cache: Option<CCache>,
+    initiator: Option<Initiator>,
     messages: Messages,
     memory: Option<Memory>,
 }
@@ -67,7 +68,7 @@ impl Kept {
     fn new(alloc: Global) -> Kept {
         Kept {
             served: Served::new(),
-            cache: None,
+            initiator: None,
             messages: Messages::new(alloc),
             memory: None,
         }
@@ -121,8 +122,8 @@ fn call(kept: &mut Kept, first: &str, words: &mut Words, out: &mut Answer) -> Op
         "service" | "accept" | "serve" | "keytab" | "stamp" | "held" | "reply" => {
             services::answer(&mut kept.served, &mut kept.messages, first, words, out)
         }
-        "cache" | "request" | "finish" => {
-            clients::answer(&mut kept.cache, &mut kept.messages, first, words, out)
+        "cache" | "request" | "initiate" | "finish" => {
+            clients::answer(&mut kept.initiator, &mut kept.messages, first, words, out)
         }
         "error" | "cause" | "fault" => causes::answer(first, words, out),
         "laws" => laws(out),

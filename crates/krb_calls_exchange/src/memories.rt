@@ -1,9 +1,9 @@
 //! Calls of a memory, and of what it holds.
 
-use crate::names::name;
-use crate::words::{Answer, Words};
+use crate::names::{moment, name};
 use krb_msg::Moment;
 use krb_replay::{ListMemory, ReplayMemory, Skew, TimedMemory, Tuple};
+use krb_words::{Answer, Words};
 use std::alloc::Global;
 
 /// Either memory.
@@ -27,7 +27,7 @@ pub(crate) fn answer(
             out.word("memory")
         }
         "tuple" => of_tuple(words, out),
-        "skew" => out.shown_or_none(Skew::new(words.number()?).map(Skew::micros)),
+        "skew" => out.shown_or_none(Skew::new(words.uint32()?).map(Skew::micros)),
         _ => match memory.as_mut()? {
             Memory::List(memory) => call(memory, first, words, out),
             Memory::Timed(memory) => call(memory, first, words, out),
@@ -56,8 +56,8 @@ fn call<M: ReplayMemory>(
         },
         "contains" => out.truth(memory.contains(&tuple(words)?)),
         "advance" => {
-            let moment = words.moment()?;
-            memory.advance(moment, Skew::new(words.number()?)?);
+            let moment = moment(words)?;
+            memory.advance(moment, Skew::new(words.uint32()?)?);
             out.word("ok")
         }
         "len" => out.shown(memory.len()),
@@ -88,7 +88,7 @@ pub(crate) fn show_memory<M: ReplayMemory>(memory: &M, out: &mut Answer) -> Opti
 fn tuple(words: &mut Words) -> Option<Tuple> {
     let server = name(words)?;
     let client = name(words)?;
-    let (seconds, micros) = words.moment()?.parts();
+    let (seconds, micros) = moment(words)?.parts();
     Tuple::new(words.alloc, server, client, seconds, micros).ok()
 }
 
@@ -105,7 +105,7 @@ fn of_tuple(words: &mut Words, out: &mut Answer) -> Option<()> {
         "bytes" => out.bytes(&tuple(words)?.to_bytes(words.alloc).ok()?),
         "until" => {
             let tuple = tuple(words)?;
-            show_latest(tuple.keep_until(Skew::new(words.number()?)?), out)
+            show_latest(tuple.keep_until(Skew::new(words.uint32()?)?), out)
         }
         _ => None,
     }

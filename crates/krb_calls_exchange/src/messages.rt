@@ -1,7 +1,7 @@
 //! Messages that earlier lines made, to be handed on.
 
-use crate::words::{Words, bytes_of};
 use krb_ap::Pending;
+use krb_words::{Words, bytes_of};
 use std::alloc::Global;
 
 /// A request that was made, and what its client keeps of it.

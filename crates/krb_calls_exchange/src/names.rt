@@ -1,8 +1,9 @@
-//! Names, keys and typed data, as words.
+//! Names, moments, keys and typed data, as words.
 
-use crate::words::{Answer, Words, bytes_of};
+use krb_ap::ContextRequest;
 use krb_enc::Key;
-use krb_msg::{Bytes, Components, Principal, RawKey, Typed};
+use krb_msg::{Bytes, Components, Moment, Principal, RawKey, Typed};
+use krb_words::{Answer, Words, bytes_of};
 use std::alloc::Global;
 
 /// Reads a name: `TYPE/REALM/COMPONENTS`.
@@ -29,6 +30,12 @@ fn components_of(alloc: Global, word: &str) -> Option<Components> {
     Some(components)
 }
 
+/// Reads a moment: its seconds and microseconds.
+pub(crate) fn moment(words: &mut Words) -> Option<Moment> {
+    let seconds = words.int64()?;
+    Moment::new(seconds, words.uint32()?)
+}
+
 /// Reads a key that may be left out: `ETYPE/BYTES`.
 pub(crate) fn key_or_none(words: &mut Words) -> Option<Option<Key>> {
     match words.next()? {
@@ -41,6 +48,19 @@ fn key_of(alloc: Global, word: &str) -> Option<Key> {
     let (etype, digits) = word.split_once('/')?;
     let etype = etype.parse::<i32>().ok()?;
     Key::new(etype, &bytes_of(alloc, digits)?).ok()
+}
+
+/// Reads a context that may be left out at the end of a line: `FLAGS/BINDINGS`.
+pub(crate) fn context_at_end(words: &mut Words) -> Option<Option<ContextRequest>> {
+    if words.is_at_end() {
+        return Some(None);
+    }
+    let (flags, digits) = words.next()?.split_once('/')?;
+    let bindings = bytes_of(words.alloc, digits)?;
+    Some(Some(ContextRequest {
+        flags: flags.parse::<u32>().ok()?,
+        bindings: bindings.as_slice().try_into().ok()?,
+    }))
 }
 
 /// Shows a name.

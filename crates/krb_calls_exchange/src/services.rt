@@ -2,12 +2,12 @@
 
 use crate::memories::show_memory;
 use crate::messages::Messages;
-use crate::names::{key_or_none, show_key, show_list, show_name, show_raw_key, show_typed};
-use crate::words::{Answer, Words};
+use crate::names::{key_or_none, moment, show_key, show_list, show_name, show_raw_key, show_typed};
 use krb_ap::{Accepted, Acceptor, Call, Outcome, Refusal, ReplyOptions};
 use krb_keytab::Keytab;
 use krb_msg::{Moment, Seconds};
 use krb_replay::{ListMemory, ReplayMemory, Skew, TimedMemory};
+use krb_words::{Answer, Words};
 use std::alloc::{AllocError, Global};
 
 /// A service with either memory.
@@ -56,7 +56,7 @@ pub(crate) fn answer(
 fn start(served: &mut Served, words: &mut Words, out: &mut Answer) -> Option<()> {
     *served = Served::new();
     let kind = words.next()?;
-    let skew = Skew::new(words.number()?);
+    let skew = Skew::new(words.uint32()?);
     let file = words.bytes()?;
     let start = start_of(words)?;
     let Some(skew) = skew else {
@@ -76,7 +76,7 @@ fn start_of(words: &mut Words) -> Option<Option<Moment>> {
     if words.is_at_end() {
         return Some(None);
     }
-    Some(Some(words.moment()?))
+    Some(Some(moment(words)?))
 }
 
 fn new_service(
@@ -125,7 +125,7 @@ fn accept(
     words: &mut Words,
     out: &mut Answer,
 ) -> Option<()> {
-    let now = words.moment()?;
+    let now = moment(words)?;
     let bytes = messages.taken(words)?;
     let outcome = match served.service.as_mut()? {
         Service::List(acceptor) => acceptor.accept(words.alloc, &bytes, now),
@@ -220,7 +220,7 @@ fn all_given(messages: &Messages, words: &mut Words) -> Option<Vec<Given>> {
         if words.is_at_end() {
             break;
         }
-        let now = words.moment()?;
+        let now = moment(words)?;
         let bytes = messages.taken(words)?;
         given.push(Given { bytes, now }).ok()?;
     }
@@ -281,9 +281,9 @@ fn reply(
     words: &mut Words,
     out: &mut Answer,
 ) -> Option<()> {
-    let confounder = words.confounder()?;
+    let confounder = words.block()?;
     let subkey = key_or_none(words)?;
-    let seq = words.number_or_none()?;
+    let seq = words.uint32_or_none()?;
     let options = ReplyOptions { subkey, seq };
     match accepted.reply(words.alloc, &confounder, options) {
         Ok(bytes) => {

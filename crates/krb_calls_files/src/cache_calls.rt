@@ -4,11 +4,12 @@ use crate::counted::source_of;
 use crate::flows::source_told;
 use crate::readers::offset_told;
 use crate::words::{
-    bytes_of, credential_of, header_of, list_of, name_of, show_credential, show_list, show_name,
-    show_typed, told, word,
+    credential_of, header_of, list_of, name_of, show_credential, show_list, show_name, show_typed,
+    told, word,
 };
 use krb_ccache::{CCache, CacheFault, Credential};
 use krb_name::{Principal, Source};
+use krb_words::bytes_of;
 use std::alloc::Global;
 
 /// Calls of caches.

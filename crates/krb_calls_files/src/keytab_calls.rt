@@ -3,9 +3,10 @@
 use crate::counted::source_of;
 use crate::flows::source_told;
 use crate::readers::entry_told;
-use crate::words::{bytes_of, entry_of, name_of, show_bytes, show_entry, show_list, told, word};
+use crate::words::{entry_of, name_of, show_entry, show_list, told, word};
 use krb_keytab::{Entry, Keytab, KeytabFault, Picked};
 use krb_name::{Principal, Source};
+use krb_words::{bytes_of, show_bytes};
 use std::alloc::Global;
 
 /// Calls of keytabs.

@@ -47,8 +47,8 @@ mod words;
 
 use crate::readers::{Over, open_over};
 use crate::talk::{open, tell, tell_answer};
-use crate::words::bytes_of;
 use krb_name::FileCursor;
+use krb_words::bytes_of;
 use std::alloc::Global;
 use std::io;
 use std::process::ExitCode;

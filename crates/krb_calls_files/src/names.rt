@@ -1,14 +1,14 @@
 //! Calls of names.
 
 use crate::words::{
-    bytes_of, components_of, displayed, name_of, quoted, show_bytes, show_components, show_name,
-    truth, word,
+    components_of, displayed, name_of, quoted, show_components, show_name, truth, word,
 };
 use krb_ccache::CacheFault;
 use krb_keytab::KeytabFault;
 use krb_name::{
     Bytes, Components, Principal, ReadFault, Short, SinkFailed, SourceFailed, TextFault,
 };
+use krb_words::{bytes_of, show_bytes};
 use std::alloc::Global;
 
 /// Calls each law.

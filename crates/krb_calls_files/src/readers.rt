@@ -3,10 +3,11 @@
 use crate::counted::{Counted, source_of};
 use crate::flows::{source_back, source_told};
 use crate::talk::{Talk, open, tell, tell_answer};
-use crate::words::{bytes_of, displayed, show_credential, show_entry, show_name, word};
+use crate::words::{displayed, show_credential, show_entry, show_name, word};
 use krb_ccache::{CacheFault, Credential, CredentialReader};
 use krb_keytab::{Entry, EntryReader, KeytabFault};
 use krb_name::{Source, Window};
+use krb_words::bytes_of;
 use std::alloc::Global;
 use std::str::Lines;
 

@@ -1,8 +1,9 @@
 //! Calls of sinks.
 
 use crate::talk::{Talk, open, tell};
-use crate::words::{bytes_of, displayed, shown, word};
+use crate::words::{displayed, shown, word};
 use krb_name::{PieceSink, Sink, SinkFailed, WriteSink, write_all};
+use krb_words::bytes_of;
 use std::alloc::Global;
 use std::io;
 use std::io::{ErrorKind, Write};

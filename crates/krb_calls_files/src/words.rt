@@ -1,55 +1,17 @@
 //! Reading the words of a line, and showing what is answered.
 
-use hex::encode;
 use krb_ccache::{Credential, HeaderField, TypedBytes, TypedList};
 use krb_keytab::Entry;
 use krb_name::{Bytes, Components, Principal};
-use sha2::{Digest, Sha256};
+use krb_words::{bytes_of, repeated, show_bytes, show_hash};
 use std::alloc::Global;
 use std::fmt::{Display, Write};
 
-// Longer bytes, and longer lists, are shown by their length and their hash.
-const SHOWN_BYTES: usize = 1_024;
+// A longer text after a `=` is shown as bytes.
+const SHOWN_TEXT: usize = 1_024;
 
+// A longer list is shown by its length and its hash.
 const SHOWN_LIST: usize = 2_048;
-
-// No word stands for more bytes than this and one repeated piece.
-const MOST: usize = 67_108_864;
-
-/// Reads bytes: `-` for none, or pieces `HEX` or `HEX*N` joined by `+`.
-pub(crate) fn bytes_of(alloc: Global, word: &str) -> Option<Vec<u8>> {
-    let mut bytes = Vec::new(alloc);
-    if word == "-" {
-        return Some(bytes);
-    }
-    for piece in word.split('+') {
-        add_piece(alloc, &mut bytes, piece)?;
-    }
-    Some(bytes)
-}
-
-fn add_piece(alloc: Global, bytes: &mut Vec<u8>, piece: &str) -> Option<()> {
-    let (digits, count) = repeated(piece, '*')?;
-    let run = hex::decode(alloc, digits).ok()?;
-    if run.is_empty() {
-        return None;
-    }
-    for _ in 0..count {
-        if bytes.len() > MOST {
-            return None;
-        }
-        bytes.extend_from_slice(&run).ok()?;
-    }
-    Some(())
-}
-
-// What stands before the sign, and how many times it is meant.
-fn repeated(word: &str, sign: char) -> Option<(&str, u32)> {
-    match word.split_once(sign) {
-        Some((item, count)) => Some((item, count.parse::<u32>().ok()?)),
-        None => Some((word, 1)),
-    }
-}
 
 fn string_of(alloc: Global, word: &str) -> Option<Bytes> {
     Some(Bytes::from(bytes_of(alloc, word)?))
@@ -200,25 +162,6 @@ fn string_in(alloc: Global, credential: &mut Credential, words: &[&str]) -> Opti
     Some(())
 }
 
-/// Shows bytes as hexadecimal digits, `-` for none; longer ones as `#LENGTH:SHA256`.
-pub(crate) fn show_bytes(alloc: Global, text: &mut String, bytes: &[u8]) -> Option<()> {
-    if bytes.is_empty() {
-        return text.push('-').ok();
-    }
-    if bytes.len() > SHOWN_BYTES {
-        return show_hash(alloc, text, bytes);
-    }
-    let digits = encode(alloc, bytes).ok()?;
-    text.push_str(digits.as_str()).ok()
-}
-
-fn show_hash(alloc: Global, text: &mut String, bytes: &[u8]) -> Option<()> {
-    let count = bytes.len();
-    let hash = Sha256::digest(bytes);
-    let digits = encode(alloc, hash.as_slice()).ok()?;
-    write!(text, "#{count}:{digits}").ok()
-}
-
 /// Shows a list, `.` for an empty one; a longer one as `#LENGTH:SHA256` of what is shown of it.
 pub(crate) fn show_list(alloc: Global, text: &mut String, list: &str) -> Option<()> {
     if list.is_empty() {
@@ -262,7 +205,7 @@ pub(crate) fn truth(alloc: Global, holds: bool) -> Option<String> {
 
 /// Answers a text after a `=`; a longer one is shown as its bytes.
 pub(crate) fn quoted(alloc: Global, text: &str) -> Option<String> {
-    if text.len() > SHOWN_BYTES {
+    if text.len() > SHOWN_TEXT {
         return shown(alloc, text.as_bytes());
     }
     format!(in alloc; "={text}").ok()

@@ -24,17 +24,15 @@
 //! A call that fails is answered `refused` and the fault's text.
 #![tactic(auto)]
 
-mod words;
-
 use krb_gss::{
     Answer, Answered, Checksum, ContextFlag, ContextFlags, Mechanism, Opened, WrapFault, Wrapping,
     open_answer, open_token, wrap_answer, wrap_request,
 };
+use krb_words::{bytes_of, show_bytes};
 use std::alloc::Global;
 use std::fmt::Write;
 use std::io::{self, BufRead, BufReader, BufWriter, Write as IoWrite};
 use std::process::ExitCode;
-use words::{bytes_of, show_bytes};
 
 fn main(rt: HostRuntime) -> ExitCode {
     match run(&rt) {

@@ -1,8 +1,8 @@
 //! The block cipher, and its chaining with stealing.
 
-use crate::words::{Answer, Words};
 use hex::FromHex;
 use krb_aes::{KeySchedule, plain};
+use krb_words::{Answer, Words};
 
 /// ```text
 /// aes encrypt|decrypt|plain-encrypt|plain-decrypt KEY BLOCK     the block

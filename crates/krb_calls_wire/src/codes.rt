@@ -1,11 +1,11 @@
 //! Codes of texts, and derived keys.
 
 use crate::sealing::Kept;
-use crate::words::{Answer, Words};
 use krb_kdf::{
     HmacSha256, HmacSha384, MacPurpose, Purpose, derive_19, derive_20, derive_20_ke, hmac_sha256,
     hmac_sha384,
 };
+use krb_words::{Answer, Words};
 use std::alloc::Global;
 
 /// ```text

@@ -1,8 +1,8 @@
 //! A walk with cursors, step by step.
 
 use crate::shapes::element;
-use crate::words::{Answer, Words};
 use krb_der::{Cursor, Text};
+use krb_words::{Answer, Words};
 
 /// Each step is a call of the innermost cursor, and shows what it gives. After a fault the walk goes on.
 ///
@@ -21,7 +21,7 @@ pub(crate) fn walk(words: &mut Words, out: &mut Answer) -> Option<()> {
     let bytes = words.bytes()?;
     match Cursor::new(&bytes) {
         Ok(cursor) => walk_from(cursor, words, out),
-        Err(fault) => out.fault(fault),
+        Err(fault) => out.shown(fault),
     }
 }
 
@@ -50,7 +50,7 @@ fn step(cursors: &mut Vec<Cursor>, words: &mut Words, out: &mut Answer) -> Optio
 fn enter(cursors: &mut Vec<Cursor>, tag: u8, out: &mut Answer) -> Option<()> {
     match cursors.last_mut()?.enter(tag) {
         Ok(cursor) => go_in(cursors, cursor, out),
-        Err(fault) => out.fault(fault),
+        Err(fault) => out.shown(fault),
     }
 }
 
@@ -58,7 +58,7 @@ fn optional(cursors: &mut Vec<Cursor>, tag: u8, out: &mut Answer) -> Option<()> 
     match cursors.last_mut()?.optional(tag) {
         Ok(Some(cursor)) => go_in(cursors, cursor, out),
         Ok(None) => out.word("none"),
-        Err(fault) => out.fault(fault),
+        Err(fault) => out.shown(fault),
     }
 }
 
@@ -78,7 +78,7 @@ fn finish(cursors: &mut Vec<Cursor>, out: &mut Answer) -> Option<()> {
             cursors.pop();
             out.word("end")
         }
-        Err(fault) => out.fault(fault),
+        Err(fault) => out.shown(fault),
     }
 }
 
@@ -86,12 +86,12 @@ fn read_on(cursor: &mut Cursor, step: &str, out: &mut Answer) -> Option<()> {
     match step {
         "list-int32" => list(cursor, out),
         "read-int32" => match cursor.read::<i32>() {
-            Ok(number) => out.number(i64::from(number)),
-            Err(fault) => out.fault(fault),
+            Ok(number) => out.shown(number),
+            Err(fault) => out.shown(fault),
         },
         "check-string" => match cursor.check_each::<Text>() {
             Ok(()) => out.word("fits"),
-            Err(fault) => out.fault(fault),
+            Err(fault) => out.shown(fault),
         },
         "at-end" => out.truth(cursor.is_at_end()),
         kind => {
@@ -107,12 +107,12 @@ fn list(cursor: &mut Cursor, out: &mut Answer) -> Option<()> {
             out.word("[")?;
             for _ in 0..u32::MAX {
                 match content.next::<i32>() {
-                    Some(number) => out.number(i64::from(number))?,
+                    Some(number) => out.shown(number)?,
                     None => break,
                 }
             }
             out.word("]")
         }
-        Err(fault) => out.fault(fault),
+        Err(fault) => out.shown(fault),
     }
 }

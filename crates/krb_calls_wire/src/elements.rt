@@ -1,7 +1,7 @@
 //! Elements of DER: reading, writing, and the values that they hold.
 
-use crate::words::{Answer, Words};
 use crate::{cursors, own_types, shapes, values, writers};
+use krb_words::{Answer, Words};
 
 /// ```text
 /// der read KIND BYTES            the values of the one element that the bytes are, or the fault (`shapes`)

@@ -1,10 +1,10 @@
 //! Messages that are made by hand: each field is a word, as `views` shows it.
 
-use crate::words::{Words, bytes_of};
 use krb_msg::{
     ApRep, ApReq, Authenticator, Bytes, Components, EncApRepPart, EncTicketPart, Encrypted, Flags,
     KrbError, Microseconds, Name, Principal, RawKey, Seconds, Ticket, Typed,
 };
+use krb_words::{Words, bytes_of};
 use std::alloc::Global;
 
 pub(crate) fn ticket(words: &mut Words) -> Option<Ticket> {
@@ -82,7 +82,7 @@ fn fill_authenticator(made: &mut Authenticator, words: &mut Words) -> Option<()>
     made.cusec = micros(words)?;
     made.ctime = seconds(words)?;
     made.subkey = key_or_none(words)?;
-    made.seq_number = number_or_none(words)?;
+    made.seq_number = words.uint32_or_none()?;
     made.authorization = list(words)?;
     Some(())
 }
@@ -96,7 +96,7 @@ pub(crate) fn enc_ap_rep(words: &mut Words) -> Option<EncApRepPart> {
     let ctime = seconds(words)?;
     let cusec = micros(words)?;
     let subkey = key_or_none(words)?;
-    let seq_number = number_or_none(words)?;
+    let seq_number = words.uint32_or_none()?;
     Some(EncApRepPart {
         ctime,
         cusec,
@@ -195,7 +195,7 @@ fn name_or_none(words: &mut Words) -> Option<Option<Name>> {
 
 fn encrypted(words: &mut Words) -> Option<Encrypted> {
     let etype = words.int32()?;
-    let kvno = number_or_none(words)?;
+    let kvno = words.uint32_or_none()?;
     let cipher = words.bytes()?;
     Some(Encrypted {
         etype,
@@ -277,13 +277,6 @@ fn micros(words: &mut Words) -> Option<Microseconds> {
 fn micros_or_none(words: &mut Words) -> Option<Option<Microseconds>> {
     match words.next_unless_none()? {
         Some(word) => Some(Some(Microseconds::new(word.parse::<u32>().ok()?)?)),
-        None => Some(None),
-    }
-}
-
-fn number_or_none(words: &mut Words) -> Option<Option<u32>> {
-    match words.next_unless_none()? {
-        Some(word) => Some(Some(word.parse::<u32>().ok()?)),
         None => Some(None),
     }
 }

@@ -19,14 +19,13 @@ mod sealing;
 mod shapes;
 mod values;
 mod views;
-mod words;
 mod writers;
 
+use krb_words::{Answer, Words};
 use sealing::Kept;
 use std::alloc::Global;
 use std::io::{self, BufRead, BufReader, BufWriter, Write};
 use std::process::ExitCode;
-use words::{Answer, Words};
 
 fn main(rt: HostRuntime) -> ExitCode {
     match run(&rt) {

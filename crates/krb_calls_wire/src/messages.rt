@@ -4,7 +4,6 @@ ghost use Rattle.std.specs.Prelude.{◌≡◌, ◌↔◌, ◌/◌, ◌%◌, ◌^
 ghost use Rattle.krb_msg.specs.Fields.{reply_subkey};
 ghost use Rattle.krb_msg.specs.Owned.{owned_enc_ap_rep_part_of};
 
-use crate::words::{Answer, Words};
 use crate::writers::show;
 use crate::{fields, views};
 use krb_msg::{
@@ -12,6 +11,7 @@ use krb_msg::{
     Flags, INVALID, KrbErrorRef, MUTUAL_REQUIRED, Microseconds, Moment, Seconds,
     TRANSITED_POLICY_CHECKED, TicketRef, USE_SESSION_KEY, laws,
 };
+use krb_words::{Answer, Words};
 use std::alloc::Global;
 use std::cmp::Ordering;
 
@@ -39,7 +39,7 @@ pub(crate) fn answer(words: &mut Words, out: &mut Answer) -> Option<()> {
         }
         "write" => write(words, out),
         "walk" => walk(words, out),
-        "flag" => out.number(i64::from(Flags::only(bit(words.next()?)?).bits())),
+        "flag" => out.shown(Flags::only(bit(words.next()?)?).bits()),
         "has" => has(words, out),
         "moment" => show_moment(Moment::new(words.int64()?, words.uint32()?), out),
         "moment-at" => moment_at(words, out),
@@ -52,19 +52,19 @@ fn parse(kind: &str, bytes: &[u8], out: &mut Answer) -> Option<()> {
     match kind {
         "ticket" => match TicketRef::parse(bytes) {
             Ok(view) => views::ticket(&view, out),
-            Err(fault) => out.fault(fault),
+            Err(fault) => out.shown(fault),
         },
         "enc-ticket" => match EncTicketRef::parse(bytes) {
             Ok(view) => views::enc_ticket(&view, out),
-            Err(fault) => out.fault(fault),
+            Err(fault) => out.shown(fault),
         },
         "ap-req" => match ApReqRef::parse(bytes) {
             Ok(view) => views::ap_req(&view, out),
-            Err(fault) => out.fault(fault),
+            Err(fault) => out.shown(fault),
         },
         "authenticator" => match AuthenticatorRef::parse(bytes) {
             Ok(view) => views::authenticator(&view, out),
-            Err(fault) => out.fault(fault),
+            Err(fault) => out.shown(fault),
         },
         _ => parse_other(kind, bytes, out),
     }
@@ -74,15 +74,15 @@ fn parse_other(kind: &str, bytes: &[u8], out: &mut Answer) -> Option<()> {
     match kind {
         "ap-rep" => match ApRepRef::parse(bytes) {
             Ok(view) => views::ap_rep(&view, out),
-            Err(fault) => out.fault(fault),
+            Err(fault) => out.shown(fault),
         },
         "enc-ap-rep" => match EncApRepRef::parse(bytes) {
             Ok(view) => views::enc_ap_rep(&view, out),
-            Err(fault) => out.fault(fault),
+            Err(fault) => out.shown(fault),
         },
         "krb-error" => match KrbErrorRef::parse(bytes) {
             Ok(view) => views::krb_error(&view, out),
-            Err(fault) => out.fault(fault),
+            Err(fault) => out.shown(fault),
         },
         _ => None,
     }
@@ -107,7 +107,7 @@ fn again_ticket(alloc: Global, bytes: &[u8], out: &mut Answer) -> Option<()> {
             Ok(copy) => show(copy.encode(alloc), out),
             Err(_) => out.word("OutOfMemory"),
         },
-        Err(fault) => out.fault(fault),
+        Err(fault) => out.shown(fault),
     }
 }
 
@@ -117,7 +117,7 @@ fn again_enc_ticket(alloc: Global, bytes: &[u8], out: &mut Answer) -> Option<()>
             Ok(copy) => show(copy.encode(alloc), out),
             Err(_) => out.word("OutOfMemory"),
         },
-        Err(fault) => out.fault(fault),
+        Err(fault) => out.shown(fault),
     }
 }
 
@@ -127,7 +127,7 @@ fn again_ap_req(alloc: Global, bytes: &[u8], out: &mut Answer) -> Option<()> {
             Ok(copy) => show(copy.encode(alloc), out),
             Err(_) => out.word("OutOfMemory"),
         },
-        Err(fault) => out.fault(fault),
+        Err(fault) => out.shown(fault),
     }
 }
 
@@ -137,7 +137,7 @@ fn again_authenticator(alloc: Global, bytes: &[u8], out: &mut Answer) -> Option<
             Ok(copy) => show(copy.encode(alloc), out),
             Err(_) => out.word("OutOfMemory"),
         },
-        Err(fault) => out.fault(fault),
+        Err(fault) => out.shown(fault),
     }
 }
 
@@ -147,7 +147,7 @@ fn again_ap_rep(alloc: Global, bytes: &[u8], out: &mut Answer) -> Option<()> {
             Ok(copy) => show(copy.encode(alloc), out),
             Err(_) => out.word("OutOfMemory"),
         },
-        Err(fault) => out.fault(fault),
+        Err(fault) => out.shown(fault),
     }
 }
 
@@ -157,7 +157,7 @@ fn again_enc_ap_rep(alloc: Global, bytes: &[u8], out: &mut Answer) -> Option<()>
             Ok(copy) => show(copy.encode(alloc), out),
             Err(_) => out.word("OutOfMemory"),
         },
-        Err(fault) => out.fault(fault),
+        Err(fault) => out.shown(fault),
     }
 }
 
@@ -167,7 +167,7 @@ fn again_krb_error(alloc: Global, bytes: &[u8], out: &mut Answer) -> Option<()> 
             Ok(copy) => show(copy.encode(alloc), out),
             Err(_) => out.word("OutOfMemory"),
         },
-        Err(fault) => out.fault(fault),
+        Err(fault) => out.shown(fault),
     }
 }
 
@@ -272,9 +272,9 @@ fn show_moment(moment: Option<Moment>, out: &mut Answer) -> Option<()> {
     match moment {
         Some(moment) => {
             let (second, micros) = moment.parts();
-            out.number(second.get())?;
-            out.number(i64::from(micros.get()))?;
-            out.number(moment.micros())
+            out.shown(second.get())?;
+            out.shown(micros.get())?;
+            out.shown(moment.micros())
         }
         None => out.word("none"),
     }

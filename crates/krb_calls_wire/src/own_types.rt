@@ -5,12 +5,12 @@ ghost use Rattle.std.specs.Option.{option_map};
 ghost use Rattle.krb_der.specs.Kind.{leaf, sequence, must, may, each, ends, field, application, int32, uint32, microseconds, constant, octets, string, flags, time};
 
 use crate::shapes::{show_number, show_octets};
-use crate::words::{Answer, Words};
 use crate::writers::show;
 use krb_der::{
     Constant, Cursor, Element, Encode, EncodeFault, Fault, Field, Flags, Maybe, Message,
     Microseconds, Octets, Seconds, Text, Writer, encoded, parse, write_application,
 };
+use krb_words::{Answer, Words};
 use std::marker::Model;
 
 /// A message of eleven fields, with the kinds of all of them.
@@ -249,19 +249,19 @@ pub(crate) fn answer_sample(words: &mut Words, out: &mut Answer) -> Option<()> {
             show_sample(&sample, out)?;
             show(encoded(words.alloc, &sample), out)
         }
-        Err(fault) => out.fault(fault),
+        Err(fault) => out.shown(fault),
     }
 }
 
 fn show_sample(sample: &Sample, out: &mut Answer) -> Option<()> {
     out.bytes(sample.realm.0)?;
-    out.number(i64::from(sample.number))?;
+    out.shown(sample.number)?;
     show_octets(sample.sum, out)?;
-    out.number(i64::from(sample.micros.get()))?;
-    out.number(sample.time.get())?;
+    out.shown(sample.micros.get())?;
+    out.shown(sample.time.get())?;
     show_number(sample.key.map(i64::from), out)?;
     show_number(sample.sequence.map(i64::from), out)?;
-    out.number(i64::from(sample.flags.bits()))?;
+    out.shown(sample.flags.bits())?;
     show_number(sample.end.map(Seconds::get), out)?;
     show_octets(sample.extra, out)
 }
@@ -271,10 +271,10 @@ pub(crate) fn answer_name(words: &mut Words, out: &mut Answer) -> Option<()> {
     let bytes = words.bytes()?;
     match parse::<Name>(&bytes) {
         Ok(name) => {
-            out.number(i64::from(name.kind))?;
+            out.shown(name.kind)?;
             show_parts(name.parts, out)
         }
-        Err(fault) => out.fault(fault),
+        Err(fault) => out.shown(fault),
     }
 }
 

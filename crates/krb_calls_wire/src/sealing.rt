@@ -2,9 +2,9 @@
 
 ghost use Rattle.std.specs.Prelude.{◌≡◌, length};
 
-use crate::words::{Answer, Words, bytes_of};
 use krb_enc::{Enctype, Key, KeyFault, OpenFault, Sha256Aes128, Sha384Aes256, UsageKey};
 use krb_kdf::{HmacSha256, HmacSha384};
+use krb_words::{Answer, Words, bytes_of};
 use std::alloc::{AllocError, Global};
 
 /// What earlier lines made.
@@ -67,7 +67,7 @@ pub(crate) fn answer(kept: &mut Kept, words: &mut Words, out: &mut Answer) -> Op
 
 fn answer_of_key(key: &Key, call: &str, words: &mut Words, out: &mut Answer) -> Option<()> {
     match call {
-        "etype" => out.number(i64::from(key.etype())),
+        "etype" => out.shown(key.etype()),
         "bytes" => out.bytes(key.bytes()),
         "checksum" => checksum(key, words, out),
         "verify" => verify(key, words, out),
@@ -139,12 +139,16 @@ fn keep_sealed(
     sealed: Result<Vec<u8>, AllocError>,
     out: &mut Answer,
 ) -> Option<()> {
+    show_sealed(&sealed, out)?;
+    if let Ok(sealed) = sealed {
+        kept.sealed = sealed;
+    }
+    Some(())
+}
+
+fn show_sealed(sealed: &Result<Vec<u8>, AllocError>, out: &mut Answer) -> Option<()> {
     match sealed {
-        Ok(sealed) => {
-            out.bytes(&sealed)?;
-            kept.sealed = sealed;
-            Some(())
-        }
+        Ok(sealed) => out.bytes(sealed),
         Err(_) => out.word("OutOfMemory"),
     }
 }
@@ -202,12 +206,12 @@ fn usage_for(key: &UsageKey, words: &mut Words, out: &mut Answer) -> Option<()> 
 }
 
 fn show_types(out: &mut Answer) -> Option<()> {
-    out.number(i64::from(Sha256Aes128::ETYPE))?;
-    out.size(Sha256Aes128::KEY_LEN)?;
-    out.size(Sha256Aes128::TAG_LEN)?;
-    out.number(i64::from(Sha384Aes256::ETYPE))?;
-    out.size(Sha384Aes256::KEY_LEN)?;
-    out.size(Sha384Aes256::TAG_LEN)
+    out.shown(Sha256Aes128::ETYPE)?;
+    out.shown(Sha256Aes128::KEY_LEN)?;
+    out.shown(Sha256Aes128::TAG_LEN)?;
+    out.shown(Sha384Aes256::ETYPE)?;
+    out.shown(Sha384Aes256::KEY_LEN)?;
+    out.shown(Sha384Aes256::TAG_LEN)
 }
 
 fn call_of_type(words: &mut Words, out: &mut Answer) -> Option<()> {
@@ -237,7 +241,7 @@ fn answer_of_type<T: Enctype>(
         "seal" => {
             let confounder = words.block()?;
             let plain = words.bytes()?;
-            out.made(T::seal(words.alloc, key, usage, &confounder, &plain))
+            show_sealed(&T::seal(words.alloc, key, usage, &confounder, &plain), out)
         }
         "open" => {
             let text = words.bytes()?;

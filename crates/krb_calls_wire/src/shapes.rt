@@ -1,7 +1,7 @@
 //! Elements that are read whole: the kinds of elements without parts, and some with parts.
 
-use crate::words::{Answer, Words};
 use krb_der::{Constant, Cursor, Fault, Field, Flags, Maybe, Octets, Seconds, Text};
+use krb_words::{Answer, Words};
 
 /// The kinds are those of `der_rules`: int32, uint32, seq_number, microseconds, five, octets, string, flags, time; and tagged, nested, pair, options,
 /// mixed, texts and name.
@@ -16,10 +16,10 @@ pub(crate) fn read(words: &mut Words, out: &mut Answer) -> Option<()> {
             }
             match cursor.finish() {
                 Ok(()) => out.word(shown.text()),
-                Err(fault) => out.fault(fault),
+                Err(fault) => out.shown(fault),
             }
         }
-        Err(fault) => out.fault(fault),
+        Err(fault) => out.shown(fault),
     }
 }
 
@@ -74,7 +74,7 @@ fn constant<const N: u32>(cursor: &mut Cursor, out: &mut Answer) -> Option<bool>
 }
 
 fn number(number: i64, out: &mut Answer) -> Option<bool> {
-    out.number(number)?;
+    out.shown(number)?;
     Some(true)
 }
 
@@ -89,7 +89,7 @@ fn bytes(read: Result<&[u8], Fault>, out: &mut Answer) -> Option<bool> {
 }
 
 pub(crate) fn refused(fault: Fault, out: &mut Answer) -> Option<bool> {
-    out.fault(fault)?;
+    out.shown(fault)?;
     Some(false)
 }
 
@@ -115,7 +115,7 @@ fn parts(cursor: &mut Cursor, kind: &str, out: &mut Answer) -> Option<bool> {
 fn show_name(cursor: &mut Cursor, out: &mut Answer) -> Option<bool> {
     match name(cursor) {
         Ok((number, list)) => {
-            out.number(i64::from(number))?;
+            out.shown(number)?;
             show_texts(list, out)
         }
         Err(fault) => refused(fault, out),
@@ -132,7 +132,7 @@ fn nested(cursor: &mut Cursor, out: &mut Answer) -> Option<bool> {
 fn pair(cursor: &mut Cursor, out: &mut Answer) -> Option<bool> {
     match cursor.sequence::<(Field<0xa0, i32>, (Field<0xa1, Text>, ()))>() {
         Ok((number, (text, ()))) => {
-            out.number(i64::from(number.0))?;
+            out.shown(number.0)?;
             bytes(Ok(text.0.0), out)
         }
         Err(fault) => refused(fault, out),
@@ -159,7 +159,7 @@ fn options<'a>(cursor: &mut Cursor<'a>, out: &mut Answer) -> Option<bool> {
 
 pub(crate) fn show_number(number: Option<i64>, out: &mut Answer) -> Option<()> {
     match number {
-        Some(number) => out.number(number),
+        Some(number) => out.shown(number),
         None => out.word("none"),
     }
 }
@@ -184,7 +184,7 @@ fn mixed<'a>(cursor: &mut Cursor<'a>, out: &mut Answer) -> Option<bool> {
     match row {
         Ok((Field(Constant), (time, (number, (octets, ()))))) => {
             show_number(time.0.map(Seconds::get), out)?;
-            out.number(i64::from(number.0))?;
+            out.shown(number.0)?;
             show_octets(octets.0, out)?;
             Some(true)
         }

@@ -1,10 +1,10 @@
 //! Values of elements, and the texts of faults.
 
-use crate::words::{Answer, Words};
 use krb_der::{
     Cursor, EncodeFault, Fault, FaultKind, Field, Flags, Maybe, MaybeRef, Microseconds, Octets,
     Seconds, Writer,
 };
+use krb_words::{Answer, Words};
 use std::alloc::Global;
 
 /// ```text
@@ -19,15 +19,15 @@ use std::alloc::Global;
 pub(crate) fn answer(call: &str, words: &mut Words, out: &mut Answer) -> Option<()> {
     match call {
         "seconds" => match Seconds::new(words.int64()?) {
-            Some(seconds) => out.number(seconds.get()),
+            Some(seconds) => out.shown(seconds.get()),
             None => out.word("none"),
         },
         "microseconds" => match Microseconds::new(words.uint32()?) {
-            Some(micros) => out.number(i64::from(micros.get())),
+            Some(micros) => out.shown(micros.get()),
             None => out.word("none"),
         },
-        "flags" => out.number(i64::from(Flags::none().bits())),
-        "flag" => out.number(i64::from(Flags::only(bit(words)?).bits())),
+        "flags" => out.shown(Flags::none().bits()),
+        "flag" => out.shown(Flags::only(bit(words)?).bits()),
         "has" => has(words, out),
         "fault" => fault(words, out),
         "encode-fault" => encode_fault(words, out),
@@ -59,7 +59,7 @@ fn fault(words: &mut Words, out: &mut Answer) -> Option<()> {
         _ => return None,
     };
     let at = words.size()?;
-    out.fault(Fault { kind, at })
+    out.shown(Fault { kind, at })
 }
 
 fn encode_fault(words: &mut Words, out: &mut Answer) -> Option<()> {

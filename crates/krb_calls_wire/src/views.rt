@@ -1,12 +1,12 @@
 //! Messages as they are read: each field, in the order of the standard's table.
 
 use crate::shapes::{show_number, show_octets};
-use crate::words::Answer;
 use krb_der::Octets;
 use krb_msg::{
     ApRepRef, ApReqRef, AuthenticatorRef, EncApRepRef, EncTicketRef, EncryptedRef, KeyRef,
     KrbErrorRef, Microseconds, NameRef, Seconds, TicketRef, TypedListRef, TypedRef,
 };
+use krb_words::Answer;
 
 pub(crate) fn ticket(view: &TicketRef, out: &mut Answer) -> Option<()> {
     out.bytes(view.realm)?;
@@ -15,21 +15,21 @@ pub(crate) fn ticket(view: &TicketRef, out: &mut Answer) -> Option<()> {
 }
 
 pub(crate) fn enc_ticket(view: &EncTicketRef, out: &mut Answer) -> Option<()> {
-    out.number(i64::from(view.flags.bits()))?;
+    out.shown(view.flags.bits())?;
     key(view.key, out)?;
     out.bytes(view.crealm)?;
     name(&view.cname, out)?;
     typed(view.transited, out)?;
-    out.number(view.authtime.get())?;
+    out.shown(view.authtime.get())?;
     show_number(view.starttime.map(Seconds::get), out)?;
-    out.number(view.endtime.get())?;
+    out.shown(view.endtime.get())?;
     show_number(view.renew_till.map(Seconds::get), out)?;
     list(&view.caddr, out)?;
     list(&view.authorization, out)
 }
 
 pub(crate) fn ap_req(view: &ApReqRef, out: &mut Answer) -> Option<()> {
-    out.number(i64::from(view.options.bits()))?;
+    out.shown(view.options.bits())?;
     ticket(&view.ticket, out)?;
     encrypted(&view.authenticator, out)
 }
@@ -41,8 +41,8 @@ pub(crate) fn authenticator(view: &AuthenticatorRef, out: &mut Answer) -> Option
         Some(checksum) => typed(checksum, out)?,
         None => out.word("none")?,
     }
-    out.number(i64::from(view.cusec.get()))?;
-    out.number(view.ctime.get())?;
+    out.shown(view.cusec.get())?;
+    out.shown(view.ctime.get())?;
     key_or_none(view.subkey, out)?;
     show_number(view.seq_number.map(i64::from), out)?;
     list(&view.authorization, out)
@@ -53,8 +53,8 @@ pub(crate) fn ap_rep(view: &ApRepRef, out: &mut Answer) -> Option<()> {
 }
 
 pub(crate) fn enc_ap_rep(view: &EncApRepRef, out: &mut Answer) -> Option<()> {
-    out.number(view.ctime.get())?;
-    out.number(i64::from(view.cusec.get()))?;
+    out.shown(view.ctime.get())?;
+    out.shown(view.cusec.get())?;
     key_or_none(view.subkey, out)?;
     show_number(view.seq_number.map(i64::from), out)
 }
@@ -62,9 +62,9 @@ pub(crate) fn enc_ap_rep(view: &EncApRepRef, out: &mut Answer) -> Option<()> {
 pub(crate) fn krb_error(view: &KrbErrorRef, out: &mut Answer) -> Option<()> {
     show_number(view.ctime.map(Seconds::get), out)?;
     show_number(view.cusec.map(micros), out)?;
-    out.number(view.stime.get())?;
-    out.number(micros(view.susec))?;
-    out.number(i64::from(view.error_code))?;
+    out.shown(view.stime.get())?;
+    out.shown(micros(view.susec))?;
+    out.shown(view.error_code)?;
     show_octets(view.crealm.map(Octets), out)?;
     match &view.cname {
         Some(cname) => name(cname, out)?,
@@ -82,7 +82,7 @@ fn micros(micros: Microseconds) -> i64 {
 
 /// The type and the list of the components.
 fn name(view: &NameRef, out: &mut Answer) -> Option<()> {
-    out.number(i64::from(view.name_type))?;
+    out.shown(view.name_type)?;
     components(view, out)
 }
 
@@ -95,13 +95,13 @@ pub(crate) fn components(view: &NameRef, out: &mut Answer) -> Option<()> {
 }
 
 fn encrypted(view: &EncryptedRef, out: &mut Answer) -> Option<()> {
-    out.number(i64::from(view.etype))?;
+    out.shown(view.etype)?;
     show_number(view.kvno.map(i64::from), out)?;
     out.bytes(view.cipher)
 }
 
 fn key(view: KeyRef, out: &mut Answer) -> Option<()> {
-    out.number(i64::from(view.etype))?;
+    out.shown(view.etype)?;
     out.bytes(view.bytes)
 }
 
@@ -113,7 +113,7 @@ fn key_or_none(view: Option<KeyRef>, out: &mut Answer) -> Option<()> {
 }
 
 fn typed(view: TypedRef, out: &mut Answer) -> Option<()> {
-    out.number(i64::from(view.kind))?;
+    out.shown(view.kind)?;
     out.bytes(view.bytes)
 }
 

@@ -1,10 +1,10 @@
 //! Elements that are written.
 
-use crate::words::{Answer, Words};
 use krb_der::{
     Constant, EncodeFault, Flags, Microseconds, Octets, Seconds, SeqNumber, Text, TextList, Writer,
     encoded,
 };
+use krb_words::{Answer, Words};
 use std::alloc::{AllocError, Global};
 
 /// The steps write one after another, and then the bytes are shown.
@@ -30,7 +30,7 @@ pub(crate) fn write(words: &mut Words, out: &mut Answer) -> Option<()> {
 
 fn step(writer: &mut Writer, words: &mut Words, out: &mut Answer) -> Option<()> {
     match words.next()? {
-        "len" => out.size(writer.len()),
+        "len" => out.shown(writer.len()),
         "empty" => out.truth(writer.is_empty()),
         step => match written(writer, step, words)? {
             Ok(()) => Some(()),

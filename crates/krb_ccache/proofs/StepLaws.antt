@@ -13,7 +13,7 @@ use Rattle.krb_ccache.specs.declared.walking.Stop.{Stop}
 use Rattle.krb_ccache.specs.declared.walking.Stop.TheVariants as stop
 use Rattle.krb_ccache.specs.Reader.{HeldPart, passed}
 use Rattle.krb_ccache.specs.declared.layout.Layout.{Layout}
-use Rattle.krb_ccache.specs.declared.layout.Layout.TheVariants.{Version3, Version4}
+use Rattle.krb_ccache.specs.declared.layout.Layout.TheVariants.{Version3}
 use Rattle.krb_ccache.specs.Value.{FitsCredential}
 use Rattle.krb_ccache.specs.declared.credential.Credential.{Credential}
 use Rattle.krb_ccache.specs.Inner.Standing.{bytes_of, IsMissing}
@@ -21,14 +21,13 @@ use Rattle.krb_ccache.specs.Inner.Walking.{Walks, Halts, FitsKeyed, whole}
 use Rattle.krb_ccache.specs.Inner.Stepping.{item_stop, Stands, cleared, Comes, Gives, Runs, IsTold, Lacks, Misses, MissesOne, spelled_as, IsStep, IsAtHand}
 use Rattle.std.specs.Prelude.{◌≢◌}
 use Rattle.krb_ccache.specs.declared.fault.CacheFault.TheVariants.{BadItem, OutOfMemory}
-use Rattle.krb_ccache.specs.Format.{version_of, head_bytes, FitsHead, second_size, Spelled, Spells}
+use Rattle.krb_ccache.specs.Format.{head_bytes, FitsHead, second_size, Spelled, Spells}
 use Rattle.krb_ccache.specs.declared.credential.HeaderField.{HeaderField}
-use Rattle.krb_ccache.specs.Inner.Stepping.{Any}
 use Rattle.krb_name.specs.Field.{IsBytes, IsField}
 use Rattle.krb_name.proofs.CursorLaws.{some_is}
 use Rattle.krb_ccache.proofs.Repeats.{missing_where}
 use Rattle.krb_ccache.proofs.SourceLaws.{tail_then}
-use Rattle.krb_ccache.proofs.WalkLaws.{front_same, part_walks}
+use Rattle.krb_ccache.proofs.WalkLaws.{front_same}
 
 module _ {X S : Type 0} (s : X → List ℕ) (P : X → Type 0) (left : S → Option (List ℕ)) where
   started : (old start new : AtHand S) → Walks s P left start new → start ≡ cleared old → Walks s P left (cleared old) new
@@ -214,15 +213,6 @@ module _ {X : Type 0} (r : Place → Option (X × Place)) (s : X → List ℕ) (
 
   pub field_missing : (bytes : List ℕ) (place : Place) → place ≡ record { at = 0; rest = bytes } → r place ≡ None → IsMissing s P bytes
   field_missing bytes place e none = missing_where r s P f (record { at = 0; rest = bytes }) (subst (λ (p : Place). r p ≡ None) e none)
-
--- ---- the version
-
-pub version_walks : {S : Type 0} (left : S → Option (List ℕ)) (old new : AtHand S) → Walks (λ (x : List ℕ). x) (λ (x : List ℕ). length x ≡ 2) left old new → Walks version_of Any left old new
-version_walks left old new w = part_walks left (λ (x : List ℕ). x) (λ (x : List ℕ). length x ≡ 2) version_of Any two old new w
-  where
-    two : (layout : Layout) → Any layout → length (version_of layout) ≡ 2
-    two Version3 any = refl
-    two Version4 any = refl
 
 -- ---- no header
 

@@ -1,15 +1,15 @@
--- A walk over parts, one behind the other, is a walk over the whole.
-use Rattle.std.proofs.Common.{◌≡◌, ℕ, ◌-◌, ◌<◌, ◌≤◌, ◌^◌, List, [], ◌++◌, length, Option, Result, Ok, Err, refl, sym, ap, ◌∙◌, append_assoc, append-nil, arith, drop, take}
-use Rattle.std.specs.Int.{Width, w16, w32, from_be_bytes, to_be_bytes}
-use Rattle.std.proofs.KnownBytes.{Consumes-trans, Consumes-nil}
-use Rattle.std.proofs.lemmas.List.{length-append, take_at, drop_at}
-use Rattle.std.proofs.lemmas.Nat.{from_be_bytes-to_be_bytes_2, from_be_bytes-to_be_bytes_4}
+-- A walk over parts, one after the other, is a walk over the whole.
+use Rattle.std.proofs.Common.{◌≡◌, ℕ, ◌+◌, ◌-◌, ◌<◌, List, ◌++◌, length, Option, Some, None, Result, Ok, Err, refl, sym, ap, ◌∙◌, append_assoc, arith, drop, take, leb, false, subst, inl, inr}
+use Rattle.std.specs.Int.{Width, byte_len, from_be_bytes, cast_signed}
+use Rattle.std.proofs.lemmas.Bool.{cases_lt, lt-leb}
+use Rattle.std.proofs.KnownBytes.{Consumes-trans}
+use Rattle.std.proofs.lemmas.List.{length-append, length-take, length-drop, drop-drop, take_at, drop_at, take-append-drop}
 use Rattle.krb_name.specs.Window.{AtHand, Keeps}
-use Rattle.krb_name.specs.Cursor.{number_bytes}
-use Rattle.krb_name.specs.File.{file_limit}
+use Rattle.krb_name.specs.Cursor.{Place, ◌>>=◌, bytes_at, number_at, signed_at}
+use Rattle.krb_name.proofs.CursorLaws.{IsField-bytes}
 use Rattle.krb_ccache.specs.declared.walking.Stop.{Stop}
-use Rattle.krb_ccache.specs.declared.walking.Stop.TheVariants.{Long}
-use Rattle.krb_ccache.specs.Inner.Walking.{Spans, Wants, Walks, Halts, IsWalk, last_number}
+use Rattle.krb_ccache.specs.Inner.Reading.{both_at, made_at}
+use Rattle.krb_ccache.specs.Inner.Walking.{Hand, Reads, NeedsMore, Walked, Stopped, IsWalk, Taken, TookFewer, last_number}
 
 -- ---- lists
 
@@ -20,39 +20,9 @@ front_same xs ys more others len e = (
   sym (drop_at xs more (length ys) len) ∙ ap (drop (length ys)) e ∙ drop_at ys others (length ys) refl,
 )
 
--- ---- bytes at the front
-
-module _ {X : Type 0} (one other : X → List ℕ) (P Q : X → Type 0) where
-  -- the whole
-  abbrev pub both : X → List ℕ
-  both x = one x ++ other x
-
-  regroup : (x : X) (bytes more others : List ℕ) → bytes ++ more ≡ both x ++ others → bytes ++ more ≡ one x ++ (other x ++ others)
-  regroup x bytes more others e = e ∙ append_assoc (one x) (other x) others
-
-  pub wants_first : (bytes : List ℕ) (count : ℕ) → Wants one P bytes count → Wants both P bytes count
-  wants_first bytes count wants x more others p e =
-      omega (arith, wants x more (other x ++ others) p (regroup x bytes more others e), length-append (one x) (other x))
-
-  module _ (front : List ℕ) (spans : Spans one P front) (known : (x : X) → P x → front ≡ one x → Q x) where
-    behind : (x : X) (bytes more others : List ℕ) → P x → (front ++ bytes) ++ more ≡ both x ++ others → (front ≡ one x) × (bytes ++ more ≡ other x ++ others)
-    behind x bytes more others p e =
-        let grouped : front ++ (bytes ++ more) ≡ one x ++ (other x ++ others) = sym (append_assoc front bytes more) ∙ e ∙ append_assoc (one x) (other x) others in
-        front_same front (one x) (bytes ++ more) (other x ++ others) (sym (spans x (bytes ++ more) (other x ++ others) p grouped)) grouped
-
-    pub spans_then : (bytes : List ℕ) → Spans other Q bytes → Spans both P (front ++ bytes)
-    spans_then bytes next x more others p e =
-        let b = behind x bytes more others p e in
-        omega (arith, next x more others (known x p b.0) b.1, ap length b.0, length-append front bytes, length-append (one x) (other x))
-
-    pub wants_then : (bytes : List ℕ) (count : ℕ) → Wants other Q bytes count → Wants both P (front ++ bytes) count
-    wants_then bytes count next x more others p e =
-        let b = behind x bytes more others p e in
-        omega (arith, next x more others (known x p b.0) b.1, ap length b.0, length-append front bytes, length-append (one x) (other x))
-
 -- ---- what is at hand
 
-keeps_then : {S : Type 0} (a b c : Option (List ℕ)) (old middle new : AtHand S) (front bytes : List ℕ) → Keeps a b old middle front → Keeps b c middle new bytes → Keeps a c old new (front ++ bytes)
+pub keeps_then : {S : Type 0} (a b c : Option (List ℕ)) (old middle new : AtHand S) (front bytes : List ℕ) → Keeps a b old middle front → Keeps b c middle new bytes → Keeps a c old new (front ++ bytes)
 keeps_then a b c old middle new front bytes p q = record {
   consumed = Consumes-trans a b c front bytes p.consumed q.consumed;
   bytes = q.bytes ∙ ap (λ (t : List ℕ). t ++ bytes) p.bytes ∙ append_assoc old.bytes front bytes;
@@ -60,135 +30,264 @@ keeps_then a b c old middle new front bytes p q = record {
   given = omega (arith, p.given, q.given, length-append front bytes);
 }
 
-module _ {S : Type 0} (left : S → Option (List ℕ)) where
-  pub joined : (old middle new : AtHand S) (front bytes : List ℕ) → Keeps (left old.source) (left middle.source) old middle front → Keeps (left middle.source) (left new.source) middle new bytes
-      → Keeps (left old.source) (left new.source) old new (front ++ bytes)
-  joined old middle new front bytes p q = keeps_then (left old.source) (left middle.source) (left new.source) old middle new front bytes p q
+pub joined : (old middle new : Hand) (front bytes : List ℕ) → Keeps old.source middle.source old middle front → Keeps middle.source new.source middle new bytes → Keeps old.source new.source old new (front ++ bytes)
+joined old middle new front bytes p q = keeps_then old.source middle.source new.source old middle new front bytes p q
 
-  -- so many bytes would pass the limit
-  pub nothing_comes : (old : AtHand S) (count : ℕ) → length old.bytes ≤ old.peak → old.given ≤ file_limit → file_limit - old.given < count → Halts (λ (x : List ℕ). x) (λ (x : List ℕ). length x ≡ count) left old old Long
-  nothing_comes old count peak within long = record {
-    piece = [];
-    keeps = record { consumed = Consumes-nil (left old.source); bytes = sym (append-nil old.bytes); peak = omega (arith, peak); given = omega arith };
-    within = within;
-    count = count;
-    wants = λ x more others p e. omega (arith, p);
-    cant_come = omega (arith, long, within);
+-- ---- a thing, and what is read after it
+
+module _ {X Y : Type 0} (one : Place → Option (X × Place)) (other : X → Place → Option (Y × Place)) where
+  abbrev pub bound : Place → Option (Y × Place)
+  bound place = one place >>= λ x. other x.0 x.1
+
+  pub reads_bound : (front bytes : List ℕ) (x : X) (y : Y) → Reads one front x → Reads (other x) bytes y → Reads bound (front ++ bytes) y
+  reads_bound front bytes x y p q at more =
+      let grouped : (front ++ bytes) ++ more ≡ front ++ (bytes ++ more) = append_assoc front bytes more in
+      let first = p at (bytes ++ more) in
+      let second = q (at + length front) more in
+      let place : (at + length front) + length bytes ≡ at + length (front ++ bytes) = omega (arith, length-append front bytes) in
+      rw (grouped, first, second, place) refl
+
+  pub needs_first : (bytes : List ℕ) (count : ℕ) → NeedsMore one bytes count → NeedsMore bound bytes count
+  needs_first bytes count p at more few = let none = p at more few in rw none refl
+
+  pub needs_bound : (front bytes : List ℕ) (x : X) (count : ℕ) → Reads one front x → NeedsMore (other x) bytes count → NeedsMore bound (front ++ bytes) count
+  needs_bound front bytes x count p q at more few =
+      let grouped : (front ++ bytes) ++ more ≡ front ++ (bytes ++ more) = append_assoc front bytes more in
+      let first = p at (bytes ++ more) in
+      let none = q (at + length front) more few in
+      rw (grouped, first, none) refl
+
+  module _ (Within : Hand → Type 0) where
+    abbrev pub walked_bound : (old middle new : Hand) (w : Walked one Within old middle) → Walked (other w.thing) Within middle new → Walked bound Within old new
+    walked_bound old middle new w v = record {
+      thing = v.thing;
+      piece = w.piece ++ v.piece;
+      keeps = joined old middle new w.piece v.piece w.keeps v.keeps;
+      within = v.within;
+      reads = reads_bound w.piece v.piece w.thing v.thing w.reads v.reads;
+    }
+
+    module _ (Lacks : Stop → Hand → ℕ → Type 0) where
+      pub stopped_first : (old new : Hand) (stop : Stop) → Stopped one Within Lacks old new stop → Stopped bound Within Lacks old new stop
+      stopped_first old new stop h = record {
+        piece = h.piece;
+        keeps = h.keeps;
+        within = h.within;
+        count = h.count;
+        some = h.some;
+        needs = needs_first h.piece h.count h.needs;
+        lacks = h.lacks;
+      }
+
+      pub stopped_bound : (old middle new : Hand) (stop : Stop) (w : Walked one Within old middle) → Stopped (other w.thing) Within Lacks middle new stop → Stopped bound Within Lacks old new stop
+      stopped_bound old middle new stop w h = record {
+        piece = w.piece ++ h.piece;
+        keeps = joined old middle new w.piece h.piece w.keeps h.keeps;
+        within = h.within;
+        count = h.count;
+        some = h.some;
+        needs = needs_bound w.piece h.piece w.thing h.count w.reads h.needs;
+        lacks = h.lacks;
+      }
+
+      pub walk_bound : {T : Type 0} (old middle new : Hand) (result : Result T Stop) (w : Walked one Within old middle) → IsWalk (other w.thing) Within Lacks middle new result → IsWalk bound Within Lacks old new result
+      walk_bound old middle new (Ok x) w v = walked_bound old middle new w v
+      walk_bound old middle new (Err stop) w h = stopped_bound old middle new stop w h
+
+-- ---- what is made of another
+
+module _ {X Y : Type 0} (make : X → Y) (read : Place → Option (X × Place)) (made : Place → Option (Y × Place)) (same : (place : Place) → made place ≡ made_at make read place) (Within : Hand → Type 0) where
+  pub reads_made : (bytes : List ℕ) (x : X) → Reads read bytes x → Reads made bytes (make x)
+  reads_made bytes x p at more = same (record { at = at; rest = bytes ++ more }) ∙ ap (λ (o : Option (X × Place)). o >>= λ y. Some (make y.0, y.1)) (p at more)
+
+  pub needs_made : (bytes : List ℕ) (count : ℕ) → NeedsMore read bytes count → NeedsMore made bytes count
+  needs_made bytes count p at more few = same (record { at = at; rest = bytes ++ more }) ∙ ap (λ (o : Option (X × Place)). o >>= λ y. Some (make y.0, y.1)) (p at more few)
+
+  abbrev pub walked_made : (old new : Hand) → Walked read Within old new → Walked made Within old new
+  walked_made old new w = record { thing = make w.thing; piece = w.piece; keeps = w.keeps; within = w.within; reads = reads_made w.piece w.thing w.reads }
+
+  module _ (Lacks : Stop → Hand → ℕ → Type 0) where
+    pub stopped_made : (old new : Hand) (stop : Stop) → Stopped read Within Lacks old new stop → Stopped made Within Lacks old new stop
+    stopped_made old new stop h = record {
+      piece = h.piece;
+      keeps = h.keeps;
+      within = h.within;
+      count = h.count;
+      some = h.some;
+      needs = needs_made h.piece h.count h.needs;
+      lacks = h.lacks;
+    }
+
+    pub walk_made : {T : Type 0} (old new : Hand) (result : Result T Stop) → IsWalk read Within Lacks old new result → IsWalk made Within Lacks old new result
+    walk_made old new (Ok x) w = walked_made old new w
+    walk_made old new (Err stop) h = stopped_made old new stop h
+
+-- ---- one thing and another after it
+
+-- a thing, and one that was read after it
+abbrev pub pair_with : {X Y : Type 0} → X → Option (Y × Place) → Option ((X × Y) × Place)
+pair_with x read = read >>= λ y. Some ((x, y.0), y.1)
+
+module _ {X Y : Type 0} (one : Place → Option (X × Place)) (other : Place → Option (Y × Place)) where
+  abbrev with_one : X → Place → Option ((X × Y) × Place)
+  with_one x = made_at (λ (y : Y). (x, y)) other
+
+  pub reads_both : (front bytes : List ℕ) (x : X) (y : Y) → Reads one front x → Reads other bytes y → Reads (both_at one other) (front ++ bytes) (x, y)
+  reads_both front bytes x y p q = reads_bound one with_one front bytes x (x, y) p (reads_made (λ (z : Y). (x, z)) other (with_one x) (λ place. refl) (λ hand. Unit {0}) bytes y q)
+
+  pub needs_other : (front bytes : List ℕ) (x : X) (count : ℕ) → Reads one front x → NeedsMore other bytes count → NeedsMore (both_at one other) (front ++ bytes) count
+  needs_other front bytes x count p q = needs_bound one with_one front bytes x count p (needs_made (λ (z : Y). (x, z)) other (with_one x) (λ place. refl) (λ hand. Unit {0}) bytes count q)
+
+  module _ (Within : Hand → Type 0) where
+    abbrev pub walked_both : (old middle new : Hand) → Walked one Within old middle → Walked other Within middle new → Walked (both_at one other) Within old new
+    walked_both old middle new w v = walked_bound one with_one Within old middle new w (walked_made (λ (y : Y). (w.thing, y)) other (with_one w.thing) (λ place. refl) Within middle new v)
+
+    module _ (Lacks : Stop → Hand → ℕ → Type 0) where
+      pub stopped_one : (old new : Hand) (stop : Stop) → Stopped one Within Lacks old new stop → Stopped (both_at one other) Within Lacks old new stop
+      stopped_one old new stop h = stopped_first one with_one Within Lacks old new stop h
+
+      pub stopped_other : (old middle new : Hand) (stop : Stop) → Walked one Within old middle → Stopped other Within Lacks middle new stop → Stopped (both_at one other) Within Lacks old new stop
+      stopped_other old middle new stop w h =
+          stopped_bound one with_one Within Lacks old middle new stop w (stopped_made (λ (y : Y). (w.thing, y)) other (with_one w.thing) (λ place. refl) Within Lacks middle new stop h)
+
+      pub walk_both : {T : Type 0} (old middle new : Hand) (result : Result T Stop) → Walked one Within old middle → IsWalk other Within Lacks middle new result → IsWalk (both_at one other) Within Lacks old new result
+      walk_both old middle new (Ok x) w v = walked_both old middle new w v
+      walk_both old middle new (Err stop) w h = stopped_other old middle new stop w h
+
+-- two things and a third are one thing and two others
+module _ {X Y Z : Type 0} (one : Place → Option (X × Place)) (other : Place → Option (Y × Place)) (third : Place → Option (Z × Place)) where
+  abbrev pub regroup : (X × Y) × Z → X × (Y × Z)
+  regroup p = (p.0.0, (p.0.1, p.1))
+
+  abbrev regroup_at : Option (((X × Y) × Z) × Place) → Option ((X × (Y × Z)) × Place)
+  regroup_at o = o >>= λ w. Some (regroup w.0, w.1)
+
+  last : (x : X) (y : Y) (o : Option (Z × Place)) → pair_with x (pair_with y o) ≡ regroup_at (pair_with (x, y) o)
+  last x y None = refl
+  last x y (Some z) = refl
+
+  second : (x : X) (o : Option (Y × Place)) → pair_with x (o >>= λ y. pair_with y.0 (third y.1)) ≡ regroup_at (pair_with x o >>= λ p. pair_with p.0 (third p.1))
+  second x None = refl
+  second x (Some y) = last x y.0 (third y.1)
+
+  first : (o : Option (X × Place)) → (o >>= λ x. pair_with x.0 (other x.1 >>= λ y. pair_with y.0 (third y.1))) ≡ regroup_at ((o >>= λ x. pair_with x.0 (other x.1)) >>= λ p. pair_with p.0 (third p.1))
+  first None = refl
+  first (Some x) = second x.0 (other x.1)
+
+  pub regrouped : (place : Place) → both_at one (both_at other third) place ≡ made_at regroup (both_at (both_at one other) third) place
+  regrouped place = first (one place)
+
+-- ---- things of a fixed size
+
+pub record Sized {X : Type 0} (read : Place → Option (X × Place)) (size : ℕ) : Type 0 where
+  pub reads : (bytes : List ℕ) → length bytes ≡ size → (x : X) × Reads read bytes x
+  pub none : (at : ℕ) (rest : List ℕ) → length rest < size → read (record { at = at; rest = rest }) ≡ None
+
+pub sized_bytes : (count : ℕ) → Sized (bytes_at count) count
+unfolding bytes_at
+sized_bytes count = record {
+  reads = λ bytes len. (bytes, λ at more. (IsField-bytes count).again at bytes more len);
+  none = λ at rest few. let short : leb count (length rest) ≡ false = lt-leb count (length rest) few in rw short refl;
+}
+
+pub number_reads : (w : Width) (bytes : List ℕ) (number : ℕ) → length bytes ≡ byte_len w → number ≡ from_be_bytes w bytes → Reads (number_at w) bytes number
+unfolding number_at
+number_reads w bytes number len e at more =
+    ap (λ (o : Option (List ℕ × Place)). o >>= λ read. Some (from_be_bytes w read.0, read.1)) ((IsField-bytes (byte_len w)).again at bytes more len) ∙ ap (λ (n : ℕ). Some (n, record { at = at + length bytes; rest = more })) (sym e)
+
+module _ (Within : Hand → Type 0) where
+  pub number_is : (w : Width) (skip : ℕ) (old new : Hand) (piece : List ℕ) (number : ℕ) → new.bytes ≡ old.bytes ++ piece → number ≡ last_number w skip old.bytes new.bytes → number ≡ from_be_bytes w (drop skip piece)
+  number_is w skip old new piece number bytes last =
+      last ∙ ap (λ (t : List ℕ). from_be_bytes w (drop (length old.bytes + skip) t)) bytes ∙ ap (from_be_bytes w) (sym (drop-drop skip (length old.bytes) (old.bytes ++ piece)) ∙ ap (drop skip) (drop_at old.bytes piece (length old.bytes) refl))
+
+  -- a number was taken
+  abbrev pub walked_number : (w : Width) (old new : Hand) (number : ℕ) → Taken Within (byte_len w) old new → number ≡ last_number w 0 old.bytes new.bytes → Walked (number_at w) Within old new
+  walked_number w old new number t last = record {
+    thing = number;
+    piece = t.piece;
+    keeps = t.keeps;
+    within = t.within;
+    reads = number_reads w t.piece number t.length_is (number_is w 0 old new t.piece number t.keeps.bytes last);
   }
 
-  -- ---- a part of a thing
-
-  module _ {X Y : Type 0} (s : X → List ℕ) (P : X → Type 0) (part : Y → X) (Q : Y → Type 0) (in_part : (y : Y) → Q y → P (part y)) where
-    pub part_walks : (old new : AtHand S) → Walks s P left old new → Walks (λ (y : Y). s (part y)) Q left old new
-    part_walks old new w = record { piece = w.piece; keeps = w.keeps; within = w.within; spans = λ y more others q e. w.spans (part y) more others (in_part y q) e }
-
-    part_halts : (old new : AtHand S) (stop : Stop) → Halts s P left old new stop → Halts (λ (y : Y). s (part y)) Q left old new stop
-    part_halts old new stop h = record {
-      piece = h.piece;
-      keeps = h.keeps;
-      within = h.within;
-      count = h.count;
-      wants = λ y more others q e. h.wants (part y) more others (in_part y q) e;
-      cant_come = h.cant_come;
+  module _ {X : Type 0} (read : Place → Option (X × Place)) (size : ℕ) (sized : Sized read size) where
+    abbrev pub walked_sized : (old new : Hand) → Taken Within size old new → Walked read Within old new
+    walked_sized old new t = record {
+      thing = (sized.reads t.piece t.length_is).0;
+      piece = t.piece;
+      keeps = t.keeps;
+      within = t.within;
+      reads = (sized.reads t.piece t.length_is).1;
     }
 
-    pub walk_of : {T : Type 0} (old new : AtHand S) (result : Result T Stop) → IsWalk s P left old new result → IsWalk (λ (y : Y). s (part y)) Q left old new result
-    walk_of old new (Ok x) w = part_walks old new w
-    walk_of old new (Err stop) h = part_halts old new stop h
-
-  -- the same spelling in other words
-  module _ {X : Type 0} (s t : X → List ℕ) (P : X → Type 0) (same : (x : X) → t x ≡ s x) where
-    pub halts_same : (old new : AtHand S) (stop : Stop) → Halts s P left old new stop → Halts t P left old new stop
-    halts_same old new stop h = record {
-      piece = h.piece;
-      keeps = h.keeps;
-      within = h.within;
-      count = h.count;
-      wants = λ x more others p e. omega (arith, h.wants x more others p (e ∙ ap (λ (l : List ℕ). l ++ others) (same x)), ap length (same x));
-      cant_come = h.cant_come;
+    pub stopped_sized : (Lacks : Stop → Hand → ℕ → Type 0) (old new : Hand) (stop : Stop) → TookFewer Within Lacks size old new stop → Stopped read Within Lacks old new stop
+    stopped_sized Lacks old new stop t = record {
+      piece = t.piece;
+      keeps = t.keeps;
+      within = t.within;
+      count = size - length t.piece;
+      some = omega (arith, t.fewer);
+      needs = λ at more few. sized.none at (t.piece ++ more) (omega (arith, few, length-append t.piece more, t.fewer));
+      lacks = t.lacks;
     }
 
-    pub walk_same : {T : Type 0} (old new : AtHand S) (result : Result T Stop) → IsWalk s P left old new result → IsWalk t P left old new result
-    walk_same old new (Ok y) w = record {
-      piece = w.piece;
-      keeps = w.keeps;
-      within = w.within;
-      spans = λ x more others p e. ap length (same x) ∙ w.spans x more others p (e ∙ ap (λ (l : List ℕ). l ++ others) (same x));
-    }
-    walk_same old new (Err stop) h = halts_same old new stop h
+module _ {X Y : Type 0} (make : X → Y) (read : Place → Option (X × Place)) (size : ℕ) (sized : Sized read size) where
+  pub sized_made : Sized (made_at make read) size
+  sized_made = record {
+    reads = λ bytes len. let a = sized.reads bytes len in (make a.0, reads_made make read (made_at make read) (λ place. refl) (λ hand. Unit {0}) bytes a.0 a.1);
+    none = λ at rest few. ap (λ (o : Option (X × Place)). o >>= λ y. Some (make y.0, y.1)) (sized.none at rest few);
+  }
 
-  -- ---- one part and another behind it
+pub sized_number : (w : Width) → Sized (number_at w) (byte_len w)
+unfolding number_at
+sized_number w = sized_made (from_be_bytes w) (bytes_at (byte_len w)) (byte_len w) (sized_bytes (byte_len w))
 
-  module _ {X : Type 0} (one other : X → List ℕ) (P Q : X → Type 0) where
-    -- the first part doesn't come whole
-    halts_first : (old new : AtHand S) (stop : Stop) → Halts one P left old new stop → Halts (both one other P Q) P left old new stop
-    halts_first old new stop h = record {
-      piece = h.piece;
-      keeps = h.keeps;
-      within = h.within;
-      count = h.count;
-      wants = wants_first one other P Q h.piece h.count h.wants;
-      cant_come = h.cant_come;
-    }
+pub sized_signed : (w : Width) → Sized (signed_at w) (byte_len w)
+unfolding signed_at
+sized_signed w = sized_made (cast_signed w) (number_at w) (byte_len w) (sized_number w)
 
-    -- the other comes, or doesn't
-    walk_then : {T : Type 0} (old middle new : AtHand S) (result : Result T Stop) → (w : Walks one P left old middle) → ((x : X) → P x → w.piece ≡ one x → Q x) → IsWalk other Q left middle new result
-        → IsWalk (both one other P Q) P left old new result
-    walk_then old middle new (Ok x) w known h = record {
-      piece = w.piece ++ h.piece;
-      keeps = joined old middle new w.piece h.piece w.keeps h.keeps;
-      within = h.within;
-      spans = spans_then one other P Q w.piece w.spans known h.piece h.spans;
-    }
-    walk_then old middle new (Err stop) w known h = record {
-      piece = w.piece ++ h.piece;
-      keeps = joined old middle new w.piece h.piece w.keeps h.keeps;
-      within = h.within;
-      count = h.count;
-      wants = wants_then one other P Q w.piece w.spans known h.piece h.count h.wants;
-      cant_come = h.cant_come;
-    }
+module _ {X Y : Type 0} (one : Place → Option (X × Place)) (other : Place → Option (Y × Place)) (n m : ℕ) (sized : Sized one n) (none_after : (at : ℕ) (rest : List ℕ) → length rest < m → other (record { at = at; rest = rest }) ≡ None) where
+  pub too_few : (at : ℕ) (rest : List ℕ) → length rest < n + m → both_at one other (record { at = at; rest = rest }) ≡ None
+  too_few at rest few =
+      elim (cases_lt (length rest) n) [
+        | inl lt ↦ let none = sized.none at rest lt in rw none refl
+        | inr le ↦
+            let len : length (take n rest) ≡ n = omega (arith, length-take n rest, le) in
+            let front = sized.reads (take n rest) len in
+            let read = front.1 at (drop n rest) in
+            let none = none_after (at + length (take n rest)) (drop n rest) (omega (arith, length-drop n rest, few, le)) in
+            let parts : both_at one other (record { at = at; rest = take n rest ++ drop n rest }) ≡ None = rw (read, none) refl in
+            subst (λ (t : List ℕ). both_at one other (record { at = at; rest = t }) ≡ None) (take-append-drop n rest) parts
+      ]
 
-  -- a part, and what lies behind it
-  module _ {X Y : Type 0} (s : X → List ℕ) (P : X → Type 0) (part : Y → X) (other : Y → List ℕ) (Q : Y → Type 0) (in_part : (y : Y) → Q y → P (part y)) where
-    pub part_then : {T : Type 0} (old middle new : AtHand S) (result : Result T Stop) → Walks s P left old middle → IsWalk other Q left middle new result → IsWalk (λ (y : Y). s (part y) ++ other y) Q left old new result
-    part_then old middle new result w h = walk_then (λ (y : Y). s (part y)) other Q Q old middle new result (part_walks s P part Q in_part old middle w) (λ y q e. q) h
+module _ {X Y : Type 0} (one : Place → Option (X × Place)) (other : Place → Option (Y × Place)) (n m : ℕ) (sized : Sized one n) (also : Sized other m) where
+  parted : (bytes : List ℕ) → length bytes ≡ n + m → (x : X × Y) × Reads (both_at one other) bytes x
+  parted bytes len =
+      let front = sized.reads (take n bytes) (omega (arith, length-take n bytes, len)) in
+      let back = also.reads (drop n bytes) (omega (arith, length-drop n bytes, len)) in
+      let both : Reads (both_at one other) (take n bytes ++ drop n bytes) (front.0, back.0) = reads_both one other (take n bytes) (drop n bytes) front.0 back.0 front.1 back.1 in
+      ((front.0, back.0), subst (λ (t : List ℕ). Reads (both_at one other) t (front.0, back.0)) (take-append-drop n bytes) both)
 
-    pub part_first : (old new : AtHand S) (stop : Stop) → Halts s P left old new stop → Halts (λ (y : Y). s (part y) ++ other y) Q left old new stop
-    part_first old new stop h = halts_first (λ (y : Y). s (part y)) other Q Q old new stop (part_halts s P part Q in_part old new stop h)
+  pub sized_both : Sized (both_at one other) (n + m)
+  sized_both = record { reads = parted; none = too_few one other n m sized also.none }
 
-  -- ---- a number, and so many bytes or things behind it
+-- a thing of a fixed size was taken, and a number after it
+module _ (Within : Hand → Type 0) {X : Type 0} (read : Place → Option (X × Place)) (size : ℕ) (sized : Sized read size) (w : Width) where
+  pub front_length : (piece : List ℕ) → length piece ≡ size + byte_len w → length (take size piece) ≡ size
+  front_length piece len = omega (arith, length-take size piece, len)
 
-  abbrev Sized : ℕ → List ℕ → Type 0
-  Sized count bytes = length bytes ≡ count
+  pub after_reads : (piece : List ℕ) (number : ℕ) (len : length piece ≡ size + byte_len w) → number ≡ from_be_bytes w (drop size piece) → Reads (both_at read (number_at w)) piece ((sized.reads (take size piece) (front_length piece len)).0, number)
+  after_reads piece number len is =
+      let front = sized.reads (take size piece) (front_length piece len) in
+      let both : Reads (both_at read (number_at w)) (take size piece ++ drop size piece) (front.0, number) =
+      reads_both read (number_at w) (take size piece) (drop size piece) front.0 number front.1 (number_reads w (drop size piece) number (omega (arith, length-drop size piece, len)) is) in
+      subst (λ (t : List ℕ). Reads (both_at read (number_at w)) t (front.0, number)) (take-append-drop size piece) both
 
-  number_is : (w : Width) (old new : AtHand S) (piece : List ℕ) (count : ℕ) → new.bytes ≡ old.bytes ++ piece → count ≡ last_number w old.bytes new.bytes → count ≡ from_be_bytes w piece
-  number_is w old new piece count bytes last =
-      last ∙ ap (λ (t : List ℕ). from_be_bytes w (drop (length old.bytes) t)) bytes ∙ ap (from_be_bytes w) (drop_at old.bytes piece (length old.bytes) refl)
-
-  module _ (w : Width) (size limit : ℕ) (len : (n : ℕ) → length (to_be_bytes w n) ≡ size) (again : (n : ℕ) → n < limit → from_be_bytes w (to_be_bytes w n) ≡ n) where
-    module _ {X : Type 0} (number : X → ℕ) (other : X → List ℕ) (P : X → Type 0) (fits : (x : X) → P x → number x < limit) where
-      pub number_then : {T : Type 0} (old middle new : AtHand S) (count : ℕ) (result : Result T Stop) → Walks (λ (x : List ℕ). x) (λ (x : List ℕ). length x ≡ size) left old middle → count ≡ last_number w old.bytes middle.bytes
-          → IsWalk other (λ (x : X). P x × (number x ≡ count)) left middle new result → IsWalk (λ (x : X). number_bytes w (number x) ++ other x) P left old new result
-      unfolding part_walks
-      number_then old middle new count result walks last h =
-          let first = part_walks (λ (x : List ℕ). x) (λ (x : List ℕ). length x ≡ size) (λ (x : X). number_bytes w (number x)) P (λ y q. len (number y)) old middle walks in
-          let is = number_is w old middle walks.piece count walks.keeps.bytes last in
-          walk_then (λ (x : X). number_bytes w (number x)) other P (λ (x : X). P x × (number x ≡ count)) old middle new result first (λ x p e. (p, sym (is ∙ ap (from_be_bytes w) e ∙ again (number x) (fits x p)))) h
-
-      pub number_first : (old new : AtHand S) (stop : Stop) → Halts (λ (x : List ℕ). x) (λ (x : List ℕ). length x ≡ size) left old new stop → Halts (λ (x : X). number_bytes w (number x) ++ other x) P left old new stop
-      number_first old new stop h = part_first (λ (x : List ℕ). x) (λ (x : List ℕ). length x ≡ size) (λ (x : X). number_bytes w (number x)) other P (λ y q. len (number y)) old new stop h
-
--- ---- numbers of 16 and of 32 bits
-
-pub len16 : (n : ℕ) → length (to_be_bytes w16 n) ≡ 2
-len16 n = refl
-
-pub len32 : (n : ℕ) → length (to_be_bytes w32 n) ≡ 4
-len32 n = refl
-
-pub back16 : (n : ℕ) → n < 2 ^ 16 → from_be_bytes w16 (to_be_bytes w16 n) ≡ n
-back16 n lt = from_be_bytes-to_be_bytes_2 n lt
-
-pub back32 : (n : ℕ) → n < 2 ^ 32 → from_be_bytes w32 (to_be_bytes w32 n) ≡ n
-back32 n lt = from_be_bytes-to_be_bytes_4 n lt
+  abbrev pub walked_after : (old new : Hand) (number : ℕ) → Taken Within (size + byte_len w) old new → number ≡ last_number w size old.bytes new.bytes → Walked (both_at read (number_at w)) Within old new
+  walked_after old new number t last = record {
+    thing = ((sized.reads (take size t.piece) (front_length t.piece t.length_is)).0, number);
+    piece = t.piece;
+    keeps = t.keeps;
+    within = t.within;
+    reads = after_reads t.piece number t.length_is (number_is Within w size old new t.piece number t.keeps.bytes last);
+  }

@@ -1,253 +1,360 @@
 -- How a walk goes over the parts of a cache.
-use Rattle.std.proofs.Common.{◌≡◌, ℕ, ◌+◌, ◌<◌, ◌^◌, Bool, true, false, List, ◌++◌, length, Option, Result, refl, sym, ap, ◌∙◌, append_assoc, arith}
-use Rattle.std.proofs.lemmas.List.{length-append}
-use Rattle.std.specs.Int.{w8, w16, w32}
-use Rattle.std.specs.List.{flat_map}
-use Rattle.std.proofs.lemmas.List.Elements.{recursion_from_All}
-use Rattle.krb_name.specs.Window.{AtHand}
-use Rattle.krb_name.specs.Cursor.{number_bytes, signed_bytes, data_bytes}
+use Rattle.std.proofs.Common.{◌≡◌, ℕ, ◌+◌, ℤ, List, Option, Some, Result, Ok, Err, refl, None, ◌∙◌, subst, arith}
+use Rattle.std.specs.Int.{Width, w8, w16, w32, byte_len}
+use Rattle.krb_name.specs.Cursor.{Place, ◌>>=◌, bytes_at, number_at, signed_at, data_at, times_at}
 use Rattle.krb_name.specs.declared.principal.Principal.{Principal}
 use Rattle.krb_ccache.specs.declared.typed.TypedBytes.{TypedBytes}
-use Rattle.krb_ccache.specs.declared.credential.HeaderField.{HeaderField}
-use Rattle.krb_ccache.specs.declared.credential.Credential.{Credential}
 use Rattle.krb_ccache.specs.declared.walking.Stop.{Stop}
 use Rattle.krb_ccache.specs.declared.layout.Layout.{Layout}
-use Rattle.krb_ccache.specs.Spelling.{fields_bytes, header_bytes, name_bytes, flag_bytes, typed_bytes, list_bytes, marked_bytes, keyed_bytes}
-use Rattle.krb_ccache.specs.Value.{FitsHeader, FitsName, FitsList}
-use Rattle.krb_ccache.specs.Format.{second_size, Spelled, Spells}
-use Rattle.krb_ccache.specs.Inner.Standing.{bytes_of}
-use Rattle.krb_ccache.specs.Inner.Walking.{Counted, Walks, Halts, IsWalk, last_number, Marked, FitsMarked, FitsKeyed, whole, from_key, from_times, from_ticket}
-use Rattle.krb_ccache.proofs.PartLaws.{Short32}
-use Rattle.krb_ccache.proofs.WalkLaws.{walk_of, walk_same, halts_same, part_then, part_first, number_then, number_first, len16, len32, back16, back32}
+use Rattle.krb_ccache.specs.Format.{second_size}
+use Rattle.krb_ccache.specs.Inner.Reading.{both_at, name_at, typed_of, typed_at, list_at, tail_at, marked_at, strings_at, made_at}
+use Rattle.krb_ccache.specs.Inner.Walking.{Hand, Walked, Stopped, IsWalk, Taken, TookFewer, IsTaken, last_number, WalkedOne}
+use Rattle.krb_ccache.proofs.WalkLaws.{bound, walked_bound, Sized, stopped_first, stopped_bound, walk_bound, walk_made, stopped_made, walked_made, walked_both, walk_both, stopped_one, stopped_other, regroup, regrouped, walked_number, walked_sized, stopped_sized, sized_number, sized_signed, sized_bytes, sized_both, pair_with, walked_after}
 
-abbrev pub ShortTyped : TypedBytes → Type 0
-ShortTyped element = length element.bytes < 2 ^ 32
+module _ (Within : Hand → Type 0) (Lacks : Stop → Hand → ℕ → Type 0) where
+  -- ---- a number, and what is read after it
 
-abbrev pub components_bytes : List (List ℕ) → List ℕ
-components_bytes components = flat_map (data_bytes w32) components
+  module _ {Y : Type 0} (w : Width) (other : ℕ → Place → Option (Y × Place)) where
+    pub number_then : {T : Type 0} (old middle new : Hand) (count : ℕ) (result : Result T Stop) → Taken Within (byte_len w) old middle → count ≡ last_number w 0 old.bytes middle.bytes
+        → IsWalk (other count) Within Lacks middle new result → IsWalk (bound (number_at w) other) Within Lacks old new result
+    number_then old middle new count result t last h = walk_bound (number_at w) other Within Lacks old middle new result (walked_number Within w old middle count t last) h
 
-abbrev pub elements_bytes : List TypedBytes → List ℕ
-elements_bytes elements = flat_map typed_bytes elements
-
-abbrev from_realm : Principal → List ℕ
-from_realm name = data_bytes w32 name.realm ++ components_bytes name.components
-
-abbrev from_count : Principal → List ℕ
-from_count name = number_bytes w32 (length name.components) ++ from_realm name
-
--- a name with so many components
-abbrev FitsCount : ℕ → Principal → Type 0
-FitsCount count name = FitsName name × (length name.components ≡ count)
-
-abbrev times : Marked → List ℕ
-times c =
-    number_bytes w32 c.credential.authtime ++ (number_bytes w32 c.credential.starttime ++ (number_bytes w32 c.credential.endtime ++ (number_bytes w32 c.credential.renew_till ++ (number_bytes w8 c.mark ++ number_bytes w32 c.credential.ticket_flags))))
-
-abbrev from_authdata : Marked → List ℕ
-from_authdata c = list_bytes c.credential.authdata ++ from_ticket c
-
-abbrev from_addresses : Marked → List ℕ
-from_addresses c = list_bytes c.credential.addresses ++ from_authdata c
-
-abbrev second_of : Marked → List ℕ
-second_of c = data_bytes w32 c.credential.second_ticket
-
-abbrev from_data : Marked → List ℕ
-from_data c = data_bytes w32 c.credential.key ++ from_times c
-
-abbrev from_server : Marked → List ℕ
-from_server c = name_bytes c.credential.server ++ from_key c
-
--- the encryption type, and what comes after it
-abbrev etypes : Marked → List ℕ
-etypes c = signed_bytes w16 c.credential.etype ++ c.second
-
-etypes_joined : (c : Marked) → from_key c ≡ etypes c ++ from_data c
-etypes_joined c = sym (append_assoc (signed_bytes w16 c.credential.etype) c.second (from_data c))
-
-etypes_length : (layout : Layout) (c : Marked) → FitsKeyed layout c → length (etypes c) ≡ 2 + second_size layout
-etypes_length layout c p = omega (arith, length-append (signed_bytes w16 c.credential.etype) c.second, p.1)
-
-times_length : (c : Marked) → length (times c) ≡ 21
-times_length c = refl
-
-times_joined : (c : Marked) → from_times c ≡ times c ++ from_addresses c
-times_joined c = refl
-
-mark_of : Bool → ℕ
-mark_of true = 1
-mark_of false = 0
-
--- a credential with these bytes after its encryption type
-abbrev marked_of : Credential → List ℕ → Marked
-marked_of c second = record { credential = c; second = second; mark = mark_of c.is_skey }
-
-mark_is : (c : Credential) (second : List ℕ) → keyed_bytes c second ≡ whole (marked_of c second)
-unfolding mark_of
-mark_is c second = ap (marked_bytes c second) (flag c.is_skey)
-  where
-    flag : (b : Bool) → flag_bytes b ≡ number_bytes w8 (mark_of b)
-    flag true = refl
-    flag false = refl
-
-module _ {S : Type 0} (left : S → Option (List ℕ)) where
-  abbrev Of : ℕ → AtHand S → AtHand S → Type 0
-  Of size old new = Walks (λ (x : List ℕ). x) (λ (x : List ℕ). length x ≡ size) left old new
-
-  abbrev HaltOf : ℕ → AtHand S → AtHand S → Stop → Type 0
-  HaltOf size old new stop = Halts (λ (x : List ℕ). x) (λ (x : List ℕ). length x ≡ size) left old new stop
-
-  -- ---- bytes behind their length
-
-  pub data_then : {T : Type 0} (old middle new : AtHand S) (count : ℕ) (result : Result T Stop) → Of 4 old middle → count ≡ last_number w32 old.bytes middle.bytes
-      → IsWalk (λ (x : List ℕ). x) (λ (x : List ℕ). length x ≡ count) left middle new result → IsWalk (data_bytes w32) Short32 left old new result
-  data_then old middle new count result w last h =
-      number_then left w32 4 (2 ^ 32) len32 back32 length (λ (x : List ℕ). x) Short32 (λ x p. p) old middle new count result w last
-      (walk_of left (λ (x : List ℕ). x) (λ (x : List ℕ). length x ≡ count) (λ (x : List ℕ). x) (λ (x : List ℕ). Short32 x × (length x ≡ count)) (λ x q. q.1) middle new result h)
-
-  pub data_first : (old new : AtHand S) (stop : Stop) → HaltOf 4 old new stop → Halts (data_bytes w32) Short32 left old new stop
-  data_first old new stop h = number_first left w32 4 (2 ^ 32) len32 back32 length (λ (x : List ℕ). x) Short32 (λ x p. p) old new stop h
-
-  pub header_then : {T : Type 0} (old middle new : AtHand S) (count : ℕ) (result : Result T Stop) → Of 2 old middle → count ≡ last_number w16 old.bytes middle.bytes
-      → IsWalk (λ (x : List ℕ). x) (λ (x : List ℕ). length x ≡ count) left middle new result → IsWalk header_bytes FitsHeader left old new result
-  header_then old middle new count result w last h =
-      number_then left w16 2 (2 ^ 16) len16 back16 (λ (x : List HeaderField). length (fields_bytes x)) fields_bytes FitsHeader (λ x p. p.lengths.whole) old middle new count result w last
-      (walk_of left (λ (x : List ℕ). x) (λ (x : List ℕ). length x ≡ count) fields_bytes (λ (x : List HeaderField). FitsHeader x × (length (fields_bytes x) ≡ count)) (λ x q. q.1) middle new result h)
-
-  pub header_first : (old new : AtHand S) (stop : Stop) → HaltOf 2 old new stop → Halts header_bytes FitsHeader left old new stop
-  header_first old new stop h =
-      number_first left w16 2 (2 ^ 16) len16 back16 (λ (x : List HeaderField). length (fields_bytes x)) fields_bytes FitsHeader (λ x p. p.lengths.whole) old new stop h
+    pub number_first : (old new : Hand) (stop : Stop) → TookFewer Within Lacks (byte_len w) old new stop → Stopped (bound (number_at w) other) Within Lacks old new stop
+    number_first old new stop t = stopped_first (number_at w) other Within Lacks old new stop (stopped_sized Within (number_at w) (byte_len w) (sized_number w) Lacks old new stop t)
 
   -- ---- a principal
 
-  pub type_then : {T : Type 0} (old middle new : AtHand S) (result : Result T Stop) → Of 4 old middle → IsWalk from_count FitsName left middle new result → IsWalk name_bytes FitsName left old new result
-  type_then old middle new result w h =
-      part_then left (λ (x : List ℕ). x) (λ (x : List ℕ). length x ≡ 4) (λ (n : Principal). signed_bytes w32 n.name_type) from_count FitsName (λ n p. refl) old middle new result w h
+  abbrev head_at : Place → Option ((ℤ × ℕ) × Place)
+  head_at = both_at (signed_at w32) (number_at w32)
 
-  pub type_first : (old new : AtHand S) (stop : Stop) → HaltOf 4 old new stop → Halts name_bytes FitsName left old new stop
-  type_first old new stop h = part_first left (λ (x : List ℕ). x) (λ (x : List ℕ). length x ≡ 4) (λ (n : Principal). signed_bytes w32 n.name_type) from_count FitsName (λ n p. refl) old new stop h
+  abbrev named : ℤ × ℕ → List ℕ × List (List ℕ) → Principal
+  named head strings = record { realm = strings.0; name_type = head.0; components = strings.1 }
 
-  pub count_then : {T : Type 0} (old middle new : AtHand S) (count : ℕ) (result : Result T Stop) → Of 4 old middle → count ≡ last_number w32 old.bytes middle.bytes → IsWalk from_realm (FitsCount count) left middle new result
-      → IsWalk from_count FitsName left old new result
-  count_then old middle new count result w last h = number_then left w32 4 (2 ^ 32) len32 back32 (λ (n : Principal). length n.components) from_realm FitsName (λ n p. p.lengths.count) old middle new count result w last h
+  abbrev from_length : ℤ × ℕ → Place → Option ((List ℕ × List (List ℕ)) × Place)
+  from_length head = bound (number_at w32) (λ length. strings_at length head.1)
 
-  pub count_first : (old new : AtHand S) (stop : Stop) → HaltOf 4 old new stop → Halts from_count FitsName left old new stop
-  count_first old new stop h = number_first left w32 4 (2 ^ 32) len32 back32 (λ (n : Principal). length n.components) from_realm FitsName (λ n p. p.lengths.count) old new stop h
+  abbrev from_head : ℤ × ℕ → Place → Option (Principal × Place)
+  from_head head = made_at (named head) (from_length head)
 
-  pub realm_then : {T : Type 0} (old middle new : AtHand S) (count : ℕ) (result : Result T Stop) → Walks (data_bytes w32) Short32 left old middle → IsWalk components_bytes (Counted Short32 count) left middle new result
-      → IsWalk from_realm (FitsCount count) left old new result
-  realm_then old middle new count result w h =
-      part_then left (data_bytes w32) Short32 (λ (n : Principal). n.realm) (λ (n : Principal). components_bytes n.components) (FitsCount count) (λ n q. q.0.lengths.realm) old middle new result w
-      (walk_of left components_bytes (Counted Short32 count) (λ (n : Principal). n.components) (FitsCount count) (λ n q. (q.1, recursion_from_All Short32 n.components q.0.lengths.components)) middle new result h)
+  abbrev of_strings : ℤ × ℕ → Option ((List ℕ × List (List ℕ)) × Place) → Option (Principal × Place)
+  of_strings head read = read >>= λ strings. Some (named head strings.0, strings.1)
 
-  pub realm_first : (old new : AtHand S) (count : ℕ) (stop : Stop) → Halts (data_bytes w32) Short32 left old new stop → Halts from_realm (FitsCount count) left old new stop
-  realm_first old new count stop h = part_first left (data_bytes w32) Short32 (λ (n : Principal). n.realm) (λ (n : Principal). components_bytes n.components) (FitsCount count) (λ n q. q.0.lengths.realm) old new stop h
+  abbrev of_realm : ℤ × ℕ → List ℕ → Option (List (List ℕ) × Place) → Option (Principal × Place)
+  of_realm head realm read = read >>= λ components. Some (named head (realm, components.0), components.1)
+
+  abbrev from_realm : ℤ × ℕ → List ℕ × Place → Option (Principal × Place)
+  from_realm head realm = of_realm head realm.0 (times_at (data_at w32) head.1 realm.1)
+
+  after_realm : (head : ℤ × ℕ) (realm : List ℕ) (o : Option (List (List ℕ) × Place)) → of_realm head realm o ≡ of_strings head (pair_with realm o)
+  after_realm head realm None = refl
+  after_realm head realm (Some components) = refl
+
+  after_length : (head : ℤ × ℕ) (o : Option (List ℕ × Place)) → (o >>= λ realm. from_realm head realm) ≡ of_strings head (o >>= λ realm. pair_with realm.0 (times_at (data_at w32) head.1 realm.1))
+  after_length head None = refl
+  after_length head (Some realm) = after_realm head realm.0 (times_at (data_at w32) head.1 realm.1)
+
+  after_count : (head : ℤ × ℕ) (o : Option (ℕ × Place)) → ((o >>= λ length. bytes_at length.0 length.1) >>= λ realm. from_realm head realm) ≡ of_strings head (o >>= λ length. strings_at length.0 head.1 length.1)
+  after_count head None = refl
+  after_count head (Some length) = after_length head (bytes_at length.0 length.1)
+
+  after_type : (name_type : ℤ) (o : Option (ℕ × Place)) → (o >>= λ count. data_at w32 count.1 >>= λ realm. from_realm (name_type, count.0) realm) ≡ (pair_with name_type o >>= λ head. from_head head.0 head.1)
+  unfolding data_at
+  after_type name_type None = refl
+  after_type name_type (Some count) = after_count (name_type, count.0) (number_at w32 count.1)
+
+  from_start : (o : Option (ℤ × Place)) → (o >>= λ name_type. number_at w32 name_type.1 >>= λ count. data_at w32 count.1 >>= λ realm. from_realm (name_type.0, count.0) realm) ≡ ((o >>= λ name_type. pair_with name_type.0 (number_at w32 name_type.1)) >>= λ head. from_head head.0 head.1)
+  from_start None = refl
+  from_start (Some name_type) = after_type name_type.0 (number_at w32 name_type.1)
+
+  abbrev same_name : Principal → Principal
+  same_name name = name
+
+  name_parts : (place : Place) → name_at place ≡ made_at same_name (bound head_at from_head) place
+  unfolding name_at
+  name_parts place = from_start (signed_at w32 place) ∙ again (bound head_at from_head place)
+    where
+      again : (o : Option (Principal × Place)) → o ≡ (o >>= λ name. Some (same_name name.0, name.1))
+      again None = refl
+      again (Some name) = refl
+
+  type_sized : Sized (signed_at w32) 4
+  type_sized = sized_signed w32
+
+  abbrev head_walked : (old new : Hand) (count : ℕ) → Taken Within 8 old new → count ≡ last_number w32 4 old.bytes new.bytes → Walked head_at Within old new
+  head_walked old new count t last = walked_after Within (signed_at w32) 4 type_sized w32 old new count t last
+
+  pub name_walk : {T : Type 0} (old a b new : Hand) (count length : ℕ) (result : Result T Stop) → Taken Within 8 old a → count ≡ last_number w32 4 old.bytes a.bytes → Taken Within 4 a b → length ≡ last_number w32 0 a.bytes b.bytes
+      → IsWalk (strings_at length count) Within Lacks b new result → IsWalk name_at Within Lacks old new result
+  name_walk old a b new count length result t last u next h =
+      let head = head_walked old a count t last in
+      walk_made same_name (bound head_at from_head) name_at name_parts Within Lacks old new result
+      (walk_bound head_at from_head Within Lacks old a new result head
+      (walk_made (named head.thing) (from_length head.thing) (from_head head.thing) (λ place. refl) Within Lacks a new result (number_then w32 (λ n. strings_at n count) a b new length result u next h)))
+
+  named_stops : (old new : Hand) (stop : Stop) → Stopped (bound head_at from_head) Within Lacks old new stop → Stopped name_at Within Lacks old new stop
+  named_stops old new stop h = stopped_made same_name (bound head_at from_head) name_at name_parts Within Lacks old new stop h
+
+  pub name_count_stops : (old new : Hand) (stop : Stop) → TookFewer Within Lacks 8 old new stop → Stopped name_at Within Lacks old new stop
+  name_count_stops old new stop t =
+      named_stops old new stop (stopped_first head_at from_head Within Lacks old new stop (stopped_sized Within head_at 8 (sized_both (signed_at w32) (number_at w32) 4 4 type_sized (sized_number w32)) Lacks old new stop t))
+
+  pub name_length_stops : (old a new : Hand) (count : ℕ) (stop : Stop) → Taken Within 8 old a → count ≡ last_number w32 4 old.bytes a.bytes → TookFewer Within Lacks 4 a new stop → Stopped name_at Within Lacks old new stop
+  name_length_stops old a new count stop t last u =
+      let head = head_walked old a count t last in
+      named_stops old new stop
+      (stopped_bound head_at from_head Within Lacks old a new stop head
+      (stopped_made (named head.thing) (from_length head.thing) (from_head head.thing) (λ place. refl) Within Lacks a new stop (number_first w32 (λ n. strings_at n count) a new stop u)))
+
+  -- ---- bytes after their length
+
+  bytes_walk : {T : Type 0} (old new : Hand) (count : ℕ) (result : Result T Stop) → IsTaken Within Lacks count old new result → IsWalk (bytes_at count) Within Lacks old new result
+  bytes_walk old new count (Ok x) t = walked_sized Within (bytes_at count) count (sized_bytes count) old new t
+  bytes_walk old new count (Err stop) t = stopped_sized Within (bytes_at count) count (sized_bytes count) Lacks old new stop t
+
+  pub data_then : {T : Type 0} (w : Width) (old middle new : Hand) (count : ℕ) (result : Result T Stop) → Taken Within (byte_len w) old middle → count ≡ last_number w 0 old.bytes middle.bytes → IsTaken Within Lacks count middle new result
+      → IsWalk (data_at w) Within Lacks old new result
+  unfolding data_at
+  data_then w old middle new count result t last h = number_then w bytes_at old middle new count result t last (bytes_walk middle new count result h)
+
+  pub data_first : (w : Width) (old new : Hand) (stop : Stop) → TookFewer Within Lacks (byte_len w) old new stop → Stopped (data_at w) Within Lacks old new stop
+  unfolding data_at
+  data_first w old new stop t = number_first w bytes_at old new stop t
 
   -- ---- addresses and authorization data
 
-  pub kind_then : {T : Type 0} (old middle new : AtHand S) (result : Result T Stop) → Of 2 old middle → IsWalk (data_bytes w32) Short32 left middle new result → IsWalk typed_bytes ShortTyped left old new result
-  kind_then old middle new result w h =
-      part_then left (λ (x : List ℕ). x) (λ (x : List ℕ). length x ≡ 2) (λ (e : TypedBytes). number_bytes w16 e.kind) (λ (e : TypedBytes). data_bytes w32 e.bytes) ShortTyped (λ e p. refl) old middle new result w
-      (walk_of left (data_bytes w32) Short32 (λ (e : TypedBytes). e.bytes) ShortTyped (λ e p. p) middle new result h)
+  pub kind_then : {T : Type 0} (old middle new : Hand) (result : Result T Stop) → Taken Within 2 old middle → IsWalk (data_at w32) Within Lacks middle new result → IsWalk typed_at Within Lacks old new result
+  unfolding typed_at
+  kind_then old middle new result t h =
+      walk_made typed_of (both_at (number_at w16) (data_at w32)) typed_at (λ place. refl) Within Lacks old new result
+      (walk_both (number_at w16) (data_at w32) Within Lacks old middle new result (walked_sized Within (number_at w16) 2 (sized_number w16) old middle t) h)
 
-  pub kind_first : (old new : AtHand S) (stop : Stop) → HaltOf 2 old new stop → Halts typed_bytes ShortTyped left old new stop
-  kind_first old new stop h =
-      part_first left (λ (x : List ℕ). x) (λ (x : List ℕ). length x ≡ 2) (λ (e : TypedBytes). number_bytes w16 e.kind) (λ (e : TypedBytes). data_bytes w32 e.bytes) ShortTyped (λ e p. refl) old new stop h
+  pub kind_first : (old new : Hand) (stop : Stop) → TookFewer Within Lacks 2 old new stop → Stopped typed_at Within Lacks old new stop
+  unfolding typed_at
+  kind_first old new stop t =
+      stopped_made typed_of (both_at (number_at w16) (data_at w32)) typed_at (λ place. refl) Within Lacks old new stop
+      (stopped_one (number_at w16) (data_at w32) Within Lacks old new stop (stopped_sized Within (number_at w16) 2 (sized_number w16) Lacks old new stop t))
 
-  pub list_then : {T : Type 0} (old middle new : AtHand S) (count : ℕ) (result : Result T Stop) → Of 4 old middle → count ≡ last_number w32 old.bytes middle.bytes
-      → IsWalk elements_bytes (Counted ShortTyped count) left middle new result → IsWalk list_bytes FitsList left old new result
-  list_then old middle new count result w last h =
-      number_then left w32 4 (2 ^ 32) len32 back32 length elements_bytes FitsList (λ l p. p.lengths.count) old middle new count result w last
-      (walk_of left elements_bytes (Counted ShortTyped count) (λ (l : List TypedBytes). l) (λ (l : List TypedBytes). FitsList l × (length l ≡ count)) (λ l q. (q.1, recursion_from_All ShortTyped l q.0.lengths.each)) middle new result h)
+  pub list_then : {T : Type 0} (old middle new : Hand) (count : ℕ) (result : Result T Stop) → Taken Within 4 old middle → count ≡ last_number w32 0 old.bytes middle.bytes → IsWalk (times_at typed_at count) Within Lacks middle new result
+      → IsWalk list_at Within Lacks old new result
+  unfolding list_at
+  list_then old middle new count result t last h = number_then w32 (times_at typed_at) old middle new count result t last h
 
-  pub list_first : (old new : AtHand S) (stop : Stop) → HaltOf 4 old new stop → Halts list_bytes FitsList left old new stop
-  list_first old new stop h = number_first left w32 4 (2 ^ 32) len32 back32 length elements_bytes FitsList (λ l p. p.lengths.count) old new stop h
+  pub list_first : (old new : Hand) (stop : Stop) → TookFewer Within Lacks 4 old new stop → Stopped list_at Within Lacks old new stop
+  unfolding list_at
+  list_first old new stop t = number_first w32 (times_at typed_at) old new stop t
+
+  -- ---- from the flags on
+
+  abbrev tickets_at : Place → Option ((List ℕ × List ℕ) × Place)
+  tickets_at = both_at (data_at w32) (data_at w32)
+
+  abbrev authdata_at : Place → Option ((List TypedBytes × (List ℕ × List ℕ)) × Place)
+  authdata_at = both_at list_at tickets_at
+
+  abbrev lists_at : Place → Option ((List TypedBytes × (List TypedBytes × (List ℕ × List ℕ))) × Place)
+  lists_at = both_at list_at authdata_at
+
+  flags_of : (old new : Hand) → Taken Within 4 old new → Walked (number_at w32) Within old new
+  flags_of old new t = walked_sized Within (number_at w32) 4 (sized_number w32) old new t
+
+  pub flags_stop : (old new : Hand) (stop : Stop) → TookFewer Within Lacks 4 old new stop → Stopped tail_at Within Lacks old new stop
+  flags_stop old new stop t = stopped_one (number_at w32) lists_at Within Lacks old new stop (stopped_sized Within (number_at w32) 4 (sized_number w32) Lacks old new stop t)
+
+  module _ {T : Type 0} (old a new : Hand) (result : Result T Stop) (t : Taken Within 4 old a) where
+    pub addresses_then : IsWalk lists_at Within Lacks a new result → IsWalk tail_at Within Lacks old new result
+    addresses_then h = walk_both (number_at w32) lists_at Within Lacks old a new result (flags_of old a t) h
+
+    pub authdata_then : (b : Hand) → Walked list_at Within a b → IsWalk authdata_at Within Lacks b new result → IsWalk tail_at Within Lacks old new result
+    authdata_then b one h = addresses_then (walk_both list_at authdata_at Within Lacks a b new result one h)
+
+    pub ticket_then : (b c : Hand) → Walked list_at Within a b → Walked list_at Within b c → IsWalk tickets_at Within Lacks c new result → IsWalk tail_at Within Lacks old new result
+    ticket_then b c one other h = authdata_then b one (walk_both list_at tickets_at Within Lacks b c new result other h)
+
+    pub tickets_then : (b c d : Hand) → Walked list_at Within a b → Walked list_at Within b c → Walked (data_at w32) Within c d → IsWalk (data_at w32) Within Lacks d new result → IsWalk tail_at Within Lacks old new result
+    tickets_then b c d one other ticket h = ticket_then b c one other (walk_both (data_at w32) (data_at w32) Within Lacks c d new result ticket h)
+
+  pub addresses_stop : (old new : Hand) (stop : Stop) → Stopped list_at Within Lacks old new stop → Stopped lists_at Within Lacks old new stop
+  addresses_stop old new stop h = stopped_one list_at authdata_at Within Lacks old new stop h
+
+  pub authdata_stop : (old new : Hand) (stop : Stop) → Stopped list_at Within Lacks old new stop → Stopped authdata_at Within Lacks old new stop
+  authdata_stop old new stop h = stopped_one list_at tickets_at Within Lacks old new stop h
+
+  pub ticket_stop : (old new : Hand) (stop : Stop) → Stopped (data_at w32) Within Lacks old new stop → Stopped tickets_at Within Lacks old new stop
+  ticket_stop old new stop h = stopped_one (data_at w32) (data_at w32) Within Lacks old new stop h
+
+  -- ---- from the times on
+
+  abbrev u32_at : Place → Option (ℕ × Place)
+  u32_at = number_at w32
+
+  abbrev pub from_mark : Place → Option ((ℕ × (ℕ × (List TypedBytes × (List TypedBytes × (List ℕ × List ℕ))))) × Place)
+  from_mark = both_at (number_at w8) tail_at
+
+  abbrev pub from_times : Place → Option ((ℕ × (ℕ × (ℕ × (ℕ × (ℕ × (ℕ × (List TypedBytes × (List TypedBytes × (List ℕ × List ℕ))))))))) × Place)
+  from_times = both_at u32_at (both_at u32_at (both_at u32_at (both_at u32_at from_mark)))
+
+  sized_as : {X : Type 0} (read : Place → Option (X × Place)) (n m : ℕ) → n ≡ m → Sized read n → Sized read m
+  sized_as read n m e sized = subst (Sized read) e sized
+
+  -- the bytes of a key, the times and `is_skey`, and what comes after them
+  module _ (size : ℕ) where
+    abbrev no_times : Place → Option (List ℕ × Place)
+    no_times = bytes_at size
+
+    abbrev one_time : Place → Option ((List ℕ × ℕ) × Place)
+    one_time = both_at no_times u32_at
+
+    abbrev two_times : Place → Option (((List ℕ × ℕ) × ℕ) × Place)
+    two_times = both_at one_time u32_at
+
+    abbrev three_times : Place → Option ((((List ℕ × ℕ) × ℕ) × ℕ) × Place)
+    three_times = both_at two_times u32_at
+
+    abbrev four_times : Place → Option (((((List ℕ × ℕ) × ℕ) × ℕ) × ℕ) × Place)
+    four_times = both_at three_times u32_at
+
+    abbrev to_mark : Place → Option ((((((List ℕ × ℕ) × ℕ) × ℕ) × ℕ) × ℕ) × Place)
+    to_mark = both_at four_times (number_at w8)
+
+    abbrev pub from_bytes : Place → Option ((List ℕ × (ℕ × (ℕ × (ℕ × (ℕ × (ℕ × (ℕ × (List TypedBytes × (List TypedBytes × (List ℕ × List ℕ)))))))))) × Place)
+    from_bytes = both_at no_times from_times
+
+    times_sized : Sized four_times (size + 16)
+    times_sized =
+        sized_as four_times ((((size + 4) + 4) + 4) + 4) (size + 16) (omega arith)
+        (sized_both three_times u32_at (((size + 4) + 4) + 4) 4 (sized_both two_times u32_at ((size + 4) + 4) 4 (sized_both one_time u32_at (size + 4) 4 (sized_both no_times u32_at size 4 (sized_bytes size) (sized_number w32)) (sized_number w32)) (sized_number w32)) (sized_number w32))
+
+    mark_sized : Sized to_mark (size + 16 + 1)
+    mark_sized = sized_both four_times (number_at w8) (size + 16) 1 times_sized (sized_number w8)
+
+    abbrev from_fourth : Place → Option ((ℕ × (ℕ × (ℕ × (List TypedBytes × (List TypedBytes × (List ℕ × List ℕ)))))) × Place)
+    from_fourth = both_at u32_at from_mark
+
+    abbrev from_third : Place → Option ((ℕ × (ℕ × (ℕ × (ℕ × (List TypedBytes × (List TypedBytes × (List ℕ × List ℕ))))))) × Place)
+    from_third = both_at u32_at from_fourth
+
+    abbrev from_second : Place → Option ((ℕ × (ℕ × (ℕ × (ℕ × (ℕ × (List TypedBytes × (List TypedBytes × (List ℕ × List ℕ)))))))) × Place)
+    from_second = both_at u32_at from_third
+
+    abbrev times_walked : (old middle new : Hand) (mark : ℕ) → Taken Within (size + 16 + 1) old middle → mark ≡ last_number w8 (size + 16) old.bytes middle.bytes → Walked tail_at Within middle new → Walked from_bytes Within old new
+    times_walked old middle new mark t last h =
+        let five = walked_both to_mark tail_at Within old middle new (walked_after Within four_times (size + 16) times_sized w8 old middle mark t last) h in
+        let four = walked_made (regroup four_times (number_at w8) tail_at) (both_at to_mark tail_at) (both_at four_times from_mark) (regrouped four_times (number_at w8) tail_at) Within old new five in
+        let three = walked_made (regroup three_times u32_at from_mark) (both_at four_times from_mark) (both_at three_times from_fourth) (regrouped three_times u32_at from_mark) Within old new four in
+        let two = walked_made (regroup two_times u32_at from_fourth) (both_at three_times from_fourth) (both_at two_times from_third) (regrouped two_times u32_at from_fourth) Within old new three in
+        let one = walked_made (regroup one_time u32_at from_third) (both_at two_times from_third) (both_at one_time from_second) (regrouped one_time u32_at from_third) Within old new two in
+        walked_made (regroup no_times u32_at from_second) (both_at one_time from_second) from_bytes (regrouped no_times u32_at from_second) Within old new one
+
+    times_flat : (old new : Hand) (stop : Stop) → Stopped (both_at to_mark tail_at) Within Lacks old new stop → Stopped from_bytes Within Lacks old new stop
+    times_flat old new stop five =
+        let four = stopped_made (regroup four_times (number_at w8) tail_at) (both_at to_mark tail_at) (both_at four_times from_mark) (regrouped four_times (number_at w8) tail_at) Within Lacks old new stop five in
+        let three = stopped_made (regroup three_times u32_at from_mark) (both_at four_times from_mark) (both_at three_times from_fourth) (regrouped three_times u32_at from_mark) Within Lacks old new stop four in
+        let two = stopped_made (regroup two_times u32_at from_fourth) (both_at three_times from_fourth) (both_at two_times from_third) (regrouped two_times u32_at from_fourth) Within Lacks old new stop three in
+        let one = stopped_made (regroup one_time u32_at from_third) (both_at two_times from_third) (both_at one_time from_second) (regrouped one_time u32_at from_third) Within Lacks old new stop two in
+        stopped_made (regroup no_times u32_at from_second) (both_at one_time from_second) from_bytes (regrouped no_times u32_at from_second) Within Lacks old new stop one
+
+    times_first : (old new : Hand) (stop : Stop) → TookFewer Within Lacks (size + 16 + 1) old new stop → Stopped from_bytes Within Lacks old new stop
+    times_first old new stop t = times_flat old new stop (stopped_one to_mark tail_at Within Lacks old new stop (stopped_sized Within to_mark (size + 16 + 1) mark_sized Lacks old new stop t))
+
+    times_then : (old middle new : Hand) (stop : Stop) → Taken Within (size + 16 + 1) old middle → Stopped tail_at Within Lacks middle new stop → Stopped from_bytes Within Lacks old new stop
+    times_then old middle new stop t h = times_flat old new stop (stopped_other to_mark tail_at Within Lacks old middle new stop (walked_sized Within to_mark (size + 16 + 1) mark_sized old middle t) h)
 
   -- ---- a credential
 
   module _ (layout : Layout) where
-    pub client_then : {T : Type 0} (old middle new : AtHand S) (result : Result T Stop) → Walks name_bytes FitsName left old middle → IsWalk from_server (FitsKeyed layout) left middle new result → IsWalk whole (FitsKeyed layout) left old new result
-    client_then old middle new result w h = part_then left name_bytes FitsName (λ (c : Marked). c.credential.client) from_server (FitsKeyed layout) (λ c p. p.0.client) old middle new result w h
+    abbrev second_at : Place → Option (List ℕ × Place)
+    second_at = bytes_at (second_size layout)
 
-    pub client_first : (old new : AtHand S) (stop : Stop) → Halts name_bytes FitsName left old new stop → Halts whole (FitsKeyed layout) left old new stop
-    client_first old new stop h = part_first left name_bytes FitsName (λ (c : Marked). c.credential.client) from_server (FitsKeyed layout) (λ c p. p.0.client) old new stop h
+    abbrev etypes_at : Place → Option ((ℤ × List ℕ) × Place)
+    etypes_at = both_at (signed_at w16) second_at
 
-    pub server_then : {T : Type 0} (old middle new : AtHand S) (result : Result T Stop) → Walks name_bytes FitsName left old middle → IsWalk from_key (FitsKeyed layout) left middle new result → IsWalk from_server (FitsKeyed layout) left old new result
-    server_then old middle new result w h = part_then left name_bytes FitsName (λ (c : Marked). c.credential.server) from_key (FitsKeyed layout) (λ c p. p.0.server) old middle new result w h
+    abbrev Key : Type 0
+    Key = List ℕ × (ℕ × (ℕ × (ℕ × (ℕ × (ℕ × (ℕ × (List TypedBytes × (List TypedBytes × (List ℕ × List ℕ)))))))))
 
-    pub server_first : (old new : AtHand S) (stop : Stop) → Halts name_bytes FitsName left old new stop → Halts from_server (FitsKeyed layout) left old new stop
-    server_first old new stop h = part_first left name_bytes FitsName (λ (c : Marked). c.credential.server) from_key (FitsKeyed layout) (λ c p. p.0.server) old new stop h
+    abbrev from_key : Place → Option (Key × Place)
+    from_key = both_at (data_at w32) from_times
 
-    pub etype_then : {T : Type 0} (old middle new : AtHand S) (result : Result T Stop) → Of (2 + second_size layout) old middle → IsWalk from_data FitsMarked left middle new result → IsWalk from_key (FitsKeyed layout) left old new result
-    etype_then old middle new result w h =
-        walk_same left (λ (c : Marked). etypes c ++ from_data c) from_key (FitsKeyed layout) etypes_joined old new result
-        (part_then left (λ (x : List ℕ). x) (λ (x : List ℕ). length x ≡ 2 + second_size layout) etypes from_data (FitsKeyed layout) (etypes_length layout) old middle new result w
-        (walk_of left from_data FitsMarked (λ (c : Marked). c) (FitsKeyed layout) (λ c p. p.0) middle new result h))
+    abbrev from_etype : Place → Option ((ℤ × (List ℕ × Key)) × Place)
+    from_etype = both_at (signed_at w16) (both_at second_at from_key)
 
-    pub etype_first : (old new : AtHand S) (stop : Stop) → HaltOf (2 + second_size layout) old new stop → Halts from_key (FitsKeyed layout) left old new stop
-    etype_first old new stop h =
-        halts_same left (λ (c : Marked). etypes c ++ from_data c) from_key (FitsKeyed layout) etypes_joined old new stop
-        (part_first left (λ (x : List ℕ). x) (λ (x : List ℕ). length x ≡ 2 + second_size layout) etypes from_data (FitsKeyed layout) (etypes_length layout) old new stop h)
+    abbrev from_server : Place → Option ((Principal × (ℤ × (List ℕ × Key))) × Place)
+    from_server = both_at name_at from_etype
 
-  pub key_then : {T : Type 0} (old middle new : AtHand S) (result : Result T Stop) → Walks (data_bytes w32) Short32 left old middle → IsWalk from_times FitsMarked left middle new result → IsWalk from_data FitsMarked left old new result
-  key_then old middle new result w h = part_then left (data_bytes w32) Short32 (λ (c : Marked). c.credential.key) from_times FitsMarked (λ c p. p.key) old middle new result w h
+    etypes_sized : Sized etypes_at (2 + second_size layout)
+    etypes_sized = sized_both (signed_at w16) second_at 2 (second_size layout) (sized_signed w16) (sized_bytes (second_size layout))
 
-  pub key_first : (old new : AtHand S) (stop : Stop) → Halts (data_bytes w32) Short32 left old new stop → Halts from_data FitsMarked left old new stop
-  key_first old new stop h = part_first left (data_bytes w32) Short32 (λ (c : Marked). c.credential.key) from_times FitsMarked (λ c p. p.key) old new stop h
+    abbrev to_length : Place → Option (((ℤ × List ℕ) × ℕ) × Place)
+    to_length = both_at etypes_at (number_at w32)
 
-  pub addresses_then : {T : Type 0} (old middle new : AtHand S) (result : Result T Stop) → Walks list_bytes FitsList left old middle → IsWalk from_authdata FitsMarked left middle new result → IsWalk from_addresses FitsMarked left old new result
-  addresses_then old middle new result w h = part_then left list_bytes FitsList (λ (c : Marked). c.credential.addresses) from_authdata FitsMarked (λ c p. p.addresses) old middle new result w h
+    abbrev from_length_of : (ℤ × List ℕ) × ℕ → Place → Option (((ℤ × List ℕ) × Key) × Place)
+    from_length_of p = made_at (λ (key : Key). (p.0, key)) (from_bytes p.1)
 
-  pub addresses_first : (old new : AtHand S) (stop : Stop) → Halts list_bytes FitsList left old new stop → Halts from_addresses FitsMarked left old new stop
-  addresses_first old new stop h = part_first left list_bytes FitsList (λ (c : Marked). c.credential.addresses) from_authdata FitsMarked (λ c p. p.addresses) old new stop h
+    abbrev same_parts : (ℤ × List ℕ) × Key → (ℤ × List ℕ) × Key
+    same_parts p = p
 
-  pub authdata_then : {T : Type 0} (old middle new : AtHand S) (result : Result T Stop) → Walks list_bytes FitsList left old middle → IsWalk from_ticket FitsMarked left middle new result → IsWalk from_authdata FitsMarked left old new result
-  authdata_then old middle new result w h = part_then left list_bytes FitsList (λ (c : Marked). c.credential.authdata) from_ticket FitsMarked (λ c p. p.authdata) old middle new result w h
+    with_number : (etypes : ℤ × List ℕ) (o : Option (ℕ × Place)) → pair_with etypes ((o >>= λ size. bytes_at size.0 size.1) >>= λ key. pair_with key.0 (from_times key.1)) ≡ (pair_with etypes o >>= λ p. from_length_of p.0 p.1)
+    with_number etypes None = refl
+    with_number etypes (Some size) = refl
 
-  pub authdata_first : (old new : AtHand S) (stop : Stop) → Halts list_bytes FitsList left old new stop → Halts from_authdata FitsMarked left old new stop
-  authdata_first old new stop h = part_first left list_bytes FitsList (λ (c : Marked). c.credential.authdata) from_ticket FitsMarked (λ c p. p.authdata) old new stop h
+    with_etypes : (o : Option ((ℤ × List ℕ) × Place)) → (o >>= λ etypes. pair_with etypes.0 (from_key etypes.1)) ≡ ((o >>= λ etypes. pair_with etypes.0 (number_at w32 etypes.1)) >>= λ p. from_length_of p.0 p.1)
+    unfolding data_at
+    with_etypes None = refl
+    with_etypes (Some etypes) = with_number etypes.0 (number_at w32 etypes.1)
 
-  pub ticket_then : {T : Type 0} (old middle new : AtHand S) (result : Result T Stop) → Walks (data_bytes w32) Short32 left old middle → IsWalk (data_bytes w32) Short32 left middle new result → IsWalk from_ticket FitsMarked left old new result
-  ticket_then old middle new result w h =
-      part_then left (data_bytes w32) Short32 (λ (c : Marked). c.credential.ticket) second_of FitsMarked (λ c p. p.ticket) old middle new result w
-      (walk_of left (data_bytes w32) Short32 (λ (c : Marked). c.credential.second_ticket) FitsMarked (λ c p. p.second_ticket) middle new result h)
+    key_parts : (place : Place) → both_at etypes_at from_key place ≡ made_at same_parts (bound to_length from_length_of) place
+    key_parts place = with_etypes (etypes_at place) ∙ again (bound to_length from_length_of place)
+      where
+        again : (o : Option (((ℤ × List ℕ) × Key) × Place)) → o ≡ (o >>= λ p. Some (same_parts p.0, p.1))
+        again None = refl
+        again (Some p) = refl
 
-  pub ticket_first : (old new : AtHand S) (stop : Stop) → Halts (data_bytes w32) Short32 left old new stop → Halts from_ticket FitsMarked left old new stop
-  ticket_first old new stop h = part_first left (data_bytes w32) Short32 (λ (c : Marked). c.credential.ticket) second_of FitsMarked (λ c p. p.ticket) old new stop h
+    abbrev length_walked : (old new : Hand) (size : ℕ) → Taken Within (2 + second_size layout + 4) old new → size ≡ last_number w32 (2 + second_size layout) old.bytes new.bytes → Walked to_length Within old new
+    length_walked old new size t last = walked_after Within etypes_at (2 + second_size layout) etypes_sized w32 old new size t last
 
-  pub times_then : {T : Type 0} (old middle new : AtHand S) (result : Result T Stop) → Of 21 old middle → IsWalk from_addresses FitsMarked left middle new result → IsWalk from_times FitsMarked left old new result
-  times_then old middle new result w h =
-      walk_same left (λ (c : Marked). times c ++ from_addresses c) from_times FitsMarked times_joined old new result
-      (part_then left (λ (x : List ℕ). x) (λ (x : List ℕ). length x ≡ 21) times from_addresses FitsMarked (λ c p. times_length c) old middle new result w h)
+    abbrev etypes_walked : (old middle new : Hand) (w : Walked to_length Within old middle) → Walked (from_bytes w.thing.1) Within middle new → Walked from_etype Within old new
+    etypes_walked old middle new w h =
+        walked_made (regroup (signed_at w16) second_at from_key) (both_at etypes_at from_key) from_etype (regrouped (signed_at w16) second_at from_key) Within old new
+        (walked_made same_parts (bound to_length from_length_of) (both_at etypes_at from_key) key_parts Within old new
+        (walked_bound to_length from_length_of Within old middle new w
+        (walked_made (λ (key : Key). (w.thing.0, key)) (from_bytes w.thing.1) (from_length_of w.thing) (λ place. refl) Within middle new h)))
 
-  pub times_first : (old new : AtHand S) (stop : Stop) → HaltOf 21 old new stop → Halts from_times FitsMarked left old new stop
-  times_first old new stop h =
-      halts_same left (λ (c : Marked). times c ++ from_addresses c) from_times FitsMarked times_joined old new stop
-      (part_first left (λ (x : List ℕ). x) (λ (x : List ℕ). length x ≡ 21) times from_addresses FitsMarked (λ c p. times_length c) old new stop h)
+    etypes_flat : (old new : Hand) (stop : Stop) → Stopped (bound to_length from_length_of) Within Lacks old new stop → Stopped from_etype Within Lacks old new stop
+    etypes_flat old new stop h =
+        stopped_made (regroup (signed_at w16) second_at from_key) (both_at etypes_at from_key) from_etype (regrouped (signed_at w16) second_at from_key) Within Lacks old new stop
+        (stopped_made same_parts (bound to_length from_length_of) (both_at etypes_at from_key) key_parts Within Lacks old new stop h)
 
-  -- ---- a credential is one with the byte of its `is_skey`
+    pub one_walked : (old a b c d new : Hand) (size mark : ℕ) → Walked name_at Within old a → Walked name_at Within a b → Taken Within (2 + second_size layout + 4) b c → size ≡ last_number w32 (2 + second_size layout) b.bytes c.bytes → Taken Within (size + 16 + 1) c d
+        → mark ≡ last_number w8 (size + 16) c.bytes d.bytes → Walked tail_at Within d new → WalkedOne layout Within old new mark
+    one_walked old a b c d new size mark client server etypes size_is times last tail =
+        let served = walked_both name_at from_etype Within a b new server (etypes_walked b c new (length_walked b c size etypes size_is) (times_walked size c d new mark times last tail)) in
+        record { walked = walked_both name_at from_server Within old a new client served; mark_is = refl }
 
-  module _ (layout : Layout) where
-    marked_is : (one : Spelled) (h : Spells layout one) (bytes more others : List ℕ) → bytes ++ more ≡ one.bytes ++ others → bytes ++ more ≡ whole (marked_of one.credential h.second) ++ others
-    marked_is one h bytes more others e = e ∙ ap (λ (t : List ℕ). t ++ others) (h.bytes_are ∙ mark_is one.credential h.second)
+    pub client_stops : (old new : Hand) (stop : Stop) → Stopped name_at Within Lacks old new stop → Stopped (marked_at layout) Within Lacks old new stop
+    client_stops old new stop h = stopped_one name_at from_server Within Lacks old new stop h
 
-    marked_length : (one : Spelled) (h : Spells layout one) → length one.bytes ≡ length (whole (marked_of one.credential h.second))
-    marked_length one h = ap length (h.bytes_are ∙ mark_is one.credential h.second)
+    module _ (old a new : Hand) (stop : Stop) (client : Walked name_at Within old a) where
+      pub server_stops : Stopped name_at Within Lacks a new stop → Stopped (marked_at layout) Within Lacks old new stop
+      server_stops h = stopped_other name_at from_server Within Lacks old a new stop client (stopped_one name_at from_etype Within Lacks a new stop h)
 
-    pub unmarked_walks : (old new : AtHand S) → Walks whole (FitsKeyed layout) left old new → Walks bytes_of (Spells layout) left old new
-    unmarked_walks old new w = record {
-      piece = w.piece;
-      keeps = w.keeps;
-      within = w.within;
-      spans = λ one more others h e. marked_length one h ∙ w.spans (marked_of one.credential h.second) more others (h.fits, h.size) (marked_is one h w.piece more others e);
-    }
+      module _ (b : Hand) (server : Walked name_at Within a b) where
+        served : Stopped from_etype Within Lacks b new stop → Stopped (marked_at layout) Within Lacks old new stop
+        served h = stopped_other name_at from_server Within Lacks old a new stop client (stopped_other name_at from_etype Within Lacks a b new stop server h)
 
-    pub unmarked_halts : (old new : AtHand S) (stop : Stop) → Halts whole (FitsKeyed layout) left old new stop → Halts bytes_of (Spells layout) left old new stop
-    unmarked_halts old new stop w = record {
-      piece = w.piece;
-      keeps = w.keeps;
-      within = w.within;
-      count = w.count;
-      wants = λ one more others h e. omega (arith, marked_length one h, w.wants (marked_of one.credential h.second) more others (h.fits, h.size) (marked_is one h w.piece more others e));
-      cant_come = w.cant_come;
-    }
+        pub length_stops : TookFewer Within Lacks (2 + second_size layout + 4) b new stop → Stopped (marked_at layout) Within Lacks old new stop
+        length_stops t =
+            served (etypes_flat b new stop
+            (stopped_first to_length from_length_of Within Lacks b new stop
+            (stopped_sized Within to_length (2 + second_size layout + 4) (sized_both etypes_at (number_at w32) (2 + second_size layout) 4 etypes_sized (sized_number w32)) Lacks b new stop t)))
+
+        module _ (c : Hand) (size : ℕ) (etypes : Taken Within (2 + second_size layout + 4) b c) (size_is : size ≡ last_number w32 (2 + second_size layout) b.bytes c.bytes) where
+          timed : Stopped (from_bytes size) Within Lacks c new stop → Stopped (marked_at layout) Within Lacks old new stop
+          timed h =
+              let w = length_walked b c size etypes size_is in
+              served (etypes_flat b new stop
+              (stopped_bound to_length from_length_of Within Lacks b c new stop w (stopped_made (λ (key : Key). (w.thing.0, key)) (from_bytes size) (from_length_of w.thing) (λ place. refl) Within Lacks c new stop h)))
+
+          pub mark_stops : TookFewer Within Lacks (size + 16 + 1) c new stop → Stopped (marked_at layout) Within Lacks old new stop
+          mark_stops t = timed (times_first size c new stop t)
+
+          pub tail_stops : (d : Hand) → Taken Within (size + 16 + 1) c d → Stopped tail_at Within Lacks d new stop → Stopped (marked_at layout) Within Lacks old new stop
+          tail_stops d times h = timed (times_then size c d new stop times h)

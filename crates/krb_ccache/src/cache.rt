@@ -128,7 +128,8 @@ impl CCache {
     /// # Errors
     /// - `Read`: a read of the source failed. The source's count of failures grew, as it does for
     ///   no other answer.
-    /// - Those of `parse`, for all the bytes that the source still had.
+    /// - Those of `parse`, for all the bytes that the source still had. But `OutOfMemory` may be
+    ///   reported instead of a fault that comes later.
     ///
     /// Source: MIT krb5, "Credential cache file format", versions 3 and 4.
     pub fn read<S: Source>(alloc: Global, source: &mut S) -> Result<CCache, CacheFault>

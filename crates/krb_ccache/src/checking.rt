@@ -2,20 +2,20 @@
 //! of it.
 
 ghost use Rattle.std.specs.Prelude.{◌≡◌, ◌<◌, ◌^◌, List, [], None, OnOk, OnErr, IfErr, length};
-ghost use Rattle.std.specs.Int.{w32};
-ghost use Rattle.krb_name.specs.Cursor.{data_at, times_at};
 ghost use Rattle.krb_name.specs.Field.{IsBytes};
 ghost use Rattle.krb_ccache.specs.declared.credential.HeaderField.{HeaderField as HeaderFieldValue};
 ghost use Rattle.krb_ccache.specs.Spelling.{header_bytes};
 ghost use Rattle.krb_ccache.specs.Value.{Cache, FitsHeader};
 ghost use Rattle.krb_ccache.specs.Format.{head_bytes, FitsHead, Spelled, Spells, IsCache, IsFaultOf};
-ghost use Rattle.krb_ccache.specs.Inner.Reading.{name_at, typed_at, list_at, credential_at};
+ghost use Rattle.krb_ccache.specs.Inner.Reading.{name_at, credential_at};
 ghost use Rattle.krb_ccache.specs.Inner.Standing.{bytes_of, Lies, Reaches, IsMissing, Fills, StopsBy, IsBehind};
 
 use crate::fault::CacheFault;
 use crate::header::{open, read_field};
-use crate::items::read_flag;
+use crate::items::to_flag;
 use crate::layout::Layout;
+use crate::taker::{Passing, Taker};
+use crate::walking::{take_credential, take_name};
 use krb_name::{FileCursor, Short};
 
 /// Returns `Ok` if the bytes are a cache.
@@ -98,77 +98,23 @@ fn check_credentials(layout: Layout, cursor: &mut FileCursor<'_>) -> Result<(), 
 
 // Each call moves past the part that begins here. If there is none, the position is unspecified.
 
-#[tactic(auto, unfolding(crate::specs::Inner::Reading::credential_at))]
-pub(crate) fn skip_credential(layout: Layout, cursor: &mut FileCursor<'_>) -> Result<(), Short>
+fn skip_credential(layout: Layout, cursor: &mut FileCursor<'_>) -> Result<(), Short>
     ensures ok { OnOk result (IsBehind (credential_at layout cursor.old) cursor.new) }
     ensures short { OnErr result (credential_at layout cursor.old ≡ None) }
 {
-    skip_name(cursor)?;
-    skip_name(cursor)?;
-    cursor.read_i16()?;
-    cursor.read_bytes(layout.second_size())?;
-    cursor.read_data32()?;
-    cursor.read_u32()?;
-    cursor.read_u32()?;
-    cursor.read_u32()?;
-    cursor.read_u32()?;
-    read_flag(cursor)?;
-    cursor.read_u32()?;
-    skip_list(cursor)?;
-    skip_list(cursor)?;
-    cursor.read_data32()?;
-    cursor.read_data32()?;
+    let mut passing = Passing::new(cursor.rest());
+    let mark = take_credential(layout, &mut passing)?;
+    to_flag(mark)?;
+    cursor.read_bytes(passing.taken().len())?;
     Ok(())
 }
 
-#[tactic(auto, unfolding(crate::specs::Inner::Reading::name_at))]
 fn skip_name(cursor: &mut FileCursor<'_>) -> Result<(), Short>
     ensures ok { OnOk result (IsBehind (name_at cursor.old) cursor.new) }
     ensures short { OnErr result (name_at cursor.old ≡ None) }
 {
-    cursor.read_i32()?;
-    let count = cursor.read_u32()?;
-    cursor.read_data32()?;
-    skip_components(cursor, count)?;
-    Ok(())
-}
-
-fn skip_components(cursor: &mut FileCursor<'_>, count: u32) -> Result<(), Short>
-    ensures ok { OnOk result (IsBehind (times_at (data_at w32) count cursor.old) cursor.new) }
-    ensures short { OnErr result (times_at (data_at w32) count cursor.old ≡ None) }
-{
-    for _ in 0..count {
-        cursor.read_data32()?;
-    }
-    Ok(())
-}
-
-#[tactic(auto, unfolding(crate::specs::Inner::Reading::list_at))]
-fn skip_list(cursor: &mut FileCursor<'_>) -> Result<(), Short>
-    ensures ok { OnOk result (IsBehind (list_at cursor.old) cursor.new) }
-    ensures short { OnErr result (list_at cursor.old ≡ None) }
-{
-    let count = cursor.read_u32()?;
-    skip_elements(cursor, count)?;
-    Ok(())
-}
-
-fn skip_elements(cursor: &mut FileCursor<'_>, count: u32) -> Result<(), Short>
-    ensures ok { OnOk result (IsBehind (times_at typed_at count cursor.old) cursor.new) }
-    ensures short { OnErr result (times_at typed_at count cursor.old ≡ None) }
-{
-    for _ in 0..count {
-        skip_typed(cursor)?;
-    }
-    Ok(())
-}
-
-#[tactic(auto, unfolding(crate::specs::Inner::Reading::typed_at))]
-fn skip_typed(cursor: &mut FileCursor<'_>) -> Result<(), Short>
-    ensures ok { OnOk result (IsBehind (typed_at cursor.old) cursor.new) }
-    ensures short { OnErr result (typed_at cursor.old ≡ None) }
-{
-    cursor.read_u16()?;
-    cursor.read_data32()?;
+    let mut passing = Passing::new(cursor.rest());
+    take_name(&mut passing)?;
+    cursor.read_bytes(passing.taken().len())?;
     Ok(())
 }

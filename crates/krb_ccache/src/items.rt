@@ -3,7 +3,7 @@
 ghost use Rattle.std.specs.Prelude.{◌≡◌, None, Some, IfOk, OnErr};
 ghost use Rattle.std.specs.Int.{w32};
 ghost use Rattle.krb_name.specs.Cursor.{data_at, times_at};
-ghost use Rattle.krb_ccache.specs.Inner.Reading.{name_at, flag_at, typed_at, list_at, credential_at};
+ghost use Rattle.krb_ccache.specs.Inner.Reading.{name_at, flag_of, flag_at, typed_at, list_at, credential_at};
 
 use crate::credential::Credential;
 use crate::item_fault::ItemFault;
@@ -57,11 +57,19 @@ fn read_components(
 }
 
 #[tactic(auto, unfolding(crate::specs::Inner::Reading::flag_at))]
-pub(crate) fn read_flag(cursor: &mut FileCursor<'_>) -> Result<bool, Short>
+fn read_flag(cursor: &mut FileCursor<'_>) -> Result<bool, Short>
     ensures read { IfOk result (λ flag. flag_at cursor.old ≡ Some (flag, cursor.new)) }
     ensures short { OnErr result (flag_at cursor.old ≡ None) }
 {
-    match cursor.read_u8()? {
+    to_flag(cursor.read_u8()?)
+}
+
+/// Returns the flag that a byte is.
+pub(crate) fn to_flag(byte: u8) -> Result<bool, Short>
+    ensures flag { IfOk result (λ flag. flag_of byte ≡ Some flag) }
+    ensures short { OnErr result (flag_of byte ≡ None) }
+{
+    match byte {
         0 => Ok(false),
         1 => Ok(true),
         _ => Err(Short),

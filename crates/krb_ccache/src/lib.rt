@@ -34,6 +34,7 @@ mod layout;
 mod reader;
 mod room;
 mod stepping;
+mod taker;
 mod typed;
 mod walking;
 mod writing;

@@ -12,17 +12,17 @@ ghost use Rattle.krb_ccache.specs.declared.credential.Credential.{Credential as 
 ghost use Rattle.krb_ccache.specs.declared.credential.HeaderField.{HeaderField as HeaderFieldValue};
 ghost use Rattle.krb_ccache.specs.declared.fault.CacheFault.TheVariants.{Version, Header, BadItem};
 ghost use Rattle.krb_ccache.specs.Inner.Standing.{bytes_of, IsMissing};
-ghost use Rattle.krb_ccache.specs.Inner.Walking.{Halts, stop_reads, stopped_reads};
+ghost use Rattle.krb_ccache.specs.Inner.Walking.{Halts, IsMarked, stop_reads, stopped_reads};
 ghost use Rattle.krb_ccache.specs.Inner.Stepping.{Stands, cleared, Any, Comes, IsTold, Misses, IsStep, IsAtHand};
 
-use crate::checking::skip_credential;
 use crate::credential::{Credential, HeaderField};
 use crate::fault::CacheFault;
 use crate::header::read_header;
 use crate::item_fault::ItemFault;
-use crate::items::{read_credential, read_name};
+use crate::items::{read_credential, read_name, to_flag};
 use crate::layout::{Layout, read_layout};
-use crate::walking::{Stop, take, take_credential, take_header, take_name};
+use crate::taker::Taker;
+use crate::walking::{Stop, take_credential, take_header, take_name};
 use krb_name::{FILE_LIMIT, FileCursor, Principal, Short, Source, Window};
 use std::alloc::{AllocError, Global};
 
@@ -76,14 +76,15 @@ fn name_of(alloc: Global, bytes: &[u8]) -> Result<Principal, ItemFault>
     read_name(alloc, &mut cursor)
 }
 
-// Whether a credential is at the front of the bytes.
-fn has_credential(layout: Layout, bytes: &[u8]) -> Result<(), Short>
+// Whether the bytes of a credential are one, with this byte for `is_skey`.
+fn has_credential(layout: Layout, bytes: &[u8], mark: u8) -> Result<(), Short>
+    requires { IsMarked layout bytes.now mark }
     ensures found { OnOk result ((one : Spelled)
         × Stands bytes_of (Spells layout) bytes.now one) }
     ensures missing { OnErr result (IsMissing bytes_of (Spells layout) bytes.now) }
 {
-    let mut cursor = FileCursor::new(bytes);
-    skip_credential(layout, &mut cursor)
+    to_flag(mark)?;
+    Ok(())
 }
 
 // Makes the credential that is at the front of the bytes.
@@ -112,7 +113,7 @@ fn come_version<S: Source>(window: &mut Window<S>) -> Result<Layout, Stop>
     ensures lent { S.lender window.new.source ≡ S.lender window.old.source }
 {
     window.clear();
-    take(window, 2)?;
+    window.take(2)?;
     match layout_of(window.bytes()) {
         Ok(layout) => Ok(layout),
         Err(Short) => Err(Stop::Long),
@@ -192,8 +193,8 @@ fn come_past<S: Source>(layout: Layout, window: &mut Window<S>) -> Result<(), St
     ensures lent { S.lender window.new.source ≡ S.lender window.old.source }
 {
     window.clear();
-    take_credential(layout, window)?;
-    match has_credential(layout, window.bytes()) {
+    let mark = take_credential(layout, window)?;
+    match has_credential(layout, window.bytes(), mark) {
         Ok(()) => Ok(()),
         Err(Short) => Err(Stop::Long),
     }

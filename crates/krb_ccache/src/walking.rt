@@ -1,25 +1,29 @@
-//! Reading as many bytes of a source as a part of a cache has, by its lengths and counts as they
-//! come. What the bytes mean doesn't matter here.
+//! Taking as many bytes as a part of a cache has, by its lengths and counts as they come. What the
+//! bytes mean doesn't matter here.
 
-ghost use Rattle.std.specs.Prelude.{◌≡◌, ◌+◌, ◌-◌, ◌≤◌, ◌<◌, ◌^◌, ◌++◌, length, drop, IfOk, OnOk};
-ghost use Rattle.std.specs.Int.{w16, w32, from_be_bytes};
-ghost use Rattle.std.specs.List.{flat_map};
-ghost use Rattle.krb_name.specs.Cursor.{data_bytes};
-ghost use Rattle.krb_name.specs.File.{file_limit};
-ghost use Rattle.krb_ccache.specs.Spelling.{header_bytes, name_bytes, typed_bytes, list_bytes};
-ghost use Rattle.krb_ccache.specs.Value.{FitsHeader, FitsName, FitsList};
-ghost use Rattle.krb_ccache.specs.Inner.Walking.{IsWalk, Counted, last_number, stopped_reads, FitsMarked, FitsKeyed, whole, from_key, from_times, from_ticket};
+ghost use Rattle.std.specs.Prelude.{◌≡◌, ◌+◌, ◌-◌, ◌<◌, ◌^◌, length, drop, IfOk, OnOk};
+ghost use Rattle.std.specs.Int.{w8, w16, w32, from_be_bytes};
+ghost use Rattle.krb_name.specs.Cursor.{data_at, times_at};
+ghost use Rattle.krb_ccache.specs.Inner.Reading.{name_at, strings_at, typed_at, list_at, tail_at};
+ghost use Rattle.krb_ccache.specs.Inner.Walking.{IsTaken, IsWalk, IsOneWalk, last_number, stopped_reads};
 
 use crate::layout::Layout;
-use krb_name::{FILE_LIMIT, ReadFault, Source, Window};
+use crate::taker::Taker;
+use krb_name::{ReadFault, Short};
 
-// How many bytes the times of a credential have, with `is_skey` and the flags.
-const TIMES: usize = 4 * 4 + 1 + 4;
+// How many bytes the type of a principal has.
+const NAME_TYPE: usize = 4;
 
-/// Why the bytes of a part weren't read.
+// How many bytes the times of a credential have.
+const TIMES: usize = 4 * 4;
+
+// How many bytes its flags have.
+const FLAGS: usize = 4;
+
+/// Why the bytes of a part weren't taken.
 #[derive(Clone, Copy)]
 pub(crate) enum Stop {
-    /// The source is at its end.
+    /// There are no more.
     End,
     /// They would pass the limit of a file, or aren't those of a part.
     Long,
@@ -42,62 +46,23 @@ impl From<ReadFault> for Stop {
     }
 }
 
-// Each call appends the bytes of a part to those held.
+impl From<Stop> for Short {
+    ghost from_gives = { λ _ _. Unit {0} };
 
-pub(crate) fn take<S: Source>(window: &mut Window<S>, count: usize) -> Result<(), Stop>
-    requires reads { S.failure_count window.old.source < 2 ^ 64 - 1 }
-    requires within { window.old.given ≤ file_limit }
-    ensures walk { IsWalk (λ bytes. bytes) (λ bytes. length bytes ≡ count)
-        S.remaining window.old window.new result }
-    ensures count { OnOk result (length window.new.bytes ≡ length window.old.bytes + count) }
-    ensures failed { S.failure_count window.new.source
-        ≡ S.failure_count window.old.source + stopped_reads result }
-    ensures lent { S.lender window.new.source ≡ S.lender window.old.source }
-{
-    let _held = window.held();
-    if count > FILE_LIMIT - window.given() {
-        return Err(Stop::Long);
-    }
-    match window.fill(count) {
-        Ok(true) => Ok(()),
-        Ok(false) => Err(Stop::End),
-        Err(fault) => Err(Stop::from(fault)),
+    fn from(_: Stop) -> Short {
+        Short
     }
 }
 
-fn take_u16<S: Source>(window: &mut Window<S>) -> Result<u16, Stop>
-    requires reads { S.failure_count window.old.source < 2 ^ 64 - 1 }
-    requires within { window.old.given ≤ file_limit }
-    ensures walk { IsWalk (λ bytes. bytes) (λ bytes. length bytes ≡ 2)
-        S.remaining window.old window.new result }
-    ensures number { IfOk result (λ number.
-        number ≡ last_number w16 window.old.bytes window.new.bytes) }
-    ensures failed { S.failure_count window.new.source
-        ≡ S.failure_count window.old.source + stopped_reads result }
-    ensures lent { S.lender window.new.source ≡ S.lender window.old.source }
-{
-    let at = window.bytes().len();
-    take(window, 2)?;
-    Ok(u16_at(window.bytes(), at))
-}
+// The number at an offset, up to the end.
 
-fn take_u32<S: Source>(window: &mut Window<S>) -> Result<u32, Stop>
-    requires reads { S.failure_count window.old.source < 2 ^ 64 - 1 }
-    requires within { window.old.given ≤ file_limit }
-    ensures walk { IsWalk (λ bytes. bytes) (λ bytes. length bytes ≡ 4)
-        S.remaining window.old window.new result }
-    ensures number { IfOk result (λ number.
-        number ≡ last_number w32 window.old.bytes window.new.bytes) }
-    ensures failed { S.failure_count window.new.source
-        ≡ S.failure_count window.old.source + stopped_reads result }
-    ensures lent { S.lender window.new.source ≡ S.lender window.old.source }
+fn u8_at(bytes: &[u8], at: usize) -> u8
+    requires { length bytes.now ≡ at + 1 }
+    ensures { result ≡ from_be_bytes w8 (drop at bytes.now) }
 {
-    let at = window.bytes().len();
-    take(window, 4)?;
-    Ok(u32_at(window.bytes(), at))
+    let last = &bytes[at..];
+    u8::from_be_bytes([last[0]])
 }
-
-// The number that stands at an offset, up to the end.
 
 fn u16_at(bytes: &[u8], at: usize) -> u16
     requires { length bytes.now ≡ at + 2 }
@@ -115,157 +80,166 @@ fn u32_at(bytes: &[u8], at: usize) -> u32
     u32::from_be_bytes([last[0], last[1], last[2], last[3]])
 }
 
-fn take_data<S: Source>(window: &mut Window<S>) -> Result<(), Stop>
-    requires reads { S.failure_count window.old.source < 2 ^ 64 - 1 }
-    requires within { window.old.given ≤ file_limit }
-    ensures walk { IsWalk (data_bytes w32) (λ bytes. length bytes < 2 ^ 32)
-        S.remaining window.old window.new result }
-    ensures failed { S.failure_count window.new.source
-        ≡ S.failure_count window.old.source + stopped_reads result }
-    ensures lent { S.lender window.new.source ≡ S.lender window.old.source }
+// Each call takes so many bytes and a number after them, or the bytes of a part.
+
+fn take_u8<T: Taker>(taker: &mut T, skip: usize) -> Result<u8, Stop>
+    requires few { skip < 2 ^ 33 }
+    requires reads { T.failures taker.old < 2 ^ 64 - 1 }
+    requires within { T.Within (T.hand taker.old) }
+    ensures taken { IsTaken T.Within T.Lacks (skip + 1) (T.hand taker.old) (T.hand taker.new) result }
+    ensures number { IfOk result (λ number.
+        number ≡ last_number w8 skip (T.hand taker.old).bytes (T.hand taker.new).bytes) }
+    ensures failed { T.failures taker.new ≡ T.failures taker.old + stopped_reads result }
+    ensures lent { T.lender taker.new ≡ T.lender taker.old }
 {
-    let count = take_u32(window)?;
-    take(window, count as usize)
+    let at = taker.taken().len();
+    taker.take(skip + 1)?;
+    Ok(u8_at(taker.taken(), at + skip))
 }
 
-pub(crate) fn take_header<S: Source>(window: &mut Window<S>) -> Result<(), Stop>
-    requires reads { S.failure_count window.old.source < 2 ^ 64 - 1 }
-    requires within { window.old.given ≤ file_limit }
-    ensures walk { IsWalk header_bytes FitsHeader
-        S.remaining window.old window.new result }
-    ensures failed { S.failure_count window.new.source
-        ≡ S.failure_count window.old.source + stopped_reads result }
-    ensures lent { S.lender window.new.source ≡ S.lender window.old.source }
+fn take_u16<T: Taker>(taker: &mut T, skip: usize) -> Result<u16, Stop>
+    requires few { skip < 2 ^ 33 }
+    requires reads { T.failures taker.old < 2 ^ 64 - 1 }
+    requires within { T.Within (T.hand taker.old) }
+    ensures taken { IsTaken T.Within T.Lacks (skip + 2) (T.hand taker.old) (T.hand taker.new) result }
+    ensures number { IfOk result (λ number.
+        number ≡ last_number w16 skip (T.hand taker.old).bytes (T.hand taker.new).bytes) }
+    ensures failed { T.failures taker.new ≡ T.failures taker.old + stopped_reads result }
+    ensures lent { T.lender taker.new ≡ T.lender taker.old }
 {
-    let count = take_u16(window)?;
-    take(window, usize::from(count))
+    let at = taker.taken().len();
+    taker.take(skip + 2)?;
+    Ok(u16_at(taker.taken(), at + skip))
 }
 
-pub(crate) fn take_name<S: Source>(window: &mut Window<S>) -> Result<(), Stop>
-    requires reads { S.failure_count window.old.source < 2 ^ 64 - 1 }
-    requires within { window.old.given ≤ file_limit }
-    ensures walk { IsWalk name_bytes FitsName
-        S.remaining window.old window.new result }
-    ensures failed { S.failure_count window.new.source
-        ≡ S.failure_count window.old.source + stopped_reads result }
-    ensures lent { S.lender window.new.source ≡ S.lender window.old.source }
+fn take_u32<T: Taker>(taker: &mut T, skip: usize) -> Result<u32, Stop>
+    requires few { skip < 2 ^ 33 }
+    requires reads { T.failures taker.old < 2 ^ 64 - 1 }
+    requires within { T.Within (T.hand taker.old) }
+    ensures taken { IsTaken T.Within T.Lacks (skip + 4) (T.hand taker.old) (T.hand taker.new) result }
+    ensures number { IfOk result (λ number.
+        number ≡ last_number w32 skip (T.hand taker.old).bytes (T.hand taker.new).bytes) }
+    ensures failed { T.failures taker.new ≡ T.failures taker.old + stopped_reads result }
+    ensures lent { T.lender taker.new ≡ T.lender taker.old }
 {
-    take(window, 4)?;
-    let count = take_u32(window)?;
-    take_data(window)?;
-    take_components(window, count)
+    let at = taker.taken().len();
+    taker.take(skip + 4)?;
+    Ok(u32_at(taker.taken(), at + skip))
 }
 
-fn take_components<S: Source>(window: &mut Window<S>, count: u32) -> Result<(), Stop>
-    requires reads { S.failure_count window.old.source < 2 ^ 64 - 1 }
-    requires within { window.old.given ≤ file_limit }
-    ensures walk { IsWalk (flat_map (data_bytes w32)) (Counted (λ bytes. length bytes < 2 ^ 32) count)
-        S.remaining window.old window.new result }
-    ensures failed { S.failure_count window.new.source
-        ≡ S.failure_count window.old.source + stopped_reads result }
-    ensures lent { S.lender window.new.source ≡ S.lender window.old.source }
+fn take_data<T: Taker>(taker: &mut T) -> Result<(), Stop>
+    requires reads { T.failures taker.old < 2 ^ 64 - 1 }
+    requires within { T.Within (T.hand taker.old) }
+    ensures walk { IsWalk (data_at w32) T.Within T.Lacks (T.hand taker.old) (T.hand taker.new) result }
+    ensures failed { T.failures taker.new ≡ T.failures taker.old + stopped_reads result }
+    ensures lent { T.lender taker.new ≡ T.lender taker.old }
 {
-    let _held = window.held();
+    let count = take_u32(taker, 0)?;
+    taker.take(count as usize)
+}
+
+pub(crate) fn take_header<T: Taker>(taker: &mut T) -> Result<(), Stop>
+    requires reads { T.failures taker.old < 2 ^ 64 - 1 }
+    requires within { T.Within (T.hand taker.old) }
+    ensures walk { IsWalk (data_at w16) T.Within T.Lacks (T.hand taker.old) (T.hand taker.new) result }
+    ensures failed { T.failures taker.new ≡ T.failures taker.old + stopped_reads result }
+    ensures lent { T.lender taker.new ≡ T.lender taker.old }
+{
+    let count = take_u16(taker, 0)?;
+    taker.take(usize::from(count))
+}
+
+pub(crate) fn take_name<T: Taker>(taker: &mut T) -> Result<(), Stop>
+    requires reads { T.failures taker.old < 2 ^ 64 - 1 }
+    requires within { T.Within (T.hand taker.old) }
+    ensures walk { IsWalk name_at T.Within T.Lacks (T.hand taker.old) (T.hand taker.new) result }
+    ensures failed { T.failures taker.new ≡ T.failures taker.old + stopped_reads result }
+    ensures lent { T.lender taker.new ≡ T.lender taker.old }
+{
+    let count = take_u32(taker, NAME_TYPE)?;
+    let length = take_u32(taker, 0)?;
+    take_strings(taker, length, count)
+}
+
+// Bytes of this length, and then so many with a length of their own.
+fn take_strings<T: Taker>(taker: &mut T, length: u32, count: u32) -> Result<(), Stop>
+    requires reads { T.failures taker.old < 2 ^ 64 - 1 }
+    requires within { T.Within (T.hand taker.old) }
+    ensures walk { IsWalk (strings_at length count) T.Within T.Lacks (T.hand taker.old) (T.hand taker.new) result }
+    ensures failed { T.failures taker.new ≡ T.failures taker.old + stopped_reads result }
+    ensures lent { T.lender taker.new ≡ T.lender taker.old }
+{
+    let _taken = taker.taken();
+    let mut last = length;
     for _ in 0..count {
-        take_data(window)?;
+        last = take_u32(taker, last as usize)?;
+    }
+    taker.take(last as usize)
+}
+
+fn take_typed<T: Taker>(taker: &mut T) -> Result<(), Stop>
+    requires reads { T.failures taker.old < 2 ^ 64 - 1 }
+    requires within { T.Within (T.hand taker.old) }
+    ensures walk { IsWalk typed_at T.Within T.Lacks (T.hand taker.old) (T.hand taker.new) result }
+    ensures failed { T.failures taker.new ≡ T.failures taker.old + stopped_reads result }
+    ensures lent { T.lender taker.new ≡ T.lender taker.old }
+{
+    taker.take(2)?;
+    take_data(taker)
+}
+
+fn take_list<T: Taker>(taker: &mut T) -> Result<(), Stop>
+    requires reads { T.failures taker.old < 2 ^ 64 - 1 }
+    requires within { T.Within (T.hand taker.old) }
+    ensures walk { IsWalk list_at T.Within T.Lacks (T.hand taker.old) (T.hand taker.new) result }
+    ensures failed { T.failures taker.new ≡ T.failures taker.old + stopped_reads result }
+    ensures lent { T.lender taker.new ≡ T.lender taker.old }
+{
+    let count = take_u32(taker, 0)?;
+    take_elements(taker, count)
+}
+
+fn take_elements<T: Taker>(taker: &mut T, count: u32) -> Result<(), Stop>
+    requires reads { T.failures taker.old < 2 ^ 64 - 1 }
+    requires within { T.Within (T.hand taker.old) }
+    ensures walk { IsWalk (times_at typed_at count) T.Within T.Lacks (T.hand taker.old) (T.hand taker.new) result }
+    ensures failed { T.failures taker.new ≡ T.failures taker.old + stopped_reads result }
+    ensures lent { T.lender taker.new ≡ T.lender taker.old }
+{
+    let _taken = taker.taken();
+    for _ in 0..count {
+        take_typed(taker)?;
     }
     Ok(())
 }
 
-fn take_typed<S: Source>(window: &mut Window<S>) -> Result<(), Stop>
-    requires reads { S.failure_count window.old.source < 2 ^ 64 - 1 }
-    requires within { window.old.given ≤ file_limit }
-    ensures walk { IsWalk typed_bytes (λ element. length element.bytes < 2 ^ 32)
-        S.remaining window.old window.new result }
-    ensures failed { S.failure_count window.new.source
-        ≡ S.failure_count window.old.source + stopped_reads result }
-    ensures lent { S.lender window.new.source ≡ S.lender window.old.source }
+// Returns the byte that `is_skey` has.
+pub(crate) fn take_credential<T: Taker>(layout: Layout, taker: &mut T) -> Result<u8, Stop>
+    requires reads { T.failures taker.old < 2 ^ 64 - 1 }
+    requires within { T.Within (T.hand taker.old) }
+    ensures walk { IsOneWalk layout T.Within T.Lacks (T.hand taker.old) (T.hand taker.new) result }
+    ensures failed { T.failures taker.new ≡ T.failures taker.old + stopped_reads result }
+    ensures lent { T.lender taker.new ≡ T.lender taker.old }
 {
-    take(window, 2)?;
-    take_data(window)
+    take_name(taker)?;
+    take_name(taker)?;
+    let length = take_u32(taker, 2 + layout.second_size())?;
+    let mark = take_u8(taker, length as usize + TIMES)?;
+    take_tail(taker)?;
+    Ok(mark)
 }
 
-fn take_list<S: Source>(window: &mut Window<S>) -> Result<(), Stop>
-    requires reads { S.failure_count window.old.source < 2 ^ 64 - 1 }
-    requires within { window.old.given ≤ file_limit }
-    ensures walk { IsWalk list_bytes FitsList
-        S.remaining window.old window.new result }
-    ensures failed { S.failure_count window.new.source
-        ≡ S.failure_count window.old.source + stopped_reads result }
-    ensures lent { S.lender window.new.source ≡ S.lender window.old.source }
+// From the flags to the end.
+fn take_tail<T: Taker>(taker: &mut T) -> Result<(), Stop>
+    requires reads { T.failures taker.old < 2 ^ 64 - 1 }
+    requires within { T.Within (T.hand taker.old) }
+    ensures walk { IsWalk tail_at T.Within T.Lacks (T.hand taker.old) (T.hand taker.new) result }
+    ensures failed { T.failures taker.new ≡ T.failures taker.old + stopped_reads result }
+    ensures lent { T.lender taker.new ≡ T.lender taker.old }
 {
-    let count = take_u32(window)?;
-    take_elements(window, count)
-}
-
-fn take_elements<S: Source>(window: &mut Window<S>, count: u32) -> Result<(), Stop>
-    requires reads { S.failure_count window.old.source < 2 ^ 64 - 1 }
-    requires within { window.old.given ≤ file_limit }
-    ensures walk { IsWalk (flat_map typed_bytes) (Counted (λ element. length element.bytes < 2 ^ 32) count)
-        S.remaining window.old window.new result }
-    ensures failed { S.failure_count window.new.source
-        ≡ S.failure_count window.old.source + stopped_reads result }
-    ensures lent { S.lender window.new.source ≡ S.lender window.old.source }
-{
-    let _held = window.held();
-    for _ in 0..count {
-        take_typed(window)?;
-    }
-    Ok(())
-}
-
-pub(crate) fn take_credential<S: Source>(layout: Layout, window: &mut Window<S>) -> Result<(), Stop>
-    requires reads { S.failure_count window.old.source < 2 ^ 64 - 1 }
-    requires within { window.old.given ≤ file_limit }
-    ensures walk { IsWalk whole (FitsKeyed layout)
-        S.remaining window.old window.new result }
-    ensures failed { S.failure_count window.new.source
-        ≡ S.failure_count window.old.source + stopped_reads result }
-    ensures lent { S.lender window.new.source ≡ S.lender window.old.source }
-{
-    take_name(window)?;
-    take_name(window)?;
-    take_from_key(layout, window)
-}
-
-fn take_from_key<S: Source>(layout: Layout, window: &mut Window<S>) -> Result<(), Stop>
-    requires reads { S.failure_count window.old.source < 2 ^ 64 - 1 }
-    requires within { window.old.given ≤ file_limit }
-    ensures walk { IsWalk from_key (FitsKeyed layout)
-        S.remaining window.old window.new result }
-    ensures failed { S.failure_count window.new.source
-        ≡ S.failure_count window.old.source + stopped_reads result }
-    ensures lent { S.lender window.new.source ≡ S.lender window.old.source }
-{
-    take(window, 2 + layout.second_size())?;
-    take_data(window)?;
-    take_from_times(window)
-}
-
-fn take_from_times<S: Source>(window: &mut Window<S>) -> Result<(), Stop>
-    requires reads { S.failure_count window.old.source < 2 ^ 64 - 1 }
-    requires within { window.old.given ≤ file_limit }
-    ensures walk { IsWalk from_times FitsMarked
-        S.remaining window.old window.new result }
-    ensures failed { S.failure_count window.new.source
-        ≡ S.failure_count window.old.source + stopped_reads result }
-    ensures lent { S.lender window.new.source ≡ S.lender window.old.source }
-{
-    take(window, TIMES)?;
-    take_list(window)?;
-    take_list(window)?;
-    take_from_ticket(window)
-}
-
-fn take_from_ticket<S: Source>(window: &mut Window<S>) -> Result<(), Stop>
-    requires reads { S.failure_count window.old.source < 2 ^ 64 - 1 }
-    requires within { window.old.given ≤ file_limit }
-    ensures walk { IsWalk from_ticket FitsMarked
-        S.remaining window.old window.new result }
-    ensures failed { S.failure_count window.new.source
-        ≡ S.failure_count window.old.source + stopped_reads result }
-    ensures lent { S.lender window.new.source ≡ S.lender window.old.source }
-{
-    take_data(window)?;
-    take_data(window)
+    taker.take(FLAGS)?;
+    take_list(taker)?;
+    take_list(taker)?;
+    take_data(taker)?;
+    take_data(taker)
 }

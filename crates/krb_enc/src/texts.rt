@@ -52,7 +52,7 @@ fn drop_front(bytes: &mut Vec<u8>, count: usize)
     requires { count ≤ vec_len bytes.old }
     ensures { bytes.new.items ≡ drop count bytes.old.items }
 {
-    bytes.rotate_left(count);
     let kept = bytes.len() - count;
+    bytes.copy_within(count.., 0);
     bytes.truncate(kept);
 }

@@ -53,6 +53,7 @@ fn ask(
         mutual: true,
         subkey: None,
         seq: None,
+        context: None,
     };
     // A real client takes 16 random bytes, new for each request, and so does a service for each reply.
     let (request, pending) = make_request(alloc, cache, &name, now, &[7; 16], options)?;

@@ -1,5 +1,5 @@
 -- What a file is once one of its records was replaced, or a record was put in place of its end.
-use Rattle.std.proofs.Common.{◌≡◌, ℕ, ◌+◌, ◌-◌, ◌≤◌, List, [], ◌∷◌, ◌++◌, length, take, drop, Result, Ok, Err, sym, ap, subst, ◌∙◌, append_assoc, arith}
+use Rattle.std.proofs.Common.{◌≡◌, ℕ, ◌+◌, ◌-◌, ◌≤◌, List, [], ◌∷◌, ◌++◌, length, take, drop, Option, Some, None, Result, Ok, Err, sym, ap, subst, ◌∙◌, append_assoc, arith}
 use Rattle.std.specs.List.{flat_map, AllByRecursion}
 use Rattle.std.proofs.lemmas.List.{length-append, length-replicate, take_at, drop_at}
 use Rattle.std.proofs.lemmas.List.Concat.{flat_map-append}
@@ -8,7 +8,7 @@ use Rattle.krb_name.specs.Field.{IsBytes}
 use Rattle.krb_keytab.specs.Entry.{KeytabEntry}
 use Rattle.krb_keytab.specs.Format.{version, KeytabRecord, entry, entry_bytes, record_bytes, FitsRecord, entries_of, IsKeytab, IsFaultOf}
 use Rattle.krb_keytab.specs.Edit.{IsMadeOf, zero_hole, MakesHole, LosesEntry, LacksEntry}
-use Rattle.krb_keytab.specs.Inner.Finding.{LiesAt, HoldsIndex}
+use Rattle.krb_keytab.specs.Inner.Finding.{LiesAt, HoldsIndex, IsFoundEntry}
 use Rattle.krb_keytab.specs.Inner.Putting.{Puts}
 use Rattle.krb_keytab.specs.declared.fault.KeytabFault.{KeytabFault}
 use Rattle.krb_keytab.specs.declared.fault.KeytabFault.TheVariants.{NoSuchEntry}
@@ -130,6 +130,12 @@ no_fault bytes entries fault fits k f = not_both entries fault (same_answers byt
 pub same_fault : (bytes : List ℕ) (f g : KeytabFault) → IsBytes bytes → IsFaultOf bytes f → IsFaultOf bytes g → f ≡ g
 same_fault bytes f g fits p q = fault_is f g (same_answers bytes (Err f) (Err g) p q)
 
+-- a file that was searched to its end has no fault
+pub searched : (bytes : List ℕ) (index : ℕ) (place : Option Extent) (fault : KeytabFault) → IsBytes bytes → IsFoundEntry bytes index place → IsFaultOf bytes fault → ⊥
+searched bytes index None fault fits l f = no_fault bytes l.entries fault fits l.list f
+searched bytes index (Some place) fault fits h f =
+    no_fault bytes (flat_map entries_of (h.before ++ entry h.removed h.short_kvno h.rest ∷ h.after)) fault fits (made_keytab h.is) f
+
 -- an entry of this index is there, or it isn't
 pub not_lacking : (bytes : List ℕ) (index : ℕ) (place : Extent) → IsBytes bytes → HoldsIndex bytes index place → LacksEntry bytes index → ⊥
 not_lacking bytes index place fits h l =
@@ -159,10 +165,10 @@ removal_faults bytes fault other fits f = (λ e. subst (IsFaultOf bytes) (refuse
 
 pub lacking_faults : (bytes : List ℕ) (index : ℕ) (other : KeytabFault) → IsBytes bytes → LacksEntry bytes index → (other ≡ NoSuchEntry → ⊥)
     → (done_of (Err NoSuchEntry) ≡ Err other → IsFaultOf bytes other) × (IsFaultOf bytes other → done_of (Err NoSuchEntry) ≡ Err other)
-lacking_faults bytes index other fits l differs = (λ e. absurd (differs (sym (refused_is NoSuchEntry other e))), λ f. absurd (no_fault bytes l.entries other fits l.list f))
+lacking_faults bytes index other fits l differs = (λ e. absurd (differs (sym (refused_is NoSuchEntry other e))), λ f. absurd (searched bytes index None other fits l f))
 
 pub removed_faults : (bytes : List ℕ) (index : ℕ) (place : Extent) (other : KeytabFault) → IsBytes bytes → HoldsIndex bytes index place → (done_of (Ok tt) ≡ Err other → IsFaultOf bytes other) × (IsFaultOf bytes other → done_of (Ok tt) ≡ Err other)
 removed_faults bytes index place other fits h = (
   λ e. absurd (not_done other e),
-  λ f. absurd (no_fault bytes (flat_map entries_of (h.before ++ entry h.removed h.short_kvno h.rest ∷ h.after)) other fits (made_keytab h.is) f),
+  λ f. absurd (searched bytes index (Some place) other fits h f),
 )

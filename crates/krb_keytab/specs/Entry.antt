@@ -31,3 +31,7 @@ pub record FitsEntry (entry : KeytabEntry) : Type 0 where
 -- what is shown of a printed entry: version number and encryption type, and no byte of the key
 abbrev pub shown : KeytabEntry → List ℕ
 shown entry = codes "Entry(kvno " ++ (decimal entry.kvno ++ (codes ", etype " ++ (signed_decimal entry.etype ++ codes ")")))
+
+-- what is shown of a printed keytab: how many entries it has
+abbrev pub shown_keytab : List KeytabEntry → List ℕ
+shown_keytab entries = codes "Keytab(" ++ (decimal (length entries) ++ codes " entries)")

@@ -10,7 +10,8 @@ use thiserror::Error;
 /// Why bytes aren't a keytab, or no keytab can be returned.
 ///
 /// If several apply, `TooLong` comes before all others, then `Version`, then the fault of the first
-/// record that has one. An offset counts bytes from the start of the file. It is that of the first
+/// record that has one. `OutOfMemory` comes last if bytes are parsed; if a source is read, it may come
+/// before a later fault. An offset counts bytes from the start of the file. It is that of the first
 /// byte of a record's size, and is at most the length of the file.
 #[derive(Clone, Copy, Debug, PartialEq, Eq, Error)]
 pub enum KeytabFault {

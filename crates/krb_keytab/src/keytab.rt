@@ -13,6 +13,7 @@ ghost use Rattle.krb_keytab.specs.Written.{written};
 
 use crate::entry::Entry;
 use crate::fault::KeytabFault;
+use crate::finding::find_entry;
 use crate::found::Found;
 use crate::index::{NameIndex, renew};
 use crate::next::next_record;
@@ -56,7 +57,8 @@ impl Keytab {
     /// each entry and 8 more. A keytab of at most 8 entries has none.
     ///
     /// # Errors
-    /// `OutOfMemory` if there is no memory for this; else the first that applies:
+    /// `OutOfMemory` if the bytes are a keytab and there is no memory for it; else the first that
+    /// applies:
     /// - `TooLong`: there are more than 16,777,216 bytes.
     /// - `Version`: they don't begin with 0x05 0x02.
     /// - `Truncated` or `BadEntry`, with the offset of the first record that has too few bytes, or
@@ -71,10 +73,16 @@ impl Keytab {
         // If the bytes are a keytab, or have a fault, that is the answer.
         ensures only { (answer : Result (List KeytabEntry) KeytabFault) → IsAnswerOf bytes.now answer
             → (result ≡ answer) ⊎ (result ≡ Err KeytabFault.OutOfMemory) }
+
+        // Out of memory never takes the place of a fault.
+        ensures faulty { (fault : KeytabFault) → IsFaultOf bytes.now fault → result ≡ Err fault }
         ensures offset { IfErr result (λ fault.
             IfSome (offset_of fault) (λ at. at ≤ length bytes.now)) }
     {
-        Keytab::of_records(alloc, bytes)
+        match Keytab::of_records(alloc, bytes) {
+            Ok(keytab) => Ok(keytab),
+            Err(_) => Err(fault_of(bytes)),
+        }
     }
 
     /// Reads a keytab from a source, to its end or to one byte past 16,777,216, as `parse` does
@@ -88,7 +96,8 @@ impl Keytab {
     /// # Errors
     /// - `Read`: a read of the source failed. The source's count of failures grew, as it does for
     ///   no other answer.
-    /// - Those of `parse`, for all the bytes that the source still had.
+    /// - Those of `parse`, for all the bytes that the source still had. But `OutOfMemory` may be
+    ///   reported instead of a fault that comes later.
     ///
     /// Source: MIT krb5, "Keytab file format".
     pub fn read<S: Source>(alloc: Global, source: &mut S) -> Result<Keytab, KeytabFault>
@@ -120,9 +129,7 @@ impl Keytab {
     }
 
     fn of_records(alloc: Global, bytes: &[u8]) -> Result<Keytab, KeytabFault>
-        ensures found { IfOk result (λ keytab. IsKeytab bytes.now keytab) }
-        ensures fault { IfErr result (λ fault.
-            fault ≢ KeytabFault.OutOfMemory → IsFaultOf bytes.now fault) }
+        ensures { IfOk result (λ keytab. IsKeytab bytes.now keytab) }
     {
         let mut cursor = open(bytes)?;
         let mut entries = Vec::new(alloc);
@@ -204,8 +211,9 @@ impl Keytab {
     /// the highest number. Names are compared as by `Principal::same_name`. Decrypts nothing and
     /// allocates no memory.
     ///
-    /// If there are more than 8 entries, it looks at those of the name's bucket in the index alone:
-    /// those of that name, and few others.
+    /// If there are more than 8 entries, it looks only at those whose name has the same place in the
+    /// index. These are the entries of that name, and few others, unless the keytab's names were
+    /// chosen so that many share a place.
     pub fn pick(&self, name: &Principal, etype: i32, kvno: Option<u32>) -> Picked<'_>
         ensures { IsPicked self.now name.now etype kvno result }
     {
@@ -217,10 +225,24 @@ impl Keytab {
     }
 }
 
+// Why bytes weren't read: their fault, or `OutOfMemory` if they have none.
+fn fault_of(bytes: &[u8]) -> KeytabFault
+    ensures fault { result ≢ KeytabFault.OutOfMemory → IsFaultOf bytes.now result }
+    ensures exact { (fault : KeytabFault) → IsFaultOf bytes.now fault → result ≡ fault }
+{
+    match find_entry(bytes, 0) {
+        Ok(_) => KeytabFault::OutOfMemory,
+        Err(fault) => fault,
+    }
+}
+
 impl fmt::Debug for Keytab {
+    ghost use Rattle.krb_keytab.specs.Entry.{shown_keytab};
+
+    ghost debug_output = { λ keytab. Some (shown_keytab keytab) };
+
     fn fmt<W: fmt::Write>(&self, f: &mut fmt::Formatter<W>) -> fmt::Result {
-        f.debug_struct("Keytab")
-            .field("entries", &self.entries)
-            .finish()
+        let count = self.entries.len();
+        write!(f, "Keytab({count} entries)")
     }
 }

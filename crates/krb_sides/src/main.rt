@@ -87,6 +87,7 @@ fn asked(alloc: Global, file: &[u8], given: &Given) -> Option<(Vec<u8>, Pending)
         mutual: true,
         subkey: subkey(given.is_chosen),
         seq: number(given.is_chosen),
+        context: None,
     };
     make_request(
         alloc,

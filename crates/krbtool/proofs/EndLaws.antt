@@ -2,11 +2,12 @@
 use Rattle.std.proofs.Common.{◌≡◌, inl, inr, ℕ, ℤ, max, List, [], ◌∷◌, ◌++◌, Option, Some, None, length, ap, sym, refl, ◌∙◌, subst, append_assoc, append-nil, arith, ◌<◌}
 use Rattle.std.specs.Io.KnownBytes.{Appends, Consumes, IsAtEnd}
 use Rattle.std.proofs.KnownBytes.{Appends-nil, Appends-trans, Appends-kept}
-use Rattle.krb_name.specs.declared.principal.Principal.{Principal}
+use Rattle.krbtool.specs.declared.accept.AnswerOptions.{AnswerOptions}
+use Rattle.krbtool.specs.declared.answering.LineOutcome.{LineOutcome}
 use Rattle.krb_replay.specs.Stamp.{Stamp}
 use Rattle.krb_ap.specs.Setup.{Setup, Arrival}
 use Rattle.krb_ap.specs.History.{StandsFor}
-use Rattle.krbtool.specs.Answering.{AnswersAll, AnswersBeginning, AnswersWhole, BecomeInTurn, HasLines, LineOutcome, answer_line, answer_lines, input_limit, last_line}
+use Rattle.krbtool.specs.Answering.{AnswersAll, AnswersBeginning, AnswersWhole, BecomeInTurn, HasLines, answer_line, answer_lines, input_limit, last_line}
 use Rattle.krbtool.specs.Inner.Going.{Answered, Begun, ReachedEnd, ReachedInput, ReachedStop, Untouched}
 use Rattle.krbtool.specs.declared.part_line.PartLine.{PartLine}
 use Rattle.krbtool.proofs.GoingLaws.{all_begun, one_begun, become_push, flat_map-push, no_lines, status_push}
@@ -41,9 +42,9 @@ one_last : (lines : List (List ℕ)) (rest : List ℕ) → (rest ≡ [] → ⊥)
 one_last lines [] some = absurd (some refl)
 one_last lines (byte ∷ rest) some = refl
 
-module _ (service : Option Principal) (from to : Option (List ℕ)) (part : PartLine) (here setup : Setup) (history : List Arrival) (status : ℕ)
+module _ (options : AnswerOptions) (from to : Option (List ℕ)) (part : PartLine) (here setup : Setup) (history : List Arrival) (status : ℕ)
     (Old New : Option (List ℕ)) (Has : Stamp → Type 0) (latest : Option ℤ) (input : List ℕ) (tells : from ≡ Some input)
-    (ended : ReachedEnd service from to part here setup history status Old New Has latest) where
+    (ended : ReachedEnd options from to part here setup history status Old New Has latest) where
   whole : input ≡ ended.reached.came
   whole = all_by input ended.reached.came from to tells ended.reached.consumed ended.end
 
@@ -54,14 +55,14 @@ module _ (service : Option Principal) (from to : Option (List ℕ)) (part : Part
   input_below = omega (arith, ap (λ (i : List ℕ). length i) whole, ended.reached.counted, ended.limit)
 
   -- there is no last line
-  pub all_answered : ended.reached.going.rest ≡ [] → AnswersAll service setup history input status Old New Has latest
+  pub all_answered : ended.reached.going.rest ≡ [] → AnswersAll options setup history input status Old New Has latest
   all_answered none = record {
     lines = ended.reached.going.lines;
     rest = ended.reached.going.rest;
     outcomes = ended.reached.going.outcomes;
     end = ended.reached.going.end;
     parts = input_parts;
-    become = subst (λ (l : List (List ℕ)). BecomeInTurn service setup history l ended.reached.going.outcomes ended.reached.going.end)
+    become = subst (λ (l : List (List ℕ)). BecomeInTurn options setup history l ended.reached.going.outcomes ended.reached.going.end)
         (sym (no_last ended.reached.going.lines ended.reached.going.rest none)) ended.reached.going.become;
     printed = ended.reached.going.printed;
     status_is = ended.reached.going.status_is;
@@ -71,22 +72,22 @@ module _ (service : Option Principal) (from to : Option (List ℕ)) (part : Part
 
   module _ (there : Setup) (Last : Option (List ℕ)) (Later : Stamp → Type 0) (later : Option ℤ) where
     turn : (outcome : LineOutcome) (end : List Arrival) → (ended.reached.going.rest ≡ [] → ⊥)
-        → BecomeInTurn service setup history (ended.reached.going.lines ++ ended.reached.going.rest ∷ []) (ended.reached.going.outcomes ++ outcome ∷ []) end
-        → BecomeInTurn service setup history (ended.reached.going.lines ++ last_line ended.reached.going.rest) (ended.reached.going.outcomes ++ outcome ∷ []) end
-    turn outcome end some one = subst (λ (l : List (List ℕ)). BecomeInTurn service setup history l (ended.reached.going.outcomes ++ outcome ∷ []) end)
+        → BecomeInTurn options setup history (ended.reached.going.lines ++ ended.reached.going.rest ∷ []) (ended.reached.going.outcomes ++ outcome ∷ []) end
+        → BecomeInTurn options setup history (ended.reached.going.lines ++ last_line ended.reached.going.rest) (ended.reached.going.outcomes ++ outcome ∷ []) end
+    turn outcome end some one = subst (λ (l : List (List ℕ)). BecomeInTurn options setup history l (ended.reached.going.outcomes ++ outcome ∷ []) end)
         (sym (one_last ended.reached.going.lines ended.reached.going.rest some)) one
 
     -- the last line was answered
     pub last_answered : (more : ℕ) → (ended.reached.going.rest ≡ [] → ⊥)
-        → Answered service there setup ended.reached.going.end ended.reached.going.rest more New Last Later later
-        → AnswersAll service setup history input (max status more) Old Last Later later
+        → Answered options there setup ended.reached.going.end ended.reached.going.rest more New Last Later later
+        → AnswersAll options setup history input (max status more) Old Last Later later
     last_answered more some one = record {
       lines = ended.reached.going.lines;
       rest = ended.reached.going.rest;
       outcomes = ended.reached.going.outcomes ++ one.outcome ∷ [];
       end = one.of_line.end;
       parts = input_parts;
-      become = turn one.outcome one.of_line.end some (become_push service setup history ended.reached.going.end one.of_line.end ended.reached.going.lines
+      become = turn one.outcome one.of_line.end some (become_push options setup history ended.reached.going.end one.of_line.end ended.reached.going.lines
           ended.reached.going.outcomes ended.reached.going.rest one.outcome ended.reached.going.become one.of_line.becomes);
       printed = subst (Appends Old Last) (sym (flat_map-push answer_line ended.reached.going.outcomes one.outcome))
           (Appends-trans Old New Last (answer_lines ended.reached.going.outcomes) (answer_line one.outcome) ended.reached.going.printed one.printed);
@@ -96,7 +97,7 @@ module _ (service : Option Principal) (from to : Option (List ℕ)) (part : Part
     }
 
     -- it was not reached
-    pub last_untouched : Untouched there setup ended.reached.going.end New Last Later later → AnswersBeginning service setup history input Old Last Later later
+    pub last_untouched : Untouched there setup ended.reached.going.end New Last Later later → AnswersBeginning options setup history input Old Last Later later
     last_untouched untouched = record {
       taken = ended.reached.going.lines;
       outcomes = ended.reached.going.outcomes;
@@ -117,8 +118,8 @@ module _ (service : Option Principal) (from to : Option (List ℕ)) (part : Part
     }
 
     -- its answer was begun
-    pub last_begun : (ended.reached.going.rest ≡ [] → ⊥) → Begun service there setup ended.reached.going.end ended.reached.going.rest New Last Later later
-        → AnswersBeginning service setup history input Old Last Later later
+    pub last_begun : (ended.reached.going.rest ≡ [] → ⊥) → Begun options there setup ended.reached.going.end ended.reached.going.rest New Last Later later
+        → AnswersBeginning options setup history input Old Last Later later
     last_begun some one = record {
       taken = ended.reached.going.lines ++ last_line ended.reached.going.rest;
       outcomes = ended.reached.going.outcomes ++ one.outcome ∷ [];
@@ -132,7 +133,7 @@ module _ (service : Option Principal) (from to : Option (List ℕ)) (part : Part
         parts = input_parts;
         taken_are = inr (refl, refl);
       };
-      become = turn one.outcome one.of_line.end some (become_push service setup history ended.reached.going.end one.of_line.end ended.reached.going.lines
+      become = turn one.outcome one.of_line.end some (become_push options setup history ended.reached.going.end one.of_line.end ended.reached.going.lines
           ended.reached.going.outcomes ended.reached.going.rest one.outcome ended.reached.going.become one.of_line.becomes);
       printed = one_begun Old New Last ended.reached.going.outcomes one.outcome ended.reached.going.printed one.printed;
       stands = one.of_line.stands;
@@ -140,11 +141,11 @@ module _ (service : Option Principal) (from to : Option (List ℕ)) (part : Part
 
 -- ---- before the end
 
-pub whole_answered : (service : Option Principal) (from to : Option (List ℕ)) (old_failures new_failures : ℕ) (part : PartLine) (here setup : Setup) (history : List Arrival)
+pub whole_answered : (options : AnswerOptions) (from to : Option (List ℕ)) (old_failures new_failures : ℕ) (part : PartLine) (here setup : Setup) (history : List Arrival)
     (Old New : Option (List ℕ)) (Has : Stamp → Type 0) (latest : Option ℤ) (input : List ℕ) → from ≡ Some input
-    → ReachedInput service from to old_failures new_failures part here setup history Old New Has latest
-    → AnswersWhole service setup history input to old_failures new_failures Old New Has latest
-whole_answered service from to old_failures new_failures part here setup history Old New Has latest input tells stops =
+    → ReachedInput options from to old_failures new_failures part here setup history Old New Has latest
+    → AnswersWhole options setup history input to old_failures new_failures Old New Has latest
+whole_answered options from to old_failures new_failures part here setup history Old New Has latest input tells stops =
     let rest = left_by input stops.reached.came from to tells stops.reached.consumed in
     record {
       came = stops.reached.came;
@@ -162,10 +163,10 @@ whole_answered service from to old_failures new_failures part here setup history
       stands = stops.reached.going.stands;
     }
 
-pub stop_begun : (service : Option Principal) (from to : Option (List ℕ)) (here setup : Setup) (history : List Arrival)
+pub stop_begun : (options : AnswerOptions) (from to : Option (List ℕ)) (here setup : Setup) (history : List Arrival)
     (Old New : Option (List ℕ)) (Has : Stamp → Type 0) (latest : Option ℤ) (input : List ℕ) → from ≡ Some input
-    → ReachedStop service from to here setup history Old New Has latest → AnswersBeginning service setup history input Old New Has latest
-stop_begun service from to here setup history Old New Has latest input tells stops =
+    → ReachedStop options from to here setup history Old New Has latest → AnswersBeginning options setup history input Old New Has latest
+stop_begun options from to here setup history Old New Has latest input tells stops =
     let rest = left_by input stops.came from to tells stops.consumed in
     record {
       taken = stops.stopped.lines;
@@ -185,9 +186,9 @@ stop_begun service from to here setup history Old New Has latest input tells sto
       stands = stops.stopped.stands;
     }
 
-pub none_begun : (service : Option Principal) (setup : Setup) (history : List Arrival) (known : Option (List ℕ)) (Has : Stamp → Type 0) (latest : Option ℤ) (input : List ℕ)
-    → StandsFor setup Has latest history → AnswersBeginning service setup history input known known Has latest
-none_begun service setup history known Has latest input stands = record {
+pub none_begun : (options : AnswerOptions) (setup : Setup) (history : List Arrival) (known : Option (List ℕ)) (Has : Stamp → Type 0) (latest : Option ℤ) (input : List ℕ)
+    → StandsFor setup Has latest history → AnswersBeginning options setup history input known known Has latest
+none_begun options setup history known Has latest input stands = record {
   taken = [];
   outcomes = [];
   end = history;

@@ -1,12 +1,14 @@
 pub mod Getters
 pub mod LineLaws
 pub mod FaultLaws
+pub mod FormatLaws
 pub mod FileLaws
 pub mod CallLaws
 pub mod GoingLaws
 pub mod CountLaws
 pub mod EndLaws
 pub mod CommandLaws
+pub mod RequestLaws
 pub mod PickLaws
 pub mod RemoveLaws
 pub mod WholeLaws

@@ -5,26 +5,29 @@ use Rattle.std.specs.Fmt.{decimal, signed_decimal}
 use Rattle.std.specs.Io.KnownBytes.{Appends, Consumes}
 use Rattle.krb_name.specs.Text.{text_of}
 use Rattle.krb_replay.specs.Stamp.{Stamp}
-use Rattle.krb_ap.specs.Setup.{Setup, Arrival}
+use Rattle.krb_ap.specs.Setup.{Setup, Arrival, arrival}
 use Rattle.krb_ap.specs.History.{StandsFor}
 use Rattle.krb_ap.specs.Answer.{Answers, after}
 use Rattle.krb_ap.specs.Causes.{code_of, name_of}
 use Rattle.krb_ap.specs.declared.accepted.Accepted.{Accepted}
 use Rattle.krb_ap.specs.declared.refusal.Refusal.{Refusal}
 use Rattle.krb_ap.specs.declared.refusal.Refusal.TheVariants.{OutOfMemory}
-use Rattle.krb_name.specs.declared.principal.Principal.{Principal}
+use Rattle.krb_gss.specs.declared.fault.TokenFault.{TokenFault}
 use Rattle.krbtool.specs.CallLine.{SpellsCall, IsBadLine}
-use Rattle.krbtool.specs.Tails.{IsTail, tail_status, tail_text}
+use Rattle.krbtool.specs.FaultText.{token_fault_name, token_fault_place}
+use Rattle.krbtool.specs.Forms.{Carries, IsUnopened}
+use Rattle.krbtool.specs.Tails.{IsTail, named, tail_status, tail_text}
+use Rattle.krbtool.specs.declared.accept.AnswerOptions.{AnswerOptions}
+use Rattle.krbtool.specs.declared.answering.LineOutcome.{LineOutcome}
+use Rattle.krbtool.specs.declared.answering.LineOutcome.TheVariants.{BadLine, BadToken, Answered}
+use Rattle.krbtool.specs.declared.form.Envelope.{Envelope}
+use Rattle.krbtool.specs.declared.form.Form.{Form}
 use Rattle.krbtool.specs.declared.tail.Tail.{Tail}
 use Rattle.krbtool.specs.declared.tail.LineAnswer.{LineAnswer}
 
 -- ---- one line
 
--- what becomes of a line: nothing, where it is bad, or what its call is answered and what follows that
-abbrev pub LineOutcome : Type 0
-LineOutcome = Option LineAnswer
-
--- the error code, where the refusal has one
+-- the error code, if the refusal has one
 abbrev pub code_text : Option ℤ → List ℕ
 code_text None = codes "none"
 code_text (Some code) = signed_decimal code
@@ -45,33 +48,53 @@ abbrev pub call_text : Result Accepted Refusal → Tail → List ℕ
 call_text (Ok accepted) tail = accepted_line accepted tail
 call_text (Err refusal) tail = refused_line refusal tail
 
+-- `bad token FAULT at OFFSET`
+abbrev pub bad_token_line : TokenFault → List ℕ
+bad_token_line fault =
+    codes "bad token " ++ (token_fault_name fault ++ (codes " at " ++ (decimal (token_fault_place fault) ++ 10 ∷ [])))
+
 -- what is printed
 abbrev pub answer_line : LineOutcome → List ℕ
-answer_line None = codes "bad line\n"
-answer_line (Some answer) = call_text answer.outcome answer.tail
+answer_line BadLine = codes "bad line\n"
+answer_line (BadToken fault) = bad_token_line fault
+answer_line (Answered answer) = call_text answer.outcome answer.tail
 
--- after a history, this becomes of a line at a service of this name and setup, and this is the history then
-pub record BecomesCall (service : Option Principal) (setup : Setup) (history : List Arrival) (line : List ℕ) (answer : LineAnswer)
-    (end : List Arrival) : Type 0 where
+-- the line spells bytes that are to be a token, aren't one, and have this fault
+pub record HoldsBadToken (form : Form) (line : List ℕ) (fault : TokenFault) : Type 0 where
   pub call : Arrival
   pub confounder : Option (List ℕ)
   pub spells : SpellsCall line call confounder
-  pub answers : Answers setup history call answer.outcome
-  pub end_is : end ≡ after history call answer.outcome
-  pub follows : IsTail answer.outcome call.moment confounder service answer.tail
+  pub unopened : IsUnopened form call.bytes fault
 
-abbrev pub Becomes : Option Principal → Setup → List Arrival → List ℕ → LineOutcome → List Arrival → Type 0
-Becomes service setup history line None end = IsBadLine line × (end ≡ history)
-Becomes service setup history line (Some answer) end = BecomesCall service setup history line answer end
+-- The line spells bytes that carry a request. After a history, this is answered to the request at the line's moment, by a service of this
+-- setup, and this is the history then.
+pub record BecomesCall (options : AnswerOptions) (setup : Setup) (history : List Arrival) (line : List ℕ) (answer : LineAnswer)
+    (end : List Arrival) : Type 0 where
+  pub bytes : List ℕ
+  pub moment : ℤ
+  pub confounder : Option (List ℕ)
+  pub envelope : Option Envelope
+  pub request : List ℕ
+  pub spells : SpellsCall line (arrival bytes moment) confounder
+  pub carries : Carries options.form bytes envelope request
+  pub answers : Answers setup history (arrival request moment) answer.outcome
+  pub end_is : end ≡ after history (arrival request moment) answer.outcome
+  pub follows : IsTail envelope answer.outcome moment confounder (named options.service) answer.tail
+
+-- after a history, this becomes of a line, and this is the history then
+abbrev pub Becomes : AnswerOptions → Setup → List Arrival → List ℕ → LineOutcome → List Arrival → Type 0
+Becomes options setup history line BadLine end = IsBadLine line × (end ≡ history)
+Becomes options setup history line (BadToken fault) end = HoldsBadToken options.form line fault × (end ≡ history)
+Becomes options setup history line (Answered answer) end = BecomesCall options setup history line answer end
 
 -- ---- lines one after another
 
 -- after a history, this becomes of the lines, one after another, and this is the history then
-abbrev pub BecomeInTurn : Option Principal → Setup → List Arrival → List (List ℕ) → List LineOutcome → List Arrival → Type 0
-BecomeInTurn service setup history [] [] end = end ≡ history
-BecomeInTurn service setup history (line ∷ lines) (outcome ∷ outcomes) end =
-    (next : List Arrival) × (Becomes service setup history line outcome next × BecomeInTurn service setup next lines outcomes end)
-BecomeInTurn service setup history _ _ end = ⊥
+abbrev pub BecomeInTurn : AnswerOptions → Setup → List Arrival → List (List ℕ) → List LineOutcome → List Arrival → Type 0
+BecomeInTurn options setup history [] [] end = end ≡ history
+BecomeInTurn options setup history (line ∷ lines) (outcome ∷ outcomes) end =
+    (next : List Arrival) × (Becomes options setup history line outcome next × BecomeInTurn options setup next lines outcomes end)
+BecomeInTurn options setup history _ _ end = ⊥
 
 -- what is printed for them
 abbrev pub answer_lines : List LineOutcome → List ℕ
@@ -86,15 +109,16 @@ pub record PrintsBeginning (Old New : Option (List ℕ)) (outcomes : List LineOu
   pub count : ℕ
   pub printed : Appends Old New (answer_lines whole ++ take count (answer_lines last))
 
--- the exit status: 3 where memory was wanting, else 1 where a line was bad or refused, else 0
+-- the exit status: 3 if memory ran out, else 1 if a line or its token was bad, or its request was refused, else 0
 abbrev pub call_status : Result Accepted Refusal → ℕ
 call_status (Ok accepted) = 0
 call_status (Err OutOfMemory) = 3
 call_status (Err refusal) = 1
 
 abbrev pub outcome_status : LineOutcome → ℕ
-outcome_status None = 1
-outcome_status (Some answer) = max (call_status answer.outcome) (tail_status answer.tail)
+outcome_status BadLine = 1
+outcome_status (BadToken fault) = 1
+outcome_status (Answered answer) = max (call_status answer.outcome) (tail_status answer.tail)
 
 abbrev pub status_of_lines : List LineOutcome → ℕ
 status_of_lines [] = 0
@@ -121,14 +145,14 @@ abbrev pub input_limit : ℕ
 input_limit = 1_099_511_627_776
 
 -- all of the input's lines were answered
-pub record AnswersAll (service : Option Principal) (setup : Setup) (history : List Arrival) (input : List ℕ) (status : ℕ) (Old New : Option (List ℕ))
+pub record AnswersAll (options : AnswerOptions) (setup : Setup) (history : List Arrival) (input : List ℕ) (status : ℕ) (Old New : Option (List ℕ))
     (Has : Stamp → Type 0) (latest : Option ℤ) : Type 0 where
   pub lines : List (List ℕ)
   pub rest : List ℕ
   pub outcomes : List LineOutcome
   pub end : List Arrival
   pub parts : HasLines input lines rest
-  pub become : BecomeInTurn service setup history (lines ++ last_line rest) outcomes end
+  pub become : BecomeInTurn options setup history (lines ++ last_line rest) outcomes end
   pub printed : Appends Old New (answer_lines outcomes)
   pub status_is : status ≡ status_of_lines outcomes
   pub limit : length input < input_limit
@@ -141,7 +165,7 @@ pub record Came (From To : Option (List ℕ)) (count : ℕ) : Type 0 where
   pub counted : length bytes ≡ count
 
 -- a read failed, or so many bytes came as are taken; the whole lines of what came were answered
-pub record AnswersWhole (service : Option Principal) (setup : Setup) (history : List Arrival) (input : List ℕ) (unread : Option (List ℕ)) (old_failures new_failures : ℕ)
+pub record AnswersWhole (options : AnswerOptions) (setup : Setup) (history : List Arrival) (input : List ℕ) (unread : Option (List ℕ)) (old_failures new_failures : ℕ)
     (Old New : Option (List ℕ)) (Has : Stamp → Type 0) (latest : Option ℤ) : Type 0 where
   pub came : List ℕ
   pub left : List ℕ
@@ -153,7 +177,7 @@ pub record AnswersWhole (service : Option Principal) (setup : Setup) (history : 
   pub unread_is : unread ≡ Some left
   pub why : (new_failures ≡ old_failures + 1) ⊎ (length came ≡ input_limit)
   pub parts : HasLines came lines rest
-  pub become : BecomeInTurn service setup history lines outcomes end
+  pub become : BecomeInTurn options setup history lines outcomes end
   pub printed : Appends Old New (answer_lines outcomes)
   pub stands : StandsFor setup Has latest end
 
@@ -168,12 +192,12 @@ pub record TakesLines (input : List ℕ) (taken : List (List ℕ)) : Type 0 wher
   pub taken_are : (taken ≡ lines) ⊎ ((left ≡ []) × (taken ≡ lines ++ last_line rest))
 
 -- lines were taken, and their answers were printed up to some byte of the last
-pub record AnswersBeginning (service : Option Principal) (setup : Setup) (history : List Arrival) (input : List ℕ) (Old New : Option (List ℕ))
+pub record AnswersBeginning (options : AnswerOptions) (setup : Setup) (history : List Arrival) (input : List ℕ) (Old New : Option (List ℕ))
     (Has : Stamp → Type 0) (latest : Option ℤ) : Type 0 where
   pub taken : List (List ℕ)
   pub outcomes : List LineOutcome
   pub end : List Arrival
   pub takes : TakesLines input taken
-  pub become : BecomeInTurn service setup history taken outcomes end
+  pub become : BecomeInTurn options setup history taken outcomes end
   pub printed : PrintsBeginning Old New outcomes
   pub stands : StandsFor setup Has latest end

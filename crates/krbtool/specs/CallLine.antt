@@ -15,7 +15,7 @@ line_limit = 4_194_304
 abbrev pub SpellsNumber : ℕ → List ℕ → ℕ → Type 0
 SpellsNumber most digits number = IsNumeral 10 digits × ((length digits ≤ most) × (digits_value 10 digits ≡ number))
 
--- 1 to 19 digits behind the minus, byte 45
+-- 1 to 19 digits after the minus, byte 45
 pub record SpellsBefore (text : List ℕ) (seconds : ℤ) : Type 0 where
   pub digits : List ℕ
   pub number : ℕ
@@ -40,7 +40,7 @@ SpellsMessage text bytes = ((text ≡ 45 ∷ []) × (bytes ≡ [])) ⊎ ((0 < le
 abbrev pub SpellsConfounder : List ℕ → List ℕ → Type 0
 SpellsConfounder text bytes = (length text ≡ 32) × (decode_of text ≡ Ok bytes)
 
--- a message with a confounder behind it
+-- a message with a confounder after it
 pub record SpellsBoth (text bytes confounder : List ℕ) : Type 0 where
   pub message_text : List ℕ
   pub confounder_text : List ℕ

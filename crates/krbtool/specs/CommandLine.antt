@@ -8,6 +8,8 @@ use Rattle.std.specs.Borrow.{Bor}
 use Rattle.std.specs.Option.{option_map}
 use Rattle.krbtool.specs.declared.order.AcceptWords.{AcceptWords}
 use Rattle.krbtool.specs.declared.order.AddWords.{AddWords}
+use Rattle.krbtool.specs.declared.order.CacheForm.{CacheForm}
+use Rattle.krbtool.specs.declared.order.CacheForm.TheVariants.{Lines, Table}
 use Rattle.krbtool.specs.declared.order.FinishWords.{FinishWords}
 use Rattle.krbtool.specs.declared.order.PickWords.{PickWords}
 use Rattle.krbtool.specs.declared.order.RemoveWords.{RemoveWords}
@@ -23,7 +25,7 @@ operand id = record (new_rule id) { required = true }
 abbrev pub number_operand : Text → ℕ → Rule
 number_operand id greatest = record (operand id) { parser = Some (Unsigned 0 greatest) }
 
--- an option with a whole number from 0 to some greatest one, which has a value where it is left out
+-- an option with a whole number from 0 to some greatest one, which has a value if it is left out
 abbrev pub number_option : Text → ℕ → Text → Rule
 number_option id greatest default = record (new_rule id) { long = Some id; parser = Some (Unsigned 0 greatest); defaults = default ∷ [] }
 
@@ -43,6 +45,10 @@ free_option id = record (new_rule id) { long = Some id }
 abbrev pub free_number : Text → ℕ → Rule
 free_number id greatest = record (free_option id) { parser = Some (Unsigned 0 greatest) }
 
+-- one that is refused unless another is given
+abbrev pub needing_another : Rule → Rule
+needing_another rule = record rule { is_free = false }
+
 -- an option without a value
 abbrev pub flag : Text → Rule
 flag id = record (new_rule id) { long = Some id; action = Some SetTrue }
@@ -50,6 +56,15 @@ flag id = record (new_rule id) { long = Some id; action = Some SetTrue }
 -- NAME FILE
 abbrev pub of_file : Text → App
 of_file name = with_rule (new_app name) (operand (codes "FILE"))
+
+-- list-keytab FILE [--readable]
+abbrev pub list_keytab : App
+list_keytab = with_rule (of_file (codes "list-keytab")) (flag (codes "readable"))
+
+-- list-ccache FILE [--readable [--now SECONDS]]
+abbrev pub list_ccache : App
+list_ccache =
+    with_rule (with_rule (of_file (codes "list-ccache")) (flag (codes "readable"))) (needing_another (free_number (codes "now") 253_402_300_799))
 
 -- NAME FILE OUT
 abbrev pub of_file_and_out : Text → App
@@ -63,9 +78,12 @@ of_service name = with_rule (of_file name) (operand (codes "SERVICE"))
 abbrev pub of_moment : Text → App
 of_moment name = with_rule (with_rule (of_service name) (needed_number (codes "time") 253_402_300_799)) (needed_number (codes "usec") 999_999)
 
--- request FILE SERVICE --time S --usec U --confounder H [--mutual]
+-- request FILE SERVICE --time S --usec U --confounder H [--mutual] [--token KIND]
+abbrev pub plain_request : App
+plain_request = with_rule (with_rule (of_moment (codes "request")) (needed_option (codes "confounder"))) (flag (codes "mutual"))
+
 abbrev pub request : App
-request = with_rule (with_rule (of_moment (codes "request")) (needed_option (codes "confounder"))) (flag (codes "mutual"))
+request = with_rule plain_request (free_option (codes "token"))
 
 -- finish FILE SERVICE --time S --usec U --reply HEX
 abbrev pub finish : App
@@ -91,15 +109,18 @@ remove_key = with_rule (with_rule (of_keytab (codes "remove-key")) (operand (cod
 abbrev pub add_keys : App
 add_keys = with_rule (with_rule (of_keytab (codes "add-keys")) (operand (codes "FROM"))) (operand (codes "OUT"))
 
--- accept KEYTAB [--skew SECONDS] [--started SECONDS] [--service NAME] [--only NAME]
+-- accept KEYTAB [--skew SECONDS] [--started SECONDS] [--service NAME] [--only NAME] [--tokens]
 abbrev pub accept_with_skew : App
 accept_with_skew = with_rule (of_keytab (codes "accept")) (number_option (codes "skew") 86_400 (codes "300"))
 
 abbrev pub accept_with_times : App
 accept_with_times = with_rule accept_with_skew (free_number (codes "started") 253_402_300_799)
 
+abbrev pub accept_with_names : App
+accept_with_names = with_rule (with_rule accept_with_times (free_option (codes "service"))) (free_option (codes "only"))
+
 abbrev pub accept : App
-accept = with_rule (with_rule accept_with_times (free_option (codes "service"))) (free_option (codes "only"))
+accept = with_rule accept_with_names (flag (codes "tokens"))
 
 -- an app with two more subcommands
 abbrev pub with_two : App → App → App → App
@@ -110,7 +131,7 @@ abbrev pub bare : App
 bare = let top = new_app (codes "krbtool") in record top { top = record top.top { has_version = true; subcommand_required = true } }
 
 abbrev pub with_lists : App
-with_lists = with_two bare (of_file (codes "list-keytab")) (of_file (codes "list-ccache"))
+with_lists = with_two bare list_keytab list_ccache
 
 abbrev pub with_checks : App
 with_checks = with_two with_lists (of_file (codes "check-keytab")) (of_file (codes "check-ccache"))
@@ -144,6 +165,15 @@ pub record HasFlag (rows : List Row) (id : Text) (given : Bool) : Type 0 where
   pub denied : one_of id rows ≡ Some (codes "false") → given ≡ false
   pub absent : one_of id rows ≡ None → given ≡ false
 
+-- an option has this value, or is left out
+abbrev pub HasOption : List Row → Text → Option (Bor Text) → Type 0
+HasOption rows id value = first_of id rows ≡ option_map (λ s. s.now) value
+
+-- a cache is listed in lines, or as a table: at some time, if one is given
+abbrev pub AsksForm : List Row → CacheForm → Type 0
+AsksForm rows Lines = HasFlag rows (codes "readable") false × HasOption rows (codes "now") None
+AsksForm rows (Table now) = HasFlag rows (codes "readable") true × HasOption rows (codes "now") now
+
 -- the operands and options of request
 pub record AsksRequest (rows : List Row) (words : RequestWords) : Type 0 where
   pub file : HasFile rows words.file.now
@@ -152,6 +182,7 @@ pub record AsksRequest (rows : List Row) (words : RequestWords) : Type 0 where
   pub usec : HasOperand rows (codes "usec") words.usec.now
   pub confounder : HasOperand rows (codes "confounder") words.confounder.now
   pub reply : HasFlag rows (codes "mutual") words.mutual
+  pub token : HasOption rows (codes "token") words.token
 
 -- the operands and options of finish
 pub record AsksFinish (rows : List Row) (words : FinishWords) : Type 0 where
@@ -161,10 +192,6 @@ pub record AsksFinish (rows : List Row) (words : FinishWords) : Type 0 where
   pub usec : HasOperand rows (codes "usec") words.usec.now
   pub reply : HasOperand rows (codes "reply") words.reply.now
 
--- an option has this value, or is left out
-abbrev pub HasOption : List Row → Text → Option (Bor Text) → Type 0
-HasOption rows id value = first_of id rows ≡ option_map (λ s. s.now) value
-
 -- the operand and options of accept
 pub record AsksAcceptance (rows : List Row) (words : AcceptWords) : Type 0 where
   pub keytab : HasOperand rows (codes "KEYTAB") words.keytab.now
@@ -172,6 +199,7 @@ pub record AsksAcceptance (rows : List Row) (words : AcceptWords) : Type 0 where
   pub started : HasOption rows (codes "started") words.started
   pub service : HasOption rows (codes "service") words.service
   pub only : HasOption rows (codes "only") words.only
+  pub tokens : HasFlag rows (codes "tokens") words.tokens
 
 -- the operands and the option of pick-key
 pub record AsksPick (rows : List Row) (words : PickWords) : Type 0 where
@@ -195,8 +223,9 @@ pub record AsksAddition (rows : List Row) (words : AddWords) : Type 0 where
 -- the order is the subcommand's, with the values that its entries have
 abbrev pub IsOrder : Order → Option (Text × List Row) → Type 0
 IsOrder order None = ⊥
-IsOrder (ListKeytab file) (Some (name, rows)) = (name ≡ codes "list-keytab") × HasFile rows file.now
-IsOrder (ListCcache file) (Some (name, rows)) = (name ≡ codes "list-ccache") × HasFile rows file.now
+IsOrder (ListKeytab file readable) (Some (name, rows)) =
+    (name ≡ codes "list-keytab") × (HasFile rows file.now × HasFlag rows (codes "readable") readable)
+IsOrder (ListCcache file form) (Some (name, rows)) = (name ≡ codes "list-ccache") × (HasFile rows file.now × AsksForm rows form)
 IsOrder (CheckKeytab file) (Some (name, rows)) = (name ≡ codes "check-keytab") × HasFile rows file.now
 IsOrder (CheckCcache file) (Some (name, rows)) = (name ≡ codes "check-ccache") × HasFile rows file.now
 IsOrder (ConvertKeytab file out) (Some (name, rows)) = (name ≡ codes "convert-keytab") × HasFiles rows file.now out.now

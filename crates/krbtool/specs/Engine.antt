@@ -1,9 +1,11 @@
--- What an engine's answer tells of its source and of its sink.
-use Rattle.std.specs.Prelude.{◌≡◌, ◌⊎◌, ℕ, List, Option, Some, None, Result, Err, IfSome}
+-- What an engine's answer says of its source and of its sink.
+use Rattle.std.specs.Prelude.{◌≡◌, ◌⊎◌, ℕ, List, Option, Some, None, Result, Ok, Err, IfSome}
 use Rattle.krb_keytab.specs.declared.fault.KeytabFault.{KeytabFault}
 use Rattle.krb_keytab.specs.declared.fault.KeytabFault.TheVariants as keytab
 use Rattle.krb_ccache.specs.declared.fault.CacheFault.{CacheFault}
 use Rattle.krb_ccache.specs.declared.fault.CacheFault.TheVariants as cache
+use Rattle.krb_keytab.specs.Format.{IsFaultOf as IsKeytabFaultOf}
+use Rattle.krb_ccache.specs.Format.{IsFaultOf as IsCacheFaultOf}
 use Rattle.krb_ap.specs.declared.request_fault.RequestFault.{RequestFault}
 use Rattle.krb_ap.specs.declared.request_fault.RequestFault.TheVariants as request
 use Rattle.krb_ap.specs.declared.finish_fault.FinishFault.{FinishFault}
@@ -12,7 +14,7 @@ use Rattle.krbtool.specs.declared.fault.PickFault.{PickFault}
 use Rattle.krbtool.specs.declared.fault.EngineFault.{EngineFault}
 use Rattle.krbtool.specs.declared.fault.EngineFault.TheVariants.{Keytab, Added, Cache, Request, Pick, Finish, Write, OutOfMemory}
 
--- the bytes that were to come, where the source tells them, are a file with some value, of which this holds
+-- the bytes that were to come, if they are known, are a file with some value, and this holds of the value
 abbrev pub OfFile : {V : Type 0} → (List ℕ → V → Type 0) → Option (List ℕ) → (V → Type 0) → Type 0
 OfFile {V} IsFile given Holds = IfSome given (λ bytes. (value : V) × (IsFile bytes value × Holds value))
 
@@ -95,6 +97,51 @@ FailsWith result fault = (result ≡ Err (Keytab fault)) ⊎ ((result ≡ Err (K
 -- the same of a credential cache
 abbrev pub FailsWithCache : {X : Type 0} → Result X EngineFault → CacheFault → Type 0
 FailsWithCache result fault = (result ≡ Err (Cache fault)) ⊎ ((result ≡ Err (Cache cache.OutOfMemory)) ⊎ (result ≡ Err (Cache cache.Read)))
+
+-- ---- of a file of either format
+
+-- a fault of the file: of its content, its source, or memory for it
+abbrev pub IsOfFile : EngineFault → Type 0
+IsOfFile (Keytab fault) = Unit {0}
+IsOfFile (Cache fault) = Unit {0}
+IsOfFile _ = ⊥
+
+-- the source or memory failed for it
+abbrev pub IsUnread : EngineFault → Type 0
+IsUnread (Keytab keytab.Read) = Unit {0}
+IsUnread (Keytab keytab.OutOfMemory) = Unit {0}
+IsUnread (Cache cache.Read) = Unit {0}
+IsUnread (Cache cache.OutOfMemory) = Unit {0}
+IsUnread _ = ⊥
+
+-- its content has the fault: neither its source nor memory failed
+abbrev pub IsContent : EngineFault → Type 0
+IsContent e = IsOfFile e × (¬ IsUnread e)
+
+abbrev pub OfKeytab : EngineFault → Type 0
+OfKeytab (Keytab fault) = Unit {0}
+OfKeytab _ = ⊥
+
+abbrev pub OfCache : EngineFault → Type 0
+OfCache (Cache fault) = Unit {0}
+OfCache _ = ⊥
+
+-- the bytes aren't a keytab, for this reason
+abbrev pub HasKeytabFault : List ℕ → EngineFault → Type 0
+HasKeytabFault bytes (Keytab fault) = IsKeytabFaultOf bytes fault
+HasKeytabFault bytes _ = ⊥
+
+abbrev pub HasCacheFault : List ℕ → EngineFault → Type 0
+HasCacheFault bytes (Cache fault) = IsCacheFaultOf bytes fault
+HasCacheFault bytes _ = ⊥
+
+-- the answer is this value, unless the source or memory failed
+abbrev pub ReadsTo : {X : Type 0} → Result X EngineFault → X → Type 0
+ReadsTo result value = (result ≡ Ok value) ⊎ ((e : EngineFault) × ((result ≡ Err e) × IsUnread e))
+
+-- the answer is this fault, unless the source or memory failed
+abbrev pub FailsBy : {X : Type 0} → Result X EngineFault → EngineFault → Type 0
+FailsBy result fault = (result ≡ Err fault) ⊎ ((e : EngineFault) × ((result ≡ Err e) × IsUnread e))
 
 -- how many reads failed
 abbrev pub failed_reads : {X : Type 0} → Result X EngineFault → ℕ

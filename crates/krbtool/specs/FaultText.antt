@@ -14,6 +14,12 @@ use Rattle.krb_ap.specs.declared.request_fault.RequestFault.TheVariants as reque
 use Rattle.krb_ap.specs.Finish.{finish_offset_of}
 use Rattle.krb_ap.specs.declared.finish_fault.FinishFault.{FinishFault}
 use Rattle.krb_ap.specs.declared.finish_fault.FinishFault.TheVariants as finish
+use Rattle.krb_der.specs.declared.fault.FaultKind.{FaultKind}
+use Rattle.krb_der.specs.declared.fault.FaultKind.TheVariants as kind
+use Rattle.krb_gss.specs.declared.fault.TokenFault.{TokenFault}
+use Rattle.krb_gss.specs.declared.fault.TokenFault.TheVariants as token
+use Rattle.krb_gss.specs.declared.mechanism.Foreign.{Foreign}
+use Rattle.krb_gss.specs.declared.mechanism.Foreign.TheVariants as foreign
 use Rattle.krbtool.specs.declared.fault.PickFault.{PickFault}
 use Rattle.krbtool.specs.declared.fault.PickFault.TheVariants as pick
 use Rattle.krbtool.specs.declared.fault.EngineFault.{EngineFault}
@@ -89,7 +95,43 @@ text_fault_place (text.BadText at) = Some at
 text_fault_place text.NoRealm = None
 text_fault_place text.OutOfMemory = None
 
--- `krbtool: NAME: FAULT`, with ` at OFFSET` where the fault has one
+-- of DER
+abbrev pub kind_name : FaultKind → List ℕ
+kind_name kind.Truncated = codes "Truncated"
+kind_name kind.Tag = codes "Tag"
+kind_name kind.Length = codes "Length"
+kind_name kind.Integer = codes "Integer"
+kind_name kind.Time = codes "Time"
+kind_name kind.Flags = codes "Flags"
+kind_name kind.Trailing = codes "Trailing"
+kind_name kind.TooLong = codes "TooLong"
+
+-- another mechanism than Kerberos
+abbrev pub foreign_name : Foreign → List ℕ
+foreign_name foreign.Negotiation = codes "Negotiation"
+foreign_name foreign.Ntlm = codes "Ntlm"
+foreign_name foreign.IaKerb = codes "IaKerb"
+foreign_name foreign.Unknown = codes "OtherMechanism"
+
+-- of a token
+abbrev pub token_fault_name : TokenFault → List ℕ
+token_fault_name (token.Malformed fault) = kind_name fault.kind
+token_fault_name token.NotToken = codes "NotToken"
+token_fault_name token.Response = codes "Response"
+token_fault_name (token.OtherMechanism mechanism at) = foreign_name mechanism
+token_fault_name (token.NoToken at) = codes "NoToken"
+token_fault_name (token.TokenId at) = codes "TokenId"
+
+-- by its first byte a token is known
+abbrev pub token_fault_place : TokenFault → ℕ
+token_fault_place (token.Malformed fault) = fault.at
+token_fault_place token.NotToken = 0
+token_fault_place token.Response = 0
+token_fault_place (token.OtherMechanism mechanism at) = at
+token_fault_place (token.NoToken at) = at
+token_fault_place (token.TokenId at) = at
+
+-- `krbtool: NAME: FAULT`, with ` at OFFSET` if the fault has one
 abbrev pub line_of : List ℕ → List ℕ → Option ℕ → List ℕ
 line_of name fault None = codes "krbtool: " ++ (name ++ (codes ": " ++ fault))
 line_of name fault (Some at) = codes "krbtool: " ++ (name ++ (codes ": " ++ (fault ++ (codes " at " ++ decimal at))))

@@ -9,6 +9,7 @@ pub mod Picking
 pub mod Removing
 pub mod Adding
 pub mod CallLine
+pub mod Forms
 pub mod Tails
 pub mod Answering
 pub mod Inner

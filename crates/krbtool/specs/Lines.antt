@@ -56,7 +56,7 @@ ticket_line c =
 abbrev pub credential_line : Credential → List ℕ
 credential_line c = if is_config c then config_line c else ticket_line c
 
--- the default principal, and the offset where there is one
+-- the default principal, and the offset if there is one
 abbrev pub head_lines : Principal → Option (ℤ × ℤ) → List ℕ
 head_lines name None = codes "default " ++ (text_of name ++ 10 ∷ [])
 head_lines name (Some offset) =

@@ -7,7 +7,7 @@ use Rattle.krbtool.specs.Lines.{keytab_line}
 use Rattle.krbtool.specs.declared.fault.PickFault.{PickFault}
 use Rattle.krbtool.specs.declared.fault.PickFault.TheVariants.{NoName, NoKey, NoVersion}
 
--- the choice that a fault tells
+-- the choice that a fault reports
 abbrev pub want_of : PickFault → Choice
 want_of NoName = no_name
 want_of NoKey = no_key

@@ -8,14 +8,27 @@ ghost use Rattle.krbtool.specs.Engine.{failed_writes};
 
 use crate::fault::{EngineFault, FAILED, REFUSED};
 use crate::tail::{LineAnswer, Tail, status_of_tail, tail_text};
+use crate::token_fault::bad_token_text;
 use krb_ap::{Accepted, Outcome, Refusal};
+use krb_gss::TokenFault;
 use krb_name::{Sink, write_all};
 use std::alloc::{AllocError, Global};
 
-/// Prints what became of a line; `None` is a bad line.
+/// What becomes of a line.
+#[derive(Drop)]
+pub(crate) enum LineOutcome {
+    /// It spells no call.
+    BadLine,
+    /// What is to be its token isn't one, and has this fault. No call is made.
+    BadToken(TokenFault),
+    /// Its call is answered.
+    Answered(LineAnswer),
+}
+
+/// Prints what became of a line.
 pub(crate) fn print_answer<K: Sink>(
     alloc: Global,
-    outcome: &Option<LineAnswer>,
+    outcome: &LineOutcome,
     sink: &mut K,
 ) -> Result<(), EngineFault>
     requires { K.failure_count sink.old < 2 ^ 64 - 1 }
@@ -29,12 +42,13 @@ pub(crate) fn print_answer<K: Sink>(
     Ok(())
 }
 
-fn answer_text(alloc: Global, outcome: &Option<LineAnswer>) -> Result<String, AllocError>
+fn answer_text(alloc: Global, outcome: &LineOutcome) -> Result<String, AllocError>
     ensures { IfOk result (λ text. string_bytes text ≡ answer_line outcome.now) }
 {
     match outcome {
-        None => String::from_str(alloc, "bad line\n"),
-        Some(answer) => call_text(alloc, &answer.outcome, &answer.tail),
+        LineOutcome::BadLine => String::from_str(alloc, "bad line\n"),
+        LineOutcome::BadToken(fault) => bad_token_text(alloc, fault),
+        LineOutcome::Answered(answer) => call_text(alloc, &answer.outcome, &answer.tail),
     }
 }
 
@@ -73,14 +87,16 @@ fn refused_text(alloc: Global, refusal: &Refusal, tail: &Tail) -> Result<String,
     }
 }
 
-/// Answers what an outcome makes of the exit status: 0 where a request was accepted, 1 where a line was bad or refused, 3
-/// where memory was wanting, for a call or for what follows its answer.
-pub(crate) fn status_of_outcome(outcome: &Option<LineAnswer>) -> u8
+/// Returns what an outcome makes of the exit status: 0 if a request was accepted, 1 if a line or its token was bad or its
+/// request was refused, 3 if memory ran out, for a call or for what follows its answer.
+pub(crate) fn status_of_outcome(outcome: &LineOutcome) -> u8
     ensures { result ≡ outcome_status outcome.now }
 {
     match outcome {
-        None => REFUSED,
-        Some(answer) => status_of_call(&answer.outcome).max(status_of_tail(&answer.tail)),
+        LineOutcome::BadLine | LineOutcome::BadToken(_) => REFUSED,
+        LineOutcome::Answered(answer) => status_of_call(&answer.outcome).max(status_of_tail(
+            &answer.tail,
+        )),
     }
 }
 

@@ -1,6 +1,6 @@
 //! The lines that `accept` reads.
 
-ghost use Rattle.std.specs.Prelude.{◌≡◌, ◌++◌, Option, ◌∷◌, ◌≢◌, ◌≤◌, ℕ, ℤ, List, None, Some, All, IfOk, IfSome, MatchOption, Ok, SomeIff, length};
+ghost use Rattle.std.specs.Prelude.{◌≡◌, Option, ◌≤◌, ℕ, ℤ, List, None, Some, IfOk, IfSome, Ok, SomeIff};
 ghost use Rattle.std.specs.Str.Parse.{IsNumeral, digits_value};
 ghost use Rattle.krb_der.specs.Time.{IsSeconds};
 ghost use Rattle.krb_msg.specs.Moments.{micros_of};
@@ -8,6 +8,7 @@ ghost use Rattle.krb_ap.specs.Setup.{Arrival, arrival};
 ghost use Rattle.krbtool.specs.CallLine.{SpellsCall, SpellsConfounder, SpellsMessage, SpellsRest, SpellsNumber, SpellsSeconds, line_limit, IsBadLine};
 ghost use Rattle.krbtool.specs.Inner.Moments.{TellsMoment};
 
+use crate::cut::cut_at;
 use hex::{FromHex, FromHexError};
 use krb_msg::Moment;
 use std::alloc::{AllocError, Global};
@@ -29,7 +30,7 @@ pub struct SpelledCall {
     pub bytes: Vec<u8>,
     /// The moment.
     pub now: Moment,
-    /// The confounder, where the line has one.
+    /// The confounder, if the line has one.
     pub confounder: Option<[u8; 16]>,
 }
 
@@ -61,7 +62,7 @@ pub fn call_of(alloc: Global, line: &[u8]) -> Result<Option<SpelledCall>, AllocE
     }
 }
 
-// The moment that a line tells, and what follows it.
+// The moment that a line begins with, and what follows it.
 #[derive(Clone, Copy)]
 struct ToldMoment<'a> {
     now: Moment,
@@ -72,25 +73,10 @@ fn moment_of(line: &[u8]) -> Option<ToldMoment<'_>>
     ensures found { IfSome result (λ told. TellsMoment line.now told.now told.rest.now) }
     ensures none { result ≡ None → (moment : ℤ) (rest : List ℕ) → TellsMoment line.now moment rest → ⊥ }
 {
-    let (seconds, others) = cut_at_space(line)?;
-    let (micros, rest) = cut_at_space(others)?;
+    let (seconds, others) = cut_at(SPACE, line)?;
+    let (micros, rest) = cut_at(SPACE, others)?;
     let now = Moment::new(seconds_of(seconds)?, micros_of(micros)?)?;
     Some(ToldMoment { now, rest })
-}
-
-// What stands before the first space, and what stands behind it.
-fn cut_at_space(text: &[u8]) -> Option<(&[u8], &[u8])>
-    ensures { MatchOption result (All (λ byte. byte ≢ 32) text.now)
-        (λ parts. (text.now ≡ parts.0.now ++ 32 ∷ parts.1.now) × All (λ byte. byte ≢ 32) parts.0.now) }
-{
-    let mut at = 0;
-    while at < text.len() {
-        if text[at] == SPACE {
-            return Some((&text[..at], &text[at + 1..]));
-        }
-        at += 1;
-    }
-    None
 }
 
 fn seconds_of(text: &[u8]) -> Option<i64>
@@ -115,7 +101,7 @@ fn micros_of(text: &[u8]) -> Option<u32>
     Some(number_of(text, 6, MOST_MICROS)? as u32)
 }
 
-// The number that so many digits at most write, where it is no greater than `greatest`.
+// The number that so many digits at most write, if it is no greater than `greatest`.
 fn number_of(digits: &[u8], most: usize, greatest: u64) -> Option<u64>
     requires { greatest ≤ 1_000_000_000_000 }
     ensures { SomeIff result (SpellsNumber most digits.now (digits_value 10 digits.now) × (digits_value 10 digits.now ≤ greatest))
@@ -148,7 +134,7 @@ fn rest_of(alloc: Global, text: &[u8]) -> Result<Option<ToldRest>, AllocError>
     ensures found { IfOk result (λ told. IfSome told (λ rest. SpellsRest text.now rest.bytes.items rest.confounder)) }
     ensures none { result ≡ Ok None → (bytes : List ℕ) (confounder : Option (List ℕ)) → SpellsRest text.now bytes confounder → ⊥ }
 {
-    let Some((message, digits)) = cut_at_space(text) else {
+    let Some((message, digits)) = cut_at(SPACE, text) else {
         return message_alone(alloc, text);
     };
     match confounder_of(digits) {

@@ -1,9 +1,9 @@
-//! The commands, as `clap` is told of them.
+//! The commands, as `clap` gets them.
 
 ghost use Rattle.std.specs.Prelude.{◌≡◌, false, IfOk, codes};
 ghost use Rattle.clap.specs.Words.{app_of, rule_of};
 ghost use Rattle.clap.specs.declared.builder.command.Command.TheViews.{out-Command};
-ghost use Rattle.krbtool.specs.CommandLine.{krbtool, add_keys, remove_key, accept, accept_with_times, bare, finish, flag, free_number, free_option, needed_number, needed_option, number_operand, number_option, operand, pick_key, pick_operands, request, with_two, with_lists, with_checks, with_conversions, with_exchange, with_keys, of_file, of_file_and_out, of_keytab, of_moment, of_service};
+ghost use Rattle.krbtool.specs.CommandLine.{krbtool, add_keys, remove_key, accept, accept_with_names, accept_with_times, bare, finish, flag, free_number, free_option, list_ccache, list_keytab, needed_number, needed_option, needing_another, number_operand, number_option, operand, pick_key, pick_operands, plain_request, request, with_two, with_lists, with_checks, with_conversions, with_exchange, with_keys, of_file, of_file_and_out, of_keytab, of_moment, of_service};
 
 use clap::builder::ValueParser;
 use clap::{Arg, ArgAction, Command};
@@ -37,6 +37,8 @@ struct Help<'a> {
 const KEYTAB: &str = "The keytab";
 
 const CCACHE: &str = "The credential cache";
+
+const READABLE: &str = "Prints a table for people, with names in place of numbers and times in UTC";
 
 const LIST_KEYTAB: Help<'static> = Help {
     about: "Lists a keytab: kvno, enctype, timestamp and principal of each entry",
@@ -86,7 +88,7 @@ const REQUEST: Help<'static> = Help {
     about: "Builds a request for a service with a ticket of a credential cache, and prints it in hexadecimal",
     file: CCACHE,
     end: with_statuses!(
-        "Prints one line of hexadecimal digits. Use a time at most once for each ticket.",
+        "Prints one line of hexadecimal digits. Use a time at most once for each ticket. With --token gss the request is in a Kerberos token of GSS-API (RFC 4121), and with --token spnego that token is in a negotiation (RFC 4178).",
         "if the file is faulty, or there is no request"
     ),
 };
@@ -104,7 +106,7 @@ const ACCEPT: Help<'static> = Help {
     about: "Answers requests: for each line SECONDS MICROS HEX [CONFOUNDER] of standard input, whether a service accepts it",
     file: "The service's keytab",
     end: with_statuses!(
-        "A line of input: the service's clock (seconds since 1970-01-01, and microseconds), the request in hexadecimal (- for no bytes), and a confounder for the reply (32 digits). Its answer:\n  accepted CLIENT ENCTYPE SECONDS MICROS plain|mutual [reply HEX]\n  refused CODE NAME [error HEX]\n  bad line\nEach run remembers only its own requests.",
+        "A line of input: the service's clock (seconds since 1970-01-01, and microseconds), the request in hexadecimal (- for no bytes), and a confounder for the reply (32 digits). Its answer:\n  accepted CLIENT ENCTYPE SECONDS MICROS plain|mutual [reply HEX]\n  refused CODE NAME [error HEX]\n  bad token FAULT at OFFSET (with --tokens)\n  bad line\nEach run remembers only its own requests.",
         "if the keytab is faulty, or a request or a line is refused"
     ),
 };
@@ -201,12 +203,31 @@ fn needed_number_arg<'a>(alloc: Global, name: &'a str, greatest: u64, help: &'a 
     needed_arg(alloc, name, help).value_parser(ValueParser::unsigned(0, greatest))
 }
 
+// The option, which is refused unless another is given.
+fn needing_another<'a>(arg: Arg<'a>, other: &'a str) -> Result<Arg<'a>, AllocError>
+    ensures rule { IfOk result (λ r. rule_of r ≡ needing_another (rule_of arg.entry)) }
+    ensures local { IfOk result (λ r. r.global ≡ arg.entry.global) }
+{
+    arg.requires_arg(other)
+}
+
 // An option that has to be there.
 fn needed_arg<'a>(alloc: Global, name: &'a str, help: &'a str) -> Arg<'a>
     ensures rule { rule_of result ≡ needed_option name.entry.now }
     ensures local { result.global ≡ false }
 {
     Arg::new(alloc, name).long(name).required(true).help(help)
+}
+
+// An option without a value.
+fn flag_arg<'a>(alloc: Global, name: &'a str, help: &'a str) -> Arg<'a>
+    ensures rule { rule_of result ≡ flag name.entry.now }
+    ensures local { result.global ≡ false }
+{
+    Arg::new(alloc, name)
+        .long(name)
+        .action(ArgAction::SetTrue)
+        .help(help)
 }
 
 // A command whose operands are a credential cache and a service.
@@ -243,8 +264,9 @@ fn of_moment_command<'a>(
     of_service_command(alloc, name, help)?.arg(time)?.arg(usec)
 }
 
-fn request_command<'a>(alloc: Global) -> Result<Command<'a>, AllocError>
-    ensures app { IfOk result (λ c. app_of c ≡ request) }
+// The command `request` without tokens.
+fn plain_request_command<'a>(alloc: Global) -> Result<Command<'a>, AllocError>
+    ensures app { IfOk result (λ c. app_of c ≡ plain_request) }
     ensures local { IfOk result (λ c. (out-Command c).has_globals ≡ false) }
 {
     let confounder = needed_arg(
@@ -252,13 +274,22 @@ fn request_command<'a>(alloc: Global) -> Result<Command<'a>, AllocError>
         "confounder",
         "16 random bytes, new for each request, as 32 hexadecimal digits",
     );
-    let mutual = Arg::new(alloc, "mutual")
-        .long("mutual")
-        .action(ArgAction::SetTrue)
-        .help("Asks the service for a reply");
+    let mutual = flag_arg(alloc, "mutual", "Asks the service for a reply");
     of_moment_command(alloc, "request", &REQUEST)?
         .arg(confounder)?
         .arg(mutual)
+}
+
+fn request_command<'a>(alloc: Global) -> Result<Command<'a>, AllocError>
+    ensures app { IfOk result (λ c. app_of c ≡ request) }
+    ensures local { IfOk result (λ c. (out-Command c).has_globals ≡ false) }
+{
+    let token = free_arg(
+        alloc,
+        "token",
+        "Prints a token that holds the request: gss or spnego",
+    );
+    plain_request_command(alloc)?.arg(token)
 }
 
 fn finish_command<'a>(alloc: Global) -> Result<Command<'a>, AllocError>
@@ -385,15 +416,16 @@ fn accept_with_times<'a>(alloc: Global) -> Result<Command<'a>, AllocError>
         alloc,
         "started",
         253_402_300_799,
-        "When the service was started again, in seconds since 1970-01-01. Until it is past by more than the skew on both clocks, requests are refused as JustStarted; omit it only for a service that never ran before",
+        "When the service was started again, in seconds since 1970-01-01, rounded up. Requests are refused as JustStarted until its clock and the client's are both later than this by more than the skew; omit it only for a service that never ran before",
     );
     of_keytab_command(alloc, "accept", &ACCEPT)?
         .arg(skew)?
         .arg(started)
 }
 
-fn accept_command<'a>(alloc: Global) -> Result<Command<'a>, AllocError>
-    ensures app { IfOk result (λ c. app_of c ≡ accept) }
+// The command `accept` without tokens.
+fn accept_with_names<'a>(alloc: Global) -> Result<Command<'a>, AllocError>
+    ensures app { IfOk result (λ c. app_of c ≡ accept_with_names) }
     ensures local { IfOk result (λ c. (out-Command c).has_globals ≡ false) }
 {
     let service = free_arg(
@@ -407,6 +439,18 @@ fn accept_command<'a>(alloc: Global) -> Result<Command<'a>, AllocError>
         "The one name for which requests are accepted; those for other names of the keytab are refused as NotUs",
     );
     accept_with_times(alloc)?.arg(service)?.arg(only)
+}
+
+fn accept_command<'a>(alloc: Global) -> Result<Command<'a>, AllocError>
+    ensures app { IfOk result (λ c. app_of c ≡ accept) }
+    ensures local { IfOk result (λ c. (out-Command c).has_globals ≡ false) }
+{
+    let tokens = flag_arg(
+        alloc,
+        "tokens",
+        "Takes tokens of GSS-API or SPNEGO in place of requests, and answers with tokens",
+    );
+    accept_with_names(alloc)?.arg(tokens)
 }
 
 // The command with two more subcommands.
@@ -431,11 +475,36 @@ fn bare_command<'a>(alloc: Global) -> Command<'a>
         .subcommand_required(true)
 }
 
+fn list_keytab_command<'a>(alloc: Global) -> Result<Command<'a>, AllocError>
+    ensures app { IfOk result (λ c. app_of c ≡ list_keytab) }
+    ensures local { IfOk result (λ c. (out-Command c).has_globals ≡ false) }
+{
+    let readable = flag_arg(alloc, "readable", READABLE);
+    of_file_command(alloc, "list-keytab", &LIST_KEYTAB)?.arg(readable)
+}
+
+fn list_ccache_command<'a>(alloc: Global) -> Result<Command<'a>, AllocError>
+    ensures app { IfOk result (λ c. app_of c ≡ list_ccache) }
+    ensures local { IfOk result (λ c. (out-Command c).has_globals ≡ false) }
+{
+    let readable = flag_arg(alloc, "readable", READABLE);
+    let moment = free_number_arg(
+        alloc,
+        "now",
+        253_402_300_799,
+        "Marks the tickets that ended before then: seconds since 1970-01-01. Needs --readable",
+    );
+    let now = needing_another(moment, "readable")?;
+    of_file_command(alloc, "list-ccache", &LIST_CCACHE)?
+        .arg(readable)?
+        .arg(now)
+}
+
 fn command_with_lists<'a>(alloc: Global) -> Result<Command<'a>, AllocError>
     ensures { IfOk result (λ c. app_of c ≡ with_lists) }
 {
-    let keytab = of_file_command(alloc, "list-keytab", &LIST_KEYTAB)?;
-    let ccache = of_file_command(alloc, "list-ccache", &LIST_CCACHE)?;
+    let keytab = list_keytab_command(alloc)?;
+    let ccache = list_ccache_command(alloc)?;
     with_two(bare_command(alloc), keytab, ccache)
 }
 

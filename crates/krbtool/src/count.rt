@@ -18,7 +18,7 @@ use krb_keytab::{EntryReader, KeytabFault};
 use krb_name::Source;
 use std::alloc::Global;
 
-/// Answers how many entries a keytab has.
+/// Returns how many entries a keytab has.
 ///
 /// # Errors
 /// Those of `Keytab::read`.
@@ -66,7 +66,7 @@ fn count_entries<S: Source>(reader: &mut EntryReader<S>) -> Result<usize, Keytab
     Ok(count)
 }
 
-/// Answers how many credentials a cache has, configuration entries among them.
+/// Returns how many credentials a cache has, configuration entries among them.
 ///
 /// # Errors
 /// Those of `CCache::read`.

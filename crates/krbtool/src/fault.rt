@@ -141,7 +141,7 @@ impl EngineFault {
         }
     }
 
-    /// Answers the fault's offset in bytes, where it has one.
+    /// Returns the fault's offset in bytes, if it has one.
     pub(crate) fn at(&self) -> Option<usize>
         ensures { result ≡ place_of self.now }
     {
@@ -217,7 +217,7 @@ fn finish_name(fault: &FinishFault) -> &'static str
     }
 }
 
-// The place in the reply that a fault tells.
+// The place in the reply that a fault names.
 fn finish_place(fault: &FinishFault) -> Option<usize>
     ensures { result ≡ finish_offset_of fault.now }
 {
@@ -227,7 +227,7 @@ fn finish_place(fault: &FinishFault) -> Option<usize>
     }
 }
 
-/// Answers the exit status for a fault: 3 where a file, an output or memory failed, 1 where the
+/// Returns the exit status for a fault: 3 if a file, an output or memory failed, 1 if the
 /// content is refused.
 pub fn status(fault: &EngineFault) -> u8
     ensures { result ≡ status_of fault.now }
@@ -244,7 +244,7 @@ pub fn status(fault: &EngineFault) -> u8
     }
 }
 
-/// Answers the exit status for a service's name that can't be read: 3 where memory was wanting, else 2, for a wrong command
+/// Returns the exit status for a service's name that can't be read: 3 if memory ran out, else 2, for a wrong command
 /// line.
 pub fn service_status(fault: &TextFault) -> u8
     ensures { result ≡ service_status fault.now }

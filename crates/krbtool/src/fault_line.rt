@@ -8,7 +8,7 @@ use krb_name::TextFault;
 use std::fmt;
 use std::marker::Model;
 
-/// A line for standard error: `krbtool: NAME: FAULT`, with ` at OFFSET` where the fault has one. A
+/// A line for standard error: `krbtool: NAME: FAULT`, with ` at OFFSET` if the fault has one. A
 /// contract sees it as its text.
 #[derive(Drop)]
 pub struct FaultLine<'a> {
@@ -91,6 +91,17 @@ fn text_fault_place(fault: &TextFault) -> Option<usize>
     match fault {
         TextFault::BadText { at } => Some(*at),
         TextFault::NoRealm | TextFault::OutOfMemory => None,
+    }
+}
+
+/// Gives the line for an argument of this name that isn't one of its words. It takes no memory.
+pub fn word_line(argument: &str) -> FaultLine<'_>
+    ensures { result ≡ line_of argument.entry.now (codes "BadWord") None }
+{
+    FaultLine {
+        name: argument,
+        fault: "BadWord",
+        at: None,
     }
 }
 

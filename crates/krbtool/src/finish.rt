@@ -167,6 +167,7 @@ fn pending_of(
         mutual: true,
         subkey: None,
         seq: None,
+        context: None,
     };
     let (_, pending) = make_request(alloc, cache, service, at, &NO_CONFOUNDER, options)?;
     Ok(pending)

@@ -14,7 +14,7 @@ use std::alloc::{AllocError, Global};
 pub(crate) trait Line {
     ghost line: { Self → List ℕ };
 
-    /// Writes the line, with its end, behind a text.
+    /// Writes the line, with its end, after a text.
     fn write_line(&self, alloc: Global, text: &mut String) -> Result<(), AllocError>
         ensures { OnOk result (string_bytes text.new ≡ string_bytes text.old ++ line self.now) };
 }

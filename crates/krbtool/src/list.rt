@@ -1,18 +1,14 @@
-//! The engines of `list-keytab` and `list-ccache`.
+//! The engine of `list-keytab` and `list-ccache`, and the lines that it writes.
 
 ghost use Rattle.std.specs.Prelude.{◌≡◌, ◌⊎◌, ◌+◌, ◌-◌, ◌^◌, ◌<◌, ◌++◌, ◌∷◌, [], ℕ, List, Some, Err, IfOk, IfErr, IfSome, OnOk, OnErr, string_bytes};
 ghost use Rattle.std.specs.Io.KnownBytes.{Appends, Keeps};
 ghost use Rattle.krb_name.specs.File.{LeavesTail};
 ghost use Rattle.krb_name.specs.Flow.{AppendsBeginning};
-ghost use Rattle.krb_ccache.specs.Format.{IsCache};
-ghost use Rattle.krb_ccache.specs.Format as in_cache;
-ghost use Rattle.krb_ccache.specs.declared.fault.CacheFault.{CacheFault};
-ghost use Rattle.krb_keytab.specs.Format.{IsKeytab, IsFaultOf};
-ghost use Rattle.krb_keytab.specs.declared.fault.KeytabFault.{KeytabFault};
 ghost use Rattle.krbtool.specs.Lines.{keytab_line, keytab_lines, credential_line, config_line, ticket_line, times_of, names_of, head_lines, cache_lines};
-ghost use Rattle.krbtool.specs.Engine.{IsOfCache, IsOfKeytab, OfFile, keytab_fault, cache_fault, FailsWith, FailsWithCache, failed_reads, failed_writes};
+ghost use Rattle.krbtool.specs.Engine.{FailsBy, IsContent, IsOfFile, OfFile, failed_reads, failed_writes};
 
 use crate::fault::EngineFault;
+use crate::format::FileFormat;
 use crate::line::{Line, write_lines};
 use krb_ccache::{CCache, Credential};
 use krb_keytab::{Entry, Keytab};
@@ -20,48 +16,89 @@ use krb_name::{Principal, Sink, Source, write_all};
 use std::alloc::{AllocError, Global};
 use std::fmt::Write;
 
-/// Lists a keytab: writes a line for each entry, in the order of the file, with its key version
-/// number, encryption type, timestamp (seconds since 1970-01-01) and principal.
+/// How the value of a file is listed.
+pub trait Listing<F> {
+    // What is written of it.
+    ghost text: { Self → F → List ℕ };
+
+    /// Writes it.
+    fn write<T: Sink>(&self, alloc: Global, value: &F, sink: &mut T) -> Result<(), EngineFault>
+        requires { T.failure_count sink.old < 2 ^ 64 - 1 }
+        ensures ok { OnOk result (Appends (T.taken sink.old) (T.taken sink.new) (text self.now value.now)) }
+        ensures err { OnErr result
+            (AppendsBeginning (T.taken sink.old) (T.taken sink.new) (text self.now value.now)) }
+        ensures which { IfErr result (λ e. (e ≡ EngineFault.Write) ⊎ (e ≡ EngineFault.OutOfMemory)) }
+        ensures writes { T.failure_count sink.new ≡ T.failure_count sink.old + failed_writes result };
+}
+
+/// Lists a keytab or a credential cache: reads it and writes it in this way.
 ///
-/// The whole source is read before a line is written, so a fault of the content leaves the sink as it
+/// The whole source is read before a byte is written, so a fault of the content leaves the sink as it
 /// was.
 ///
 /// # Errors
-/// - `Keytab`: what was read is no keytab, or couldn't be read, or there was no room for it.
-/// - `Write`: the sink failed; it took a beginning of the lines.
-/// - `OutOfMemory`: there was no room for a line; the sink took a beginning of the lines.
+/// - `Keytab` or `Cache`: what was read isn't such a file, or couldn't be read, or there was no room for it.
+/// - `Write`: the sink failed; it took a beginning of the text.
+/// - `OutOfMemory`: there was no room for the text; the sink took a beginning of it.
 ///
 /// Condition: fewer than 18,446,744,073,709,551,615 reads and writes have failed so far.
-pub fn list_keytab<S: Source, T: Sink>(
+pub fn list<F: FileFormat, L: Listing<F>, S: Source, T: Sink>(
     alloc: Global,
     source: &mut S,
     sink: &mut T,
+    listing: &L,
 ) -> Result<(), EngineFault>
     requires source { S.failure_count source.old < 2 ^ 64 - 1 }
     requires sink { T.failure_count sink.old < 2 ^ 64 - 1 }
-    ensures listed { OnOk result (OfFile IsKeytab (S.remaining source.old) (λ entries.
-        Appends (T.taken sink.old) (T.taken sink.new) (keytab_lines entries))) }
+    ensures listed { OnOk result (OfFile F.is_file (S.remaining source.old) (λ value.
+        Appends (T.taken sink.old) (T.taken sink.new) (L.text listing.now value))) }
 
-    // A fault of the content is the file's own, and is answered wherever the file has it.
-    ensures fault { IfErr result (λ e. IfSome (keytab_fault e) (λ fault.
-        IfSome (S.remaining source.old) (λ bytes. IsFaultOf bytes fault))) }
-    ensures faulty { (bytes : List ℕ) (fault : KeytabFault)
-        → S.remaining source.old ≡ Some bytes → IsFaultOf bytes fault → FailsWith result fault }
+    // A fault of the content is the file's own, and is returned wherever the file has it.
+    ensures fault { IfErr result (λ e. IsContent e → IfSome (S.remaining source.old) (λ bytes. F.is_fault_of bytes e)) }
+    ensures faulty { (bytes : List ℕ) (fault : EngineFault)
+        → S.remaining source.old ≡ Some bytes → F.is_fault_of bytes fault → FailsBy result fault }
 
-    // Where the keytab couldn't be had, the sink is as it was; at any other fault it took a beginning
-    // of the lines.
-    ensures unread { (fault : KeytabFault) → result ≡ Err (EngineFault.Keytab fault)
-        → Keeps (T.taken sink.old) (T.taken sink.new) }
+    // If the file couldn't be had, the sink is as it was; at any other fault it took a beginning of the
+    // text.
+    ensures unread { (e : EngineFault) → result ≡ Err e → IsOfFile e → Keeps (T.taken sink.old) (T.taken sink.new) }
     ensures begun { (result ≡ Err EngineFault.Write) ⊎ (result ≡ Err EngineFault.OutOfMemory)
-        → OfFile IsKeytab (S.remaining source.old) (λ entries.
-        AppendsBeginning (T.taken sink.old) (T.taken sink.new) (keytab_lines entries)) }
-    ensures kind { IfErr result IsOfKeytab }
+        → OfFile F.is_file (S.remaining source.old) (λ value.
+        AppendsBeginning (T.taken sink.old) (T.taken sink.new) (L.text listing.now value)) }
+    ensures kind { IfErr result (λ e. F.is_of e ⊎ ((e ≡ EngineFault.Write) ⊎ (e ≡ EngineFault.OutOfMemory))) }
     ensures reads { S.failure_count source.new ≡ S.failure_count source.old + failed_reads result }
     ensures left { LeavesTail (S.remaining source.old) (S.remaining source.new) }
     ensures writes { T.failure_count sink.new ≡ T.failure_count sink.old + failed_writes result }
 {
-    let keytab = Keytab::read(alloc, source)?;
-    write_lines(alloc, keytab.entries(), sink)
+    match F::read_file(alloc, source) {
+        Ok(value) => listing.write(alloc, &value, sink),
+        Err(unread) => Err(unread),
+    }
+}
+
+/// Lines for programs.
+///
+/// Of a keytab: a line for each entry, in the order of the file, with its key version number,
+/// encryption type, timestamp (seconds since 1970-01-01) and principal.
+///
+/// Of a credential cache: a line for its default principal, one for the KDC's clock offset if the cache
+/// holds one, and one for each credential, in the order of the file. The line of a configuration entry
+/// names its server. That of a ticket has the session key's encryption type, authtime, starttime,
+/// endtime and renew_till (seconds since 1970-01-01, 0 if there is none), the ticket's flags as 8
+/// hexadecimal digits, client and server.
+#[derive(Clone, Copy)]
+pub struct Lines;
+
+impl Listing<Keytab> for Lines {
+    ghost text = { λ _ entries. keytab_lines entries };
+
+    fn write<T: Sink>(
+        &self,
+        alloc: Global,
+        value: &Keytab,
+        sink: &mut T,
+    ) -> Result<(), EngineFault> {
+        write_lines(alloc, value.entries(), sink)
+    }
 }
 
 impl Line for Entry {
@@ -76,50 +113,17 @@ impl Line for Entry {
     }
 }
 
-/// Lists a credential cache: writes a line for its default principal, one for the KDC's clock offset where
-/// the cache holds one, and one for each credential, in the order of the file.
-///
-/// The line of a configuration entry names its server. That of a ticket has the session key's encryption
-/// type, authtime, starttime, endtime and renew_till (seconds since 1970-01-01, 0 where there is none),
-/// the ticket's flags as 8 hexadecimal digits, client and server. The whole source is read before a line
-/// is written, so a fault of the content leaves the sink as it was.
-///
-/// # Errors
-/// - `Cache`: what was read is no credential cache, or couldn't be read, or there was no room for it.
-/// - `Write`: the sink failed; it took a beginning of the lines.
-/// - `OutOfMemory`: there was no room for a line; the sink took a beginning of the lines.
-///
-/// Condition: fewer than 18,446,744,073,709,551,615 reads and writes have failed so far.
-pub fn list_ccache<S: Source, T: Sink>(
-    alloc: Global,
-    source: &mut S,
-    sink: &mut T,
-) -> Result<(), EngineFault>
-    requires source { S.failure_count source.old < 2 ^ 64 - 1 }
-    requires sink { T.failure_count sink.old < 2 ^ 64 - 1 }
-    ensures listed { OnOk result (OfFile IsCache (S.remaining source.old) (λ cache.
-        Appends (T.taken sink.old) (T.taken sink.new) (cache_lines cache))) }
+impl Listing<CCache> for Lines {
+    ghost text = { λ _ cache. cache_lines cache };
 
-    // A fault of the content is the file's own, and is answered wherever the file has it.
-    ensures fault { IfErr result (λ e. IfSome (cache_fault e) (λ fault.
-        IfSome (S.remaining source.old) (λ bytes. in_cache.IsFaultOf bytes fault))) }
-    ensures faulty { (bytes : List ℕ) (fault : CacheFault)
-        → S.remaining source.old ≡ Some bytes → in_cache.IsFaultOf bytes fault → FailsWithCache result fault }
-
-    // Where the cache couldn't be had, the sink is as it was; at any other fault it took a beginning of
-    // the lines.
-    ensures unread { (fault : CacheFault) → result ≡ Err (EngineFault.Cache fault)
-        → Keeps (T.taken sink.old) (T.taken sink.new) }
-    ensures begun { (result ≡ Err EngineFault.Write) ⊎ (result ≡ Err EngineFault.OutOfMemory)
-        → OfFile IsCache (S.remaining source.old) (λ cache.
-        AppendsBeginning (T.taken sink.old) (T.taken sink.new) (cache_lines cache)) }
-    ensures kind { IfErr result IsOfCache }
-    ensures reads { S.failure_count source.new ≡ S.failure_count source.old + failed_reads result }
-    ensures left { LeavesTail (S.remaining source.old) (S.remaining source.new) }
-    ensures writes { T.failure_count sink.new ≡ T.failure_count sink.old + failed_writes result }
-{
-    let cache = CCache::read(alloc, source)?;
-    write_listing(alloc, &cache, sink)
+    fn write<T: Sink>(
+        &self,
+        alloc: Global,
+        value: &CCache,
+        sink: &mut T,
+    ) -> Result<(), EngineFault> {
+        write_listing(alloc, value, sink)
+    }
 }
 
 fn write_listing<T: Sink>(alloc: Global, cache: &CCache, sink: &mut T) -> Result<(), EngineFault>

@@ -1,7 +1,7 @@
 //! krbtool: looks into the files of Kerberos clients and services.
 //!
 //! `main` reads the command line, opens the files, and prints a fault's line on standard error. What a
-//! command answers is said by the contract of its engine over a source and a sink, as `list_keytab`.
+//! command answers is said by the contract of its engine over a source and a sink, as `list`.
 #![tactic(auto)]
 
 mod accept;
@@ -12,9 +12,12 @@ mod check;
 mod commands;
 mod convert;
 mod count;
+mod cut;
 mod fault;
 mod fault_line;
 mod finish;
+mod form;
+mod format;
 mod line;
 mod list;
 mod order;
@@ -29,7 +32,9 @@ mod run_finish;
 mod run_pick;
 mod run_request;
 mod streams;
+mod table;
 mod tail;
+mod token_fault;
 mod whole;
 mod words;
 
@@ -51,7 +56,7 @@ fn main(rt: HostRuntime) -> ExitCode {
     ExitCode::from(answer(&rt))
 }
 
-// Does what the words of the command line ask for, and answers the exit status.
+// Does what the words of the command line ask for, and returns the exit status.
 fn answer(rt: &HostRuntime) -> u8 {
     let given = match given_words(rt) {
         Ok(given) => given,
@@ -72,7 +77,7 @@ fn refuse_words(rt: &HostRuntime, kind: io::ErrorKind) -> u8 {
         io::ErrorKind::OutOfMemory => {
             eprintln!(rt; "{}", fault_line("words", &EngineFault::OutOfMemory))
         }
-        _ => eprintln!(rt; "krbtool: the words of the command line can't be had as text"),
+        _ => eprintln!(rt; "krbtool: an argument isn't valid UTF-8"),
     };
     WRONG_WORDS
 }

@@ -1,15 +1,20 @@
 /// What a command line asks for.
 #[derive(Clone, Copy, Debug, PartialEq, Eq)]
 pub enum Order<'a> {
-    /// `list-keytab FILE`: a line for each entry of a keytab.
+    /// `list-keytab [--readable] FILE`: a line for each entry of a keytab, or a table for people.
     ListKeytab {
         /// The keytab's path.
         file: &'a str,
+        /// Whether it is listed as a table.
+        readable: bool,
     },
-    /// `list-ccache FILE`: a line for each credential of a cache, behind what the cache says of itself.
+    /// `list-ccache [--readable [--now SECONDS]] FILE`: a line for each credential of a cache, after what the cache says of itself, or a
+    /// table for people.
     ListCcache {
         /// The cache's path.
         file: &'a str,
+        /// How it is listed.
+        form: CacheForm<'a>,
     },
     /// `check-keytab FILE`: how many entries a keytab has.
     CheckKeytab {
@@ -21,23 +26,24 @@ pub enum Order<'a> {
         /// The cache's path.
         file: &'a str,
     },
-    /// `convert-keytab FILE OUT`: a keytab written anew.
+    /// `convert-keytab FILE OUT`: a keytab written again.
     ConvertKeytab {
         /// The keytab's path.
         file: &'a str,
         /// The path of what is written.
         out: &'a str,
     },
-    /// `convert-ccache FILE OUT`: a cache written anew.
+    /// `convert-ccache FILE OUT`: a cache written again.
     ConvertCcache {
         /// The cache's path.
         file: &'a str,
         /// The path of what is written.
         out: &'a str,
     },
-    /// `request FILE SERVICE --time S --usec U --confounder H [--mutual]`: a request in hexadecimal.
+    /// `request FILE SERVICE --time S --usec U --confounder H [--mutual] [--token KIND]`: a request in hexadecimal.
     Request(RequestWords<'a>),
-    /// `accept KEYTAB [--skew SECONDS] [--started SECONDS] [--service NAME] [--only NAME]`: the lines of standard input answered by a service.
+    /// `accept KEYTAB [--skew SECONDS] [--started SECONDS] [--service NAME] [--only NAME] [--tokens]`: the lines of standard input answered by
+    /// a service.
     Accept(AcceptWords<'a>),
     /// `finish FILE SERVICE --time S --usec U --reply HEX`: what is agreed by the reply to a request.
     Finish(FinishWords<'a>),
@@ -47,6 +53,18 @@ pub enum Order<'a> {
     RemoveKey(RemoveWords<'a>),
     /// `add-keys KEYTAB FROM OUT`: a keytab with the keys of another.
     AddKeys(AddWords<'a>),
+}
+
+/// How `list-ccache` lists a cache.
+#[derive(Clone, Copy, Debug, PartialEq, Eq)]
+pub enum CacheForm<'a> {
+    /// In lines for programs.
+    Lines,
+    /// As a table for people.
+    Table {
+        /// When tickets are looked at, if that is known: seconds since 1970-01-01, in decimal: 0 to 253402300799.
+        now: Option<&'a str>,
+    },
 }
 
 /// The words of `accept`.
@@ -62,6 +80,8 @@ pub struct AcceptWords<'a> {
     pub service: Option<&'a str>,
     /// The one name for which requests are accepted; of any name of the keytab if absent.
     pub only: Option<&'a str>,
+    /// Whether the lines hold tokens of GSS-API.
+    pub tokens: bool,
 }
 
 /// The words of `add-keys`.
@@ -129,4 +149,6 @@ pub struct RequestWords<'a> {
     pub confounder: &'a str,
     /// Whether a reply is asked for.
     pub mutual: bool,
+    /// The kind of token that holds the request: `gss` or `spnego`; no token if absent.
+    pub token: Option<&'a str>,
 }

@@ -1,6 +1,6 @@
 //! The line that is being read.
 
-ghost use Rattle.std.specs.Prelude.{◌≡◌, ◌↔◌, ◌++◌, ◌∷◌, ℕ, IsTrue, List, Ok, None, IfOk, IfSome, OnOk, []};
+ghost use Rattle.std.specs.Prelude.{◌≡◌, ◌↔◌, ◌++◌, ℕ, IsTrue, List, Ok, None, IfOk, IfSome, OnOk, []};
 ghost use Rattle.krb_ap.specs.Setup.{arrival};
 ghost use Rattle.krbtool.specs.CallLine.{SpellsCall, IsBadLine};
 ghost use Rattle.krbtool.specs.Inner.Held.{Holds};
@@ -26,20 +26,19 @@ impl PartLine {
         }
     }
 
-    /// Adds a byte.
-    pub(crate) fn push(&mut self, byte: u8) -> Result<(), AllocError>
-        ensures { OnOk result ((line : List ℕ) → Holds self.old line → Holds self.new (line ++ byte ∷ [])) }
+    /// Adds bytes.
+    pub(crate) fn extend(&mut self, more: &[u8]) -> Result<(), AllocError>
+        ensures { OnOk result ((line : List ℕ) → Holds self.old line → Holds self.new (line ++ more.now)) }
     {
         if self.too_long {
             return Ok(());
         }
-        if self.bytes.len() >= LINE_LIMIT {
+        if LINE_LIMIT.saturating_sub(self.bytes.len()) < more.len() {
             self.bytes.clear();
             self.too_long = true;
             return Ok(());
         }
-        self.bytes.push(byte)?;
-        Ok(())
+        self.bytes.extend_from_slice(more)
     }
 
     /// Goes on to the beginning of the next line.

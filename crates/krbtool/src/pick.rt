@@ -21,7 +21,7 @@ use krb_name::{Principal, Sink, Source, write_all};
 use std::alloc::{AllocError, Global};
 
 /// Picks the entry of a keytab that a ticket for `name` would be opened with, as `Keytab::pick` does, and writes its line, as
-/// `list_keytab` does.
+/// `list-keytab` does.
 ///
 /// The whole source is read before the line is written, so a fault of the content leaves the sink as it was.
 ///

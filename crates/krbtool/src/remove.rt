@@ -17,7 +17,7 @@ use krb_name::{Sink, Source};
 use std::alloc::Global;
 
 /// Writes a keytab with a hole in place of the entry `index`, and returns how many bytes it has: as
-/// many as were read. Entries are counted from 0, as `list_keytab` lists them.
+/// many as were read. Entries are counted from 0, as `list-keytab` lists them.
 ///
 /// The hole has the size of the entry's record and only zero bytes. All other bytes stay the same.
 /// The whole source is read before a byte is written, so a fault of the content leaves the sink

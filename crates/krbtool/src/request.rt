@@ -1,6 +1,6 @@
 //! The engine of `request`, and the words that it reads.
 
-ghost use Rattle.std.specs.Prelude.{◌≡◌, ◌≢◌, ◌⊎◌, ◌+◌, ◌-◌, ◌^◌, ◌<◌, ℕ, List, Some, None, Result, Err, pos, IfOk, IfErr, IfSome, OnOk, OnErr, string_bytes};
+ghost use Rattle.std.specs.Prelude.{◌≡◌, ◌≢◌, ◌⊎◌, ◌+◌, ◌-◌, ◌^◌, ◌<◌, ℕ, List, Some, None, Result, Err, pos, length, IfOk, IfErr, IfSome, OnOk, OnErr, string_bytes};
 ghost use Rattle.std.specs.Io.KnownBytes.{Appends, Keeps};
 ghost use Rattle.krb_name.specs.File.{LeavesTail};
 ghost use Rattle.krb_name.specs.Flow.{AppendsBeginning};
@@ -10,18 +10,21 @@ ghost use Rattle.krb_name.specs.declared.text_fault.TextFault.{TextFault};
 ghost use Rattle.krb_ccache.specs.Format.{IsCache, IsFaultOf};
 ghost use Rattle.krb_ccache.specs.Value.{Cache};
 ghost use Rattle.krb_ccache.specs.declared.fault.CacheFault.{CacheFault};
-ghost use Rattle.krb_ap.specs.Request.{Prevents};
+ghost use Rattle.krb_der.specs.Spells.{limit};
+ghost use Rattle.krb_gss.specs.Wrapping.{request_size};
+ghost use Rattle.krb_gss.specs.declared.opening.Wrapping.{Wrapping};
 ghost use Rattle.krb_ap.specs.declared.request_fault.RequestFault.{RequestFault};
 ghost use Rattle.krb_ap.specs.declared.request_fault.RequestFault.TheVariants.{OutOfMemory};
 ghost use Rattle.krbtool.specs.CallLine.{SpellsConfounder};
 ghost use Rattle.krbtool.specs.Engine.{IsOfRequest, OfFile, cache_fault, request_fault, FailsWithCache, failed_reads, failed_writes};
-ghost use Rattle.krbtool.specs.Requesting.{IsRequested, plain_options, request_line};
+ghost use Rattle.krbtool.specs.Requesting.{IsAskedFor, IsRequested, IsTokenOf, IsTokenWord, IsUnprinted, PreventsAsked, chosen_options, context_for, request_line};
 
 use crate::call_line::confounder_of;
 use crate::fault::EngineFault;
 use krb_ap::laws::built_or_prevented;
-use krb_ap::{RequestFault, RequestOptions, make_request};
+use krb_ap::{ContextRequest, RequestFault, RequestOptions, make_request};
 use krb_ccache::CCache;
+use krb_gss::{ContextFlag, Mechanism, WrapFault, Wrapping, wrap_request};
 use krb_msg::Moment;
 use krb_name::{Principal, Sink, Source, TextFault, write_all};
 use std::alloc::{AllocError, Global};
@@ -50,16 +53,44 @@ pub fn read_confounder(text: &str) -> Option<[u8; 16]>
     confounder_of(text.as_bytes())
 }
 
-/// Builds a request for `service` with a credential cache, as `make_request` does, and writes it as a line of lower-case hexadecimal
-/// digits.
+/// Reads the word for the kind of token that holds a request: `gss` for a token of Kerberos alone, `spnego` for one in a negotiation that
+/// names Kerberos. `None` for any other word.
+pub fn read_wrapping(word: &str) -> Option<Wrapping>
+    ensures found { IfSome result (IsTokenWord word.now) }
+    ensures none { result ≡ None → (wrapping : Wrapping) → IsTokenWord word.now wrapping → ⊥ }
+{
+    match word {
+        "gss" => Some(Wrapping::Bare),
+        "spnego" => Some(Wrapping::Negotiated(Mechanism::Kerberos)),
+        _ => None,
+    }
+}
+
+/// What is asked of a credential cache.
+#[derive(Drop)]
+pub struct Asked {
+    /// The service that the request is for.
+    pub service: Principal,
+    /// The client's clock.
+    pub at: Moment,
+    /// 16 random bytes, new for each request.
+    pub confounder: [u8; 16],
+    /// Whether the service is asked for a reply.
+    pub wants_reply: bool,
+    /// What the token that holds the request stands in; `None` for the request without a token.
+    pub wrapping: Option<Wrapping>,
+}
+
+/// Builds a request with a credential cache, as `make_request` does, and writes it, or the token that holds it, as a line of lower-case
+/// hexadecimal digits.
 ///
-/// `at` is the client's clock, `confounder` is 16 random bytes, new for each request, and `wants_reply` asks the service for a reply.
-/// The request tells no subkey and no sequence number. The whole source is read and the request built before anything is written, so
-/// a fault of the content leaves the sink as it was.
+/// The request has no subkey. In a token it has the sequence number 0 and the checksum that GSS-API asks for (RFC 4121, section 4.1.1), with
+/// the flag of a reply if one is asked for; otherwise it has neither. The token is that of `wrap_request`, and gives Kerberos its own name. The whole
+/// source is read and the request built before anything is written, so a fault of the content leaves the sink as it was.
 ///
 /// # Errors
 /// - `Cache`: what was read is no credential cache, or couldn't be read, or there was no room for it.
-/// - `Request`: no request is built with it, or there was no room for that.
+/// - `Request`: no request is built with it, the token would have more than 1,048,576 bytes, or there was no room for them.
 /// - `Write`: the sink failed; it took a beginning of the line.
 /// - `OutOfMemory`: there was no room for the line.
 ///
@@ -68,29 +99,25 @@ pub fn request_line<S: Source, T: Sink>(
     alloc: Global,
     source: &mut S,
     sink: &mut T,
-    service: &Principal,
-    at: Moment,
-    confounder: &[u8; 16],
-    wants_reply: bool,
+    asked: &Asked,
 ) -> Result<(), EngineFault>
     requires source { S.failure_count source.old < 2 ^ 64 - 1 }
     requires sink { T.failure_count sink.old < 2 ^ 64 - 1 }
     ensures requested { OnOk result (OfFile IsCache (S.remaining source.old) (λ cache.
-        (bytes : List ℕ) × (IsRequested cache service.now at confounder.now wants_reply bytes
+        (bytes : List ℕ) × (IsAskedFor cache asked.now bytes
         × Appends (T.taken sink.old) (T.taken sink.new) (request_line bytes)))) }
 
-    // A fault of the content is the file's own, and is answered wherever the file has it; or it prevents the request, and nothing
-    // is requested wherever something does.
+    // A fault of the content is the file's own, and is answered wherever the file has it; or it says why nothing is printed, and nothing
+    // is requested wherever something prevents the request.
     ensures fault { IfErr result (λ e. IfSome (cache_fault e) (λ fault.
         IfSome (S.remaining source.old) (λ bytes. IsFaultOf bytes fault))) }
     ensures faulty { (bytes : List ℕ) (fault : CacheFault)
         → S.remaining source.old ≡ Some bytes → IsFaultOf bytes fault → FailsWithCache result fault }
     ensures prevented { IfErr result (λ e. IfSome (request_fault e) (λ fault.
-        OfFile IsCache (S.remaining source.old) (λ cache.
-        Prevents cache service.now at confounder.now (plain_options wants_reply) fault))) }
+        OfFile IsCache (S.remaining source.old) (λ cache. IsUnprinted cache asked.now fault))) }
     ensures none { (bytes : List ℕ) (cache : Cache) (fault : RequestFault)
         → S.remaining source.old ≡ Some bytes → IsCache bytes cache
-        → Prevents cache service.now at confounder.now (plain_options wants_reply) fault → OnOk result ⊥ }
+        → PreventsAsked cache asked.now fault → OnOk result ⊥ }
 
     // Where there is no request, the sink is as it was; at any other fault it took a beginning of the line.
     ensures unread { (fault : CacheFault) → result ≡ Err (EngineFault.Cache fault)
@@ -99,7 +126,7 @@ pub fn request_line<S: Source, T: Sink>(
         → Keeps (T.taken sink.old) (T.taken sink.new) }
     ensures begun { (result ≡ Err EngineFault.Write) ⊎ (result ≡ Err EngineFault.OutOfMemory)
         → OfFile IsCache (S.remaining source.old) (λ cache.
-        (bytes : List ℕ) × (IsRequested cache service.now at confounder.now wants_reply bytes
+        (bytes : List ℕ) × (IsAskedFor cache asked.now bytes
         × AppendsBeginning (T.taken sink.old) (T.taken sink.new) (request_line bytes))) }
     ensures kind { IfErr result IsOfRequest }
     ensures reads { S.failure_count source.new ≡ S.failure_count source.old + failed_reads result }
@@ -107,29 +134,24 @@ pub fn request_line<S: Source, T: Sink>(
     ensures writes { T.failure_count sink.new ≡ T.failure_count sink.old + failed_writes result }
 {
     let cache = CCache::read(alloc, source)?;
-    write_request(alloc, &cache, sink, service, at, confounder, wants_reply)
+    write_request(alloc, &cache, sink, asked)
 }
 
 fn write_request<T: Sink>(
     alloc: Global,
     cache: &CCache,
     sink: &mut T,
-    service: &Principal,
-    at: Moment,
-    confounder: &[u8; 16],
-    wants_reply: bool,
+    asked: &Asked,
 ) -> Result<(), EngineFault>
     requires { T.failure_count sink.old < 2 ^ 64 - 1 }
-    ensures requested { OnOk result ((bytes : List ℕ) × (IsRequested cache.now service.now at confounder.now wants_reply bytes
+    ensures requested { OnOk result ((bytes : List ℕ) × (IsAskedFor cache.now asked.now bytes
         × Appends (T.taken sink.old) (T.taken sink.new) (request_line bytes))) }
-    ensures prevented { IfErr result (λ e. IfSome (request_fault e) (λ fault.
-        Prevents cache.now service.now at confounder.now (plain_options wants_reply) fault)) }
-    ensures none { (fault : RequestFault)
-        → Prevents cache.now service.now at confounder.now (plain_options wants_reply) fault → OnOk result ⊥ }
+    ensures prevented { IfErr result (λ e. IfSome (request_fault e) (λ fault. IsUnprinted cache.now asked.now fault)) }
+    ensures none { (fault : RequestFault) → PreventsAsked cache.now asked.now fault → OnOk result ⊥ }
     ensures unmade { (fault : RequestFault) → result ≡ Err (EngineFault.Request fault)
         → Keeps (T.taken sink.old) (T.taken sink.new) }
     ensures begun { (result ≡ Err EngineFault.Write) ⊎ (result ≡ Err EngineFault.OutOfMemory)
-        → (bytes : List ℕ) × (IsRequested cache.now service.now at confounder.now wants_reply bytes
+        → (bytes : List ℕ) × (IsAskedFor cache.now asked.now bytes
         × AppendsBeginning (T.taken sink.old) (T.taken sink.new) (request_line bytes)) }
     ensures kind { IfErr result (λ e. (fault : CacheFault) → e ≡ EngineFault.Cache fault → ⊥) }
     ensures reads { failed_reads result ≡ 0 }
@@ -137,32 +159,89 @@ fn write_request<T: Sink>(
     ensures writes { T.failure_count sink.new ≡ T.failure_count sink.old + failed_writes result }
 {
     built_or_prevented();
-    let bytes = requested(alloc, cache, service, at, confounder, wants_reply)?;
+    let bytes = printed_bytes(alloc, cache, asked)?;
     let line = line_of(alloc, &bytes)?;
     write_all(sink, line.as_bytes())?;
     Ok(())
 }
 
-// The request's bytes.
-fn requested(
-    alloc: Global,
-    cache: &CCache,
-    service: &Principal,
-    at: Moment,
-    confounder: &[u8; 16],
-    wants_reply: bool,
-) -> Result<Vec<u8>, RequestFault>
-    ensures request { IfOk result (λ bytes. IsRequested cache.now service.now at confounder.now wants_reply bytes.items) }
-    ensures fault { IfErr result (λ fault. fault ≢ OutOfMemory
-        → Prevents cache.now service.now at confounder.now (plain_options wants_reply) fault) }
+// The bytes that are printed: the request, or the token that holds it.
+fn printed_bytes(alloc: Global, cache: &CCache, asked: &Asked) -> Result<Vec<u8>, RequestFault>
+    ensures bytes { IfOk result (λ bytes. IsAskedFor cache.now asked.now bytes.items) }
+    ensures fault { IfErr result (λ fault. fault ≢ OutOfMemory → IsUnprinted cache.now asked.now fault) }
 {
-    let options = RequestOptions {
-        mutual: wants_reply,
-        subkey: None,
-        seq: None,
-    };
-    let (bytes, _) = make_request(alloc, cache, service, at, confounder, options)?;
+    let request = requested(alloc, cache, asked)?;
+    match asked.wrapping {
+        Some(wrapping) => token_of(alloc, wrapping, &request),
+        None => Ok(request),
+    }
+}
+
+// The request's bytes.
+fn requested(alloc: Global, cache: &CCache, asked: &Asked) -> Result<Vec<u8>, RequestFault>
+    ensures request { IfOk result (λ bytes.
+        IsRequested cache.now asked.now bytes.items) }
+    ensures fault { IfErr result (λ fault. fault ≢ OutOfMemory → PreventsAsked cache.now asked.now fault) }
+{
+    let options = options_of(asked);
+    let (bytes, _) = make_request(
+        alloc,
+        cache,
+        &asked.service,
+        asked.at,
+        &asked.confounder,
+        options,
+    )?;
     Ok(bytes)
+}
+
+fn options_of(asked: &Asked) -> RequestOptions
+    ensures { result ≡ chosen_options asked.now.wants_reply asked.now.wrapping }
+{
+    match asked.wrapping {
+        Some(_) => RequestOptions {
+            mutual: asked.wants_reply,
+            subkey: None,
+            seq: Some(0),
+            context: Some(context_for(asked.wants_reply)),
+        },
+        None => RequestOptions {
+            mutual: asked.wants_reply,
+            subkey: None,
+            seq: None,
+            context: None,
+        },
+    }
+}
+
+// What the client of a token asks for.
+fn context_for(wants_reply: bool) -> ContextRequest
+    ensures { result ≡ context_for wants_reply }
+{
+    let flags = if wants_reply {
+        ContextFlag::Mutual.bit()
+    } else {
+        0
+    };
+    ContextRequest {
+        flags,
+        bindings: [0; 16],
+    }
+}
+
+// The token that holds the request.
+fn token_of(alloc: Global, wrapping: Wrapping, request: &[u8]) -> Result<Vec<u8>, RequestFault>
+    ensures token { IfOk result (λ token. IsTokenOf wrapping request.now token.items) }
+    ensures fault { IfErr result (λ fault. fault ≢ OutOfMemory
+        → (fault ≡ RequestFault.TooLong) × (limit < request_size wrapping (length request.now))) }
+{
+    match wrap_request(alloc, wrapping, Mechanism::Kerberos, request) {
+        Ok(token) => Ok(token),
+        Err(fault) => match fault {
+            WrapFault::TooLong => Err(RequestFault::TooLong),
+            WrapFault::OutOfMemory => Err(RequestFault::OutOfMemory),
+        },
+    }
 }
 
 fn line_of(alloc: Global, bytes: &[u8]) -> Result<String, AllocError>

@@ -3,17 +3,20 @@
 ghost use Rattle.std.specs.Prelude.{◌≡◌, ◌<◌, ◌-◌, ◌^◌, IfOk};
 ghost use Rattle.krb_name.specs.Flow.{source_failures};
 
-use crate::check::{check_ccache, check_keytab};
-use crate::convert::{convert_ccache, convert_keytab};
-use crate::fault::{EngineFault, FAILED, status};
+use crate::check::check;
+use crate::convert::convert;
+use crate::fault::{EngineFault, FAILED, WRONG_WORDS, status};
 use crate::fault_line::{FaultLine, fault_line, file_line};
-use crate::list::{list_ccache, list_keytab};
-use crate::order::Order;
+use crate::list::{Lines, list};
+use crate::order::{CacheForm, Order};
 use crate::run_accept::run_accept;
 use crate::run_edit::{run_add, run_remove};
 use crate::run_finish::run_finish;
 use crate::run_pick::run_pick;
 use crate::run_request::run_request;
+use crate::table::{CacheTable, KeytabTable};
+use krb_ccache::CCache;
+use krb_keytab::Keytab;
 use krb_name::{ReadSource, Sink, Source, WriteSink};
 use std::alloc::Global;
 use std::fs::{File, OpenOptions};
@@ -33,6 +36,8 @@ const OWNER_ALONE: u32 = 0o600;
 enum OnFile {
     ListKeytab,
     ListCcache,
+    TableKeytab,
+    TableCcache(Option<u64>),
     CheckKeytab,
     CheckCcache,
 }
@@ -40,8 +45,8 @@ enum OnFile {
 impl OnFile {
     fn name(self) -> &'static str {
         match self {
-            OnFile::ListKeytab => "list-keytab",
-            OnFile::ListCcache => "list-ccache",
+            OnFile::ListKeytab | OnFile::TableKeytab => "list-keytab",
+            OnFile::ListCcache | OnFile::TableCcache(_) => "list-ccache",
             OnFile::CheckKeytab => "check-keytab",
             OnFile::CheckCcache => "check-ccache",
         }
@@ -57,15 +62,21 @@ impl OnFile {
         requires sink { T.failure_count sink.old < 2 ^ 64 - 1 }
     {
         match self {
-            OnFile::ListKeytab => list_keytab(alloc, source, sink),
-            OnFile::ListCcache => list_ccache(alloc, source, sink),
-            OnFile::CheckKeytab => check_keytab(alloc, source, sink),
-            OnFile::CheckCcache => check_ccache(alloc, source, sink),
+            OnFile::ListKeytab => list::<Keytab, Lines, S, T>(alloc, source, sink, &Lines),
+            OnFile::ListCcache => list::<CCache, Lines, S, T>(alloc, source, sink, &Lines),
+            OnFile::TableKeytab => {
+                list::<Keytab, KeytabTable, S, T>(alloc, source, sink, &KeytabTable)
+            }
+            OnFile::TableCcache(now) => {
+                list::<CCache, CacheTable, S, T>(alloc, source, sink, &CacheTable { now })
+            }
+            OnFile::CheckKeytab => check::<Keytab, S, T>(alloc, source, sink),
+            OnFile::CheckCcache => check::<CCache, S, T>(alloc, source, sink),
         }
     }
 }
 
-// Which kind of file is written anew.
+// Which kind of file is written again.
 #[derive(Clone, Copy)]
 enum Convert {
     Keytab,
@@ -83,18 +94,21 @@ impl Convert {
         requires sink { T.failure_count sink.old < 2 ^ 64 - 1 }
     {
         match self {
-            Convert::Keytab => convert_keytab(alloc, source, sink),
-            Convert::Ccache => convert_ccache(alloc, source, sink),
+            Convert::Keytab => convert::<Keytab, S, T>(alloc, source, sink),
+            Convert::Ccache => convert::<CCache, S, T>(alloc, source, sink),
         }
     }
 }
 
-/// Runs an order, and answers the exit status: 0 where all is well, 1 where content is refused, 3
-/// where a file, the output or memory failed.
+/// Runs an order, and returns the exit status: 0 if all is well, 1 if content is refused, 3
+/// if a file, the output or memory failed.
 pub(crate) fn run<R: AllocGlobal + Files + Input + Print + Eprint>(rt: &R, order: Order<'_>) -> u8 {
     match order {
-        Order::ListKeytab { file } => run_on_file(rt, OnFile::ListKeytab, file),
-        Order::ListCcache { file } => run_on_file(rt, OnFile::ListCcache, file),
+        Order::ListKeytab { file, readable } => run_on_file(rt, on_keytab(readable), file),
+        Order::ListCcache { file, form } => match on_ccache(form) {
+            Some(command) => run_on_file(rt, command, file),
+            None => WRONG_WORDS,
+        },
         Order::CheckKeytab { file } => run_on_file(rt, OnFile::CheckKeytab, file),
         Order::CheckCcache { file } => run_on_file(rt, OnFile::CheckCcache, file),
         Order::ConvertKeytab { file, out } => run_convert(rt, Convert::Keytab, file, out),
@@ -105,6 +119,26 @@ pub(crate) fn run<R: AllocGlobal + Files + Input + Print + Eprint>(rt: &R, order
         Order::PickKey(words) => run_pick(rt, words),
         Order::RemoveKey(words) => run_remove(rt, words),
         Order::AddKeys(words) => run_add(rt, words),
+    }
+}
+
+fn on_keytab(readable: bool) -> OnFile {
+    if readable {
+        OnFile::TableKeytab
+    } else {
+        OnFile::ListKeytab
+    }
+}
+
+// The words of the command line were read as a number in this range.
+fn on_ccache(form: CacheForm<'_>) -> Option<OnFile> {
+    match form {
+        CacheForm::Lines => Some(OnFile::ListCcache),
+        CacheForm::Table { now: None } => Some(OnFile::TableCcache(None)),
+        CacheForm::Table { now: Some(text) } => {
+            let now = text.parse::<u64>().ok()?;
+            Some(OnFile::TableCcache(Some(now)))
+        }
     }
 }
 
@@ -131,7 +165,7 @@ fn printed<R: AllocGlobal + Files + Print>(
     sink.into_inner().flush().map_err(|_| EngineFault::Write)
 }
 
-// Writes the file anew into OUT, and says on standard output how many bytes that took.
+// Writes the file again, into OUT, and says on standard output how many bytes that took.
 fn run_convert<R: AllocGlobal + Files + Print + Eprint>(
     rt: &R,
     kind: Convert,

@@ -1,8 +1,9 @@
 //! Running `accept`: its words are read before its keytab is opened.
 
-use crate::accept::accept_lines;
+use crate::accept::{AnswerOptions, accept_lines};
 use crate::fault::{EngineFault, FAILED, WRONG_WORDS, service_status};
 use crate::fault_line::{file_line, name_line};
+use crate::form::Form;
 use crate::order::AcceptWords;
 use crate::request::read_service;
 use crate::run::{complain, complain_of, source_of};
@@ -24,7 +25,7 @@ struct Times {
     start: Option<Moment>,
 }
 
-/// Answers the lines of standard input by the keytab, and answers the exit status.
+/// Answers the lines of standard input by the keytab, and returns the exit status.
 pub(crate) fn run_accept<R: AllocGlobal + Files + Input + Print + Eprint>(
     rt: &R,
     words: AcceptWords<'_>,
@@ -44,7 +45,11 @@ pub(crate) fn run_accept<R: AllocGlobal + Files + Input + Print + Eprint>(
         Err(fault) => return complain(rt, name_line("only", &fault), service_status(&fault)),
     };
     let times = Times { skew, start };
-    match accepted(rt, words.keytab, only.as_ref(), times, service.as_ref()) {
+    let options = AnswerOptions {
+        form: form_of(words.tokens),
+        service: service.as_ref(),
+    };
+    match accepted(rt, words.keytab, only.as_ref(), times, &options) {
         Some(Ok(status)) => status,
         Some(Err(fault)) => complain_of(rt, &fault, words.keytab, "accept"),
         None => complain(rt, file_line(words.keytab), FAILED),
@@ -57,11 +62,11 @@ fn accepted<R: AllocGlobal + Files + Input + Print>(
     path: &str,
     only: Option<&Principal>,
     times: Times,
-    service: Option<&Principal>,
+    options: &AnswerOptions<'_>,
 ) -> Option<Result<u8, EngineFault>> {
     let opened = File::open(rt, path).ok()?;
     Some(match read_keytab(rt.alloc(), opened, only) {
-        Ok(keytab) => answered(rt, keytab, times, service),
+        Ok(keytab) => answered(rt, keytab, times, options),
         Err(fault) => Err(fault),
     })
 }
@@ -93,6 +98,10 @@ fn start_of(seconds: Option<&str>) -> Option<Option<Moment>> {
     }
 }
 
+fn form_of(tokens: bool) -> Form {
+    if tokens { Form::Token } else { Form::Message }
+}
+
 fn service_of(alloc: Global, text: Option<&str>) -> Result<Option<Principal>, TextFault> {
     match text {
         Some(text) => Ok(Some(read_service(alloc, text)?)),
@@ -105,7 +114,7 @@ fn answered<R: AllocGlobal + Input + Print>(
     rt: &R,
     keytab: Keytab,
     times: Times,
-    service: Option<&Principal>,
+    options: &AnswerOptions<'_>,
 ) -> Result<u8, EngineFault> {
     let memory = TimedMemory::new(rt.alloc());
     let mut acceptor = match times.start {
@@ -114,5 +123,5 @@ fn answered<R: AllocGlobal + Input + Print>(
     };
     let mut source = ReadSource::new(rt.reader());
     let mut sink = WriteSink::new(io::writer(rt));
-    accept_lines(rt.alloc(), &mut acceptor, &mut source, &mut sink, service)
+    accept_lines(rt.alloc(), &mut acceptor, &mut source, &mut sink, options)
 }

@@ -21,7 +21,7 @@ struct Replied {
     reply: Vec<u8>,
 }
 
-/// Reads the reply to a request and prints what is agreed, and answers the exit status.
+/// Reads the reply to a request and prints what is agreed, and returns the exit status.
 pub(crate) fn run_finish<R: AllocGlobal + Files + Print + Eprint>(
     rt: &R,
     words: FinishWords<'_>,

@@ -19,7 +19,7 @@ struct Wanted {
     kvno: Option<u32>,
 }
 
-/// Prints the entry of the keytab that is picked, and answers the exit status.
+/// Prints the entry of the keytab that is picked, and returns the exit status.
 pub(crate) fn run_pick<R: AllocGlobal + Files + Print + Eprint>(
     rt: &R,
     words: PickWords<'_>,

@@ -1,26 +1,18 @@
 //! Running `request`: its words are read before its file is opened.
 
 use crate::fault::{EngineFault, FAILED, WRONG_WORDS, service_status};
-use crate::fault_line::{file_line, hex_line, name_line};
+use crate::fault_line::{file_line, hex_line, name_line, word_line};
 use crate::order::RequestWords;
-use crate::request::{read_confounder, read_service, request_line};
+use crate::request::{Asked, read_confounder, read_service, read_wrapping, request_line};
 use crate::run::{complain, complain_of, source_of};
+use krb_gss::Wrapping;
 use krb_msg::Moment;
-use krb_name::{Principal, WriteSink};
+use krb_name::WriteSink;
 use std::fs::File;
 use std::io;
 use std::rt::Files;
 
-// What is asked for, but for the cache.
-#[derive(Drop)]
-struct Asked {
-    service: Principal,
-    at: Moment,
-    confounder: [u8; 16],
-    mutual: bool,
-}
-
-/// Builds a request with the credential cache and prints it, and answers the exit status.
+/// Builds a request with the credential cache and prints it, and returns the exit status.
 pub(crate) fn run_request<R: AllocGlobal + Files + Print + Eprint>(
     rt: &R,
     words: RequestWords<'_>,
@@ -35,6 +27,9 @@ pub(crate) fn run_request<R: AllocGlobal + Files + Print + Eprint>(
     let Some(confounder) = read_confounder(words.confounder) else {
         return complain(rt, hex_line("confounder"), WRONG_WORDS);
     };
+    let Some(wrapping) = wrapping_of(words.token) else {
+        return complain(rt, word_line("token"), WRONG_WORDS);
+    };
     let Ok(opened) = File::open(rt, words.file) else {
         return complain(rt, file_line(words.file), FAILED);
     };
@@ -42,11 +37,20 @@ pub(crate) fn run_request<R: AllocGlobal + Files + Print + Eprint>(
         service,
         at,
         confounder,
-        mutual: words.mutual,
+        wants_reply: words.mutual,
+        wrapping,
     };
     match printed(rt, opened, &asked) {
         Ok(()) => 0,
         Err(fault) => complain_of(rt, &fault, words.file, "request"),
+    }
+}
+
+// `None` for a word of no token.
+fn wrapping_of(word: Option<&str>) -> Option<Option<Wrapping>> {
+    match word {
+        Some(word) => Some(Some(read_wrapping(word)?)),
+        None => Some(None),
     }
 }
 
@@ -63,13 +67,5 @@ fn printed<R: AllocGlobal + Files + Print>(
 ) -> Result<(), EngineFault> {
     let mut source = source_of(rt.alloc(), file)?;
     let mut sink = WriteSink::new(io::writer(rt));
-    request_line(
-        rt.alloc(),
-        &mut source,
-        &mut sink,
-        &asked.service,
-        asked.at,
-        &asked.confounder,
-        asked.mutual,
-    )
+    request_line(rt.alloc(), &mut source, &mut sink, asked)
 }

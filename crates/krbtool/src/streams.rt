@@ -4,7 +4,7 @@ use std::fs::File;
 use std::io;
 use std::os::fd::{AsRawFd, RawFd};
 
-/// What stands where a stream was closed: a folder, of which no byte can be read and into which none can be written.
+/// What takes the place of a stream that was closed: a folder, from which no byte can be read, and to which none can be written.
 pub(crate) const NOWHERE: &str = "/";
 
 const STANDARD_ERROR: RawFd = 2;
@@ -17,7 +17,7 @@ pub(crate) struct HeldStreams {
     _error: Option<File>,
 }
 
-/// Takes the descriptors 0, 1 and 2 where they are free.
+/// Takes the descriptors 0, 1 and 2 if they are free.
 ///
 /// A file that is opened gets the lowest free descriptor. Without this, a file that is opened after a standard
 /// stream was closed would become that stream, and answers and faults would be written into it. Reading and writing
@@ -33,7 +33,7 @@ pub(crate) fn hold_streams(rt: &HostRuntime) -> io::Result<HeldStreams> {
     })
 }
 
-// Takes the lowest free descriptor, where it is a standard stream's.
+// Takes the lowest free descriptor, if it is a standard stream's.
 fn hold_one(rt: &HostRuntime) -> io::Result<Option<File>> {
     let file = File::open(rt, NOWHERE)?;
     if file.as_raw_fd() <= STANDARD_ERROR {

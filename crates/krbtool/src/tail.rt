@@ -1,10 +1,14 @@
 //! What follows an answer of `accept` on its line.
 
-ghost use Rattle.std.specs.Prelude.{◌≡◌, IfOk, string_bytes};
+ghost use Rattle.std.specs.Prelude.{◌≡◌, IfOk, IsErrOf, string_bytes};
+ghost use Rattle.krb_gss.specs.Answer.{message_of};
+ghost use Rattle.krbtool.specs.Forms.{IsSentTooLong, TellsAnswer};
 ghost use Rattle.krbtool.specs.Tails.{IsErrorTail, IsReplyTail, IsTail, named, tail_status, tail_text};
 
 use crate::fault::FAILED;
+use crate::form::Envelope;
 use krb_ap::{Accepted, Outcome, Refusal, ReplyFault, ReplyOptions, error_reply};
+use krb_gss::{Answer, WrapFault, wrap_answer};
 use krb_msg::Moment;
 use krb_name::Principal;
 use std::alloc::{AllocError, Global};
@@ -14,9 +18,9 @@ use std::alloc::{AllocError, Global};
 pub(crate) enum Tail {
     /// Nothing.
     Nothing,
-    /// A reply, in hexadecimal.
+    /// A reply, or the token that holds it, in hexadecimal.
     Reply(String),
-    /// An error, in hexadecimal.
+    /// An error, or the token that holds it, in hexadecimal.
     Error(String),
     /// Nothing either, since there was no room for it.
     Wanting,
@@ -32,30 +36,36 @@ pub(crate) struct LineAnswer {
 }
 
 /// Makes what follows the answer to a call of this moment: a reply to a request that asks for one and came with a confounder, or the
-/// error that tells of a refusal, where the service's name is given.
+/// error that reports a refusal, if the service's name is given. It is wrapped as the request was.
 pub(crate) fn tail_of(
     alloc: Global,
+    envelope: Option<Envelope>,
     outcome: &Outcome,
     now: Moment,
     confounder: Option<[u8; 16]>,
     service: Option<&Principal>,
 ) -> Tail
-    ensures { IsTail outcome.now now confounder (named service.entry) result }
+    ensures { IsTail envelope outcome.now now confounder (named service.entry) result }
 {
     match outcome {
         Ok(accepted) => match confounder {
-            Some(confounder) => reply_tail(alloc, accepted, &confounder),
+            Some(confounder) => reply_tail(alloc, envelope, accepted, &confounder),
             None => Tail::Nothing,
         },
         Err(refusal) => match service {
-            Some(service) => error_tail(alloc, refusal, now, service),
+            Some(service) => error_tail(alloc, envelope, refusal, now, service),
             None => Tail::Nothing,
         },
     }
 }
 
-fn reply_tail(alloc: Global, accepted: &Accepted, confounder: &[u8; 16]) -> Tail
-    ensures { IsReplyTail accepted.now confounder.now result }
+fn reply_tail(
+    alloc: Global,
+    envelope: Option<Envelope>,
+    accepted: &Accepted,
+    confounder: &[u8; 16],
+) -> Tail
+    ensures { IsReplyTail envelope accepted.now confounder.now result }
 {
     if !accepted.mutual {
         return Tail::Nothing;
@@ -64,8 +74,9 @@ fn reply_tail(alloc: Global, accepted: &Accepted, confounder: &[u8; 16]) -> Tail
         subkey: None,
         seq: None,
     };
+    // A reply without a subkey is far shorter than a token may be.
     match accepted.reply(alloc, confounder, options) {
-        Ok(bytes) => match hex::encode(alloc, bytes) {
+        Ok(bytes) => match sent_text(alloc, envelope, Answer::Reply(&bytes)) {
             Ok(text) => Tail::Reply(text),
             Err(_) => Tail::Wanting,
         },
@@ -73,13 +84,22 @@ fn reply_tail(alloc: Global, accepted: &Accepted, confounder: &[u8; 16]) -> Tail
     }
 }
 
-fn error_tail(alloc: Global, refusal: &Refusal, now: Moment, service: &Principal) -> Tail
-    ensures { IsErrorTail refusal.now now service.now result }
+fn error_tail(
+    alloc: Global,
+    envelope: Option<Envelope>,
+    refusal: &Refusal,
+    now: Moment,
+    service: &Principal,
+) -> Tail
+    ensures { IsErrorTail envelope refusal.now now service.now result }
 {
     match error_reply(alloc, refusal, now, service) {
-        Ok(bytes) => match hex::encode(alloc, bytes) {
+        Ok(bytes) => match sent_text(alloc, envelope, Answer::Error(&bytes)) {
             Ok(text) => Tail::Error(text),
-            Err(_) => Tail::Wanting,
+            Err(fault) => match fault {
+                WrapFault::TooLong => Tail::Nothing,
+                WrapFault::OutOfMemory => Tail::Wanting,
+            },
         },
         Err(fault) => match fault {
             ReplyFault::NoCode => Tail::Nothing,
@@ -87,6 +107,29 @@ fn error_tail(alloc: Global, refusal: &Refusal, now: Moment, service: &Principal
             ReplyFault::OutOfMemory => Tail::Wanting,
         },
     }
+}
+
+// What is sent for an answer, in hexadecimal: its message, or the token that holds it.
+fn sent_text(
+    alloc: Global,
+    envelope: Option<Envelope>,
+    answer: Answer<'_>,
+) -> Result<String, WrapFault>
+    ensures text { IfOk result (λ text. TellsAnswer envelope (message_of answer.entry) (string_bytes text)) }
+    ensures too_long { IsErrOf result WrapFault.TooLong → IsSentTooLong envelope (message_of answer.entry) }
+{
+    match envelope {
+        Some(envelope) => token_text(alloc, envelope, answer),
+        None => Ok(hex::encode(alloc, answer.bytes())?),
+    }
+}
+
+fn token_text(alloc: Global, envelope: Envelope, answer: Answer<'_>) -> Result<String, WrapFault>
+    ensures text { IfOk result (λ text. TellsAnswer (Some envelope) (message_of answer.entry) (string_bytes text)) }
+    ensures too_long { IsErrOf result WrapFault.TooLong → IsSentTooLong (Some envelope) (message_of answer.entry) }
+{
+    let token = wrap_answer(alloc, envelope.wrapping, envelope.mechanism, answer)?;
+    Ok(hex::encode(alloc, token)?)
 }
 
 /// Gives what is printed of it, with a space in front.
@@ -101,7 +144,7 @@ pub(crate) fn tail_text(alloc: Global, tail: &Tail) -> Result<String, AllocError
     }
 }
 
-/// Answers what it makes of the exit status: 3 where memory was wanting, else 0.
+/// Returns what it makes of the exit status: 3 if memory ran out, else 0.
 pub(crate) fn status_of_tail(tail: &Tail) -> u8
     ensures { result ≡ tail_status tail.now }
 {

@@ -1,12 +1,12 @@
 //! The command line.
 
-ghost use Rattle.std.specs.Prelude.{◌≡◌, Some, IfOk, IfSome, codes, map};
+ghost use Rattle.std.specs.Prelude.{◌≡◌, Some, IfOk, IfSome, map};
 ghost use Rattle.clap.specs.Words.{rows_of, found_of, subcommand_of, subcommand_rows_of};
-ghost use Rattle.krbtool.specs.CommandLine.{krbtool, AsksAcceptance, AsksAddition, AsksFinish, AsksPick, AsksRemoval, AsksRequest, HasFlag, HasFile, HasFiles, IsOrder};
+ghost use Rattle.krbtool.specs.CommandLine.{krbtool, AsksAcceptance, AsksAddition, AsksFinish, AsksForm, AsksPick, AsksRemoval, AsksRequest, HasFlag, HasFile, HasFiles, IsOrder};
 
 use crate::commands::krbtool_command;
 use crate::order::{
-    AcceptWords, AddWords, FinishWords, Order, PickWords, RemoveWords, RequestWords,
+    AcceptWords, AddWords, CacheForm, FinishWords, Order, PickWords, RemoveWords, RequestWords,
 };
 use clap::error::ErrorKind;
 use clap::{ArgMatches, Error};
@@ -30,7 +30,22 @@ fn files_of<'a>(matches: &ArgMatches<'a>) -> Option<(&'a str, &'a str)>
     Some((file, out))
 }
 
-// The values of KEYTAB, and of skew, started, service and only.
+// Whether readable was given, and the value of now. (clap refuses now without readable.)
+#[tactic(auto, using(crate::proofs::Getters::getters))]
+fn form_of<'a>(matches: &ArgMatches<'a>) -> Option<CacheForm<'a>>
+    ensures { IfSome result (λ form. AsksForm (rows_of (found_of matches.now)) form) }
+{
+    let now = matches.get_str("now");
+    if has_flag(matches, "readable") {
+        return Some(CacheForm::Table { now });
+    }
+    match now {
+        Some(_) => None,
+        None => Some(CacheForm::Lines),
+    }
+}
+
+// The values of KEYTAB, and of skew, started, service and only, and whether tokens was given.
 #[tactic(auto, using(crate::proofs::Getters::getters))]
 fn acceptance_of<'a>(matches: &ArgMatches<'a>) -> Option<AcceptWords<'a>>
     ensures { IfSome result (λ words. AsksAcceptance (rows_of (found_of matches.now)) words) }
@@ -40,24 +55,26 @@ fn acceptance_of<'a>(matches: &ArgMatches<'a>) -> Option<AcceptWords<'a>>
     let started = matches.get_str("started");
     let service = matches.get_str("service");
     let only = matches.get_str("only");
+    let tokens = has_flag(matches, "tokens");
     Some(AcceptWords {
         keytab,
         skew,
         started,
         service,
         only,
+        tokens,
     })
 }
 
-// Whether the flag mutual was given.
+// Whether this flag was given.
 #[tactic(auto, using(crate::proofs::Getters::getters))]
-fn is_mutual(matches: &ArgMatches<'_>) -> bool
-    ensures { HasFlag (rows_of (found_of matches.now)) (codes "mutual") result }
+fn has_flag(matches: &ArgMatches<'_>, name: &str) -> bool
+    ensures { HasFlag (rows_of (found_of matches.now)) name.now result }
 {
-    matches.get_flag("mutual")
+    matches.get_flag(name)
 }
 
-// The values of SERVICE, time, usec and confounder, and whether mutual was given.
+// The values of SERVICE, time, usec, confounder and token, and whether mutual was given.
 #[tactic(auto, using(crate::proofs::Getters::getters))]
 fn request_of<'a>(matches: &ArgMatches<'a>) -> Option<RequestWords<'a>>
     ensures { IfSome result (λ words. AsksRequest (rows_of (found_of matches.now)) words) }
@@ -67,7 +84,8 @@ fn request_of<'a>(matches: &ArgMatches<'a>) -> Option<RequestWords<'a>>
     let time = matches.get_str("time")?;
     let usec = matches.get_str("usec")?;
     let confounder = matches.get_str("confounder")?;
-    let mutual = is_mutual(matches);
+    let mutual = has_flag(matches, "mutual");
+    let token = matches.get_str("token");
     Some(RequestWords {
         file,
         service,
@@ -75,6 +93,7 @@ fn request_of<'a>(matches: &ArgMatches<'a>) -> Option<RequestWords<'a>>
         usec,
         confounder,
         mutual,
+        token,
     })
 }
 
@@ -143,9 +162,11 @@ fn order_of<'a>(name: &str, matches: &ArgMatches<'a>) -> Option<Order<'a>>
     match name {
         "list-keytab" => Some(Order::ListKeytab {
             file: file_of(matches)?,
+            readable: has_flag(matches, "readable"),
         }),
         "list-ccache" => Some(Order::ListCcache {
             file: file_of(matches)?,
+            form: form_of(matches)?,
         }),
         "check-keytab" => Some(Order::CheckKeytab {
             file: file_of(matches)?,
@@ -200,7 +221,7 @@ fn matches_of<'a>(alloc: Global, words: &'a [&'a str]) -> Result<ArgMatches<'a>,
 /// Answers what the words of a command line ask for; the first is the program's name.
 ///
 /// # Errors
-/// `clap`'s own: a fault of the words, help where it was asked for, or out of memory.
+/// `clap`'s own: a fault of the words, help if it was asked for, or out of memory.
 pub fn read_words<'a>(alloc: Global, words: &'a [&'a str]) -> Result<Order<'a>, Error>
     ensures order { IfOk result (λ order. IsOrder order (subcommand_of krbtool (map (λ w. w.now) words.entry.now))) }
 {

@@ -1,4 +1,4 @@
--- What is read of the parts of a cache, and the place behind it; nothing, where they don't stand there.
+-- What is read of the parts of a cache, and the place after it; nothing, if they aren't there.
 use Rattle.std.specs.Prelude.{ℕ, ◌==◌, ◌&&◌, not, Bool, true, false, ℤ, List, length, Option, Some, None, if◌then◌else◌}
 use Rattle.std.specs.Int.{w8, w16, w32}
 use Rattle.krb_name.specs.Cursor.{Place, ◌>>=◌, bytes_at, number_at, signed_at, data_at, times_at}
@@ -13,7 +13,7 @@ use Rattle.krb_ccache.specs.Format.{second_size, Spelled}
 
 -- ---- ways to join readings
 
--- one thing and another behind it
+-- one thing and another after it
 abbrev pub both_at : {X Y : Type 0} → (Place → Option (X × Place)) → (Place → Option (Y × Place)) → Place → Option ((X × Y) × Place)
 both_at first second place = do
   x ← first place
@@ -67,6 +67,10 @@ name_at place = do
   components ← times_at (data_at w32) count.0 realm.1
   Some (record { realm = realm.0; name_type = name_type.0; components = components.0 }, components.1)
 
+-- so many bytes, and then so many strings
+abbrev pub strings_at : ℕ → ℕ → Place → Option ((List ℕ × List (List ℕ)) × Place)
+strings_at length count = both_at (bytes_at length) (times_at (data_at w32) count)
+
 abbrev pub flag_of : ℕ → Option Bool
 flag_of number = if number == 0 then Some false else (if number == 1 then Some true else None)
 
@@ -86,9 +90,15 @@ unfoldable pub list_at : Place → Option (List TypedBytes × Place)
 list_at place = counted_at typed_at place
 
 -- a credential's fields in their order, and the bytes that come after its encryption type
+abbrev pub PartsOf : Type 0 → Type 0
+PartsOf Mark =
+    Principal × (Principal × (ℤ × (List ℕ × (List ℕ × (ℕ × (ℕ × (ℕ × (ℕ × (Mark × (ℕ × (List TypedBytes × (List TypedBytes × (List ℕ × List ℕ)))))))))))))
+
 abbrev pub Parts : Type 0
-Parts =
-    Principal × (Principal × (ℤ × (List ℕ × (List ℕ × (ℕ × (ℕ × (ℕ × (ℕ × (Bool × (ℕ × (List TypedBytes × (List TypedBytes × (List ℕ × List ℕ)))))))))))))
+Parts = PartsOf Bool
+
+abbrev pub mark_of : PartsOf ℕ → ℕ
+mark_of parts = parts.1.1.1.1.1.1.1.1.1.0
 
 abbrev pub credential_of : Parts → Credential
 credential_of (client, (server, (etype, (second, (key, (authtime, (starttime, (endtime, (renew_till, (is_skey, (ticket_flags, (addresses, (authdata, (ticket, second_ticket)))))))))))))) = record {
@@ -111,8 +121,13 @@ credential_of (client, (server, (etype, (second, (key, (authtime, (starttime, (e
 abbrev pub spelled_of : Parts → Spelled
 spelled_of parts = record { bytes = keyed_bytes (credential_of parts) parts.1.1.1.0; credential = credential_of parts }
 
-abbrev pub parts_at : Layout → Place → Option (Parts × Place)
-parts_at layout =
+-- from the flags on
+abbrev pub tail_at : Place → Option ((ℕ × (List TypedBytes × (List TypedBytes × (List ℕ × List ℕ)))) × Place)
+tail_at = both_at (number_at w32) (both_at list_at (both_at list_at (both_at (data_at w32) (data_at w32))))
+
+-- `is_skey` is read so
+abbrev pub parts_with : {Mark : Type 0} → (Place → Option (Mark × Place)) → Layout → Place → Option (PartsOf Mark × Place)
+parts_with mark_at layout =
     both_at name_at
     (both_at name_at
     (both_at (signed_at w16)
@@ -122,11 +137,14 @@ parts_at layout =
     (both_at (number_at w32)
     (both_at (number_at w32)
     (both_at (number_at w32)
-    (both_at flag_at
-    (both_at (number_at w32)
-    (both_at list_at
-    (both_at list_at
-    (both_at (data_at w32) (data_at w32))))))))))))))
+    (both_at mark_at tail_at)))))))))
+
+abbrev pub parts_at : Layout → Place → Option (Parts × Place)
+parts_at layout = parts_with flag_at layout
+
+-- `is_skey` is any byte
+abbrev pub marked_at : Layout → Place → Option (PartsOf ℕ × Place)
+marked_at layout = parts_with (number_at w8) layout
 
 unfoldable pub credential_at : Layout → Place → Option (Credential × Place)
 credential_at layout place = made_at credential_of (parts_at layout) place

@@ -1,20 +1,136 @@
 -- How far a part of a cache reaches whose bytes come piece by piece: as far as the bytes before say.
-use Rattle.std.specs.Prelude.{◌≡◌, ℕ, ◌+◌, ◌<◌, ◌≤◌, List, ◌++◌, length, drop, Option, Result, Ok, Err}
-use Rattle.std.specs.Int.{Width, w8, w16, w32, from_be_bytes}
-use Rattle.std.specs.List.{AllByRecursion}
+use Rattle.std.specs.Prelude.{◌≡◌, ℕ, ◌+◌, ◌-◌, ◌<◌, ◌≤◌, List, ◌++◌, length, take, drop, Option, Some, None, Result, Ok, Err}
+use Rattle.std.specs.Int.{Width, w8, from_be_bytes}
 use Rattle.std.specs.Io.KnownBytes.{IsAtEnd}
+use Rattle.krb_name.specs.Cursor.{Place, number_bytes}
 use Rattle.krb_name.specs.Window.{AtHand, Keeps}
 use Rattle.krb_name.specs.declared.reading.ReadFault.{ReadFault}
 use Rattle.krb_name.specs.declared.reading.ReadFault.TheVariants as source
-use Rattle.krb_name.specs.Cursor.{number_bytes, signed_bytes, data_bytes}
 use Rattle.krb_ccache.specs.declared.credential.Credential.{Credential}
 use Rattle.krb_ccache.specs.declared.layout.Layout.{Layout}
-use Rattle.krb_ccache.specs.Spelling.{list_bytes, marked_bytes}
+use Rattle.krb_ccache.specs.Spelling.{marked_bytes}
 use Rattle.krb_ccache.specs.Format.{second_size}
 use Rattle.krb_ccache.specs.Value.{FitsCredential}
 use Rattle.krb_name.specs.File.{file_limit}
 use Rattle.krb_ccache.specs.declared.walking.Stop.{Stop}
 use Rattle.krb_ccache.specs.declared.walking.Stop.TheVariants.{End, Long, Read, OutOfMemory}
+use Rattle.krb_ccache.specs.Inner.Reading.{PartsOf, mark_of, marked_at}
+
+-- ---- what is taken
+
+-- the bytes that were taken, and what is left, if that is known
+abbrev pub Hand : Type 0
+Hand = AtHand (Option (List ℕ))
+
+-- of a source: no more than a file may have
+abbrev pub window_hand : {S : Type 0} → (S → Option (List ℕ)) → AtHand S → Hand
+window_hand left window = record { source = left window.source; bytes = window.bytes; peak = window.peak; given = window.given }
+
+abbrev pub window_within : Hand → Type 0
+window_within hand = hand.given ≤ file_limit
+
+-- why so many bytes can't come: the source is at its end, or they would pass the limit of a file
+abbrev pub CantCome : Stop → Option (List ℕ) → ℕ → ℕ → Type 0
+CantCome End to given count = IsAtEnd to × (0 < count)
+CantCome Long to given count = file_limit < given + count
+CantCome _ to given count = Unit {0}
+
+abbrev pub window_lacks : Stop → Hand → ℕ → Type 0
+window_lacks stop hand count = CantCome stop hand.source hand.given count
+
+-- of bytes in memory
+abbrev pub bytes_hand : List ℕ → ℕ → Hand
+bytes_hand bytes at = record { source = Some (drop at bytes); bytes = take at bytes; peak = at; given = at }
+
+abbrev pub bytes_within : Hand → Type 0
+bytes_within hand = Unit {0}
+
+abbrev pub bytes_lacks : Stop → Hand → ℕ → Type 0
+bytes_lacks stop hand count = (left : List ℕ) × (hand.source ≡ Some left) × (length left < count)
+
+-- ---- what is read of the bytes that are taken
+
+-- they are read as one thing, whatever comes after them
+abbrev pub Reads : {X : Type 0} → (Place → Option (X × Place)) → List ℕ → X → Type 0
+Reads read bytes x = (at : ℕ) (more : List ℕ) → read (record { at = at; rest = bytes ++ more }) ≡ Some (x, record { at = at + length bytes; rest = more })
+
+-- nothing is read, unless at least so many more come
+abbrev pub NeedsMore : {X : Type 0} → (Place → Option (X × Place)) → List ℕ → ℕ → Type 0
+NeedsMore read bytes count = (at : ℕ) (more : List ℕ) → length more < count → read (record { at = at; rest = bytes ++ more }) ≡ None
+
+-- the bytes of a thing were taken
+pub record Walked {X : Type 0} (read : Place → Option (X × Place)) (Within : Hand → Type 0) (old new : Hand) : Type 0 where
+  pub thing : X
+  pub piece : List ℕ
+  pub keeps : Keeps old.source new.source old new piece
+  pub within : Within new
+  pub reads : Reads read piece thing
+
+-- bytes were taken, and so many more, without which nothing is read, can't be
+pub record Stopped {X : Type 0} (read : Place → Option (X × Place)) (Within : Hand → Type 0) (Lacks : Stop → Hand → ℕ → Type 0) (old new : Hand) (stop : Stop) : Type 0 where
+  pub piece : List ℕ
+  pub keeps : Keeps old.source new.source old new piece
+  pub within : Within new
+  pub count : ℕ
+  pub some : 0 < count
+  pub needs : NeedsMore read piece count
+  pub lacks : Lacks stop new count
+
+-- the bytes of a thing were asked for
+abbrev pub IsWalk : {X T : Type 0} → (Place → Option (X × Place)) → (Hand → Type 0) → (Stop → Hand → ℕ → Type 0) → Hand → Hand → Result T Stop → Type 0
+IsWalk read Within Lacks old new (Ok _) = Walked read Within old new
+IsWalk read Within Lacks old new (Err stop) = Stopped read Within Lacks old new stop
+
+-- the bytes of a credential were taken, of which this is that of its `is_skey`
+pub record WalkedOne (layout : Layout) (Within : Hand → Type 0) (old new : Hand) (mark : ℕ) : Type 0 where
+  pub walked : Walked (marked_at layout) Within old new
+  pub mark_is : mark_of walked.thing ≡ mark
+
+abbrev pub IsOneWalk : Layout → (Hand → Type 0) → (Stop → Hand → ℕ → Type 0) → Hand → Hand → Result ℕ Stop → Type 0
+IsOneWalk layout Within Lacks old new (Ok mark) = WalkedOne layout Within old new mark
+IsOneWalk layout Within Lacks old new (Err stop) = Stopped (marked_at layout) Within Lacks old new stop
+
+-- these bytes are those of a credential, of which this is that of its `is_skey`
+abbrev pub IsMarked : Layout → List ℕ → ℕ → Type 0
+IsMarked layout bytes mark = (parts : PartsOf ℕ) × Reads (marked_at layout) bytes parts × (mark_of parts ≡ mark)
+
+-- so many bytes were taken
+pub record Taken (Within : Hand → Type 0) (count : ℕ) (old new : Hand) : Type 0 where
+  pub piece : List ℕ
+  pub keeps : Keeps old.source new.source old new piece
+  pub within : Within new
+  pub length_is : length piece ≡ count
+
+-- fewer were, and the others can't be
+pub record TookFewer (Within : Hand → Type 0) (Lacks : Stop → Hand → ℕ → Type 0) (count : ℕ) (old new : Hand) (stop : Stop) : Type 0 where
+  pub piece : List ℕ
+  pub keeps : Keeps old.source new.source old new piece
+  pub within : Within new
+  pub fewer : length piece < count
+  pub lacks : Lacks stop new (count - length piece)
+
+abbrev pub IsTaken : {T : Type 0} → (Hand → Type 0) → (Stop → Hand → ℕ → Type 0) → ℕ → Hand → Hand → Result T Stop → Type 0
+IsTaken Within Lacks count old new (Ok _) = Taken Within count old new
+IsTaken Within Lacks count old new (Err stop) = TookFewer Within Lacks count old new stop
+
+-- the number that the last bytes at hand are, after so many others
+abbrev pub last_number : Width → ℕ → List ℕ → List ℕ → ℕ
+last_number w skip before now = from_be_bytes w (drop (length before + skip) now)
+
+abbrev pub stop_of : ReadFault → Stop
+stop_of source.Read = Read
+stop_of source.OutOfMemory = OutOfMemory
+
+-- how many failed reads an answer reports
+abbrev pub stop_reads : Stop → ℕ
+stop_reads Read = 1
+stop_reads _ = 0
+
+abbrev pub stopped_reads : {T : Type 0} → Result T Stop → ℕ
+stopped_reads (Ok _) = 0
+stopped_reads (Err stop) = stop_reads stop
+
+-- ---- what was taken of a source, in the words of a spelling
 
 -- a thing that begins with these bytes has no more
 abbrev pub Spans : {X : Type 0} → (X → List ℕ) → (X → Type 0) → List ℕ → Type 0
@@ -23,16 +139,6 @@ Spans {X} spelled InRange bytes = (x : X) (more others : List ℕ) → InRange x
 -- a thing that begins with these bytes has at least so many more
 abbrev pub Wants : {X : Type 0} → (X → List ℕ) → (X → Type 0) → List ℕ → ℕ → Type 0
 Wants {X} spelled InRange bytes count = (x : X) (more others : List ℕ) → InRange x → bytes ++ more ≡ spelled x ++ others → length bytes + count ≤ length (spelled x)
-
--- so many things
-abbrev pub Counted : {X : Type 0} → (X → Type 0) → ℕ → List X → Type 0
-Counted InRange count xs = (length xs ≡ count) × AllByRecursion InRange xs
-
--- why so many bytes can't come: the source is at its end, or they would pass the limit of a file
-abbrev pub CantCome : Stop → Option (List ℕ) → ℕ → ℕ → Type 0
-CantCome End to given count = IsAtEnd to × (0 < count)
-CantCome Long to given count = file_limit < given + count
-CantCome _ to given count = Unit {0}
 
 -- the source gave as many bytes as a thing has, and they are at hand
 pub record Walks {X S : Type 0} (spelled : X → List ℕ) (InRange : X → Type 0) (left : S → Option (List ℕ)) (old new : AtHand S) : Type 0 where
@@ -50,59 +156,15 @@ pub record Halts {X S : Type 0} (spelled : X → List ℕ) (InRange : X → Type
   pub wants : Wants spelled InRange piece count
   pub cant_come : CantCome stop (left new.source) new.given count
 
--- the source was asked for as many bytes as a thing has
-abbrev pub IsWalk : {X S T : Type 0} → (X → List ℕ) → (X → Type 0) → (S → Option (List ℕ)) → AtHand S → AtHand S → Result T Stop → Type 0
-IsWalk spelled InRange left old new (Ok _) = Walks spelled InRange left old new
-IsWalk spelled InRange left old new (Err stop) = Halts spelled InRange left old new stop
-
-abbrev pub stop_of : ReadFault → Stop
-stop_of source.Read = Read
-stop_of source.OutOfMemory = OutOfMemory
-
--- how many failed reads an answer tells of
-abbrev pub stop_reads : Stop → ℕ
-stop_reads Read = 1
-stop_reads _ = 0
-
-abbrev pub stopped_reads : {T : Type 0} → Result T Stop → ℕ
-stopped_reads (Ok _) = 0
-stopped_reads (Err stop) = stop_reads stop
-
--- the number that the last bytes at hand are
-abbrev pub last_number : Width → List ℕ → List ℕ → ℕ
-last_number w before now = from_be_bytes w (drop (length before) now)
-
--- ---- a credential from one of its fields on, with any bytes after its encryption type and any byte for `is_skey`
-
+-- a credential with any bytes after its encryption type and any byte for `is_skey`
 pub record Marked : Type 0 where
   pub credential : Credential
   pub second : List ℕ
   pub mark : ℕ
 
-abbrev pub FitsMarked : Marked → Type 0
-FitsMarked marked = FitsCredential marked.credential
-
 -- with as many bytes after its encryption type as the layout has
 abbrev pub FitsKeyed : Layout → Marked → Type 0
-FitsKeyed layout marked = FitsMarked marked × (length marked.second ≡ second_size layout)
+FitsKeyed layout marked = FitsCredential marked.credential × (length marked.second ≡ second_size layout)
 
 abbrev pub whole : Marked → List ℕ
 whole marked = marked_bytes marked.credential marked.second (number_bytes w8 marked.mark)
-
-abbrev pub from_ticket : Marked → List ℕ
-from_ticket marked = data_bytes w32 marked.credential.ticket ++ data_bytes w32 marked.credential.second_ticket
-
-abbrev pub from_times : Marked → List ℕ
-from_times marked =
-    number_bytes w32 marked.credential.authtime
-    ++ (number_bytes w32 marked.credential.starttime
-    ++ (number_bytes w32 marked.credential.endtime
-    ++ (number_bytes w32 marked.credential.renew_till
-    ++ (number_bytes w8 marked.mark
-    ++ (number_bytes w32 marked.credential.ticket_flags
-    ++ (list_bytes marked.credential.addresses
-    ++ (list_bytes marked.credential.authdata
-    ++ from_ticket marked)))))))
-
-abbrev pub from_key : Marked → List ℕ
-from_key marked = signed_bytes w16 marked.credential.etype ++ (marked.second ++ (data_bytes w32 marked.credential.key ++ from_times marked))

@@ -1,4 +1,4 @@
--- The moment that a line of `accept` tells, and what follows it.
+-- The moment that a line of `accept` begins with, and what follows it.
 use Rattle.std.specs.Prelude.{◌≡◌, ◌<◌, ℕ, ℤ, List, ◌∷◌, ◌++◌}
 use Rattle.krb_der.specs.Time.{IsSeconds}
 use Rattle.krb_msg.specs.Moments.{micros_of}

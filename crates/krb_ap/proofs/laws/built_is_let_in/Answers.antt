@@ -6,5 +6,5 @@ returns-clause-new c = λ setup history moment cache service at confounder optio
     said_new c.facts.ensures setup history moment cache service at confounder options bytes awaited ticket part request has may store events lacks
 
 pub returns-clause-let_in : goal.returns-clause-let_in
-returns-clause-let_in c = λ setup history moment cache service at confounder options bytes awaited ticket part skew store events request has may share absent unlet.
-    let_in c.facts.ensures setup history moment cache service at confounder options bytes awaited ticket part request has may store events skew share absent unlet
+returns-clause-let_in c = λ setup history moment cache service at confounder options bytes awaited ticket part skew store events request has may share absent unasked.
+    let_in c.facts.ensures setup history moment cache service at confounder options bytes awaited ticket part request has may store events skew share absent unasked

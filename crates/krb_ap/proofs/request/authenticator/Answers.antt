@@ -13,7 +13,7 @@ returns-in-Err-TooLong-clause-fault c = λ named. (
   untold c.writing.ensures c.args.credential.now c.args.at c.args.options.now c.parts-ctime.result.0 c.parts-ctime.result.1 c.parts-ctime.ensures
       (subst (λ (n : ℕ). n < 1_000_000) c.get.ensures.value c.get.ensures.range)
       (subst (λ (v : ValueOf authenticator_kind). limit < size_of authenticator_kind v)
-      (copied c.in_ok-clone.field-0 c.args.credential.now c.parts-ctime.result.0 c.parts-ctime.result.1 _ c.args.options.now c.in_ok-clone.ensures.cases c.in_ok-raw_key.ensures.value)
+      (copied c.in_ok-clone.field-0 c.args.credential.now c.parts-ctime.result.0 c.parts-ctime.result.1 _ _ c.args.options.now c.in_ok-clone.ensures.cases c.in_ok-checksum_of.ensures c.in_ok-raw_key.ensures.value)
       ((rw c.in-Err-TooLong.field-0-is at c.in-Err-TooLong.ensures.too_long) refl)),
 )
 
@@ -24,6 +24,6 @@ returns-in-Ok-clause-told c = record {
   at_is = c.parts-ctime.ensures;
   micros = subst (λ (n : ℕ). n < 1_000_000) c.get.ensures.value c.get.ensures.range;
   plain_is = subst (λ (v : ValueOf authenticator_kind). IsWritten authenticator_kind v c.in-Ok.plain.items)
-      (copied c.in_ok-clone.field-0 c.args.credential.now c.parts-ctime.result.0 c.parts-ctime.result.1 _ c.args.options.now c.in_ok-clone.ensures.cases c.in_ok-raw_key.ensures.value)
+      (copied c.in_ok-clone.field-0 c.args.credential.now c.parts-ctime.result.0 c.parts-ctime.result.1 _ _ c.args.options.now c.in_ok-clone.ensures.cases c.in_ok-checksum_of.ensures c.in_ok-raw_key.ensures.value)
       (record { message = c.in-Ok.ensures.ok; written = c.in-Ok.ensures.written });
 }

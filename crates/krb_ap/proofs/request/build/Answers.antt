@@ -28,7 +28,7 @@ returns-in-Ok-clause-built c = record {
   };
   bytes_are = subst (λ (v : ValueOf ap_req). IsWritten ap_req v c.in-Ok.bytes.items)
       (copied_request c.args.credential.now c.args.options.now (ticket_of c.args.ticket.now) c.in_ok-cipher.cipher.items _ _ _
-      c.flags.ensures c.in_ok-to_owned.ensures (c.encrypted.ensures ∙ told_type c.args.credential.now c.args.key.now c.in_ok-cipher.cipher.items c.requires.key))
+      c.flags.ensures c.in_ok-to_owned.ensures (c.encrypted.ensures ∙ told_type c.args.credential.now c.key.result.now c.in_ok-cipher.cipher.items (c.key.ensures ∙ c.requires.key)))
       (record { message = c.in-Ok.ensures.ok; written = c.in-Ok.ensures.written });
 }
 
@@ -44,6 +44,6 @@ returns-in-Err-TooLong-clause-fault c = λ named. (
       })
       (subst (λ (v : ValueOf ap_req). limit < size_of ap_req v)
       (copied_request c.args.credential.now c.args.options.now (ticket_of c.args.ticket.now) c.in_ok-cipher.cipher.items _ _ _
-      c.flags.ensures c.in_ok-to_owned.ensures (c.encrypted.ensures ∙ told_type c.args.credential.now c.args.key.now c.in_ok-cipher.cipher.items c.requires.key))
+      c.flags.ensures c.in_ok-to_owned.ensures (c.encrypted.ensures ∙ told_type c.args.credential.now c.key.result.now c.in_ok-cipher.cipher.items (c.key.ensures ∙ c.requires.key)))
       ((rw c.in-Err-TooLong.field-0-is at c.in-Err-TooLong.ensures.too_long) refl)),
 )

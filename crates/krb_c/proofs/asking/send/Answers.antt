@@ -2,8 +2,8 @@ use Rattle.std.proofs.Common.{inl, inr, refl, subst, List, ℕ}
 use Rattle.krb_c.specs.Answer.{Hands}
 use Rattle.krb_c.proofs.asking.send.Goals as goal
 
-pub returns-in-Ok : goal.returns-in-Ok
-returns-in-Ok c = inl (
+pub returns-in-Ok-clause-sent : goal.returns-in-Ok-clause-sent
+returns-in-Ok-clause-sent c = inl (
   c.in-Ok.bytes.items,
   (
     c.in-Ok.kept.value,
@@ -17,5 +17,5 @@ returns-in-Ok c = inl (
   ),
 )
 
-pub returns-in-Err : goal.returns-in-Err
-returns-in-Err c = inr (c.in-Err.ensures.fault, (refl, refl))
+pub returns-in-Err-clause-sent : goal.returns-in-Err-clause-sent
+returns-in-Err-clause-sent c = inr (c.in-Err.ensures.fault, (refl, refl))

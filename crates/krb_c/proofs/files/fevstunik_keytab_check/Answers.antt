@@ -22,4 +22,4 @@ returns-in-Err-clause-entries c = λ entries keytab.
 
 pub returns-in-Err-clause-fault : goal.returns-in-Err-clause-fault
 returns-in-Err-clause-fault c = λ fault faulty.
-    same_fault (List KeytabEntry) KeytabFault OutOfMemory keytab_answer c.keytab-in-Err.result c.in-Err.fault fault c.keytab-in-Err.ensures (c.in-Err.ensures.only (Err fault) faulty)
+    same_fault (List KeytabEntry) KeytabFault OutOfMemory keytab_answer c.keytab-in-Err.result c.in-Err.fault fault c.keytab-in-Err.ensures (c.in-Err.ensures.faulty fault faulty)

@@ -1,12 +1,11 @@
 use Rattle.std.proofs.Common.{◌≡◌}
-use Rattle.krb_ccache.specs.Spelling.{typed_bytes}
-use Rattle.krb_ccache.proofs.WalkParts.{ShortTyped}
+use Rattle.krb_ccache.specs.Inner.Reading.{typed_at}
 use Rattle.krb_ccache.proofs.WalkTimes.{Front}
 use Rattle.krb_ccache.proofs.walking.take_elements.Given as goal
 
 abbrev pub invariant-loop : goal.invariant-loop
 invariant-loop g l = record {
-  front : Front typed_bytes ShortTyped g.S.Source.remaining l.fn.window l.window l.count l.counter;
-  failures : g.S.Source.failure_count l.window.source ≡ g.S.Source.failure_count l.fn.window.source;
-  lent : g.S.Source.lender l.window.source ≡ g.S.Source.lender l.fn.window.source;
+  front : Front typed_at g.T.Taker.Within (g.T.Taker.hand l.fn.taker) (g.T.Taker.hand l.taker) l.count l.counter;
+  failures : g.T.Taker.failures l.taker ≡ g.T.Taker.failures l.fn.taker;
+  lent : g.T.Taker.lender l.taker ≡ g.T.Taker.lender l.fn.taker;
 }

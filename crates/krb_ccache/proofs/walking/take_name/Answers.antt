@@ -1,26 +1,20 @@
 use Rattle.std.proofs.lemmas.Result.{err_from_is_err_and}
-use Rattle.std.proofs.Common.{Result, Err}
-use Rattle.krb_ccache.specs.declared.walking.Stop.{Stop}
-use Rattle.krb_ccache.proofs.WalkParts.{type_then, type_first, count_then, count_first, realm_then, realm_first}
+use Rattle.krb_ccache.proofs.WalkParts.{name_walk, name_count_stops, name_length_stops}
 use Rattle.krb_ccache.proofs.walking.take_name.Goals as goal
 
 pub returns-clause-walk : goal.returns-clause-walk
 returns-clause-walk g c =
-    type_then g.S.Source.remaining c.args.window.now c.take.new.window c.take_components.new.window c.take_components.result c.in_ok-take.ensures.walk (count_then g.S.Source.remaining c.take.new.window c.take_u32.new.window c.take_components.new.window c.in_ok-count.count c.take_components.result c.in_ok-count.ensures.walk c.in_ok-count.ensures.number (realm_then g.S.Source.remaining c.take_u32.new.window c.take_data.new.window c.take_components.new.window c.in_ok-count.count c.take_components.result c.in_ok-take_data.ensures.walk c.take_components.ensures.walk))
-
-pub returns-in_err-take-clause-walk : goal.returns-in_err-take-clause-walk
-returns-in_err-take-clause-walk g c =
-    let p = err_from_is_err_and c.from_residual.result c.from_residual.ensures.1 in
-    rw (p.1, p.2) (type_first g.S.Source.remaining c.args.window.now c.take.new.window c.in_err-take.field-0.0 c.in_err-take.ensures.walk)
+    let hand = g.T.Taker.hand in
+    name_walk g.T.Taker.Within g.T.Taker.Lacks (hand c.args.taker.now) (hand c.take_u32.new.taker) (hand c.take_u32-2.new.taker) (hand c.take_strings.new.taker) c.in_ok-count.count c.in_ok-length.length c.take_strings.result c.in_ok-count.ensures.taken c.in_ok-count.ensures.number c.in_ok-length.ensures.taken c.in_ok-length.ensures.number c.take_strings.ensures.walk
 
 pub returns-in_err-count-clause-walk : goal.returns-in_err-count-clause-walk
 returns-in_err-count-clause-walk g c =
-    let fail : Result (Unit {0}) Stop = Err c.in_err-count.field-0.0 in
-    let p = err_from_is_err_and c.from_residual-in_err-count.result c.from_residual-in_err-count.ensures.1 in
-    rw (p.1, p.2) (type_then g.S.Source.remaining c.args.window.now c.take.new.window c.take_u32.new.window fail c.in_ok-take.ensures.walk (count_first g.S.Source.remaining c.take.new.window c.take_u32.new.window c.in_err-count.field-0.0 c.in_err-count.ensures.walk))
+    let hand = g.T.Taker.hand in
+    let p = err_from_is_err_and c.from_residual.result c.from_residual.ensures.1 in
+    rw (p.1, p.2) (name_count_stops g.T.Taker.Within g.T.Taker.Lacks (hand c.args.taker.now) (hand c.take_u32.new.taker) c.in_err-count.field-0.0 c.in_err-count.ensures.taken)
 
-pub returns-in_err-take_data-clause-walk : goal.returns-in_err-take_data-clause-walk
-returns-in_err-take_data-clause-walk g c =
-    let fail : Result (Unit {0}) Stop = Err c.in_err-take_data.field-0.0 in
-    let p = err_from_is_err_and c.from_residual-in_err-take_data.result c.from_residual-in_err-take_data.ensures.1 in
-    rw (p.1, p.2) (type_then g.S.Source.remaining c.args.window.now c.take.new.window c.take_data.new.window fail c.in_ok-take.ensures.walk (count_then g.S.Source.remaining c.take.new.window c.take_u32.new.window c.take_data.new.window c.in_ok-count.count fail c.in_ok-count.ensures.walk c.in_ok-count.ensures.number (realm_first g.S.Source.remaining c.take_u32.new.window c.take_data.new.window c.in_ok-count.count c.in_err-take_data.field-0.0 c.in_err-take_data.ensures.walk)))
+pub returns-in_err-length-clause-walk : goal.returns-in_err-length-clause-walk
+returns-in_err-length-clause-walk g c =
+    let hand = g.T.Taker.hand in
+    let p = err_from_is_err_and c.from_residual-in_err-length.result c.from_residual-in_err-length.ensures.1 in
+    rw (p.1, p.2) (name_length_stops g.T.Taker.Within g.T.Taker.Lacks (hand c.args.taker.now) (hand c.take_u32.new.taker) (hand c.take_u32-2.new.taker) c.in_ok-count.count c.in_err-length.field-0.0 c.in_ok-count.ensures.taken c.in_ok-count.ensures.number c.in_err-length.ensures.taken)

@@ -1,4 +1,3 @@
-use Rattle.krbtool.specs.Tails.{named}
 use Rattle.std.proofs.Common.{rules, arith, ◌≡◌, max, ap, sym, refl, inl, inr, ◌∙◌, Err}
 use Rattle.std.proofs.lemmas.Result.{err_from_is_err_and}
 use Rattle.krbtool.specs.declared.fault.EngineFault.TheVariants.{Input}
@@ -9,14 +8,14 @@ use Rattle.krbtool.proofs.accept.accept_lines.Goals as goal
 
 pub returns-in_err-piece-clause-begun : goal.returns-in_err-piece-clause-begun
 returns-in_err-piece-clause-begun g c = λ input history tells stands _.
-    none_begun (named c.args.service) c.args.acceptor.now.setup history (g.K.Sink.taken c.args.sink.now)
+    none_begun c.args.options.now c.args.acceptor.now.setup history (g.K.Sink.taken c.args.sink.now)
     (g.M.ReplayMemory.has c.args.acceptor.now.memory) (g.M.ReplayMemory.newest c.args.acceptor.now.memory) input stands
 
 pub returns-in_err-status-clause-unread : goal.returns-in_err-status-clause-unread
 returns-in_err-status-clause-unread g c = λ input history tells stands err.
     let p = err_from_is_err_and c.from_residual-in_err-status.result c.from_residual-in_err-status.ensures.1 in
     let was = c.in_err-status.was ∙ sym (p.1 ∙ ap (λ e. Err e) p.2) ∙ err in
-    whole_answered (named c.args.service) (g.S.Source.remaining c.args.source.now) (g.S.Source.remaining c.answer_source.new.source)
+    whole_answered c.args.options.now (g.S.Source.remaining c.args.source.now) (g.S.Source.remaining c.answer_source.new.source)
     (g.S.Source.failure_count c.args.source.now) (g.S.Source.failure_count c.answer_source.new.source)
     c.answer_source.new.part c.answer_source.new.acceptor.setup c.args.acceptor.now.setup history
     (g.K.Sink.taken c.args.sink.now) (g.K.Sink.taken c.answer_source.new.sink)
@@ -27,7 +26,7 @@ pub returns-in_err-status-clause-begun : goal.returns-in_err-status-clause-begun
 returns-in_err-status-clause-begun g c = λ input history tells stands err.
     let p = err_from_is_err_and c.from_residual-in_err-status.result c.from_residual-in_err-status.ensures.1 in
     let was = c.in_err-status.was ∙ sym (p.1 ∙ ap (λ e. Err e) p.2) in
-    stop_begun (named c.args.service) (g.S.Source.remaining c.args.source.now) (g.S.Source.remaining c.answer_source.new.source)
+    stop_begun c.args.options.now (g.S.Source.remaining c.args.source.now) (g.S.Source.remaining c.answer_source.new.source)
     c.answer_source.new.acceptor.setup c.args.acceptor.now.setup history
     (g.K.Sink.taken c.args.sink.now) (g.K.Sink.taken c.answer_source.new.sink)
     (g.M.ReplayMemory.has c.answer_source.new.acceptor.memory) (g.M.ReplayMemory.newest c.answer_source.new.acceptor.memory) input tells
@@ -47,7 +46,7 @@ returns-in_err-status-clause-reads g c =
 pub returns-then-is_empty-clause-answered : goal.returns-then-is_empty-clause-answered
 returns-then-is_empty-clause-answered g c = λ input history tells stands.
     let ended = c.in_ok-status.ensures.ok c.args.acceptor.now.setup history refl stands c.new-part.ensures in
-    all_answered (named c.args.service) (g.S.Source.remaining c.args.source.now) (g.S.Source.remaining c.answer_source.new.source)
+    all_answered c.args.options.now (g.S.Source.remaining c.args.source.now) (g.S.Source.remaining c.answer_source.new.source)
     c.answer_source.new.part c.answer_source.new.acceptor.setup c.args.acceptor.now.setup history c.in_ok-status.status
     (g.K.Sink.taken c.args.sink.now) (g.K.Sink.taken c.answer_source.new.sink)
     (g.M.ReplayMemory.has c.answer_source.new.acceptor.memory) (g.M.ReplayMemory.newest c.answer_source.new.acceptor.memory) input tells ended
@@ -68,13 +67,13 @@ returns-in_err-last-clause-begun g c = λ input history tells stands _.
     let ended = c.in_ok-status.ensures.ok c.args.acceptor.now.setup history refl stands c.new-part.ensures in
     let going = ended.reached.going in
     elim (c.in_err-last.ensures.err c.args.acceptor.now.setup going.end going.rest going.setup_is going.stands going.holds) [
-      | inl untouched ↦ last_untouched (named c.args.service) (g.S.Source.remaining c.args.source.now) (g.S.Source.remaining c.answer_source.new.source)
+      | inl untouched ↦ last_untouched c.args.options.now (g.S.Source.remaining c.args.source.now) (g.S.Source.remaining c.answer_source.new.source)
           c.answer_source.new.part c.answer_source.new.acceptor.setup c.args.acceptor.now.setup history c.in_ok-status.status
           (g.K.Sink.taken c.args.sink.now) (g.K.Sink.taken c.answer_source.new.sink)
           (g.M.ReplayMemory.has c.answer_source.new.acceptor.memory) (g.M.ReplayMemory.newest c.answer_source.new.acceptor.memory) input tells ended
           c.answer_line.new.acceptor.setup (g.K.Sink.taken c.answer_line.new.sink)
           (g.M.ReplayMemory.has c.answer_line.new.acceptor.memory) (g.M.ReplayMemory.newest c.answer_line.new.acceptor.memory) untouched
-      | inr begun ↦ last_begun (named c.args.service) (g.S.Source.remaining c.args.source.now) (g.S.Source.remaining c.answer_source.new.source)
+      | inr begun ↦ last_begun c.args.options.now (g.S.Source.remaining c.args.source.now) (g.S.Source.remaining c.answer_source.new.source)
           c.answer_source.new.part c.answer_source.new.acceptor.setup c.args.acceptor.now.setup history c.in_ok-status.status
           (g.K.Sink.taken c.args.sink.now) (g.K.Sink.taken c.answer_source.new.sink)
           (g.M.ReplayMemory.has c.answer_source.new.acceptor.memory) (g.M.ReplayMemory.newest c.answer_source.new.acceptor.memory) input tells ended
@@ -96,7 +95,7 @@ returns-clause-answered g c = λ input history tells stands.
     let ended = c.in_ok-status.ensures.ok c.args.acceptor.now.setup history refl stands c.new-part.ensures in
     let going = ended.reached.going in
     let worst : c.max-worst.result ≡ max c.in_ok-status.status c.in_ok-last.last = search (arith, rules) in
-    rw worst (last_answered (named c.args.service) (g.S.Source.remaining c.args.source.now) (g.S.Source.remaining c.answer_source.new.source)
+    rw worst (last_answered c.args.options.now (g.S.Source.remaining c.args.source.now) (g.S.Source.remaining c.answer_source.new.source)
     c.answer_source.new.part c.answer_source.new.acceptor.setup c.args.acceptor.now.setup history c.in_ok-status.status
     (g.K.Sink.taken c.args.sink.now) (g.K.Sink.taken c.answer_source.new.sink)
     (g.M.ReplayMemory.has c.answer_source.new.acceptor.memory) (g.M.ReplayMemory.newest c.answer_source.new.acceptor.memory) input tells ended

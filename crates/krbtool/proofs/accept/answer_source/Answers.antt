@@ -1,4 +1,3 @@
-use Rattle.krbtool.specs.Tails.{named}
 use Rattle.std.proofs.Common.{rules, arith, ◌≡◌, ◌+◌, max, ℕ, take, [], ap, refl, inl, ◌∙◌, Ok}
 use Rattle.krbtool.proofs.GoingLaws.{came_more, reached_kept, reached_more, reached_none, reached_start, reached_stop, length-take-below}
 use Rattle.std.proofs.KnownBytes.{Consumes-nil}
@@ -8,7 +7,7 @@ pub loop-came-init : goal.loop-came-init
 loop-came-init g c = record {
   within = omega arith;
   room = c.requires.piece;
-  reached = λ setup history is stands holds. reached_start (named c.args.service) c.args.part.now c.args.acceptor.now.setup setup history
+  reached = λ setup history is stands holds. reached_start c.args.options.now c.args.part.now c.args.acceptor.now.setup setup history
       (g.S.Source.remaining c.args.source.now) (g.K.Sink.taken c.args.sink.now)
       (g.M.ReplayMemory.has c.args.acceptor.now.memory) (g.M.ReplayMemory.newest c.args.acceptor.now.memory) holds is stands;
   came = record { bytes = []; consumed = Consumes-nil (g.S.Source.remaining c.args.source.now); counted = refl };
@@ -21,7 +20,7 @@ pub returns-in_err-count-clause-input : goal.returns-in_err-count-clause-input
 returns-in_err-count-clause-input g c = λ setup history is stands holds _. record {
   count = c.loop-came.came;
   status = c.loop-came.status;
-  reached = reached_kept (named c.args.service) c.loop-came.part c.loop-came.acceptor.setup setup history
+  reached = reached_kept c.args.options.now c.loop-came.part c.loop-came.acceptor.setup setup history
       (g.S.Source.remaining c.args.source.now) (g.S.Source.remaining c.loop-came.source) (g.S.Source.remaining c.read_some.new.source)
       c.loop-came.came c.loop-came.status (g.K.Sink.taken c.args.sink.now) (g.K.Sink.taken c.loop-came.sink)
       (g.M.ReplayMemory.has c.loop-came.acceptor.memory) (g.M.ReplayMemory.newest c.loop-came.acceptor.memory)
@@ -32,7 +31,7 @@ returns-in_err-count-clause-input g c = λ setup history is stands holds _. reco
 pub returns-then-count-eq0-clause-ok : goal.returns-then-count-eq0-clause-ok
 returns-then-count-eq0-clause-ok g c = λ setup history is stands holds. record {
   count = c.loop-came.came;
-  reached = reached_none (named c.args.service) c.loop-came.part c.loop-came.acceptor.setup setup history
+  reached = reached_none c.args.options.now c.loop-came.part c.loop-came.acceptor.setup setup history
       (g.S.Source.remaining c.args.source.now) (g.S.Source.remaining c.loop-came.source) (g.S.Source.remaining c.read_some.new.source)
       c.loop-came.came c.loop-came.status (take c.in_ok-count.count c.read_some.new.piece) (g.K.Sink.taken c.args.sink.now) (g.K.Sink.taken c.loop-came.sink)
       (g.M.ReplayMemory.has c.loop-came.acceptor.memory) (g.M.ReplayMemory.newest c.loop-came.acceptor.memory)
@@ -45,7 +44,7 @@ returns-then-count-eq0-clause-ok g c = λ setup history is stands holds. record 
 pub returns-in_err-more-clause-stop : goal.returns-in_err-more-clause-stop
 returns-in_err-more-clause-stop g c = λ setup history is stands holds _.
     let reached = c.loop-came.invariant.reached setup history is stands holds in
-    reached_stop (named c.args.service) c.loop-came.part c.loop-came.acceptor.setup c.answer_piece.new.acceptor.setup setup history
+    reached_stop c.args.options.now c.loop-came.part c.loop-came.acceptor.setup c.answer_piece.new.acceptor.setup setup history
     (g.S.Source.remaining c.args.source.now) (g.S.Source.remaining c.loop-came.source) (g.S.Source.remaining c.read_some.new.source)
     c.loop-came.came c.loop-came.status (take c.in_ok-count.count c.read_some.new.piece)
     (g.K.Sink.taken c.args.sink.now) (g.K.Sink.taken c.loop-came.sink) (g.K.Sink.taken c.answer_piece.new.sink)
@@ -61,7 +60,7 @@ loop-came-preserved g c = record {
   reached = λ setup history is stands holds.
       let reached = c.loop-came.invariant.reached setup history is stands holds in
       let worst : c.max-status.result ≡ max c.loop-came.status c.in_ok-more.more = search (arith, rules) in
-      rw worst (reached_more (named c.args.service) c.loop-came.part c.answer_piece.new.part c.loop-came.acceptor.setup c.answer_piece.new.acceptor.setup setup history
+      rw worst (reached_more c.args.options.now c.loop-came.part c.answer_piece.new.part c.loop-came.acceptor.setup c.answer_piece.new.acceptor.setup setup history
       (g.S.Source.remaining c.args.source.now) (g.S.Source.remaining c.loop-came.source) (g.S.Source.remaining c.read_some.new.source)
       c.loop-came.came c.in_ok-count.count c.loop-came.status c.in_ok-more.more (take c.in_ok-count.count c.read_some.new.piece)
       (g.K.Sink.taken c.args.sink.now) (g.K.Sink.taken c.loop-came.sink) (g.K.Sink.taken c.answer_piece.new.sink)

@@ -1,4 +1,3 @@
-use Rattle.krbtool.specs.Tails.{named}
 use Rattle.std.proofs.Common.{◌≡◌, ◌≤◌, ◌-◌, ◌<◌, List, [], length}
 use Rattle.krb_ap.specs.Setup.{Setup, Arrival}
 use Rattle.krb_ap.specs.History.{StandsFor}
@@ -14,7 +13,7 @@ invariant-loop-came g l = record {
   room : 0 < length l.piece;
   reached : (setup : Setup) (history : List Arrival) → l.fn.acceptor.setup ≡ setup
       → StandsFor setup (g.M.ReplayMemory.has l.fn.acceptor.memory) (g.M.ReplayMemory.newest l.fn.acceptor.memory) history → Holds l.fn.part []
-      → Reached (named l.service) (g.S.Source.remaining l.fn.source) (g.S.Source.remaining l.source) l.came l.part l.acceptor.setup setup history l.status
+      → Reached l.options (g.S.Source.remaining l.fn.source) (g.S.Source.remaining l.source) l.came l.part l.acceptor.setup setup history l.status
       (g.K.Sink.taken l.fn.sink) (g.K.Sink.taken l.sink) (g.M.ReplayMemory.has l.acceptor.memory) (g.M.ReplayMemory.newest l.acceptor.memory);
   came : Came (g.S.Source.remaining l.fn.source) (g.S.Source.remaining l.source) l.came;
   setup : l.acceptor.setup ≡ l.fn.acceptor.setup;

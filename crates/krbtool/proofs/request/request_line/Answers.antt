@@ -6,7 +6,7 @@ use Rattle.krb_ccache.specs.Format.{IsCache}
 use Rattle.krb_ccache.specs.Value.{Cache}
 use Rattle.krb_ccache.specs.declared.fault.CacheFault.TheVariants.{OutOfMemory, Read}
 use Rattle.krbtool.specs.declared.fault.EngineFault.TheVariants.{Cache as OfCache}
-use Rattle.krbtool.specs.Requesting.{IsRequested, request_line}
+use Rattle.krbtool.specs.Requesting.{IsAskedFor, request_line}
 use Rattle.krbtool.proofs.FaultLaws.{passed_on, none_met, value_met}
 use Rattle.krbtool.proofs.FileLaws.{of_file, ok_of_file}
 use Rattle.krbtool.proofs.request.request_line.Goals as goal
@@ -20,7 +20,7 @@ returns-in_err-cache-clause-faulty g c =
 pub returns-clause-requested : goal.returns-clause-requested
 returns-clause-requested g c =
     ok_of_file c.write_request.result IsCache (g.S.Source.remaining c.args.source.now) c.in_ok-cache.cache
-    (λ (cache : Cache). (bytes : List ℕ) × (IsRequested cache c.args.service.now c.args.at c.args.confounder.now c.args.wants_reply bytes
+    (λ (cache : Cache). (bytes : List ℕ) × (IsAskedFor cache c.args.asked.now bytes
     × Appends (g.T.Sink.taken c.args.sink.now) (g.T.Sink.taken c.write_request.new.sink) (request_line bytes)))
     c.in_ok-cache.ensures.reads.found c.write_request.ensures.requested
 
@@ -31,7 +31,7 @@ returns-clause-faulty g c = λ bytes fault tells is.
 pub returns-clause-begun : goal.returns-clause-begun
 returns-clause-begun g c = λ which.
     of_file IsCache (g.S.Source.remaining c.args.source.now) c.in_ok-cache.cache
-    (λ (cache : Cache). (bytes : List ℕ) × (IsRequested cache c.args.service.now c.args.at c.args.confounder.now c.args.wants_reply bytes
+    (λ (cache : Cache). (bytes : List ℕ) × (IsAskedFor cache c.args.asked.now bytes
     × AppendsBeginning (g.T.Sink.taken c.args.sink.now) (g.T.Sink.taken c.write_request.new.sink) (request_line bytes)))
     c.in_ok-cache.ensures.reads.found (c.write_request.ensures.begun which)
 

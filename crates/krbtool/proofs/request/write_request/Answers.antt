@@ -3,7 +3,7 @@ use Rattle.std.proofs.lemmas.Result.{err_from_is_err_and}
 use Rattle.krbtool.specs.declared.fault.EngineFault.TheVariants.{Write, OutOfMemory}
 use Rattle.krbtool.proofs.FaultLaws.{no_ok, not_written}
 use Rattle.krbtool.proofs.LineLaws.{nothing_begun}
-use Rattle.krbtool.specs.Requesting.{plain_options, request_line}
+use Rattle.krbtool.specs.Requesting.{chosen_options, request_line}
 use Rattle.krbtool.proofs.request.write_request.Goals as goal
 
 pub returns-in_err-bytes-clause-begun : goal.returns-in_err-bytes-clause-begun
@@ -13,13 +13,13 @@ returns-in_err-bytes-clause-begun g c =
 
 pub returns-in_err-line-clause-begun : goal.returns-in_err-line-clause-begun
 returns-in_err-line-clause-begun g c = λ which.
-    (c.in_ok-bytes.bytes.items, (c.in_ok-bytes.ensures.request, nothing_begun (g.T.Sink.taken c.args.sink.now) (request_line c.in_ok-bytes.bytes.items)))
+    (c.in_ok-bytes.bytes.items, (c.in_ok-bytes.ensures.bytes, nothing_begun (g.T.Sink.taken c.args.sink.now) (request_line c.in_ok-bytes.bytes.items)))
 
 pub returns-in_err-write_all-clause-begun : goal.returns-in_err-write_all-clause-begun
 returns-in_err-write_all-clause-begun g c = λ which. (
   c.in_ok-bytes.bytes.items,
   (
-    c.in_ok-bytes.ensures.request,
+    c.in_ok-bytes.ensures.bytes,
     rw (c.as_bytes.ensures.value, c.in_ok-line.ensures, c.deref.ensures.value) at c.in_err-write_all.ensures.err,
   ),
 )
@@ -28,7 +28,7 @@ pub returns-clause-requested : goal.returns-clause-requested
 returns-clause-requested g c = (
   c.in_ok-bytes.bytes.items,
   (
-    c.in_ok-bytes.ensures.request,
+    c.in_ok-bytes.ensures.bytes,
     rw (c.as_bytes.ensures.value, c.in_ok-line.ensures, c.deref.ensures.value) at c.in_ok-write_all.ensures.ok,
   ),
 )
@@ -38,5 +38,7 @@ returns-clause-begun g c = λ which. elim which [ inl e ↦ absurd (no_ok tt Wri
 
 pub returns-clause-none : goal.returns-clause-none
 returns-clause-none g c = λ fault prevents.
-    c.built_or_prevented.ensures.apart c.args.cache.now c.args.service.now c.args.at c.args.confounder.now (plain_options c.args.wants_reply)
-    c.in_ok-bytes.bytes.items c.in_ok-bytes.ensures.request.awaited fault c.in_ok-bytes.ensures.request.request prevents
+    let asked = c.args.asked.now in
+    let made = c.in_ok-bytes.ensures.bytes in
+    c.built_or_prevented.ensures.apart c.args.cache.now asked.service asked.at asked.confounder (chosen_options asked.wants_reply asked.wrapping)
+    made.request made.requested.awaited fault made.requested.request prevents

@@ -29,7 +29,7 @@ use Rattle.std.specs.declared.option.Option.TheVariants.{None, Some}
 use Rattle.std_alloc.proofs.ResultValues.{and_tt}
 use Rattle.std.proofs.raw_atomic.Walks.{proved_at, leaves}
 use Rattle.krb_c.specs.contracts.cache_handle.CacheHandle as slot
-use Rattle.krb_ccache.specs.contracts.cache.CCache.{the_row as V}
+use Rattle.krb_ap.specs.contracts.initiator.Initiator.{the_row as V}
 use Rattle.krb_c.proofs.Values.{both, Held, held_good, held_in}
 use Rattle.krb_c.proofs.Handles.{Z, either}
 use Rattle.krb_c.proofs.CacheHandles.{cache_good, cache_out}

@@ -24,7 +24,7 @@ use Rattle.std.specs.contracts.impls.GlobalAllocator.TheImpl.{ghosts}
 use Rattle.std.specs.declared.option.Option.TheVariants.{Some}
 use Rattle.std.proofs.raw_atomic.Walks.{proved_at, leaves}
 use Rattle.krb_c.specs.contracts.cache_handle.CacheHandle as slot
-use Rattle.krb_ccache.specs.contracts.cache.CCache.{the_row as V}
+use Rattle.krb_ap.specs.contracts.initiator.Initiator.{the_row as V}
 use Rattle.krb_c.proofs.Values.{both, Held, held_good, held_out}
 use Rattle.krb_c.proofs.Handles.{Z}
 use Rattle.krb_c.proofs.CacheHandles.{cache_good, cache_in}

@@ -1,6 +1,5 @@
 use Rattle.std.proofs.Common.{arith}
-use Rattle.std.proofs.lemmas.Result.{err_from_is_err_and}
-use Rattle.krb_keytab.proofs.FileLaws.{starts_at, start_fits, hole_goes, entry_goes, keytab_found, fault_found}
+use Rattle.krb_keytab.proofs.FileLaws.{starts_at, start_fits, hole_goes, entry_goes, keytab_found}
 use Rattle.krb_keytab.proofs.keytab.Keytab.of_records.Goals as goal
 
 pub loop-entries-init : goal.loop-entries-init
@@ -10,14 +9,8 @@ loop-entries-init c = record {
   fits = start_fits c.args.bytes.now c.in_ok-cursor.cursor.rest (λ i. omega (arith, c.type_inv.bytes i)) c.in_ok-cursor.ensures.rest;
 }
 
-pub returns-in_err-next_record-clause-fault : goal.returns-in_err-next_record-clause-fault
-returns-in_err-next_record-clause-fault c =
-    let now = c.loop-entries.invariant in
-    let p = err_from_is_err_and c.from_residual-in_err-next_record.result c.from_residual-in_err-next_record.ensures.1 in
-    rw (p.1, p.2) (λ other. fault_found c.args.bytes.now c.loop-entries.cursor c.loop-entries.entries.items c.in_err-next_record.field-0.0 now.limit now.reached now.fits c.in_err-next_record.ensures)
-
-pub returns-in-End-clause-found : goal.returns-in-End-clause-found
-returns-in-End-clause-found c =
+pub returns-in-End : goal.returns-in-End
+returns-in-End c =
     let now = c.loop-entries.invariant in
     let read = rw c.in-End.is at c.in_ok-next_record.ensures in
     rw c.in_ok-of_entries-in-End.ensures (keytab_found c.args.bytes.now c.loop-entries.cursor _ c.loop-entries.entries.items now.limit now.reached now.fits read)

@@ -1,0 +1,18 @@
+use Rattle.std.proofs.Common.{◌≡◌, subst, sym}
+use Rattle.std.specs.Prelude.{Option}
+use Rattle.std.specs.Option.{MatchOption}
+use Rattle.krb_ccache.specs.Value.{Cache}
+use Rattle.krb_c.specs.Answer.{plain}
+use Rattle.krb_c.specs.Asking.{Sends, ask}
+use Rattle.krb_c.specs.Codes.{empty_handle}
+use Rattle.krb_c.proofs.asking.request_by.Goals as goal
+
+pub returns-in-Some-clause-sent : goal.returns-in-Some-clause-sent
+returns-in-Some-clause-sent c = subst (λ (value : Option Cache). MatchOption value
+    ((c.send-answer.result ≡ plain empty_handle) × ((c.send-answer.new.pending.value ≡ c.args.pending.now.value) × (c.send-answer.new.buffer ≡ c.args.buffer.now)))
+    (λ held. Sends (ask held c.args.service.now c.args.at.now c.args.choice.now c.args.subkey.now c.args.context) c.args.confounder.now c.args.pending.now.value
+    c.send-answer.new.pending.value c.args.buffer.now c.send-answer.new.buffer c.send-answer.result))
+    (sym c.in-Some.ensures.held)
+    (subst (λ (cache : Cache). Sends (ask cache c.args.service.now c.args.at.now c.args.choice.now c.args.subkey.now c.args.context) c.args.confounder.now c.args.pending.now.value
+    c.send-answer.new.pending.value c.args.buffer.now c.send-answer.new.buffer c.send-answer.result)
+    c.deref_mut.ensures.value c.send-answer.ensures.sent)

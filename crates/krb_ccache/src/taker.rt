@@ -1,0 +1,133 @@
+//! What the bytes of a part are taken from: a source, or bytes in memory.
+
+ghost use Rattle.std.specs.Prelude.{◌≡◌, ◌+◌, ◌-◌, ◌≤◌, ◌<◌, ◌^◌, ℕ, List, [], Option, OnOk, length};
+ghost use Rattle.krb_name.specs.File.{file_limit};
+ghost use Rattle.krb_ccache.specs.Inner.Walking.{Hand, IsTaken, stopped_reads, window_hand, window_within, window_lacks, bytes_hand, bytes_within, bytes_lacks};
+ghost use Rattle.krb_ccache.specs.declared.walking.Stop.{Stop as StopValue};
+
+use crate::walking::Stop;
+use krb_name::{FILE_LIMIT, Source, Window};
+use std::marker::Model;
+
+/// What the bytes of a part are taken from.
+pub(crate) trait Taker {
+    /// The bytes that were taken, and what is left, if that is known.
+    ghost hand: { Self → Hand };
+
+    /// Whether no more was taken than may be.
+    ghost Within: { Hand → Type 0 };
+
+    /// Whether so many bytes can't be taken, for this reason.
+    ghost Lacks: { StopValue → Hand → ℕ → Type 0 };
+
+    /// How many reads have failed.
+    ghost failures: { Self → ℕ };
+
+    /// The name of the reference that lends a source.
+    ghost lender: { Self → ℕ };
+
+    /// Takes `count` bytes.
+    fn take(&mut self, count: usize) -> Result<(), Stop>
+        requires reads { failures self.old < 2 ^ 64 - 1 }
+        requires within { Within (hand self.old) }
+        ensures taken { IsTaken Within Lacks count (hand self.old) (hand self.new) result }
+        ensures count { OnOk result (length (hand self.new).bytes ≡ length (hand self.old).bytes + count) }
+        ensures failed { failures self.new ≡ failures self.old + stopped_reads result }
+        ensures lent { lender self.new ≡ lender self.old };
+
+    /// Returns the bytes that were taken.
+    fn taken(&self) -> &[u8]
+        ensures bytes { result.now ≡ (hand self.now).bytes }
+        ensures held { length result.now ≤ (hand self.now).peak };
+}
+
+impl<S: Source> Taker for Window<S> {
+    ghost hand = { λ window. window_hand S.remaining window };
+
+    ghost Within = { window_within };
+
+    ghost Lacks = { window_lacks };
+
+    ghost failures = { λ window. S.failure_count window.source };
+
+    ghost lender = { λ window. S.lender window.source };
+
+    fn take(&mut self, count: usize) -> Result<(), Stop> {
+        fill(self, count)
+    }
+
+    fn taken(&self) -> &[u8] {
+        let _held = self.held();
+        self.bytes()
+    }
+}
+
+// Appends so many bytes of the source to those held.
+fn fill<S: Source>(window: &mut Window<S>, count: usize) -> Result<(), Stop>
+    requires reads { S.failure_count window.old.source < 2 ^ 64 - 1 }
+    requires within { window.old.given ≤ file_limit }
+    ensures taken { IsTaken window_within window_lacks count
+        (window_hand S.remaining window.old) (window_hand S.remaining window.new) result }
+    ensures count { OnOk result (length window.new.bytes ≡ length window.old.bytes + count) }
+    ensures failed { S.failure_count window.new.source
+        ≡ S.failure_count window.old.source + stopped_reads result }
+    ensures lent { S.lender window.new.source ≡ S.lender window.old.source }
+{
+    let _held = window.held();
+    if count > FILE_LIMIT - window.given() {
+        return Err(Stop::Long);
+    }
+    match window.fill(count) {
+        Ok(true) => Ok(()),
+        Ok(false) => Err(Stop::End),
+        Err(fault) => Err(Stop::from(fault)),
+    }
+}
+
+/// Bytes in memory, of which the first were taken.
+#[derive(Drop)]
+pub(crate) struct Passing<'a> {
+    bytes: &'a [u8],
+    at: usize,
+}
+
+impl<'a> Model for Passing<'a> {
+    ghost Value = { Hand };
+
+    ghost view = { λ p. bytes_hand p.bytes.now p.at };
+
+    ghost invariant = { λ p. p.at ≤ length p.bytes.now };
+}
+
+impl<'a> Passing<'a> {
+    /// Nothing of `bytes` is taken yet.
+    pub(crate) fn new(bytes: &'a [u8]) -> Self
+        ensures { result ≡ bytes_hand bytes.now 0 }
+    {
+        Passing { bytes, at: 0 }
+    }
+}
+
+impl Taker for Passing<'_> {
+    ghost hand = { λ passing. passing };
+
+    ghost Within = { bytes_within };
+
+    ghost Lacks = { bytes_lacks };
+
+    ghost failures = { λ _. 0 };
+
+    ghost lender = { λ _. 0 };
+
+    fn take(&mut self, count: usize) -> Result<(), Stop> {
+        if count > self.bytes.len() - self.at {
+            return Err(Stop::End);
+        }
+        self.at += count;
+        Ok(())
+    }
+
+    fn taken(&self) -> &[u8] {
+        &self.bytes[..self.at]
+    }
+}

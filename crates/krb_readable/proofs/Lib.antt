@@ -1,0 +1,4 @@
+pub mod TableLaws
+pub mod ColumnLaws
+pub mod DateLaws
+pub mod KnownDates

@@ -1,0 +1,2 @@
+-- Words that only private contracts cite.
+pub mod Tables

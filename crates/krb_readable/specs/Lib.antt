@@ -1,0 +1,6 @@
+pub mod Table
+pub mod Enctype
+pub mod Date
+pub mod Flags
+pub mod Readable
+pub mod Inner

@@ -1,0 +1,32 @@
+//! Keytabs and credential caches as tables for people to read.
+//!
+//! [`readable_keytab`] and [`readable_ccache`] return the text of a table: a first row that names the
+//! columns, then a row for each entry or credential, in the order of the file. Encryption types are
+//! shown by name, times as dates in UTC, and a ticket's flags as letters.
+//!
+//! Each cell but the last of a row is filled with spaces to the width of the widest cell of its
+//! column, up to 256, and two spaces follow. The width of a cell is its number of Unicode scalar
+//! values. Each row ends in a line feed.
+//!
+//! ```rust
+//! let keytab = Keytab::read(alloc, &mut ReadSource::new(file))?;
+//! let text = readable_keytab(alloc, &keytab)?;
+//! print!(rt; "{text}")?;
+//! // KVNO  ENCTYPE                     TIMESTAMP             PRINCIPAL
+//! // 3     aes128-cts-hmac-sha256-128  2023-11-14T22:13:20Z  host/web@EX
+//! ```
+#![tactic(auto)]
+
+mod cache;
+mod cell;
+mod date;
+mod enctype;
+mod flags;
+mod keytab;
+pub mod laws;
+mod row;
+mod table;
+mod time;
+
+pub use cache::readable_ccache;
+pub use keytab::readable_keytab;

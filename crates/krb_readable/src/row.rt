@@ -1,0 +1,76 @@
+//! A row of a table.
+
+ghost use Rattle.std.specs.Prelude.{◌≡◌, IfOk, map};
+ghost use Rattle.krb_readable.specs.Table.{TableRow, cell_at, width};
+
+use crate::cell::Cell;
+use std::alloc::{AllocError, Global};
+use std::marker::Model;
+
+/// A row: the cells of the columns that are filled with spaces, and that of the last column.
+#[derive(Drop)]
+pub(crate) struct Row {
+    cells: Vec<Cell>,
+    last: Cell,
+}
+
+impl Model for Row {
+    ghost Value = { TableRow };
+
+    ghost view = { λ r. record { cells = r.cells.items; last = r.last } };
+}
+
+impl Row {
+    /// Makes a row of its cells.
+    pub(crate) fn new<const N: usize>(
+        alloc: Global,
+        cells: [Cell; N],
+        last: Cell,
+    ) -> Result<Self, AllocError>
+        ensures { IfOk result (λ row. row ≡ record { cells = cells.entry; last = last }) }
+    {
+        Ok(Row {
+            cells: Vec::from_array(alloc, cells)?,
+            last,
+        })
+    }
+
+    /// Makes a row of copies of texts.
+    pub(crate) fn copied(alloc: Global, cells: &[&str], last: &str) -> Result<Self, AllocError>
+        ensures { IfOk result (λ row.
+            row ≡ record { cells = map (λ text. text.now) cells.now; last = last.now }) }
+    {
+        let mut copies = Vec::with_capacity(alloc, cells.len())?;
+        for text in cells {
+            copies.push(Cell::of(alloc, text)?)?;
+        }
+        Ok(Row {
+            cells: copies,
+            last: Cell::of(alloc, last)?,
+        })
+    }
+
+    /// Returns the cells of the columns that are filled with spaces.
+    pub(crate) fn cells(&self) -> &[Cell]
+        ensures { result.now ≡ self.now.cells }
+    {
+        self.cells.as_slice()
+    }
+
+    /// Returns the cell of the last column.
+    pub(crate) fn last(&self) -> &Cell
+        ensures { result.now ≡ self.now.last }
+    {
+        &self.last
+    }
+
+    /// Returns the width of the cell in a column, or 0 if the row ends before the column.
+    pub(crate) fn width_in(&self, column: usize) -> usize
+        ensures { result ≡ width (cell_at column self.now) }
+    {
+        match self.cells().get(column) {
+            Some(cell) => cell.width(),
+            None => 0,
+        }
+    }
+}
