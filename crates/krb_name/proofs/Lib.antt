@@ -12,3 +12,4 @@ pub mod NamesBack
 pub mod OneAnswer
 pub mod Repeated
 pub mod WindowLaws
+pub mod FileLaws

@@ -7,9 +7,23 @@ use Rattle.std.specs.Io.KnownBytes.{Consumes, IsAtEnd}
 abbrev pub file_limit : ℕ
 file_limit = 16777216
 
--- what is left of a source is a tail of what it still had
-abbrev pub LeavesTail : Option (List ℕ) → Option (List ℕ) → Type 0
-LeavesTail old new = (piece : List ℕ) × Consumes old new piece
+-- a source gave at most so many bytes; what is left is a tail of what it still had
+pub record TakesAtMost (old new : Option (List ℕ)) (count : ℕ) : Type 0 where
+  pub piece : List ℕ
+  pub taken : Consumes old new piece
+  pub within : length piece ≤ count
+
+-- a source was read as a file: it gave at most one byte past the limit
+abbrev pub TakesFile : Option (List ℕ) → Option (List ℕ) → Type 0
+TakesFile old new = TakesAtMost old new (file_limit + 1)
+
+-- a source gave bytes of a file, in all as many as the first number before and as the second now,
+-- and at most one byte past the limit
+pub record GivesWithin (from to : Option (List ℕ)) (old new : ℕ) : Type 0 where
+  pub piece : List ℕ
+  pub taken : Consumes from to piece
+  pub given : new ≡ old + length piece
+  pub within : old ≤ file_limit + 1 → new ≤ file_limit + 1
 
 -- the bytes that a source gave, up to its end or to one byte past the limit of a file
 pub record IsGiven (old new : Option (List ℕ)) (bytes : List ℕ) : Type 0 where
@@ -19,7 +33,7 @@ pub record IsGiven (old new : Option (List ℕ)) (bytes : List ℕ) : Type 0 whe
 
 -- The bytes of a source were read as a file, and each list of bytes has an answer: a value or a
 -- fault. Two faults say nothing about the bytes, lack of memory and a failed read; they may take
--- the place of any answer. Whatever the answer, a tail of the source is left.
+-- the place of any answer. Whatever the answer, the source gave at most one byte past the limit.
 pub record ReadsFile {T F : Type 0} (IsAnswerOf : List ℕ → Result T F → Type 0) (memory failed : F) (from to : Option (List ℕ)) (result : Result T F) : Type 0 where
   pub found : IfOk result (λ value. IfSome from (λ bytes. IsAnswerOf bytes (Ok value)))
   pub end : OnOk result (IsAtEnd to)
@@ -27,4 +41,4 @@ pub record ReadsFile {T F : Type 0} (IsAnswerOf : List ℕ → Result T F → Ty
   pub only : (bytes : List ℕ) (answer : Result T F) → from ≡ Some bytes → IsAnswerOf bytes answer
       → (result ≡ answer) ⊎ ((result ≡ Err memory) ⊎ (result ≡ Err failed))
   pub given : result ≢ Err memory → result ≢ Err failed → (bytes : List ℕ) × IsGiven from to bytes × IsAnswerOf bytes result
-  pub tail : LeavesTail from to
+  pub taken : TakesFile from to
