@@ -4,10 +4,9 @@ use Rattle.std.specs.Prelude.{◌≢◌, IfSome, IfOk, IfErr}
 use Rattle.std.proofs.lemmas.Bool.{cases_lt}
 use Rattle.std.proofs.lemmas.List.{length-append}
 use Rattle.krb_ccache.specs.Value.{Cache}
-use Rattle.krb_name.specs.File.{file_limit, IsGiven, LeavesTail, ReadsFile}
+use Rattle.krb_name.specs.File.{file_limit, IsGiven, TakesFile, ReadsFile}
 use Rattle.krb_ccache.specs.Format.{IsCache, IsAnswerOf, IsFaultOf}
 use Rattle.std.specs.Io.KnownBytes.{IsAtEnd}
-use Rattle.std.proofs.KnownBytes.{Consumes-trans}
 use Rattle.krb_ccache.proofs.AnswerLaws.{one_answer}
 use Rattle.krb_ccache.specs.declared.fault.CacheFault.{CacheFault}
 use Rattle.krb_ccache.specs.declared.fault.CacheFault.TheVariants.{Version, Header, BadItem, TooLong, Read, OutOfMemory}
@@ -82,16 +81,11 @@ only_whole from to (Err Header) f e whole answer known a = let g = e (λ x. absu
 only_whole from to (Err TooLong) f e whole answer known a = let g = e (λ x. absurd cc) (λ x. absurd cc) in inl (only_given to g.0 whole (Err TooLong) answer (subst (λ (o : Option (List ℕ)). IsGiven o to g.0) known g.1) g.2 a)
 only_whole from to (Err (BadItem at)) f e whole answer known a = let g = e (λ x. absurd cc) (λ x. absurd cc) in inl (only_given to g.0 whole (Err (BadItem at)) answer (subst (λ (o : Option (List ℕ)). IsGiven o to g.0) known g.1) g.2 a)
 
--- ---- what is left
-
-pub tail_then : (from middle to : Option (List ℕ)) → LeavesTail from middle → LeavesTail middle to → LeavesTail from to
-tail_then from middle to p q = (p.0 ++ q.0, Consumes-trans from middle to p.0 q.0 p.1 q.1)
-
 -- ---- what reading answers
 
 abbrev err_of : CacheFault → Result Cache CacheFault
 err_of fault = Err fault
 
-pub reads_whole : (from to : Option (List ℕ)) (result : Result Cache CacheFault) → IfOk result (Found from to) → IfErr result (Faulty from to) → LeavesTail from to → ReadsFile IsAnswerOf OutOfMemory Read from to result
-reads_whole from to (Ok cache) f e tail = record { found = found_whole from to cache f; end = found_end from to cache f; fault = tt; only = only_whole from to (Ok cache) f e; given = λ memory read. f; tail = tail }
-reads_whole from to (Err fault) f e tail = record { found = tt; end = tt; fault = λ memory read. fault_whole from to fault e memory read; only = only_whole from to (Err fault) f e; given = λ memory read. e (λ is. memory (ap (λ (x : CacheFault). err_of x) is)) (λ is. read (ap (λ (x : CacheFault). err_of x) is)); tail = tail }
+pub reads_whole : (from to : Option (List ℕ)) (result : Result Cache CacheFault) → IfOk result (Found from to) → IfErr result (Faulty from to) → TakesFile from to → ReadsFile IsAnswerOf OutOfMemory Read from to result
+reads_whole from to (Ok cache) f e taken = record { found = found_whole from to cache f; end = found_end from to cache f; fault = tt; only = only_whole from to (Ok cache) f e; given = λ memory read. f; taken = taken }
+reads_whole from to (Err fault) f e taken = record { found = tt; end = tt; fault = λ memory read. fault_whole from to fault e memory read; only = only_whole from to (Err fault) f e; given = λ memory read. e (λ is. memory (ap (λ (x : CacheFault). err_of x) is)) (λ is. read (ap (λ (x : CacheFault). err_of x) is)); taken = taken }

@@ -5,7 +5,7 @@ use Rattle.std.proofs.KnownBytes.{Consumes-trans, Consumes-nil}
 use Rattle.std.proofs.lemmas.List.{length-append, nil_from_length}
 use Rattle.krb_name.specs.Cursor.{Place}
 use Rattle.krb_name.specs.Window.{AtHand, Keeps}
-use Rattle.krb_name.specs.File.{file_limit, LeavesTail}
+use Rattle.krb_name.specs.File.{file_limit, GivesWithin}
 use Rattle.krb_ccache.specs.declared.fault.CacheFault.{CacheFault}
 use Rattle.krb_ccache.specs.declared.item_fault.ItemFault.{ItemFault}
 use Rattle.krb_ccache.specs.declared.item_fault.ItemFault.TheVariants as item
@@ -26,7 +26,7 @@ use Rattle.krb_ccache.specs.declared.credential.HeaderField.{HeaderField}
 use Rattle.krb_name.specs.Field.{IsBytes, IsField}
 use Rattle.krb_name.proofs.CursorLaws.{some_is}
 use Rattle.krb_ccache.proofs.Repeats.{missing_where}
-use Rattle.krb_ccache.proofs.SourceLaws.{tail_then}
+use Rattle.krb_name.proofs.FileLaws.{gives_then}
 use Rattle.krb_ccache.proofs.WalkLaws.{front_same}
 
 module _ {X S : Type 0} (s : X → List ℕ) (P : X → Type 0) (left : S → Option (List ℕ)) where
@@ -78,6 +78,7 @@ module _ {X S : Type 0} (s : X → List ℕ) (P : X → Type 0) (left : S → Op
     grows = omega (arith, k.peak);
     peak = omega (arith, k.peak, ap length k.bytes);
     limit = λ old_limit. omega (arith, k.peak, ap length k.bytes, k.given, within, old_limit);
+    one_past = omega (arith, within);
   }
 
   then_run : (old middle new : AtHand S) (piece : List ℕ) → Keeps (left old.source) (left middle.source) (cleared old) middle piece → middle.given ≤ file_limit → (r : Runs left middle new) → Gives left old new (piece ++ r.piece)
@@ -87,6 +88,7 @@ module _ {X S : Type 0} (s : X → List ℕ) (P : X → Type 0) (left : S → Op
     grows = omega (arith, k.peak, r.skips.peak);
     peak = omega (arith, k.peak, ap length k.bytes, r.skips.peak, length-append piece r.piece);
     limit = λ old_limit. omega (arith, k.peak, ap length k.bytes, k.given, within, old_limit, r.skips.peak);
+    one_past = r.one_past;
   }
 
   -- where the end came, or the limit was passed, no such thing stands within the limit
@@ -131,12 +133,12 @@ module _ {X S : Type 0} (s : X → List ℕ) (P : X → Type 0) (left : S → Op
     tells = λ memory. absurd (memory t.0);
   })
 
-  -- what is left is a tail, whether a thing came or not
-  pub comes_tail : (old new : AtHand S) (x : X) → Comes s P left old new x → LeavesTail (left old.source) (left new.source)
-  comes_tail old new x c = (s x, c.consumed)
+  -- the source gave at most one byte past the limit, whether a thing came or not
+  pub comes_gives : (old new : AtHand S) (x : X) → Comes s P left old new x → GivesWithin (left old.source) (left new.source) old.given new.given
+  comes_gives old new x c = record { piece = s x; taken = c.consumed; given = c.given; within = λ l. omega (arith, c.within) }
 
-  pub misses_tail : (old new : AtHand S) (fault told : CacheFault) → Misses s P left old new fault told → LeavesTail (left old.source) (left new.source)
-  misses_tail old new fault told m = (m.some.0, m.some.1.consumed)
+  pub misses_gives : (old new : AtHand S) (fault told : CacheFault) → Misses s P left old new fault told → GivesWithin (left old.source) (left new.source) old.given new.given
+  misses_gives old new fault told m = let some = m.some.1 in record { piece = m.some.0; taken = some.consumed; given = some.given; within = λ l. some.one_past }
 
 -- ---- no credential came
 
@@ -154,13 +156,18 @@ module _ (layout : Layout) {S : Type 0} (left : S → Option (List ℕ)) (old mi
 -- ---- what a step leaves
 
 module _ (layout : Layout) {S : Type 0} (left : S → Option (List ℕ)) (old new : AtHand S) where
-  tail_of : (answer : Result (Option Credential) CacheFault) → IsStep layout left old new answer → LeavesTail (left old.source) (left new.source)
-  tail_of (Ok (Some credential)) step = (step.0, step.1.consumed)
-  tail_of (Ok None) step = misses_tail bytes_of (Spells layout) left old new (BadItem old.given) (BadItem old.given) step.0
-  tail_of (Err fault) step = misses_tail bytes_of (Spells layout) left old new (BadItem old.given) fault step.0
+  pub step_gives : (answer : Result (Option Credential) CacheFault) → IsStep layout left old new answer → GivesWithin (left old.source) (left new.source) old.given new.given
+  step_gives (Ok (Some credential)) step = comes_gives bytes_of (Spells layout) left old new (spelled_as step.0 credential) step.1
+  step_gives (Ok None) step = misses_gives bytes_of (Spells layout) left old new (BadItem old.given) (BadItem old.given) step.0
+  step_gives (Err fault) step = misses_gives bytes_of (Spells layout) left old new (BadItem old.given) fault step.0
 
-  pub step_tail : (from : Option (List ℕ)) (answer : Result (Option Credential) CacheFault) → LeavesTail from (left old.source) → IsStep layout left old new answer → LeavesTail from (left new.source)
-  step_tail from answer tail step = tail_then from (left old.source) (left new.source) tail (tail_of answer step)
+  pub step_limit : (answer : Result (Option Credential) CacheFault) → IsStep layout left old new answer → new.given ≤ file_limit + 1
+  step_limit (Ok (Some credential)) step = omega (arith, step.1.within)
+  step_limit (Ok None) step = step.0.some.1.one_past
+  step_limit (Err fault) step = step.0.some.1.one_past
+
+  pub gives_step : (from : Option (List ℕ)) (given : ℕ) (answer : Result (Option Credential) CacheFault) → GivesWithin from (left old.source) given old.given → IsStep layout left old new answer → GivesWithin from (left new.source) given new.given
+  gives_step from given answer gave step = gives_then from (left old.source) (left new.source) given old.given new.given gave (step_gives answer step)
 
 -- ---- a credential that was passed
 
@@ -180,6 +187,7 @@ not_made layout left old new (Ok (Some credential)) there step =
             grows = omega (arith, one.peak);
             peak = omega (arith, one.peak);
             limit = λ old_limit. omega (arith, one.peak, one.given, one.within, old_limit);
+            one_past = omega (arith, one.within);
           },
         );
         lacks = λ read memory. absurd (memory refl);

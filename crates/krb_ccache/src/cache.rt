@@ -9,7 +9,7 @@ ghost use Rattle.krb_ccache.specs.Value.{Cache, cache_of, HasLengths, Fits, Fits
 ghost use Rattle.krb_ccache.specs.declared.fault.CacheFault.{CacheFault as CacheFaultValue};
 ghost use Rattle.krb_ccache.specs.Configuration.{HoldsOffset, IsConfiguration};
 ghost use Rattle.krb_ccache.specs.Fault.{offset_of, failed_reads};
-ghost use Rattle.krb_name.specs.File.{file_limit, IsGiven, LeavesTail, ReadsFile};
+ghost use Rattle.krb_name.specs.File.{file_limit, IsGiven, GivesWithin, ReadsFile};
 ghost use Rattle.krb_ccache.specs.Format.{written, Spelled, Spells, IsCache, IsFaultOf, IsAnswerOf};
 ghost use Rattle.krb_ccache.specs.Offset.{clock_offset};
 ghost use Rattle.krb_ccache.specs.Inner.Reading.{credential_at};
@@ -167,7 +167,8 @@ impl CCache {
             fault ≢ CacheFault.OutOfMemory → fault ≢ CacheFault.Read → (bytes : List ℕ)
             × IsGiven (S.remaining window.old.source) (S.remaining window.new.source) bytes
             × IsFaultOf bytes fault) }
-        ensures tail { LeavesTail (S.remaining window.old.source) (S.remaining window.new.source) }
+        ensures gave { GivesWithin (S.remaining window.old.source) (S.remaining window.new.source)
+            window.old.given window.new.given }
         ensures failed { S.failure_count window.new.source
             ≡ S.failure_count window.old.source + failed_reads result }
         ensures lent { S.lender window.new.source ≡ S.lender window.old.source }

@@ -3,7 +3,7 @@
 ghost use Rattle.std.specs.Prelude.{◌≡◌, ◌≢◌, ◌+◌, ◌-◌, ◌^◌, ◌<◌, ◌≤◌, ◌↔◌, ℕ, true, false, List, [], max, length, All, IsTrue, IfOk, IfErr, IfSome, IfNone, MatchResult, OnErr, Option, Ok, Err, None};
 ghost use Rattle.krb_ccache.specs.Configuration.{HoldsOffset, IsConfiguration};
 ghost use Rattle.krb_ccache.specs.Fault.{failed_reads};
-ghost use Rattle.krb_name.specs.File.{file_limit, IsGiven, LeavesTail};
+ghost use Rattle.krb_name.specs.File.{file_limit, IsGiven, TakesFile, GivesWithin};
 ghost use Rattle.krb_ccache.specs.Format.{head_bytes, credential_length, IsCache, IsFaultOf};
 ghost use Rattle.krb_ccache.specs.Offset.{clock_offset};
 ghost use Rattle.krb_ccache.specs.Reader.{ended_by as ended_by_answer, ended_passed, passed, last_answer, with_credential, HasRead, Gave, GaveOne, PassedOne, HeldPart, StaysAtEnd, GoesTo};
@@ -34,7 +34,7 @@ pub struct CredentialReader<S> {
 }
 
 impl<S> Model for CredentialReader<S> {
-    ghost use Rattle.std.specs.Prelude.{◌≡◌, ◌≤◌, None};
+    ghost use Rattle.std.specs.Prelude.{◌≡◌, ◌≤◌, ◌+◌, None};
     ghost use Rattle.krb_name.specs.File.{file_limit};
     ghost use Rattle.krb_ccache.specs.Reader.{Reading};
     ghost use Rattle.krb_ccache.specs.Value.{FitsHeader};
@@ -52,7 +52,8 @@ impl<S> Model for CredentialReader<S> {
     } };
 
     ghost invariant = { λ r. FitsHeader r.header.items
-        × (r.window.peak ≤ file_limit) × (r.ended ≡ None → r.window.given ≤ file_limit) };
+        × (r.window.peak ≤ file_limit) × (r.ended ≡ None → r.window.given ≤ file_limit)
+        × (r.window.given ≤ file_limit + 1) };
 }
 
 impl<S: Source> CredentialReader<S> {
@@ -80,10 +81,10 @@ impl<S: Source> CredentialReader<S> {
             → (bytes : List ℕ) × IsGiven (S.remaining source) (S.remaining back.0) bytes
             × IsFaultOf bytes back.1) }
 
-        // Whatever the answer is, what is left of the source is a tail of what was to come.
-        ensures tail { MatchResult result
-            (λ reader. LeavesTail (S.remaining source) (S.remaining reader.source))
-            (λ back. LeavesTail (S.remaining source) (S.remaining back.0)) }
+        // Whatever the answer is, the source gave at most one byte past the limit.
+        ensures gave { MatchResult result
+            (λ reader. GivesWithin (S.remaining source) (S.remaining reader.source) 0 reader.given)
+            (λ back. TakesFile (S.remaining source) (S.remaining back.0)) }
 
         ensures none_failed { IfOk result (λ reader.
             S.failure_count reader.source ≡ S.failure_count source) }
@@ -154,6 +155,7 @@ impl<S: Source> CredentialReader<S> {
             → IfSome from (λ bytes. GoesTo bytes cache)) }
 
         ensures given { Gave (S.remaining self.old.source) (S.remaining self.new.source) self.old self.new }
+        ensures limit { self.new.given ≤ file_limit + 1 }
         ensures layout { self.new.layout ≡ self.old.layout }
         ensures header { self.new.header ≡ self.old.header }
         ensures default { self.new.default_principal ≡ self.old.default_principal }
@@ -213,6 +215,7 @@ impl<S: Source> CredentialReader<S> {
             → IfErr result (λ fault. fault ≢ CacheFault.OutOfMemory → fault ≢ CacheFault.Read
             → IfSome from (λ bytes. GoesTo bytes cache)) }
         ensures given { Gave (S.remaining self.old.source) (S.remaining self.new.source) self.old self.new }
+        ensures limit { self.new.given ≤ file_limit + 1 }
         ensures layout { self.new.layout ≡ self.old.layout }
         ensures header { self.new.header ≡ self.old.header }
         ensures default { self.new.default_principal ≡ self.old.default_principal }

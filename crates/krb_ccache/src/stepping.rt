@@ -2,7 +2,7 @@
 
 ghost use Rattle.std.specs.Prelude.{All, Option, ℕ, List, [], length, max, ◌≡◌, ◌≢◌, ◌+◌, ◌-◌, ◌≤◌, ◌<◌, ◌^◌, IfOk, IfErr, OnOk, OnErr, Result, Err};
 ghost use Rattle.krb_ccache.specs.Fault.{failed_reads};
-ghost use Rattle.krb_name.specs.File.{file_limit, IsGiven, LeavesTail};
+ghost use Rattle.krb_name.specs.File.{file_limit, IsGiven, GivesWithin};
 ghost use Rattle.krb_ccache.specs.Format.{version_of, head_bytes, FitsHead, Spelled, Spells, IsCache, IsFaultOf};
 ghost use Rattle.krb_ccache.specs.Reader.{HasTaken, HeldPart, passed};
 ghost use Rattle.krb_ccache.specs.Spelling.{header_bytes, name_bytes};
@@ -294,7 +294,8 @@ pub(crate) fn begin<S: Source>(alloc: Global, window: &mut Window<S>) -> Result<
         fault ≢ CacheFault.OutOfMemory → fault ≢ CacheFault.Read
         → (bytes : List ℕ) × IsGiven (S.remaining window.old.source) (S.remaining window.new.source) bytes
         × IsFaultOf bytes fault) }
-    ensures tail { LeavesTail (S.remaining window.old.source) (S.remaining window.new.source) }
+    ensures gave { GivesWithin (S.remaining window.old.source) (S.remaining window.new.source)
+        window.old.given window.new.given }
     ensures failed { S.failure_count window.new.source
         ≡ S.failure_count window.old.source + failed_reads result }
     ensures lent { S.lender window.new.source ≡ S.lender window.old.source }
@@ -390,7 +391,8 @@ pub(crate) fn steps<S: Source>(
         → HasTaken layout from (S.remaining window.old.source) window.old.given (cache_of header name [])
         → (bytes : List ℕ) × IsGiven from (S.remaining window.new.source) bytes
         × IsFaultOf bytes fault) }
-    ensures tail { LeavesTail (S.remaining window.old.source) (S.remaining window.new.source) }
+    ensures gave { GivesWithin (S.remaining window.old.source) (S.remaining window.new.source)
+        window.old.given window.new.given }
     ensures failed { S.failure_count window.new.source
         ≡ S.failure_count window.old.source + failed_reads result }
     ensures lent { S.lender window.new.source ≡ S.lender window.old.source }

@@ -5,7 +5,7 @@ use Rattle.std.proofs.KnownBytes.{Consumes-trans}
 use Rattle.std.proofs.lemmas.List.{length-append}
 use Rattle.krb_name.specs.Window.{AtHand}
 use Rattle.krb_keytab.specs.Entry.{KeytabEntry}
-use Rattle.krb_name.specs.File.{file_limit, IsGiven, LeavesTail}
+use Rattle.krb_name.specs.File.{file_limit, IsGiven, TakesFile}
 use Rattle.krb_keytab.specs.Format.{version, IsReached, IsCutOff, HoldsNoEntry, StandsAt}
 use Rattle.krb_keytab.specs.Items.{StandsTo}
 use Rattle.krb_keytab.specs.Inner.Meeting.{OpensAt, MeetsNext, HasTaken, IsFound, IsFaulty}
@@ -60,14 +60,21 @@ fault_of from to held bytes entries NoSuchEntry c s = absurd s.stops.lacks
 fault_of from to held bytes entries Read c s = λ memory read. absurd (read refl)
 fault_of from to held bytes entries OutOfMemory c s = λ memory read. absurd (memory refl)
 
-pub version_faulty : {S : Type 0} (from to : Option (List ℕ)) (old new : AtHand S) (fault : KeytabFault) → OpensAt from to old new (Err fault) → IsFaulty from to fault
-version_faulty from to old new fault o = let m = first_fault from to old new fault o in fault_of from to new.peak m.piece [] fault m.moves.consumed m.stands
+pub version_faulty : {S : Type 0} (from to : Option (List ℕ)) (old new : AtHand S) (fault : KeytabFault) → OpensAt from to old new (Err fault) → old.given ≡ 0 → IsFaulty from to fault
+version_faulty from to old new fault o start = let m = first_fault from to old new fault o start in fault_of from to new.peak m.piece [] fault m.moves.consumed m.stands
 
 pub next_faulty : {S : Type 0} (from mid to : Option (List ℕ)) (old new : AtHand S) (entries : List KeytabEntry) (fault : KeytabFault) → HasTaken from mid old.given entries → old.given ≤ file_limit → MeetsNext mid to old new (Err fault) → IsFaulty from to fault
 next_faulty from mid to old new entries fault t limit m =
     fault_of from to new.peak (t.bytes ++ m.piece) entries fault (Consumes-trans from mid to t.bytes m.piece t.taken m.moves.consumed) (m.stands t.bytes entries t.given_is (omega (arith, limit, t.given_is)) t.reached)
 
--- ---- what is left
+-- ---- how much the source gave
 
-pub tail_taken : {S : Type 0} (from mid to : Option (List ℕ)) (old new : AtHand S) (entries : List KeytabEntry) (answer : Result (Option KeytabEntry) KeytabFault) → HasTaken from mid old.given entries → MeetsNext mid to old new answer → LeavesTail from to
-tail_taken from mid to old new entries answer t m = (t.bytes ++ m.piece, Consumes-trans from mid to t.bytes m.piece t.taken m.moves.consumed)
+pub version_takes : {S : Type 0} (from to : Option (List ℕ)) (old new : AtHand S) (answer : Result Unit KeytabFault) → OpensAt from to old new answer → old.given ≡ 0 → TakesFile from to
+version_takes from to old new answer o start = record { piece = o.piece; taken = o.moves.consumed; within = let l = o.moves.limit (omega (arith, start)) in omega (arith, l, o.moves.given, start) }
+
+pub next_takes : {S : Type 0} (from mid to : Option (List ℕ)) (old new : AtHand S) (entries : List KeytabEntry) (answer : Result (Option KeytabEntry) KeytabFault) → HasTaken from mid old.given entries → old.given ≤ file_limit → MeetsNext mid to old new answer → TakesFile from to
+next_takes from mid to old new entries answer t limit m = record {
+  piece = t.bytes ++ m.piece;
+  taken = Consumes-trans from mid to t.bytes m.piece t.taken m.moves.consumed;
+  within = let l = m.moves.limit (omega (arith, limit)) in omega (arith, l, m.moves.given, t.given_is, length-append t.bytes m.piece);
+}

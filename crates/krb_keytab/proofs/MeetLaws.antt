@@ -216,6 +216,7 @@ record_met from mid to old between new at size answer first is handed =
       moves = record {
         consumed = subst (λ (t : List ℕ). Consumes from to (t ++ behind.piece)) first.meets.piece_is whole;
         given = omega (arith, first.moves.given, behind.moves.given, ap length first.meets.piece_is, length-append word behind.piece);
+        limit = λ l. behind.moves.limit (first.moves.limit l);
       };
       peaks = peaks_on size behind.piece old.peak between.peak new.peak first.meets.fits (subst (λ (t : List ℕ). Peaks (λ part. length part ≤ 4) t old.peak between.peak) first.meets.piece_is first.peaks) behind.peaks;
       meets = subst (λ (n : ℕ). Meets to n (word ++ behind.piece) new.peak new.bytes answer) is behind.meets;

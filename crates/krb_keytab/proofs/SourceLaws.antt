@@ -4,7 +4,7 @@ use Rattle.std.specs.Prelude.{◌≢◌, IfSome, IfOk, IfErr}
 use Rattle.std.proofs.lemmas.Bool.{cases_lt}
 use Rattle.std.proofs.lemmas.List.{length-append}
 use Rattle.krb_keytab.specs.Entry.{KeytabEntry}
-use Rattle.krb_name.specs.File.{file_limit, IsGiven, LeavesTail, ReadsFile}
+use Rattle.krb_name.specs.File.{file_limit, IsGiven, TakesFile, ReadsFile}
 use Rattle.krb_keytab.specs.Format.{IsKeytab, IsAnswerOf, IsFaultOf}
 use Rattle.std.specs.Io.KnownBytes.{IsAtEnd}
 use Rattle.krb_keytab.specs.Inner.Meeting.{IsFound, IsFaulty}
@@ -96,6 +96,6 @@ only_fault from to fault f whole answer known a =
 
 -- ---- what reading answers
 
-pub reads_whole : (from to : Option (List ℕ)) (result : Result (List KeytabEntry) KeytabFault) → IfOk result (IsFound from to) → IfErr result (IsFaulty from to) → LeavesTail from to → ReadsFile IsAnswerOf OutOfMemory Read from to result
-reads_whole from to (Ok entries) f e tail = record { found = found_whole from to entries f; end = found_end from to entries f; fault = tt; only = only_found from to entries f; given = λ memory read. f; tail = tail }
-reads_whole from to (Err fault) f e tail = record { found = tt; end = tt; fault = λ memory read. fault_whole from to fault e memory read; only = only_fault from to fault e; given = λ memory read. e (λ is. memory (ap (λ (x : KeytabFault). result_of (Err x)) is)) (λ is. read (ap (λ (x : KeytabFault). result_of (Err x)) is)); tail = tail }
+pub reads_whole : (from to : Option (List ℕ)) (result : Result (List KeytabEntry) KeytabFault) → IfOk result (IsFound from to) → IfErr result (IsFaulty from to) → TakesFile from to → ReadsFile IsAnswerOf OutOfMemory Read from to result
+reads_whole from to (Ok entries) f e taken = record { found = found_whole from to entries f; end = found_end from to entries f; fault = tt; only = only_found from to entries f; given = λ memory read. f; taken = taken }
+reads_whole from to (Err fault) f e taken = record { found = tt; end = tt; fault = λ memory read. fault_whole from to fault e memory read; only = only_fault from to fault e; given = λ memory read. e (λ is. memory (ap (λ (x : KeytabFault). result_of (Err x)) is)) (λ is. read (ap (λ (x : KeytabFault). result_of (Err x)) is)); taken = taken }

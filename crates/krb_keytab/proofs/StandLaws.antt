@@ -174,7 +174,7 @@ version_ran left given two later answer r g size lacks =
 pub passes_none : {S : Type 0} (from : Option (List ℕ)) (window : AtHand S) → window.given ≤ file_limit → PassesHoles from from window window
 passes_none from window limit = record {
   piece = [];
-  moves = record { consumed = Consumes-nil from; given = omega arith };
+  moves = record { consumed = Consumes-nil from; given = omega arith; limit = λ l. l };
   limit = limit;
   grows = omega arith;
   low = λ l. l;
@@ -183,7 +183,7 @@ passes_none from window limit = record {
 }
 
 moves_on : {S : Type 0} (from mid to : Option (List ℕ)) (old between new : AtHand S) (p q : List ℕ) → Moves from mid old between p → Moves mid to between new q → Moves from to old new (p ++ q)
-moves_on from mid to old between new p q m n = record { consumed = Consumes-trans from mid to p q m.consumed n.consumed; given = omega (arith, m.given, n.given, length-append p q) }
+moves_on from mid to old between new p q m n = record { consumed = Consumes-trans from mid to p q m.consumed n.consumed; given = omega (arith, m.given, n.given, length-append p q); limit = λ l. n.limit (m.limit l) }
 
 come : {S : Type 0} (from mid : Option (List ℕ)) (old between : AtHand S) (bytes p : List ℕ) → Moves from mid old between p → old.given ≡ length bytes → between.given ≡ length (bytes ++ p)
 come from mid old between bytes p m g = omega (arith, m.given, g, length-append bytes p)
@@ -227,7 +227,7 @@ next_by from mid to old between new found answer P h m meets within more ends = 
 }
 
 pub next_end : {S : Type 0} (from mid to : Option (List ℕ)) (old between new : AtHand S) → PassesHoles from mid old between → MeetsOne mid to between new (Ok End) → MeetsNext from to old new (Ok None)
-next_end from mid to old between new h m = next_by from mid to old between new (Ok End) (Ok None) (λ (n : ℕ). MeetsLast to n m.piece None) h m m.meets tt tt (λ some entries reached limit meets. end_stands some entries reached to new.peak m.piece meets)
+next_end from mid to old between new h m = next_by from mid to old between new (Ok End) (Ok None) (λ (n : ℕ). MeetsLast to n m.piece None) h m m.meets (m.moves.limit (omega (arith, h.limit))) tt (λ some entries reached limit meets. end_stands some entries reached to new.peak m.piece meets)
 
 pub next_entry : {S : Type 0} (from mid to : Option (List ℕ)) (old between new : AtHand S) → PassesHoles from mid old between → (m : MeetsOne mid to between new (Ok (Entry tt))) → MeetsNext from to old new (Ok (Some m.meets.0))
 next_entry from mid to old between new h m =
@@ -239,7 +239,7 @@ next_entry from mid to old between new h m =
 
 pub next_fault : {S : Type 0} (from mid to : Option (List ℕ)) (old between new : AtHand S) (fault : KeytabFault) → PassesHoles from mid old between → MeetsOne mid to between new (Err fault) → MeetsNext from to old new (Err fault)
 next_fault from mid to old between new fault h m =
-    next_by from mid to old between new (Err fault) (Err fault) (λ (n : ℕ). MeetsLast to n m.piece (Some fault)) h m m.meets tt tt (λ some entries reached limit meets. failed_stands some entries reached to new.peak m.piece fault limit meets)
+    next_by from mid to old between new (Err fault) (Err fault) (λ (n : ℕ). MeetsLast to n m.piece (Some fault)) h m m.meets (m.moves.limit (omega (arith, h.limit))) tt (λ some entries reached limit meets. failed_stands some entries reached to new.peak m.piece fault limit meets)
 
 -- ---- an answer that says of an entry only that it was there
 
@@ -275,7 +275,7 @@ module _ {S : Type 0} (from to : Option (List ℕ)) (old new : AtHand S) where
     moves = m.moves;
     grows = m.grows;
     low = m.low;
-    within = tt;
+    within = omega (arith, m.within);
     more = tt;
     stands = λ bytes entries given limit reached. inr (length bytes, m.piece, reach_piece bytes entries reached m.piece);
     met = m.met;
@@ -314,13 +314,13 @@ version_stands left held piece NoSuchEntry m = absurd m
 version_stands left held piece Read m = inl refl
 version_stands left held piece OutOfMemory m = inl refl
 
-pub first_fault : {S : Type 0} (from to : Option (List ℕ)) (old new : AtHand S) (fault : KeytabFault) → OpensAt from to old new (Err fault) → MeetsFirst from to old new (Err fault)
-first_fault from to old new fault o = record {
+pub first_fault : {S : Type 0} (from to : Option (List ℕ)) (old new : AtHand S) (fault : KeytabFault) → OpensAt from to old new (Err fault) → old.given ≡ 0 → MeetsFirst from to old new (Err fault)
+first_fault from to old new fault o start = record {
   piece = o.piece;
   moves = o.moves;
   grows = o.peaks.grows;
   low = o.peaks.low;
-  within = tt;
+  within = o.moves.limit (omega (arith, start));
   more = tt;
   stands = version_stands to new.peak o.piece fault o.meets;
   met = λ m. met_version o.piece old.peak new.peak o.peaks m;

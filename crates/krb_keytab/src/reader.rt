@@ -125,6 +125,7 @@ impl<S: Source> EntryReader<S> {
         ensures stage { self.new.stage ≡ stage_after result }
 
         ensures more { GivesMore result self.old.given self.new.given }
+        ensures limit { self.new.given ≤ file_limit + 1 }
         ensures grows { self.old.held ≤ self.new.held }
 
         // What was answered last is answered again, and nothing is read.
@@ -170,6 +171,7 @@ impl<S: Source> EntryReader<S> {
 
         ensures more { result ≡ Ok true
             → (self.old.given < self.new.given) × (self.new.given ≤ file_limit) }
+        ensures limit { self.new.given ≤ file_limit + 1 }
         ensures grows { self.old.held ≤ self.new.held }
 
         // What was answered last is answered again, and nothing is read.

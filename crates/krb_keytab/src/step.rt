@@ -8,7 +8,7 @@ ghost use Rattle.krb_keytab.specs.Entry.{KeytabEntry};
 ghost use Rattle.krb_keytab.specs.Inner.Entry.{entry_at};
 ghost use Rattle.krb_keytab.specs.Items.{LacksVersion};
 ghost use Rattle.krb_keytab.specs.Fault.{failed_reads};
-ghost use Rattle.krb_name.specs.File.{file_limit, LeavesTail};
+ghost use Rattle.krb_name.specs.File.{file_limit, TakesFile};
 ghost use Rattle.krb_keytab.specs.Format.{version};
 ghost use Rattle.krb_keytab.specs.Inner.Meeting.{MeetsOne, MeetsSizeAt, MeetsNext, MeetsPast, OpensAt, RunsOutTo, MeetsBody, IsFewAt, IsFound, IsFaulty};
 
@@ -57,7 +57,7 @@ pub(crate) fn read_entries<S: Source>(
         (S.remaining window.old.source) (S.remaining window.new.source) entries.items) }
     ensures fault { IfErr result
         (IsFaulty (S.remaining window.old.source) (S.remaining window.new.source)) }
-    ensures tail { LeavesTail (S.remaining window.old.source) (S.remaining window.new.source) }
+    ensures taken { TakesFile (S.remaining window.old.source) (S.remaining window.new.source) }
     ensures failed { S.failure_count window.new.source
         ≡ S.failure_count window.old.source + failed_reads result }
     ensures lent { S.lender window.new.source ≡ S.lender window.old.source }

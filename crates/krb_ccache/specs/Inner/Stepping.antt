@@ -40,13 +40,14 @@ pub record Comes {X S : Type 0} (spelled : X → List ℕ) (InRange : X → Type
   pub within : new.given ≤ file_limit
   pub peak : new.peak ≡ max old.peak (length (spelled x))
 
--- the source gave these bytes, and at most as many are at hand
+-- the source gave these bytes, and at most one past the limit; at most as many are at hand
 pub record Gives {S : Type 0} (left : S → Option (List ℕ)) (old new : AtHand S) (bytes : List ℕ) : Type 0 where
   pub consumed : Consumes (left old.source) (left new.source) bytes
   pub given : new.given ≡ old.given + length bytes
   pub grows : old.peak ≤ new.peak
   pub peak : new.peak ≤ max old.peak (length bytes)
   pub limit : old.peak ≤ file_limit → new.peak ≤ file_limit
+  pub one_past : new.given ≤ file_limit + 1
 
 -- the source was read out: up to its end, or to one byte past the limit
 pub record Runs {S : Type 0} (left : S → Option (List ℕ)) (old new : AtHand S) : Type 0 where

@@ -20,13 +20,14 @@ use Rattle.krb_keytab.specs.declared.stage.Stage.TheVariants as stage
 abbrev pub IsWithin : Stage → ℕ → Type 0
 IsWithin stage.Start given = given ≡ 0
 IsWithin stage.Records given = given ≤ file_limit
-IsWithin stage.End given = ⊤
-IsWithin (stage.Failed fault) given = ⊤
+IsWithin stage.End given = given ≤ file_limit + 1
+IsWithin (stage.Failed fault) given = given ≤ file_limit + 1
 
--- the source gave these bytes
+-- the source gave these bytes, and at most one byte past the limit
 pub record Moves {S : Type 0} (from to : Option (List ℕ)) (old new : AtHand S) (piece : List ℕ) : Type 0 where
   pub consumed : Consumes from to piece
   pub given : new.given ≡ old.given + length piece
+  pub limit : old.given ≤ file_limit + 1 → new.given ≤ file_limit + 1
 
 -- the peak is no lower than it was, and no higher than that, or than a part at their front
 pub record Peaks (IsPart : List ℕ → Type 0) (piece : List ℕ) (old new : ℕ) : Type 0 where

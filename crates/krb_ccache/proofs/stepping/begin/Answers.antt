@@ -2,10 +2,10 @@ use Rattle.std.proofs.lemmas.Result.{err_from_is_err_and}
 use Rattle.krb_ccache.specs.Spelling.{name_bytes}
 use Rattle.krb_ccache.specs.Value.{FitsName}
 use Rattle.krb_ccache.specs.Format.{version_of, head_bytes, FitsHead}
-use Rattle.krb_ccache.specs.declared.fault.CacheFault.TheVariants.{Header, BadItem}
+use Rattle.krb_ccache.specs.declared.fault.CacheFault.TheVariants.{Version, Header, BadItem}
 use Rattle.krb_ccache.specs.Inner.Stepping.{Any}
-use Rattle.krb_ccache.proofs.SourceLaws.{tail_then}
-use Rattle.krb_ccache.proofs.StepLaws.{comes_tail, misses_tail}
+use Rattle.krb_name.proofs.FileLaws.{gives_then}
+use Rattle.krb_ccache.proofs.StepLaws.{comes_gives, misses_gives}
 use Rattle.krb_ccache.proofs.ReaderLaws.{version_fault, header_fault, name_fault, begun, begun_peak}
 use Rattle.krb_ccache.proofs.LayoutLaws.{head_fits}
 use Rattle.krb_ccache.proofs.stepping.begin.Goals as goal
@@ -28,31 +28,39 @@ returns-in_err-name-clause-fault g c =
 pub returns-clause-taken : goal.returns-clause-taken
 returns-clause-taken g c = begun g.S.Source.remaining c.in_ok-layout.layout c.args.window.now c.step_version.new.window c.step_head.new.window c.step_name.new.window c.in_ok-header.header.items c.in_ok-name.name c.requires.start c.in_ok-layout.ensures.comes c.in_ok-header.ensures.comes c.in_ok-name.ensures.comes
 
-pub returns-in_err-header-clause-tail : goal.returns-in_err-header-clause-tail
-returns-in_err-header-clause-tail g c =
+pub returns-in_err-layout-clause-gave : goal.returns-in_err-layout-clause-gave
+returns-in_err-layout-clause-gave g c = misses_gives version_of Any g.S.Source.remaining c.args.window.now c.step_version.new.window Version c.in_err-layout.field-0.0 c.in_err-layout.ensures.misses
+
+pub returns-in_err-header-clause-gave : goal.returns-in_err-header-clause-gave
+returns-in_err-header-clause-gave g c =
     let left = g.S.Source.remaining in
     let old = c.args.window.now in
     let first = c.step_version.new.window in
     let new = c.step_head.new.window in
-    tail_then (left old.source) (left first.source) (left new.source) (comes_tail version_of Any left old first c.in_ok-layout.layout c.in_ok-layout.ensures.comes)
-    (misses_tail (head_bytes c.in_ok-layout.layout) (FitsHead c.in_ok-layout.layout) left first new Header c.in_err-header.field-0.0 c.in_err-header.ensures.misses)
+    gives_then (left old.source) (left first.source) (left new.source) _ _ _ (comes_gives version_of Any left old first c.in_ok-layout.layout c.in_ok-layout.ensures.comes)
+    (misses_gives (head_bytes c.in_ok-layout.layout) (FitsHead c.in_ok-layout.layout) left first new Header c.in_err-header.field-0.0 c.in_err-header.ensures.misses)
 
-pub returns-in_err-name-clause-tail : goal.returns-in_err-name-clause-tail
-returns-in_err-name-clause-tail g c =
+pub returns-in_err-name-clause-gave : goal.returns-in_err-name-clause-gave
+returns-in_err-name-clause-gave g c =
     let left = g.S.Source.remaining in
     let old = c.args.window.now in
     let first = c.step_version.new.window in
     let middle = c.step_head.new.window in
     let new = c.step_name.new.window in
-    tail_then (left old.source) (left first.source) (left new.source) (comes_tail version_of Any left old first c.in_ok-layout.layout c.in_ok-layout.ensures.comes)
-    (tail_then (left first.source) (left middle.source) (left new.source) (comes_tail (head_bytes c.in_ok-layout.layout) (FitsHead c.in_ok-layout.layout) left first middle c.in_ok-header.header.items c.in_ok-header.ensures.comes)
-    (misses_tail name_bytes FitsName left middle new (BadItem middle.given) c.in_err-name.field-0.0 c.in_err-name.ensures.misses))
+    gives_then (left old.source) (left first.source) (left new.source) _ _ _ (comes_gives version_of Any left old first c.in_ok-layout.layout c.in_ok-layout.ensures.comes)
+    (gives_then (left first.source) (left middle.source) (left new.source) _ _ _ (comes_gives (head_bytes c.in_ok-layout.layout) (FitsHead c.in_ok-layout.layout) left first middle c.in_ok-header.header.items c.in_ok-header.ensures.comes)
+    (misses_gives name_bytes FitsName left middle new (BadItem middle.given) c.in_err-name.field-0.0 c.in_err-name.ensures.misses))
 
-pub returns-clause-tail : goal.returns-clause-tail
-returns-clause-tail g c =
+pub returns-clause-gave : goal.returns-clause-gave
+returns-clause-gave g c =
     let left = g.S.Source.remaining in
-    let begun = begun left c.in_ok-layout.layout c.args.window.now c.step_version.new.window c.step_head.new.window c.step_name.new.window c.in_ok-header.header.items c.in_ok-name.name c.requires.start c.in_ok-layout.ensures.comes c.in_ok-header.ensures.comes c.in_ok-name.ensures.comes in
-    (begun.bytes, begun.taken)
+    let old = c.args.window.now in
+    let first = c.step_version.new.window in
+    let middle = c.step_head.new.window in
+    let new = c.step_name.new.window in
+    gives_then (left old.source) (left first.source) (left new.source) _ _ _ (comes_gives version_of Any left old first c.in_ok-layout.layout c.in_ok-layout.ensures.comes)
+    (gives_then (left first.source) (left middle.source) (left new.source) _ _ _ (comes_gives (head_bytes c.in_ok-layout.layout) (FitsHead c.in_ok-layout.layout) left first middle c.in_ok-header.header.items c.in_ok-header.ensures.comes)
+    (comes_gives name_bytes FitsName left middle new c.in_ok-name.name c.in_ok-name.ensures.comes))
 
 pub returns-clause-peak : goal.returns-clause-peak
 returns-clause-peak g c = begun_peak g.S.Source.remaining c.in_ok-layout.layout c.args.window.now c.step_version.new.window c.step_head.new.window c.step_name.new.window c.in_ok-header.header.items c.in_ok-name.name c.in_ok-layout.ensures.comes c.in_ok-header.ensures.comes c.in_ok-name.ensures.comes

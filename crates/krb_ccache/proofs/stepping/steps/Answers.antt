@@ -6,7 +6,7 @@ use Rattle.krb_ccache.specs.declared.credential.Credential.{Credential}
 use Rattle.krb_ccache.specs.Reader.{HasTaken}
 use Rattle.krb_ccache.specs.Value.{cache_of, FitsCredential}
 use Rattle.krb_ccache.specs.Inner.Stepping.{spelled_as, IsStep}
-use Rattle.krb_ccache.proofs.StepLaws.{step_tail}
+use Rattle.krb_ccache.proofs.StepLaws.{gives_step}
 use Rattle.krb_ccache.proofs.ReaderLaws.{item_taken, end_taken, item_fault}
 use Rattle.krb_ccache.proofs.stepping.steps.Goals as goal
 
@@ -25,7 +25,7 @@ loop-credentials-preserved g c =
       failures = omega (arith, c.in_ok-credential.ensures.failed, c.loop-credentials.invariant.failures);
       fits = subst (All FitsCredential) (sym c.in_ok-push.ensures.items) (All-push FitsCredential c.loop-credentials.credentials.items c.in-Some.credential c.loop-credentials.invariant.fits comes.1.fits.fits);
       lent = c.in_ok-credential.ensures.lent ∙ c.loop-credentials.invariant.lent;
-      tail = step_tail c.args.layout g.S.Source.remaining c.loop-credentials.window c.step.new.window (g.S.Source.remaining c.args.window.now.source) (Ok (Some c.in-Some.credential)) c.loop-credentials.invariant.tail comes;
+      gave = gives_step c.args.layout g.S.Source.remaining c.loop-credentials.window c.step.new.window (g.S.Source.remaining c.args.window.now.source) c.args.window.now.given (Ok (Some c.in-Some.credential)) c.loop-credentials.invariant.gave comes;
       taken = λ from header name start.
           subst (λ (credentials : List Credential). HasTaken c.args.layout from (g.S.Source.remaining c.step.new.window.source) c.step.new.window.given (cache_of header name credentials)) (sym c.in_ok-push.ensures.items)
           (item_taken g.S.Source.remaining c.args.layout from c.loop-credentials.window c.step.new.window (cache_of header name c.loop-credentials.credentials.items) (spelled_as comes.0 c.in-Some.credential) (c.loop-credentials.invariant.taken from header name start) comes.1);
@@ -41,10 +41,14 @@ returns-in_err-push-clause-fault g c =
     let p = err_from_is_err_and c.from_residual-in_err-push.result c.from_residual-in_err-push.ensures.1 in
     rw p.1 (λ memory read. absurd (memory p.2))
 
-pub returns-in_err-credential-clause-tail : goal.returns-in_err-credential-clause-tail
-returns-in_err-credential-clause-tail g c =
-    step_tail c.args.layout g.S.Source.remaining c.loop-credentials.window c.step.new.window (g.S.Source.remaining c.args.window.now.source) (Err c.in_err-credential.field-0.0) c.loop-credentials.invariant.tail c.in_err-credential.ensures.step
+pub returns-clause-gave : goal.returns-clause-gave
+returns-clause-gave g c =
+    gives_step c.args.layout g.S.Source.remaining c.loop-credentials.window c.step.new.window (g.S.Source.remaining c.args.window.now.source) c.args.window.now.given (Ok c.in_ok-credential.field-0) c.loop-credentials.invariant.gave c.in_ok-credential.ensures.step
 
-pub returns-in_err-push-clause-tail : goal.returns-in_err-push-clause-tail
-returns-in_err-push-clause-tail g c =
-    step_tail c.args.layout g.S.Source.remaining c.loop-credentials.window c.step.new.window (g.S.Source.remaining c.args.window.now.source) (Ok c.in_ok-credential.field-0) c.loop-credentials.invariant.tail c.in_ok-credential.ensures.step
+pub returns-in_err-credential-clause-gave : goal.returns-in_err-credential-clause-gave
+returns-in_err-credential-clause-gave g c =
+    gives_step c.args.layout g.S.Source.remaining c.loop-credentials.window c.step.new.window (g.S.Source.remaining c.args.window.now.source) c.args.window.now.given (Err c.in_err-credential.field-0.0) c.loop-credentials.invariant.gave c.in_err-credential.ensures.step
+
+pub returns-in_err-push-clause-gave : goal.returns-in_err-push-clause-gave
+returns-in_err-push-clause-gave g c =
+    gives_step c.args.layout g.S.Source.remaining c.loop-credentials.window c.step.new.window (g.S.Source.remaining c.args.window.now.source) c.args.window.now.given (Ok c.in_ok-credential.field-0) c.loop-credentials.invariant.gave c.in_ok-credential.ensures.step

@@ -2,7 +2,7 @@ use Rattle.std.proofs.Common.{◌≡◌, ◌≤◌, ◌-◌, Option, List, ℕ, 
 use Rattle.std.specs.Prelude.{All}
 use Rattle.krb_name.specs.declared.principal.Principal.{Principal}
 use Rattle.krb_ccache.specs.declared.credential.HeaderField.{HeaderField}
-use Rattle.krb_name.specs.File.{file_limit, LeavesTail}
+use Rattle.krb_name.specs.File.{file_limit, GivesWithin}
 use Rattle.krb_ccache.specs.Reader.{HasTaken}
 use Rattle.krb_ccache.specs.Value.{cache_of, FitsCredential}
 use Rattle.krb_ccache.proofs.stepping.steps.Given as goal
@@ -13,7 +13,7 @@ invariant-loop-credentials g l = record {
   failures : g.S.Source.failure_count l.window.source ≡ g.S.Source.failure_count l.fn.window.source;
   fits : All FitsCredential l.credentials.items;
   lent : g.S.Source.lender l.window.source ≡ g.S.Source.lender l.fn.window.source;
-  tail : LeavesTail (g.S.Source.remaining l.fn.window.source) (g.S.Source.remaining l.window.source);
+  gave : GivesWithin (g.S.Source.remaining l.fn.window.source) (g.S.Source.remaining l.window.source) l.fn.window.given l.window.given;
   taken : (from : Option (List ℕ)) (header : List HeaderField) (name : Principal) → HasTaken l.layout from (g.S.Source.remaining l.fn.window.source) l.fn.window.given (cache_of header name [])
       → HasTaken l.layout from (g.S.Source.remaining l.window.source) l.window.given (cache_of header name l.credentials.items);
 }

@@ -6,7 +6,7 @@ use Rattle.krb_keytab.proofs.reader.pass_first.Goals as goal
 pub returns-in_err-read_version-clause-meets : goal.returns-in_err-read_version-clause-meets
 returns-in_err-read_version-clause-meets g c =
     let p = err_from_is_err_and c.from_residual.result c.from_residual.ensures.1 in
-    rw (p.1, p.2) (Err c.in_err-read_version.field-0.0, refl, first_fault _ _ _ _ c.in_err-read_version.field-0.0 c.in_err-read_version.ensures.opens)
+    rw (p.1, p.2) (Err c.in_err-read_version.field-0.0, refl, first_fault _ _ _ _ c.in_err-read_version.field-0.0 c.in_err-read_version.ensures.opens c.requires.start)
 
 pub returns-clause-meets : goal.returns-clause-meets
 returns-clause-meets g c =

@@ -31,7 +31,7 @@ returns-clause-meets g c =
     let word = signed_bytes w32 c.args.size in
     record {
       piece = passes.piece;
-      moves = record { consumed = passes.skips.consumed; given = passes.skips.given };
+      moves = record { consumed = passes.skips.consumed; given = passes.skips.given; limit = λ l. omega (arith, passes.skips.given, came, c.if-count-given.false, c.given.ensures, c.requires.limit) };
       peaks = peaks_kept _ passes.piece _ _ (omega arith) passes.skips.peak;
       meets = hole_whole c.args.at c.args.size passes.piece c.requires.fits c.requires.hole (came ∙ count)
           (omega (arith, came, length-append word passes.piece, c.if-count-given.false, c.given.ensures, c.requires.at, c.requires.limit));

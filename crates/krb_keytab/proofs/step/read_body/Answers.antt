@@ -37,7 +37,7 @@ returns-in-Ok-clause-meets g c =
     let found = c.in-Ok.ensures.found in
     record {
       piece = fills.piece;
-      moves = record { consumed = fills.keeps.consumed; given = fills.keeps.given };
+      moves = record { consumed = fills.keeps.consumed; given = fills.keeps.given; limit = λ l. omega (arith, fills.keeps.given, came, room, c.given.ensures, c.requires.limit) };
       peaks = peaks_at _ fills.piece fills.piece [] _ _ c.fill.new.self.bytes (sym (append-nil fills.piece)) (omega (arith, came, count, kept_is c.args.size c.requires.entry)) fills.keeps.bytes (omega (arith, came, room)) fills.keeps.peak;
       meets = (
         found.0,
@@ -67,6 +67,7 @@ returns-in-Err-clause-meets g c =
       moves = record {
         consumed = Consumes-trans _ _ _ fills.piece ran_out.piece fills.keeps.consumed ran_out.moves.consumed;
         given = omega (arith, fills.keeps.given, ran_out.moves.given, length-append fills.piece ran_out.piece);
+        limit = λ l. ran_out.moves.limit (omega (arith, fills.keeps.given, came, room, c.given.ensures, c.requires.limit));
       };
       peaks = peaks_at _ (fills.piece ++ ran_out.piece) fills.piece ran_out.piece _ _ c.fill.new.self.bytes refl (omega (arith, came, count, kept_is c.args.size c.requires.entry)) fills.keeps.bytes (omega (arith, came, room)) (ran_out.peak ∙ fills.keeps.peak);
       meets = subst (λ (t : List ℕ). Meets left at t c.conclude-in-Err.new.window.peak c.conclude-in-Err.new.window.bytes c.conclude-in-Err.result) (append_assoc word fills.piece ran_out.piece)

@@ -2,7 +2,7 @@ use Rattle.std.proofs.Common.{◌∙◌, add-zero, Option, Ok, subst}
 use Rattle.std.proofs.lemmas.Result.{err_from_is_err_and}
 use Rattle.krb_keytab.specs.Entry.{KeytabEntry}
 use Rattle.krb_keytab.specs.Inner.Meeting.{MeetsNext}
-use Rattle.krb_keytab.proofs.CollectLaws.{entry_taken, end_taken, next_faulty, tail_taken}
+use Rattle.krb_keytab.proofs.CollectLaws.{entry_taken, end_taken, next_faulty, version_takes, next_takes}
 use Rattle.krb_keytab.proofs.step.read_entries.Goals as goal
 
 pub returns-in_err-entry-clause-fault : goal.returns-in_err-entry-clause-fault
@@ -31,11 +31,14 @@ returns-clause-found g c =
     let meets = subst (λ (next : Option KeytabEntry). MeetsNext mid to c.loop-entries.window c.read_entry.new.window (Ok next)) c.in_default.is c.in_ok-entry.ensures.meets in
     end_taken from mid to c.loop-entries.window c.read_entry.new.window c.loop-entries.entries.items c.loop-entries.invariant.taken c.loop-entries.invariant.limit meets
 
-pub returns-clause-tail : goal.returns-clause-tail
-returns-clause-tail g c = tail_taken _ _ _ _ _ c.loop-entries.entries.items _ c.loop-entries.invariant.taken c.in_ok-entry.ensures.meets
+pub returns-in_err-read_version-clause-taken : goal.returns-in_err-read_version-clause-taken
+returns-in_err-read_version-clause-taken g c = version_takes _ _ _ _ _ c.in_err-read_version.ensures.opens c.requires.start
 
-pub returns-in_err-entry-clause-tail : goal.returns-in_err-entry-clause-tail
-returns-in_err-entry-clause-tail g c = tail_taken _ _ _ _ _ c.loop-entries.entries.items _ c.loop-entries.invariant.taken c.in_err-entry.ensures.meets
+pub returns-clause-taken : goal.returns-clause-taken
+returns-clause-taken g c = next_takes _ _ _ _ _ c.loop-entries.entries.items _ c.loop-entries.invariant.taken c.loop-entries.invariant.limit c.in_ok-entry.ensures.meets
 
-pub returns-in_err-push-clause-tail : goal.returns-in_err-push-clause-tail
-returns-in_err-push-clause-tail g c = tail_taken _ _ _ _ _ c.loop-entries.entries.items _ c.loop-entries.invariant.taken c.in_ok-entry.ensures.meets
+pub returns-in_err-entry-clause-taken : goal.returns-in_err-entry-clause-taken
+returns-in_err-entry-clause-taken g c = next_takes _ _ _ _ _ c.loop-entries.entries.items _ c.loop-entries.invariant.taken c.loop-entries.invariant.limit c.in_err-entry.ensures.meets
+
+pub returns-in_err-push-clause-taken : goal.returns-in_err-push-clause-taken
+returns-in_err-push-clause-taken g c = next_takes _ _ _ _ _ c.loop-entries.entries.items _ c.loop-entries.invariant.taken c.loop-entries.invariant.limit c.in_ok-entry.ensures.meets

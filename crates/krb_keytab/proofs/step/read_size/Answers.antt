@@ -22,6 +22,7 @@ returns-then-whole-clause-meets g c =
       moves = record {
         consumed = Consumes-trans _ _ _ fills.piece ran_out.piece fills.keeps.consumed ran_out.moves.consumed;
         given = omega (arith, fills.keeps.given, ran_out.moves.given, length-append fills.piece ran_out.piece);
+        limit = λ l. ran_out.moves.limit (omega (arith, fills.keeps.given, full));
       };
       peaks = peaks_at _ (fills.piece ++ ran_out.piece) fills.piece ran_out.piece _ _ c.fill.new.self.bytes refl (omega (arith, short)) fills.keeps.bytes (omega (arith, short)) (ran_out.peak ∙ fills.keeps.peak);
       meets = few_ran left c.args.window.now.given _ fills.piece ran_out.piece c.last_behind-last.result c.conclude.result few ran_out.ran full short
@@ -43,6 +44,7 @@ returns-then-size-eq0-clause-meets g c =
       moves = record {
         consumed = Consumes-trans _ _ _ fills.piece ran_out.piece fills.keeps.consumed ran_out.moves.consumed;
         given = omega (arith, fills.keeps.given, ran_out.moves.given, length-append fills.piece ran_out.piece);
+        limit = λ l. ran_out.moves.limit (omega (arith, fills.keeps.given, came, c.min.ensures, c.given-at.ensures, c.requires.limit));
       };
       peaks = peaks_at _ (fills.piece ++ ran_out.piece) fills.piece ran_out.piece _ _ c.fill.new.self.bytes refl (omega (arith, size)) fills.keeps.bytes (omega (arith, size)) (ran_out.peak ∙ fills.keeps.peak);
       meets = ran (MeetsSize left given (fills.piece ++ ran_out.piece)) (Ok None) c.conclude-then-size-eq0.result left given _ fills.piece ran_out.piece None ran_out.ran

@@ -19,6 +19,7 @@ returns-then-whole-clause-opens g c =
       moves = record {
         consumed = Consumes-trans _ _ _ fills.piece ran_out.piece fills.keeps.consumed ran_out.moves.consumed;
         given = omega (arith, fills.keeps.given, ran_out.moves.given, length-append fills.piece ran_out.piece);
+        limit = λ l. ran_out.moves.limit (omega (arith, fills.keeps.given, came, c.requires.start));
       };
       peaks = peaks_at _ (fills.piece ++ ran_out.piece) fills.piece ran_out.piece _ _ c.fill.new.self.bytes refl (omega (arith, came)) fills.keeps.bytes (omega (arith, came)) (ran_out.peak ∙ fills.keeps.peak);
       meets = version_ran left _ fills.piece ran_out.piece c.conclude.result ran_out.ran (omega (arith, fills.keeps.given, ran_out.moves.given, c.requires.start, length-append fills.piece ran_out.piece)) came lacks;

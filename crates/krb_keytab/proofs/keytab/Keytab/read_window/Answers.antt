@@ -4,7 +4,7 @@ use Rattle.krb_keytab.proofs.keytab.Keytab.read_window.Goals as goal
 
 pub returns-in_ok-of_entries-in-Ok-clause-reads : goal.returns-in_ok-of_entries-in-Ok-clause-reads
 returns-in_ok-of_entries-in-Ok-clause-reads g c =
-    rw c.in_ok-of_entries-in-Ok.ensures (reads_whole (g.S.Source.remaining c.args.window.now.source) (g.S.Source.remaining c.read_entries.new.window.source) (Ok c.in-Ok.entries.items) c.in-Ok.ensures.found tt c.read_entries.ensures.tail)
+    rw c.in_ok-of_entries-in-Ok.ensures (reads_whole (g.S.Source.remaining c.args.window.now.source) (g.S.Source.remaining c.read_entries.new.window.source) (Ok c.in-Ok.entries.items) c.in-Ok.ensures.found tt c.read_entries.ensures.taken)
 
 pub returns-in-Err-clause-reads : goal.returns-in-Err-clause-reads
-returns-in-Err-clause-reads g c = reads_whole (g.S.Source.remaining c.args.window.now.source) (g.S.Source.remaining c.read_entries.new.window.source) (Err c.in-Err.fault) tt c.in-Err.ensures.fault c.read_entries.ensures.tail
+returns-in-Err-clause-reads g c = reads_whole (g.S.Source.remaining c.args.window.now.source) (g.S.Source.remaining c.read_entries.new.window.source) (Err c.in-Err.fault) tt c.in-Err.ensures.fault c.read_entries.ensures.taken
