@@ -14,7 +14,7 @@ use Rattle.krb_keytab.specs.declared.stage.Stage.{Stage}
 use Rattle.krb_keytab.specs.declared.stage.Stage.TheVariants.{End, Failed}
 use Rattle.krb_ccache.specs.Format as cache
 use Rattle.krb_ccache.specs.Reader as reads
-use Rattle.krb_name.specs.File.{IsGiven, LeavesTail}
+use Rattle.krb_name.specs.File.{file_limit, IsGiven, TakesFile, GivesWithin}
 use Rattle.krb_ccache.specs.Value.{Cache}
 use Rattle.krb_ccache.specs.declared.credential.Credential.{Credential}
 use Rattle.krb_ccache.specs.declared.fault.CacheFault.{CacheFault}
@@ -186,15 +186,16 @@ pub fault_from : (Begun : Option (List ℕ) → Type 0) (from : Option (List ℕ
 fault_from Begun from (Ok count) begun fault = tt
 fault_from Begun from (Err f) begun fault = λ memory read. fault memory read from begun
 
--- ---- what is left of a source
+-- ---- how much a source gave
 
-pub tail_then : (from middle to : Option (List ℕ)) → LeavesTail from middle → LeavesTail middle to → LeavesTail from to
-tail_then from middle to one other = (one.0 ++ other.0, Consumes-trans from middle to one.0 other.0 one.1 other.1)
+pub gave_within : {S : Type 0} (from to : Option (List ℕ)) (old new : reads.Reading S) → reads.Gave from to old new → new.given ≤ file_limit + 1 → GivesWithin from to old.given new.given
+gave_within from to old new g limit = record { piece = g.bytes; taken = g.taken; given = g.given; within = λ l. limit }
 
-pub entries_tail : {S : Type 0} (from middle to : Option (List ℕ)) (old new : EntriesRead S) (count : ℕ) (result : Result Bool KeytabFault) → EntriesCounted from middle old count
+pub entries_taken : {S : Type 0} (from middle to : Option (List ℕ)) (old new : EntriesRead S) (count : ℕ) (result : Result Bool KeytabFault) → EntriesCounted from middle old count
     → ((bytes : List ℕ) (entries : List KeytabEntry) → HasRead middle old bytes entries
     → (answer : Result (Option KeytabEntry) KeytabFault) × (result ≡ passed answer) × (piece : List ℕ) × Consumes middle to piece × HasRead to new (bytes ++ piece) (entries_after entries answer))
-    → LeavesTail from to
-entries_tail from middle to old new count result t reads =
+    → new.given ≤ file_limit + 1 → TakesFile from to
+entries_taken from middle to old new count result t reads limit =
     let r = reads t.bytes t.entries t.read in
-    tail_then from middle to (t.bytes, t.taken) (r.2, r.3)
+    let read = r.4 in
+    record { piece = t.bytes ++ r.2; taken = Consumes-trans from middle to t.bytes r.2 t.taken r.3; within = omega (arith, limit, read.given) }

@@ -21,7 +21,8 @@ use Rattle.krbtool.specs.Tails.{IsTail, named}
 use Rattle.krbtool.specs.declared.tail.LineAnswer.{LineAnswer}
 use Rattle.krbtool.specs.CallLine.{SpellsCall}
 use Rattle.krb_ap.specs.History.{StandsFor}
-use Rattle.krbtool.specs.Answering.{Becomes, BecomeInTurn, Came, HasLines, PrintsBeginning, answer_line, answer_lines, ended, outcome_status, status_of_lines}
+use Rattle.krb_name.specs.File.{TakesAtMost}
+use Rattle.krbtool.specs.Answering.{Becomes, BecomeInTurn, Came, HasLines, PrintsBeginning, answer_line, answer_lines, ended, input_limit, outcome_status, status_of_lines}
 use Rattle.krbtool.specs.Inner.Held.{Holds}
 use Rattle.krbtool.specs.Inner.Going.{Answered, BecomesOf, Begun, Going, Reached, ReachedStop, Stopped, Untouched}
 use Rattle.krbtool.specs.declared.part_line.PartLine.{PartLine}
@@ -342,6 +343,9 @@ came_more from mid to count more piece came consumed counted = record {
   consumed = Consumes-trans from mid to came.bytes piece came.consumed consumed;
   counted = omega (arith, length-append came.bytes piece, came.counted, counted);
 }
+
+pub came_takes : (from to : Option (List ℕ)) (count : ℕ) → Came from to count → count ≤ input_limit → TakesAtMost from to input_limit
+came_takes from to count came limit = record { piece = came.bytes; taken = came.consumed; within = omega (arith, came.counted, limit) }
 
 pub length-take-below : (count : ℕ) (bytes : List ℕ) → count ≤ length bytes → length (take count bytes) ≡ count
 length-take-below count bytes below = omega (arith, length-take count bytes, below)

@@ -2,6 +2,7 @@
 
 ghost use Rattle.std.specs.Prelude.{◌≡◌, ◌≢◌, ◌⊎◌, ◌+◌, ◌-◌, ◌^◌, ◌<◌, ◌≤◌, ◌++◌, ◌∷◌, [], ℕ, List, All, Option, Ok, Err, Some, IfOk, IfErr, OnOk, OnErr, max, length, take, is_ok, if◌then◌else◌};
 ghost use Rattle.std.specs.Io.KnownBytes.{Consumes, IsAtEnd, Keeps};
+ghost use Rattle.krb_name.specs.File.{TakesAtMost};
 ghost use Rattle.krb_ap.specs.Setup.{Setup, Arrival, arrival};
 ghost use Rattle.krb_ap.specs.History.{StandsFor};
 ghost use Rattle.krbtool.specs.Answering.{AnswersAll, AnswersBeginning, AnswersWhole, Came, input_limit};
@@ -224,6 +225,7 @@ fn answer_source<M: ReplayMemory, S: Source, K: Sink>(
         → (S.failure_count source.new ≡ S.failure_count source.old + 1)
         ⊎ ((S.failure_count source.new ≡ S.failure_count source.old) × Came (S.remaining source.old) (S.remaining source.new) input_limit) }
     ensures reads { (result ≡ Err EngineFault.Input) ⊎ (S.failure_count source.new ≡ S.failure_count source.old) }
+    ensures taken { TakesAtMost (S.remaining source.old) (S.remaining source.new) input_limit }
     ensures writes { K.failure_count sink.new ≡ K.failure_count sink.old + failed_writes result }
 {
     let mut came = 0;
@@ -305,6 +307,7 @@ pub fn accept_lines<M: ReplayMemory, S: Source, K: Sink>(
         → (S.failure_count source.new ≡ S.failure_count source.old + 1)
         ⊎ ((S.failure_count source.new ≡ S.failure_count source.old) × Came (S.remaining source.old) (S.remaining source.new) input_limit) }
     ensures reads { (result ≡ Err EngineFault.Input) ⊎ (S.failure_count source.new ≡ S.failure_count source.old) }
+    ensures taken { TakesAtMost (S.remaining source.old) (S.remaining source.new) input_limit }
     ensures writes { K.failure_count sink.new ≡ K.failure_count sink.old + failed_writes result }
 {
     let mut piece = vec![in alloc; 0u8; PIECE]?;

@@ -6,7 +6,7 @@ ghost use Rattle.krb_keytab.specs.Edit.{WouldPass};
 ghost use Rattle.krb_keytab.specs.Fault as of_keytab;
 ghost use Rattle.krb_keytab.specs.Format.{IsAnswerOf, IsFaultOf, IsKeytab};
 ghost use Rattle.krb_keytab.specs.declared.fault.KeytabFault.{KeytabFault};
-ghost use Rattle.krb_name.specs.File.{LeavesTail, ReadsFile};
+ghost use Rattle.krb_name.specs.File.{TakesFile, ReadsFile};
 ghost use Rattle.krb_name.specs.Flow.{AppendsBeginning};
 ghost use Rattle.krbtool.specs.Adding.{HasKeyOf, IsExtended, IsSameKey, PassesLimit};
 ghost use Rattle.krbtool.specs.Engine.{added_fault, failed_added_reads, failed_reads, failed_writes, FailsWith, IsOfAdding, keytab_fault, OfFile};
@@ -73,8 +73,8 @@ pub fn add_keys<S: Source, F: Source, T: Sink>(
     ensures reads { S.failure_count source.new ≡ S.failure_count source.old + failed_reads result }
     ensures other_reads { F.failure_count others.new
         ≡ F.failure_count others.old + failed_added_reads result }
-    ensures left { LeavesTail (S.remaining source.old) (S.remaining source.new) }
-    ensures other_left { LeavesTail (F.remaining others.old) (F.remaining others.new) }
+    ensures taken { TakesFile (S.remaining source.old) (S.remaining source.new) }
+    ensures other_taken { TakesFile (F.remaining others.old) (F.remaining others.new) }
     ensures writes { T.failure_count sink.new ≡ T.failure_count sink.old + failed_writes result }
 {
     let file = extended(alloc, source, others)?;
@@ -107,8 +107,8 @@ fn extended<S: Source, F: Source>(
     ensures reads { S.failure_count source.new ≡ S.failure_count source.old + failed_reads result }
     ensures other_reads { F.failure_count others.new
         ≡ F.failure_count others.old + failed_added_reads result }
-    ensures left { LeavesTail (S.remaining source.old) (S.remaining source.new) }
-    ensures other_left { LeavesTail (F.remaining others.old) (F.remaining others.new) }
+    ensures taken { TakesFile (S.remaining source.old) (S.remaining source.new) }
+    ensures other_taken { TakesFile (F.remaining others.old) (F.remaining others.new) }
 {
     let (mut file, held) = read_held(alloc, source)?;
     let others = read_others(alloc, others)?;
@@ -127,7 +127,7 @@ fn read_held<S: Source>(alloc: Global, source: &mut S) -> Result<(Vec<u8>, Keyta
     ensures only { (bytes : List ℕ) (fault : KeytabFault)
         → S.remaining source.old ≡ Some bytes → IsFaultOf bytes fault
         → (result ≡ Err fault) ⊎ ((result ≡ Err KeytabFault.OutOfMemory) ⊎ (result ≡ Err KeytabFault.Read)) }
-    ensures left { LeavesTail (S.remaining source.old) (S.remaining source.new) }
+    ensures taken { TakesFile (S.remaining source.old) (S.remaining source.new) }
     ensures failed { S.failure_count source.new
         ≡ S.failure_count source.old + of_keytab.failed_reads result }
 {
@@ -148,7 +148,7 @@ fn read_others<F: Source>(alloc: Global, others: &mut F) -> Result<Keytab, Engin
     ensures kind { IfErr result (λ e. (fault : KeytabFault) × (e ≡ EngineFault.Added fault)) }
     ensures reads { F.failure_count others.new
         ≡ F.failure_count others.old + failed_added_reads result }
-    ensures left { LeavesTail (F.remaining others.old) (F.remaining others.new) }
+    ensures taken { TakesFile (F.remaining others.old) (F.remaining others.new) }
 {
     match Keytab::read(alloc, others) {
         Ok(keytab) => Ok(keytab),

@@ -2,7 +2,7 @@
 
 ghost use Rattle.std.specs.Prelude.{◌≡◌, ◌⊎◌, ◌+◌, ◌-◌, ◌^◌, ◌<◌, ℕ, List, Some, Err, IfOk, IfErr, IfSome, length};
 ghost use Rattle.std.specs.Io.KnownBytes.{Appends, Keeps};
-ghost use Rattle.krb_name.specs.File.{LeavesTail, file_limit};
+ghost use Rattle.krb_name.specs.File.{TakesFile, file_limit};
 ghost use Rattle.krb_name.specs.Flow.{AppendsBeginning};
 ghost use Rattle.krbtool.specs.Engine.{FailsBy, IsContent, IsOfFile, OfFile, failed_reads, failed_writes};
 
@@ -55,7 +55,7 @@ pub fn convert<F: FileFormat, S: Source, T: Sink>(
     ensures memory { result ≡ Err EngineFault.OutOfMemory → ⊥ }
     ensures kind { IfErr result (λ e. F.is_of e ⊎ (e ≡ EngineFault.Write)) }
     ensures reads { S.failure_count source.new ≡ S.failure_count source.old + failed_reads result }
-    ensures left { LeavesTail (S.remaining source.old) (S.remaining source.new) }
+    ensures taken { TakesFile (S.remaining source.old) (S.remaining source.new) }
     ensures writes { T.failure_count sink.new ≡ T.failure_count sink.old + failed_writes result }
 {
     match F::read_file(alloc, source) {

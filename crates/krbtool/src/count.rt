@@ -10,7 +10,7 @@ ghost use Rattle.krb_keytab.specs.Fault as of_keytab;
 ghost use Rattle.krb_keytab.specs.Format.{IsKeytab, IsFaultOf};
 ghost use Rattle.krb_keytab.specs.Items.{HasRead, last_answer};
 ghost use Rattle.krb_keytab.specs.declared.fault.KeytabFault.{KeytabFault};
-ghost use Rattle.krb_name.specs.File.{LeavesTail};
+ghost use Rattle.krb_name.specs.File.{GivesWithin, TakesFile};
 ghost use Rattle.krbtool.specs.Engine.{OfFile};
 
 use krb_ccache::{CacheFault, CredentialReader};
@@ -32,7 +32,7 @@ pub(crate) fn count_keytab<S: Source>(alloc: Global, source: &mut S) -> Result<u
     ensures only { (bytes : List ℕ) (fault : KeytabFault)
         → S.remaining source.old ≡ Some bytes → IsFaultOf bytes fault
         → (result ≡ Err fault) ⊎ ((result ≡ Err KeytabFault.OutOfMemory) ⊎ (result ≡ Err KeytabFault.Read)) }
-    ensures left { LeavesTail (S.remaining source.old) (S.remaining source.new) }
+    ensures taken { TakesFile (S.remaining source.old) (S.remaining source.new) }
     ensures failed { S.failure_count source.new
         ≡ S.failure_count source.old + of_keytab.failed_reads result }
 {
@@ -53,7 +53,7 @@ fn count_entries<S: Source>(reader: &mut EntryReader<S>) -> Result<usize, Keytab
     ensures fault { IfErr result (λ fault.
         fault ≢ KeytabFault.OutOfMemory → fault ≢ KeytabFault.Read
         → IfSome (S.remaining reader.old.source) (λ bytes. IsFaultOf bytes fault)) }
-    ensures left { LeavesTail (S.remaining reader.old.source) (S.remaining reader.new.source) }
+    ensures taken { TakesFile (S.remaining reader.old.source) (S.remaining reader.new.source) }
     ensures failed { S.failure_count reader.new.source
         ≡ S.failure_count reader.old.source + of_keytab.failed_reads result }
     ensures lent { S.lender reader.new.source ≡ S.lender reader.old.source }
@@ -80,7 +80,7 @@ pub(crate) fn count_ccache<S: Source>(alloc: Global, source: &mut S) -> Result<u
     ensures only { (bytes : List ℕ) (fault : CacheFault)
         → S.remaining source.old ≡ Some bytes → in_cache.IsFaultOf bytes fault
         → (result ≡ Err fault) ⊎ ((result ≡ Err CacheFault.OutOfMemory) ⊎ (result ≡ Err CacheFault.Read)) }
-    ensures left { LeavesTail (S.remaining source.old) (S.remaining source.new) }
+    ensures taken { TakesFile (S.remaining source.old) (S.remaining source.new) }
     ensures failed { S.failure_count source.new
         ≡ S.failure_count source.old + of_cache.failed_reads result }
 {
@@ -109,7 +109,8 @@ fn count_credentials<S: Source>(reader: &mut CredentialReader<S>) -> Result<usiz
         → (from : Option (List ℕ))
         → reads_cache.HasRead S.remaining from reader.old (cache_of reader.old.header reader.old.default_principal [])
         → IfSome from (λ bytes. in_cache.IsFaultOf bytes fault)) }
-    ensures left { LeavesTail (S.remaining reader.old.source) (S.remaining reader.new.source) }
+    ensures gave { GivesWithin (S.remaining reader.old.source) (S.remaining reader.new.source)
+        reader.old.given reader.new.given }
     ensures failed { S.failure_count reader.new.source
         ≡ S.failure_count reader.old.source + of_cache.failed_reads result }
     ensures lent { S.lender reader.new.source ≡ S.lender reader.old.source }

@@ -3,7 +3,7 @@
 ghost use Rattle.std.specs.Prelude.{◌≡◌, ◌≢◌, ◌⊎◌, ◌+◌, ◌-◌, ◌^◌, ◌<◌, ℕ, List, Some, Ok, Err, IfOk, IfErr, IfSome, OnOk, string_bytes};
 ghost use Rattle.std.specs.Io.KnownBytes.{Appends, Keeps};
 ghost use Rattle.hex.specs.Hex.{decode_of};
-ghost use Rattle.krb_name.specs.File.{LeavesTail};
+ghost use Rattle.krb_name.specs.File.{TakesFile};
 ghost use Rattle.krb_name.specs.Flow.{AppendsBeginning};
 ghost use Rattle.krb_ccache.specs.Format.{IsCache, IsFaultOf};
 ghost use Rattle.krb_ccache.specs.Value.{Cache};
@@ -98,7 +98,7 @@ pub fn finish_line<S: Source, T: Sink>(
         IsAgreedLine cache service.now at reply.now (λ line. AppendsBeginning (T.taken sink.old) (T.taken sink.new) line)) }
     ensures kind { IfErr result IsOfFinish }
     ensures reads { S.failure_count source.new ≡ S.failure_count source.old + failed_reads result }
-    ensures left { LeavesTail (S.remaining source.old) (S.remaining source.new) }
+    ensures taken { TakesFile (S.remaining source.old) (S.remaining source.new) }
     ensures writes { T.failure_count sink.new ≡ T.failure_count sink.old + failed_writes result }
 {
     let cache = CCache::read(alloc, source)?;

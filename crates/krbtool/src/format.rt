@@ -1,7 +1,7 @@
 //! The formats of the files that commands read.
 
 ghost use Rattle.std.specs.Prelude.{◌≡◌, ◌+◌, ◌-◌, ◌^◌, ◌<◌, ℕ, List, Some, IfOk, IfErr, IfSome, length};
-ghost use Rattle.krb_name.specs.File.{LeavesTail, file_limit};
+ghost use Rattle.krb_name.specs.File.{TakesFile, file_limit};
 ghost use Rattle.krb_ccache.specs.Format as in_cache;
 ghost use Rattle.krb_keytab.specs.Format.{IsKeytab};
 ghost use Rattle.krb_keytab.specs.Written.{written};
@@ -47,7 +47,7 @@ pub trait FileFormat: Sized + Drop {
             → S.remaining source.old ≡ Some given → is_fault_of given fault → FailsBy result fault }
         ensures kind { IfErr result (λ e. is_of e × IsOfFile e) }
         ensures reads { S.failure_count source.new ≡ S.failure_count source.old + failed_reads result }
-        ensures left { LeavesTail (S.remaining source.old) (S.remaining source.new) };
+        ensures taken { TakesFile (S.remaining source.old) (S.remaining source.new) };
 
     /// Reads a file as `read_file` does, with one entry or credential at hand at a time, and returns how many it has.
     fn count_file<S: Source>(alloc: Global, source: &mut S) -> Result<usize, EngineFault>
@@ -58,7 +58,7 @@ pub trait FileFormat: Sized + Drop {
             → S.remaining source.old ≡ Some given → is_fault_of given fault → FailsBy result fault }
         ensures kind { IfErr result (λ e. is_of e × IsOfFile e) }
         ensures reads { S.failure_count source.new ≡ S.failure_count source.old + failed_reads result }
-        ensures left { LeavesTail (S.remaining source.old) (S.remaining source.new) };
+        ensures taken { TakesFile (S.remaining source.old) (S.remaining source.new) };
 
     /// Returns the bytes of a file with this value.
     fn file_bytes(&self, alloc: Global) -> Result<Vec<u8>, EngineFault>

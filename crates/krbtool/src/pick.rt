@@ -2,7 +2,7 @@
 
 ghost use Rattle.std.specs.Prelude.{◌≡◌, ◌⊎◌, ◌+◌, ◌-◌, ◌^◌, ◌<◌, ℕ, List, Some, Err, IfOk, IfErr, IfSome, OnOk, string_bytes};
 ghost use Rattle.std.specs.Io.KnownBytes.{Appends, Keeps};
-ghost use Rattle.krb_name.specs.File.{LeavesTail};
+ghost use Rattle.krb_name.specs.File.{TakesFile};
 ghost use Rattle.krb_name.specs.Flow.{AppendsBeginning};
 ghost use Rattle.krb_keytab.specs.Entry.{KeytabEntry};
 ghost use Rattle.krb_keytab.specs.Format.{IsKeytab, IsFaultOf};
@@ -68,7 +68,7 @@ pub fn pick_key<S: Source, T: Sink>(
         IsPickedLine entries name.now etype kvno (λ line. AppendsBeginning (T.taken sink.old) (T.taken sink.new) line)) }
     ensures kind { IfErr result IsOfPick }
     ensures reads { S.failure_count source.new ≡ S.failure_count source.old + failed_reads result }
-    ensures left { LeavesTail (S.remaining source.old) (S.remaining source.new) }
+    ensures taken { TakesFile (S.remaining source.old) (S.remaining source.new) }
     ensures writes { T.failure_count sink.new ≡ T.failure_count sink.old + failed_writes result }
 {
     let keytab = Keytab::read(alloc, source)?;

@@ -5,7 +5,7 @@ ghost use Rattle.std.specs.Io.KnownBytes.{Appends, Keeps};
 ghost use Rattle.krb_keytab.specs.Edit.{MakesHole, LosesEntry};
 ghost use Rattle.krb_keytab.specs.Fault as of_keytab;
 ghost use Rattle.krb_keytab.specs.declared.fault.KeytabFault.{KeytabFault};
-ghost use Rattle.krb_name.specs.File.{LeavesTail};
+ghost use Rattle.krb_name.specs.File.{TakesFile};
 ghost use Rattle.krb_name.specs.Flow.{AppendsBeginning};
 ghost use Rattle.krbtool.specs.Removing.{IsRemoved, IsUnremoved};
 ghost use Rattle.krbtool.specs.Engine.{IsOfKeytab, keytab_fault, FailsWith, failed_reads, failed_writes};
@@ -55,7 +55,7 @@ pub fn remove_key<S: Source, T: Sink>(
     ensures memory { result ≡ Err EngineFault.OutOfMemory → ⊥ }
     ensures kind { IfErr result IsOfKeytab }
     ensures reads { S.failure_count source.new ≡ S.failure_count source.old + failed_reads result }
-    ensures left { LeavesTail (S.remaining source.old) (S.remaining source.new) }
+    ensures taken { TakesFile (S.remaining source.old) (S.remaining source.new) }
     ensures writes { T.failure_count sink.new ≡ T.failure_count sink.old + failed_writes result }
 {
     let file = removed(alloc, source, index)?;
@@ -75,7 +75,7 @@ fn removed<S: Source>(alloc: Global, source: &mut S, index: usize) -> Result<Vec
     ensures only { (bytes : List ℕ) (fault : KeytabFault)
         → S.remaining source.old ≡ Some bytes → IsUnremoved bytes index fault
         → (result ≡ Err fault) ⊎ ((result ≡ Err KeytabFault.OutOfMemory) ⊎ (result ≡ Err KeytabFault.Read)) }
-    ensures left { LeavesTail (S.remaining source.old) (S.remaining source.new) }
+    ensures taken { TakesFile (S.remaining source.old) (S.remaining source.new) }
     ensures failed { S.failure_count source.new
         ≡ S.failure_count source.old + of_keytab.failed_reads result }
 {

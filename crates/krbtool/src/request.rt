@@ -2,7 +2,7 @@
 
 ghost use Rattle.std.specs.Prelude.{◌≡◌, ◌≢◌, ◌⊎◌, ◌+◌, ◌-◌, ◌^◌, ◌<◌, ℕ, List, Some, None, Result, Err, pos, length, IfOk, IfErr, IfSome, OnOk, OnErr, string_bytes};
 ghost use Rattle.std.specs.Io.KnownBytes.{Appends, Keeps};
-ghost use Rattle.krb_name.specs.File.{LeavesTail};
+ghost use Rattle.krb_name.specs.File.{TakesFile};
 ghost use Rattle.krb_name.specs.Flow.{AppendsBeginning};
 ghost use Rattle.krb_name.specs.Reading.{IsReadAs, SameAnswer};
 ghost use Rattle.krb_name.specs.declared.principal.Principal.{Principal};
@@ -130,7 +130,7 @@ pub fn request_line<S: Source, T: Sink>(
         × AppendsBeginning (T.taken sink.old) (T.taken sink.new) (request_line bytes))) }
     ensures kind { IfErr result IsOfRequest }
     ensures reads { S.failure_count source.new ≡ S.failure_count source.old + failed_reads result }
-    ensures left { LeavesTail (S.remaining source.old) (S.remaining source.new) }
+    ensures taken { TakesFile (S.remaining source.old) (S.remaining source.new) }
     ensures writes { T.failure_count sink.new ≡ T.failure_count sink.old + failed_writes result }
 {
     let cache = CCache::read(alloc, source)?;

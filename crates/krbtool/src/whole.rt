@@ -3,7 +3,7 @@
 ghost use Rattle.std.specs.Prelude.{◌≡◌, ◌⊎◌, ◌+◌, ◌-◌, ◌^◌, ◌<◌, [], IfOk, IfErr, IfSome, OnErr, length};
 ghost use Rattle.std.specs.Io.KnownBytes.{Appends};
 ghost use Rattle.krb_keytab.specs.Fault as of_keytab;
-ghost use Rattle.krb_name.specs.File.{LeavesTail};
+ghost use Rattle.krb_name.specs.File.{TakesFile};
 ghost use Rattle.krb_name.specs.Flow.{AppendsBeginning};
 ghost use Rattle.krbtool.specs.Engine.{failed_writes};
 ghost use Rattle.krbtool.specs.Inner.Whole.{HoldsFile};
@@ -24,7 +24,7 @@ pub(crate) fn read_bytes<S: Source>(alloc: Global, source: &mut S) -> Result<Vec
         IfSome (S.remaining source.old) (λ whole. HoldsFile whole bytes.items)) }
     ensures which { IfErr result (λ fault.
         (fault ≡ KeytabFault.OutOfMemory) ⊎ (fault ≡ KeytabFault.Read)) }
-    ensures left { LeavesTail (S.remaining source.old) (S.remaining source.new) }
+    ensures taken { TakesFile (S.remaining source.old) (S.remaining source.new) }
     ensures failed { S.failure_count source.new
         ≡ S.failure_count source.old + of_keytab.failed_reads result }
 {
@@ -43,7 +43,7 @@ fn window_bytes<S: Source>(alloc: Global, window: &mut Window<S>) -> Result<Vec<
         IfSome (S.remaining window.old.source) (λ whole. HoldsFile whole bytes.items)) }
     ensures which { IfErr result (λ fault.
         (fault ≡ KeytabFault.OutOfMemory) ⊎ (fault ≡ KeytabFault.Read)) }
-    ensures left { LeavesTail (S.remaining window.old.source) (S.remaining window.new.source) }
+    ensures taken { TakesFile (S.remaining window.old.source) (S.remaining window.new.source) }
     ensures failed { S.failure_count window.new.source
         ≡ S.failure_count window.old.source + of_keytab.failed_reads result }
     ensures lent { S.lender window.new.source ≡ S.lender window.old.source }

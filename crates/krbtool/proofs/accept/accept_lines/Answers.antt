@@ -1,4 +1,5 @@
-use Rattle.std.proofs.Common.{rules, arith, ◌≡◌, max, ap, sym, refl, inl, inr, ◌∙◌, Err}
+use Rattle.std.proofs.Common.{rules, arith, ◌≡◌, [], max, ap, sym, refl, inl, inr, ◌∙◌, Err}
+use Rattle.std.proofs.KnownBytes.{Consumes-nil}
 use Rattle.std.proofs.lemmas.Result.{err_from_is_err_and}
 use Rattle.krbtool.specs.declared.fault.EngineFault.TheVariants.{Input}
 use Rattle.krbtool.proofs.FaultLaws.{no_ok, not_input}
@@ -106,3 +107,6 @@ returns-clause-answered g c = λ input history tells stands.
 
 pub returns-clause-reads : goal.returns-clause-reads
 returns-clause-reads g c = elim c.in_ok-status.ensures.reads [ inl e ↦ absurd (no_ok c.in_ok-status.status Input e) | inr same ↦ inr same ]
+
+pub returns-in_err-piece-clause-taken : goal.returns-in_err-piece-clause-taken
+returns-in_err-piece-clause-taken g c = record { piece = []; taken = Consumes-nil (g.S.Source.remaining c.args.source.now); within = omega arith }

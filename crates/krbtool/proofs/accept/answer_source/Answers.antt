@@ -1,6 +1,6 @@
 use Rattle.std.proofs.Common.{rules, arith, ◌≡◌, ◌+◌, max, ℕ, take, [], ap, refl, inl, ◌∙◌, Ok}
-use Rattle.krbtool.proofs.GoingLaws.{came_more, reached_kept, reached_more, reached_none, reached_start, reached_stop, length-take-below}
-use Rattle.std.proofs.KnownBytes.{Consumes-nil}
+use Rattle.krbtool.proofs.GoingLaws.{came_more, came_takes, reached_kept, reached_more, reached_none, reached_start, reached_stop, length-take-below}
+use Rattle.std.proofs.KnownBytes.{Consumes-nil, Consumes-kept}
 use Rattle.krbtool.proofs.accept.answer_source.Goals as goal
 
 pub loop-came-init : goal.loop-came-init
@@ -75,3 +75,25 @@ loop-came-preserved g c = record {
   reads = search (arith, rules);
   writes = search (arith, rules);
 }
+
+pub returns-in_err-count-clause-taken : goal.returns-in_err-count-clause-taken
+returns-in_err-count-clause-taken g c =
+    let came = c.loop-came.invariant.came in
+    record { piece = came.bytes; taken = Consumes-kept _ _ _ came.bytes came.consumed c.in_err-count.ensures.err; within = omega (arith, came.counted, c.loop-came.invariant.within) }
+
+pub returns-then-count-eq0-clause-taken : goal.returns-then-count-eq0-clause-taken
+returns-then-count-eq0-clause-taken g c =
+    came_takes _ _ _ (came_more (g.S.Source.remaining c.args.source.now) (g.S.Source.remaining c.loop-came.source) (g.S.Source.remaining c.read_some.new.source)
+    c.loop-came.came c.in_ok-count.count (take c.in_ok-count.count c.read_some.new.piece) c.loop-came.invariant.came
+    c.in_ok-count.ensures.bytes (length-take-below c.in_ok-count.count c.read_some.new.piece c.in_ok-count.ensures.bound.1))
+    (omega (arith, c.in_ok-count.ensures.bound.0, c.loop-came-test.true))
+
+pub returns-in_err-more-clause-taken : goal.returns-in_err-more-clause-taken
+returns-in_err-more-clause-taken g c =
+    came_takes _ _ _ (came_more (g.S.Source.remaining c.args.source.now) (g.S.Source.remaining c.loop-came.source) (g.S.Source.remaining c.read_some.new.source)
+    c.loop-came.came c.in_ok-count.count (take c.in_ok-count.count c.read_some.new.piece) c.loop-came.invariant.came
+    c.in_ok-count.ensures.bytes (length-take-below c.in_ok-count.count c.read_some.new.piece c.in_ok-count.ensures.bound.1))
+    (omega (arith, c.in_ok-count.ensures.bound.0, c.loop-came-test.true))
+
+pub returns-clause-taken : goal.returns-clause-taken
+returns-clause-taken g c = came_takes _ _ _ c.loop-came.invariant.came c.loop-came.invariant.within

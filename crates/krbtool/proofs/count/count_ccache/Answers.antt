@@ -1,6 +1,7 @@
 use Rattle.std.proofs.Common.{refl, Err, rules}
 use Rattle.std.specs.Prelude.{IfOk, IfErr}
-use Rattle.krbtool.proofs.CountLaws.{found_from, fault_from, cache_fault_alone, fault_told, tail_then}
+use Rattle.krb_name.proofs.FileLaws.{gives_then, takes_file}
+use Rattle.krbtool.proofs.CountLaws.{found_from, fault_from, cache_fault_alone, fault_told}
 use Rattle.krbtool.proofs.count.count_ccache.Goals as goal
 
 pub returns-in-Ok-clause-only : goal.returns-in-Ok-clause-only
@@ -14,5 +15,5 @@ returns-in-Err-clause-only g c =
     cache_fault_alone c.each_file_has_one_answer.ensures.one (g.S.Source.remaining c.args.source.now) (Err c.in-Err.back.1) tt
     (λ memory read. fault_told _ _ c.in-Err.back.1 c.a_source_tells_its_file.ensures (c.in-Err.ensures.fault memory read))
 
-pub returns-in-Ok-clause-left : goal.returns-in-Ok-clause-left
-returns-in-Ok-clause-left g c = let left = tail_then _ _ _ c.in-Ok.ensures.tail c.count_credentials-counted.ensures.left in search rules
+pub returns-in-Ok-clause-taken : goal.returns-in-Ok-clause-taken
+returns-in-Ok-clause-taken g c = let taken = takes_file _ _ 0 _ refl (gives_then _ _ _ _ _ _ c.in-Ok.ensures.gave c.count_credentials-counted.ensures.gave) in search rules

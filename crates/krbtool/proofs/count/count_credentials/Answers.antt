@@ -1,6 +1,7 @@
 use Rattle.std.proofs.Common.{◌∙◌, add-zero, arith, ap, Bool, Ok}
 use Rattle.std.proofs.lemmas.Result.{err_from_is_err_and}
-use Rattle.krbtool.proofs.CountLaws.{credential_counted, cache_told, fault_told, tail_then}
+use Rattle.krb_name.proofs.FileLaws.{gives_then}
+use Rattle.krbtool.proofs.CountLaws.{credential_counted, cache_told, fault_told, gave_within}
 use Rattle.krbtool.proofs.count.count_credentials.Goals as goal
 
 pub returns-in_err-pass-clause-fault : goal.returns-in_err-pass-clause-fault
@@ -17,7 +18,7 @@ loop-count-preserved g c =
     let one = c.in_ok-pass.ensures.item going (ap (λ (b : Bool). Ok b) c.if-branch.true) in
     record {
       counted = λ from start. credential_counted g.S.Source.remaining from c.loop-count.reader c.pass.new.self c.loop-count.count one.0 (c.loop-count.invariant.counted from start) (one.1.read from);
-      tail = tail_then _ _ _ c.loop-count.invariant.tail (c.in_ok-pass.ensures.given.bytes, c.in_ok-pass.ensures.given.taken);
+      gave = gives_then _ _ _ _ _ _ c.loop-count.invariant.gave (gave_within _ _ c.loop-count.reader c.pass.new.self c.in_ok-pass.ensures.given c.in_ok-pass.ensures.limit);
       going = rw c.if-branch.true at c.in_ok-pass.ensures.ended going;
       few = omega (arith, one.1.gave.some, c.loop-count.invariant.few);
       limit = omega (arith, one.1.gave.some, one.1.gave.limit, c.loop-count.invariant.few);
@@ -31,5 +32,8 @@ returns-clause-found g c = λ from start.
     cache_told from (g.S.Source.remaining c.pass.new.self.source) c.loop-count.count counted.cache_read c.a_source_tells_its_file.ensures
     (c.in_ok-pass.ensures.end from counted.cache_read counted.read (ap (λ (b : Bool). Ok b) c.if-branch.false)) counted.counted
 
-pub returns-in_err-pass-clause-left : goal.returns-in_err-pass-clause-left
-returns-in_err-pass-clause-left g c = tail_then _ _ _ c.loop-count.invariant.tail (c.in_err-pass.ensures.given.bytes, c.in_err-pass.ensures.given.taken)
+pub returns-clause-gave : goal.returns-clause-gave
+returns-clause-gave g c = gives_then _ _ _ _ _ _ c.loop-count.invariant.gave (gave_within _ _ c.loop-count.reader c.pass.new.self c.in_ok-pass.ensures.given c.in_ok-pass.ensures.limit)
+
+pub returns-in_err-pass-clause-gave : goal.returns-in_err-pass-clause-gave
+returns-in_err-pass-clause-gave g c = gives_then _ _ _ _ _ _ c.loop-count.invariant.gave (gave_within _ _ c.loop-count.reader c.pass.new.self c.in_err-pass.ensures.given c.in_err-pass.ensures.limit)

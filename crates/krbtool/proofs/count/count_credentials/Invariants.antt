@@ -1,5 +1,5 @@
 use Rattle.std.proofs.Common.{◌≡◌, ◌-◌, ◌≤◌, List, [], ℕ, Option, None}
-use Rattle.krb_name.specs.File.{file_limit, LeavesTail}
+use Rattle.krb_name.specs.File.{file_limit, GivesWithin}
 use Rattle.krb_ccache.specs.Reader.{HasRead}
 use Rattle.krb_ccache.specs.Value.{cache_of}
 use Rattle.krbtool.specs.Inner.Counting.{CredentialsCounted}
@@ -9,7 +9,7 @@ abbrev pub invariant-loop-count : goal.invariant-loop-count
 invariant-loop-count g l = record {
   counted : (from : Option (List ℕ)) → HasRead g.S.Source.remaining from l.fn.reader (cache_of l.fn.reader.header l.fn.reader.default_principal [])
       → CredentialsCounted g.S.Source.remaining from l.reader l.count;
-  tail : LeavesTail (g.S.Source.remaining l.fn.reader.source) (g.S.Source.remaining l.reader.source);
+  gave : GivesWithin (g.S.Source.remaining l.fn.reader.source) (g.S.Source.remaining l.reader.source) l.fn.reader.given l.reader.given;
   going : l.reader.ended ≡ None;
   few : l.count ≤ l.reader.given;
   limit : l.count ≤ file_limit;

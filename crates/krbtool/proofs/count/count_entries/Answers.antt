@@ -1,6 +1,6 @@
 use Rattle.std.proofs.Common.{◌∙◌, add-zero, arith, ap, refl, Bool, Ok}
 use Rattle.std.proofs.lemmas.Result.{err_from_is_err_and}
-use Rattle.krbtool.proofs.CountLaws.{one_counted, fault_counted, entries_tail}
+use Rattle.krbtool.proofs.CountLaws.{one_counted, fault_counted, entries_taken}
 use Rattle.krbtool.proofs.count.count_entries.Goals as goal
 
 pub returns-in_err-pass-clause-fault : goal.returns-in_err-pass-clause-fault
@@ -20,8 +20,8 @@ loop-count-preserved g c =
       lent = c.in_ok-pass.ensures.lent ∙ c.loop-count.invariant.lent;
     }
 
-pub returns-in_err-pass-clause-left : goal.returns-in_err-pass-clause-left
-returns-in_err-pass-clause-left g c = entries_tail _ _ _ c.loop-count.reader c.pass.new.self c.loop-count.count _ c.loop-count.invariant.counted c.in_err-pass.ensures.reads
+pub returns-in_err-pass-clause-taken : goal.returns-in_err-pass-clause-taken
+returns-in_err-pass-clause-taken g c = entries_taken _ _ _ c.loop-count.reader c.pass.new.self c.loop-count.count _ c.loop-count.invariant.counted c.in_err-pass.ensures.reads c.in_err-pass.ensures.limit
 
-pub returns-clause-left : goal.returns-clause-left
-returns-clause-left g c = entries_tail _ _ _ c.loop-count.reader c.pass.new.self c.loop-count.count _ c.loop-count.invariant.counted c.in_ok-pass.ensures.reads
+pub returns-clause-taken : goal.returns-clause-taken
+returns-clause-taken g c = entries_taken _ _ _ c.loop-count.reader c.pass.new.self c.loop-count.count _ c.loop-count.invariant.counted c.in_ok-pass.ensures.reads c.in_ok-pass.ensures.limit
