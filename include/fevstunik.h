@@ -445,7 +445,7 @@ typedef struct fevstunik_context {
 
 /* What a client of GSS-API asks for when it builds a request. */
 typedef struct fevstunik_context_choice {
-    uint32_t flags;       /* 2 mutual, 4 replay, 8 sequence, 16 confidentiality, 32 integrity; 1 (delegation) is left out */
+    uint32_t flags;       /* 4 replay, 8 sequence, 16 confidentiality, 32 integrity; 1 (delegation) and 2 (mutual) don't count */
     uint8_t bindings[16]; /* the MD5 hash of the channel's bindings (RFC 4121, section 4.1.1.2), or zeros if there are none */
 } fevstunik_context_choice;
 
@@ -920,9 +920,10 @@ fevstunik_answer fevstunik_request(const fevstunik_cache *cache, fevstunik_pendi
                                    size_t buffer_size);
 
 /* Builds a request as fevstunik_request does, for a client of GSS-API: the authenticator has a
- * checksum of type 0x8003 (RFC 4121, section 4.1.1), which says what `context` says. Such a request
- * also needs a sequence number (`choice->has_seq`), and if it asks for a reply
- * (`choice->wants_reply`), the flag 2. Pass it to fevstunik_token_request.
+ * checksum of type 0x8003 (RFC 4121, section 4.1.1), which says what `context` says. Its flag 2
+ * (mutual) is set exactly if the request asks for a reply (`choice->wants_reply`), and its flag 1
+ * (delegation) is never set, whatever `context->flags` says. Such a request also needs a sequence
+ * number (`choice->has_seq`). Pass it to fevstunik_token_request.
  *
  * Returns what fevstunik_request returns: FEVSTUNIK_OK or FEVSTUNIK_SHORT_BUFFER; or writes nothing,
  * leaves `pending` unchanged, and returns the first that applies: FEVSTUNIK_EMPTY_HANDLE if `cache`
@@ -931,7 +932,7 @@ fevstunik_answer fevstunik_request(const fevstunik_cache *cache, fevstunik_pendi
  * _NO_USABLE_KEY, _CREDENTIAL_EXPIRED, _BAD_TICKET or _TOO_LONG; or FEVSTUNIK_OUT_OF_MEMORY.
  *
  *     fevstunik_choice choice = {0, number, true, true};
- *     fevstunik_context_choice context = {2, {0}};
+ *     fevstunik_context_choice context = {0, {0}};
  *     answer = fevstunik_context_request(&cache, &pending, (const uint8_t *)"host/web@EX", 11, &now, random, 16, &choice, random, 0,
  *                                        &context, buffer, sizeof buffer);
  */

@@ -181,7 +181,7 @@ def longest(around):
 
 def in_token(options=0, of=None):
     """The request that a token holds: with the number 0, and a context that asks for a reply if the request does."""
-    return fixture.request(options, number=0, of=of, checksum=fixture.context(2 if options else 0))
+    return fixture.request(options, number=0, of=of, checksum=fixture.context(bool(options)))
 
 
 def request_cases():

@@ -73,7 +73,7 @@ def requested():
 
 
 def requested_token():
-    command, request = requested(), fixture.request(0x20000000, number=0, checksum=fixture.context(2))
+    command, request = requested(), fixture.request(0x20000000, number=0, checksum=fixture.context(True))
     token = gss_rules.negotiation([gss_rules.KERBEROS], gss_rules.kerberos(gss_rules.KERBEROS, request))
     return Command([*command.words, "--token", "spnego"], command.file, b"", f"{token.hex()}\n".encode(), OLD)
 

@@ -134,6 +134,24 @@ def exchange():
     return f"not there: {missing}" if missing else same(sizes, [119, 214, 352, 178, 348, 87, 73])
 
 
+# A client's call for a request in a context: whether it asks for a reply, its number, its flags and its bindings.
+IN_CONTEXT = re.compile(r"(?:request|initiate) \S+ 1700000100 5 202122232425262728292a2b2c2d2e2f (\w+) none (\w+) (\d+)/([0-9a-f]{32})")
+
+
+def contexts():
+    """The requests of a client of GSS-API are those of the fixture."""
+    count, wrong = 0, []
+    for _, name, lines, answers in library.stored():
+        for line, answer in zip(lines, answers):
+            if it := IN_CONTEXT.fullmatch(line):
+                is_mutual, number = it[1] == "mutual", None if it[2] == "none" else int(it[2])
+                checksum = fixture.context(is_mutual, int(it[3]), bytes.fromhex(it[4]))
+                made = fixture.request(0x20000000 if is_mutual else 0, number=number, checksum=checksum)
+                count += 1
+                wrong += [] if made.hex() == answer else [f"{name}: {line}"]
+    return (None if count >= 10 else f"of only {count} requests") if not wrong else f"wrong: {wrong}"
+
+
 def example():
     """The files that README's example runs on."""
     found = [(TOP / "crates/krb_example/data" / name).read_bytes() for name in ("service.keytab", "client.ccache", "request")]
@@ -151,6 +169,7 @@ TABLES = {
     "the fixture's messages": messages_of_fixture,
     "the fixture's caches": caches,
     "the fixture's requests and replies": exchange,
+    "the fixture's requests in a context": contexts,
     "the example's keytab, cache and request": example,
     "the cache and the request of the program of replies": sides,
     "the tables of the S-box on lanes": tower_tables,

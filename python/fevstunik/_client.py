@@ -94,8 +94,8 @@ def make_request(cache: CredentialCache, service: str, *, now: When | None = Non
     subkey       a key that the client chooses, as Key.random(20), or None
     seq          the client's first sequence number, or None
     wants_reply  whether to ask the service for a reply
-    context      what a client of GSS-API asks for, if the request is to be wrapped in a token. MUTUAL is set exactly if a reply is asked
-                 for, DELEGATION is left out, and the sequence number is random unless `seq` is given
+    context      what a client of GSS-API asks for, if the request is to be wrapped in a token. Its MUTUAL and DELEGATION don't count: MUTUAL
+                 is set exactly if a reply is asked for, and DELEGATION never. The sequence number is random unless `seq` is given
     bindings     the bindings of such a client's channel, as ``b"tls-server-end-point:" + hash``, or None
 
     If there is no request, raises the Fault NO_CREDENTIAL, NO_USABLE_KEY or CREDENTIAL_EXPIRED (no ticket fits), BAD_TICKET or TOO_LONG.
@@ -111,7 +111,7 @@ def make_request(cache: CredentialCache, service: str, *, now: When | None = Non
     if context is not None and seq is None:
         seq = int.from_bytes(os.urandom(4), "big") >> 2
     name, at, confounder, choice = service.encode(), clock_of_request(now), os.urandom(CONFOUNDER), chosen(subkey, seq, wants_reply)
-    call, more = ("request", ()) if context is None else ("context_request", (byref(_context(context, wants_reply, bindings)),))
+    call, more = ("request", ()) if context is None else ("context_request", (byref(_context(context, bindings)),))
     pending = Handle("pending")
     with cache._handle.used() as held, pending.used() as pointer:
         request = filled(lambda *into: pending.library.call(
@@ -119,8 +119,6 @@ def make_request(cache: CredentialCache, service: str, *, now: When | None = Non
     return request, Pending(pending)
 
 
-def _context(flags: ContextFlags, wants_reply: bool, bindings: Bytes | None) -> _library.ContextChoice:
-    # (as numbers: the complement of a flag leaves out the numbers that no flag has)
-    number = int(flags) & ~int(ContextFlags.MUTUAL) | (int(ContextFlags.MUTUAL) if wants_reply else 0)
+def _context(flags: ContextFlags, bindings: Bytes | None) -> _library.ContextChoice:
     hashed = bytes(16) if bindings is None else bindings_of(bindings)
-    return _library.ContextChoice(number, (c_uint8 * 16)(*hashed))
+    return _library.ContextChoice(int(flags), (c_uint8 * 16)(*hashed))

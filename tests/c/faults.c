@@ -34,7 +34,7 @@ static struct asked usual(void)
 static void prevented(const char *what, struct asked it, unsigned code, size_t at)
 {
     fevstunik_choice choice = {0, 0, false, true};
-    const fevstunik_context_choice context = {2, {0}};
+    const fevstunik_context_choice context = {0, {0}};
     fevstunik_cache held = FEVSTUNIK_CACHE_INIT;
     fevstunik_pending pending = FEVSTUNIK_PENDING_INIT;
     fevstunik_answer answer = fevstunik_cache_new(&held, it.cache, it.cache_size);

@@ -845,7 +845,32 @@ static void requests(void)
     is_answer("the cache", fevstunik_cache_new(&credentials, cache.at, cache.size), FEVSTUNIK_OK, 0, 0, 1);
 }
 
-/* What a client of GSS-API asks for is what the service reads. The flag of delegation is left out. */
+/* The flags that a service reads in a request that asks for a reply, or doesn't, and has these flags in its context. */
+static uint32_t flags_read(fevstunik_acceptor *service, fevstunik_time at, bool wants_reply, uint32_t flags)
+{
+    fevstunik_choice choice = {0, 7, true, wants_reply};
+    fevstunik_context_choice wanted = {flags, {0}};
+    fevstunik_accepted accepted = FEVSTUNIK_ACCEPTED_INIT;
+    fevstunik_known known;
+    fevstunik_context found = {0};
+    uint8_t confounder[16] = {2}, checksum[32], parts[16];
+    fevstunik_answer answer;
+    int32_t kind = 0;
+
+    answer = fevstunik_context_request(&credentials, &pending, WEB, &at, confounder, 16, &choice, confounder, 0, &wanted, buffer, sizeof buffer);
+    is("with flags", answer.code, FEVSTUNIK_OK);
+    is_answer("ready", fevstunik_accepted_new(&accepted), FEVSTUNIK_OK, 0, 0, 0);
+    is_answer("accepted", fevstunik_acceptor_accept(service, &accepted, buffer, answer.size, &at), FEVSTUNIK_OK, 0, 0, 0);
+    is("known", fevstunik_accepted_known(&accepted, &known, buffer, sizeof buffer).code, FEVSTUNIK_OK);
+    is("a reply", known.wants_reply, wants_reply);
+    is_answer("checksum", fevstunik_accepted_item(&accepted, FEVSTUNIK_LIST_CHECKSUM, 0, &kind, checksum, sizeof checksum), FEVSTUNIK_OK, 0,
+              0, 24);
+    is_answer("context", fevstunik_context_read(checksum, 24, &found, parts, sizeof parts), FEVSTUNIK_OK, 0, 0, 16);
+    fevstunik_accepted_free(&accepted);
+    return found.flags;
+}
+
+/* What a client of GSS-API asks for is what the service reads. The flag of delegation isn't set, and that of a reply is the request's. */
 static void contexts(void)
 {
     fevstunik_time at = moment(1700000100, 777);
@@ -879,6 +904,10 @@ static void contexts(void)
     is("flags", found.flags, 0xfffffffe);
     is("no delegation", found.has_delegation, 0);
     is_bytes("bindings", parts, wanted.bindings, 16);
+    is("a reply without its flag", flags_read(&service, moment(1700000100, 778), true, 0), 2);
+    is("a reply with the flag of none", flags_read(&service, moment(1700000100, 779), true, 0x3c), 0x3e);
+    is("no reply with its flag", flags_read(&service, moment(1700000100, 780), false, 2), 0);
+    is("no reply with each flag", flags_read(&service, moment(1700000100, 781), false, 0xffffffff), 0xfffffffc);
     fevstunik_accepted_free(&accepted);
     fevstunik_acceptor_free(&service);
 }

@@ -120,7 +120,7 @@ static fevstunik_answer asking(void)
 
 static fevstunik_answer asking_in_context(void)
 {
-    static const fevstunik_context_choice context = {2, {0}};
+    static const fevstunik_context_choice context = {0, {0}};
 
     return fevstunik_context_request(&credentials, &pending, service_name, 11, &now, cache.at, 16, &keyed, cache.at, 16, &context, buffer,
                                      sizeof buffer);

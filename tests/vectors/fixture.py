@@ -121,8 +121,9 @@ def present(number, content):
     return [] if content is None else [field(number, content)]
 
 
-def context(flags, bindings=bytes(16)):
-    """The checksum of a client of GSS-API (RFC 4121, section 4.1.1)."""
+def context(is_mutual, flags=0, bindings=bytes(16)):
+    """The checksum of a client of GSS-API (RFC 4121, section 4.1.1): delegation (1) is never set, and mutual (2) if it asks for a reply."""
+    flags = flags & ~3 | (2 if is_mutual else 0)
     return sequence(field(0, integer(0x8003)), field(1, octets(struct.pack("<I16sI", 16, bindings, flags))))
 
 

@@ -30,7 +30,7 @@ micros_in s t m n h g e = omega (arith, ints)
 -- the value of an authenticator whose parts are copies
 pub copied : (client : Principal) (credential : Credential) (ctime : ℤ) (cusec : ℕ) (sum : Option (ValueOf checksum))
     (subkey : Option (ValueOf encryption_key)) (options : RequestOptions)
-    → client ≡ credential.client → sum ≡ option_map context_checksum options.context → subkey ≡ option_map key_value options.subkey
+    → client ≡ credential.client → sum ≡ option_map (context_checksum options.mutual) options.context → subkey ≡ option_map key_value options.subkey
     → authenticator_value (record {
       crealm = client.realm;
       cname = principal_name_of client;
@@ -65,7 +65,7 @@ copied client credential ctime cusec sum subkey options e d f =
     ∙ ap (λ (k : Option (ValueOf encryption_key)). authenticator_value (record {
       crealm = credential.client.realm;
       cname = principal_name_of credential.client;
-      checksum = option_map context_checksum options.context;
+      checksum = option_map (context_checksum options.mutual) options.context;
       cusec = cusec;
       ctime = ctime;
       subkey = k;

@@ -1,6 +1,6 @@
 -- The request that a client builds with a credential (RFC 4120, sections 3.2.2 and 5.5.1), what it
 -- keeps of the request, and why there is none.
-use Rattle.std.specs.Prelude.{◌≡◌, ◌<◌, ◌*◌, ◌/◌, ◌++◌, ℕ, ℤ, pos, List, Bool, true, false, Option, None}
+use Rattle.std.specs.Prelude.{◌≡◌, ◌<◌, ◌+◌, ◌*◌, ◌/◌, ◌++◌, ℕ, ℤ, pos, List, Bool, true, false, Option, None}
 use Rattle.std.specs.Int.{w32, to_le_bytes}
 use Rattle.std.specs.Option.{option_map}
 use Rattle.krb_name.specs.declared.principal.Principal.{Principal}
@@ -28,11 +28,17 @@ abbrev pub options_for : Bool → ℕ
 options_for true = weight mutual_required
 options_for false = 0
 
+-- the flags of a client of GSS-API (RFC 4121, section 4.1.1.1): those that it chose but for the two
+-- lowest. Delegation (1) isn't set, and mutual (2) is set if the request asks for a reply
+abbrev pub context_flags : Bool → ℕ → ℕ
+context_flags true flags = flags / 4 * 4 + 2
+context_flags false flags = flags / 4 * 4
+
 -- the checksum by which a client of GSS-API says what it asks for (RFC 4121, section 4.1.1): the
--- length of the bindings, the bindings, and the flags without that of delegation, numbers with the
--- least byte first
-abbrev pub context_checksum : ContextRequest → ValueOf checksum_kind
-context_checksum c = typed_value (pos 0x8003) (to_le_bytes w32 16 ++ (c.bindings ++ to_le_bytes w32 (c.flags / 2 * 2)))
+-- length of the bindings, the bindings, and the flags, numbers with the least byte first
+abbrev pub context_checksum : Bool → ContextRequest → ValueOf checksum_kind
+context_checksum is_mutual c =
+    typed_value (pos 0x8003) (to_le_bytes w32 16 ++ (c.bindings ++ to_le_bytes w32 (context_flags is_mutual c.flags)))
 
 -- the authenticator: the credential's client, a time, and the subkey, the sequence number and the
 -- context that the client chose; and no more
@@ -40,7 +46,7 @@ abbrev pub authenticator_for : Credential → ℤ → ℕ → RequestOptions →
 authenticator_for credential ctime cusec options = authenticator_value (record {
   crealm = credential.client.realm;
   cname = principal_name_of credential.client;
-  checksum = option_map context_checksum options.context;
+  checksum = option_map (context_checksum options.mutual) options.context;
   cusec = cusec;
   ctime = ctime;
   subkey = option_map key_value options.subkey;

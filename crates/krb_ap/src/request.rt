@@ -7,7 +7,7 @@ ghost use Rattle.krb_msg.specs.Borrowed.{ticket_of};
 ghost use Rattle.krb_msg.specs.Owned.{owned_typed_of};
 ghost use Rattle.krb_msg.specs.Module.{ticket as ticket_kind};
 ghost use Rattle.krb_ap.specs.Credentials.{credential_key};
-ghost use Rattle.krb_ap.specs.Request.{HasGoodTicket, IsBuilt, IsPlain, IsRequest, Prevents, awaited_for, context_checksum, options_for};
+ghost use Rattle.krb_ap.specs.Request.{HasGoodTicket, IsBuilt, IsPlain, IsRequest, Prevents, awaited_for, context_checksum, context_flags, options_for};
 ghost use Rattle.krb_ap.specs.Inner.Requests.{HasTicket, IsUnbuilt};
 ghost use Rattle.krb_ap.specs.declared.request_fault.RequestFault.TheVariants.{TooLong, OutOfMemory};
 
@@ -33,7 +33,7 @@ pub struct RequestOptions {
     pub subkey: Option<Key>,
     /// The client's first sequence number.
     pub seq: Option<u32>,
-    /// What a client of GSS-API asks for. Other clients leave it out.
+    /// What a client of GSS-API asks for; it needs `seq`, too. Other clients leave this out.
     pub context: Option<ContextRequest>,
 }
 
@@ -41,8 +41,9 @@ pub struct RequestOptions {
 /// section 4.1.1).
 #[derive(Clone, Copy, Debug, PartialEq, Eq)]
 pub struct ContextRequest {
-    /// The flags of section 4.1.1.1: 2 mutual, 4 replay, 8 sequence, 16 confidentiality, 32
-    /// integrity. The flag 1, delegation, is left out, since no credentials are delegated.
+    /// The flags of section 4.1.1.1: 4 replay, 8 sequence, 16 confidentiality, 32 integrity. The
+    /// bits 1 (delegation) and 2 (mutual) don't count: no credentials are delegated, and mutual is
+    /// set exactly if the request asks for a reply.
     pub flags: u32,
     /// The MD5 hash of the channel's bindings, or 16 zeros if there are none (section 4.1.1.2).
     pub bindings: [u8; 16],
@@ -159,16 +160,28 @@ fn flags(wants_reply: bool) -> Flags
     }
 }
 
+// The flags that are written: the client's own, but for delegation and mutual.
+fn context_flags(is_mutual: bool, flags: u32) -> u32
+    ensures { result ≡ context_flags is_mutual flags }
+{
+    let others = flags / 4 * 4;
+    if is_mutual { others + 2 } else { others }
+}
+
 // The type of the checksum of a client of GSS-API.
 const CONTEXT: i32 = 0x8003;
 
-fn checksum_of(alloc: Global, context: Option<ContextRequest>) -> Result<Option<Typed>, AllocError>
-    ensures { IfOk result (λ made. option_map owned_typed_of made ≡ option_map context_checksum context) }
+fn checksum_of(
+    alloc: Global,
+    is_mutual: bool,
+    context: Option<ContextRequest>,
+) -> Result<Option<Typed>, AllocError>
+    ensures { IfOk result (λ made. option_map owned_typed_of made ≡ option_map (context_checksum is_mutual) context) }
 {
     let Some(context) = context else {
         return Ok(None);
     };
-    let flags = context.flags / 2 * 2;
+    let flags = context_flags(is_mutual, context.flags);
     let mut bytes = Vec::from_slice(alloc, &16u32.to_le_bytes())?;
     bytes.extend_from_slice(&context.bindings)?;
     bytes.extend_from_slice(&flags.to_le_bytes())?;
@@ -194,7 +207,7 @@ fn authenticator(
     prove!(cusec.get() < 1_000_000);
     let authenticator = Authenticator {
         client: credential.client.clone()?,
-        checksum: checksum_of(alloc, options.context)?,
+        checksum: checksum_of(alloc, options.mutual, options.context)?,
         cusec,
         ctime,
         subkey: raw_key(alloc, &options.subkey)?,

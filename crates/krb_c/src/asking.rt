@@ -86,7 +86,8 @@ pub extern "C" fn fevstunik_request(
 #[repr(C)]
 #[derive(Clone, Copy)]
 pub struct ContextChoice {
-    /// The flags. That of delegation is left out.
+    /// The flags. The bits 1 (delegation) and 2 (mutual) don't count: no credentials are delegated,
+    /// and mutual is set exactly if the request asks for a reply.
     pub flags: u32,
     /// The MD5 hash of the channel's bindings, or 16 zeros.
     pub bindings: [u8; 16],

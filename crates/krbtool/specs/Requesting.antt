@@ -1,13 +1,11 @@
 -- What `request` prints: a request, or a token of GSS-API that holds it.
-use Rattle.std.specs.Prelude.{◌≡◌, ◌<◌, ℕ, ℤ, Bool, true, false, List, [], ◌∷◌, ◌++◌, Option, Some, None, codes, length, replicate}
+use Rattle.std.specs.Prelude.{◌≡◌, ◌<◌, ℕ, ℤ, Bool, List, [], ◌∷◌, ◌++◌, Option, Some, None, codes, length, replicate}
 use Rattle.hex.specs.Hex.{encode_lower}
 use Rattle.krb_name.specs.declared.principal.Principal.{Principal}
 use Rattle.krb_ccache.specs.Value.{Cache}
 use Rattle.krb_der.specs.Spells.{limit}
-use Rattle.krb_gss.specs.Checksum.{bit_of}
 use Rattle.krb_gss.specs.Token.{IsToken}
 use Rattle.krb_gss.specs.Wrapping.{WritesRequest, request_size}
-use Rattle.krb_gss.specs.declared.flags.ContextFlag.TheVariants.{Mutual}
 use Rattle.krb_gss.specs.declared.mechanism.Mechanism.TheVariants.{Kerberos, Microsoft}
 use Rattle.krb_gss.specs.declared.opening.Wrapping.{Wrapping}
 use Rattle.krb_gss.specs.declared.opening.Wrapping.TheVariants.{Bare, Negotiated}
@@ -22,15 +20,14 @@ use Rattle.krbtool.specs.declared.request.Asked.{Asked}
 abbrev pub plain_options : Bool → RequestOptions
 plain_options wants_reply = record { «mutual» = wants_reply; subkey = None; seq = None; context = None }
 
--- what a client of GSS-API asks for: a reply or not, and no more; and there are no bindings
-abbrev pub context_for : Bool → ContextRequest
-context_for true = record { flags = bit_of Mutual; bindings = replicate 16 0 }
-context_for false = record { flags = 0; bindings = replicate 16 0 }
+-- what a client of GSS-API asks for besides a reply: nothing; and there are no bindings
+abbrev pub plain_context : ContextRequest
+plain_context = record { flags = 0; bindings = replicate 16 0 }
 
 -- in a token the request has a sequence number, 0, and what its client asks for (RFC 4121, section 4.1.1)
 abbrev pub chosen_options : Bool → Option Wrapping → RequestOptions
 chosen_options wants_reply None = plain_options wants_reply
-chosen_options wants_reply (Some wrapping) = record { «mutual» = wants_reply; subkey = None; seq = Some 0; context = Some (context_for wants_reply) }
+chosen_options wants_reply (Some wrapping) = record { «mutual» = wants_reply; subkey = None; seq = Some 0; context = Some plain_context }
 
 -- the bytes are the request that is built with the cache
 pub record IsRequested (cache : Cache) (asked : Asked) (bytes : List ℕ) : Type 0 where

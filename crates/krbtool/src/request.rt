@@ -17,14 +17,14 @@ ghost use Rattle.krb_ap.specs.declared.request_fault.RequestFault.{RequestFault}
 ghost use Rattle.krb_ap.specs.declared.request_fault.RequestFault.TheVariants.{OutOfMemory};
 ghost use Rattle.krbtool.specs.CallLine.{SpellsConfounder};
 ghost use Rattle.krbtool.specs.Engine.{IsOfRequest, OfFile, cache_fault, request_fault, FailsWithCache, failed_reads, failed_writes};
-ghost use Rattle.krbtool.specs.Requesting.{IsAskedFor, IsRequested, IsTokenOf, IsTokenWord, IsUnprinted, PreventsAsked, chosen_options, context_for, request_line};
+ghost use Rattle.krbtool.specs.Requesting.{IsAskedFor, IsRequested, IsTokenOf, IsTokenWord, IsUnprinted, PreventsAsked, chosen_options, plain_context, request_line};
 
 use crate::call_line::confounder_of;
 use crate::fault::EngineFault;
 use krb_ap::laws::built_or_prevented;
 use krb_ap::{ContextRequest, RequestFault, RequestOptions, make_request};
 use krb_ccache::CCache;
-use krb_gss::{ContextFlag, Mechanism, WrapFault, Wrapping, wrap_request};
+use krb_gss::{Mechanism, WrapFault, Wrapping, wrap_request};
 use krb_msg::Moment;
 use krb_name::{Principal, Sink, Source, TextFault, write_all};
 use std::alloc::{AllocError, Global};
@@ -203,7 +203,7 @@ fn options_of(asked: &Asked) -> RequestOptions
             mutual: asked.wants_reply,
             subkey: None,
             seq: Some(0),
-            context: Some(context_for(asked.wants_reply)),
+            context: Some(plain_context()),
         },
         None => RequestOptions {
             mutual: asked.wants_reply,
@@ -215,16 +215,11 @@ fn options_of(asked: &Asked) -> RequestOptions
 }
 
 // What the client of a token asks for.
-fn context_for(wants_reply: bool) -> ContextRequest
-    ensures { result ≡ context_for wants_reply }
+fn plain_context() -> ContextRequest
+    ensures { result ≡ plain_context }
 {
-    let flags = if wants_reply {
-        ContextFlag::Mutual.bit()
-    } else {
-        0
-    };
     ContextRequest {
-        flags,
+        flags: 0,
         bindings: [0; 16],
     }
 }
