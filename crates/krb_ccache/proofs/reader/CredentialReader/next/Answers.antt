@@ -1,6 +1,7 @@
 use Rattle.std.proofs.Common.{refl, sym, ap, subst, ◌∙◌}
 use Rattle.krb_ccache.specs.Reader.{Reading, HasRead, ended_passed}
 use Rattle.krb_ccache.proofs.ReaderLaws.{next_item, next_more, next_end, next_fault, next_stops, stays}
+use Rattle.krb_ccache.proofs.StepLaws.{step_limit}
 use Rattle.krb_ccache.proofs.reader.CredentialReader.next.Goals as goal
 
 pub returns-clause-item : goal.returns-clause-item
@@ -30,3 +31,6 @@ returns-clause-more g c = λ going.
 
 pub returns-clause-part : goal.returns-clause-part
 returns-clause-part g c = λ going. rw (← c.self.view_is) c.step-answer.ensures.part
+
+pub returns-clause-limit : goal.returns-clause-limit
+returns-clause-limit g c = step_limit c.self.inside.layout g.S.Source.remaining c.self.inside.window c.step-answer.new.window c.step-answer.result c.step-answer.ensures.step

@@ -1,6 +1,7 @@
 use Rattle.std.proofs.Common.{refl, sym, subst}
 use Rattle.krb_ccache.specs.Reader.{Reading, HasRead}
 use Rattle.krb_ccache.proofs.ReaderLaws.{passed_one, passed_end, passed_err, next_end, next_fault, next_stops, stays, on_err}
+use Rattle.krb_ccache.proofs.StepLaws.{step_limit}
 use Rattle.krb_ccache.proofs.reader.CredentialReader.pass.Goals as goal
 
 pub returns-clause-item : goal.returns-clause-item
@@ -34,3 +35,8 @@ returns-clause-stops g c = λ from cache h.
 
 pub returns-clause-part : goal.returns-clause-part
 returns-clause-part g c = λ going. rw (← c.self.view_is) (on_err g.S.Source.remaining c.self.inside.layout c.step_past-answer.result _ c.step_past-answer.ensures.part)
+
+pub returns-clause-limit : goal.returns-clause-limit
+returns-clause-limit g c =
+    let step = c.step_past-answer.ensures.step in
+    step_limit c.self.inside.layout g.S.Source.remaining c.self.inside.window c.step_past-answer.new.window step.0 step.2
