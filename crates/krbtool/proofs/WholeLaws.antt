@@ -1,12 +1,26 @@
 -- The bytes of a whole keytab that were taken from a source: what they are, and their fault.
-use Rattle.std.proofs.Common.{◌≡◌, ◌⊎◌, ◌<◌, ℕ, List, length, Option, Some, None, Result, Ok, Err, ap, sym, subst, arith, inl, inr}
+use Rattle.std.proofs.Common.{◌≡◌, ◌⊎◌, ◌<◌, ◌≤◌, ◌+◌, ℕ, Bool, true, false, List, length, Option, Some, None, Result, Ok, Err, ap, sym, subst, arith, inl, inr}
 use Rattle.std.specs.Prelude.{IfSome}
-use Rattle.krb_name.specs.File.{file_limit}
+use Rattle.krb_name.specs.File.{file_limit, TakesFile}
+use Rattle.krb_name.specs.Window.{AtHand, CameOf, Fills}
+use Rattle.krb_name.specs.declared.reading.ReadFault.{ReadFault}
 use Rattle.krb_keytab.specs.Entry.{KeytabEntry}
 use Rattle.krb_keytab.specs.Format.{IsAnswerOf, IsFaultOf, IsKeytab}
 use Rattle.krb_keytab.specs.declared.fault.KeytabFault.{KeytabFault}
 use Rattle.krb_keytab.specs.declared.fault.KeytabFault.TheVariants.{Version, Truncated, BadEntry, TooLong, NoSuchEntry, Read, OutOfMemory}
 use Rattle.krbtool.specs.Inner.Whole.{HoldsFile}
+
+-- ---- how much the source gave
+
+came_within : {E : Type 0} (answer : Result Bool E) (count : ℕ) (piece : List ℕ) (to : Option (List ℕ)) → CameOf answer count piece to → length piece ≤ count
+came_within (Ok true) count piece to came = omega (arith, came)
+came_within (Ok false) count piece to came = omega (arith, came.0)
+came_within (Err fault) count piece to came = omega (arith, came)
+
+pub fills_taken : {S : Type 0} (from to : Option (List ℕ)) (old new : AtHand S) (count : ℕ) (answer : Result Bool ReadFault) → count ≡ file_limit + 1 → Fills from to old new count answer → TakesFile from to
+fills_taken from to old new count answer whole f = let came = came_within answer count f.piece to f.came in record { piece = f.piece; taken = f.keeps.consumed; within = omega (arith, came, whole) }
+
+-- ---- what was taken of it
 
 -- a fault of too many bytes
 long_fault : (bytes more : List ℕ) (fault : KeytabFault) → file_limit < length bytes → file_limit < length more → IsFaultOf bytes fault
