@@ -1,7 +1,7 @@
 /* Fevstunik: the application exchange of Kerberos 5 (RFC 4120, section 3.2) with the encryption
  * types of RFC 8009, for C and C++.
  *
- * Each function calls a proved function of this repository; crates/krb_c has their contracts. Link
+ * Each function of the library calls a proved function of this repository; crates/krb_c has their contracts. (fevstunik_code_name and fevstunik_code_text are code of this header.) Link
  * with `pkg-config --libs fevstunik`. The library calls malloc, realloc, free and memory functions
  * of the C library, and nothing else.
  *
@@ -85,7 +85,7 @@ typedef enum fevstunik_code {
     FEVSTUNIK_TICKET_ETYPE = 130,            /* 14: the ticket's encryption type isn't 19 or 20 */
     FEVSTUNIK_NOT_US = 140,                  /* 35: the ticket is for a service that isn't served here */
     FEVSTUNIK_NO_KEY = 150,                  /* 45: no key of the ticket's encryption type is usable */
-    FEVSTUNIK_BAD_KEY_VERSION = 160,         /* 44: no key of that type has the ticket's version number */
+    FEVSTUNIK_BAD_KEY_VERSION = 160,         /* 44: no key of the ticket's encryption type has its version number */
     FEVSTUNIK_TICKET_INTEGRITY = 170,        /* 31: the key doesn't open the ticket */
     FEVSTUNIK_SESSION_KEY = 180,             /* 14: the ticket's session key isn't usable */
     FEVSTUNIK_AUTHENTICATOR_INTEGRITY = 190, /* 31: the session key doesn't open the authenticator */
@@ -103,7 +103,7 @@ typedef enum fevstunik_code {
     FEVSTUNIK_SHORT_BUFFER = 401,   /* the buffer is too short: `size` bytes are needed */
     FEVSTUNIK_EMPTY_HANDLE = 402,   /* the handle is empty */
     FEVSTUNIK_NOTHING_THERE = 403,  /* nothing was accepted, nothing was refused, or there is no such moment */
-    FEVSTUNIK_TOO_LONG = 404,       /* a file, a request, an error, a name or a key is longer than its limit */
+    FEVSTUNIK_TOO_LONG = 404,       /* a file, a request, an error, a token, a name or a key is longer than its limit */
     FEVSTUNIK_BAD_SKEW = 410,       /* the skew is more than 86,400 seconds */
     FEVSTUNIK_BAD_MOMENT = 411,     /* the moment is outside the years 0000 to 9999, or has 1,000,000 microseconds or more */
     FEVSTUNIK_BAD_CONFOUNDER = 412, /* the confounder isn't 16 bytes long */
@@ -115,7 +115,7 @@ typedef enum fevstunik_code {
     FEVSTUNIK_FILE_VERSION = 500,   /* the file doesn't begin with 05 02 (a keytab), or with 05 03 or 05 04 (a cache) */
     FEVSTUNIK_FILE_HEADER = 501,    /* the header of the cache is malformed */
     FEVSTUNIK_FILE_TRUNCATED = 502, /* the keytab ends before the record at `at` does */
-    FEVSTUNIK_FILE_BAD_ITEM = 503,  /* the record at `at` holds no entry, or no principal or credential is at `at` */
+    FEVSTUNIK_FILE_BAD_ITEM = 503,  /* the record at `at` has no valid entry, or the principal or credential at `at` is invalid */
     FEVSTUNIK_NO_SUCH_ENTRY = 504,  /* the file or the request has no item of this index */
 
     /* Why no request is built. */
@@ -138,7 +138,7 @@ typedef enum fevstunik_code {
     FEVSTUNIK_NOT_UTF8 = 812,       /* the text isn't UTF-8 */
 
     /* Why bytes aren't a token of GSS-API, or a checksum of such a client. */
-    FEVSTUNIK_NOT_A_TOKEN = 900,        /* the first byte is that of no token */
+    FEVSTUNIK_NOT_A_TOKEN = 900,        /* the first byte isn't that of a token */
     FEVSTUNIK_TOKEN_MALFORMED = 901,    /* the bytes aren't a token; `at` is the place of the fault */
     FEVSTUNIK_TOKEN_CONTINUES = 902,    /* the token continues a negotiation, and doesn't begin one */
     FEVSTUNIK_TOKEN_EMPTY = 903,        /* the negotiation has no token of Kerberos; `at` is the place of its mechanism */
@@ -149,8 +149,8 @@ typedef enum fevstunik_code {
     FEVSTUNIK_NESTED_NEGOTIATION = 913, /* the mechanism at `at` is a nested negotiation */
     FEVSTUNIK_BAD_MECHANISM = 920,      /* the number of the mechanism is neither 1 nor 2 */
     FEVSTUNIK_CONTEXT_TRUNCATED = 930,  /* the checksum of type 0x8003 is cut off */
-    FEVSTUNIK_CONTEXT_BINDINGS = 931,   /* the length of the bindings in it isn't 16 */
-    FEVSTUNIK_CONTEXT_DELEGATION = 932  /* its delegation option isn't 1 */
+    FEVSTUNIK_CONTEXT_BINDINGS = 931,   /* the length of the bindings in the checksum of type 0x8003 isn't 16 */
+    FEVSTUNIK_CONTEXT_DELEGATION = 932  /* the delegation option in the checksum of type 0x8003 isn't 1 */
 } fevstunik_code;
 
 /* Returns the name of a code, such as "FEVSTUNIK_REPEAT", or "FEVSTUNIK_UNKNOWN" if the number
@@ -241,7 +241,7 @@ static inline const char *fevstunik_code_text(uint32_t code)
     case FEVSTUNIK_TICKET_ETYPE: return "the ticket's encryption type isn't 19 or 20";
     case FEVSTUNIK_NOT_US: return "the ticket is for a service that isn't served here";
     case FEVSTUNIK_NO_KEY: return "no key of the ticket's encryption type is usable";
-    case FEVSTUNIK_BAD_KEY_VERSION: return "no key of that type has the ticket's version number";
+    case FEVSTUNIK_BAD_KEY_VERSION: return "no key of the ticket's encryption type has its version number";
     case FEVSTUNIK_TICKET_INTEGRITY: return "the key doesn't open the ticket";
     case FEVSTUNIK_SESSION_KEY: return "the ticket's session key isn't usable";
     case FEVSTUNIK_AUTHENTICATOR_INTEGRITY: return "the session key doesn't open the authenticator";
@@ -257,7 +257,7 @@ static inline const char *fevstunik_code_text(uint32_t code)
     case FEVSTUNIK_SHORT_BUFFER: return "the buffer is too short: `size` bytes are needed";
     case FEVSTUNIK_EMPTY_HANDLE: return "the handle is empty";
     case FEVSTUNIK_NOTHING_THERE: return "nothing was accepted, nothing was refused, or there is no such moment";
-    case FEVSTUNIK_TOO_LONG: return "a file, a request, an error, a name or a key is longer than its limit";
+    case FEVSTUNIK_TOO_LONG: return "a file, a request, an error, a token, a name or a key is longer than its limit";
     case FEVSTUNIK_BAD_SKEW: return "the skew is more than 86,400 seconds";
     case FEVSTUNIK_BAD_MOMENT: return "the moment is outside the years 0000 to 9999, or has 1,000,000 microseconds or more";
     case FEVSTUNIK_BAD_CONFOUNDER: return "the confounder isn't 16 bytes long";
@@ -267,7 +267,7 @@ static inline const char *fevstunik_code_text(uint32_t code)
     case FEVSTUNIK_FILE_VERSION: return "the file doesn't begin with 05 02 (a keytab), or with 05 03 or 05 04 (a cache)";
     case FEVSTUNIK_FILE_HEADER: return "the header of the cache is malformed";
     case FEVSTUNIK_FILE_TRUNCATED: return "the keytab ends before the record at `at` does";
-    case FEVSTUNIK_FILE_BAD_ITEM: return "the record at `at` holds no entry, or no principal or credential is at `at`";
+    case FEVSTUNIK_FILE_BAD_ITEM: return "the record at `at` has no valid entry, or the principal or credential at `at` is invalid";
     case FEVSTUNIK_NO_SUCH_ENTRY: return "the file or the request has no item of this index";
     case FEVSTUNIK_NO_CREDENTIAL: return "the cache has no ticket of its default principal for the service";
     case FEVSTUNIK_NO_USABLE_KEY: return "no ticket for the service has a usable session key";
@@ -282,7 +282,7 @@ static inline const char *fevstunik_code_text(uint32_t code)
     case FEVSTUNIK_BAD_TEXT: return "the text isn't a valid name; `at` is the place of the fault";
     case FEVSTUNIK_NO_REALM: return "the text has no `@` without a backslash before it";
     case FEVSTUNIK_NOT_UTF8: return "the text isn't UTF-8";
-    case FEVSTUNIK_NOT_A_TOKEN: return "the first byte is that of no token";
+    case FEVSTUNIK_NOT_A_TOKEN: return "the first byte isn't that of a token";
     case FEVSTUNIK_TOKEN_MALFORMED: return "the bytes aren't a token; `at` is the place of the fault";
     case FEVSTUNIK_TOKEN_CONTINUES: return "the token continues a negotiation, and doesn't begin one";
     case FEVSTUNIK_TOKEN_EMPTY: return "the negotiation has no token of Kerberos; `at` is the place of its mechanism";
@@ -293,8 +293,8 @@ static inline const char *fevstunik_code_text(uint32_t code)
     case FEVSTUNIK_NESTED_NEGOTIATION: return "the mechanism at `at` is a nested negotiation";
     case FEVSTUNIK_BAD_MECHANISM: return "the number of the mechanism is neither 1 nor 2";
     case FEVSTUNIK_CONTEXT_TRUNCATED: return "the checksum of type 0x8003 is cut off";
-    case FEVSTUNIK_CONTEXT_BINDINGS: return "the length of the bindings in it isn't 16";
-    case FEVSTUNIK_CONTEXT_DELEGATION: return "its delegation option isn't 1";
+    case FEVSTUNIK_CONTEXT_BINDINGS: return "the length of the bindings in the checksum of type 0x8003 isn't 16";
+    case FEVSTUNIK_CONTEXT_DELEGATION: return "the delegation option in the checksum of type 0x8003 isn't 1";
     default: return "an unknown code";
     }
 }
@@ -421,7 +421,7 @@ typedef struct fevstunik_owner {
     bool has_offset;        /* whether the cache has an offset */
 } fevstunik_owner;
 
-/* The names that tokens of GSS-API give Kerberos. */
+/* The object identifiers by which tokens of GSS-API name Kerberos. */
 typedef enum fevstunik_mechanism {
     FEVSTUNIK_MECHANISM_NONE = 0,     /* no name */
     FEVSTUNIK_MECHANISM_KERBEROS = 1, /* 1.2.840.113554.1.2.2 (RFC 4121) */
@@ -430,8 +430,8 @@ typedef enum fevstunik_mechanism {
 
 /* What a request, and the answer to it, is wrapped in. */
 typedef struct fevstunik_wrapped {
-    uint32_t mechanism;  /* the name that the token gives Kerberos: a fevstunik_mechanism, not NONE */
-    uint32_t negotiated; /* the name that a negotiation (SPNEGO) has first; NONE if there is no negotiation */
+    uint32_t mechanism;  /* by which the token names Kerberos: a fevstunik_mechanism, not NONE */
+    uint32_t negotiated; /* that a negotiation (SPNEGO) names first; NONE if there is no negotiation */
 } fevstunik_wrapped;
 
 /* What a client of GSS-API asks for. The spans are places in the buffer that the call was given. */
@@ -542,7 +542,7 @@ void fevstunik_keytab_free(fevstunik_keytab *keytab);
  * configuration entries count too.
  *
  * Returns FEVSTUNIK_OK; or leaves the handle unchanged and returns the first that applies:
- * FEVSTUNIK_TOO_LONG, _FILE_VERSION, _FILE_HEADER, _FILE_BAD_ITEM or FEVSTUNIK_OUT_OF_MEMORY.
+ * FEVSTUNIK_TOO_LONG, _FILE_VERSION, _FILE_HEADER, _FILE_BAD_ITEM, or, only if the bytes are a cache, FEVSTUNIK_OUT_OF_MEMORY.
  *
  *     fevstunik_cache cache = FEVSTUNIK_CACHE_INIT;
  *     answer = fevstunik_cache_new(&cache, file, file_size);
@@ -637,8 +637,7 @@ fevstunik_answer fevstunik_name_check(const uint8_t *name, size_t name_size);
 /* ---- the service's side ---- */
 
 /* Makes a service that has seen no request, and stores it in the handle. The service uses the keys
- * of a keytab (the bytes of a file of version 0x0502). `skew` is by how many seconds clocks may
- * differ (300 is usual). What the handle held is freed: a service made in a used handle forgets
+ * of a keytab (the bytes of a file of version 0x0502). `skew` is the number of seconds by which clocks may differ (300 is usual). What the handle held is freed: a service made in a used handle forgets
  * what the old one has seen. The keytab's bytes aren't needed afterwards.
  *
  * `service` is the text of the one name that is served, such as host/web@EX: a ticket for any other
@@ -725,9 +724,7 @@ fevstunik_answer fevstunik_accepted_new(fevstunik_accepted *accepted);
  * service also keeps the cause of a refusal until a call decides another request or has an invalid
  * moment, and fevstunik_acceptor_error builds the error from that.
  *
- * Returns FEVSTUNIK_OK; a cause from FEVSTUNIK_MESSAGE_TYPE to FEVSTUNIK_AUTHORIZATION;
- * FEVSTUNIK_BAD_MOMENT; FEVSTUNIK_EMPTY_HANDLE if either handle is empty; or
- * FEVSTUNIK_OUT_OF_MEMORY. FEVSTUNIK_EMPTY_HANDLE leaves the service unchanged.
+ * Returns FEVSTUNIK_OK, or the first that applies: FEVSTUNIK_BAD_MOMENT; FEVSTUNIK_EMPTY_HANDLE if either handle is empty; or a cause from FEVSTUNIK_MESSAGE_TYPE to FEVSTUNIK_AUTHORIZATION, or FEVSTUNIK_OUT_OF_MEMORY. FEVSTUNIK_EMPTY_HANDLE leaves the service unchanged.
  * FEVSTUNIK_BAD_MOMENT and FEVSTUNIK_OUT_OF_MEMORY leave what is remembered and the latest moment
  * unchanged.
  *
@@ -761,8 +758,7 @@ fevstunik_answer fevstunik_accepted_known(const fevstunik_accepted *accepted, fe
  * service, client and time. Use it if several instances of a service share a store: let the client
  * in only if the store adds the stamp, in one step, and says that it was new; and have the store
  * keep it until `keep_until`, rounded up. That is the client's time plus twice `skew`, in seconds;
- * `skew` is the largest of all instances. Look at the clock again after the store's answer, and
- * refuse the request if its time is then past by more than the skew. docs/OPERATING.md says why.
+ * `skew` is the largest of all instances. Read the clock again after the store's answer, and refuse the request if the clock is then later than the request's time by more than the skew. docs/OPERATING.md says why.
  * `keep_until` is written even if the buffer is too short.
  *
  * Returns FEVSTUNIK_OK or FEVSTUNIK_SHORT_BUFFER; or writes nothing and returns
@@ -787,7 +783,7 @@ fevstunik_answer fevstunik_accepted_stamp(const fevstunik_accepted *accepted, ui
 fevstunik_answer fevstunik_accepted_start(const fevstunik_accepted *accepted, fevstunik_time *start);
 
 /* Counts the items of a list of the accepted request. `list` is a fevstunik_list, and `size` is the
- * number of its items. A list that the request has may have no items. The call allocates no memory.
+ * number of its items. A list that the request has may be empty. The call allocates no memory.
  *
  * Returns FEVSTUNIK_OK, FEVSTUNIK_EMPTY_HANDLE, FEVSTUNIK_NOTHING_THERE, or FEVSTUNIK_NO_SUCH_ENTRY
  * if the request doesn't have the list.

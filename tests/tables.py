@@ -153,7 +153,7 @@ def contexts():
 
 
 def example():
-    """The files that README's example runs on."""
+    """The files that the example of LIBRARY.md runs on."""
     found = [(TOP / "crates/krb_example/data" / name).read_bytes() for name in ("service.keytab", "client.ccache", "request")]
     return same(found, [fixture.keytab(), fixture.cache(), fixture.request()])
 

@@ -3,7 +3,7 @@
  *
  *     client CACHE NAME PORT TEXT [twice]      NAME as host/web@EX; with `twice` it sends the same request again
  *
- * It prints `agreed as CLIENT` for each request, or `no receipt`, or `refused`, where the service answers something else than a reply. */
+ * It prints `agreed as CLIENT` for each request, or `no receipt`, or `refused` if the service answers with anything but a reply. */
 #include "sources.h"
 
 /* Its subkey's encryption type, and how many bytes such a key has. */

@@ -4,7 +4,7 @@
  *     service KEYTAB NAME COUNT [first]      NAME as host/web@EX; it ends after so many connections
  *
  * It may have run before, so it is quiet at first: until the skew has passed, it refuses requests as FEVSTUNIK_JUST_STARTED. With `first`
- * it had no earlier life, and accepts at once.
+ * it never ran before, and accepts at once.
  * It prints its port first, and then a line for each connection: `CLIENT: TEXT`, or `refused CODE` with the code's name. */
 #include "sources.h"
 
@@ -52,7 +52,7 @@ static void converse(const fevstunik_accepted *accepted, int peer)
     if (answer.code == FEVSTUNIK_OK && confirm(peer, &known, bytes, plain, answer.size))
         printf("%.*s: %.*s\n", (int)known.client.size, (const char *)bytes + known.client.at, (int)answer.size, (const char *)plain);
     else
-        printf("a bent text\n");
+        printf("a damaged text\n");
 }
 
 static void serve(fevstunik_acceptor *service, fevstunik_accepted *accepted, const char *name, int peer)

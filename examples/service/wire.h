@@ -87,7 +87,7 @@ static inline int receive_all(int from, uint8_t *at, size_t size)
     return 1;
 }
 
-/* Receives a message; answers 0 where there is none. */
+/* Receives a message; returns 0 if there is none. */
 static inline int receive(int from, struct bytes *bytes)
 {
     uint8_t head[4];

@@ -89,8 +89,8 @@ def make_request(cache: CredentialCache, service: str, *, now: When | None = Non
 
     cache        has a ticket of its owner for the service
     service      the service's name, as ``host/web@EX``
-    now          the client's clock. By default the machine's, and then no two requests of this process have the same moment, unless the clock
-                 is set back. Else see to that yourself: a service refuses the second of two requests with one moment
+    now          the client's clock. By default the machine's clock. Then no two requests of this process have the same moment, unless the
+                 clock is set back. If you pass `now`, never pass one moment twice: a service refuses the second request
     subkey       a key that the client chooses, as Key.random(20), or None
     seq          the client's first sequence number, or None
     wants_reply  whether to ask the service for a reply
@@ -98,7 +98,7 @@ def make_request(cache: CredentialCache, service: str, *, now: When | None = Non
                  is set exactly if a reply is asked for, and DELEGATION never. The sequence number is random unless `seq` is given
     bindings     the bindings of such a client's channel, as ``b"tls-server-end-point:" + hash``, or None
 
-    If there is no request, raises the Fault NO_CREDENTIAL, NO_USABLE_KEY or CREDENTIAL_EXPIRED (no ticket fits), BAD_TICKET or TOO_LONG.
+    Raises Fault if no request can be built: NO_CREDENTIAL, NO_USABLE_KEY or CREDENTIAL_EXPIRED (no ticket fits), BAD_TICKET or TOO_LONG.
 
     >>> from fevstunik import CredentialCache, make_request
     >>> with CredentialCache.read("examples/client.ccache") as cache:

@@ -33,7 +33,7 @@ class Error(Exception):
 
 
 class Fault(Error):
-    """A file, a name, a key, a number or a reply is invalid, or there is no ticket for a request.
+    """A file, a name, a key, a number, a reply, a token or a checksum is invalid, or there is no ticket for a request.
 
     >>> from fevstunik import Fault, Keytab
     >>> try:

@@ -86,7 +86,7 @@ class Accepted:
     service                      the service that was asked for, as ``host/web@EX``
     time                         the client's time
     authtime                     when the client was authenticated, in seconds
-    starttime                    when the ticket becomes valid, in seconds, or None: from authtime on
+    starttime                    when the ticket becomes valid, in seconds, or None if the ticket doesn't say: then from authtime on
     endtime                      when the ticket expires, in seconds
     flags                        the ticket's flags
     session_key                  the key that client and service share
@@ -236,11 +236,12 @@ class Acceptor:
 
     keytab   its keys
     service  the name that is served, as ``host/web@EX``, or None for each name of the keytab. Name it if the keytab has keys of several
-             names. The name in a ticket isn't sealed: if two names share a key, a recorded request is accepted once for each
+             names. The name in a ticket isn't encrypted: if two names share a key, a recorded request is accepted once for each
     skew     by how many seconds clocks may differ
     started  the service's clock at this start, as time.time(). A restarted service has forgotten what it accepted, so it is quiet at first:
              until the skew has passed, it refuses requests with the cause JUST_STARTED. Pass None only for a service that never ran before,
-             or whose instances share a store: it accepts at once, and would accept again what an earlier run accepted
+             or whose instances share a store that has been used since the first start and has lost nothing. It accepts at once, and would
+             accept again what an earlier run accepted
 
     Make one and keep it. Any thread may call it. A lock lets one decision run at a time; what was accepted is read without that lock. An
     Acceptor belongs to the process that made it: after a fork, the child's calls raise RuntimeError.

@@ -54,8 +54,8 @@ class Token:
     """The first token of a client, and what its answer is wrapped in.
 
     request     the request
-    mechanism   the name that the token gives Kerberos
-    negotiated  the name that a negotiation (SPNEGO) has first, or None if there is no negotiation
+    mechanism   the object identifier by which the token names Kerberos
+    negotiated  the one that a negotiation (SPNEGO) names first, or None if there is no negotiation
 
     >>> from fevstunik import Token, wrap_request
     >>> Token.open(wrap_request(b"a request"))
@@ -68,13 +68,13 @@ class Token:
 
     @classmethod
     def open(cls, token: Bytes) -> Token:
-        """Open the first token of a client. Bytes that aren't one raise Fault: NTLM, for example, if the client offers that.
+        """Open the first token of a client. Raises Fault for bytes that aren't one, for example if the client offers NTLM.
 
         >>> from fevstunik import Token
         >>> Token.open(b"NTLMSSP")
         Traceback (most recent call last):
             ...
-        fevstunik.Fault: NOT_A_TOKEN: the first byte is that of no token
+        fevstunik.Fault: NOT_A_TOKEN: the first byte isn't that of a token
         """
         token = octets(token)
         wrapped, request = read(_library.Wrapped, lambda *into: library().call("token_open", token, len(token), *into))

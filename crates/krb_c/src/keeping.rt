@@ -1,4 +1,4 @@
-//! Keytabs that are kept behind a handle.
+//! Keytabs that are kept in a handle.
 
 ghost use Rattle.std.specs.Prelude.{◌≡◌, IfErr, IfOk, None};
 ghost use Rattle.krb_keytab.specs.Format.{IsKeytab};

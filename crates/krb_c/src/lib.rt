@@ -7,7 +7,7 @@
 //! [`Answer`](answer::Answer): a code, and what belongs to it. `specs/Answer` and `specs/Codes` say
 //! which code reports which fault.
 //!
-//! What outlives a call is kept behind a handle: one pointer that is null while the handle is
+//! What outlives a call is kept in a handle: one pointer that is null while the handle is
 //! empty. A [`Handle`](handle::Handle) has a service, a [`Slot`](slot::Slot) an accepted request, a
 //! [`CacheHandle`](cache_handle::CacheHandle) a credential cache, a
 //! [`KeytabHandle`](keytab_handle::KeytabHandle) a keytab, and a

@@ -1,4 +1,4 @@
-//! Calls that are made twice: where memory was refused to the first, the second shows that nothing has changed.
+//! Calls that are made twice: if memory was refused to the first, the second shows that nothing has changed.
 
 use crate::given::{CONFOUNDER, cache, entry, keytab, keytab_file, moment, request};
 use krb_ap::{Acceptor, Agreed, Call, FinishFault, Outcome, Pending, Refusal, ReplyOptions};

@@ -7,7 +7,7 @@
 //!     makes calls of many sizes, and prints how many gave what they should, and how many didn't
 //! ```
 //!
-//! It reads `service.keytab` and `client.ccache` where it runs. Its status is 2 where it couldn't make a call, or not tell of it.
+//! It reads `service.keytab` and `client.ccache` where it runs. Its status is 2 if it couldn't make a call, or couldn't print its answer.
 #![tactic(auto)]
 
 mod calls;

@@ -244,7 +244,7 @@ const REFUSALS: [Refusal; 16] = [
     Refusal::Authorization,
 ];
 
-/// The error of each code is built, and tells it.
+/// The error of each code is built, and has that code.
 pub(crate) fn errors(rt: &HostRuntime) -> Option<()> {
     let service = service(rt.alloc())?;
     let mut tally = Tally::new();

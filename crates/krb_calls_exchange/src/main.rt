@@ -9,7 +9,7 @@
 //!
 //! ```text
 //! service list|timed SKEW BYTES [TIME]  a service over this keytab, with a new memory, which was started again at that time: `service`,
-//!                                       the keytab's fault, or `none` where there is no such skew
+//!                                       the keytab's fault, or `none` if there is no such skew
 //! accept TIME MESSAGE                   what it answers to a request: `refused CAUSE [FAULT]`, or `accepted CLIENT SERVICE KEY FLAGS
 //!                                       AUTHTIME STARTTIME|none ENDTIME ADDRESSES AUTHORIZATION CTIME CUSEC SUBKEY NUMBER CHECKSUM AUTHORIZATION
 //!                                       mutual|plain`, first of the ticket's data, then of the authenticator's
@@ -18,7 +18,7 @@
 //! stamp                                 the bytes of the tuple of the request that was accepted last
 //! held                                  how many tuples its memory has, and the latest moment
 //! reply BYTES KEY|none NUMBER|none      the reply to the request that was accepted last, with this confounder
-//! error CAUSE TIME NAME                 the error that tells of a refusal, or why there is none
+//! error CAUSE TIME NAME                 the error that reports a refusal, or why there is none
 //! cache BYTES                           a client's cache: `cache`, or its fault
 //! request NAME TIME BYTES plain|mutual KEY|none NUMBER|none [FLAGS/BINDINGS]      the request for a service, with this confounder; or `refused
 //!                                       FAULT`

@@ -4,7 +4,7 @@
 //! `new` drops what earlier lines made, and is answered `new`. Any other line is a layer, a call of it, and the call's arguments, as the
 //! functions `answer` of `blocks`, `codes`, `sealing`, `elements`, `cursors`, `writers` and `messages` list them. A line that can't be
 //! read is answered `bad line`. Numbers are decimal, times are seconds from 1970-01-01T00:00:00Z on, and bytes are hexadecimal digits:
-//! `-` where there are none, `HEX*N` for HEX N times, several such joined by `+`. An answer shows more than 1,024 bytes as
+//! `-` if there are none, `HEX*N` for HEX N times, several such joined by `+`. An answer shows more than 1,024 bytes as
 //! `#LENGTH:SHA256`. A fault is shown by its text, as `Tag at 5`; a field that is left out is `none`; a list stands in `[` and `]`.
 #![tactic(auto)]
 

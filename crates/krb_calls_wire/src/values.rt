@@ -8,7 +8,7 @@ use krb_words::{Answer, Words};
 use std::alloc::Global;
 
 /// ```text
-/// der seconds|microseconds NUMBER       the number, or none where it is no such value
+/// der seconds|microseconds NUMBER       the number, or none if it is no such value
 /// der flags                             the bits of no flags
 /// der flag BIT                          the bits of flags with only this one
 /// der has BITS BIT                      whether this one is among them

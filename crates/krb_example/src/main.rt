@@ -1,4 +1,4 @@
-//! A service and a client in small. README.md shows this file in parts.
+//! A small service and a small client. docs/LIBRARY.md shows this file in parts.
 #![tactic(auto)]
 
 use anyhow::{Context, Result, anyhow};
@@ -41,7 +41,7 @@ fn greet(
     Ok(())
 }
 
-/// Asks the service for the client of a cache, who wants to know that it is the service who answers.
+/// Sends the service a request from the client of a cache, which asks for a reply.
 fn ask(
     alloc: Global,
     cache: &CCache,
@@ -74,7 +74,7 @@ fn read_keytab(rt: &HostRuntime) -> Result<Keytab> {
     Ok(Keytab::read(rt.alloc(), &mut ReadSource::new(file))?)
 }
 
-/// Starts a service, which two requests come to: the same bytes twice.
+/// Starts a service and gives it two requests: the same bytes twice.
 fn serve_twice(rt: &HostRuntime, keytab: Keytab, request: &[u8]) -> Result<Acceptor<TimedMemory>> {
     let skew = Skew::new(300).context("at most a day")?;
     let mut service = Acceptor::new(keytab, skew, TimedMemory::new(rt.alloc()));

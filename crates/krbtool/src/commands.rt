@@ -16,7 +16,7 @@ macro_rules! with_statuses {
             $text,
             "\n\nExit status: 0 for success, 1 ",
             $refused,
-            ", 2 if the command line is wrong, 3 if something can't be opened, read or written, or memory ran out"
+            ", 2 if the command line is wrong or memory ran out while it was read, 3 if something can't be opened, read or written, or memory ran out"
         )
     };
 }
@@ -73,13 +73,13 @@ const CHECK_CCACHE: Help<'static> = Help {
 };
 
 const CONVERT_KEYTAB: Help<'static> = Help {
-    about: "Writes a keytab again, without holes and without what follows its end word",
+    about: "Writes a copy of a keytab, without holes and without what follows its end word",
     file: KEYTAB,
     end: of_faulty_file!("Prints 'wrote COUNT', the number of bytes."),
 };
 
 const CONVERT_CCACHE: Help<'static> = Help {
-    about: "Writes a credential cache again, as one of version 0x0504",
+    about: "Writes a copy of a credential cache, in version 0x0504",
     file: CCACHE,
     end: of_faulty_file!("Prints 'wrote COUNT', the number of bytes."),
 };
@@ -103,7 +103,7 @@ const FINISH: Help<'static> = Help {
 };
 
 const ACCEPT: Help<'static> = Help {
-    about: "Answers requests: for each line SECONDS MICROS HEX [CONFOUNDER] of standard input, whether a service accepts it",
+    about: "Answers requests: says for each line SECONDS MICROS HEX [CONFOUNDER] of standard input whether a service accepts it",
     file: "The service's keytab",
     end: with_statuses!(
         "A line of input: the service's clock (seconds since 1970-01-01, and microseconds), the request in hexadecimal (- for no bytes), and a confounder for the reply (32 digits). Its answer:\n  accepted CLIENT ENCTYPE SECONDS MICROS plain|mutual [reply HEX]\n  refused CODE NAME [error HEX]\n  bad token FAULT at OFFSET (with --tokens)\n  bad line\nEach run remembers only its own requests.",
@@ -121,7 +121,7 @@ const PICK_KEY: Help<'static> = Help {
 };
 
 const REMOVE_KEY: Help<'static> = Help {
-    about: "Writes a keytab again, with a hole in place of one entry",
+    about: "Writes a copy of a keytab, with a hole in place of one entry",
     file: KEYTAB,
     end: with_statuses!(
         "Prints 'wrote COUNT', the number of bytes. If there is no such entry, the fault is NoSuchEntry.",
@@ -130,7 +130,7 @@ const REMOVE_KEY: Help<'static> = Help {
 };
 
 const ADD_KEYS: Help<'static> = Help {
-    about: "Writes a keytab again, with the keys of another that it doesn't have yet",
+    about: "Writes a copy of a keytab, with the keys of another that it doesn't have yet",
     file: KEYTAB,
     end: with_statuses!(
         "Prints 'wrote COUNT', the number of bytes. A key of FROM is left out if KEYTAB has its name, encryption type, version number and bytes already.",
@@ -492,7 +492,7 @@ fn list_ccache_command<'a>(alloc: Global) -> Result<Command<'a>, AllocError>
         alloc,
         "now",
         253_402_300_799,
-        "Marks the tickets that ended before then: seconds since 1970-01-01. Needs --readable",
+        "A time in seconds since 1970-01-01: marks the tickets that ended before it. Needs --readable",
     );
     let now = needing_another(moment, "readable")?;
     of_file_command(alloc, "list-ccache", &LIST_CCACHE)?

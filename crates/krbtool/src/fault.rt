@@ -16,17 +16,17 @@ use thiserror::Error;
 /// Why an engine ended early.
 #[derive(Clone, Copy, Debug, PartialEq, Eq, Error)]
 pub enum EngineFault {
-    /// The keytab couldn't be read, there was no room for it, what was read is none, or what is to be
-    /// written of it would be too long.
+    /// The keytab couldn't be read, memory ran out for it, what was read isn't a keytab, or what is to
+    /// be written of it would be too long.
     #[error("{0}")]
     Keytab(KeytabFault),
     /// The keytab whose keys are added couldn't be read, or isn't one, or memory ran out for it.
     #[error("{0}")]
     Added(KeytabFault),
-    /// The credential cache couldn't be read, there was no room for it, or what was read is none.
+    /// The credential cache couldn't be read, memory ran out for it, or what was read isn't one.
     #[error("{0}")]
     Cache(CacheFault),
-    /// No request is built with the credential cache, or there was no room for it.
+    /// No request is built with the credential cache, or memory ran out for it.
     #[error("{0}")]
     Request(RequestFault),
     /// No entry of the keytab is picked.

@@ -119,7 +119,7 @@ pub fn request_line<S: Source, T: Sink>(
         → S.remaining source.old ≡ Some bytes → IsCache bytes cache
         → PreventsAsked cache asked.now fault → OnOk result ⊥ }
 
-    // Where there is no request, the sink is as it was; at any other fault it took a beginning of the line.
+    // If there is no request, the sink is unchanged; after any other fault it took a prefix of the line.
     ensures unread { (fault : CacheFault) → result ≡ Err (EngineFault.Cache fault)
         → Keeps (T.taken sink.old) (T.taken sink.new) }
     ensures unmade { (fault : RequestFault) → result ≡ Err (EngineFault.Request fault)
