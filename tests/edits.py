@@ -24,8 +24,9 @@ see of one (its head, or a const fn), since its group could be refused for it.
 
 An edit fails, by name, where it doesn't apply, doesn't compile or can't be read, where its crate stays proved, and where only
 a proof file is refused, for a name that the edit took away. Once all edits of a crate are refused, its line is written to the lock; if one
-isn't, its line goes. Edits that are refused only since a term of an answer file no longer fits are named: the checker says nothing of the goal
-then, so that another answer might prove it. The last line is 'N passed, M failed', of the edits that were tried.
+isn't, its line goes. An edit that is refused only since a term of an answer file no longer fits says nothing of the goal: another answer
+might prove it. So it is tried once more without these answers. The checker then tries to prove the goal itself, and has to leave it open: if
+it proves it, the edit isn't refused. Those of which it names no goal even then are named. The last line is 'N passed, M failed', of the edits that were tried.
 """
 import argparse
 import os
@@ -72,8 +73,8 @@ class Edit:
         self.is_outside = self.is_seen = False
         # what came of it: 'refused', or a fault's words
         self.outcome, self.told = None, ""
-        # whether it is refused by nothing but terms of an answer file that no longer fit
-        self.by_terms = False
+        # whether it is refused by nothing but terms of answer files that no longer fit, and these answers: files and names
+        self.by_terms, self.misfits = False, set()
         self.read()
         if not self.fault:
             self.look()
@@ -130,7 +131,28 @@ class Edit:
 
     def end(self, outcome, told="", goals=()):
         self.outcome, self.told = outcome, told
-        self.by_terms = bool(goals) and all(it.startswith(("proofs/", "./proofs/")) and TERMS_ALONE.search(it) for it in goals)
+        self.by_terms = bool(goals) and all(is_of_terms(it) for it in goals)
+        self.misfits = {found.groups() for found in map(MISFIT.match, goals) if found} if self.by_terms else set()
+
+
+def is_of_terms(line):
+    """Returns whether a line says only that a term of an answer file no longer fits."""
+    return line.startswith(("proofs/", "./proofs/")) and bool(TERMS_ALONE.search(line))
+
+
+def without(text, names):
+    """Returns the text of an answer file without these answers."""
+    blocks = re.split(r"\n(?=pub \S+ :)", text)
+    return "\n".join(it for it in blocks if not any(it.startswith(f"pub {name} :") for name in names))
+
+
+def without_misfits(crate, edits):
+    """Returns the texts of the answer files without the answers that no longer fit these edits."""
+    names = defaultdict(set)
+    for path, name in set().union(*(it.misfits for it in edits)):
+        names[path].add(name)
+    texts = joined(crate, edits)
+    return {path: without(texts.get(path, crate.texts[path]), names[path]) for path in names}
 
 
 def around(text, functions):
@@ -337,6 +359,8 @@ def run(words, folder):
 
 # What an answer file is told if a term of it no longer fits: that says nothing of the goal.
 TERMS_ALONE = re.compile(r"the two types (?:first )?differ|the two types are|list the missing equation|no occurrence of the path's left endpoint|expected type")
+# An answer that such a line is about: its file and its name.
+MISFIT = re.compile(r"(?:\./)?(proofs/\S+?):\d+:\d+: error: `([^`]+)`: ")
 NAMES_ALONE = re.compile(r"has no field|is not in scope|has no `|was not admitted|which was rejected, was not checked")
 UNREADABLE = re.compile(r"is not in scope|has no field|is no name|operand is missing|expected the end|cannot continue")
 
@@ -412,15 +436,15 @@ class Runner:
             self.seconds += seconds
         return Said(crate, status, text).is_proved
 
-    def check(self, crate, edits):
-        """Checks a copy of the crate with these edits, and returns what that said."""
+    def check(self, crate, edits, texts=None):
+        """Checks a copy of the crate with these edits, and then these texts, and returns what that said."""
         with self.lock:
             self.count += 1
             number = self.count
         self.lanes.enter(number, crate.need())
         try:
             with tempfile.TemporaryDirectory(prefix="edits-") as room:
-                copy_of(crate, room, joined(crate, edits))
+                copy_of(crate, room, {**joined(crate, edits), **(texts or {})})
                 status, text, seconds, memory = run(crate.words("kept"), room)
         finally:
             self.lanes.leave(number)
@@ -508,6 +532,20 @@ class Runner:
         found = [self.together(crate, edits[:half]), self.together(crate, edits[half:])]
         return [it for later, _ in found for it in later], [it for _, lone in found for it in lone]
 
+    def by_goals(self, crate, edits):
+        """Tries edits again without the answers whose terms no longer fit, and returns those of which that says nothing."""
+        said, silent = self.check(crate, edits, without_misfits(crate, edits)), []
+        for it in edits:
+            names = self.names(it)
+            open_names = [name for name in names if not said.state.get(name, "").startswith("proved")]
+            if any(not is_of_terms(line) for name in open_names for line in said.goals[name]):
+                it.by_terms = False
+            elif said.state and names and not open_names:
+                it.end("isn't refused: without the answers whose terms no longer fit, the checker proves its functions")
+            else:
+                silent.append(it)
+        return silent
+
     def work(self, crate, pool, report, is_proved):
         """Tries all edits of a crate, once it is proved as it is. Rounds go on while each refuses some."""
         ready = [it for it in crate.edits if not it.fault]
@@ -531,6 +569,10 @@ class Runner:
             left = again
         for it in tried:
             it.result()
+        for groups in (groups_of, lambda edits: [[it] for it in edits]):
+            terms = [it for it in ready if it.by_terms and it.misfits]
+            for it in [pool.submit(self.by_goals, crate, group) for group in groups(terms)]:
+                it.result()
         report(crate)
 
 
