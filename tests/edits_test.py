@@ -44,6 +44,14 @@ pub fn six_times(n: u32) -> u32
     third + third + third
 }
 
+pub fn three_times(n: u32) -> u32
+    requires small { n ≤ 500 }
+    ensures { result ≡ n * 3 }
+{
+    let two = twice(n);
+    two + n
+}
+
 pub fn part(n: u32) -> u32
     ensures { result ≤ n }
 {
@@ -72,6 +80,14 @@ pub returns : goal.returns
 returns c = let is = c.twice-third.ensures in search rules
 """
 
+# the answer is a term that fits no other order of the sum
+TERM = """use Rattle.std.proofs.Common.{◌≡◌, ◌+◌, ℕ, ap, ◌∙◌, arith}
+use Rattle.sample.proofs.three_times.Goals as goal
+
+pub returns : goal.returns
+returns c = ap (λ (k : ℕ). k + c.args.n) c.twice-two.ensures ∙ omega arith
+"""
+
 # an edit's name, what it replaces by what, and what the runner has to say of it (in a run of all of them)
 EDITS = [
     ("twice_and_one", "    n + n", "    n + n + 1", None),
@@ -86,6 +102,9 @@ EDITS = [
     ("most_is_more", "const MOST: u32 = 1000;", "const MOST: u32 = 1001;", None),
     ("six_times_without_the_call", "    let third = twice(n);", "    let third = n + n;", "is refused only because a proof file names"),
     ("six_times_is_four_times", "    third + third + third", "    third + third", None),
+    # of both the answer no longer fits, and one is right
+    ("three_times_the_other_way_round", "    two + n", "    n + two", "isn't refused: without the answers"),
+    ("three_times_is_four_times", "    two + n", "    two + two", None),
     ("of_a_text_that_is_gone", "    n + n + n", "    0", "doesn't apply"),
     ("next_asks_for_more", "    ensures { result ≡ n + 1 }", "    ensures { result ≡ n + 1 + }", "can't be read"),
 ]
@@ -95,7 +114,7 @@ def made(room, edits):
     """Makes a repository of the crate and these edits."""
     crate = f"{room}/crates/sample"
     files = {f"{room}/crates.txt": "sample:\n", f"{room}/HANDLES": "Handles allowed: none.\n"}
-    files |= {f"{crate}/src/lib.rt": SOURCE, f"{crate}/proofs/six_times/Answers.antt": ANSWERS}
+    files |= {f"{crate}/src/lib.rt": SOURCE, f"{crate}/proofs/six_times/Answers.antt": ANSWERS, f"{crate}/proofs/three_times/Answers.antt": TERM}
     files |= {f"{crate}/edits/{name}.edit": f"file: src/lib.rt\nold: {old}\nnew: {new}\n" for name, old, new, _ in edits}
     for path, text in files.items():
         os.makedirs(os.path.dirname(path), exist_ok=True)
