@@ -15,8 +15,8 @@
  *  - Any thread may make a call, but only one call at a time may use a handle, even a const one. Put
  *    a lock around calls that share a handle. Two handles share nothing, in one process or in two.
  *    After a fork the child's handles are copies, and the child must not use them. A call that takes
- *    a const handle may write to it while it runs, and leaves it unchanged when it returns. So no
- *    handle is defined as const.
+ *    a const handle may write to it while it runs, and leaves it unchanged when it returns. So
+ *    never define a handle as const.
  *  - Pointers are valid. Only a pointer to bytes whose size is 0 may be NULL (this is tested, not
  *    proved).
  *  - What a call writes to (its handle, its buffer, its other results) overlaps nothing else that
@@ -147,7 +147,7 @@ typedef enum fevstunik_code {
     FEVSTUNIK_NTLM = 911,               /* the mechanism at `at` is NTLM */
     FEVSTUNIK_IAKERB = 912,             /* the mechanism at `at` is IAKERB */
     FEVSTUNIK_NESTED_NEGOTIATION = 913, /* the mechanism at `at` is a nested negotiation */
-    FEVSTUNIK_BAD_MECHANISM = 920,      /* the number of the mechanism is neither 1 nor 2 */
+    FEVSTUNIK_BAD_MECHANISM = 920,      /* the number isn't that of a mechanism */
     FEVSTUNIK_CONTEXT_TRUNCATED = 930,  /* the checksum of type 0x8003 is cut off */
     FEVSTUNIK_CONTEXT_BINDINGS = 931,   /* the length of the bindings in the checksum of type 0x8003 isn't 16 */
     FEVSTUNIK_CONTEXT_DELEGATION = 932  /* the delegation option in the checksum of type 0x8003 isn't 1 */
@@ -291,7 +291,7 @@ static inline const char *fevstunik_code_text(uint32_t code)
     case FEVSTUNIK_NTLM: return "the mechanism at `at` is NTLM";
     case FEVSTUNIK_IAKERB: return "the mechanism at `at` is IAKERB";
     case FEVSTUNIK_NESTED_NEGOTIATION: return "the mechanism at `at` is a nested negotiation";
-    case FEVSTUNIK_BAD_MECHANISM: return "the number of the mechanism is neither 1 nor 2";
+    case FEVSTUNIK_BAD_MECHANISM: return "the number isn't that of a mechanism";
     case FEVSTUNIK_CONTEXT_TRUNCATED: return "the checksum of type 0x8003 is cut off";
     case FEVSTUNIK_CONTEXT_BINDINGS: return "the length of the bindings in the checksum of type 0x8003 isn't 16";
     case FEVSTUNIK_CONTEXT_DELEGATION: return "the delegation option in the checksum of type 0x8003 isn't 1";
@@ -430,8 +430,8 @@ typedef enum fevstunik_mechanism {
 
 /* What a request, and the answer to it, is wrapped in. */
 typedef struct fevstunik_wrapped {
-    uint32_t mechanism;  /* by which the token names Kerberos: a fevstunik_mechanism, not NONE */
-    uint32_t negotiated; /* that a negotiation (SPNEGO) names first; NONE if there is no negotiation */
+    uint32_t mechanism;  /* the mechanism by which the token names Kerberos: a fevstunik_mechanism, not NONE */
+    uint32_t negotiated; /* the mechanism that a negotiation (SPNEGO) names first; NONE if there is no negotiation */
 } fevstunik_wrapped;
 
 /* What a client of GSS-API asks for. The spans are places in the buffer that the call was given. */
@@ -644,12 +644,12 @@ fevstunik_answer fevstunik_name_check(const uint8_t *name, size_t name_size);
  * name is answered NOT_US. If `service_size` is 0, each name of the keytab is served. Name the
  * service if the keytab has keys of several names: otherwise clients with a ticket for any of these
  * names are let in.
- * The name in a ticket isn't sealed, so someone who records a request can write another name into
+ * The name in a ticket isn't encrypted, so someone who records a request can write another name into
  * it. If two served names have the same key, a recorded request is accepted once more under the
  * other name.
  *
  * Use this function only for a service that never ran before, or that shares a store of stamps
- * (fevstunik_accepted_stamp) which has been used since then and has lost nothing. After a restart
+ * (fevstunik_accepted_stamp) which has been used since the first start of any instance and has lost nothing. After a restart
  * use fevstunik_acceptor_started: a service that forgot its requests may accept one of them again.
  *
  * Returns FEVSTUNIK_OK; or leaves the handle unchanged and returns the first that applies:

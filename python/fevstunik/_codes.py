@@ -153,7 +153,7 @@ _TEXTS = {
     Code.NTLM: "the mechanism at `at` is NTLM",
     Code.IAKERB: "the mechanism at `at` is IAKERB",
     Code.NESTED_NEGOTIATION: "the mechanism at `at` is a nested negotiation",
-    Code.BAD_MECHANISM: "the number of the mechanism is neither 1 nor 2",
+    Code.BAD_MECHANISM: "the number isn't that of a mechanism",
     Code.CONTEXT_TRUNCATED: "the checksum of type 0x8003 is cut off",
     Code.CONTEXT_BINDINGS: "the length of the bindings in the checksum of type 0x8003 isn't 16",
     Code.CONTEXT_DELEGATION: "the delegation option in the checksum of type 0x8003 isn't 1",

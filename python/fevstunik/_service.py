@@ -128,6 +128,7 @@ class Accepted:
     authenticator_authorization: tuple[TypedData, ...]
     checksum: TypedData | None
     _handle: Handle = field(repr=False, compare=False)
+    _skew: int = field(repr=False, compare=False)
 
     @property
     def context(self) -> Context | None:
@@ -160,10 +161,10 @@ class Accepted:
         with self._handle.used() as pointer:
             return filled(lambda *into: self._handle.library.call("accepted_reply", pointer, confounder, CONFOUNDER, *choice, *into))
 
-    def stamp(self, skew: int = 300) -> Stamp:
+    def stamp(self, skew: int | None = None) -> Stamp:
         """Return the stamp of the request, for a store that several instances of the service share.
 
-        skew  the largest skew of all instances, in seconds
+        skew  the largest skew of all instances, in seconds; the acceptor's own by default
 
         >>> from fevstunik import Acceptor, Keytab
         >>> request = bytes.fromhex(open("examples/calls.txt").readline().split()[2])
@@ -174,7 +175,8 @@ class Accepted:
         """
         until = _library.Time()
         with self._handle.used() as pointer:
-            data = filled(lambda *into: self._handle.library.call("accepted_stamp", pointer, fitting(skew, 32), byref(until), *into))
+            largest = self._skew if skew is None else fitting(skew, 32)
+            data = filled(lambda *into: self._handle.library.call("accepted_stamp", pointer, largest, byref(until), *into))
         return Stamp(data, Moment(until.seconds, until.micros))
 
     def close(self) -> None:
@@ -194,7 +196,7 @@ class Accepted:
         self.close()
 
 
-def _accepted(handle: Handle) -> Accepted:
+def _accepted(handle: Handle, skew: int) -> Accepted:
     """What the handle holds, read as values."""
     with handle.used() as pointer:
         known, data = read(_library.Known, lambda *words: handle.library.call("accepted_known", pointer, *words))
@@ -209,7 +211,7 @@ def _accepted(handle: Handle) -> Accepted:
         seq=known.seq if known.has_seq else None, wants_reply=known.wants_reply,
         client_type=known.name_type, service_type=known.service_type, addresses=lists[_List.ADDRESSES],
         authorization=lists[_List.TICKET_AUTHORIZATION], authenticator_authorization=lists[_List.AUTHENTICATOR_AUTHORIZATION],
-        checksum=checksums[0] if checksums else None, _handle=handle)
+        checksum=checksums[0] if checksums else None, _handle=handle, _skew=skew)
 
 
 def _start(handle: Handle, pointer: object) -> int | None:
@@ -258,7 +260,7 @@ class Acceptor:
     def __init__(self, keytab: Keytab, service: str | None, skew: int = 300, *, started: When | None) -> None:
         name = _wanted(service)
         words = keytab.data, len(keytab.data), fitting(skew, 32), name, len(name)
-        self._handle = Handle("acceptor")
+        self._handle, self._skew = Handle("acceptor"), skew
         with self._handle.used() as pointer:
             if started is None:
                 done(self._handle.library.call("acceptor_new", pointer, *words))
@@ -287,7 +289,7 @@ class Acceptor:
                 at = clock(now)
                 answer = self._handle.library.call("acceptor_accept", pointer, into, request, len(request), byref(at))
         _decided(answer)
-        return _accepted(accepted)
+        return _accepted(accepted, self._skew)
 
     def replace_keytab(self, keytab: Keytab, service: str | None) -> None:
         """Take another keytab, for example with a changed key. What the service has seen is kept, so nothing is accepted twice.

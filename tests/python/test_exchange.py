@@ -117,6 +117,16 @@ def test_acceptors_that_are_none():
     assert fault_of(lambda: Acceptor(keytab, "ho\\st@EX", started=None)) == ("BAD_TEXT", 810, 0, 2)
 
 
+def test_stamps():
+    request = der.made()["mutual request with a subkey and a number"]
+    with Acceptor(Keytab(der.keytab()), SERVICE, 600, started=None) as service:
+        accepted = service.accept(request, AT)
+        # the service's own skew, if no other is given
+        assert accepted.stamp().keep_until == Moment(AT + 1200, 5)
+        assert accepted.stamp(900).keep_until == Moment(AT + 1800, 5)
+        assert accepted.stamp().data == accepted.stamp(900).data
+
+
 def test_moments():
     assert Moment.of(-0.5) == Moment(-1, 500_000) and Moment.of(-1e-20).seconds == -1 and Moment.of(3) == Moment(3)
     assert abs(Moment.now().seconds - time.time()) < 2
