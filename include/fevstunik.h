@@ -15,8 +15,8 @@
  *  - Any thread may make a call, but only one call at a time may use a handle, even a const one. Put
  *    a lock around calls that share a handle. Two handles share nothing, in one process or in two.
  *    After a fork the child's handles are copies, and the child must not use them. A call that takes
- *    a const handle may write to it while it runs, and leaves it unchanged when it returns. So
- *    never define a handle as const.
+ *    a const handle may write to it, and leaves unchanged what it stands for. So never define a
+ *    handle as const.
  *  - Pointers are valid. Only a pointer to bytes whose size is 0 may be NULL (this is tested, not
  *    proved).
  *  - What a call writes to (its handle, its buffer, its other results) overlaps nothing else that
@@ -109,7 +109,7 @@ typedef enum fevstunik_code {
     FEVSTUNIK_BAD_CONFOUNDER = 412, /* the confounder isn't 16 bytes long */
     FEVSTUNIK_KEY_TYPE = 413,       /* the key's encryption type isn't 19 or 20 */
     FEVSTUNIK_KEY_LENGTH = 414,     /* the key isn't 16 bytes long (type 19) or 32 (type 20) */
-    FEVSTUNIK_NO_CODE = 415,        /* there is no error to send: the request was refused because memory ran out */
+    FEVSTUNIK_NO_CODE = 415,        /* there is no error to send: memory ran out, or the code isn't that of a cause */
 
     /* What is wrong with a file. */
     FEVSTUNIK_FILE_VERSION = 500,   /* the file doesn't begin with 05 02 (a keytab), or with 05 03 or 05 04 (a cache) */
@@ -263,7 +263,7 @@ static inline const char *fevstunik_code_text(uint32_t code)
     case FEVSTUNIK_BAD_CONFOUNDER: return "the confounder isn't 16 bytes long";
     case FEVSTUNIK_KEY_TYPE: return "the key's encryption type isn't 19 or 20";
     case FEVSTUNIK_KEY_LENGTH: return "the key isn't 16 bytes long (type 19) or 32 (type 20)";
-    case FEVSTUNIK_NO_CODE: return "there is no error to send: the request was refused because memory ran out";
+    case FEVSTUNIK_NO_CODE: return "there is no error to send: memory ran out, or the code isn't that of a cause";
     case FEVSTUNIK_FILE_VERSION: return "the file doesn't begin with 05 02 (a keytab), or with 05 03 or 05 04 (a cache)";
     case FEVSTUNIK_FILE_HEADER: return "the header of the cache is malformed";
     case FEVSTUNIK_FILE_TRUNCATED: return "the keytab ends before the record at `at` does";

@@ -125,7 +125,7 @@ _TEXTS = {
     Code.BAD_CONFOUNDER: "the confounder isn't 16 bytes long",
     Code.KEY_TYPE: "the key's encryption type isn't 19 or 20",
     Code.KEY_LENGTH: "the key isn't 16 bytes long (type 19) or 32 (type 20)",
-    Code.NO_CODE: "there is no error to send: the request was refused because memory ran out",
+    Code.NO_CODE: "there is no error to send: memory ran out, or the code isn't that of a cause",
     Code.FILE_VERSION: "the file doesn't begin with 05 02 (a keytab), or with 05 03 or 05 04 (a cache)",
     Code.FILE_HEADER: "the header of the cache is malformed",
     Code.FILE_TRUNCATED: "the keytab ends before the record at `at` does",

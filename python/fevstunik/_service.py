@@ -162,7 +162,7 @@ class Accepted:
             return filled(lambda *into: self._handle.library.call("accepted_reply", pointer, confounder, CONFOUNDER, *choice, *into))
 
     def stamp(self, skew: int | None = None) -> Stamp:
-        """Return the stamp of the request, for a store that several instances of the service share.
+        """Return the stamp of the request, for a store that several instances of the service share (docs/OPERATING.md has the conditions).
 
         skew  the largest skew of all instances, in seconds; the acceptor's own by default
 

@@ -16,7 +16,7 @@ macro_rules! with_statuses {
             $text,
             "\n\nExit status: 0 for success, 1 ",
             $refused,
-            ", 2 if the command line is wrong or memory ran out while it was read, 3 if something can't be opened, read or written, or memory ran out"
+            ", 2 if the command line is wrong, or memory ran out before it was read, 3 if something can't be opened, read or written, or memory ran out"
         )
     };
 }
@@ -73,7 +73,7 @@ const CHECK_CCACHE: Help<'static> = Help {
 };
 
 const CONVERT_KEYTAB: Help<'static> = Help {
-    about: "Writes a copy of a keytab, without holes and without what follows its end word",
+    about: "Writes a copy of a keytab, without the holes that removed entries left, and without what follows a record length of 0",
     file: KEYTAB,
     end: of_faulty_file!("Prints 'wrote COUNT', the number of bytes."),
 };
@@ -107,7 +107,7 @@ const ACCEPT: Help<'static> = Help {
     file: "The service's keytab",
     end: with_statuses!(
         "A line of input: the service's clock (seconds since 1970-01-01, and microseconds), the request in hexadecimal (- for no bytes), and a confounder for the reply (32 digits). Its answer:\n  accepted CLIENT ENCTYPE SECONDS MICROS plain|mutual [reply HEX]\n  refused CODE NAME [error HEX]\n  bad token FAULT at OFFSET (with --tokens)\n  bad line\nEach run remembers only its own requests.",
-        "if the keytab is faulty, or a request or a line is refused"
+        "if the keytab is faulty, or a request, a token or a line is refused"
     ),
 };
 
