@@ -7,6 +7,7 @@ import re
 import shutil
 import subprocess
 import sys
+import textwrap
 import tempfile
 from pathlib import Path
 
@@ -37,6 +38,20 @@ def code(name):
     program = (EXAMPLE / "src/main.rt").read_text()
     strange = [it for it in blocks(name, "rust") if it not in program]
     return f"not of the example: {strange}" if strange or not blocks(name, "rust") else None
+
+
+def doc_blocks(text):
+    """The blocks of code in the documentation of a source file."""
+    lines = [re.sub(r"^ *//[/!] ?", "", it) if re.match(r" *//[/!]", it) else "" for it in text.split("\n")]
+    return re.findall(r"^```rust\n(.*?)^```$", "\n".join(lines), re.DOTALL | re.MULTILINE)
+
+
+def crate_examples():
+    """Each block of code in the documentation of a crate stands in a function of krb_doc_examples."""
+    programs = "".join(it.read_text() for it in (TOP / "crates/krb_doc_examples/src").glob("*.rt"))
+    found = [(path, it) for path in sorted((TOP / "crates").glob("*/src/**/*.rt")) for it in doc_blocks(path.read_text())]
+    strange = [str(path.relative_to(TOP)) for path, it in found if textwrap.indent(it, "    ") not in programs]
+    return f"not there: {strange}" if strange or len(found) < 11 else None
 
 
 def example_output():
@@ -222,6 +237,7 @@ def names():
 def checks(program):
     for name in OF_THE_EXAMPLE:
         yield f"{name}: its code is the example's", code(name)
+    yield "crates/*/src: the examples are those of krb_doc_examples", crate_examples()
     yield "docs/LIBRARY.md: what the example prints", example_output()
     yield "README.md: its C compiles", c_code("README.md")
     yield "README.md: its Python is Python", python_code("README.md")

@@ -15,13 +15,14 @@
 //! one side accepts what the other one built, and [`laws`] states that it does.
 //!
 //! ```rust
-//! let (bytes, pending) = make_request(alloc, &cache, &service, now, &confounder, options)?;
+//! let (request, pending) = make_request(alloc, &cache, &service, now, &confounder, options)?;
 //!
-//! let mut acceptor = Acceptor::new(keytab, Skew::new(300)?, TimedMemory::new(alloc));
-//! match acceptor.accept(alloc, &bytes, now) {
-//!     Ok(accepted) => accepted.reply(alloc, &confounder, choices)?,
+//! let skew = Skew::new(300).context("at most a day")?;
+//! let mut acceptor = Acceptor::new(keytab, skew, TimedMemory::new(alloc));
+//! let reply = match acceptor.accept(alloc, &request, now) {
+//!     Ok(accepted) => accepted.reply(alloc, &other_confounder, choices)?,
 //!     Err(refusal) => error_reply(alloc, &refusal, now, &service)?,
-//! }
+//! };
 //!
 //! let agreed = pending.finish(alloc, &reply)?;
 //! ```

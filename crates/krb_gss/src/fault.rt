@@ -12,7 +12,7 @@ pub enum TokenFault {
     /// A rule of DER is broken.
     #[error("{0}")]
     Malformed(Fault),
-    /// The first byte is that of no token.
+    /// The first byte isn't that of a token.
     #[error("no token of a mechanism")]
     NotToken,
     /// The token continues a negotiation (NegTokenResp); it doesn't begin one.

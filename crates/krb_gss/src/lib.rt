@@ -2,8 +2,8 @@
 //!
 //! [`open_token`] opens the first token of a client: a token of Kerberos (RFC 2743, section 3.1; RFC 4121, section 4.1), or a
 //! negotiation whose first mechanism is Kerberos (SPNEGO: RFC 4178, section 4.2) and that holds such a token. It returns the
-//! request as a slice of the bytes, what the request was wrapped in, and the name that the token gives Kerberos. Otherwise it
-//! returns a [`TokenFault`], with the offset of the byte at fault.
+//! request as a slice of the bytes, what the request was wrapped in, and the object identifier by which the token names
+//! Kerberos. Otherwise it returns a [`TokenFault`], with the offset of the byte at fault.
 //!
 //! ```rust
 //! match open_token(bytes) {

@@ -3,7 +3,9 @@
 //! (RFC 8009).
 //!
 //! ```rust
-//! use krb_kdf::{HmacSha256, MacPurpose, Purpose, derive_19, derive_20, derive_20_ke, hmac_sha256};
+//! use krb_kdf::{
+//!     HmacSha256, MacPurpose, Purpose, derive_19, derive_20, derive_20_ke, hmac_sha256,
+//! };
 //!
 //! // The text may come in parts, as `header` and `body` of one message.
 //! let code: [u8; 32] = hmac_sha256(b"key", &[header, body]);

@@ -5,7 +5,7 @@
 //! view, such as [`TicketRef`], holds the fields of one message: numbers and times as values, texts
 //! and octets as slices of the input, lists as iterators over the input. `parse` returns `Ok`
 //! exactly for the spellings of the kind, with the one value that they spell. Otherwise it returns
-//! the first fault and its offset. It allocates no memory.
+//! a fault that the bytes have, and its offset. It allocates no memory.
 //!
 //! An owned message, such as [`Ticket`], holds copies: `to_owned` of a view makes one of the same
 //! value, and `encode` writes a spelling of that value. [`laws`] states that a spelling has one

@@ -1,0 +1,13 @@
+use Rattle.std.proofs.Common.{◌≡◌, ◌-◌, None}
+use Rattle.krb_name.specs.File.{file_limit}
+use Rattle.krb_keytab.specs.Items.{last_answer}
+use Rattle.krb_doc_examples.proofs.files.print_versions.Given as goal
+
+abbrev pub invariant-loop-reader : goal.invariant-loop-reader
+invariant-loop-reader l = record {
+  going : last_answer l.reader.stage ≡ None;
+  failures : l.reader.source.failures ≡ 0;
+}
+
+abbrev pub decreases-loop-reader : goal.decreases-loop-reader
+decreases-loop-reader l = file_limit - l.reader.given
