@@ -141,9 +141,11 @@ def is_of_terms(line):
 
 
 def without(text, names):
-    """Returns the text of an answer file without these answers."""
-    blocks = re.split(r"\n(?=pub \S+ :)", text)
-    return "\n".join(it for it in blocks if not any(it.startswith(f"pub {name} :") for name in names))
+    """Returns the text of an answer file without these answers, and without the places of goals that only they name."""
+    head, *answers = re.split(r"\n(?=pub \S+ :)", text)
+    left = "\n".join(it for it in answers if not any(it.startswith(f"pub {name} :") for name in names))
+    needed = lambda line: not (found := re.fullmatch(r"use \S+\.Goals\.\{(.*)\}", line)) or any(it in left for it in found[1].split(", "))
+    return "\n".join([*filter(needed, head.split("\n")), left])
 
 
 def without_misfits(crate, edits):
