@@ -1,8 +1,8 @@
-"""Says of which crates all edits were refused, and of which texts that was so, by tests/edits.lock: one line for each crate.
+"""Says of which crates all edits were refused, and of which texts that was so, by tests/edits.lock: one line for each crate and toolchain.
 
-    NAME COUNT HASH      all COUNT edits of the crate were refused
+    NAME COUNT HASH TOOLCHAIN      all COUNT edits of the crate were refused by this toolchain (what `rt version` prints)
 
-Whether an edit is refused depends on the edit, on the sources, definitions and proofs of its crate, on what the crates below state, and on
+Machines have different toolchains, so the lock keeps a line for each that was seen, while it holds. Whether an edit is refused depends on the edit, on the sources, definitions and proofs of its crate, on what the crates below state, and on
 the toolchain. The hash is of all that, without comments. A crate below states its definitions and its sources without the bodies of
 functions (a const fn keeps its own, since others may see it). A line holds only while all edits of the crate apply, since an edit may name a
 comment.
@@ -81,16 +81,16 @@ def hash_of(crate, known, version):
 
 
 def read_lock(top):
-    """The number of edits and the hash of each crate in the lock."""
+    """The number of edits and the hash of each crate and toolchain in the lock."""
     path = f"{top}/{FILE}"
-    rows = [it.split() for it in read(path).splitlines()] if os.path.isfile(path) else []
-    return {it[0]: (int(it[1]), it[2]) for it in rows if len(it) == 3 and it[1].isdigit()}
+    rows = [it.split(maxsplit=3) for it in read(path).splitlines()] if os.path.isfile(path) else []
+    return {(name, version): (int(count), made) for name, count, made, version in (it for it in rows if len(it) == 4 and it[1].isdigit())}
 
 
 def write_lock(top, rows):
     os.makedirs(os.path.dirname(f"{top}/{FILE}"), exist_ok=True)
     with open(f"{top}/{FILE}.new", "w", encoding="utf-8") as it:
-        it.writelines(f"{name} {count} {made}\n" for name, (count, made) in sorted(rows.items()))
+        it.writelines(f"{name} {count} {made} {version}\n" for (name, version), (count, made) in sorted(rows.items()))
     os.replace(f"{top}/{FILE}.new", f"{top}/{FILE}")
 
 
@@ -106,26 +106,32 @@ class Lock:
     """The lock of a repository, and what it says of the crates that have edits."""
 
     def __init__(self, top, known, crates):
-        version = toolchain()
-        self.top, self.rows = top, read_lock(top)
-        self.hashes = {it.name: hash_of(it, known, version) for it in crates}
-        wanted = {it.name: (len(it.edits), self.hashes[it.name]) for it in crates}
+        self.top, self.known, self.version = top, known, toolchain()
+        self.crates = {it.name: it for it in crates}
+        rows = read_lock(top)
         apply = {it.name for it in crates if not it.strays and not any(edit.fault for edit in it.edits)}
-        self.holds = {name for name, row in wanted.items() if self.rows.get(name) == row and name in apply}
+        self.holds = {it.name for it in crates if it.name in apply and rows.get((it.name, self.version)) == self.row(it, self.version)}
         self.drawn = drawn(top, self.holds)
+
+    def row(self, crate, version):
+        """What the lock has to say of a crate under a toolchain."""
+        return len(crate.edits), hash_of(crate, self.known, version)
 
     def to_try(self, crates):
         """The crates of which the lock has no line or another one, and the one that is drawn."""
         return [it for it in crates if it.name not in self.holds or it.name == self.drawn]
 
+    def others(self):
+        """The lines that still hold: of crates that have edits, under any toolchain."""
+        rows = read_lock(self.top).items()
+        return {(name, version): row for (name, version), row in rows if name in self.crates and row == self.row(self.crates[name], version)}
+
     def keep(self, crates):
-        """Writes the lines of these crates, all of whose edits were just refused, and drops the lines of those that have no edits."""
-        rows = {name: row for name, row in read_lock(self.top).items() if name in self.hashes}
-        rows |= {it.name: (len(it.edits), self.hashes[it.name]) for it in crates}
-        write_lock(self.top, rows)
+        """Writes the lines of these crates, all of whose edits were just refused, and drops those that no longer hold."""
+        write_lock(self.top, self.others() | {(it.name, self.version): self.row(it, self.version) for it in crates})
 
     def forget(self, crates):
         """Drops the lines of crates of which an edit wasn't refused."""
         names = {it.name for it in crates}
         if names:
-            write_lock(self.top, {name: row for name, row in read_lock(self.top).items() if name not in names})
+            write_lock(self.top, {key: row for key, row in read_lock(self.top).items() if key[0] not in names})

@@ -204,11 +204,19 @@ def check_lock(hold):
         words = [sys.executable, f"{os.path.dirname(os.path.abspath(__file__))}/edits.py", "--at", room, "--plan"]
         ran = subprocess.run(words, capture_output=True, text=True, env={**os.environ, "PATH": f"{room}/tools:{os.environ['PATH']}"})
         hold("another toolchain", CHANGED in ran.stdout)
+        other = "another version"
+        known = crates_of(room)
+        known["sample"].load("")
+        both = f"{lock}sample 1 {edits_lock.hash_of(known['sample'], known, other)} {other}\n"
+        write(f"{room}/{edits_lock.FILE}", f"{both}sample 1 0 a third version\n")
+        status, said = run_of(room, [])
+        lines = lambda text: sorted(text.splitlines())
+        hold("lines of other toolchains stay while they hold", status == 0 and lines(read(f"{room}/{edits_lock.FILE}")) == lines(both))
         made(room, [EDITS[4]])
         write(f"{room}/crates.txt", "low:\nsample: low\n")
         known = crates_of(room)
-        made_up = edits_lock.hash_of(known["sample"], known, edits_lock.toolchain())
-        write(f"{room}/{edits_lock.FILE}", f"sample 2 {made_up}\n")
+        version = edits_lock.toolchain()
+        write(f"{room}/{edits_lock.FILE}", f"sample 2 {edits_lock.hash_of(known['sample'], known, version)} {version}\n")
         status, said = run_of(room, [])
         found = "drawn" in said and "part_is_a_third.edit isn't refused" in said and "\n1 passed, 1 failed\n" in said
         hold("a lock that lies is found", status == 1 and found and lock != read(f"{room}/{edits_lock.FILE}") == "")
