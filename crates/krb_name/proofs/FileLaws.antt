@@ -1,9 +1,8 @@
 -- Bytes of a file that a source gave in parts.
-use Rattle.std.proofs.Common.{◌≡◌, ℕ, ◌+◌, ◌≤◌, List, [], ◌++◌, length, Option, arith}
-use Rattle.std.specs.Io.KnownBytes.{Consumes}
+use Rattle.std.proofs.Common.{◌≡◌, ℕ, List, [], ◌++◌, Option, arith}
 use Rattle.std.proofs.KnownBytes.{Consumes-trans, Consumes-nil}
 use Rattle.std.proofs.lemmas.List.{length-append}
-use Rattle.krb_name.specs.File.{file_limit, TakesFile, GivesWithin}
+use Rattle.krb_name.specs.File.{TakesFile, GivesWithin}
 
 pub gives_none : (from : Option (List ℕ)) (given : ℕ) → GivesWithin from from given given
 gives_none from given = record { piece = []; taken = Consumes-nil from; given = omega arith; within = λ l. l }

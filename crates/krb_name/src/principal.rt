@@ -1,6 +1,6 @@
 //! A principal's name.
 
-ghost use Rattle.std.specs.Prelude.{◌≡◌, ◌↔◌, Result, IsTrue, IfOk, string_bytes};
+ghost use Rattle.std.specs.Prelude.{◌≡◌, ◌↔◌, ◌++◌, Result, IsTrue, IfOk, OnOk, string_bytes};
 
 use crate::bytes::Bytes;
 use crate::components::Components;
@@ -45,10 +45,20 @@ impl Principal {
         ensures { IfOk result (λ text. string_bytes text ≡ text_of self.now) }
     {
         let mut text = String::with_capacity(alloc, self.plain_len())?;
-        write_components(&mut text, self.components.as_slice())?;
-        text.push('@')?;
-        write_escaped(&mut text, self.realm.as_slice())?;
+        self.write_text(&mut text)?;
         Ok(text)
+    }
+
+    /// Appends the text that `to_text` returns.
+    ///
+    /// # Errors
+    /// There is no memory. What was appended is then unspecified.
+    pub fn write_text(&self, text: &mut String) -> Result<(), AllocError>
+        ensures { OnOk result (string_bytes text.new ≡ string_bytes text.old ++ text_of self.now) }
+    {
+        write_components(text, self.components.as_slice())?;
+        text.push('@')?;
+        write_escaped(text, self.realm.as_slice())
     }
 
     // The length of the text if nothing in it is escaped, or one more.

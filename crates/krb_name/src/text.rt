@@ -1,9 +1,9 @@
 //! Writing the text of a name.
 
-ghost use Rattle.std.specs.Prelude.{◌≡◌, ◌++◌, OnOk, string_bytes, map};
+ghost use Rattle.std.specs.Prelude.{◌≡◌, ◌≤◌, ◌++◌, All, IsTrue, OnOk, length, string_bytes, map, take};
 ghost use Rattle.std.specs.List.{join_with_byte};
 ghost use Rattle.krb_name.specs.Text.{escaped_byte, escaped, hex_escape};
-ghost use Rattle.krb_name.specs.Inner.Components.{behind_slashes};
+ghost use Rattle.krb_name.specs.Inner.Components.{behind_slashes, IsPlain};
 
 use crate::bytes::Bytes;
 use std::alloc::AllocError;
@@ -34,6 +34,47 @@ fn write_others(text: &mut String, others: &[Bytes]) -> Result<(), AllocError>
 
 /// Writes the bytes of a realm or a component.
 pub(crate) fn write_escaped(text: &mut String, bytes: &[u8]) -> Result<(), AllocError>
+    ensures { OnOk result (string_bytes text.new ≡ string_bytes text.old ++ escaped bytes.now) }
+{
+    let (plain, rest) = bytes.split_at(plain_len(bytes));
+    write_plain(text, plain)?;
+    write_bytes(text, rest)
+}
+
+// How many bytes there are before the first that may need an escape.
+fn plain_len(bytes: &[u8]) -> usize
+    ensures within { result ≤ length bytes.now }
+    ensures plain { All IsPlain (take result bytes.now) }
+{
+    let mut len = 0;
+    while len < bytes.len() && is_plain(bytes[len]) {
+        len += 1;
+    }
+    len
+}
+
+// Whether the byte is written as it is.
+fn is_plain(byte: u8) -> bool
+    ensures { IsTrue result → IsPlain byte }
+{
+    match byte {
+        b'/' | b'@' | b'\\' => false,
+        0x21..=0x7e => true,
+        _ => false,
+    }
+}
+
+fn write_plain(text: &mut String, bytes: &[u8]) -> Result<(), AllocError>
+    requires { All IsPlain bytes.now }
+    ensures { OnOk result (string_bytes text.new ≡ string_bytes text.old ++ bytes.now) }
+{
+    match str::from_utf8(bytes) {
+        Ok(plain) => text.push_str(plain),
+        Err(_) => unreachable!(),
+    }
+}
+
+fn write_bytes(text: &mut String, bytes: &[u8]) -> Result<(), AllocError>
     ensures { OnOk result (string_bytes text.new ≡ string_bytes text.old ++ escaped bytes.now) }
 {
     for byte in bytes {
