@@ -224,7 +224,7 @@ def toolchain():
     """README and CONTRIBUTING name the toolchain that is used here."""
     version = subprocess.run(["rt", "version"], capture_output=True, text=True).stdout.strip()
     kit, _, logic = version.partition(" ")
-    names = lambda text: f"`{kit}`" in text and f"`{logic}`" in text
+    names = lambda text: (f"`{kit}`" in text or f"`-{kit.rpartition('-')[2]}`" in text) and f"`{logic}`" in text
     other = [it for it in ("README.md", "CONTRIBUTING.md") if not names(" ".join(text_of(it).split()))]
     return f"{other} don't name {version!r}" if other or not logic else None
 
