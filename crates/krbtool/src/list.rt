@@ -104,12 +104,13 @@ impl Listing<Keytab> for Lines {
 impl Line for Entry {
     ghost line = { keytab_line };
 
-    fn write_line(&self, alloc: Global, text: &mut String) -> Result<(), AllocError> {
+    fn write_line(&self, _alloc: Global, text: &mut String) -> Result<(), AllocError> {
         let kvno = self.kvno();
         let etype = self.etype();
         let timestamp = self.timestamp();
-        let principal = self.principal().to_text(alloc)?;
-        write!(text, "{kvno} {etype} {timestamp} {principal}\n")
+        write!(text, "{kvno} {etype} {timestamp} ")?;
+        self.principal().write_text(text)?;
+        text.push('\n')
     }
 }
 
@@ -180,18 +181,19 @@ impl Line for Credential {
 
     fn write_line(&self, alloc: Global, text: &mut String) -> Result<(), AllocError> {
         if CCache::is_configuration(self) {
-            write_config(alloc, self, text)
+            write_config(self, text)
         } else {
             write_ticket(alloc, self, text)
         }
     }
 }
 
-fn write_config(alloc: Global, credential: &Credential, text: &mut String) -> Result<(), AllocError>
+fn write_config(credential: &Credential, text: &mut String) -> Result<(), AllocError>
     ensures { OnOk result (string_bytes text.new ≡ string_bytes text.old ++ config_line credential.now) }
 {
-    let server = credential.server.to_text(alloc)?;
-    write!(text, "config {server}\n")
+    text.push_str("config ")?;
+    credential.server.write_text(text)?;
+    text.push('\n')
 }
 
 fn write_ticket(alloc: Global, credential: &Credential, text: &mut String) -> Result<(), AllocError>
@@ -202,7 +204,7 @@ fn write_ticket(alloc: Global, credential: &Credential, text: &mut String) -> Re
     write!(text, "ticket {etype} ")?;
     write_times(credential, text)?;
     write!(text, " {flags} ")?;
-    write_names(alloc, credential, text)
+    write_names(credential, text)
 }
 
 fn write_times(credential: &Credential, text: &mut String) -> Result<(), AllocError>
@@ -215,10 +217,11 @@ fn write_times(credential: &Credential, text: &mut String) -> Result<(), AllocEr
     write!(text, "{authtime} {starttime} {endtime} {renew_till}")
 }
 
-fn write_names(alloc: Global, credential: &Credential, text: &mut String) -> Result<(), AllocError>
+fn write_names(credential: &Credential, text: &mut String) -> Result<(), AllocError>
     ensures { OnOk result (string_bytes text.new ≡ string_bytes text.old ++ (names_of credential.now ++ 10 ∷ [])) }
 {
-    let client = credential.client.to_text(alloc)?;
-    let server = credential.server.to_text(alloc)?;
-    write!(text, "{client} {server}\n")
+    credential.client.write_text(text)?;
+    text.push(' ')?;
+    credential.server.write_text(text)?;
+    text.push('\n')
 }
