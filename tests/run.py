@@ -10,7 +10,7 @@ krb_calls and krb_calls_exchange), runs it within less and less memory (tests/li
 the bytes don't bear out (tests/claimed.py, by the program of the crate krb_calls_files), gives each command a file without an end and counts
 what is taken of it (tests/endless.py), lets its reads and writes fail (tests/failing.py),
 compares it with a second client and service on generated input (tests/exchange.py), starts a service again and again (tests/restarts.py),
-and ends with what MIT's tools say of files that the program wrote (tests/peers.py; Debian's package krb5-user).
+and ends with what MIT's tools say of files that the program wrote (tests/mit_tools.py; Debian's package krb5-user).
 
 A case is a table [[case]] of a TOML file:
 
@@ -58,7 +58,7 @@ import exchange  # noqa: E402
 import failing  # noqa: E402
 import generated  # noqa: E402
 import limited  # noqa: E402
-import peers  # noqa: E402
+import mit_tools  # noqa: E402
 import refused  # noqa: E402
 import refused_lines  # noqa: E402
 import restarts  # noqa: E402
@@ -69,7 +69,7 @@ WORDS = """name args files folders links umask stdin output closed status stdout
     after modes gone"""
 KEYS = set(WORDS.split())
 PARTS = (tables, documents, script, refused, calls, refused_lines, limited, claimed, endless, failing, dialogue, exchange, restarts,
-         peers)
+         mit_tools)
 
 
 def content(text):

@@ -629,8 +629,8 @@ static void second_credential(void)
     is_answer("no third", credential_in(two.at, two.size, 2, &credential, buffer, sizeof buffer), FEVSTUNIK_NO_SUCH_ENTRY, 0, 0, 0);
 }
 
-/* The client's subkey and number are told. */
-static void is_keyed(void)
+/* The client's subkey and number are reported. */
+static void keyed_client(void)
 {
     fevstunik_acceptor service = FEVSTUNIK_ACCEPTOR_INIT;
     fevstunik_time now = moment(1700000100, 5);
@@ -1281,7 +1281,7 @@ int main(int count, char **words)
     fevstunik_acceptor_free(&service);
     fevstunik_acceptor_free(&service);
     is("freed", service.opaque == NULL, 1);
-    is_keyed();
+    keyed_client();
     another_service();
     lists();
     stamps();

@@ -9,8 +9,8 @@ use Rattle.krb_name.specs.File.{file_limit, GivesWithin}
 use Rattle.krb_ccache.specs.declared.fault.CacheFault.{CacheFault}
 use Rattle.krb_ccache.specs.declared.item_fault.ItemFault.{ItemFault}
 use Rattle.krb_ccache.specs.declared.item_fault.ItemFault.TheVariants as item
-use Rattle.krb_ccache.specs.declared.walking.Stop.{Stop}
-use Rattle.krb_ccache.specs.declared.walking.Stop.TheVariants as stop
+use Rattle.krb_ccache.specs.declared.walking.TakeFault.{TakeFault}
+use Rattle.krb_ccache.specs.declared.walking.TakeFault.TheVariants as stop
 use Rattle.krb_ccache.specs.Reader.{HeldPart, passed}
 use Rattle.krb_ccache.specs.declared.layout.Layout.{Layout}
 use Rattle.krb_ccache.specs.declared.layout.Layout.TheVariants.{Version3}
@@ -63,7 +63,7 @@ module _ {X S : Type 0} (s : X → List ℕ) (P : X → Type 0) (left : S → Op
   }
 
   -- what was taken was not read
-  pub not_read : (old start new : AtHand S) (fault : ItemFault) (stop : Stop) → Walks s P left start new → start ≡ cleared old → stop ≡ item_stop fault → (fault ≡ item.Missing → IsMissing s P new.bytes) → Halts s P left (cleared old) new stop
+  pub not_read : (old start new : AtHand S) (fault : ItemFault) (stop : TakeFault) → Walks s P left start new → start ≡ cleared old → stop ≡ item_stop fault → (fault ≡ item.Missing → IsMissing s P new.bytes) → Halts s P left (cleared old) new stop
   not_read old start new fault stop w e is missing = subst (Halts s P left (cleared old) new) (sym is) (by_fault fault missing)
     where
       by_fault : (f : ItemFault) → (f ≡ item.Missing → IsMissing s P new.bytes) → Halts s P left (cleared old) new (item_stop f)
@@ -108,10 +108,10 @@ module _ {X S : Type 0} (s : X → List ℕ) (P : X → Type 0) (left : S → Op
     missing = λ x others p le e. omega (arith, h.wants x r.piece others p e, h.cant_come, h.keeps.given, le);
   }
 
-  halted : (old new : AtHand S) (stop : Stop) → Halts s P left (cleared old) new stop → (bytes : List ℕ) × Gives left old new bytes
+  halted : (old new : AtHand S) (stop : TakeFault) → Halts s P left (cleared old) new stop → (bytes : List ℕ) × Gives left old new bytes
   halted old new stop h = (h.piece, some_given old new h.piece h.keeps h.within)
 
-  pub misses : (old middle new : AtHand S) (stop : Stop) (fault told : CacheFault) → Halts s P left (cleared old) middle stop → IsTold left middle new stop fault told → Misses s P left old new fault told
+  pub misses : (old middle new : AtHand S) (stop : TakeFault) (fault told : CacheFault) → Halts s P left (cleared old) middle stop → IsTold left middle new stop fault told → Misses s P left old new fault told
   misses old middle new stop.End fault told h t = subst (λ (w : AtHand S). Misses s P left old w fault told) (sym t.1) (record {
     some = halted old middle stop.End h;
     lacks = λ read memory. ended old middle h;
@@ -142,7 +142,7 @@ module _ {X S : Type 0} (s : X → List ℕ) (P : X → Type 0) (left : S → Op
 
 -- ---- no credential came
 
-module _ (layout : Layout) {S : Type 0} (left : S → Option (List ℕ)) (old middle new : AtHand S) (stop : Stop) (at : ℕ) (told : CacheFault) (here : at ≡ old.given) (halts : Halts bytes_of (Spells layout) left (cleared old) middle stop)
+module _ (layout : Layout) {S : Type 0} (left : S → Option (List ℕ)) (old middle new : AtHand S) (stop : TakeFault) (at : ℕ) (told : CacheFault) (here : at ≡ old.given) (halts : Halts bytes_of (Spells layout) left (cleared old) middle stop)
     (is_told : IsTold left middle new stop (BadItem at) told) where
   none_came : MissesOne layout left old new told
   none_came = subst (λ (f : CacheFault). Misses bytes_of (Spells layout) left old new f told) (ap BadItem here) (misses bytes_of (Spells layout) left old middle new stop (BadItem at) told halts is_told)
@@ -248,11 +248,11 @@ module _ (layout : Layout) {S : Type 0} (left : S → Option (List ℕ)) where
   part_walked old start new w e =
       part_kept old start new w.piece w.keeps e (λ credential second mark more others p size same. omega (arith, w.spans (record { credential = credential; second = second; mark = mark }) more others (p, size) same))
 
-  pub part_halted : (old start new : AtHand S) (stop : Stop) → Halts whole (FitsKeyed layout) left start new stop → start ≡ cleared old → HeldPart layout (left old.source) (left new.source) old.peak new.peak
+  pub part_halted : (old start new : AtHand S) (stop : TakeFault) → Halts whole (FitsKeyed layout) left start new stop → start ≡ cleared old → HeldPart layout (left old.source) (left new.source) old.peak new.peak
   part_halted old start new stop h e =
       part_kept old start new h.piece h.keeps e (λ credential second mark more others p size same. omega (arith, h.wants (record { credential = credential; second = second; mark = mark }) more others (p, size) same))
 
-  pub part_told : (old middle new : AtHand S) (stop : Stop) (fault told : CacheFault) → HeldPart layout (left old.source) (left middle.source) old.peak middle.peak → IsTold left middle new stop fault told
+  pub part_told : (old middle new : AtHand S) (stop : TakeFault) (fault told : CacheFault) → HeldPart layout (left old.source) (left middle.source) old.peak middle.peak → IsTold left middle new stop fault told
       → HeldPart layout (left old.source) (left new.source) old.peak new.peak
   part_told old middle new stop.End fault told h t = subst (λ (w : AtHand S). HeldPart layout (left old.source) (left w.source) old.peak w.peak) (sym t.1) h
   part_told old middle new stop.Long fault told h t = record {

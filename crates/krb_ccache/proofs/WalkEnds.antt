@@ -19,8 +19,8 @@ use Rattle.krb_ccache.specs.declared.credential.HeaderField.{HeaderField}
 use Rattle.krb_ccache.specs.declared.credential.Credential.{Credential}
 use Rattle.krb_ccache.specs.declared.layout.Layout.{Layout}
 use Rattle.krb_ccache.specs.declared.layout.Layout.TheVariants.{Version3, Version4}
-use Rattle.krb_ccache.specs.declared.walking.Stop.{Stop}
-use Rattle.krb_ccache.specs.declared.walking.Stop.TheVariants as stop
+use Rattle.krb_ccache.specs.declared.walking.TakeFault.{TakeFault}
+use Rattle.krb_ccache.specs.declared.walking.TakeFault.TheVariants as stop
 use Rattle.krb_ccache.specs.Spelling.{fields_bytes, header_bytes, name_bytes, flag_bytes, list_bytes, marked_bytes, keyed_bytes}
 use Rattle.krb_ccache.specs.Value.{FitsHeader, FitsName, FitsList}
 use Rattle.krb_ccache.specs.Format.{version_of, second_size, Spelled, Spells}
@@ -150,7 +150,7 @@ module _ {X Y : Type 0} (read : Place → Option (X × Place)) (s : Y → List �
       spans = spans_of w.piece w.thing w.reads;
     }
 
-    pub halts_of : (stop : Stop) → Stopped read window_within window_lacks (window_hand left old) (window_hand left new) stop → Halts s P left old new stop
+    pub halts_of : (stop : TakeFault) → Stopped read window_within window_lacks (window_hand left old) (window_hand left new) stop → Halts s P left old new stop
     halts_of stop h = record {
       piece = h.piece;
       keeps = record { consumed = h.keeps.consumed; bytes = h.keeps.bytes; peak = h.keeps.peak; given = h.keeps.given };
@@ -204,7 +204,7 @@ module _ {S : Type 0} (left : S → Option (List ℕ)) (old new : AtHand S) wher
   pub version_walks : Taken window_within 2 (window_hand left old) (window_hand left new) → Walks version_of Any left old new
   version_walks t = walks_of (bytes_at 2) version_of Any version_reads left old new (walked_sized window_within (bytes_at 2) 2 (sized_bytes 2) (window_hand left old) (window_hand left new) t)
 
-  pub version_halts : (stop : Stop) → TookFewer window_within window_lacks 2 (window_hand left old) (window_hand left new) stop → Halts version_of Any left old new stop
+  pub version_halts : (stop : TakeFault) → TookFewer window_within window_lacks 2 (window_hand left old) (window_hand left new) stop → Halts version_of Any left old new stop
   version_halts stop t = halts_of (bytes_at 2) version_of Any version_reads left old new stop (stopped_sized window_within (bytes_at 2) 2 (sized_bytes 2) window_lacks (window_hand left old) (window_hand left new) stop t)
 
 pub all_marked : (layout : Layout) {S : Type 0} (left : S → Option (List ℕ)) (old start new : AtHand S) (mark : ℕ) (bytes : List ℕ) → start ≡ cleared old → (w : WalkedOne layout window_within (window_hand left start) (window_hand left new) mark) → bytes ≡ new.bytes
@@ -254,7 +254,7 @@ module _ {X : Type 0} (read : Place → Option (X × Place)) (cursor : Place) (s
       pub passes : bytes_at count cursor ≡ None → ⊥
       passes none = let some = bytes_read in absurd cc
 
-  pub stopped : (stop : Stop) → Stopped read bytes_within bytes_lacks start now stop → read cursor ≡ None
+  pub stopped : (stop : TakeFault) → Stopped read bytes_within bytes_lacks start now stop → read cursor ≡ None
   stopped stop h =
       let r = rest_of h.piece h.keeps.consumed in
       let same : Some r.0 ≡ Some h.lacks.0 = sym r.2 ∙ h.lacks.1 in

@@ -7,7 +7,7 @@ use Rattle.std.proofs.lemmas.List.{length-append, length-take, length-drop, drop
 use Rattle.krb_name.specs.Window.{AtHand, Keeps}
 use Rattle.krb_name.specs.Cursor.{Place, ◌>>=◌, bytes_at, number_at, signed_at}
 use Rattle.krb_name.proofs.CursorLaws.{IsField-bytes}
-use Rattle.krb_ccache.specs.declared.walking.Stop.{Stop}
+use Rattle.krb_ccache.specs.declared.walking.TakeFault.{TakeFault}
 use Rattle.krb_ccache.specs.Inner.Reading.{both_at, made_at}
 use Rattle.krb_ccache.specs.Inner.Walking.{Hand, Reads, NeedsMore, Walked, Stopped, IsWalk, Taken, TookFewer, last_number}
 
@@ -67,8 +67,8 @@ module _ {X Y : Type 0} (one : Place → Option (X × Place)) (other : X → Pla
       reads = reads_bound w.piece v.piece w.thing v.thing w.reads v.reads;
     }
 
-    module _ (Lacks : Stop → Hand → ℕ → Type 0) where
-      pub stopped_first : (old new : Hand) (stop : Stop) → Stopped one Within Lacks old new stop → Stopped bound Within Lacks old new stop
+    module _ (Lacks : TakeFault → Hand → ℕ → Type 0) where
+      pub stopped_first : (old new : Hand) (stop : TakeFault) → Stopped one Within Lacks old new stop → Stopped bound Within Lacks old new stop
       stopped_first old new stop h = record {
         piece = h.piece;
         keeps = h.keeps;
@@ -79,7 +79,7 @@ module _ {X Y : Type 0} (one : Place → Option (X × Place)) (other : X → Pla
         lacks = h.lacks;
       }
 
-      pub stopped_bound : (old middle new : Hand) (stop : Stop) (w : Walked one Within old middle) → Stopped (other w.thing) Within Lacks middle new stop → Stopped bound Within Lacks old new stop
+      pub stopped_bound : (old middle new : Hand) (stop : TakeFault) (w : Walked one Within old middle) → Stopped (other w.thing) Within Lacks middle new stop → Stopped bound Within Lacks old new stop
       stopped_bound old middle new stop w h = record {
         piece = w.piece ++ h.piece;
         keeps = joined old middle new w.piece h.piece w.keeps h.keeps;
@@ -90,7 +90,7 @@ module _ {X Y : Type 0} (one : Place → Option (X × Place)) (other : X → Pla
         lacks = h.lacks;
       }
 
-      pub walk_bound : {T : Type 0} (old middle new : Hand) (result : Result T Stop) (w : Walked one Within old middle) → IsWalk (other w.thing) Within Lacks middle new result → IsWalk bound Within Lacks old new result
+      pub walk_bound : {T : Type 0} (old middle new : Hand) (result : Result T TakeFault) (w : Walked one Within old middle) → IsWalk (other w.thing) Within Lacks middle new result → IsWalk bound Within Lacks old new result
       walk_bound old middle new (Ok x) w v = walked_bound old middle new w v
       walk_bound old middle new (Err stop) w h = stopped_bound old middle new stop w h
 
@@ -106,8 +106,8 @@ module _ {X Y : Type 0} (make : X → Y) (read : Place → Option (X × Place)) 
   abbrev pub walked_made : (old new : Hand) → Walked read Within old new → Walked made Within old new
   walked_made old new w = record { thing = make w.thing; piece = w.piece; keeps = w.keeps; within = w.within; reads = reads_made w.piece w.thing w.reads }
 
-  module _ (Lacks : Stop → Hand → ℕ → Type 0) where
-    pub stopped_made : (old new : Hand) (stop : Stop) → Stopped read Within Lacks old new stop → Stopped made Within Lacks old new stop
+  module _ (Lacks : TakeFault → Hand → ℕ → Type 0) where
+    pub stopped_made : (old new : Hand) (stop : TakeFault) → Stopped read Within Lacks old new stop → Stopped made Within Lacks old new stop
     stopped_made old new stop h = record {
       piece = h.piece;
       keeps = h.keeps;
@@ -118,7 +118,7 @@ module _ {X Y : Type 0} (make : X → Y) (read : Place → Option (X × Place)) 
       lacks = h.lacks;
     }
 
-    pub walk_made : {T : Type 0} (old new : Hand) (result : Result T Stop) → IsWalk read Within Lacks old new result → IsWalk made Within Lacks old new result
+    pub walk_made : {T : Type 0} (old new : Hand) (result : Result T TakeFault) → IsWalk read Within Lacks old new result → IsWalk made Within Lacks old new result
     walk_made old new (Ok x) w = walked_made old new w
     walk_made old new (Err stop) h = stopped_made old new stop h
 
@@ -142,15 +142,15 @@ module _ {X Y : Type 0} (one : Place → Option (X × Place)) (other : Place →
     abbrev pub walked_both : (old middle new : Hand) → Walked one Within old middle → Walked other Within middle new → Walked (both_at one other) Within old new
     walked_both old middle new w v = walked_bound one with_one Within old middle new w (walked_made (λ (y : Y). (w.thing, y)) other (with_one w.thing) (λ place. refl) Within middle new v)
 
-    module _ (Lacks : Stop → Hand → ℕ → Type 0) where
-      pub stopped_one : (old new : Hand) (stop : Stop) → Stopped one Within Lacks old new stop → Stopped (both_at one other) Within Lacks old new stop
+    module _ (Lacks : TakeFault → Hand → ℕ → Type 0) where
+      pub stopped_one : (old new : Hand) (stop : TakeFault) → Stopped one Within Lacks old new stop → Stopped (both_at one other) Within Lacks old new stop
       stopped_one old new stop h = stopped_first one with_one Within Lacks old new stop h
 
-      pub stopped_other : (old middle new : Hand) (stop : Stop) → Walked one Within old middle → Stopped other Within Lacks middle new stop → Stopped (both_at one other) Within Lacks old new stop
+      pub stopped_other : (old middle new : Hand) (stop : TakeFault) → Walked one Within old middle → Stopped other Within Lacks middle new stop → Stopped (both_at one other) Within Lacks old new stop
       stopped_other old middle new stop w h =
           stopped_bound one with_one Within Lacks old middle new stop w (stopped_made (λ (y : Y). (w.thing, y)) other (with_one w.thing) (λ place. refl) Within Lacks middle new stop h)
 
-      pub walk_both : {T : Type 0} (old middle new : Hand) (result : Result T Stop) → Walked one Within old middle → IsWalk other Within Lacks middle new result → IsWalk (both_at one other) Within Lacks old new result
+      pub walk_both : {T : Type 0} (old middle new : Hand) (result : Result T TakeFault) → Walked one Within old middle → IsWalk other Within Lacks middle new result → IsWalk (both_at one other) Within Lacks old new result
       walk_both old middle new (Ok x) w v = walked_both old middle new w v
       walk_both old middle new (Err stop) w h = stopped_other old middle new stop w h
 
@@ -220,7 +220,7 @@ module _ (Within : Hand → Type 0) where
       reads = (sized.reads t.piece t.length_is).1;
     }
 
-    pub stopped_sized : (Lacks : Stop → Hand → ℕ → Type 0) (old new : Hand) (stop : Stop) → TookFewer Within Lacks size old new stop → Stopped read Within Lacks old new stop
+    pub stopped_sized : (Lacks : TakeFault → Hand → ℕ → Type 0) (old new : Hand) (stop : TakeFault) → TookFewer Within Lacks size old new stop → Stopped read Within Lacks old new stop
     stopped_sized Lacks old new stop t = record {
       piece = t.piece;
       keeps = t.keeps;

@@ -4,22 +4,22 @@ use Rattle.std.specs.Int.{Width, w8, w16, w32, byte_len}
 use Rattle.krb_name.specs.Cursor.{Place, ◌>>=◌, bytes_at, number_at, signed_at, data_at, times_at}
 use Rattle.krb_name.specs.declared.principal.Principal.{Principal}
 use Rattle.krb_ccache.specs.declared.typed.TypedBytes.{TypedBytes}
-use Rattle.krb_ccache.specs.declared.walking.Stop.{Stop}
+use Rattle.krb_ccache.specs.declared.walking.TakeFault.{TakeFault}
 use Rattle.krb_ccache.specs.declared.layout.Layout.{Layout}
 use Rattle.krb_ccache.specs.Format.{second_size}
 use Rattle.krb_ccache.specs.Inner.Reading.{both_at, name_at, typed_of, typed_at, list_at, tail_at, marked_at, strings_at, made_at}
 use Rattle.krb_ccache.specs.Inner.Walking.{Hand, Walked, Stopped, IsWalk, Taken, TookFewer, IsTaken, last_number, WalkedOne}
 use Rattle.krb_ccache.proofs.WalkLaws.{bound, walked_bound, Sized, stopped_first, stopped_bound, walk_bound, walk_made, stopped_made, walked_made, walked_both, walk_both, stopped_one, stopped_other, regroup, regrouped, walked_number, walked_sized, stopped_sized, sized_number, sized_signed, sized_bytes, sized_both, pair_with, walked_after}
 
-module _ (Within : Hand → Type 0) (Lacks : Stop → Hand → ℕ → Type 0) where
+module _ (Within : Hand → Type 0) (Lacks : TakeFault → Hand → ℕ → Type 0) where
   -- ---- a number, and what is read after it
 
   module _ {Y : Type 0} (w : Width) (other : ℕ → Place → Option (Y × Place)) where
-    pub number_then : {T : Type 0} (old middle new : Hand) (count : ℕ) (result : Result T Stop) → Taken Within (byte_len w) old middle → count ≡ last_number w 0 old.bytes middle.bytes
+    pub number_then : {T : Type 0} (old middle new : Hand) (count : ℕ) (result : Result T TakeFault) → Taken Within (byte_len w) old middle → count ≡ last_number w 0 old.bytes middle.bytes
         → IsWalk (other count) Within Lacks middle new result → IsWalk (bound (number_at w) other) Within Lacks old new result
     number_then old middle new count result t last h = walk_bound (number_at w) other Within Lacks old middle new result (walked_number Within w old middle count t last) h
 
-    pub number_first : (old new : Hand) (stop : Stop) → TookFewer Within Lacks (byte_len w) old new stop → Stopped (bound (number_at w) other) Within Lacks old new stop
+    pub number_first : (old new : Hand) (stop : TakeFault) → TookFewer Within Lacks (byte_len w) old new stop → Stopped (bound (number_at w) other) Within Lacks old new stop
     number_first old new stop t = stopped_first (number_at w) other Within Lacks old new stop (stopped_sized Within (number_at w) (byte_len w) (sized_number w) Lacks old new stop t)
 
   -- ---- a principal
@@ -83,7 +83,7 @@ module _ (Within : Hand → Type 0) (Lacks : Stop → Hand → ℕ → Type 0) w
   abbrev head_walked : (old new : Hand) (count : ℕ) → Taken Within 8 old new → count ≡ last_number w32 4 old.bytes new.bytes → Walked head_at Within old new
   head_walked old new count t last = walked_after Within (signed_at w32) 4 type_sized w32 old new count t last
 
-  pub name_walk : {T : Type 0} (old a b new : Hand) (count length : ℕ) (result : Result T Stop) → Taken Within 8 old a → count ≡ last_number w32 4 old.bytes a.bytes → Taken Within 4 a b → length ≡ last_number w32 0 a.bytes b.bytes
+  pub name_walk : {T : Type 0} (old a b new : Hand) (count length : ℕ) (result : Result T TakeFault) → Taken Within 8 old a → count ≡ last_number w32 4 old.bytes a.bytes → Taken Within 4 a b → length ≡ last_number w32 0 a.bytes b.bytes
       → IsWalk (strings_at length count) Within Lacks b new result → IsWalk name_at Within Lacks old new result
   name_walk old a b new count length result t last u next h =
       let head = head_walked old a count t last in
@@ -91,14 +91,14 @@ module _ (Within : Hand → Type 0) (Lacks : Stop → Hand → ℕ → Type 0) w
       (walk_bound head_at from_head Within Lacks old a new result head
       (walk_made (named head.thing) (from_length head.thing) (from_head head.thing) (λ place. refl) Within Lacks a new result (number_then w32 (λ n. strings_at n count) a b new length result u next h)))
 
-  named_stops : (old new : Hand) (stop : Stop) → Stopped (bound head_at from_head) Within Lacks old new stop → Stopped name_at Within Lacks old new stop
+  named_stops : (old new : Hand) (stop : TakeFault) → Stopped (bound head_at from_head) Within Lacks old new stop → Stopped name_at Within Lacks old new stop
   named_stops old new stop h = stopped_made same_name (bound head_at from_head) name_at name_parts Within Lacks old new stop h
 
-  pub name_count_stops : (old new : Hand) (stop : Stop) → TookFewer Within Lacks 8 old new stop → Stopped name_at Within Lacks old new stop
+  pub name_count_stops : (old new : Hand) (stop : TakeFault) → TookFewer Within Lacks 8 old new stop → Stopped name_at Within Lacks old new stop
   name_count_stops old new stop t =
       named_stops old new stop (stopped_first head_at from_head Within Lacks old new stop (stopped_sized Within head_at 8 (sized_both (signed_at w32) (number_at w32) 4 4 type_sized (sized_number w32)) Lacks old new stop t))
 
-  pub name_length_stops : (old a new : Hand) (count : ℕ) (stop : Stop) → Taken Within 8 old a → count ≡ last_number w32 4 old.bytes a.bytes → TookFewer Within Lacks 4 a new stop → Stopped name_at Within Lacks old new stop
+  pub name_length_stops : (old a new : Hand) (count : ℕ) (stop : TakeFault) → Taken Within 8 old a → count ≡ last_number w32 4 old.bytes a.bytes → TookFewer Within Lacks 4 a new stop → Stopped name_at Within Lacks old new stop
   name_length_stops old a new count stop t last u =
       let head = head_walked old a count t last in
       named_stops old new stop
@@ -107,39 +107,39 @@ module _ (Within : Hand → Type 0) (Lacks : Stop → Hand → ℕ → Type 0) w
 
   -- ---- bytes after their length
 
-  bytes_walk : {T : Type 0} (old new : Hand) (count : ℕ) (result : Result T Stop) → IsTaken Within Lacks count old new result → IsWalk (bytes_at count) Within Lacks old new result
+  bytes_walk : {T : Type 0} (old new : Hand) (count : ℕ) (result : Result T TakeFault) → IsTaken Within Lacks count old new result → IsWalk (bytes_at count) Within Lacks old new result
   bytes_walk old new count (Ok x) t = walked_sized Within (bytes_at count) count (sized_bytes count) old new t
   bytes_walk old new count (Err stop) t = stopped_sized Within (bytes_at count) count (sized_bytes count) Lacks old new stop t
 
-  pub data_then : {T : Type 0} (w : Width) (old middle new : Hand) (count : ℕ) (result : Result T Stop) → Taken Within (byte_len w) old middle → count ≡ last_number w 0 old.bytes middle.bytes → IsTaken Within Lacks count middle new result
+  pub data_then : {T : Type 0} (w : Width) (old middle new : Hand) (count : ℕ) (result : Result T TakeFault) → Taken Within (byte_len w) old middle → count ≡ last_number w 0 old.bytes middle.bytes → IsTaken Within Lacks count middle new result
       → IsWalk (data_at w) Within Lacks old new result
   unfolding data_at
   data_then w old middle new count result t last h = number_then w bytes_at old middle new count result t last (bytes_walk middle new count result h)
 
-  pub data_first : (w : Width) (old new : Hand) (stop : Stop) → TookFewer Within Lacks (byte_len w) old new stop → Stopped (data_at w) Within Lacks old new stop
+  pub data_first : (w : Width) (old new : Hand) (stop : TakeFault) → TookFewer Within Lacks (byte_len w) old new stop → Stopped (data_at w) Within Lacks old new stop
   unfolding data_at
   data_first w old new stop t = number_first w bytes_at old new stop t
 
   -- ---- addresses and authorization data
 
-  pub kind_then : {T : Type 0} (old middle new : Hand) (result : Result T Stop) → Taken Within 2 old middle → IsWalk (data_at w32) Within Lacks middle new result → IsWalk typed_at Within Lacks old new result
+  pub kind_then : {T : Type 0} (old middle new : Hand) (result : Result T TakeFault) → Taken Within 2 old middle → IsWalk (data_at w32) Within Lacks middle new result → IsWalk typed_at Within Lacks old new result
   unfolding typed_at
   kind_then old middle new result t h =
       walk_made typed_of (both_at (number_at w16) (data_at w32)) typed_at (λ place. refl) Within Lacks old new result
       (walk_both (number_at w16) (data_at w32) Within Lacks old middle new result (walked_sized Within (number_at w16) 2 (sized_number w16) old middle t) h)
 
-  pub kind_first : (old new : Hand) (stop : Stop) → TookFewer Within Lacks 2 old new stop → Stopped typed_at Within Lacks old new stop
+  pub kind_first : (old new : Hand) (stop : TakeFault) → TookFewer Within Lacks 2 old new stop → Stopped typed_at Within Lacks old new stop
   unfolding typed_at
   kind_first old new stop t =
       stopped_made typed_of (both_at (number_at w16) (data_at w32)) typed_at (λ place. refl) Within Lacks old new stop
       (stopped_one (number_at w16) (data_at w32) Within Lacks old new stop (stopped_sized Within (number_at w16) 2 (sized_number w16) Lacks old new stop t))
 
-  pub list_then : {T : Type 0} (old middle new : Hand) (count : ℕ) (result : Result T Stop) → Taken Within 4 old middle → count ≡ last_number w32 0 old.bytes middle.bytes → IsWalk (times_at typed_at count) Within Lacks middle new result
+  pub list_then : {T : Type 0} (old middle new : Hand) (count : ℕ) (result : Result T TakeFault) → Taken Within 4 old middle → count ≡ last_number w32 0 old.bytes middle.bytes → IsWalk (times_at typed_at count) Within Lacks middle new result
       → IsWalk list_at Within Lacks old new result
   unfolding list_at
   list_then old middle new count result t last h = number_then w32 (times_at typed_at) old middle new count result t last h
 
-  pub list_first : (old new : Hand) (stop : Stop) → TookFewer Within Lacks 4 old new stop → Stopped list_at Within Lacks old new stop
+  pub list_first : (old new : Hand) (stop : TakeFault) → TookFewer Within Lacks 4 old new stop → Stopped list_at Within Lacks old new stop
   unfolding list_at
   list_first old new stop t = number_first w32 (times_at typed_at) old new stop t
 
@@ -157,10 +157,10 @@ module _ (Within : Hand → Type 0) (Lacks : Stop → Hand → ℕ → Type 0) w
   flags_of : (old new : Hand) → Taken Within 4 old new → Walked (number_at w32) Within old new
   flags_of old new t = walked_sized Within (number_at w32) 4 (sized_number w32) old new t
 
-  pub flags_stop : (old new : Hand) (stop : Stop) → TookFewer Within Lacks 4 old new stop → Stopped tail_at Within Lacks old new stop
+  pub flags_stop : (old new : Hand) (stop : TakeFault) → TookFewer Within Lacks 4 old new stop → Stopped tail_at Within Lacks old new stop
   flags_stop old new stop t = stopped_one (number_at w32) lists_at Within Lacks old new stop (stopped_sized Within (number_at w32) 4 (sized_number w32) Lacks old new stop t)
 
-  module _ {T : Type 0} (old a new : Hand) (result : Result T Stop) (t : Taken Within 4 old a) where
+  module _ {T : Type 0} (old a new : Hand) (result : Result T TakeFault) (t : Taken Within 4 old a) where
     pub addresses_then : IsWalk lists_at Within Lacks a new result → IsWalk tail_at Within Lacks old new result
     addresses_then h = walk_both (number_at w32) lists_at Within Lacks old a new result (flags_of old a t) h
 
@@ -173,13 +173,13 @@ module _ (Within : Hand → Type 0) (Lacks : Stop → Hand → ℕ → Type 0) w
     pub tickets_then : (b c d : Hand) → Walked list_at Within a b → Walked list_at Within b c → Walked (data_at w32) Within c d → IsWalk (data_at w32) Within Lacks d new result → IsWalk tail_at Within Lacks old new result
     tickets_then b c d one other ticket h = ticket_then b c one other (walk_both (data_at w32) (data_at w32) Within Lacks c d new result ticket h)
 
-  pub addresses_stop : (old new : Hand) (stop : Stop) → Stopped list_at Within Lacks old new stop → Stopped lists_at Within Lacks old new stop
+  pub addresses_stop : (old new : Hand) (stop : TakeFault) → Stopped list_at Within Lacks old new stop → Stopped lists_at Within Lacks old new stop
   addresses_stop old new stop h = stopped_one list_at authdata_at Within Lacks old new stop h
 
-  pub authdata_stop : (old new : Hand) (stop : Stop) → Stopped list_at Within Lacks old new stop → Stopped authdata_at Within Lacks old new stop
+  pub authdata_stop : (old new : Hand) (stop : TakeFault) → Stopped list_at Within Lacks old new stop → Stopped authdata_at Within Lacks old new stop
   authdata_stop old new stop h = stopped_one list_at tickets_at Within Lacks old new stop h
 
-  pub ticket_stop : (old new : Hand) (stop : Stop) → Stopped (data_at w32) Within Lacks old new stop → Stopped tickets_at Within Lacks old new stop
+  pub ticket_stop : (old new : Hand) (stop : TakeFault) → Stopped (data_at w32) Within Lacks old new stop → Stopped tickets_at Within Lacks old new stop
   ticket_stop old new stop h = stopped_one (data_at w32) (data_at w32) Within Lacks old new stop h
 
   -- ---- from the times on
@@ -245,7 +245,7 @@ module _ (Within : Hand → Type 0) (Lacks : Stop → Hand → ℕ → Type 0) w
         let one = walked_made (regroup one_time u32_at from_third) (both_at two_times from_third) (both_at one_time from_second) (regrouped one_time u32_at from_third) Within old new two in
         walked_made (regroup no_times u32_at from_second) (both_at one_time from_second) from_bytes (regrouped no_times u32_at from_second) Within old new one
 
-    times_flat : (old new : Hand) (stop : Stop) → Stopped (both_at to_mark tail_at) Within Lacks old new stop → Stopped from_bytes Within Lacks old new stop
+    times_flat : (old new : Hand) (stop : TakeFault) → Stopped (both_at to_mark tail_at) Within Lacks old new stop → Stopped from_bytes Within Lacks old new stop
     times_flat old new stop five =
         let four = stopped_made (regroup four_times (number_at w8) tail_at) (both_at to_mark tail_at) (both_at four_times from_mark) (regrouped four_times (number_at w8) tail_at) Within Lacks old new stop five in
         let three = stopped_made (regroup three_times u32_at from_mark) (both_at four_times from_mark) (both_at three_times from_fourth) (regrouped three_times u32_at from_mark) Within Lacks old new stop four in
@@ -253,10 +253,10 @@ module _ (Within : Hand → Type 0) (Lacks : Stop → Hand → ℕ → Type 0) w
         let one = stopped_made (regroup one_time u32_at from_third) (both_at two_times from_third) (both_at one_time from_second) (regrouped one_time u32_at from_third) Within Lacks old new stop two in
         stopped_made (regroup no_times u32_at from_second) (both_at one_time from_second) from_bytes (regrouped no_times u32_at from_second) Within Lacks old new stop one
 
-    times_first : (old new : Hand) (stop : Stop) → TookFewer Within Lacks (size + 16 + 1) old new stop → Stopped from_bytes Within Lacks old new stop
+    times_first : (old new : Hand) (stop : TakeFault) → TookFewer Within Lacks (size + 16 + 1) old new stop → Stopped from_bytes Within Lacks old new stop
     times_first old new stop t = times_flat old new stop (stopped_one to_mark tail_at Within Lacks old new stop (stopped_sized Within to_mark (size + 16 + 1) mark_sized Lacks old new stop t))
 
-    times_then : (old middle new : Hand) (stop : Stop) → Taken Within (size + 16 + 1) old middle → Stopped tail_at Within Lacks middle new stop → Stopped from_bytes Within Lacks old new stop
+    times_then : (old middle new : Hand) (stop : TakeFault) → Taken Within (size + 16 + 1) old middle → Stopped tail_at Within Lacks middle new stop → Stopped from_bytes Within Lacks old new stop
     times_then old middle new stop t h = times_flat old new stop (stopped_other to_mark tail_at Within Lacks old middle new stop (walked_sized Within to_mark (size + 16 + 1) mark_sized old middle t) h)
 
   -- ---- a credential
@@ -318,7 +318,7 @@ module _ (Within : Hand → Type 0) (Lacks : Stop → Hand → ℕ → Type 0) w
         (walked_bound to_length from_length_of Within old middle new w
         (walked_made (λ (key : Key). (w.thing.0, key)) (from_bytes w.thing.1) (from_length_of w.thing) (λ place. refl) Within middle new h)))
 
-    etypes_flat : (old new : Hand) (stop : Stop) → Stopped (bound to_length from_length_of) Within Lacks old new stop → Stopped from_etype Within Lacks old new stop
+    etypes_flat : (old new : Hand) (stop : TakeFault) → Stopped (bound to_length from_length_of) Within Lacks old new stop → Stopped from_etype Within Lacks old new stop
     etypes_flat old new stop h =
         stopped_made (regroup (signed_at w16) second_at from_key) (both_at etypes_at from_key) from_etype (regrouped (signed_at w16) second_at from_key) Within Lacks old new stop
         (stopped_made same_parts (bound to_length from_length_of) (both_at etypes_at from_key) key_parts Within Lacks old new stop h)
@@ -329,10 +329,10 @@ module _ (Within : Hand → Type 0) (Lacks : Stop → Hand → ℕ → Type 0) w
         let served = walked_both name_at from_etype Within a b new server (etypes_walked b c new (length_walked b c size etypes size_is) (times_walked size c d new mark times last tail)) in
         record { walked = walked_both name_at from_server Within old a new client served; mark_is = refl }
 
-    pub client_stops : (old new : Hand) (stop : Stop) → Stopped name_at Within Lacks old new stop → Stopped (marked_at layout) Within Lacks old new stop
+    pub client_stops : (old new : Hand) (stop : TakeFault) → Stopped name_at Within Lacks old new stop → Stopped (marked_at layout) Within Lacks old new stop
     client_stops old new stop h = stopped_one name_at from_server Within Lacks old new stop h
 
-    module _ (old a new : Hand) (stop : Stop) (client : Walked name_at Within old a) where
+    module _ (old a new : Hand) (stop : TakeFault) (client : Walked name_at Within old a) where
       pub server_stops : Stopped name_at Within Lacks a new stop → Stopped (marked_at layout) Within Lacks old new stop
       server_stops h = stopped_other name_at from_server Within Lacks old a new stop client (stopped_one name_at from_etype Within Lacks a new stop h)
 

@@ -5,7 +5,7 @@ use Rattle.std.proofs.KnownBytes.{Consumes-nil}
 use Rattle.std.proofs.lemmas.List.{length-append, length-take, length-drop, take-append-drop}
 use Rattle.krb_name.specs.Cursor.{Place, ◌>>=◌, bytes_at, number_at, data_at, times_at}
 use Rattle.krb_name.specs.Window.{Keeps}
-use Rattle.krb_ccache.specs.declared.walking.Stop.{Stop}
+use Rattle.krb_ccache.specs.declared.walking.TakeFault.{TakeFault}
 use Rattle.krb_ccache.specs.Inner.Reading.{made_at, strings_at}
 use Rattle.krb_ccache.specs.Inner.Walking.{Hand, Reads, NeedsMore, Walked, Stopped, IsWalk, Taken, TookFewer, IsTaken, last_number}
 use Rattle.krb_ccache.proofs.WalkLaws.{bound, joined, pair_with, reads_bound, needs_bound, reads_made, needs_made, reads_both, needs_other, number_is, number_reads, sized_bytes, sized_number, too_few}
@@ -109,7 +109,7 @@ module _ (Within : Hand → Type 0) where
               (f.needs (bytes ++ (number ++ rest)) n (subst (λ (m : ℕ). NeedsMore (strings_at size m) (bytes ++ (number ++ rest)) n) (sym (one_less count i lt)) more));
         }
 
-    pub one_stopped : (Lacks : Stop → Hand → ℕ → Type 0) (stop : Stop) → TookFewer Within Lacks (size + 4) middle new stop → Stopped (strings_at start count) Within Lacks old new stop
+    pub one_stopped : (Lacks : TakeFault → Hand → ℕ → Type 0) (stop : TakeFault) → TookFewer Within Lacks (size + 4) middle new stop → Stopped (strings_at start count) Within Lacks old new stop
     one_stopped Lacks stop t = record {
       piece = f.piece ++ t.piece;
       keeps = joined old middle new f.piece t.piece f.keeps t.keeps;
@@ -139,7 +139,7 @@ module _ (Within : Hand → Type 0) where
           reads = all.1;
         }
 
-    pub last_stopped : (Lacks : Stop → Hand → ℕ → Type 0) (stop : Stop) → TookFewer Within Lacks size middle new stop → Stopped (strings_at start count) Within Lacks old new stop
+    pub last_stopped : (Lacks : TakeFault → Hand → ℕ → Type 0) (stop : TakeFault) → TookFewer Within Lacks size middle new stop → Stopped (strings_at start count) Within Lacks old new stop
     last_stopped Lacks stop t = record {
       piece = f.piece ++ t.piece;
       keeps = joined old middle new f.piece t.piece f.keeps t.keeps;
@@ -150,6 +150,6 @@ module _ (Within : Hand → Type 0) where
       lacks = t.lacks;
     }
 
-    pub strings_walk : {T : Type 0} (Lacks : Stop → Hand → ℕ → Type 0) (result : Result T Stop) → IsTaken Within Lacks size middle new result → IsWalk (strings_at start count) Within Lacks old new result
+    pub strings_walk : {T : Type 0} (Lacks : TakeFault → Hand → ℕ → Type 0) (result : Result T TakeFault) → IsTaken Within Lacks size middle new result → IsWalk (strings_at start count) Within Lacks old new result
     strings_walk Lacks (Ok x) t = all_taken t
     strings_walk Lacks (Err stop) t = last_stopped Lacks stop t

@@ -3,7 +3,7 @@ use Rattle.std.proofs.Common.{◌≡◌, ℕ, suc, ◌+◌, ◌-◌, ◌<◌, �
 use Rattle.std.proofs.KnownBytes.{Consumes-nil}
 use Rattle.krb_name.specs.Cursor.{Place, ◌>>=◌, times_at}
 use Rattle.krb_name.specs.Window.{Keeps}
-use Rattle.krb_ccache.specs.declared.walking.Stop.{Stop}
+use Rattle.krb_ccache.specs.declared.walking.TakeFault.{TakeFault}
 use Rattle.krb_ccache.specs.Inner.Walking.{Hand, Reads, NeedsMore, Walked, Stopped}
 use Rattle.krb_ccache.proofs.WalkLaws.{joined, reads_bound, needs_first, needs_bound}
 
@@ -67,7 +67,7 @@ module _ {X : Type 0} (read : Place → Option (X × Place)) where
           (f.needs (w.piece ++ rest) n (subst (λ (m : ℕ). NeedsMore (times_at read m) (w.piece ++ rest) n) (sym (one_less count i lt)) (needs_others (count - (i + 1)) w.piece rest w.thing n w.reads h)));
     }
 
-    pub one_stopped : (Lacks : Stop → Hand → ℕ → Type 0) (old middle new : Hand) (count i : ℕ) (stop : Stop) → Front old middle count i → i < count → Stopped read Within Lacks middle new stop → Stopped (times_at read count) Within Lacks old new stop
+    pub one_stopped : (Lacks : TakeFault → Hand → ℕ → Type 0) (old middle new : Hand) (count i : ℕ) (stop : TakeFault) → Front old middle count i → i < count → Stopped read Within Lacks middle new stop → Stopped (times_at read count) Within Lacks old new stop
     one_stopped Lacks old middle new count i stop f lt h = record {
       piece = f.piece ++ h.piece;
       keeps = joined old middle new f.piece h.piece f.keeps h.keeps;

@@ -22,7 +22,7 @@ use crate::item_fault::ItemFault;
 use crate::items::{read_credential, read_name, to_flag};
 use crate::layout::{Layout, read_layout};
 use crate::taker::Taker;
-use crate::walking::{Stop, take_credential, take_header, take_name};
+use crate::walking::{TakeFault, take_credential, take_header, take_name};
 use krb_name::{FILE_LIMIT, FileCursor, Principal, Short, Source, Window};
 use std::alloc::{AllocError, Global};
 
@@ -36,15 +36,15 @@ pub(crate) struct Start {
     pub(crate) default_principal: Principal,
 }
 
-impl From<ItemFault> for Stop {
+impl From<ItemFault> for TakeFault {
     ghost use Rattle.krb_ccache.specs.Inner.Stepping.{item_stop};
 
     ghost from_gives = { λ fault stop. stop ≡ item_stop fault };
 
-    fn from(fault: ItemFault) -> Stop {
+    fn from(fault: ItemFault) -> TakeFault {
         match fault {
-            ItemFault::Missing => Stop::Long,
-            ItemFault::OutOfMemory => Stop::OutOfMemory,
+            ItemFault::Missing => TakeFault::Long,
+            ItemFault::OutOfMemory => TakeFault::OutOfMemory,
         }
     }
 }
@@ -103,7 +103,7 @@ fn credential_of(alloc: Global, layout: Layout, bytes: &[u8]) -> Result<Credenti
 
 // Each call takes the bytes of a part, and no more, and reads it off them.
 
-fn come_version<S: Source>(window: &mut Window<S>) -> Result<Layout, Stop>
+fn come_version<S: Source>(window: &mut Window<S>) -> Result<Layout, TakeFault>
     requires reads { S.failure_count window.old.source < 2 ^ 64 - 1 }
     requires within { window.old.given ≤ file_limit }
     ensures comes { IfOk result (Comes version_of Any S.remaining window.old window.new) }
@@ -116,7 +116,7 @@ fn come_version<S: Source>(window: &mut Window<S>) -> Result<Layout, Stop>
     window.take(2)?;
     match layout_of(window.bytes()) {
         Ok(layout) => Ok(layout),
-        Err(Short) => Err(Stop::Long),
+        Err(Short) => Err(TakeFault::Long),
     }
 }
 
@@ -125,7 +125,7 @@ fn come_head<S: Source>(
     alloc: Global,
     layout: Layout,
     window: &mut Window<S>,
-) -> Result<Vec<HeaderField>, Stop>
+) -> Result<Vec<HeaderField>, TakeFault>
     requires reads { S.failure_count window.old.source < 2 ^ 64 - 1 }
     requires within { window.old.given ≤ file_limit }
     ensures comes { IfOk result (λ header.
@@ -142,7 +142,10 @@ fn come_head<S: Source>(
     }
 }
 
-fn come_header<S: Source>(alloc: Global, window: &mut Window<S>) -> Result<Vec<HeaderField>, Stop>
+fn come_header<S: Source>(
+    alloc: Global,
+    window: &mut Window<S>,
+) -> Result<Vec<HeaderField>, TakeFault>
     requires reads { S.failure_count window.old.source < 2 ^ 64 - 1 }
     requires within { window.old.given ≤ file_limit }
     ensures comes { IfOk result (λ header.
@@ -156,11 +159,11 @@ fn come_header<S: Source>(alloc: Global, window: &mut Window<S>) -> Result<Vec<H
     take_header(window)?;
     match header_of(alloc, window.bytes()) {
         Ok(header) => Ok(header),
-        Err(fault) => Err(Stop::from(fault)),
+        Err(fault) => Err(TakeFault::from(fault)),
     }
 }
 
-fn come_name<S: Source>(alloc: Global, window: &mut Window<S>) -> Result<Principal, Stop>
+fn come_name<S: Source>(alloc: Global, window: &mut Window<S>) -> Result<Principal, TakeFault>
     requires reads { S.failure_count window.old.source < 2 ^ 64 - 1 }
     requires within { window.old.given ≤ file_limit }
     ensures comes { IfOk result (Comes name_bytes FitsName S.remaining window.old window.new) }
@@ -173,12 +176,12 @@ fn come_name<S: Source>(alloc: Global, window: &mut Window<S>) -> Result<Princip
     take_name(window)?;
     match name_of(alloc, window.bytes()) {
         Ok(name) => Ok(name),
-        Err(fault) => Err(Stop::from(fault)),
+        Err(fault) => Err(TakeFault::from(fault)),
     }
 }
 
 // Takes the bytes of a credential, and no more, and answers only whether they are one.
-fn come_past<S: Source>(layout: Layout, window: &mut Window<S>) -> Result<(), Stop>
+fn come_past<S: Source>(layout: Layout, window: &mut Window<S>) -> Result<(), TakeFault>
     requires reads { S.failure_count window.old.source < 2 ^ 64 - 1 }
     requires within { window.old.given ≤ file_limit }
     ensures comes { OnOk result ((one : Spelled)
@@ -196,13 +199,13 @@ fn come_past<S: Source>(layout: Layout, window: &mut Window<S>) -> Result<(), St
     let mark = take_credential(layout, window)?;
     match has_credential(layout, window.bytes(), mark) {
         Ok(()) => Ok(()),
-        Err(Short) => Err(Stop::Long),
+        Err(Short) => Err(TakeFault::Long),
     }
 }
 
 // Answers the fault of a part that didn't come, when the source was read out, or TooLong in its place.
-fn told<S: Source>(window: &mut Window<S>, stop: Stop, fault: CacheFault) -> CacheFault
-    requires reads { stop ≡ Stop.Long → S.failure_count window.old.source < 2 ^ 64 - 1 }
+fn told<S: Source>(window: &mut Window<S>, stop: TakeFault, fault: CacheFault) -> CacheFault
+    requires reads { stop ≡ TakeFault.Long → S.failure_count window.old.source < 2 ^ 64 - 1 }
     requires within { window.old.given ≤ file_limit }
     requires content { failed_reads {T = Unit {0}} (Err fault) ≡ 0 }
     ensures told { IsTold S.remaining window.old window.new stop fault result }
@@ -211,14 +214,14 @@ fn told<S: Source>(window: &mut Window<S>, stop: Stop, fault: CacheFault) -> Cac
     ensures lent { S.lender window.new.source ≡ S.lender window.old.source }
 {
     match stop {
-        Stop::End => fault,
-        Stop::Long => match window.run_out(FILE_LIMIT) {
+        TakeFault::End => fault,
+        TakeFault::Long => match window.run_out(FILE_LIMIT) {
             Ok(true) => fault,
             Ok(false) => CacheFault::TooLong,
             Err(_) => CacheFault::Read,
         },
-        Stop::Read => CacheFault::Read,
-        Stop::OutOfMemory => CacheFault::OutOfMemory,
+        TakeFault::Read => CacheFault::Read,
+        TakeFault::OutOfMemory => CacheFault::OutOfMemory,
     }
 }
 

@@ -3,9 +3,9 @@
 ghost use Rattle.std.specs.Prelude.{◌≡◌, ◌+◌, ◌-◌, ◌≤◌, ◌<◌, ◌^◌, ℕ, List, [], Option, OnOk, length};
 ghost use Rattle.krb_name.specs.File.{file_limit};
 ghost use Rattle.krb_ccache.specs.Inner.Walking.{Hand, IsTaken, stopped_reads, window_hand, window_within, window_lacks, bytes_hand, bytes_within, bytes_lacks};
-ghost use Rattle.krb_ccache.specs.declared.walking.Stop.{Stop as StopValue};
+ghost use Rattle.krb_ccache.specs.declared.walking.TakeFault.{TakeFault as TakeFaultValue};
 
-use crate::walking::Stop;
+use crate::walking::TakeFault;
 use krb_name::{FILE_LIMIT, Source, Window};
 use std::marker::Model;
 
@@ -18,7 +18,7 @@ pub(crate) trait Taker {
     ghost Within: { Hand → Type 0 };
 
     /// Whether so many bytes can't be taken, for this reason.
-    ghost Lacks: { StopValue → Hand → ℕ → Type 0 };
+    ghost Lacks: { TakeFaultValue → Hand → ℕ → Type 0 };
 
     /// How many reads have failed.
     ghost failures: { Self → ℕ };
@@ -27,7 +27,7 @@ pub(crate) trait Taker {
     ghost lender: { Self → ℕ };
 
     /// Takes `count` bytes.
-    fn take(&mut self, count: usize) -> Result<(), Stop>
+    fn take(&mut self, count: usize) -> Result<(), TakeFault>
         requires reads { failures self.old < 2 ^ 64 - 1 }
         requires within { Within (hand self.old) }
         ensures taken { IsTaken Within Lacks count (hand self.old) (hand self.new) result }
@@ -52,7 +52,7 @@ impl<S: Source> Taker for Window<S> {
 
     ghost lender = { λ window. S.lender window.source };
 
-    fn take(&mut self, count: usize) -> Result<(), Stop> {
+    fn take(&mut self, count: usize) -> Result<(), TakeFault> {
         fill(self, count)
     }
 
@@ -63,7 +63,7 @@ impl<S: Source> Taker for Window<S> {
 }
 
 // Appends so many bytes of the source to those held.
-fn fill<S: Source>(window: &mut Window<S>, count: usize) -> Result<(), Stop>
+fn fill<S: Source>(window: &mut Window<S>, count: usize) -> Result<(), TakeFault>
     requires reads { S.failure_count window.old.source < 2 ^ 64 - 1 }
     requires within { window.old.given ≤ file_limit }
     ensures taken { IsTaken window_within window_lacks count
@@ -75,12 +75,12 @@ fn fill<S: Source>(window: &mut Window<S>, count: usize) -> Result<(), Stop>
 {
     let _held = window.held();
     if count > FILE_LIMIT - window.given() {
-        return Err(Stop::Long);
+        return Err(TakeFault::Long);
     }
     match window.fill(count) {
         Ok(true) => Ok(()),
-        Ok(false) => Err(Stop::End),
-        Err(fault) => Err(Stop::from(fault)),
+        Ok(false) => Err(TakeFault::End),
+        Err(fault) => Err(TakeFault::from(fault)),
     }
 }
 
@@ -119,9 +119,9 @@ impl Taker for Passing<'_> {
 
     ghost lender = { λ _. 0 };
 
-    fn take(&mut self, count: usize) -> Result<(), Stop> {
+    fn take(&mut self, count: usize) -> Result<(), TakeFault> {
         if count > self.bytes.len() - self.at {
-            return Err(Stop::End);
+            return Err(TakeFault::End);
         }
         self.at += count;
         Ok(())

@@ -22,7 +22,7 @@ const FLAGS: usize = 4;
 
 /// Why the bytes of a part weren't taken.
 #[derive(Clone, Copy)]
-pub(crate) enum Stop {
+pub(crate) enum TakeFault {
     /// There are no more.
     End,
     /// They would pass the limit of a file, or aren't those of a part.
@@ -33,23 +33,23 @@ pub(crate) enum Stop {
     OutOfMemory,
 }
 
-impl From<ReadFault> for Stop {
+impl From<ReadFault> for TakeFault {
     ghost use Rattle.krb_ccache.specs.Inner.Walking.{stop_of};
 
     ghost from_gives = { λ read stop. stop ≡ stop_of read };
 
-    fn from(fault: ReadFault) -> Stop {
+    fn from(fault: ReadFault) -> TakeFault {
         match fault {
-            ReadFault::Read => Stop::Read,
-            ReadFault::OutOfMemory => Stop::OutOfMemory,
+            ReadFault::Read => TakeFault::Read,
+            ReadFault::OutOfMemory => TakeFault::OutOfMemory,
         }
     }
 }
 
-impl From<Stop> for Short {
+impl From<TakeFault> for Short {
     ghost from_gives = { λ _ _. Unit {0} };
 
-    fn from(_: Stop) -> Short {
+    fn from(_: TakeFault) -> Short {
         Short
     }
 }
@@ -82,7 +82,7 @@ fn u32_at(bytes: &[u8], at: usize) -> u32
 
 // Each call takes so many bytes and a number after them, or the bytes of a part.
 
-fn take_u8<T: Taker>(taker: &mut T, skip: usize) -> Result<u8, Stop>
+fn take_u8<T: Taker>(taker: &mut T, skip: usize) -> Result<u8, TakeFault>
     requires few { skip < 2 ^ 33 }
     requires reads { T.failures taker.old < 2 ^ 64 - 1 }
     requires within { T.Within (T.hand taker.old) }
@@ -97,7 +97,7 @@ fn take_u8<T: Taker>(taker: &mut T, skip: usize) -> Result<u8, Stop>
     Ok(u8_at(taker.taken(), at + skip))
 }
 
-fn take_u16<T: Taker>(taker: &mut T, skip: usize) -> Result<u16, Stop>
+fn take_u16<T: Taker>(taker: &mut T, skip: usize) -> Result<u16, TakeFault>
     requires few { skip < 2 ^ 33 }
     requires reads { T.failures taker.old < 2 ^ 64 - 1 }
     requires within { T.Within (T.hand taker.old) }
@@ -112,7 +112,7 @@ fn take_u16<T: Taker>(taker: &mut T, skip: usize) -> Result<u16, Stop>
     Ok(u16_at(taker.taken(), at + skip))
 }
 
-fn take_u32<T: Taker>(taker: &mut T, skip: usize) -> Result<u32, Stop>
+fn take_u32<T: Taker>(taker: &mut T, skip: usize) -> Result<u32, TakeFault>
     requires few { skip < 2 ^ 33 }
     requires reads { T.failures taker.old < 2 ^ 64 - 1 }
     requires within { T.Within (T.hand taker.old) }
@@ -127,7 +127,7 @@ fn take_u32<T: Taker>(taker: &mut T, skip: usize) -> Result<u32, Stop>
     Ok(u32_at(taker.taken(), at + skip))
 }
 
-fn take_data<T: Taker>(taker: &mut T) -> Result<(), Stop>
+fn take_data<T: Taker>(taker: &mut T) -> Result<(), TakeFault>
     requires reads { T.failures taker.old < 2 ^ 64 - 1 }
     requires within { T.Within (T.hand taker.old) }
     ensures walk { IsWalk (data_at w32) T.Within T.Lacks (T.hand taker.old) (T.hand taker.new) result }
@@ -138,7 +138,7 @@ fn take_data<T: Taker>(taker: &mut T) -> Result<(), Stop>
     taker.take(count as usize)
 }
 
-pub(crate) fn take_header<T: Taker>(taker: &mut T) -> Result<(), Stop>
+pub(crate) fn take_header<T: Taker>(taker: &mut T) -> Result<(), TakeFault>
     requires reads { T.failures taker.old < 2 ^ 64 - 1 }
     requires within { T.Within (T.hand taker.old) }
     ensures walk { IsWalk (data_at w16) T.Within T.Lacks (T.hand taker.old) (T.hand taker.new) result }
@@ -149,7 +149,7 @@ pub(crate) fn take_header<T: Taker>(taker: &mut T) -> Result<(), Stop>
     taker.take(usize::from(count))
 }
 
-pub(crate) fn take_name<T: Taker>(taker: &mut T) -> Result<(), Stop>
+pub(crate) fn take_name<T: Taker>(taker: &mut T) -> Result<(), TakeFault>
     requires reads { T.failures taker.old < 2 ^ 64 - 1 }
     requires within { T.Within (T.hand taker.old) }
     ensures walk { IsWalk name_at T.Within T.Lacks (T.hand taker.old) (T.hand taker.new) result }
@@ -162,7 +162,7 @@ pub(crate) fn take_name<T: Taker>(taker: &mut T) -> Result<(), Stop>
 }
 
 // Bytes of this length, and then so many with a length of their own.
-fn take_strings<T: Taker>(taker: &mut T, length: u32, count: u32) -> Result<(), Stop>
+fn take_strings<T: Taker>(taker: &mut T, length: u32, count: u32) -> Result<(), TakeFault>
     requires reads { T.failures taker.old < 2 ^ 64 - 1 }
     requires within { T.Within (T.hand taker.old) }
     ensures walk { IsWalk (strings_at length count) T.Within T.Lacks (T.hand taker.old) (T.hand taker.new) result }
@@ -177,7 +177,7 @@ fn take_strings<T: Taker>(taker: &mut T, length: u32, count: u32) -> Result<(), 
     taker.take(last as usize)
 }
 
-fn take_typed<T: Taker>(taker: &mut T) -> Result<(), Stop>
+fn take_typed<T: Taker>(taker: &mut T) -> Result<(), TakeFault>
     requires reads { T.failures taker.old < 2 ^ 64 - 1 }
     requires within { T.Within (T.hand taker.old) }
     ensures walk { IsWalk typed_at T.Within T.Lacks (T.hand taker.old) (T.hand taker.new) result }
@@ -188,7 +188,7 @@ fn take_typed<T: Taker>(taker: &mut T) -> Result<(), Stop>
     take_data(taker)
 }
 
-fn take_list<T: Taker>(taker: &mut T) -> Result<(), Stop>
+fn take_list<T: Taker>(taker: &mut T) -> Result<(), TakeFault>
     requires reads { T.failures taker.old < 2 ^ 64 - 1 }
     requires within { T.Within (T.hand taker.old) }
     ensures walk { IsWalk list_at T.Within T.Lacks (T.hand taker.old) (T.hand taker.new) result }
@@ -199,7 +199,7 @@ fn take_list<T: Taker>(taker: &mut T) -> Result<(), Stop>
     take_elements(taker, count)
 }
 
-fn take_elements<T: Taker>(taker: &mut T, count: u32) -> Result<(), Stop>
+fn take_elements<T: Taker>(taker: &mut T, count: u32) -> Result<(), TakeFault>
     requires reads { T.failures taker.old < 2 ^ 64 - 1 }
     requires within { T.Within (T.hand taker.old) }
     ensures walk { IsWalk (times_at typed_at count) T.Within T.Lacks (T.hand taker.old) (T.hand taker.new) result }
@@ -214,7 +214,7 @@ fn take_elements<T: Taker>(taker: &mut T, count: u32) -> Result<(), Stop>
 }
 
 // Returns the byte that `is_skey` has.
-pub(crate) fn take_credential<T: Taker>(layout: Layout, taker: &mut T) -> Result<u8, Stop>
+pub(crate) fn take_credential<T: Taker>(layout: Layout, taker: &mut T) -> Result<u8, TakeFault>
     requires reads { T.failures taker.old < 2 ^ 64 - 1 }
     requires within { T.Within (T.hand taker.old) }
     ensures walk { IsOneWalk layout T.Within T.Lacks (T.hand taker.old) (T.hand taker.new) result }
@@ -230,7 +230,7 @@ pub(crate) fn take_credential<T: Taker>(layout: Layout, taker: &mut T) -> Result
 }
 
 // From the flags to the end.
-fn take_tail<T: Taker>(taker: &mut T) -> Result<(), Stop>
+fn take_tail<T: Taker>(taker: &mut T) -> Result<(), TakeFault>
     requires reads { T.failures taker.old < 2 ^ 64 - 1 }
     requires within { T.Within (T.hand taker.old) }
     ensures walk { IsWalk tail_at T.Within T.Lacks (T.hand taker.old) (T.hand taker.new) result }

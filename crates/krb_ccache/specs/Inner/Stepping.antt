@@ -10,11 +10,11 @@ use Rattle.krb_ccache.specs.declared.fault.CacheFault.{CacheFault}
 use Rattle.krb_ccache.specs.declared.fault.CacheFault.TheVariants.{BadItem, TooLong, Read, OutOfMemory}
 use Rattle.krb_ccache.specs.declared.item_fault.ItemFault.{ItemFault}
 use Rattle.krb_ccache.specs.declared.item_fault.ItemFault.TheVariants as item
-use Rattle.krb_ccache.specs.declared.walking.Stop.{Stop}
-use Rattle.krb_ccache.specs.declared.walking.Stop.TheVariants as stop
+use Rattle.krb_ccache.specs.declared.walking.TakeFault.{TakeFault}
+use Rattle.krb_ccache.specs.declared.walking.TakeFault.TheVariants as stop
 use Rattle.krb_ccache.specs.Inner.Standing.{bytes_of}
 
-abbrev pub item_stop : ItemFault → Stop
+abbrev pub item_stop : ItemFault → TakeFault
 item_stop item.Missing = stop.Long
 item_stop item.OutOfMemory = stop.OutOfMemory
 
@@ -62,7 +62,7 @@ Tells left new fault told =
     ⊎ (((told ≡ TooLong) × (file_limit < new.given))
     ⊎ ((told ≡ fault) × (IsAtEnd (left new.source) × (new.given ≤ file_limit))))
 
-abbrev pub IsTold : {S : Type 0} → (S → Option (List ℕ)) → AtHand S → AtHand S → Stop → CacheFault → CacheFault → Type 0
+abbrev pub IsTold : {S : Type 0} → (S → Option (List ℕ)) → AtHand S → AtHand S → TakeFault → CacheFault → CacheFault → Type 0
 IsTold left old new stop.End fault told = (told ≡ fault) × (new ≡ old)
 IsTold left old new stop.Long fault told = Runs left old new × Tells left new fault told
 IsTold left old new stop.Read fault told = (told ≡ Read) × (new ≡ old)

@@ -12,8 +12,8 @@ use Rattle.krb_ccache.specs.Spelling.{marked_bytes}
 use Rattle.krb_ccache.specs.Format.{second_size}
 use Rattle.krb_ccache.specs.Value.{FitsCredential}
 use Rattle.krb_name.specs.File.{file_limit}
-use Rattle.krb_ccache.specs.declared.walking.Stop.{Stop}
-use Rattle.krb_ccache.specs.declared.walking.Stop.TheVariants.{End, Long, Read, OutOfMemory}
+use Rattle.krb_ccache.specs.declared.walking.TakeFault.{TakeFault}
+use Rattle.krb_ccache.specs.declared.walking.TakeFault.TheVariants.{End, Long, Read, OutOfMemory}
 use Rattle.krb_ccache.specs.Inner.Reading.{PartsOf, mark_of, marked_at}
 
 -- ---- what is taken
@@ -30,12 +30,12 @@ abbrev pub window_within : Hand → Type 0
 window_within hand = hand.given ≤ file_limit
 
 -- why so many bytes can't come: the source is at its end, or they would pass the limit of a file
-abbrev pub CantCome : Stop → Option (List ℕ) → ℕ → ℕ → Type 0
+abbrev pub CantCome : TakeFault → Option (List ℕ) → ℕ → ℕ → Type 0
 CantCome End to given count = IsAtEnd to × (0 < count)
 CantCome Long to given count = file_limit < given + count
 CantCome _ to given count = Unit {0}
 
-abbrev pub window_lacks : Stop → Hand → ℕ → Type 0
+abbrev pub window_lacks : TakeFault → Hand → ℕ → Type 0
 window_lacks stop hand count = CantCome stop hand.source hand.given count
 
 -- of bytes in memory
@@ -45,7 +45,7 @@ bytes_hand bytes at = record { source = Some (drop at bytes); bytes = take at by
 abbrev pub bytes_within : Hand → Type 0
 bytes_within hand = Unit {0}
 
-abbrev pub bytes_lacks : Stop → Hand → ℕ → Type 0
+abbrev pub bytes_lacks : TakeFault → Hand → ℕ → Type 0
 bytes_lacks stop hand count = (left : List ℕ) × (hand.source ≡ Some left) × (length left < count)
 
 -- ---- what is read of the bytes that are taken
@@ -67,7 +67,7 @@ pub record Walked {X : Type 0} (read : Place → Option (X × Place)) (Within : 
   pub reads : Reads read piece thing
 
 -- bytes were taken, and so many more, without which nothing is read, can't be
-pub record Stopped {X : Type 0} (read : Place → Option (X × Place)) (Within : Hand → Type 0) (Lacks : Stop → Hand → ℕ → Type 0) (old new : Hand) (stop : Stop) : Type 0 where
+pub record Stopped {X : Type 0} (read : Place → Option (X × Place)) (Within : Hand → Type 0) (Lacks : TakeFault → Hand → ℕ → Type 0) (old new : Hand) (stop : TakeFault) : Type 0 where
   pub piece : List ℕ
   pub keeps : Keeps old.source new.source old new piece
   pub within : Within new
@@ -77,7 +77,7 @@ pub record Stopped {X : Type 0} (read : Place → Option (X × Place)) (Within :
   pub lacks : Lacks stop new count
 
 -- the bytes of a thing were asked for
-abbrev pub IsWalk : {X T : Type 0} → (Place → Option (X × Place)) → (Hand → Type 0) → (Stop → Hand → ℕ → Type 0) → Hand → Hand → Result T Stop → Type 0
+abbrev pub IsWalk : {X T : Type 0} → (Place → Option (X × Place)) → (Hand → Type 0) → (TakeFault → Hand → ℕ → Type 0) → Hand → Hand → Result T TakeFault → Type 0
 IsWalk read Within Lacks old new (Ok _) = Walked read Within old new
 IsWalk read Within Lacks old new (Err stop) = Stopped read Within Lacks old new stop
 
@@ -86,7 +86,7 @@ pub record WalkedOne (layout : Layout) (Within : Hand → Type 0) (old new : Han
   pub walked : Walked (marked_at layout) Within old new
   pub mark_is : mark_of walked.thing ≡ mark
 
-abbrev pub IsOneWalk : Layout → (Hand → Type 0) → (Stop → Hand → ℕ → Type 0) → Hand → Hand → Result ℕ Stop → Type 0
+abbrev pub IsOneWalk : Layout → (Hand → Type 0) → (TakeFault → Hand → ℕ → Type 0) → Hand → Hand → Result ℕ TakeFault → Type 0
 IsOneWalk layout Within Lacks old new (Ok mark) = WalkedOne layout Within old new mark
 IsOneWalk layout Within Lacks old new (Err stop) = Stopped (marked_at layout) Within Lacks old new stop
 
@@ -102,14 +102,14 @@ pub record Taken (Within : Hand → Type 0) (count : ℕ) (old new : Hand) : Typ
   pub length_is : length piece ≡ count
 
 -- fewer were, and the others can't be
-pub record TookFewer (Within : Hand → Type 0) (Lacks : Stop → Hand → ℕ → Type 0) (count : ℕ) (old new : Hand) (stop : Stop) : Type 0 where
+pub record TookFewer (Within : Hand → Type 0) (Lacks : TakeFault → Hand → ℕ → Type 0) (count : ℕ) (old new : Hand) (stop : TakeFault) : Type 0 where
   pub piece : List ℕ
   pub keeps : Keeps old.source new.source old new piece
   pub within : Within new
   pub fewer : length piece < count
   pub lacks : Lacks stop new (count - length piece)
 
-abbrev pub IsTaken : {T : Type 0} → (Hand → Type 0) → (Stop → Hand → ℕ → Type 0) → ℕ → Hand → Hand → Result T Stop → Type 0
+abbrev pub IsTaken : {T : Type 0} → (Hand → Type 0) → (TakeFault → Hand → ℕ → Type 0) → ℕ → Hand → Hand → Result T TakeFault → Type 0
 IsTaken Within Lacks count old new (Ok _) = Taken Within count old new
 IsTaken Within Lacks count old new (Err stop) = TookFewer Within Lacks count old new stop
 
@@ -117,16 +117,16 @@ IsTaken Within Lacks count old new (Err stop) = TookFewer Within Lacks count old
 abbrev pub last_number : Width → ℕ → List ℕ → List ℕ → ℕ
 last_number w skip before now = from_be_bytes w (drop (length before + skip) now)
 
-abbrev pub stop_of : ReadFault → Stop
+abbrev pub stop_of : ReadFault → TakeFault
 stop_of source.Read = Read
 stop_of source.OutOfMemory = OutOfMemory
 
 -- how many failed reads an answer reports
-abbrev pub stop_reads : Stop → ℕ
+abbrev pub stop_reads : TakeFault → ℕ
 stop_reads Read = 1
 stop_reads _ = 0
 
-abbrev pub stopped_reads : {T : Type 0} → Result T Stop → ℕ
+abbrev pub stopped_reads : {T : Type 0} → Result T TakeFault → ℕ
 stopped_reads (Ok _) = 0
 stopped_reads (Err stop) = stop_reads stop
 
@@ -148,7 +148,7 @@ pub record Walks {X S : Type 0} (spelled : X → List ℕ) (InRange : X → Type
   pub spans : Spans spelled InRange piece
 
 -- the source gave no more bytes than a thing has, and the next can't come
-pub record Halts {X S : Type 0} (spelled : X → List ℕ) (InRange : X → Type 0) (left : S → Option (List ℕ)) (old new : AtHand S) (stop : Stop) : Type 0 where
+pub record Halts {X S : Type 0} (spelled : X → List ℕ) (InRange : X → Type 0) (left : S → Option (List ℕ)) (old new : AtHand S) (stop : TakeFault) : Type 0 where
   pub piece : List ℕ
   pub keeps : Keeps (left old.source) (left new.source) old new piece
   pub within : new.given ≤ file_limit

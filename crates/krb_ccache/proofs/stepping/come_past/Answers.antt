@@ -7,7 +7,7 @@ use Rattle.krb_ccache.proofs.StepLaws.{came, not_read, part_walked, part_halted}
 use Rattle.krb_ccache.specs.Inner.Reading.{marked_at}
 use Rattle.krb_ccache.specs.Inner.Walking.{FitsKeyed, whole}
 use Rattle.krb_ccache.proofs.WalkEnds.{spelled_reads, whole_reads, walks_of, halts_of, all_marked}
-use Rattle.krb_ccache.specs.declared.walking.Stop.TheVariants as stop
+use Rattle.krb_ccache.specs.declared.walking.TakeFault.TheVariants as stop
 use Rattle.std.proofs.lemmas.Result.{err_from_is_err_and}
 use Rattle.krb_ccache.proofs.stepping.come_past.Goals as goal
 

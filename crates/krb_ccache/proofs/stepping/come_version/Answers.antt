@@ -1,5 +1,5 @@
 use Rattle.std.proofs.Common.{refl, subst}
-use Rattle.krb_ccache.specs.declared.walking.Stop.TheVariants as stop
+use Rattle.krb_ccache.specs.declared.walking.TakeFault.TheVariants as stop
 use Rattle.krb_ccache.specs.Format.{version_of}
 use Rattle.krb_ccache.specs.Inner.Standing.{IsMissing}
 use Rattle.krb_ccache.specs.Inner.Stepping.{Any}

@@ -1,5 +1,5 @@
 use Rattle.std.proofs.Common.{◌+◌, subst}
-use Rattle.krb_ccache.specs.declared.walking.Stop.TheVariants as stop
+use Rattle.krb_ccache.specs.declared.walking.TakeFault.TheVariants as stop
 use Rattle.krb_ccache.specs.Inner.Walking.{Hand, Taken, TookFewer, bytes_hand, bytes_within, bytes_lacks}
 use Rattle.krb_ccache.proofs.WalkEnds.{none_left, some_left}
 use Rattle.krb_ccache.proofs.taker.PassingTaker.take.Goals as goal
