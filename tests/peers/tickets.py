@@ -15,7 +15,8 @@ NUMBERS = {AES128: 19, AES256: 20, OLD: 18}
 def advice():
     """The lines that docs/ACCEPTANCE.md gives for session keys and service keys of type 19 or 20."""
     text = (TOP / "docs/ACCEPTANCE.md").read_text()
-    found = [re.search(form, text) for form in (r"`(permitted_enctypes = [^`]*)`", r"`(setstr host/web\.example session_enctypes [^`]*)`", r"`(ktadd\s-k\sFILE\s-e\s[^`]*\sNAME)`")]
+    forms = r"`(permitted_enctypes = [^`]*)`", r"`(setstr host/web\.example session_enctypes [^`]*)`", r"^(ktadd -k FILE -e .* NAME)$"
+    found = [re.search(form, text, re.M) for form in forms]
     if None in found:
         raise Trouble("docs/ACCEPTANCE.md has other words than these cases look for")
     return [it.group(1) for it in found]
