@@ -4,7 +4,7 @@ A case is one request: what our service and those of both libraries answer to it
 """
 import reference
 from sides import LIBRARIES, SKEW, first_words, now
-from tickets import Ticket, advice
+from tickets import Ticket, advice, filled_in
 
 # The libraries' own numbers, which aren't codes of the protocol: Heimdal's where the keytab hasn't the key, and where a request was
 # seen before; MIT's where a ticket is marked invalid.
@@ -114,14 +114,14 @@ def other_services(cases, peers, ticket):
 
 def turned_tickets(realm):
     """A service whose key was changed, from number 2 to 300: tickets of both, and keytabs with one, both, or the later and a hole."""
-    service, ktadd = "host/turned.example", advice()[2].split()
+    service, ktadd = "host/turned.example", advice()[2]
     both, old, new, holed = (realm.folder / f"turned-{it}.keytab" for it in ("both", "old", "new", "holed"))
     realm.kadmin("addprinc", "-randkey", service)
-    realm.kadmin(*ktadd, "-k", both, service)
+    realm.kadmin(*filled_in(ktadd, both, service))
     old.write_bytes(both.read_bytes())
     early = Ticket("the old key", realm, realm.cache("turned-early", "one", [service]), service, 20, True)
     realm.kadmin("modprinc", "-kvno", "299", service)
-    realm.kadmin(*ktadd, "-k", both, service)
+    realm.kadmin(*filled_in(ktadd, both, service))
     realm.kadmin("ktadd", "-norandkey", "-k", new, service)
     late = Ticket("the new key", realm, realm.cache("turned-late", "one", [service]), service, 20, True)
     holed.write_bytes(both.read_bytes())

@@ -15,10 +15,16 @@ NUMBERS = {AES128: 19, AES256: 20, OLD: 18}
 def advice():
     """The lines that docs/ACCEPTANCE.md gives for session keys and service keys of type 19 or 20."""
     text = (TOP / "docs/ACCEPTANCE.md").read_text()
-    found = [re.search(form, text) for form in (r"`(permitted_enctypes = [^`]*)`", r"`(setstr host/web\.example session_enctypes [^`]*)`", r"`(ktadd -e [^`]*)`")]
+    forms = r"`(permitted_enctypes = [^`]*)`", r"`(setstr host/web\.example session_enctypes [^`]*)`", r"^(ktadd -k FILE -e .* NAME)$"
+    found = [re.search(form, text, re.M) for form in forms]
     if None in found:
         raise Trouble("docs/ACCEPTANCE.md has other words than these cases look for")
     return [it.group(1) for it in found]
+
+
+def filled_in(command, keytab, name):
+    """The words of a command, with a keytab for FILE and a service for NAME."""
+    return [{"FILE": keytab, "NAME": name}.get(it, it) for it in command.split()]
 
 
 def mit_realm(folder, heimdal):
@@ -29,16 +35,16 @@ def mit_realm(folder, heimdal):
 
     def service(name, *options, adding=ktadd, keytab="web"):
         realm.kadmin("addprinc", "-randkey", *options, name)
-        realm.kadmin(*adding.split(), "-k", realm.folder / f"{keytab}.keytab", name)
+        realm.kadmin(*filled_in(adding, realm.folder / f"{keytab}.keytab", name))
 
     for name in ("host/web.example", "host/web19.example", "host/plain.example"):
         service(name)
     realm.kadmin(*setstr.split())
     realm.kadmin("setstr", "host/web19.example", "session_enctypes", AES128)
-    service("host/only19.example", adding=f"ktadd -e {AES128}:normal")
+    service("host/only19.example", adding=f"ktadd -k FILE -e {AES128}:normal NAME")
     service("host/bare.example", "+no_auth_data_required")
     service("host/other.example", keytab="other")
-    service("host/old.example", adding=f"ktadd -e {OLD}:normal")
+    service("host/old.example", adding=f"ktadd -k FILE -e {OLD}:normal NAME")
     return realm
 
 
