@@ -55,9 +55,10 @@ impl<M> Model for Acceptor<M> {
 impl<M: ReplayMemory> Acceptor<M> {
     /// Makes a service that decides by `keytab` and `skew`, and remembers in `memory`.
     ///
-    /// Use it for a service that never ran before. For one that lost its memory use
-    /// [`Acceptor::started`], or it may accept a request again: a request whose time was ahead by
-    /// the skew stays acceptable for twice the skew (RFC 4120, section 3.2.3).
+    /// Use it only if no service has used this name and these keys before, with this or any other
+    /// software, or if all instances have always shared a store that lost nothing. Otherwise use
+    /// [`Acceptor::started`], or the service may accept a request again: a request whose time was
+    /// ahead by the skew stays acceptable for twice the skew (RFC 4120, section 3.2.3).
     ///
     /// Condition: the memory is new. It has no tuple (`len()` is 0), and was given no moment
     /// (`latest()` is `None`).

@@ -53,9 +53,9 @@ pub struct ContextRequest {
 /// a ticket of the cache's default principal for the service (no configuration entry), its session
 /// key is usable, and it expires later than `at`.
 ///
-/// `at` is the client's clock. Never use a moment twice for one credential: a service refuses the
-/// second request as a repeat, and a reply doesn't show to which of two requests of one moment it
-/// belongs. `confounder` is 16 random bytes, new for each call. The authenticator contains the
+/// `at` is the client's clock. Never use a moment twice for one client and service, not even with
+/// another ticket: the service refuses the second request as a repeat, and a reply doesn't show to
+/// which of two requests of one moment it belongs. `confounder` is 16 random bytes, new for each call. The authenticator contains the
 /// credential's client, `at`, and the options' subkey, sequence number and context. The request has
 /// the ticket, and no option but mutual-required.
 ///
