@@ -5,7 +5,7 @@
 
     curl --negotiate -u : http://www.example.com:8080/        hello alice@EXAMPLE.COM
 
-A request without a token is answered 401, and the client comes back with one. Whoever is let in sees 200, and the service's answer token,
+A request without a token gets 401, and the client comes back with one. Whoever is let in sees 200, and the service's answer token,
 by which the client knows that the service is the right one. Others see 401, and the log says why. The answer has the header
 `Remote-User`, so it also serves as the subrequest of a reverse proxy (auth_request of nginx; docs/OPERATING.md).
 
