@@ -4,8 +4,10 @@
     examples/serve.py examples/service.keytab host/web@EX < requests
 
 `accepted CLIENT REPLY` with the reply in hex, if one is asked for, else `accepted CLIENT -`; or `refused CAUSE ERROR`, with the KRB-ERROR
-in hex. An option --at SECONDS takes that moment in place of the clock's. The service may have run before, so it is quiet at first: until
-the skew has passed, it refuses requests (JUST_STARTED). With --first it never ran before, and accepts at once.
+in hex. An option --at SECONDS takes that moment in place of the clock's.
+
+Until its clock and the client's are both later than its start by more than the skew, the service refuses requests (JUST_STARTED). --first
+leaves out the start, and the service accepts at once: docs/OPERATING.md, "Restarts", says when you may do so.
 """
 import argparse
 import sys
@@ -31,7 +33,7 @@ def main() -> None:
     words.add_argument("keytab")
     words.add_argument("service", help="the name that is served, as host/web@EX")
     words.add_argument("--at", type=int, help="a moment in place of the clock's, in seconds since 1970-01-01")
-    words.add_argument("--first", action="store_true", help="the service never ran before")
+    words.add_argument("--first", action="store_true", help="leave out the start (docs/OPERATING.md says when you may)")
     given = words.parse_args()
     with Acceptor(Keytab.read(given.keytab), given.service, started=None if given.first else clock(given.at)) as acceptor:
         for line in sys.stdin:

@@ -10,9 +10,10 @@ or `bad line`. After the service has accepted a request, it asks the store to ad
 stamp is new. If the store doesn't answer in time (--wait SECONDS, 1 if left out), nobody is let in: `refused STORE -`.
 
 The store remembers across restarts of the service, so the service accepts requests at once. The store itself must not forget:
-docs/OPERATING.md says how to configure it, and has the table for PostgreSQL. If it is new, emptied or restored, start each instance with
---again: it then refuses requests as JUST_STARTED until the skew has passed. examples/service/shared.c is an instance in C, over Redis.
-An option --at SECONDS takes that moment in place of the clock's.
+docs/OPERATING.md says how to configure it, and has the table for PostgreSQL. Before a new, emptied or restored store is used, stop all
+instances, and start each with --again (docs/OPERATING.md has the other cases): it then refuses requests as JUST_STARTED until its clock and
+the client's are both later than its start by more than the skew. examples/service/shared.c is an instance in C, over Redis. An option
+--at SECONDS takes that moment in place of the clock's.
 """
 import argparse
 import select

@@ -1,9 +1,10 @@
 /* Fevstunik: the application exchange of Kerberos 5 (RFC 4120, section 3.2) with the encryption
  * types of RFC 8009, for C and C++.
  *
- * Each function of the library calls a proved function of this repository; crates/krb_c has their contracts. (fevstunik_code_name and fevstunik_code_text are code of this header.) Link
- * with `pkg-config --libs fevstunik`. The library calls malloc, realloc, free and memory functions
- * of the C library, and nothing else.
+ * Each function of the library calls a proved function of this repository; crates/krb_c has their
+ * contracts. (fevstunik_code_name and fevstunik_code_text are inline functions of this header.)
+ * Link with `pkg-config --libs fevstunik`. The library calls malloc, realloc, free and memory
+ * functions of the C library, and nothing else.
  *
  * What is proved of a call holds if its caller follows these rules. Otherwise nothing is promised:
  *  - A handle is empty (all zero) before its first use, as
@@ -12,11 +13,11 @@
  *    between calls, but not during one. After a move its old place is not used again. A program
  *    that uses a copy, or that lets a handle overlap a buffer, may free memory that is still in
  *    use.
- *  - Any thread may make a call, but only one call at a time may use a handle, even a const one. Put
- *    a lock around calls that share a handle. Two handles share nothing, in one process or in two.
- *    After a fork the child's handles are copies, and the child must not use them. A call that takes
- *    a const handle may write to it, and leaves unchanged what it stands for. So never define a
- *    handle as const.
+ *  - Any thread may make a call, but only one call at a time may use a handle, even a const one.
+ *    Put a lock around calls that share a handle. Two handles share nothing, in one process or in
+ *    two. After a fork the child's handles are copies, and the child must not use them. A call may
+ *    write to a const handle too, though what the handle stands for stays the same. So never define
+ *    a handle as const.
  *  - Pointers are valid. Only a pointer to bytes whose size is 0 may be NULL (this is tested, not
  *    proved).
  *  - What a call writes to (its handle, its buffer, its other results) overlaps nothing else that
@@ -31,11 +32,11 @@
  * a call takes.
  *
  * Arguments belong to the caller: no function keeps a pointer to them or frees them. The library
- * allocates what a handle holds, and the handle's function whose name ends in _free frees it.
- * There is nothing else to free. Files have at most 16,777,216 bytes, and requests, replies and
- * errors at most 1,048,576: anything longer is a fault. Other sizes are limited by memory alone,
- * unless a limit is named. FEVSTUNIK_OUT_OF_MEMORY may be returned instead of a fault that is
- * found only after memory was asked for. It is never returned instead of a fault of a keytab or a
+ * allocates what a handle holds, and the handle's function whose name ends in _free frees it. There
+ * is nothing else to free. Files have at most 16,777,216 bytes, and requests, replies and errors at
+ * most 1,048,576: anything longer is a fault. Other sizes are limited by memory alone, unless a
+ * limit is named. FEVSTUNIK_OUT_OF_MEMORY may be returned instead of a fault, unless the fault is
+ * found before the call allocates memory. It is never returned instead of a fault of a keytab or a
  * cache, except by fevstunik_keytab_add and fevstunik_keytab_remove, which copy the file first.
  *
  * A function that returns bytes writes them to the start of the caller's buffer, and leaves the
@@ -71,14 +72,15 @@ uint32_t fevstunik_version(void);
 
 /* ---- codes ---- */
 
-/* The codes that calls answer. A number never changes its meaning. The gaps are for new codes:
+/* The codes that calls return. A number never changes its meaning. The gaps are for new codes:
  * treat a code that you don't know as a failure.
  */
 typedef enum fevstunik_code {
     FEVSTUNIK_OK = 0, /* success */
 
-    /* Why a request is refused. The causes are checked in this order, and the first that applies is answered. A number before a
-     * text is the code of RFC 4120, section 7.5.9, which the answer has in `kerberos`. */
+    /* Why a request is refused. The causes are checked in this order, and the first that applies is
+     * returned. A number before a text is the code of RFC 4120, section 7.5.9, which the answer has
+     * in `kerberos`. */
     FEVSTUNIK_MESSAGE_TYPE = 100,            /* 40: the first byte isn't that of a request */
     FEVSTUNIK_MALFORMED = 110,               /* 60: the bytes aren't a request; `at` is the place of the fault */
     FEVSTUNIK_USER_TO_USER = 120,            /* 45: the option use-session-key is set */
@@ -98,7 +100,7 @@ typedef enum fevstunik_code {
     FEVSTUNIK_TRANSITED = 250,               /* 60: the client is of another realm, and no KDC checked the realms between */
     FEVSTUNIK_AUTHORIZATION = 260,           /* 60: the request has authorization data that may not be ignored */
 
-    /* Codes that many calls may answer. */
+    /* Codes that many calls may return. */
     FEVSTUNIK_OUT_OF_MEMORY = 400,  /* out of memory: malloc or realloc returned NULL */
     FEVSTUNIK_SHORT_BUFFER = 401,   /* the buffer is too short: `size` bytes are needed */
     FEVSTUNIK_EMPTY_HANDLE = 402,   /* the handle is empty */
@@ -137,7 +139,7 @@ typedef enum fevstunik_code {
     FEVSTUNIK_NO_REALM = 811,       /* the text has no `@` without a backslash before it */
     FEVSTUNIK_NOT_UTF8 = 812,       /* the text isn't UTF-8 */
 
-    /* Why bytes aren't a token of GSS-API, or a checksum of such a client. */
+    /* Why bytes aren't a GSS-API token, or the checksum of a GSS-API client. */
     FEVSTUNIK_NOT_A_TOKEN = 900,        /* the first byte isn't that of a token */
     FEVSTUNIK_TOKEN_MALFORMED = 901,    /* the bytes aren't a token; `at` is the place of the fault */
     FEVSTUNIK_TOKEN_CONTINUES = 902,    /* the token continues a negotiation, and doesn't begin one */
@@ -421,11 +423,11 @@ typedef struct fevstunik_owner {
     bool has_offset;        /* whether the cache has an offset */
 } fevstunik_owner;
 
-/* The object identifiers by which tokens of GSS-API name Kerberos. */
+/* The object identifiers by which GSS-API tokens name Kerberos. */
 typedef enum fevstunik_mechanism {
     FEVSTUNIK_MECHANISM_NONE = 0,     /* no name */
     FEVSTUNIK_MECHANISM_KERBEROS = 1, /* 1.2.840.113554.1.2.2 (RFC 4121) */
-    FEVSTUNIK_MECHANISM_WINDOWS = 2   /* 1.2.840.48018.1.2.2, which clients of Windows name first */
+    FEVSTUNIK_MECHANISM_WINDOWS = 2   /* 1.2.840.48018.1.2.2, which Windows clients name first */
 } fevstunik_mechanism;
 
 /* What a request, and the answer to it, is wrapped in. */
@@ -434,7 +436,7 @@ typedef struct fevstunik_wrapped {
     uint32_t negotiated; /* the mechanism that a negotiation (SPNEGO) names first; NONE if there is no negotiation */
 } fevstunik_wrapped;
 
-/* What a client of GSS-API asks for. The spans are places in the buffer that the call was given. */
+/* What a GSS-API client asks for. The spans are places in the buffer that the call was given. */
 typedef struct fevstunik_context {
     fevstunik_span bindings;   /* the MD5 hash of the channel's bindings: 16 bytes, zeros if there are none */
     fevstunik_span delegation; /* the credentials that it delegates, a KRB-CRED, if any */
@@ -443,7 +445,7 @@ typedef struct fevstunik_context {
     bool has_delegation;       /* whether it delegates credentials */
 } fevstunik_context;
 
-/* What a client of GSS-API asks for when it builds a request. */
+/* What a GSS-API client asks for when it builds a request. */
 typedef struct fevstunik_context_choice {
     uint32_t flags;       /* 4 replay, 8 sequence, 16 confidentiality, 32 integrity; 1 (delegation) and 2 (mutual) don't count */
     uint8_t bindings[16]; /* the MD5 hash of the channel's bindings (RFC 4121, section 4.1.1.2), or zeros if there are none */
@@ -542,7 +544,8 @@ void fevstunik_keytab_free(fevstunik_keytab *keytab);
  * configuration entries count too.
  *
  * Returns FEVSTUNIK_OK; or leaves the handle unchanged and returns the first that applies:
- * FEVSTUNIK_TOO_LONG, _FILE_VERSION, _FILE_HEADER, _FILE_BAD_ITEM, or, only if the bytes are a cache, FEVSTUNIK_OUT_OF_MEMORY.
+ * FEVSTUNIK_TOO_LONG, _FILE_VERSION, _FILE_HEADER, _FILE_BAD_ITEM or, only if the bytes are a
+ * cache, FEVSTUNIK_OUT_OF_MEMORY.
  *
  *     fevstunik_cache cache = FEVSTUNIK_CACHE_INIT;
  *     answer = fevstunik_cache_new(&cache, file, file_size);
@@ -583,14 +586,15 @@ void fevstunik_cache_free(fevstunik_cache *cache);
 
 /* Adds an entry to a keytab, and returns the bytes of the new file. `name` is the name's text.
  * `key` has the key's bytes, which may be of any type. The entry goes into the first hole that is
- * long enough. If there is none, it goes after the last record. Then an end word (a record's size
- * of 0) and the bytes after it are lost. The bytes 05 02 are an empty keytab.
+ * long enough. If there is none, it goes after the last record, and an end word (a record size of
+ * 0) and the bytes after it are lost. The bytes 05 02 are an empty keytab.
  *
  * Returns FEVSTUNIK_OK or FEVSTUNIK_SHORT_BUFFER; or writes nothing and returns the first that
  * applies: FEVSTUNIK_NOT_UTF8, _BAD_TEXT or _NO_REALM for the name; FEVSTUNIK_TOO_LONG if the name
  * has more than 65,535 parts, or a part of it or the key has more than 65,535 bytes;
  * FEVSTUNIK_TOO_LONG, _FILE_VERSION, _FILE_TRUNCATED or _FILE_BAD_ITEM for the keytab;
- * FEVSTUNIK_TOO_LONG for the new file. FEVSTUNIK_OUT_OF_MEMORY may take the place of each.
+ * FEVSTUNIK_TOO_LONG for the new file. FEVSTUNIK_OUT_OF_MEMORY may be returned instead of any of
+ * these.
  *
  *     fevstunik_key_parts parts = {1700000000, 3, 3, 19};
  *     answer = fevstunik_keytab_add(file, file_size, (const uint8_t *)"host/web@EX", 11, key, 16, &parts, buffer, sizeof buffer);
@@ -603,7 +607,7 @@ fevstunik_answer fevstunik_keytab_add(const uint8_t *keytab, size_t keytab_size,
  *
  * Returns FEVSTUNIK_OK or FEVSTUNIK_SHORT_BUFFER; or writes nothing and returns the first that
  * applies: FEVSTUNIK_TOO_LONG, _FILE_VERSION, _FILE_TRUNCATED, _FILE_BAD_ITEM or
- * FEVSTUNIK_NO_SUCH_ENTRY. FEVSTUNIK_OUT_OF_MEMORY may take the place of each.
+ * FEVSTUNIK_NO_SUCH_ENTRY. FEVSTUNIK_OUT_OF_MEMORY may be returned instead of any of these.
  *
  *     answer = fevstunik_keytab_remove(file, file_size, 0, buffer, sizeof buffer);
  */
@@ -637,20 +641,23 @@ fevstunik_answer fevstunik_name_check(const uint8_t *name, size_t name_size);
 /* ---- the service's side ---- */
 
 /* Makes a service that has seen no request, and stores it in the handle. The service uses the keys
- * of a keytab (the bytes of a file of version 0x0502). `skew` is the number of seconds by which clocks may differ (300 is usual). What the handle held is freed: a service made in a used handle forgets
- * what the old one has seen. The keytab's bytes aren't needed afterwards.
+ * of a keytab (the bytes of a file of version 0x0502). `skew` is the number of seconds by which
+ * clocks may differ (300 is usual). What the handle held is freed: a service made in a used handle
+ * forgets what the old one has seen. The keytab's bytes aren't needed afterwards.
  *
  * `service` is the text of the one name that is served, such as host/web@EX: a ticket for any other
- * name is answered NOT_US. If `service_size` is 0, each name of the keytab is served. Name the
- * service if the keytab has keys of several names: otherwise clients with a ticket for any of these
- * names are let in.
- * The name in a ticket isn't encrypted, so someone who records a request can write another name into
- * it. If two served names have the same key, a recorded request is accepted once more under the
- * other name.
+ * name is refused with NOT_US, if no cause before it applies. If the keytab has no entry of this
+ * name, that is no fault: then every ticket is refused in this way. If `service_size` is 0, each
+ * name of the keytab is served. Name the service if the keytab has keys of several names: otherwise
+ * clients with a ticket for any of these names are let in. The name in a ticket isn't encrypted, so
+ * someone who records a request can write another name into it. If two served names have the same
+ * key, a recorded request is accepted once more under the other name.
  *
- * Use this function only for a service that never ran before, or that shares a store of stamps
- * (fevstunik_accepted_stamp) which has been used since the first start of any instance and has lost nothing. After a restart
- * use fevstunik_acceptor_started: a service that forgot its requests may accept one of them again.
+ * Use this function only if no service has used this name and these keys before, with this or any
+ * other software, or if all instances share a store of stamps (fevstunik_accepted_stamp) that has
+ * been in use since the first start of any of them, and has lost nothing. After a restart use
+ * fevstunik_acceptor_started: a service that has forgotten its requests may accept one of them
+ * again.
  *
  * Returns FEVSTUNIK_OK; or leaves the handle unchanged and returns the first that applies:
  * FEVSTUNIK_BAD_SKEW; FEVSTUNIK_TOO_LONG, _FILE_VERSION, _FILE_TRUNCATED or _FILE_BAD_ITEM for the
@@ -664,12 +671,12 @@ fevstunik_answer fevstunik_acceptor_new(fevstunik_acceptor *handle, const uint8_
                                         const uint8_t *service, size_t service_size);
 
 /* Makes a service as fevstunik_acceptor_new does, for a service that is started again and has
- * forgotten what it accepted before. `start` is its clock at this start. At first it refuses
- * requests: it answers JUST_STARTED until its clock and the client's are both later than `start`
- * by more than the skew. So no request that was accepted before is accepted again. This holds on
- * two conditions: `start` is no earlier than any moment that was given before, and the skew is no
- * smaller than it was. (The proof also assumes the same keytab; docs/ACCEPTANCE.md has the
- * argument without that.) Round `start` up if it comes from a coarser clock than those moments.
+ * forgotten what it accepted before. `start` is its clock at this start. Until its clock and the
+ * client's are both later than `start` by more than the skew, it refuses requests with
+ * JUST_STARTED. So no request that was accepted before is accepted again. This holds on two
+ * conditions: `start` is no earlier than any moment that was given before, and the skew is no
+ * smaller than it was (docs/ACCEPTANCE.md has the argument). Round `start` up if it comes from a
+ * coarser clock than those moments.
  *
  * Returns FEVSTUNIK_OK; or leaves the handle unchanged and returns the first that applies:
  * FEVSTUNIK_BAD_MOMENT for `start`; FEVSTUNIK_BAD_SKEW; FEVSTUNIK_TOO_LONG, _FILE_VERSION,
@@ -716,15 +723,18 @@ fevstunik_answer fevstunik_accepted_new(fevstunik_accepted *accepted);
  *
  * Keeps an accepted request in the handle `accepted`, which fevstunik_accepted_new prepared, until
  * the next call with that handle. fevstunik_accepted_known reads it, and fevstunik_accepted_reply
- * replies to it. What was kept there before is freed. After any answer but FEVSTUNIK_OK nothing is
- * kept there. Threads that share a service lock it for this call, as for each call with its handle.
- * If each thread has an accepted handle of its own, what was accepted needs no lock.
+ * replies to it. What was kept there before is freed. If the call returns anything but
+ * FEVSTUNIK_OK, nothing is kept there. Threads that share a service lock it for this call, as for
+ * each call with its handle. If each thread has an accepted handle of its own, what was accepted
+ * needs no lock.
  *
  * fevstunik_error builds an error for the client from the answer's code, and needs no lock. The
- * service also keeps the cause of a refusal until a call decides another request or has an invalid
- * moment, and fevstunik_acceptor_error builds the error from that.
+ * service also keeps the cause of a refusal until the next call of fevstunik_acceptor_accept that
+ * returns anything but FEVSTUNIK_EMPTY_HANDLE. fevstunik_acceptor_error builds the error from it.
  *
- * Returns FEVSTUNIK_OK, or the first that applies: FEVSTUNIK_BAD_MOMENT; FEVSTUNIK_EMPTY_HANDLE if either handle is empty; or a cause from FEVSTUNIK_MESSAGE_TYPE to FEVSTUNIK_AUTHORIZATION, or FEVSTUNIK_OUT_OF_MEMORY. FEVSTUNIK_EMPTY_HANDLE leaves the service unchanged.
+ * Returns FEVSTUNIK_OK, or the first that applies: FEVSTUNIK_BAD_MOMENT; FEVSTUNIK_EMPTY_HANDLE if
+ * either handle is empty; or a cause from FEVSTUNIK_MESSAGE_TYPE to FEVSTUNIK_AUTHORIZATION, or
+ * FEVSTUNIK_OUT_OF_MEMORY. FEVSTUNIK_EMPTY_HANDLE leaves the service unchanged.
  * FEVSTUNIK_BAD_MOMENT and FEVSTUNIK_OUT_OF_MEMORY leave what is remembered and the latest moment
  * unchanged.
  *
@@ -754,12 +764,13 @@ fevstunik_answer fevstunik_acceptor_accept(fevstunik_acceptor *handle, fevstunik
 fevstunik_answer fevstunik_accepted_known(const fevstunik_accepted *accepted, fevstunik_known *known, uint8_t *buffer, size_t buffer_size);
 
 /* Writes the stamp of the accepted request to the buffer: the service, the client and the client's
- * time as one string of bytes. Requests have the same stamp exactly if they are of the same
+ * time as one string of bytes. Requests have the same stamp if and only if they are of the same
  * service, client and time. Use it if several instances of a service share a store: let the client
  * in only if the store adds the stamp, in one step, and says that it was new; and have the store
  * keep it until `keep_until`, rounded up. That is the client's time plus twice `skew`, in seconds;
- * `skew` is the largest of all instances. Read the clock again after the store's answer, and refuse the request if the clock is then later than the request's time by more than the skew. docs/OPERATING.md says why.
- * `keep_until` is written even if the buffer is too short.
+ * `skew` is the largest of all instances. Read the clock again after the store's answer, and refuse
+ * the request if the clock is then later than the request's time by more than the skew.
+ * docs/OPERATING.md says why. `keep_until` is written even if the buffer is too short.
  *
  * Returns FEVSTUNIK_OK or FEVSTUNIK_SHORT_BUFFER; or writes nothing and returns
  * FEVSTUNIK_EMPTY_HANDLE, FEVSTUNIK_NOTHING_THERE, FEVSTUNIK_BAD_SKEW (more than 86,400 seconds),
@@ -783,7 +794,7 @@ fevstunik_answer fevstunik_accepted_stamp(const fevstunik_accepted *accepted, ui
 fevstunik_answer fevstunik_accepted_start(const fevstunik_accepted *accepted, fevstunik_time *start);
 
 /* Counts the items of a list of the accepted request. `list` is a fevstunik_list, and `size` is the
- * number of its items. A list that the request has may be empty. The call allocates no memory.
+ * number of its items. A list can be present and empty. The call allocates no memory.
  *
  * Returns FEVSTUNIK_OK, FEVSTUNIK_EMPTY_HANDLE, FEVSTUNIK_NOTHING_THERE, or FEVSTUNIK_NO_SUCH_ENTRY
  * if the request doesn't have the list.
@@ -848,7 +859,7 @@ fevstunik_answer fevstunik_acceptor_error(const fevstunik_acceptor *handle, cons
                                           int32_t name_type, const fevstunik_time *now, uint8_t *buffer, size_t buffer_size);
 
 /* Builds the error (the bytes of a KRB-ERROR) for a cause from the code that
- * fevstunik_acceptor_accept answered. It needs no handle, so another request's cause can't get into
+ * fevstunik_acceptor_accept returned. It needs no handle, so another request's cause can't get into
  * the error. `service`, `name_type` and `now` are as for fevstunik_acceptor_error.
  *
  * Returns FEVSTUNIK_OK or FEVSTUNIK_SHORT_BUFFER; or writes nothing and returns the first that
@@ -867,7 +878,7 @@ fevstunik_answer fevstunik_error(uint32_t code, const uint8_t *service, size_t s
 size_t fevstunik_acceptor_count(const fevstunik_acceptor *handle);
 
 /* Reads the latest moment that fevstunik_acceptor_accept was given so far. The service decides by
- * it. Calls that answered OUT_OF_MEMORY or BAD_MOMENT don't count.
+ * it. Calls that returned OUT_OF_MEMORY or BAD_MOMENT don't count.
  *
  * Returns FEVSTUNIK_OK; or writes nothing and returns FEVSTUNIK_EMPTY_HANDLE or
  * FEVSTUNIK_NOTHING_THERE.
@@ -902,8 +913,8 @@ void fevstunik_acceptor_free(fevstunik_acceptor *handle);
  * FEVSTUNIK_BAD_CONFOUNDER; FEVSTUNIK_KEY_TYPE or _KEY_LENGTH; FEVSTUNIK_NO_CREDENTIAL,
  * _NO_USABLE_KEY, _CREDENTIAL_EXPIRED, _BAD_TICKET or _TOO_LONG; or FEVSTUNIK_OUT_OF_MEMORY.
  *
- * If the buffer was too short, make the call again with the same moment and confounder. Never make
- * two different requests with the same moment.
+ * If the buffer was too short, make the same call again with a longer one, and leave all other
+ * arguments as they were. Never make two different requests with the same moment.
  *
  *     fevstunik_pending pending = FEVSTUNIK_PENDING_INIT;
  *     fevstunik_choice choice = {0, 0, false, true};
@@ -915,17 +926,18 @@ fevstunik_answer fevstunik_request(const fevstunik_cache *cache, fevstunik_pendi
                                    const fevstunik_choice *choice, const uint8_t *subkey, size_t subkey_size, uint8_t *buffer,
                                    size_t buffer_size);
 
-/* Builds a request as fevstunik_request does, for a client of GSS-API: the authenticator has a
+/* Builds a request as fevstunik_request does, for a GSS-API client: the authenticator has a
  * checksum of type 0x8003 (RFC 4121, section 4.1.1), which says what `context` says. Its flag 2
- * (mutual) is set exactly if the request asks for a reply (`choice->wants_reply`), and its flag 1
- * (delegation) is never set, whatever `context->flags` says. Such a request also needs a sequence
+ * (mutual) is set if and only if the request asks for a reply (`choice->wants_reply`), and its flag
+ * 1 (delegation) is never set, whatever `context->flags` says. Such a request also needs a sequence
  * number (`choice->has_seq`). Pass it to fevstunik_token_request.
  *
- * Returns what fevstunik_request returns: FEVSTUNIK_OK or FEVSTUNIK_SHORT_BUFFER; or writes nothing,
- * leaves `pending` unchanged, and returns the first that applies: FEVSTUNIK_EMPTY_HANDLE if `cache`
- * is empty; FEVSTUNIK_NOT_UTF8, _BAD_TEXT or _NO_REALM for the service; FEVSTUNIK_BAD_MOMENT;
- * FEVSTUNIK_BAD_CONFOUNDER; FEVSTUNIK_KEY_TYPE or _KEY_LENGTH; FEVSTUNIK_NO_CREDENTIAL,
- * _NO_USABLE_KEY, _CREDENTIAL_EXPIRED, _BAD_TICKET or _TOO_LONG; or FEVSTUNIK_OUT_OF_MEMORY.
+ * Returns what fevstunik_request returns: FEVSTUNIK_OK or FEVSTUNIK_SHORT_BUFFER; or writes
+ * nothing, leaves `pending` unchanged, and returns the first that applies: FEVSTUNIK_EMPTY_HANDLE
+ * if `cache` is empty; FEVSTUNIK_NOT_UTF8, _BAD_TEXT or _NO_REALM for the service;
+ * FEVSTUNIK_BAD_MOMENT; FEVSTUNIK_BAD_CONFOUNDER; FEVSTUNIK_KEY_TYPE or _KEY_LENGTH;
+ * FEVSTUNIK_NO_CREDENTIAL, _NO_USABLE_KEY, _CREDENTIAL_EXPIRED, _BAD_TICKET or _TOO_LONG; or
+ * FEVSTUNIK_OUT_OF_MEMORY.
  *
  *     fevstunik_choice choice = {0, number, true, true};
  *     fevstunik_context_choice context = {0, {0}};
@@ -963,8 +975,9 @@ void fevstunik_pending_free(fevstunik_pending *pending);
 /* ---- texts (RFC 8009, sections 5 and 6) ---- */
 
 /* Seals a plain text under a key (16 bytes for type 19, 32 for type 20) for a usage (RFC 4120,
- * section 7.5.1). `confounder` is 16 random bytes, new for each call. The sealed text is 32 bytes
- * (type 19) or 40 bytes (type 20) longer than the plain text.
+ * section 7.5.1; those from 1024 to 2047 are for applications). `confounder` is 16 random bytes,
+ * new for each call. The sealed text is 32 bytes (type 19) or 40 bytes (type 20) longer than the
+ * plain text.
  *
  * Returns FEVSTUNIK_OK or FEVSTUNIK_SHORT_BUFFER; or writes nothing and returns the first that
  * applies: FEVSTUNIK_KEY_TYPE, FEVSTUNIK_KEY_LENGTH, FEVSTUNIK_BAD_CONFOUNDER or
@@ -1009,9 +1022,9 @@ fevstunik_answer fevstunik_checksum(int32_t key_type, const uint8_t *key, size_t
 fevstunik_answer fevstunik_checksum_check(int32_t key_type, const uint8_t *key, size_t key_size, uint32_t usage, const uint8_t *text,
                                           size_t text_size, const uint8_t *tag, size_t tag_size);
 
-/* ---- tokens of GSS-API, in which web clients, ssh and Windows send a request ---- */
+/* ---- GSS-API tokens, in which web clients, ssh and Windows send a request ---- */
 
-/* Opens the first token of a client, and returns the request. The token is one of Kerberos alone
+/* Opens the first token of a client, and returns the request. The token is a Kerberos token alone
  * (RFC 4121, section 4.1), or a negotiation (SPNEGO; RFC 4178, section 4.2.1) whose first mechanism
  * is Kerberos. `wrapped` is filled on FEVSTUNIK_OK and FEVSTUNIK_SHORT_BUFFER: pass it to the call
  * that wraps the answer. The call allocates no memory.
@@ -1074,11 +1087,12 @@ fevstunik_answer fevstunik_token_error(const fevstunik_wrapped *wrapped, const u
  */
 fevstunik_answer fevstunik_token_answer(const uint8_t *token, size_t token_size, bool *is_error, uint8_t *buffer, size_t buffer_size);
 
-/* Reads what a client of GSS-API asks for, in the authenticator's checksum of type 0x8003 (32771;
- * RFC 4121, section 4.1.1), as `fevstunik_accepted_item` returns it. The bindings, the delegation
- * and the extensions are written to the buffer. `context` is filled on FEVSTUNIK_OK and
- * FEVSTUNIK_SHORT_BUFFER. The call compares the bindings with nothing: compare them with the MD5
- * hash of your channel's.
+/* Reads what a GSS-API client asks for, in the authenticator's checksum of type 0x8003 (32771; RFC
+ * 4121, section 4.1.1), as `fevstunik_accepted_item` returns it. Check the item's type first: the
+ * call can't. The bindings, the delegation and the extensions are written to the buffer. `context`
+ * is filled on FEVSTUNIK_OK and FEVSTUNIK_SHORT_BUFFER. The call compares the bindings with
+ * nothing: if you know your channel's bindings, compare their MD5 hash with these bytes. 16 zeros
+ * mean that the client bound nothing; decide whether you accept that.
  *
  * Returns FEVSTUNIK_OK or FEVSTUNIK_SHORT_BUFFER; or writes nothing and returns
  * FEVSTUNIK_CONTEXT_TRUNCATED, FEVSTUNIK_CONTEXT_BINDINGS, FEVSTUNIK_CONTEXT_DELEGATION or

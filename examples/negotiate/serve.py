@@ -5,12 +5,12 @@
 
     curl --negotiate -u : http://www.example.com:8080/        hello alice@EXAMPLE.COM
 
-A request without a token is answered 401, and the client comes back with one. Whoever is let in sees 200, and the service's answer token,
+A request without a token gets 401, and the client comes back with one. Whoever is let in sees 200, and the service's answer token,
 by which the client knows that the service is the right one. Others see 401, and the log says why. The answer has the header
 `Remote-User`, so it also serves as the subrequest of a reverse proxy (auth_request of nginx; docs/OPERATING.md).
 
-The service may have run before, so it is quiet at first: until the skew has passed, it refuses requests (JUST_STARTED). With --first it never
-ran before, and accepts at once.
+Until its clock and the client's are both later than its start by more than the skew, the service refuses requests (JUST_STARTED). --first
+leaves out the start, and the service accepts at once: docs/OPERATING.md, "Restarts", says when you may do so.
 """
 import argparse
 import base64
@@ -90,7 +90,7 @@ def main() -> None:
     words.add_argument("service", help="the name that is served, as HTTP/www.example.com@EXAMPLE.COM")
     words.add_argument("--address", default="127.0.0.1")
     words.add_argument("--port", type=int, default=8080, help="0 takes a free one")
-    words.add_argument("--first", action="store_true", help="the service never ran before")
+    words.add_argument("--first", action="store_true", help="leave out the start (docs/OPERATING.md says when you may)")
     given = words.parse_args()
     Handler.service = given.service
     with Acceptor(Keytab.read(given.keytab), given.service, started=None if given.first else time.time()) as Handler.acceptor:

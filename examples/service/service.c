@@ -3,8 +3,8 @@
  *
  *     service KEYTAB NAME COUNT [first]      NAME as host/web@EX; it ends after so many connections
  *
- * It may have run before, so it is quiet at first: until the skew has passed, it refuses requests as FEVSTUNIK_JUST_STARTED. With `first`
- * it never ran before, and accepts at once.
+ * Until its clock and the client's are both later than its start by more than the skew, it refuses requests as FEVSTUNIK_JUST_STARTED.
+ * `first` leaves out the start, and it accepts at once: docs/OPERATING.md, "Restarts", says when you may do so.
  * It prints its port first, and then a line for each connection: `CLIENT: TEXT`, or `refused CODE` with the code's name. */
 #include "sources.h"
 

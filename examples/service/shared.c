@@ -2,8 +2,9 @@
  *
  *     shared KEYTAB NAME SOCKET [SECONDS [again]]      NAME as host/web@EX; for how long to wait for the store, 1 if left out
  *
- * The store remembers across restarts of the service. If it is new, emptied or restored, start each instance with `again`: it then refuses
- * requests as FEVSTUNIK_JUST_STARTED until the skew has passed.
+ * The store remembers across restarts of the service. Before a new, emptied or restored store is used, stop all instances, and start each
+ * with `again` (docs/OPERATING.md has the other cases): it then refuses requests as FEVSTUNIK_JUST_STARTED until its clock and the client's
+ * are both later than its start by more than the skew.
  * It reads and writes the same lines as examples/shared.py, so instances of both can be mixed. After it has accepted a request, it asks the
  * store to add the request's stamp, and lets the client in only if the stamp is new. If the store doesn't answer in time, nobody is let in. */
 #include <ctype.h>

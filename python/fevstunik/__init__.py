@@ -5,7 +5,8 @@ A service makes one Acceptor from its Keytab, and passes each request to it:
 >>> from fevstunik import Acceptor, CredentialCache, Keytab, Refused, make_request
 >>> service = Acceptor(Keytab.read("examples/service.keytab"), "host/web@EX", started=None)
 
-(For a service that may have run before, `started` is time.time().) A client makes a request from a ticket of its CredentialCache:
+(If a service has used this name and these keys before, pass started=time.time().) A client makes a request from a ticket of its
+CredentialCache:
 
 >>> cache = CredentialCache.read("examples/client.ccache")
 >>> request, pending = make_request(cache, "host/web@EX", now=1_700_000_100)

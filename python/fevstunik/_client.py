@@ -37,7 +37,8 @@ class Agreed:
 class Pending:
     """A request whose reply is awaited, as make_request returns it.
 
-    It is a context manager. At the end of the block, or by close(), the library frees what it holds. Then no more replies can be read.
+    It is a context manager. At the end of the block, or by close(), the library frees what it holds. Then finish raises the Fault
+    EMPTY_HANDLE.
 
     >>> from fevstunik import CredentialCache, make_request
     >>> with CredentialCache.read("examples/client.ccache") as cache:
@@ -94,8 +95,8 @@ def make_request(cache: CredentialCache, service: str, *, now: When | None = Non
     subkey       a key that the client chooses, as Key.random(20), or None
     seq          the client's first sequence number, or None
     wants_reply  whether to ask the service for a reply
-    context      what a client of GSS-API asks for, if the request is to be wrapped in a token. Its MUTUAL and DELEGATION don't count: MUTUAL
-                 is set exactly if a reply is asked for, and DELEGATION never. The sequence number is random unless `seq` is given
+    context      what a GSS-API client asks for, if the request is to be wrapped in a token. Its MUTUAL and DELEGATION don't count: MUTUAL
+                 is set if and only if a reply is asked for, and DELEGATION never. The sequence number is random unless `seq` is given
     bindings     the bindings of such a client's channel, as ``b"tls-server-end-point:" + hash``, or None
 
     Raises Fault if no request can be built: NO_CREDENTIAL, NO_USABLE_KEY or CREDENTIAL_EXPIRED (no ticket fits), BAD_TICKET or TOO_LONG.

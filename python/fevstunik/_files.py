@@ -191,7 +191,8 @@ def _owner(pointer: object) -> Owner:
 class CredentialCache:
     """A credential cache, from the bytes of a file of version 0x0503 or 0x0504. Invalid bytes raise Fault, with an offset.
 
-    It is a context manager. At the end of the block, or by close(), the library frees what it holds. Then it makes no more requests.
+    It is a context manager. At the end of the block, or by close(), the library frees what it holds. Then make_request raises the
+    Fault EMPTY_HANDLE for it.
 
     >>> with CredentialCache.read("examples/client.ccache") as cache:
     ...     cache

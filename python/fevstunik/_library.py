@@ -218,7 +218,7 @@ def done(answer: Answer) -> Answer:
 
 
 def filled(call: Callable[[Any, int], Answer]) -> bytes:
-    """The bytes that a call with a buffer answers, with as much room as it asks for."""
+    """The bytes that a call with a buffer returns, with as much room as it needs."""
     room = 1024
     while True:
         buffer = ctypes.create_string_buffer(room)
@@ -237,7 +237,7 @@ def fitting(number: int, bits: int, signed: bool = False) -> int:
     """The number, which ctypes would cut to these bits silently."""
     low, high = (-1 << bits - 1, 1 << bits - 1) if signed else (0, 1 << bits)
     if not low <= number < high:
-        raise OverflowError(f"{number} is no number of {bits} bits")
+        raise OverflowError(f"{number} doesn't fit into {bits} bits")
     return number
 
 

@@ -67,8 +67,9 @@ class _List(enum.IntEnum):
 class Stamp:
     """What stands for an accepted request in a store that several instances of a service share.
 
-    data        service, client and client's time as bytes: the same exactly for requests of the same service, client and time
-    keep_until  until when the store must keep it, by its own clock: the client's time plus twice the skew
+    data        service, client and client's time as bytes: the same if and only if the requests are of the same service, client and time
+    keep_until  until when the store must keep it, by its own clock, rounded up to what the store can keep: the client's time plus twice the
+                skew
 
     >>> Stamp(b"service, client and time", Moment(1_700_000_700)).keep_until.seconds
     1700000700
@@ -100,7 +101,8 @@ class Accepted:
     authenticator_authorization  the authenticator's, likewise
     checksum                     the authenticator's checksum, which wasn't verified, or None
 
-    It is a context manager. At the end of the block, or by close(), the library frees what it holds. Then no more replies can be built.
+    It is a context manager. At the end of the block, or by close(), the library frees what it holds. Then reply and stamp raise the
+    Fault EMPTY_HANDLE.
 
     >>> from fevstunik import Acceptor, Keytab
     >>> request = bytes.fromhex(open("examples/calls.txt").readline().split()[2])
@@ -132,7 +134,7 @@ class Accepted:
 
     @property
     def context(self) -> Context | None:
-        """What a client of GSS-API asks for, or None if the authenticator has no checksum of that type (0x8003).
+        """What a GSS-API client asks for, or None if the authenticator has no checksum of that type (0x8003).
 
         >>> from fevstunik import Acceptor, Keytab
         >>> request = bytes.fromhex(open("examples/calls.txt").readline().split()[2])
@@ -163,6 +165,9 @@ class Accepted:
 
     def stamp(self, skew: int | None = None) -> Stamp:
         """Return the stamp of the request, for a store that several instances of the service share (docs/OPERATING.md has the conditions).
+
+        Let the client in only if the store adds the stamp in one step and says that it is new, and if the clock, read again after that,
+        isn't later than `time` by more than the skew.
 
         skew  the largest skew of all instances, in seconds; the acceptor's own by default
 
@@ -238,17 +243,19 @@ class Acceptor:
 
     keytab   its keys
     service  the name that is served, as ``host/web@EX``, or None for each name of the keytab. Name it if the keytab has keys of several
-             names. The name in a ticket isn't encrypted: if two names share a key, a recorded request is accepted once for each
+             names: docs/OPERATING.md says why. If the keytab has no entry of this name, that is no fault: then every ticket is refused
     skew     by how many seconds clocks may differ
-    started  the service's clock at this start, as time.time(). A restarted service has forgotten what it accepted, so it is quiet at first:
-             until the skew has passed, it refuses requests with the cause JUST_STARTED. Pass None only for a service that never ran before,
-             or whose instances share a store that has been used since the first start and has lost nothing. It accepts at once, and would
-             accept again what an earlier run accepted
+    started  the service's clock at this start, as time.time(). A restarted service has forgotten what it accepted. So it refuses requests
+             with the cause JUST_STARTED until its clock and the client's are both later than this start by more than the skew. Pass None
+             only if no service has used this name and these keys before, with this or any other software, or if all instances share a
+             store that has been in use since the first start of any of them, and has lost nothing. The service then accepts at once, and
+             would accept again what an earlier run accepted
 
     Make one and keep it. Any thread may call it. A lock lets one decision run at a time; what was accepted is read without that lock. An
     Acceptor belongs to the process that made it: after a fork, the child's calls raise RuntimeError.
 
-    It is a context manager. At the end of the block, or by close(), the library frees what it holds. Then it decides no more requests.
+    It is a context manager. At the end of the block, or by close(), the library frees what it holds. Then calls raise the Fault
+    EMPTY_HANDLE, and `remembered` is 0.
 
     >>> import time
     >>> from fevstunik import Acceptor, Keytab

@@ -1,4 +1,4 @@
-"""Tokens of GSS-API, in which web clients, ssh and Windows send a request."""
+"""GSS-API tokens, in which web clients, ssh and Windows send a request."""
 from __future__ import annotations
 
 import enum
@@ -108,8 +108,8 @@ def _wrapped(mechanism: Mechanism, negotiated: Mechanism | None) -> _library.Wra
 
 
 def wrap_request(request: Bytes, *, negotiated: bool = True) -> bytes:
-    """Return the first token of a client for a request. Make the request with the argument `context`: services over other libraries may
-    refuse it otherwise.
+    """Return the first token of a client for a request. Make the request with the argument `context`: services built on other libraries
+    may refuse it otherwise.
 
     negotiated  whether it is wrapped in a negotiation (SPNEGO), as web services want it
 
@@ -123,7 +123,7 @@ def wrap_request(request: Bytes, *, negotiated: bool = True) -> bytes:
 
 @dataclass(frozen=True)
 class TokenAnswer:
-    """What a service answers a client's first token.
+    """A service's answer to a client's first token.
 
     message   the reply, for `Pending.finish`; or the KRB-ERROR
     is_error  whether it is a KRB-ERROR
@@ -150,7 +150,7 @@ def open_answer(token: Bytes) -> TokenAnswer:
 
 @dataclass(frozen=True)
 class Context:
-    """What a client of GSS-API asks for, in the checksum of its authenticator (RFC 4121, section 4.1.1).
+    """What a GSS-API client asks for, in the checksum of its authenticator (RFC 4121, section 4.1.1).
 
     flags       what it asks of the context
     bindings    a hash of the channel's bindings: 16 bytes, zeros if there are none
@@ -169,7 +169,8 @@ class Context:
 
     @classmethod
     def read(cls, checksum: Bytes) -> Context:
-        """Read the bytes of a checksum of type 0x8003. Other bytes raise Fault.
+        """Read the bytes of a checksum of type 0x8003. Check the type first, as `Accepted.context` does: this call can't. Bytes that
+        aren't such a checksum raise Fault.
 
         >>> from fevstunik import Context
         >>> Context.read(bytes([16]) + bytes(22))

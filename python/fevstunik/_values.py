@@ -34,7 +34,7 @@ class Moment:
 
     def __post_init__(self) -> None:
         if not FIRST_SECOND <= self.seconds <= LAST_SECOND:
-            raise ValueError(f"a moment is of the years 0000 to 9999, which {self.seconds} seconds aren't")
+            raise ValueError(f"{self.seconds} seconds are outside the years 0000 to 9999")
         if not 0 <= self.micros < 1_000_000:
             raise ValueError(f"a moment has 0 to 999999 microseconds, not {self.micros}")
 
