@@ -7,6 +7,7 @@ pub mod LengthLaws
 pub mod IntegerLaws
 pub mod ClockLaws
 pub mod ContentLaws
+pub mod LeafLaws
 pub mod ElementSteps
 pub mod ElementRead
 pub mod ElementFound

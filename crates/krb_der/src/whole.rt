@@ -2,7 +2,7 @@
 
 ghost use Rattle.std.specs.Prelude.{◌≡◌, ◌<◌, ◌≤◌, ◌^◌, length, is_some};
 ghost use Rattle.krb_der.specs.Kind.{int32, uint32, seq_number, microseconds, constant};
-ghost use Rattle.krb_der.specs.Content.{number};
+ghost use Rattle.krb_der.specs.Whole.{number};
 ghost use Rattle.krb_der.specs.Computed.Read.{content_of};
 ghost use Rattle.krb_der.specs.Inner.Shortest.{shortest_of};
 ghost use Rattle.krb_der.specs.Computed.Whole.{is_redundant, is_negative, whole_of, flags_of, contents_of};
