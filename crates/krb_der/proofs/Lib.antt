@@ -1,6 +1,7 @@
 pub mod Numbers
 pub mod WholeSteps
 pub mod Calendar
+pub mod Found
 pub mod LengthSteps
 pub mod CursorSteps
 pub mod LengthLaws
