@@ -1,33 +1,20 @@
--- The contents of elements without parts: each is read exactly where one is spelled, and a value has one.
-use Rattle.std.proofs.Common.{◌≡◌, inl, inr, ℕ, ◌+◌, ◌-◌, ◌^◌, ◌<◌, ◌≤◌, ℤ, pos, negsuc, ◌-ℤ◌, ◌&&◌, ltb, eqb, List, [], ◌∷◌, length, Some, refl, sym, ap, subst, ◌∙◌, arith, lit≤}
+-- Each content of an element without parts is read exactly where one is spelled, and a value has one.
+use Rattle.std.proofs.Common.{◌≡◌, inl, inr, ℕ, ◌+◌, ◌-◌, ◌^◌, ◌<◌, ◌≤◌, ℤ, pos, negsuc, ◌&&◌, ltb, eqb, List, [], ◌∷◌, length, Some, refl, sym, ap, subst, ◌∙◌, arith}
 use Rattle.std.specs.Int.{w32}
 use Rattle.std.specs.Prelude.{FitsSigned}
 use Rattle.std.proofs.lemmas.Bool.{lt-ltb, ltb-true, eqb-true, eq-eqb, and_parts}
 use Rattle.std.proofs.lemmas.Option.{cond_some}
 use Rattle.std.proofs.lemmas.Int.{ints}
-use Rattle.krb_der.specs.Kind.{Content, int32, uint32, seq_number, microseconds, constant, octets, string, flags, time, ContentValue}
-use Rattle.krb_der.specs.Content.{number, AreFlags, IsInteger, IsNatural, IsUnsigned, IsNegative, IsSeqNumber, ElementaryBy, Elementary, Written}
-use Rattle.krb_der.specs.Spells.{Contents}
+use Rattle.krb_der.specs.Whole.{number, AreFlags, IsInteger, IsNatural, IsSeqNumber}
 use Rattle.krb_der.specs.Computed.Steps.{◌>>?◌}
 use Rattle.krb_der.specs.Computed.Whole.{are_bytes, whole_of, natural_below, int32_within, seq_number_within, constant_at, flags_of}
-use Rattle.krb_der.specs.Computed.Read.{content_of, LeafReader}
 use Rattle.krb_der.proofs.Numbers.{AreBytes-true}
 use Rattle.krb_der.proofs.WholeSteps.{flags_of-some}
 use Rattle.krb_der.proofs.LengthLaws.{number_injective}
-use Rattle.krb_der.proofs.IntegerLaws.{natural_read, negative_read, negative_value, whole_of-read, natural_unique, integer_unique, bind_some, same_some, none_some}
-use Rattle.krb_der.proofs.ClockLaws.{time_read, time_of-read, time_unique}
-
--- reading of contents that gives a value exactly where it is spelled
-pub record AreRead (Leaf : Contents) (read : LeafReader) : Type 0 where
-  pub found : (c : Content) (v : ContentValue c) (content : List ℕ) → read c content ≡ Some v → Leaf c v content
-  pub only : (c : Content) (v : ContentValue c) (content : List ℕ) → Leaf c v content → read c content ≡ Some v
-
--- a value has one content
-abbrev pub AreUnique : Contents → Type 0
-AreUnique Leaf = (c : Content) (v : ContentValue c) (a b : List ℕ) → Leaf c v a → Leaf c v b → a ≡ b
+use Rattle.krb_der.proofs.IntegerLaws.{natural_read, negative_read, negative_value, whole_of-read, bind_some, none_some}
 
 -- ---- flags
-flags_of-read : (content : List ℕ) (n : ℕ) → flags_of content ≡ Some n → AreFlags n content
+pub flags_of-read : (content : List ℕ) (n : ℕ) → flags_of content ≡ Some n → AreFlags n content
 unfolding flags_of
 flags_of-read [] n e = absurd (none_some n e)
 flags_of-read (unused ∷ bits) n e =
@@ -36,10 +23,10 @@ flags_of-read (unused ∷ bits) n e =
     let r = and_parts (eqb unused 0) (eqb (length bits) 4) q.0 in
     record { bits = bits; bytes = AreBytes-true bits q.1; four = eqb-true _ 4 r.1; value = p.1; whole = ap (λ u. u ∷ bits) (eqb-true unused 0 r.0) }
 
-flags_read : (n : ℕ) (content : List ℕ) → AreFlags n content → flags_of content ≡ Some n
+pub flags_read : (n : ℕ) (content : List ℕ) → AreFlags n content → flags_of content ≡ Some n
 flags_read n content h = ap flags_of h.whole ∙ flags_of-some h.bits h.four h.bytes ∙ ap Some h.value
 
-flags_unique : (n : ℕ) (a b : List ℕ) → AreFlags n a → AreFlags n b → a ≡ b
+pub flags_unique : (n : ℕ) (a b : List ℕ) → AreFlags n a → AreFlags n b → a ≡ b
 flags_unique n a b h k =
     h.whole ∙ ap (λ (l : List ℕ). 0 ∷ l) (number_injective h.bits k.bits (h.four ∙ sym k.four) h.bytes k.bytes (h.value ∙ sym k.value)) ∙ sym k.whole
 
@@ -50,16 +37,16 @@ natural-below bound n (pos k) content h e =
     (omega (arith, ltb-true k bound p.0, p.1), record { bytes = h.bytes; shortest = h.shortest; value = h.value ∙ p.1 })
 natural-below bound n (negsuc m) content h e = absurd (none_some n e)
 
-below_found : (bound n : ℕ) (content : List ℕ) → (whole_of content >>? natural_below bound) ≡ Some n → (n < bound) × IsNatural n content
+pub below_found : (bound n : ℕ) (content : List ℕ) → (whole_of content >>? natural_below bound) ≡ Some n → (n < bound) × IsNatural n content
 below_found bound n content e =
     let b = bind_some (whole_of content) (natural_below bound) n e in
     natural-below bound n b.0 content (whole_of-read content b.0 b.1) b.2
 
-below_only : (bound n : ℕ) (content : List ℕ) → bound ≤ 2 ^ 39 → (n < bound) × IsNatural n content → (whole_of content >>? natural_below bound) ≡ Some n
+pub below_only : (bound n : ℕ) (content : List ℕ) → bound ≤ 2 ^ 39 → (n < bound) × IsNatural n content → (whole_of content >>? natural_below bound) ≡ Some n
 below_only bound n content fits h =
     ap (λ o. o >>? natural_below bound) (natural_read n content h.1 (omega (arith, h.0))) ∙ rw (lt-ltb n bound h.0) refl
 
-int32_found : (z : ℤ) (content : List ℕ) → (whole_of content >>? int32_within) ≡ Some z → FitsSigned w32 z × IsInteger z content
+pub int32_found : (z : ℤ) (content : List ℕ) → (whole_of content >>? int32_within) ≡ Some z → FitsSigned w32 z × IsInteger z content
 int32_found z content e =
     let b = bind_some (whole_of content) int32_within z e in
     within b.0 (whole_of-read content b.0 b.1) b.2
@@ -74,7 +61,7 @@ int32_found z content e =
         let lt = ltb-true m (2 ^ 31) p.0 in
         subst (λ (y : ℤ). FitsSigned w32 y × IsInteger y content) p.1 (omega (arith, ints, lt), h)
 
-int32_only : (z : ℤ) (content : List ℕ) → FitsSigned w32 z × IsInteger z content → (whole_of content >>? int32_within) ≡ Some z
+pub int32_only : (z : ℤ) (content : List ℕ) → FitsSigned w32 z × IsInteger z content → (whole_of content >>? int32_within) ≡ Some z
 int32_only (pos n) content h =
     let lt : n < 2 ^ 31 = omega (arith, ints, h.0) in
     ap (λ o. o >>? int32_within) (natural_read n content h.1 (omega arith)) ∙ rw (lt-ltb n (2 ^ 31) lt) refl
@@ -82,7 +69,7 @@ int32_only (negsuc m) content h =
     let lt : m < 2 ^ 31 = omega (arith, ints, h.0) in
     ap (λ o. o >>? int32_within) (negative_read m content h.1 (omega arith)) ∙ rw (lt-ltb m (2 ^ 31) lt) refl
 
-seq_number_found : (n : ℕ) (content : List ℕ) → (whole_of content >>? seq_number_within) ≡ Some n → IsSeqNumber n content
+pub seq_number_found : (n : ℕ) (content : List ℕ) → (whole_of content >>? seq_number_within) ≡ Some n → IsSeqNumber n content
 seq_number_found n content e =
     let b = bind_some (whole_of content) seq_number_within n e in
     within b.0 (whole_of-read content b.0 b.1) b.2
@@ -101,7 +88,7 @@ negative_only m n content lt e h =
     let value : 2 ^ 32 - (m + 1) ≡ n = omega (arith, e) in
     ap (λ o. o >>? seq_number_within) (negative_read m content h (omega (arith, lt))) ∙ rw (lt-ltb m (2 ^ 31) lt) (ap Some value)
 
-seq_number_only : (n : ℕ) (content : List ℕ) → IsSeqNumber n content → (whole_of content >>? seq_number_within) ≡ Some n
+pub seq_number_only : (n : ℕ) (content : List ℕ) → IsSeqNumber n content → (whole_of content >>? seq_number_within) ≡ Some n
 seq_number_only n content (inl h) =
     ap (λ o. o >>? seq_number_within) (natural_read n content h.1 (omega (arith, h.0))) ∙ rw (lt-ltb n (2 ^ 32) h.0) refl
 seq_number_only n content (inr h) =
@@ -109,7 +96,7 @@ seq_number_only n content (inr h) =
     let sum : n + m + 1 ≡ 2 ^ 32 = omega (arith, h.1) in
     negative_only m n content (omega (arith, h.0, h.1)) sum (subst (λ (z : ℤ). IsInteger z content) (negative_value n (2 ^ 32) m sum) h.2)
 
-constant_found : (n : ℕ) (v : Unit {0}) (content : List ℕ) → (whole_of content >>? constant_at n) ≡ Some v → (n < 2 ^ 32) × IsNatural n content
+pub constant_found : (n : ℕ) (v : Unit {0}) (content : List ℕ) → (whole_of content >>? constant_at n) ≡ Some v → (n < 2 ^ 32) × IsNatural n content
 constant_found n v content e =
     let b = bind_some (whole_of content) (constant_at n) v e in
     is b.0 (whole_of-read content b.0 b.1) b.2
@@ -121,50 +108,7 @@ constant_found n v content e =
         (ltb-true n (2 ^ 32) q.1, record { bytes = h.bytes; shortest = h.shortest; value = h.value ∙ eqb-true k n q.0 })
     is (negsuc m) h f = absurd (none_some v f)
 
-constant_only : (n : ℕ) (v : Unit {0}) (content : List ℕ) → (n < 2 ^ 32) × IsNatural n content → (whole_of content >>? constant_at n) ≡ Some v
+pub constant_only : (n : ℕ) (v : Unit {0}) (content : List ℕ) → (n < 2 ^ 32) × IsNatural n content → (whole_of content >>? constant_at n) ≡ Some v
 constant_only n v content h =
     ap (λ o. o >>? constant_at n) (natural_read n content h.1 (omega (arith, h.0)))
     ∙ rw (eq-eqb n n refl, lt-ltb n (2 ^ 32) h.0) refl
-
--- ---- all contents
-found : (c : Content) (v : ContentValue c) (content : List ℕ) → content_of c content ≡ Some v → Elementary c v content
-found int32 v content e = int32_found v content e
-found uint32 v content e = below_found (2 ^ 32) v content e
-found seq_number v content e = seq_number_found v content e
-found microseconds v content e = below_found 1_000_000 v content e
-found (constant n) v content e = constant_found n v content e
-found octets v content e = same_some content v e
-found string v content e = same_some content v e
-found flags v content e = flags_of-read content v e
-found time v content e = time_of-read content v e
-
-only : (c : Content) (v : ContentValue c) (content : List ℕ) → Elementary c v content → content_of c content ≡ Some v
-only int32 v content h = int32_only v content h
-only uint32 v content h = below_only (2 ^ 32) v content (lit≤ tt) h
-only seq_number v content h = seq_number_only v content h
-only microseconds v content h = below_only 1_000_000 v content (lit≤ tt) h
-only (constant n) v content h = constant_only n v content h
-only octets v content h = ap Some h
-only string v content h = ap Some h
-only flags v content h = flags_read v content h
-only time v content h = time_read v content h
-
-pub elementary_read : AreRead Elementary content_of
-elementary_read = record { found = found; only = only }
-
-by_unique : (IsNumber : ℕ → List ℕ → Type 0) → ((n : ℕ) (a b : List ℕ) → IsNumber n a → IsNumber n b → a ≡ b) → AreUnique (ElementaryBy IsNumber)
-by_unique IsNumber one int32 v a b h k = integer_unique v a b h.1 k.1
-by_unique IsNumber one uint32 v a b h k = natural_unique v a b h.1 k.1
-by_unique IsNumber one seq_number v a b h k = one v a b h k
-by_unique IsNumber one microseconds v a b h k = natural_unique v a b h.1 k.1
-by_unique IsNumber one (constant n) v a b h k = natural_unique n a b h.1 k.1
-by_unique IsNumber one octets v a b h k = h ∙ sym k
-by_unique IsNumber one string v a b h k = h ∙ sym k
-by_unique IsNumber one flags v a b h k = flags_unique v a b h k
-by_unique IsNumber one time v a b h k = time_unique v a b h k
-
-pub written_unique : AreUnique Written
-written_unique = by_unique IsUnsigned (λ n a b h k. natural_unique n a b h.1 k.1)
-
-pub negative_unique : AreUnique (ElementaryBy IsNegative)
-negative_unique = by_unique IsNegative (λ n a b h k. integer_unique (pos n -ℤ pos (2 ^ 32)) a b h.2 k.2)

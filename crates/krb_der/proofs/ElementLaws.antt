@@ -2,13 +2,13 @@
 use Rattle.std.proofs.Common.{◌≡◌, ℕ, ◌+◌, ◌≤◌, true, false, not, ◌&&◌, eqb, List, [], ◌∷◌, ◌++◌, length, Option, Some, None, Ok, refl, ap, ◌∙◌, arith}
 use Rattle.std.proofs.lemmas.Bool.{and_parts, or_parts, not-true}
 use Rattle.std.proofs.Math.Nat.{le_refl}
-use Rattle.krb_der.specs.Kind.{Kind, leaf, wrapped, sequence, Fields, ends, must, may, each, tag_of, content_tag, ValueOf, FieldsOf}
+use Rattle.krb_der.specs.Kind.{Kind, leaf, wrapped, sequence, Fields, ends, must, may, each, tag_of, ValueOf, FieldsOf}
+use Rattle.krb_der.specs.Content.{leaf_of}
 use Rattle.krb_der.specs.Place.{Place, begins}
 use Rattle.krb_der.specs.Spells.{IsElement, IfPresent, Contents, SpellsContent, SpellsFields, SpellsBy}
-use Rattle.krb_der.specs.Fault.{content_fault}
 use Rattle.krb_der.specs.Clear.{can_begin, is_clear, are_clear}
 use Rattle.krb_der.specs.Computed.Read.{LeafReader, finish_at, element_by, fields_by}
-use Rattle.krb_der.proofs.ContentLaws.{AreRead}
+use Rattle.krb_der.proofs.LeafLaws.{AreRead}
 use Rattle.krb_der.proofs.ElementSteps.{Taken, finish_at-read, finish_at-end}
 use Rattle.krb_der.proofs.ElementFound.{leaf_found, wrapped_found, sequence_found, must_found, may_found, each_from_found}
 use Rattle.krb_der.proofs.ElementRead.{begins-element, leaf_read, wrapped_read, sequence_read, must_read, may_read, each_from_read}
@@ -40,7 +40,7 @@ module _ (Leaf : Contents) where
       pub element_read : (k : Kind) (v : ValueOf k) (front : List ℕ) → is_clear k ≡ true → SpellsBy Leaf k v front → (at : ℕ) (rest : List ℕ)
           → element_by read k (record { at = at; rest = front ++ rest }) ≡ Ok (v, record { at = at + length front; rest = rest })
       element_read (leaf c) v front clear h at rest =
-          leaf_read (content_tag c) (read c) (content_fault c) v (Leaf c v) (λ content s. are.only c v content s) front h at rest
+          leaf_read (leaf_of c).tag (read c) (leaf_of c).fault v (Leaf c v) (λ content s. are.only c v content s) front h at rest
       element_read (wrapped tag k) v front clear h at rest =
           wrapped_read tag (SpellsBy Leaf k) (element_by read k) (λ x f s a r. element_read k x f clear s a r) v front h at rest
       element_read (sequence fs) v front clear h at rest =
@@ -66,7 +66,7 @@ module _ (Leaf : Contents) where
       unfolding element_by
 
       pub element_found : (k : Kind) (p : Place) (v : ValueOf k) (after : Place) → element_by read k p ≡ Ok (v, after) → Taken (SpellsBy Leaf k v) p after
-      element_found (leaf c) p v after e = leaf_found (content_tag c) (read c) (content_fault c) (Leaf c) (λ x content h. are.found c x content h) p v after e
+      element_found (leaf c) p v after e = leaf_found (leaf_of c).tag (read c) (leaf_of c).fault (Leaf c) (λ x content h. are.found c x content h) p v after e
       element_found (wrapped tag k) p v after e =
           wrapped_found tag (SpellsBy Leaf k) (element_by read k) (λ q x a h. element_found k q x a h) p v after e
       element_found (sequence fs) p v after e =

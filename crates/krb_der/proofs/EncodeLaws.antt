@@ -12,7 +12,8 @@ use Rattle.krb_der.specs.Writing.{Appends, AppendsElement, Wraps, Writes, Writes
 use Rattle.krb_der.specs.Inner.Limited.{limited_of, settled}
 use Rattle.krb_der.specs.Size.{element_size, size_if, fields_size, size_of}
 use Rattle.krb_der.proofs.Spellings.{written_spells}
-use Rattle.krb_der.proofs.Sizes.{HasSize, written_sized, element_sized, present_sized, fields_sized, spelling_sized}
+use Rattle.krb_der.proofs.LeafLaws.{written_sized}
+use Rattle.krb_der.proofs.Sizes.{HasSize, element_sized, present_sized, fields_sized, spelling_sized}
 
 no_fault : {A : Type 0} (c d : EncodeFault) → ◌≡◌ {A = Result A EncodeFault} (Err c) (Err d) → c ≡ d
 no_fault c d e = cc

@@ -11,7 +11,7 @@ use Rattle.krb_der.specs.Reading.{ReadsList}
 use Rattle.krb_der.specs.Clear.{is_clear, are_clear}
 use Rattle.krb_der.specs.Computed.Gives.{checked}
 use Rattle.krb_der.specs.Computed.Read.{element_at, fields_at, content_of}
-use Rattle.krb_der.proofs.ContentLaws.{elementary_read}
+use Rattle.krb_der.proofs.LeafLaws.{elementary_read}
 use Rattle.krb_der.proofs.LengthLaws.{no_value}
 use Rattle.krb_der.proofs.ElementLaws.{fields_read, fields_found}
 use Rattle.krb_der.proofs.FaultLaws.{fields_fault}

@@ -2,13 +2,14 @@
 use Rattle.std.proofs.Common.{◌≡◌, inl, inr, ℕ, zero, suc, ◌≤◌, List, [], ◌∷◌, length, Some, None, Ok, Err, refl, sym, ap, subst, ◌∙◌, arith, length-append}
 use Rattle.std.proofs.Math.Nat.{le_refl}
 use Rattle.krb_der.specs.declared.fault.Fault.{Fault}
-use Rattle.krb_der.specs.Kind.{Content, Kind, leaf, wrapped, sequence, Fields, ends, must, may, each, tag_of, content_tag, ValueOf}
+use Rattle.krb_der.specs.Kind.{Kind, leaf, wrapped, sequence, Fields, ends, must, may, each, tag_of, ValueOf}
+use Rattle.krb_der.specs.Content.{Content, leaf_of}
 use Rattle.krb_der.specs.Place.{Place, begins}
 use Rattle.krb_der.specs.Spells.{Contents, StandsAt}
-use Rattle.krb_der.specs.Fault.{content_fault, Reached, inside_wrapped, inside_sequence, after_element, is_there, is_absent, one_more, IsBroken, bad_content, IsFaulty}
+use Rattle.krb_der.specs.Fault.{Reached, inside_wrapped, inside_sequence, after_element, is_there, is_absent, one_more, IsBroken, bad_content, IsFaulty}
 use Rattle.krb_der.specs.Computed.Steps.{◌>>=◌}
 use Rattle.krb_der.specs.Computed.Read.{LeafReader, enter_at, finish_at, leaf_at, wrapped_at, sequence_at, must_at, may_at, each_from, value_or, element_by, fields_by}
-use Rattle.krb_der.proofs.ContentLaws.{AreRead}
+use Rattle.krb_der.proofs.LeafLaws.{AreRead}
 use Rattle.krb_der.proofs.LengthLaws.{chosen, no_value}
 use Rattle.krb_der.proofs.IntegerLaws.{none_some}
 use Rattle.krb_der.proofs.ElementSteps.{bind_err, cons_nil, enter_at-read, enter_at-fault, finish_at-fault}
@@ -31,15 +32,15 @@ module _ (Leaf : Contents) (read : LeafReader) (are : AreRead Leaf read) (from :
       record { front = t.front; spelled = t.is; whole = t.whole; at_is = t.at_is }
 
   leaf_fault : (c : Content) (fs : Fields) (p : Place) (f : Fault) → At (must (leaf c) fs) p
-      → leaf_at (content_tag c) (read c) (content_fault c) p ≡ Err f → Faulty f
+      → leaf_at (leaf_of c).tag (read c) (leaf_of c).fault p ≡ Err f → Faulty f
   leaf_fault c fs p f r e =
-      elim (bind_err (enter_at (content_tag c) p) (λ e. value_or (read c e.0.rest) (content_fault c) p.at >>= λ x. Ok (x, e.1)) f e) [
+      elim (bind_err (enter_at (leaf_of c).tag p) (λ e. value_or (read c e.0.rest) (leaf_of c).fault p.at >>= λ x. Ok (x, e.1)) f e) [
         | inl h ↦ broken (must (leaf c) fs) p f r (enter_at-fault Leaf (leaf c) fs p f h)
         | inr h ↦
-            let head = enter_at-read (content_tag c) p h.0.0 h.0.1 h.1 in
-            elim (bind_err (value_or (read c h.0.0.rest) (content_fault c) p.at) (λ x. Ok (x, h.0.1)) f h.2) [
+            let head = enter_at-read (leaf_of c).tag p h.0.0 h.0.1 h.1 in
+            elim (bind_err (value_or (read c h.0.0.rest) (leaf_of c).fault p.at) (λ x. Ok (x, h.0.1)) f h.2) [
               | inl g ↦
-                  let n = value_or-err (read c h.0.0.rest) (content_fault c) p.at f g in
+                  let n = value_or-err (read c h.0.0.rest) (leaf_of c).fault p.at f g in
                   broken (must (leaf c) fs) p f r
                   (subst (IsBroken Leaf (must (leaf c) fs) p) n.1
                   (bad_content h.0.0 h.0.1 head (λ v s. none_some v (sym n.0 ∙ are.only c v h.0.0.rest s))))

@@ -6,7 +6,7 @@ use Rattle.std.proofs.lemmas.Nat.{same_from_place}
 use Rattle.std.proofs.Math.Nat.{mul-le-mul_right, pow-le-pow_right}
 use Rattle.krb_der.specs.declared.fault.FaultKind.{FaultKind}
 use Rattle.krb_der.specs.declared.fault.FaultKind.TheVariants.{Truncated, Length}
-use Rattle.krb_der.specs.Content.{AreBytes, number}
+use Rattle.krb_der.specs.Whole.{AreBytes, number}
 use Rattle.krb_der.specs.Place.{begins}
 use Rattle.krb_der.specs.Spells.{IsLength, short, long}
 use Rattle.krb_der.specs.Fault.{IsCutLength, IsBadLength, no_form, not_shortest}

@@ -2,7 +2,7 @@
 use Rattle.std.proofs.Common.{◌≡◌, ℕ, ◌≤◌, false, cond, eqb, List, [], ◌∷◌, length, get_or, take, drop, Ok, Err, refl, ap, ◌∙◌, arith}
 use Rattle.std.proofs.lemmas.Bool.{le-ltb, le-leb}
 use Rattle.krb_der.specs.declared.fault.FaultKind.TheVariants.{Truncated, Length}
-use Rattle.krb_der.specs.Content.{AreBytes, number}
+use Rattle.krb_der.specs.Whole.{AreBytes, number}
 use Rattle.krb_der.specs.Place.{begins}
 use Rattle.krb_der.specs.Computed.Read.{long_of, are_length}
 use Rattle.krb_der.proofs.Numbers.{are_bytes-true}

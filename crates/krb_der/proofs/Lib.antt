@@ -1,12 +1,14 @@
 pub mod Numbers
 pub mod WholeSteps
 pub mod Calendar
+pub mod Found
 pub mod LengthSteps
 pub mod CursorSteps
 pub mod LengthLaws
 pub mod IntegerLaws
 pub mod ClockLaws
 pub mod ContentLaws
+pub mod LeafLaws
 pub mod ElementSteps
 pub mod ElementRead
 pub mod ElementFound

@@ -4,7 +4,7 @@ use Rattle.std.proofs.lemmas.Bool.{and_from, and_parts, lt-ltb, ltb-true}
 use Rattle.std.proofs.lemmas.List.{take_more}
 use Rattle.std.proofs.Math.Nat.{pow-succ', mul-le-mul_right, pow-le-pow_right}
 use Rattle.std.proofs.lemmas.Nat.{pow-add}
-use Rattle.krb_der.specs.Content.{AreBytes, number}
+use Rattle.krb_der.specs.Whole.{AreBytes, number}
 use Rattle.krb_der.specs.Computed.Whole.{are_bytes}
 
 pub AreBytes-from : (bytes : List ℕ) → ((i : ℕ) → get_or bytes i 0 < 256) → AreBytes bytes

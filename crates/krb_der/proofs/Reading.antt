@@ -13,7 +13,7 @@ use Rattle.krb_der.specs.Reading.{Reads, Enters, MayEnter}
 use Rattle.krb_der.specs.Clear.{is_clear}
 use Rattle.krb_der.specs.Computed.Gives.{Gives}
 use Rattle.krb_der.specs.Computed.Read.{element_at, enter_at, may_enter, content_of}
-use Rattle.krb_der.proofs.ContentLaws.{elementary_read}
+use Rattle.krb_der.proofs.LeafLaws.{elementary_read}
 use Rattle.krb_der.proofs.LengthLaws.{no_value}
 use Rattle.krb_der.proofs.ElementSteps.{bind_ok, bind_err, enter_at-spelled, enter_at-read, enter_at-fault}
 use Rattle.krb_der.proofs.ElementFound.{answer}

@@ -5,7 +5,7 @@ use Rattle.std.proofs.lemmas.Bool.{ltb-true, leb-true, eqb-true, and_parts, or_c
 use Rattle.std.proofs.lemmas.Int.{ints}
 use Rattle.std.proofs.lemmas.Nat.{from_be_bytes-to_be_bytes_4, from_be_bytes-to_be_bytes_8}
 use mir.Val.{SFits}
-use Rattle.krb_der.specs.Content.{AreBytes, number, turned, IsInteger, AreFlags}
+use Rattle.krb_der.specs.Whole.{AreBytes, number, turned, IsInteger, AreFlags}
 use Rattle.krb_der.specs.Computed.Whole.{is_redundant, is_negative}
 use Rattle.krb_der.specs.Inner.Shortest.{shortest_of}
 use Rattle.krb_der.proofs.IntegerLaws.{AreBytes-turned, number-turned, shortest_kept, shortest_turned}

@@ -1,12 +1,15 @@
 -- How long spellings are, for all kinds at once.
-use Rattle.std.proofs.Common.{◌≡◌, ℕ, zero, suc, ◌+◌, ◌*◌, ◌^◌, ◌<◌, ◌≤◌, pos, negsuc, List, [], ◌∷◌, length, Option, Some, None, refl, sym, ap, ◌∙◌, arith, length-append}
+use Rattle.std.proofs.Common.{◌≡◌, ℕ, zero, suc, ◌+◌, ◌*◌, ◌^◌, ◌<◌, ◌≤◌, ℤ, pos, negsuc, List, [], ◌∷◌, length, Option, Some, None, refl, sym, ap, ◌∙◌, arith, length-append}
+use Rattle.std.specs.Prelude.{FitsSigned}
+use Rattle.std.specs.Int.{w32}
 use Rattle.std.proofs.lemmas.Bool.{le-ltb, lt-ltb}
 use Rattle.std.proofs.lemmas.Int.{ints}
 use Rattle.std.proofs.Math.Nat.{mul-le-mul_right}
-use Rattle.krb_der.specs.Kind.{Content, int32, uint32, seq_number, microseconds, constant, octets, string, flags, time, Kind, leaf, wrapped, sequence, Fields, ends, must, may, each, tag_of, ContentValue, ValueOf, FieldsOf}
-use Rattle.krb_der.specs.Content.{AreBytes, number, IsShortest, IsNatural, Written}
+use Rattle.krb_der.specs.Kind.{Kind, leaf, wrapped, sequence, Fields, ends, must, may, each, tag_of, ValueOf, FieldsOf}
+use Rattle.krb_der.specs.Content.{Content, ContentValue, leaf_of}
+use Rattle.krb_der.specs.Whole.{AreBytes, number, IsShortest, IsNatural, IsInteger, natural_size, integer_size}
 use Rattle.krb_der.specs.Spells.{IsLength, short, long, IsElement, IsJoined, IfPresent, ForEach, Contents, SpellsContent, SpellsFields, SpellsBy}
-use Rattle.krb_der.specs.Size.{length_size, element_size, natural_size, leaf_size, size_if, sizes_of, content_size, fields_size, size_of}
+use Rattle.krb_der.specs.Size.{length_size, element_size, size_if, sizes_of, content_size, fields_size, size_of}
 use Rattle.krb_der.proofs.Numbers.{number_below}
 use Rattle.krb_der.proofs.LengthLaws.{number_least}
 use Rattle.krb_der.proofs.IntegerLaws.{length-turned, natural_least, natural_few}
@@ -56,21 +59,13 @@ natural_sized n content h lt = by content h.bytes h.shortest h.value (natural_fe
         let many = many_bytes (length ys) n (omega arith) (omega (arith, natural_least x y ys s, e)) (omega (arith, number_under x (y ∷ ys) s.0 are.1, e)) in
         omega (arith, many)
 
+pub integer_sized : (z : ℤ) (content : List ℕ) → IsInteger z content → FitsSigned w32 z → length content ≡ integer_size z
+integer_sized (pos n) content h fits = natural_sized n content h (omega (arith, ints, fits))
+integer_sized (negsuc m) content h fits = sym (length-turned content) ∙ natural_sized m _ h.1 (omega (arith, ints, fits))
+
 -- ---- contents
 abbrev pub AreSized : Contents → Type 0
-AreSized Leaf = (c : Content) (v : ContentValue c) (content : List ℕ) → Leaf c v content → length content ≡ leaf_size c v
-
-pub written_sized : AreSized Written
-written_sized int32 (pos n) content h = natural_sized n content h.1 (omega (arith, ints, h.0))
-written_sized int32 (negsuc m) content h = sym (length-turned content) ∙ natural_sized m _ h.1.1 (omega (arith, ints, h.0))
-written_sized uint32 v content h = natural_sized v content h.1 (omega (arith, h.0))
-written_sized seq_number v content h = natural_sized v content h.1 (omega (arith, h.0))
-written_sized microseconds v content h = natural_sized v content h.1 (omega (arith, h.0))
-written_sized (constant n) v content h = natural_sized n content h.1 (omega (arith, h.0))
-written_sized octets v content h = ap length h
-written_sized string v content h = ap length h
-written_sized flags v content h = ap length h.whole ∙ omega (arith, h.four)
-written_sized time v content h = ap length h.whole
+AreSized Leaf = (c : Content) (v : ContentValue c) (content : List ℕ) → Leaf c v content → length content ≡ (leaf_of c).size v
 
 -- ---- elements and fields
 -- each spelling of a part has so many bytes

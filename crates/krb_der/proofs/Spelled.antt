@@ -1,21 +1,17 @@
 -- For each value whose numbers are in range, and whose size a length can tell, there is something to be written.
-use Rattle.std.proofs.Common.{inl, inr, ℕ, ◌^◌, ◌<◌, ◌≤◌, ℤ, pos, negsuc, List, [], ◌∷◌, ◌++◌, length, Option, Some, None, refl, subst, arith}
-use Rattle.std.specs.Prelude.{FitsSigned, IfSome}
+use Rattle.std.proofs.Common.{inl, inr, ℕ, ◌^◌, ◌<◌, ◌≤◌, List, [], ◌∷◌, ◌++◌, length, Option, Some, None, refl, arith}
+use Rattle.std.specs.Prelude.{IfSome}
 use Rattle.std.specs.Int.{w32, to_be_bytes}
 use Rattle.std.proofs.lemmas.Bool.{cases_lt}
-use Rattle.std.proofs.lemmas.Int.{ints}
-use Rattle.krb_der.specs.Kind.{Content, int32, uint32, seq_number, microseconds, constant, octets, string, flags, time, Kind, leaf, wrapped, sequence, Fields, ends, must, may, each, tag_of, ContentValue, ValueOf, FieldsOf}
-use Rattle.krb_der.specs.Content.{IsInteger, IsNatural, Elementary, Written}
+use Rattle.krb_der.specs.Kind.{Kind, leaf, wrapped, sequence, Fields, ends, must, may, each, tag_of, ValueOf, FieldsOf}
+use Rattle.krb_der.specs.Content.{Content, ContentValue, leaf_of, Elementary, Written}
 use Rattle.krb_der.specs.Spells.{IsElement, IsJoined, IfPresent, ForEach, Contents, SpellsContent, SpellsFields, SpellsBy, Spells, limit}
-use Rattle.krb_der.specs.Size.{size_if, sizes_of, content_size, fields_size, size_of, LeafFits, ForAll, NumbersFit, FieldsFit}
-use Rattle.krb_der.specs.Time.{IsSeconds}
+use Rattle.krb_der.specs.Size.{size_if, sizes_of, content_size, fields_size, size_of, ForAll, NumbersFit, FieldsFit}
 use Rattle.krb_der.specs.Writing.{Writes}
 use Rattle.krb_der.specs.Inner.HeadView.{IsHeadOf}
 use Rattle.krb_der.proofs.HeadLaws.{head-1, head-2, head-3, head-4, head-5}
-use Rattle.krb_der.proofs.ShortestLaws.{integer_be, flags_be}
-use Rattle.krb_der.proofs.Numbers.{number_within}
-use Rattle.krb_der.proofs.Dates.{civil_range, time_made}
-use Rattle.krb_der.proofs.Sizes.{AreSized, HasSize, content_sized, written_sized}
+use Rattle.krb_der.proofs.LeafLaws.{is_leaf, written_sized}
+use Rattle.krb_der.proofs.Sizes.{AreSized, HasSize, content_sized}
 
 -- some bytes are such a part
 abbrev pub Some_of : (List ℕ → Type 0) → Type 0
@@ -56,30 +52,8 @@ each_made Part size P one [] fits small = ([], refl)
 each_made Part size P one (v ∷ vs) fits small =
     joined_made (Part v) (ForEach Part vs) (one v fits.0 (omega arith)) (each_made Part size P one vs fits.1 (omega arith))
 
--- ---- contents
-abbrev AreMade : Contents → Type 0
-AreMade Leaf = (c : Content) (v : ContentValue c) → LeafFits c v → Some_of (Leaf c v)
-
-integer_made : (z : ℤ) → FitsSigned w32 z → Some_of (IsInteger z)
-integer_made (pos n) fits = (_, integer_be (pos n) (omega (arith, ints, fits)))
-integer_made (negsuc m) fits = (_, integer_be (negsuc m) (omega (arith, ints, fits)))
-
-natural_made : (n : ℕ) → n < 2 ^ 32 → Some_of (IsNatural n)
-natural_made n lt = (_, integer_be (pos n) (omega (arith, ints, lt)))
-
-written_made : AreMade Written
-written_made int32 z fits = let made = integer_made z fits in (made.0, (fits, made.1))
-written_made uint32 n fits = let made = natural_made n fits in (made.0, (fits, made.1))
-written_made seq_number n fits = let made = natural_made n fits in (made.0, (fits, made.1))
-written_made microseconds n fits = let made = natural_made n (omega (arith, fits)) in (made.0, (fits, made.1))
-written_made (constant n) v fits = let made = natural_made n fits in (made.0, (fits, made.1))
-written_made octets v fits = (v, refl)
-written_made string v fits = (v, refl)
-written_made flags n fits = (_, flags_be n fits (to_be_bytes w32 n) refl)
-written_made time s fits = time_made s fits
-
 -- ---- all kinds
-module _ (Leaf : Contents) (leaves : AreSized Leaf) (made : AreMade Leaf) where
+module _ (Leaf : Contents) (leaves : AreSized Leaf) (made : (c : Content) (v : ContentValue c) → (leaf_of c).Fits v → Some_of (Leaf c v)) where
   -- an element, from its content
   around : (k : Kind) (v : ValueOf k) → (content_size k v < 2 ^ 32 → Some_of (SpellsContent Leaf k v)) → size_of k v < 2 ^ 32 → Some_of (SpellsBy Leaf k v)
   around k v content small =
@@ -106,21 +80,9 @@ module _ (Leaf : Contents) (leaves : AreSized Leaf) (made : AreMade Leaf) where
   one_made k v fits small = around k v (content_made k v fits) small
 
 pub written_exists : (k : Kind) (v : ValueOf k) → NumbersFit k v → size_of k v ≤ limit → (bytes : List ℕ) × Writes k v bytes
-written_exists k v fits small = one_made Written written_sized written_made k v fits (omega (arith, small))
+written_exists k v fits small = one_made Written written_sized (λ c. (is_leaf c).made) k v fits (omega (arith, small))
 
 -- ---- what is spelled is in range
-leaf_fits : (c : Content) (v : ContentValue c) (content : List ℕ) → Elementary c v content → LeafFits c v
-leaf_fits int32 v content h = h.0
-leaf_fits uint32 v content h = h.0
-leaf_fits seq_number v content (inl h) = h.0
-leaf_fits seq_number v content (inr h) = h.1
-leaf_fits microseconds v content h = h.0
-leaf_fits (constant n) v content h = h.0
-leaf_fits octets v content h = tt
-leaf_fits string v content h = tt
-leaf_fits flags v content h = omega (arith, h.value, number_within h.bits 4 h.bytes (omega (arith, h.four)))
-leaf_fits time v content h = subst IsSeconds h.value (civil_range h.civil h.valid)
-
 present_fits : {V : Type 0} (Part : V → List ℕ → Type 0) (P : V → Type 0) → ((v : V) (bytes : List ℕ) → Part v bytes → P v)
     → (o : Option V) (bytes : List ℕ) → IfPresent Part o bytes → IfSome o P
 present_fits Part P one None bytes h = tt
@@ -133,7 +95,7 @@ each_fits Part P one (v ∷ vs) bytes h = (one v h.front h.first, each_fits Part
 
 mutual
   content_fits : (k : Kind) (v : ValueOf k) (bytes : List ℕ) → SpellsContent Elementary k v bytes → NumbersFit k v
-  content_fits (leaf c) v bytes h = leaf_fits c v bytes h
+  content_fits (leaf c) v bytes h = (is_leaf c).fits v bytes h
   content_fits (wrapped tag e) v bytes h = content_fits e v h.content h.content_is
   content_fits (sequence fs) v bytes h = fields_fit fs v bytes h
 

@@ -2,7 +2,7 @@
 use Rattle.std.proofs.Common.{◌≡◌, ℕ, List, [], ◌∷◌, ◌++◌, length, Option, Some, None, sym, ap, subst, ◌∙◌}
 use Rattle.krb_der.specs.Kind.{Kind, leaf, wrapped, sequence, Fields, ends, must, may, each, tag_of, ValueOf, FieldsOf}
 use Rattle.krb_der.specs.Spells.{IsLength, IsElement, IsJoined, IfPresent, ForEach, Contents, SpellsContent, SpellsFields, SpellsBy}
-use Rattle.krb_der.proofs.ContentLaws.{AreUnique}
+use Rattle.krb_der.proofs.LeafLaws.{AreUnique}
 use Rattle.krb_der.proofs.LengthLaws.{IsLength-unique}
 
 pub element_unique : (tag : ℕ) (IsContent : List ℕ → Type 0) → ((a b : List ℕ) → IsContent a → IsContent b → a ≡ b)

@@ -1,77 +1,80 @@
--- The contents of elements without parts (X.690, sections 8.3, 8.6 and 8.7; RFC 4120, section 5.2).
-use Rattle.std.specs.Prelude.{◌≡◌, ℕ, ◌+◌, ◌-◌, ◌*◌, ◌^◌, ◌<◌, ◌≤◌, ℤ, pos, negsuc, ◌-ℤ◌, ◌⊎◌, List, [], ◌∷◌, length, map, FitsSigned}
+-- The elements without parts, a row for each (X.690, sections 8.3, 8.6 and 8.7; RFC 4120, section 5.2).
+use Rattle.std.specs.Prelude.{◌≡◌, ℕ, ◌^◌, ◌<◌, ◌≤◌, ℤ, List, length, FitsSigned}
 use Rattle.std.specs.Int.{w32}
-use Rattle.krb_der.specs.Kind.{Content, int32, uint32, seq_number, microseconds, constant, octets, string, flags, time, ContentValue}
-use Rattle.krb_der.specs.Time.{IsTime}
+use Rattle.krb_der.specs.declared.fault.FaultKind.{FaultKind}
+use Rattle.krb_der.specs.declared.fault.FaultKind.TheVariants.{Length, Integer, Time, Flags}
+use Rattle.krb_der.specs.Whole.{IsNatural, IsInteger, AreFlags, IsNegative, IsSeqNumber, natural_size, integer_size}
+use Rattle.krb_der.specs.Time.{IsTime, IsSeconds}
 
-abbrev pub AreBytes : List ℕ → Type 0
-AreBytes [] = Unit {0}
-AreBytes (b ∷ bytes) = (b < 256) × AreBytes bytes
+-- what an element without parts contains
+pub data Content : Type 0 where
+  int32 uint32 seq_number microseconds octets string flags time : Content
+  -- this whole number alone
+  constant : ℕ → Content
 
--- the number that the bytes are, the most significant first
-abbrev pub number : List ℕ → ℕ
-number [] = 0
-number (b ∷ bytes) = b * 256 ^ length bytes + number bytes
+-- Numbers are numbers, texts are lists of bytes, flags are a number of 32 bits whose bit 0 is the
+-- most significant, and a time is the seconds since 1970-01-01T00:00:00Z.
+abbrev pub ContentValue : Content → Type 0
+ContentValue int32 = ℤ
+ContentValue uint32 = ℕ
+ContentValue seq_number = ℕ
+ContentValue microseconds = ℕ
+ContentValue (constant n) = Unit {0}
+ContentValue octets = List ℕ
+ContentValue string = List ℕ
+ContentValue flags = ℕ
+ContentValue time = ℤ
 
--- The first bit is 0, and the first nine bits are not all 0 (X.690, section 8.3.2).
-abbrev pub IsShortest : List ℕ → Type 0
-IsShortest [] = ⊥
-IsShortest (a ∷ []) = a < 128
-IsShortest (a ∷ b ∷ bytes) = (a < 128) × (a ≡ 0 → 128 ≤ b)
+pub record Leaf (V : Type 0) : Type 1 where
+  pub tag : ℕ
+  -- the fault if a content spells no value
+  pub fault : FaultKind
+  -- Which contents are read as which values, and which are written. A sequence number can also be
+  -- read from that of a negative number.
+  pub Reads : V → List ℕ → Type 0
+  pub Writes : V → List ℕ → Type 0
+  pub ReadsNegative : V → List ℕ → Type 0
+  -- the values that are in range (RFC 4120, section 5.2.4), and how many bytes are written for one
+  pub Fits : V → Type 0
+  pub size : V → ℕ
+  -- how many sequence numbers there are, and whether that of a value is above 2147483647
+  pub numbers : ℕ
+  pub IsHigh : V → Type 0
 
-pub record IsNatural (n : ℕ) (content : List ℕ) : Type 0 where
-  pub bytes : AreBytes content
-  pub shortest : IsShortest content
-  pub value : number content ≡ n
+-- a leaf whose values have one content each
+abbrev pub plain : {V : Type 0} → ℕ → FaultKind → (V → List ℕ → Type 0) → (V → Type 0) → (V → ℕ) → Leaf V
+plain tag fault Is Fits size =
+    record { tag = tag; fault = fault; Reads = Is; Writes = Is; ReadsNegative = Is; Fits = Fits; size = size; numbers = 0; IsHigh = λ v. ⊥ }
 
--- each bit inverted
-abbrev pub turned : List ℕ → List ℕ
-turned bytes = map (λ b. 255 - b) bytes
+-- whole numbers from 0 to below the bound
+abbrev pub natural_leaf : ℕ → Leaf ℕ
+natural_leaf bound = plain 0x02 Integer (λ n content. (n < bound) × IsNatural n content) (λ n. n < bound) natural_size
 
--- two's complement (X.690, section 8.3.3): -(m + 1), here negsuc m, is m with each bit inverted
-abbrev pub IsInteger : ℤ → List ℕ → Type 0
-IsInteger (pos n) content = IsNatural n content
-IsInteger (negsuc m) content = AreBytes content × IsNatural m (turned content)
+-- the bytes themselves
+abbrev pub bytes_leaf : ℕ → Leaf (List ℕ)
+bytes_leaf tag = plain tag Length (λ v content. content ≡ v) (λ v. Unit {0}) length
 
--- no unused bits, and 32 bits, the first of which is the most significant (X.690, section 8.6; RFC
--- 4120, section 5.2.8)
-pub record AreFlags (n : ℕ) (content : List ℕ) : Type 0 where
-  pub bits : List ℕ
-  pub bytes : AreBytes bits
-  pub four : length bits ≡ 4
-  pub value : number bits ≡ n
-  pub whole : content ≡ 0 ∷ bits
-
--- a sequence number as it is (RFC 4120, sections 5.2.4 and 5.5.1)
-abbrev pub IsUnsigned : ℕ → List ℕ → Type 0
-IsUnsigned n content = (n < 2 ^ 32) × IsNatural n content
-
--- a sequence number above 2147483647 as the negative number of the same 32 bits, as some senders
--- write it
-abbrev pub IsNegative : ℕ → List ℕ → Type 0
-IsNegative n content = (2 ^ 31 ≤ n) × (n < 2 ^ 32) × IsInteger (pos n -ℤ pos (2 ^ 32)) content
-
--- either
-abbrev pub IsSeqNumber : ℕ → List ℕ → Type 0
-IsSeqNumber n content = IsUnsigned n content ⊎ IsNegative n content
-
--- Which contents spell which values, given the contents of sequence numbers. A number outside its
--- range has no spelling (RFC 4120, section 5.2.4).
-abbrev pub ElementaryBy : (ℕ → List ℕ → Type 0) → (c : Content) → ContentValue c → List ℕ → Type 0
-ElementaryBy IsNumber int32 z content = FitsSigned w32 z × IsInteger z content
-ElementaryBy IsNumber uint32 n content = (n < 2 ^ 32) × IsNatural n content
-ElementaryBy IsNumber seq_number n content = IsNumber n content
-ElementaryBy IsNumber microseconds n content = (n < 1_000_000) × IsNatural n content
-ElementaryBy IsNumber (constant n) v content = (n < 2 ^ 32) × IsNatural n content
-ElementaryBy IsNumber octets v content = content ≡ v
-ElementaryBy IsNumber string v content = content ≡ v
-ElementaryBy IsNumber flags n content = AreFlags n content
-ElementaryBy IsNumber time s content = IsTime s content
+-- The universal tags are INTEGER, OCTET STRING, GeneralString, BIT STRING and GeneralizedTime.
+abbrev pub leaf_of : (c : Content) → Leaf (ContentValue c)
+leaf_of int32 = plain 0x02 Integer (λ z content. FitsSigned w32 z × IsInteger z content) (FitsSigned w32) integer_size
+leaf_of uint32 = natural_leaf (2 ^ 32)
+leaf_of seq_number =
+    record (natural_leaf (2 ^ 32)) { Reads = IsSeqNumber; ReadsNegative = IsNegative; numbers = 1; IsHigh = λ n. 2 ^ 31 ≤ n }
+leaf_of microseconds = natural_leaf 1_000_000
+leaf_of (constant n) = plain 0x02 Integer (λ v content. (n < 2 ^ 32) × IsNatural n content) (λ v. n < 2 ^ 32) (λ v. natural_size n)
+leaf_of octets = bytes_leaf 0x04
+leaf_of string = bytes_leaf 0x1b
+leaf_of flags = plain 0x03 Flags AreFlags (λ n. n < 2 ^ 32) (λ n. 5)
+leaf_of time = plain 0x18 Time IsTime IsSeconds (λ s. 15)
 
 -- the contents that are read
 abbrev pub Elementary : (c : Content) → ContentValue c → List ℕ → Type 0
-Elementary = ElementaryBy IsSeqNumber
+Elementary c = (leaf_of c).Reads
 
 -- the contents that are written
 abbrev pub Written : (c : Content) → ContentValue c → List ℕ → Type 0
-Written = ElementaryBy IsUnsigned
+Written c = (leaf_of c).Writes
+
+-- the contents with sequence numbers as negative numbers
+abbrev pub Negated : (c : Content) → ContentValue c → List ℕ → Type 0
+Negated c = (leaf_of c).ReadsNegative

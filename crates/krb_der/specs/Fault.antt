@@ -2,10 +2,9 @@
 -- broken there.
 use Rattle.std.specs.Prelude.{◌≡◌, ◌≢◌, ℕ, ◌+◌, ◌<◌, ◌≤◌, true, false, List, [], ◌∷◌, ◌++◌, length, ◌⊎◌}
 use Rattle.krb_der.specs.declared.fault.Fault.{Fault}
-use Rattle.krb_der.specs.declared.fault.FaultKind.{FaultKind}
-use Rattle.krb_der.specs.declared.fault.FaultKind.TheVariants.{Truncated, Tag, Length, Integer, Time, Flags, Trailing, TooLong}
-use Rattle.krb_der.specs.Kind.{Content, int32, uint32, seq_number, microseconds, constant, octets, string, flags, time, Kind, leaf, wrapped, sequence, Fields, ends, must, may, each, tag_of, content_tag, ValueOf}
-use Rattle.krb_der.specs.Content.{Elementary}
+use Rattle.krb_der.specs.declared.fault.FaultKind.TheVariants.{Truncated, Tag, Length, Trailing, TooLong}
+use Rattle.krb_der.specs.Kind.{Kind, leaf, wrapped, sequence, Fields, ends, must, may, each, tag_of, ValueOf}
+use Rattle.krb_der.specs.Content.{Content, leaf_of, Elementary}
 use Rattle.krb_der.specs.Place.{Place, begin_at, end_of, begins}
 use Rattle.krb_der.specs.Spells.{IsLength, Contents, StandsAt, limit}
 
@@ -35,18 +34,6 @@ pub data IsBadLength (bytes : List ℕ) : Type 0 where
   no_form : (f : ℕ) (rest : List ℕ) → bytes ≡ f ∷ rest → (f ≡ 0x80) ⊎ (0x84 < f) → IsBadLength bytes
   not_shortest : (size rest : List ℕ) → bytes ≡ size ++ rest → IsLongForm size → ((n : ℕ) → IsLength n size → ⊥)
       → IsBadLength bytes
-
--- which fault it is if a content spells no value
-abbrev pub content_fault : Content → FaultKind
-content_fault int32 = Integer
-content_fault uint32 = Integer
-content_fault seq_number = Integer
-content_fault microseconds = Integer
-content_fault (constant n) = Integer
-content_fault octets = Length
-content_fault string = Length
-content_fault flags = Flags
-content_fault time = Time
 
 module _ (Leaf : Contents) where
   -- From a place at which some fields are required, up to the end of the enclosing element, other
@@ -85,8 +72,8 @@ module _ (Leaf : Contents) where
         → here.rest ≡ tag_of e ∷ (size ++ bytes) → IsLength n size → length bytes < n
         → IsBroken (must e fs) here (record { kind = Truncated; at = end_of here })
     bad_content : {c : Content} {fs : Fields} {here : Place} (inside after : Place)
-        → HasHead (content_tag c) here inside after → ((v : ValueOf (leaf c)) → Leaf c v inside.rest → ⊥)
-        → IsBroken (must (leaf c) fs) here (record { kind = content_fault c; at = here.at })
+        → HasHead (leaf_of c).tag here inside after → ((v : ValueOf (leaf c)) → Leaf c v inside.rest → ⊥)
+        → IsBroken (must (leaf c) fs) here (record { kind = (leaf_of c).fault; at = here.at })
     left_over : {here : Place}
         → here.rest ≢ [] → IsBroken ends here (record { kind = Trailing; at = here.at })
 

@@ -1,12 +1,8 @@
 -- The kinds of elements (X.690, section 8.1), and what a message is made of: a schema that reads
 -- like a module of ASN.1.
-use Rattle.std.specs.Prelude.{ℕ, ◌+◌, ℤ, List, Option}
-
--- what an element without parts contains
-pub data Content : Type 0 where
-  int32 uint32 seq_number microseconds octets string flags time : Content
-  -- this whole number alone
-  constant : ℕ → Content
+use Rattle.std.specs.Prelude.{ℕ, ◌+◌, List, Option}
+pub use Rattle.krb_der.specs.Content.{Content, int32, uint32, seq_number, microseconds, constant, octets, string, flags, time, ContentValue}
+use Rattle.krb_der.specs.Content.{leaf_of}
 
 -- An element without parts, one with a tag around one other element, or a SEQUENCE of fields.
 -- Fields are those that still come: none, one that must come or may come and others, or one kind
@@ -31,35 +27,10 @@ field n k = wrapped (0xa0 + n) k
 abbrev pub application : ℕ → Kind → Kind
 application n k = wrapped (0x60 + n) k
 
--- the universal tags: INTEGER, OCTET STRING, GeneralString, BIT STRING, GeneralizedTime, SEQUENCE
-abbrev pub content_tag : Content → ℕ
-content_tag int32 = 0x02
-content_tag uint32 = 0x02
-content_tag seq_number = 0x02
-content_tag microseconds = 0x02
-content_tag (constant n) = 0x02
-content_tag octets = 0x04
-content_tag string = 0x1b
-content_tag flags = 0x03
-content_tag time = 0x18
-
 abbrev pub tag_of : Kind → ℕ
-tag_of (leaf c) = content_tag c
+tag_of (leaf c) = (leaf_of c).tag
 tag_of (wrapped tag k) = tag
 tag_of (sequence fs) = 0x30
-
--- Numbers are numbers, texts are lists of bytes, flags are a number of 32 bits whose bit 0 is the
--- most significant, and a time is the seconds since 1970-01-01T00:00:00Z.
-abbrev pub ContentValue : Content → Type 0
-ContentValue int32 = ℤ
-ContentValue uint32 = ℕ
-ContentValue seq_number = ℕ
-ContentValue microseconds = ℕ
-ContentValue (constant n) = Unit {0}
-ContentValue octets = List ℕ
-ContentValue string = List ℕ
-ContentValue flags = ℕ
-ContentValue time = ℤ
 
 -- the values of a kind; fields have theirs in nested pairs
 abbrev mutual

@@ -1,6 +1,7 @@
-pub mod Kind
 pub mod Time
+pub mod Whole
 pub mod Content
+pub mod Kind
 pub mod Flags
 pub mod Spells
 pub mod Size

@@ -1,16 +1,15 @@
 -- Sequence numbers in kinds and in values, and the second spelling of a value that has one above
 -- 2147483647.
-use Rattle.std.specs.Prelude.{ℕ, ◌+◌, ◌*◌, ◌^◌, ◌≤◌, List, [], ◌∷◌, IsSomeAnd, ◌⊎◌}
-use Rattle.krb_der.specs.Kind.{seq_number, Kind, leaf, wrapped, sequence, Fields, ends, must, may, each, ValueOf, FieldsOf}
-use Rattle.krb_der.specs.Content.{IsNegative, ElementaryBy}
+use Rattle.std.specs.Prelude.{ℕ, ◌+◌, ◌*◌, List, [], ◌∷◌, IsSomeAnd, ◌⊎◌}
+use Rattle.krb_der.specs.Kind.{Kind, leaf, wrapped, sequence, Fields, ends, must, may, each, ValueOf, FieldsOf}
+use Rattle.krb_der.specs.Content.{leaf_of, Negated}
 use Rattle.krb_der.specs.Spells.{SpellsBy}
 
 -- how many sequence numbers an element of the kind can hold; two for each of those that may come
 -- again and again
 abbrev mutual
   pub numbers_in : Kind → ℕ
-  numbers_in (leaf seq_number) = 1
-  numbers_in (leaf c) = 0
+  numbers_in (leaf c) = (leaf_of c).numbers
   numbers_in (wrapped tag k) = numbers_in k
   numbers_in (sequence fs) = numbers_among fs
 
@@ -28,8 +27,7 @@ ForSome P (v ∷ vs) = P v ⊎ ForSome P vs
 -- a sequence number in the value is above 2147483647
 abbrev mutual
   pub HasHigh : (k : Kind) → ValueOf k → Type 0
-  HasHigh (leaf seq_number) n = 2 ^ 31 ≤ n
-  HasHigh (leaf c) v = ⊥
+  HasHigh (leaf c) v = (leaf_of c).IsHigh v
   HasHigh (wrapped tag k) v = HasHigh k v
   HasHigh (sequence fs) v = HaveHigh fs v
 
@@ -41,4 +39,4 @@ abbrev mutual
 
 -- the bytes spell a value that has one, with its sequence numbers as negative numbers
 abbrev pub SpellsNegative : (k : Kind) → ValueOf k → List ℕ → Type 0
-SpellsNegative k v bytes = SpellsBy (ElementaryBy IsNegative) k v bytes × HasHigh k v
+SpellsNegative k v bytes = SpellsBy Negated k v bytes × HasHigh k v

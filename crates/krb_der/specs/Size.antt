@@ -1,9 +1,8 @@
 -- How many bytes are written for a value (X.690, sections 8.1.3, 8.3 and 10.1), and for which
 -- values bytes are written.
-use Rattle.std.specs.Prelude.{ℕ, ◌+◌, ◌^◌, ◌<◌, ℤ, pos, negsuc, nat_lt, if◌then◌else◌, FitsSigned, List, [], ◌∷◌, length, Option, Some, None, IfSome}
-use Rattle.std.specs.Int.{w32}
-use Rattle.krb_der.specs.Kind.{Content, int32, uint32, seq_number, microseconds, constant, octets, string, flags, time, Kind, leaf, wrapped, sequence, Fields, ends, must, may, each, ContentValue, ValueOf, FieldsOf}
-use Rattle.krb_der.specs.Time.{IsSeconds}
+use Rattle.std.specs.Prelude.{ℕ, ◌+◌, ◌^◌, nat_lt, if◌then◌else◌, List, [], ◌∷◌, Option, Some, None, IfSome}
+use Rattle.krb_der.specs.Kind.{Kind, leaf, wrapped, sequence, Fields, ends, must, may, each, ValueOf, FieldsOf}
+use Rattle.krb_der.specs.Content.{leaf_of}
 
 -- of a length: one byte below 128, else one and as few as the number needs
 abbrev pub length_size : ℕ → ℕ
@@ -13,29 +12,6 @@ length_size n =
 -- of an element with a content of n bytes: its tag, the length, and the content
 abbrev pub element_size : ℕ → ℕ
 element_size n = 1 + length_size n + n
-
--- of the content of a whole number from 0 on: one bit for the sign, and as few whole bytes as the
--- number needs
-abbrev pub natural_size : ℕ → ℕ
-natural_size n =
-    if nat_lt n (2 ^ 7) then 1 else if nat_lt n (2 ^ 15) then 2 else if nat_lt n (2 ^ 23) then 3 else if nat_lt n (2 ^ 31) then 4 else 5
-
--- negsuc m is -(m + 1), whose bits are those of m, inverted
-abbrev pub integer_size : ℤ → ℕ
-integer_size (pos n) = natural_size n
-integer_size (negsuc m) = natural_size m
-
--- of the content of an element without parts
-abbrev pub leaf_size : (c : Content) → ContentValue c → ℕ
-leaf_size int32 z = integer_size z
-leaf_size uint32 n = natural_size n
-leaf_size seq_number n = natural_size n
-leaf_size microseconds n = natural_size n
-leaf_size (constant n) v = natural_size n
-leaf_size octets v = length v
-leaf_size string v = length v
-leaf_size flags n = 5
-leaf_size time s = 15
 
 -- of an optional part
 abbrev pub size_if : {V : Type 0} → (V → ℕ) → Option V → ℕ
@@ -50,7 +26,7 @@ sizes_of size (v ∷ vs) = size v + sizes_of size vs
 abbrev mutual
   -- of the content of an element, and of the fields in it
   pub content_size : (k : Kind) → ValueOf k → ℕ
-  content_size (leaf c) v = leaf_size c v
+  content_size (leaf c) v = (leaf_of c).size v
   content_size (wrapped tag k) v = element_size (content_size k v)
   content_size (sequence fs) v = fields_size fs v
 
@@ -64,18 +40,6 @@ abbrev mutual
 abbrev pub size_of : (k : Kind) → ValueOf k → ℕ
 size_of k v = element_size (content_size k v)
 
--- a number is in its range (RFC 4120, section 5.2.4)
-abbrev pub LeafFits : (c : Content) → ContentValue c → Type 0
-LeafFits int32 z = FitsSigned w32 z
-LeafFits uint32 n = n < 2 ^ 32
-LeafFits seq_number n = n < 2 ^ 32
-LeafFits microseconds n = n < 1_000_000
-LeafFits (constant n) v = n < 2 ^ 32
-LeafFits octets v = Unit {0}
-LeafFits string v = Unit {0}
-LeafFits flags n = n < 2 ^ 32
-LeafFits time s = IsSeconds s
-
 -- a condition on each of some values
 abbrev pub ForAll : {V : Type 0} → (V → Type 0) → List V → Type 0
 ForAll P [] = Unit {0}
@@ -84,7 +48,7 @@ ForAll P (v ∷ vs) = P v × ForAll P vs
 abbrev mutual
   -- each number in the value is in its range
   pub NumbersFit : (k : Kind) → ValueOf k → Type 0
-  NumbersFit (leaf c) v = LeafFits c v
+  NumbersFit (leaf c) v = (leaf_of c).Fits v
   NumbersFit (wrapped tag k) v = NumbersFit k v
   NumbersFit (sequence fs) v = FieldsFit fs v
 

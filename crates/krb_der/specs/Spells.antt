@@ -1,8 +1,9 @@
 -- Which bytes spell which value (X.690, sections 8.1 and 10.1), as equations on whole lists.
 use Rattle.std.specs.Prelude.{◌≡◌, ℕ, ◌+◌, ◌<◌, ◌≤◌, List, [], ◌∷◌, ◌++◌, length, false, Option, Some, None}
-use Rattle.krb_der.specs.Kind.{Content, Kind, leaf, wrapped, sequence, Fields, ends, must, may, each, tag_of, ContentValue, ValueOf, FieldsOf}
+use Rattle.krb_der.specs.Kind.{Kind, leaf, wrapped, sequence, Fields, ends, must, may, each, tag_of, ValueOf, FieldsOf}
 use Rattle.krb_der.specs.Place.{Place, begins}
-use Rattle.krb_der.specs.Content.{Elementary, AreBytes, number}
+use Rattle.krb_der.specs.Content.{Content, ContentValue, Elementary}
+use Rattle.krb_der.specs.Whole.{AreBytes, number}
 
 -- The bytes of a length (X.690, sections 8.1.3 and 10.1): below 128 the number itself. Otherwise
 -- the count of its bytes with the top bit set, and those bytes: at most four, and as few as

@@ -1,154 +1,184 @@
 //! Elements without parts.
+#![tactic(auto, using(crate::proofs::Found::found))]
 
 ghost use Rattle.std.specs.Prelude.{◌≡◌, refl};
-ghost use Rattle.krb_der.specs.Kind.{leaf, int32, uint32, seq_number, microseconds, constant, octets, string, flags, time};
+ghost use Rattle.krb_der.specs.Kind.{leaf};
+ghost use Rattle.krb_der.specs.Content.{Content, ContentValue, leaf_of, int32, uint32, seq_number, microseconds, constant, octets, string, flags, time};
+ghost use Rattle.krb_der.specs.Computed.Gives.{Finds};
+ghost use Rattle.krb_der.specs.Computed.Read.{content_of};
 
 use crate::element::Element;
 use crate::time::{Seconds, time_in};
 use crate::value::{Constant, Flags, Microseconds, Octets, SeqNumber, Text};
-use crate::whole::{flags_in, int32_in, is_number, micros_in, seq_number_in, uint32_in};
+use crate::whole::{flags_in, seq_number_in, whole};
 use crate::{Cursor, Fault, FaultKind, tag};
 
-impl<'a> Element<'a> for i32 {
-    ghost kind = { leaf int32 };
+/// A type whose values are those of one kind of element without parts.
+pub trait Leaf<'a>: Sized {
+    ghost content: { Content };
+
+    ghost view: { Self → ContentValue content };
+
+    /// The tag, and the fault of a content that spells no value.
+    fn rule() -> (u8, FaultKind)
+        ensures tag { result.0 ≡ (leaf_of content).tag }
+        ensures fault { result.1 ≡ (leaf_of content).fault };
+
+    /// The value that the content spells.
+    fn value_in(bytes: &'a [u8]) -> Option<Self>
+        ensures { Finds view result (content_of content bytes.now) };
+}
+
+impl<'a, L: Leaf<'a>> Element<'a> for L {
+    ghost kind = { leaf L.content };
+
+    ghost view = { L.view };
+
+    ghost clear = { refl };
+
+    #[tactic(auto, unfolding(crate::specs::Computed::Read::element_at, crate::specs::Computed::Read::element_by))]
+    fn read(cursor: &mut Cursor<'a>) -> Result<L, Fault> {
+        let (tag, fault) = L::rule();
+        let (inside, after) = cursor.head(tag)?;
+        let Some(value) = L::value_in(inside.rest()) else {
+            return Err(cursor.fault(fault));
+        };
+        *cursor = after;
+        Ok(value)
+    }
+}
+
+impl<'a> Leaf<'a> for i32 {
+    ghost content = { int32 };
 
     ghost view = { λ z. z };
 
-    ghost clear = { refl };
+    fn rule() -> (u8, FaultKind) {
+        (tag::INTEGER, FaultKind::Integer)
+    }
 
-    #[tactic(auto, unfolding(crate::specs::Computed::Read::element_at, crate::specs::Computed::Read::element_by))]
-    fn read(cursor: &mut Cursor<'a>) -> Result<i32, Fault> {
-        let (content, after) = cursor.head(tag::INTEGER)?;
-        let value = int32_in(content.rest()).ok_or(cursor.fault(FaultKind::Integer))?;
-        *cursor = after;
-        Ok(value)
+    fn value_in(bytes: &'a [u8]) -> Option<i32> {
+        i32::try_from(whole(bytes)?).ok()
     }
 }
 
-impl<'a> Element<'a> for u32 {
-    ghost kind = { leaf uint32 };
+impl<'a> Leaf<'a> for u32 {
+    ghost content = { uint32 };
 
     ghost view = { λ n. n };
 
-    ghost clear = { refl };
+    fn rule() -> (u8, FaultKind) {
+        (tag::INTEGER, FaultKind::Integer)
+    }
 
-    #[tactic(auto, unfolding(crate::specs::Computed::Read::element_at, crate::specs::Computed::Read::element_by))]
-    fn read(cursor: &mut Cursor<'a>) -> Result<u32, Fault> {
-        let (content, after) = cursor.head(tag::INTEGER)?;
-        let value = uint32_in(content.rest()).ok_or(cursor.fault(FaultKind::Integer))?;
-        *cursor = after;
-        Ok(value)
+    fn value_in(bytes: &'a [u8]) -> Option<u32> {
+        u32::try_from(whole(bytes)?).ok()
     }
 }
 
-impl<'a> Element<'a> for SeqNumber {
-    ghost kind = { leaf seq_number };
+impl<'a> Leaf<'a> for SeqNumber {
+    ghost content = { seq_number };
 
     ghost view = { λ s. s.0 };
 
-    ghost clear = { refl };
+    fn rule() -> (u8, FaultKind) {
+        (tag::INTEGER, FaultKind::Integer)
+    }
 
-    #[tactic(auto, unfolding(crate::specs::Computed::Read::element_at, crate::specs::Computed::Read::element_by))]
-    fn read(cursor: &mut Cursor<'a>) -> Result<SeqNumber, Fault> {
-        let (content, after) = cursor.head(tag::INTEGER)?;
-        let number = seq_number_in(content.rest()).ok_or(cursor.fault(FaultKind::Integer))?;
-        *cursor = after;
-        Ok(SeqNumber(number))
+    fn value_in(bytes: &'a [u8]) -> Option<SeqNumber> {
+        Some(SeqNumber(seq_number_in(bytes)?))
     }
 }
 
-impl<'a> Element<'a> for Microseconds {
-    ghost kind = { leaf microseconds };
+impl<'a> Leaf<'a> for Microseconds {
+    ghost content = { microseconds };
 
     ghost view = { λ n. n };
 
-    ghost clear = { refl };
+    fn rule() -> (u8, FaultKind) {
+        (tag::INTEGER, FaultKind::Integer)
+    }
 
-    #[tactic(auto, unfolding(crate::specs::Computed::Read::element_at, crate::specs::Computed::Read::element_by))]
-    fn read(cursor: &mut Cursor<'a>) -> Result<Microseconds, Fault> {
-        let (content, after) = cursor.head(tag::INTEGER)?;
-        let value = micros_in(content.rest()).ok_or(cursor.fault(FaultKind::Integer))?;
-        *cursor = after;
-        Ok(value)
+    fn value_in(bytes: &'a [u8]) -> Option<Microseconds> {
+        Microseconds::new(u32::try_from(whole(bytes)?).ok()?)
     }
 }
 
-impl<'a, const N: u32> Element<'a> for Constant<N> {
-    ghost kind = { leaf (constant N) };
+impl<'a, const N: u32> Leaf<'a> for Constant<N> {
+    ghost content = { constant N };
 
     ghost view = { λ _. tt };
 
-    ghost clear = { refl };
+    fn rule() -> (u8, FaultKind) {
+        (tag::INTEGER, FaultKind::Integer)
+    }
 
-    #[tactic(auto, unfolding(crate::specs::Computed::Read::element_at, crate::specs::Computed::Read::element_by))]
-    fn read(cursor: &mut Cursor<'a>) -> Result<Constant<N>, Fault> {
-        let (content, after) = cursor.head(tag::INTEGER)?;
-        if !is_number(content.rest(), N) {
-            return Err(cursor.fault(FaultKind::Integer));
+    fn value_in(bytes: &'a [u8]) -> Option<Constant<N>> {
+        if whole(bytes)? != i64::from(N) {
+            return None;
         }
-        *cursor = after;
-        Ok(Constant)
+        Some(Constant)
     }
 }
 
-impl<'a> Element<'a> for Octets<'a> {
-    ghost kind = { leaf octets };
+impl<'a> Leaf<'a> for Octets<'a> {
+    ghost content = { octets };
 
     ghost view = { λ o. o.0.now };
 
-    ghost clear = { refl };
+    fn rule() -> (u8, FaultKind)
+        ensures tag { result.0 ≡ (leaf_of octets).tag }
+        ensures fault { result.1 ≡ (leaf_of octets).fault }
+    {
+        (tag::OCTET_STRING, FaultKind::Length)
+    }
 
-    #[tactic(auto, unfolding(crate::specs::Computed::Read::element_at, crate::specs::Computed::Read::element_by))]
-    fn read(cursor: &mut Cursor<'a>) -> Result<Octets<'a>, Fault> {
-        let (content, after) = cursor.head(tag::OCTET_STRING)?;
-        *cursor = after;
-        Ok(Octets(content.rest()))
+    fn value_in(bytes: &'a [u8]) -> Option<Octets<'a>> {
+        Some(Octets(bytes))
     }
 }
 
-impl<'a> Element<'a> for Text<'a> {
-    ghost kind = { leaf string };
+impl<'a> Leaf<'a> for Text<'a> {
+    ghost content = { string };
 
     ghost view = { λ t. t.0.now };
 
-    ghost clear = { refl };
+    fn rule() -> (u8, FaultKind)
+        ensures tag { result.0 ≡ (leaf_of string).tag }
+        ensures fault { result.1 ≡ (leaf_of string).fault }
+    {
+        (tag::GENERAL_STRING, FaultKind::Length)
+    }
 
-    #[tactic(auto, unfolding(crate::specs::Computed::Read::element_at, crate::specs::Computed::Read::element_by))]
-    fn read(cursor: &mut Cursor<'a>) -> Result<Text<'a>, Fault> {
-        let (content, after) = cursor.head(tag::GENERAL_STRING)?;
-        *cursor = after;
-        Ok(Text(content.rest()))
+    fn value_in(bytes: &'a [u8]) -> Option<Text<'a>> {
+        Some(Text(bytes))
     }
 }
 
-impl<'a> Element<'a> for Flags {
-    ghost kind = { leaf flags };
+impl<'a> Leaf<'a> for Flags {
+    ghost content = { flags };
 
     ghost view = { λ f. f.0 };
 
-    ghost clear = { refl };
+    fn rule() -> (u8, FaultKind) {
+        (tag::BIT_STRING, FaultKind::Flags)
+    }
 
-    #[tactic(auto, unfolding(crate::specs::Computed::Read::element_at, crate::specs::Computed::Read::element_by))]
-    fn read(cursor: &mut Cursor<'a>) -> Result<Flags, Fault> {
-        let (content, after) = cursor.head(tag::BIT_STRING)?;
-        let value = flags_in(content.rest()).ok_or(cursor.fault(FaultKind::Flags))?;
-        *cursor = after;
-        Ok(Flags(value))
+    fn value_in(bytes: &'a [u8]) -> Option<Flags> {
+        Some(Flags(flags_in(bytes)?))
     }
 }
 
-impl<'a> Element<'a> for Seconds {
-    ghost kind = { leaf time };
+impl<'a> Leaf<'a> for Seconds {
+    ghost content = { time };
 
     ghost view = { λ s. s };
 
-    ghost clear = { refl };
+    fn rule() -> (u8, FaultKind) {
+        (tag::GENERALIZED_TIME, FaultKind::Time)
+    }
 
-    #[tactic(auto, unfolding(crate::specs::Computed::Read::element_at, crate::specs::Computed::Read::element_by))]
-    fn read(cursor: &mut Cursor<'a>) -> Result<Seconds, Fault> {
-        let (content, after) = cursor.head(tag::GENERALIZED_TIME)?;
-        let value = time_in(content.rest()).ok_or(cursor.fault(FaultKind::Time))?;
-        *cursor = after;
-        Ok(value)
+    fn value_in(bytes: &'a [u8]) -> Option<Seconds> {
+        time_in(bytes)
     }
 }

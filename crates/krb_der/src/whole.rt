@@ -1,13 +1,11 @@
 //! Contents that are whole numbers or flags (X.690, sections 8.3 and 8.6).
 
-ghost use Rattle.std.specs.Prelude.{◌≡◌, ◌<◌, ◌≤◌, ◌^◌, length, is_some};
-ghost use Rattle.krb_der.specs.Kind.{int32, uint32, seq_number, microseconds, constant};
-ghost use Rattle.krb_der.specs.Content.{number};
+ghost use Rattle.std.specs.Prelude.{◌≡◌, ◌<◌, ◌≤◌, ◌^◌, length};
+ghost use Rattle.krb_der.specs.Content.{seq_number};
+ghost use Rattle.krb_der.specs.Whole.{number};
 ghost use Rattle.krb_der.specs.Computed.Read.{content_of};
 ghost use Rattle.krb_der.specs.Inner.Shortest.{shortest_of};
 ghost use Rattle.krb_der.specs.Computed.Whole.{is_redundant, is_negative, whole_of, flags_of, contents_of};
-
-use crate::value::Microseconds;
 
 /// Whether the first nine bits are one value, or there are no bits: no whole number is spelled so.
 fn is_redundant(content: &[u8]) -> bool
@@ -84,20 +82,6 @@ pub fn flags_in(content: &[u8]) -> Option<u32>
     Some(number(bits) as u32)
 }
 
-/// The Int32 that the content is.
-pub fn int32_in(content: &[u8]) -> Option<i32>
-    ensures { result ≡ content_of int32 content.now }
-{
-    i32::try_from(whole(content)?).ok()
-}
-
-/// The UInt32 that the content is.
-pub fn uint32_in(content: &[u8]) -> Option<u32>
-    ensures { result ≡ content_of uint32 content.now }
-{
-    u32::try_from(whole(content)?).ok()
-}
-
 /// The sequence number that the content is; a negative number is the one of the same 32 bits.
 pub fn seq_number_in(content: &[u8]) -> Option<u32>
     ensures { result ≡ content_of seq_number content.now }
@@ -112,20 +96,6 @@ pub fn seq_number_in(content: &[u8]) -> Option<u32>
         number
     })
     .ok()
-}
-
-/// The microseconds that the content is.
-pub fn micros_in(content: &[u8]) -> Option<Microseconds>
-    ensures { result ≡ content_of microseconds content.now }
-{
-    Microseconds::new(u32::try_from(whole(content)?).ok()?)
-}
-
-/// Whether the content is this number.
-pub fn is_number(content: &[u8], number: u32) -> bool
-    ensures { result ≡ is_some (content_of (constant number) content.now) }
-{
-    whole(content) == Some(i64::from(number))
 }
 
 /// The bytes without the leading ones that the whole number doesn't need.

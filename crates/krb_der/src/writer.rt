@@ -2,7 +2,7 @@
 
 ghost use Rattle.std.specs.Prelude.{◌≡◌, ◌+◌, ◌-◌, ◌≤◌, ◌<◌, ◌^◌, ◌↔◌, [], ◌++◌, length, drop, IsTrue, IfOk, OnOk, OnErr};
 ghost use Rattle.krb_der.specs.Kind.{leaf, int32, uint32, microseconds, constant, octets, string, flags, time};
-ghost use Rattle.krb_der.specs.Content.{IsInteger};
+ghost use Rattle.krb_der.specs.Whole.{IsInteger};
 ghost use Rattle.krb_der.specs.Spells.{IsElement};
 ghost use Rattle.krb_der.specs.Inner.Limited.{limited_of, settled};
 ghost use Rattle.krb_der.specs.Inner.HeadView.{turned_at};

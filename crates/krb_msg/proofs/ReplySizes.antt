@@ -2,7 +2,8 @@
 use Rattle.std.proofs.Common.{◌≡◌, ℕ, ◌+◌, ◌<◌, ◌≤◌, ℤ, pos, negsuc, length, Option, Some, None, ap, arith}
 use Rattle.std.proofs.lemmas.Bool.{lt-ltb}
 use Rattle.krb_der.specs.Kind.{leaf, uint32, field, ValueOf}
-use Rattle.krb_der.specs.Size.{length_size, element_size, natural_size, integer_size, size_if, size_of, content_size}
+use Rattle.krb_der.specs.Whole.{natural_size, integer_size}
+use Rattle.krb_der.specs.Size.{length_size, element_size, size_if, size_of, content_size}
 use Rattle.krb_msg.specs.Module.{encrypted_data, encryption_key, enc_ap_rep_part, ap_rep}
 use Rattle.krb_msg.specs.Fields.{bytes_of, cipher_of, reply_enc_part, reply_subkey}
 

@@ -1,6 +1,6 @@
 -- What a call returned is what reading gives: the value (view is what clauses see of it) and the
 -- new place, or the fault and the old place.
-use Rattle.std.specs.Prelude.{◌≡◌, Result, Ok, Err}
+use Rattle.std.specs.Prelude.{◌≡◌, Option, Some, None, Result, Ok, Err}
 use Rattle.krb_der.specs.declared.fault.Fault.{Fault}
 use Rattle.krb_der.specs.Place.{Place}
 
@@ -17,3 +17,8 @@ Fills view (Err f) read = read ≡ Err f
 abbrev pub checked : {V : Type 0} → Result V Fault → Result (Unit {0}) Fault
 checked (Ok v) = Ok tt
 checked (Err f) = Err f
+
+-- the same for a call that reads the content of an element without parts
+abbrev pub Finds : {X V : Type 0} → (X → V) → Option X → Option V → Type 0
+Finds view (Some x) read = read ≡ Some (view x)
+Finds view None read = read ≡ None

@@ -3,10 +3,10 @@ use Rattle.std.specs.Prelude.{ℕ, zero, suc, ◌+◌, ◌-◌, ◌^◌, Bool, n
 use Rattle.krb_der.specs.declared.fault.Fault.{Fault}
 use Rattle.krb_der.specs.declared.fault.FaultKind.{FaultKind}
 use Rattle.krb_der.specs.declared.fault.FaultKind.TheVariants.{Truncated, Tag, Length, Trailing, TooLong}
-use Rattle.krb_der.specs.Kind.{Content, int32, uint32, seq_number, microseconds, constant, octets, string, flags, time, Kind, leaf, wrapped, sequence, Fields, ends, must, may, each, tag_of, content_tag, ContentValue, ValueOf, FieldsOf}
-use Rattle.krb_der.specs.Content.{number}
+use Rattle.krb_der.specs.Kind.{Kind, leaf, wrapped, sequence, Fields, ends, must, may, each, tag_of, ValueOf, FieldsOf}
+use Rattle.krb_der.specs.Content.{Content, int32, uint32, seq_number, microseconds, constant, octets, string, flags, time, ContentValue, leaf_of}
+use Rattle.krb_der.specs.Whole.{number}
 use Rattle.krb_der.specs.Place.{Place, begin_at, end_of, begins}
-use Rattle.krb_der.specs.Fault.{content_fault}
 use Rattle.krb_der.specs.Spells.{limit}
 use Rattle.krb_der.specs.Computed.Steps.{◌>>=◌, ◌>>?◌}
 use Rattle.krb_der.specs.Computed.Whole.{are_bytes, whole_of, natural_below, int32_within, seq_number_within, constant_at, flags_of}
@@ -123,7 +123,7 @@ LeafReader = (c : Content) → List ℕ → Option (ContentValue c)
 module _ (read : LeafReader) where
   unfoldable mutual
     pub element_by : (k : Kind) → Place → Result (ValueOf k × Place) Fault
-    element_by (leaf c) = leaf_at (content_tag c) (read c) (content_fault c)
+    element_by (leaf c) = leaf_at (leaf_of c).tag (read c) (leaf_of c).fault
     element_by (wrapped tag k) = wrapped_at tag (element_by k)
     element_by (sequence fs) = sequence_at (fields_by fs)
 

@@ -1,6 +1,6 @@
 -- Whole numbers and flags, read.
 use Rattle.std.specs.Prelude.{ℕ, ◌+◌, ◌-◌, ◌^◌, ℤ, pos, negsuc, ◌-ℤ◌, Bool, true, false, ◌&&◌, ◌||◌, not, ◌==◌, nat_lt, nat_le, if◌then◌else◌, List, [], ◌∷◌, length, Option, Some, None}
-use Rattle.krb_der.specs.Content.{number}
+use Rattle.krb_der.specs.Whole.{number}
 use Rattle.krb_der.specs.Computed.Steps.{◌>>?◌, only_if}
 
 abbrev pub are_bytes : List ℕ → Bool

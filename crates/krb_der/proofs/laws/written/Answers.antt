@@ -1,6 +1,7 @@
 use Rattle.krb_der.specs.Content.{Written}
 use Rattle.krb_der.proofs.Messages.{one_written}
-use Rattle.krb_der.proofs.Sizes.{written_sized, spelling_sized}
+use Rattle.krb_der.proofs.LeafLaws.{written_sized}
+use Rattle.krb_der.proofs.Sizes.{spelling_sized}
 use Rattle.krb_der.proofs.Spelled.{written_exists}
 use Rattle.krb_der.proofs.Spellings.{written_spells}
 use Rattle.krb_der.proofs.laws.written.Goals as goal

@@ -1,6 +1,6 @@
 use Rattle.std.proofs.Common.{◌≡◌, ◌∷◌, ◌∙◌, sym, ap, subst, Some, inl, inr, arith}
 use Rattle.std.proofs.lemmas.List.{nil_from_length}
-use Rattle.krb_der.specs.Content.{AreBytes}
+use Rattle.krb_der.specs.Whole.{AreBytes}
 use Rattle.krb_der.specs.Computed.Whole.{flags_of}
 use Rattle.krb_der.proofs.Numbers.{AreBytes-from, number_within}
 use Rattle.krb_der.proofs.WholeSteps.{flags_of-some, flags_of-used}

@@ -1,6 +1,6 @@
 use Rattle.std.proofs.Common.{◌≡◌, ap, ◌∙◌, arith}
 use Rattle.std.proofs.lemmas.List.{take_all}
-use Rattle.krb_der.specs.Content.{AreBytes, number}
+use Rattle.krb_der.specs.Whole.{AreBytes, number}
 use Rattle.krb_der.proofs.Numbers.{AreBytes-from, number-front, number_within}
 use Rattle.krb_der.proofs.whole.number.Goals as goal
 

@@ -1,5 +1,5 @@
 use Rattle.std.proofs.Common.{◌≡◌, take}
-use Rattle.krb_der.specs.Content.{number}
+use Rattle.krb_der.specs.Whole.{number}
 use Rattle.krb_der.proofs.whole.number.Given as goal
 
 abbrev pub invariant-loop-byte : goal.invariant-loop-byte

@@ -1,6 +1,6 @@
 use Rattle.std.proofs.Common.{◌∙◌, sym, ap, pos, ◌-ℤ◌, cond, Some, rules, arith}
 use Rattle.std.proofs.lemmas.Int.{ints}
-use Rattle.krb_der.specs.Content.{AreBytes, number}
+use Rattle.krb_der.specs.Whole.{AreBytes, number}
 use Rattle.krb_der.specs.Computed.Whole.{whole_of, contents_of}
 use Rattle.krb_der.proofs.Numbers.{AreBytes-from}
 use Rattle.krb_der.proofs.WholeSteps.{contents_of-some, contents_of-small, whole_of-no_contents, whole_of-some}

@@ -1,7 +1,7 @@
 use Rattle.std.proofs.Common.{◌≡◌, pos, subst, arith, w64, to_z, of_z}
 use Rattle.std.proofs.lemmas.Int.{ints}
 use Rattle.krb_der.specs.Kind.{leaf, constant}
-use Rattle.krb_der.specs.Content.{IsInteger}
+use Rattle.krb_der.specs.Whole.{IsInteger}
 use Rattle.krb_der.proofs.WriteLaws.{writes}
 use Rattle.krb_der.proofs.writer.Writer.constant.Goals as goal
 

@@ -1,7 +1,7 @@
 use Rattle.std.proofs.Common.{sym, ap, subst, ◌∙◌, arith, w32}
 use Rattle.std.specs.Int.{to_be_bytes}
 use Rattle.krb_der.specs.Kind.{leaf, flags}
-use Rattle.krb_der.specs.Content.{AreFlags}
+use Rattle.krb_der.specs.Whole.{AreFlags}
 use Rattle.krb_der.proofs.WriteLaws.{writes}
 use Rattle.krb_der.proofs.ShortestLaws.{flags_be}
 use Rattle.krb_der.proofs.writer.Writer.flags.Goals as goal

@@ -2,7 +2,7 @@ use Rattle.std.proofs.Common.{sym, ap, subst, ◌∙◌, w64, of_z}
 use Rattle.std.specs.Int.{to_be_bytes}
 use Rattle.std.proofs.lemmas.Int.{to_z-of_z}
 use Rattle.std.proofs.lemmas.Result.{on_ok_weaker}
-use Rattle.krb_der.specs.Content.{IsInteger}
+use Rattle.krb_der.specs.Whole.{IsInteger}
 use Rattle.krb_der.specs.Spells.{IsElement}
 use Rattle.krb_der.specs.Inner.Shortest.{shortest_of}
 use Rattle.krb_der.proofs.ShortestLaws.{integer_be}
