@@ -1,4 +1,4 @@
-"""Compares what tests keep with the scripts that make it, layout aside.
+"""Compares what tests and crates keep with the scripts that make it, layout aside.
 
 Each check is a pair: its name, and what is wrong, or None. Answers of tests/calls that are copied from a published document, or that were
 drawn once, are compared with what the second implementation computes.
@@ -7,6 +7,7 @@ import contextlib
 import io
 import re
 import runpy
+import subprocess
 import sys
 from pathlib import Path
 
@@ -42,6 +43,12 @@ def printed(script):
 
 def numbers(text):
     return [int(it.replace("_", ""), 0) for it in re.findall(r"\b(?:0x[0-9a-fA-F_]+|[0-9][0-9_]*)\b", text)]
+
+
+def messages():
+    """The sources and definitions of messages that packaging/messages.py makes from their table."""
+    ran = subprocess.run([sys.executable, TOP / "packaging/messages.py", "--check"], capture_output=True, text=True)
+    return ran.stderr.strip() or same(ran.returncode, 0)
 
 
 def tower_tables():
@@ -173,6 +180,7 @@ TABLES = {
     "the example's keytab, cache and request": example,
     "the cache and the request of the program of replies": sides,
     "the tables of the S-box on lanes": tower_tables,
+    "the messages' sources and definitions": messages,
     "stored answers of the ciphers, codes and keys": stored_answers,
 }
 

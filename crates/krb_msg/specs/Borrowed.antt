@@ -1,48 +1,32 @@
+-- Made from messages.toml by packaging/messages.py. Don't edit this file.
 -- The values of messages that are read in place: each field by its name.
 use Rattle.std.specs.Option.{option_map}
-use Rattle.krb_der.specs.Kind.{leaf, octets, ValueOf}
-use Rattle.krb_msg.specs.Fields.{name_value, typed_value, encrypted_value, ticket_value, ap_req_value, authenticator_value, enc_ticket_part_value, ap_rep_value, enc_ap_rep_part_value, krb_error_value}
-use Rattle.krb_msg.specs.Module.{typed, principal_name, encrypted_data, ticket, ap_req, authenticator, enc_ticket_part, ap_rep, enc_ap_rep_part, krb_error}
-use Rattle.krb_msg.specs.declared.name.NameRef.{NameRef}
-use Rattle.krb_msg.specs.declared.typed.TypedRef.{TypedRef}
-use Rattle.krb_msg.specs.declared.key.KeyRef.{KeyRef}
+use Rattle.krb_der.specs.Kind.{ValueOf}
+use Rattle.krb_msg.specs.Fields.{encrypted_value, ticket_value, authenticator_value, enc_ticket_part_value, ap_req_value, ap_rep_value, enc_ap_rep_part_value, krb_error_value}
+use Rattle.krb_msg.specs.Module.{encrypted_data, ticket, authenticator, enc_ticket_part, ap_req, ap_rep, enc_ap_rep_part, krb_error}
 use Rattle.krb_msg.specs.declared.ticket.EncryptedRef.{EncryptedRef}
 use Rattle.krb_msg.specs.declared.ticket.TicketRef.{TicketRef}
-use Rattle.krb_msg.specs.declared.request.ApReqRef.{ApReqRef}
 use Rattle.krb_msg.specs.declared.authenticator.AuthenticatorRef.{AuthenticatorRef}
 use Rattle.krb_msg.specs.declared.enc_ticket_ref.EncTicketRef.{EncTicketRef}
+use Rattle.krb_msg.specs.declared.request.ApReqRef.{ApReqRef}
 use Rattle.krb_msg.specs.declared.reply.ApRepRef.{ApRepRef}
 use Rattle.krb_msg.specs.declared.enc_reply.EncApRepRef.{EncApRepRef}
 use Rattle.krb_msg.specs.declared.krb_error_ref.KrbErrorRef.{KrbErrorRef}
-
-abbrev pub name_of : NameRef → ValueOf principal_name
-name_of n = name_value n.name_type n.components
-
-abbrev pub typed_of : TypedRef → ValueOf (typed (leaf octets))
-typed_of t = typed_value t.kind t.bytes.now
-
-abbrev pub key_of : KeyRef → ValueOf (typed (leaf octets))
-key_of k = typed_value k.etype k.bytes.now
+use Rattle.krb_msg.specs.PartsBorrowed.{name_of, typed_of, key_of}
+pub use Rattle.krb_msg.specs.PartsBorrowed.{name_of, typed_of, key_of}
 
 abbrev pub encrypted_of : EncryptedRef → ValueOf encrypted_data
-encrypted_of e = encrypted_value (record {
-  etype = e.etype;
-  kvno = e.kvno;
-  cipher = e.cipher.now;
+encrypted_of m = encrypted_value (record {
+  etype = m.etype;
+  kvno = m.kvno;
+  cipher = m.cipher.now;
 })
 
 abbrev pub ticket_of : TicketRef → ValueOf ticket
-ticket_of t = ticket_value (record {
-  realm = t.realm.now;
-  sname = name_of t.sname;
-  enc_part = encrypted_of t.enc_part;
-})
-
-abbrev pub ap_req_of : ApReqRef → ValueOf ap_req
-ap_req_of m = ap_req_value (record {
-  options = m.options.0;
-  ticket = ticket_of m.ticket;
-  authenticator = encrypted_of m.authenticator;
+ticket_of m = ticket_value (record {
+  realm = m.realm.now;
+  sname = name_of m.sname;
+  enc_part = encrypted_of m.enc_part;
 })
 
 abbrev pub authenticator_of : AuthenticatorRef → ValueOf authenticator
@@ -70,6 +54,13 @@ enc_ticket_part_of m = enc_ticket_part_value (record {
   renew_till = m.renew_till;
   caddr = m.caddr;
   authorization = m.authorization;
+})
+
+abbrev pub ap_req_of : ApReqRef → ValueOf ap_req
+ap_req_of m = ap_req_value (record {
+  options = m.options.0;
+  ticket = ticket_of m.ticket;
+  authenticator = encrypted_of m.authenticator;
 })
 
 abbrev pub ap_rep_of : ApRepRef → ValueOf ap_rep

@@ -1,40 +1,13 @@
+-- Made from messages.toml by packaging/messages.py. Don't edit this file.
 -- The values of messages by the names of their fields (RFC 4120, sections 5.2 to 5.9). For each
 -- kind: the fields that vary; the value that they make, which nests them in pairs, in the order of
 -- their numbers, with a tt for each constant; and each field of a value.
 use Rattle.std.specs.Prelude.{ℕ, ℤ, List, Option}
 use Rattle.krb_name.specs.declared.principal.Principal.{Principal}
 use Rattle.krb_der.specs.Kind.{leaf, octets, ValueOf}
-use Rattle.krb_msg.specs.Module.{typed, principal_name, encrypted_data, encryption_key, checksum, transited_encoding, ticket, ap_req, authenticator, enc_ticket_part, ap_rep, enc_ap_rep_part, krb_error}
-
--- one field, and those after it
-infixr 5 ◌▸◌
-abbrev pub ◌▸◌ : {A B : Type 0} → A → B → A × B
-a ▸ b = (a, b)
-
--- ---- PrincipalName (section 5.2.2)
-abbrev pub name_value : ℤ → List (List ℕ) → ValueOf principal_name
-name_value name_type components = name_type ▸ components ▸ tt
-
-abbrev pub name_type_of : ValueOf principal_name → ℤ
-name_type_of v = v.0
-
-abbrev pub components_of : ValueOf principal_name → List (List ℕ)
-components_of v = v.1.0
-
--- the principal of a name in a realm
-abbrev pub principal_in : List ℕ → ValueOf principal_name → Principal
-principal_in realm v = record { realm = realm; name_type = name_type_of v; components = components_of v }
-
--- ---- a type and bytes: EncryptionKey, Checksum, HostAddress, TransitedEncoding, and an element of
--- AuthorizationData
-abbrev pub typed_value : ℤ → List ℕ → ValueOf (typed (leaf octets))
-typed_value type bytes = type ▸ bytes ▸ tt
-
-abbrev pub type_of : ValueOf (typed (leaf octets)) → ℤ
-type_of v = v.0
-
-abbrev pub bytes_of : ValueOf (typed (leaf octets)) → List ℕ
-bytes_of v = v.1.0
+use Rattle.krb_msg.specs.Module.{encrypted_data, ticket, authenticator, enc_ticket_part, ap_req, ap_rep, enc_ap_rep_part, krb_error, typed, principal_name, encryption_key, checksum, transited_encoding}
+use Rattle.krb_msg.specs.Parts.{◌▸◌, principal_in}
+pub use Rattle.krb_msg.specs.Parts.{◌▸◌, name_value, name_type_of, components_of, principal_in, typed_value, type_of, bytes_of}
 
 -- ---- EncryptedData (section 5.2.9)
 pub record EncryptedFields : Type 0 where
@@ -75,6 +48,48 @@ enc_part_of v = v.1.1.1.0
 -- the service: realm and sname
 abbrev pub ticket_service : ValueOf ticket → Principal
 ticket_service v = principal_in (realm_of v) (sname_of v)
+
+-- ---- Authenticator (section 5.5.1)
+pub record AuthenticatorFields : Type 0 where
+  pub crealm : List ℕ
+  pub cname : ValueOf principal_name
+  pub checksum : Option (ValueOf checksum)
+  pub cusec : ℕ
+  pub ctime : ℤ
+  pub subkey : Option (ValueOf encryption_key)
+  pub seq_number : Option ℕ
+  pub authorization : Option (List (ValueOf (typed (leaf octets))))
+
+abbrev pub authenticator_value : AuthenticatorFields → ValueOf authenticator
+authenticator_value f = tt ▸ f.crealm ▸ f.cname ▸ f.checksum ▸ f.cusec ▸ f.ctime ▸ f.subkey ▸ f.seq_number ▸ f.authorization ▸ tt
+
+abbrev pub authenticator_crealm : ValueOf authenticator → List ℕ
+authenticator_crealm v = v.1.0
+
+abbrev pub authenticator_cname : ValueOf authenticator → ValueOf principal_name
+authenticator_cname v = v.1.1.0
+
+abbrev pub authenticator_checksum : ValueOf authenticator → Option (ValueOf checksum)
+authenticator_checksum v = v.1.1.1.0
+
+abbrev pub authenticator_cusec : ValueOf authenticator → ℕ
+authenticator_cusec v = v.1.1.1.1.0
+
+abbrev pub authenticator_ctime : ValueOf authenticator → ℤ
+authenticator_ctime v = v.1.1.1.1.1.0
+
+abbrev pub authenticator_subkey : ValueOf authenticator → Option (ValueOf encryption_key)
+authenticator_subkey v = v.1.1.1.1.1.1.0
+
+abbrev pub authenticator_seq_number : ValueOf authenticator → Option ℕ
+authenticator_seq_number v = v.1.1.1.1.1.1.1.0
+
+abbrev pub authenticator_authorization : ValueOf authenticator → Option (List (ValueOf (typed (leaf octets))))
+authenticator_authorization v = v.1.1.1.1.1.1.1.1.0
+
+-- the client: crealm and cname
+abbrev pub authenticator_client : ValueOf authenticator → Principal
+authenticator_client v = principal_in (authenticator_crealm v) (authenticator_cname v)
 
 -- ---- EncTicketPart (section 5.3)
 pub record PartFields : Type 0 where
@@ -148,48 +163,6 @@ ticket_of_request v = v.1.1.1.0
 
 abbrev pub authenticator_of_request : ValueOf ap_req → ValueOf encrypted_data
 authenticator_of_request v = v.1.1.1.1.0
-
--- ---- Authenticator (section 5.5.1)
-pub record AuthenticatorFields : Type 0 where
-  pub crealm : List ℕ
-  pub cname : ValueOf principal_name
-  pub checksum : Option (ValueOf checksum)
-  pub cusec : ℕ
-  pub ctime : ℤ
-  pub subkey : Option (ValueOf encryption_key)
-  pub seq_number : Option ℕ
-  pub authorization : Option (List (ValueOf (typed (leaf octets))))
-
-abbrev pub authenticator_value : AuthenticatorFields → ValueOf authenticator
-authenticator_value f = tt ▸ f.crealm ▸ f.cname ▸ f.checksum ▸ f.cusec ▸ f.ctime ▸ f.subkey ▸ f.seq_number ▸ f.authorization ▸ tt
-
-abbrev pub authenticator_crealm : ValueOf authenticator → List ℕ
-authenticator_crealm v = v.1.0
-
-abbrev pub authenticator_cname : ValueOf authenticator → ValueOf principal_name
-authenticator_cname v = v.1.1.0
-
-abbrev pub authenticator_checksum : ValueOf authenticator → Option (ValueOf checksum)
-authenticator_checksum v = v.1.1.1.0
-
-abbrev pub authenticator_cusec : ValueOf authenticator → ℕ
-authenticator_cusec v = v.1.1.1.1.0
-
-abbrev pub authenticator_ctime : ValueOf authenticator → ℤ
-authenticator_ctime v = v.1.1.1.1.1.0
-
-abbrev pub authenticator_subkey : ValueOf authenticator → Option (ValueOf encryption_key)
-authenticator_subkey v = v.1.1.1.1.1.1.0
-
-abbrev pub authenticator_seq_number : ValueOf authenticator → Option ℕ
-authenticator_seq_number v = v.1.1.1.1.1.1.1.0
-
-abbrev pub authenticator_authorization : ValueOf authenticator → Option (List (ValueOf (typed (leaf octets))))
-authenticator_authorization v = v.1.1.1.1.1.1.1.1.0
-
--- the client: crealm and cname
-abbrev pub authenticator_client : ValueOf authenticator → Principal
-authenticator_client v = principal_in (authenticator_crealm v) (authenticator_cname v)
 
 -- ---- AP-REP (section 5.5.2)
 abbrev pub ap_rep_value : ValueOf encrypted_data → ValueOf ap_rep

@@ -1,4 +1,7 @@
 pub mod Moments
+pub mod Parts
+pub mod PartsBorrowed
+pub mod PartsOwned
 pub mod Module
 pub mod Bits
 pub mod Fields

@@ -1,18 +1,9 @@
+-- Made from messages.toml by packaging/messages.py. Don't edit this file.
 -- The messages of Kerberos 5 as kinds of elements (RFC 4120, sections 5.2 to 5.9 and appendix A):
 -- each field with its number, and whether it may be absent.
-use Rattle.krb_der.specs.Kind.{Kind, leaf, sequence, ends, must, may, each, field, application, int32, uint32, seq_number, microseconds, constant, octets, string, flags, time}
-
--- SEQUENCE OF
-abbrev pub sequence_of : Kind → Kind
-sequence_of k = sequence (each k)
-
--- a SEQUENCE of a field 0 that is an Int32, and a field 1
-abbrev pub typed : Kind → Kind
-typed k = sequence (must (field 0 (leaf int32)) (must (field 1 k) ends))
-
--- name-type and name-string (section 5.2.2)
-abbrev pub principal_name : Kind
-principal_name = typed (sequence_of (leaf string))
+use Rattle.krb_der.specs.Kind.{Kind, sequence, application, constant, leaf, must, may, ends, field, int32, uint32, seq_number, microseconds, octets, string, flags, time}
+use Rattle.krb_msg.specs.Parts.{sequence_of, principal_name, encryption_key, checksum, host_address, authorization_data, transited_encoding}
+pub use Rattle.krb_msg.specs.Parts.{sequence_of, typed, principal_name, encryption_key, checksum, host_address, authorization_data, transited_encoding}
 
 -- etype, kvno and cipher (section 5.2.9)
 abbrev pub encrypted_data : Kind
@@ -20,26 +11,6 @@ encrypted_data = sequence
     (must (field 0 (leaf int32))
     (may (field 1 (leaf uint32))
     (must (field 2 (leaf octets)) ends)))
-
--- keytype and keyvalue (section 5.2.9)
-abbrev pub encryption_key : Kind
-encryption_key = typed (leaf octets)
-
--- cksumtype and checksum (section 5.2.9)
-abbrev pub checksum : Kind
-checksum = typed (leaf octets)
-
--- addr-type and address (section 5.2.5)
-abbrev pub host_address : Kind
-host_address = typed (leaf octets)
-
--- ad-type and ad-data, any number of times (section 5.2.6)
-abbrev pub authorization_data : Kind
-authorization_data = sequence_of (typed (leaf octets))
-
--- tr-type and contents (section 5.3)
-abbrev pub transited_encoding : Kind
-transited_encoding = typed (leaf octets)
 
 -- tkt-vno, realm, sname and enc-part (section 5.3)
 abbrev pub ticket : Kind

@@ -1,12 +1,13 @@
+// Made from messages.toml by packaging/messages.py. Don't edit this file.
 //! What a client seals for a service in a request.
 
-ghost use Rattle.std.specs.Prelude.{refl, ◌≡◌, ◌<◌, IfOk};
+ghost use Rattle.std.specs.Prelude.{refl, ◌≡◌, IfOk};
 ghost use Rattle.std.specs.Option.{option_map};
-ghost use Rattle.krb_der.specs.Kind.{leaf, must, may, ends, field, microseconds, seq_number, time};
+ghost use Rattle.krb_der.specs.Kind.{leaf, must, may, ends, field, seq_number, microseconds, time};
 ghost use Rattle.krb_der.specs.Reading.{Parses};
 ghost use Rattle.krb_der.specs.Writing.{IsEncoded};
 ghost use Rattle.krb_msg.specs.Borrowed.{authenticator_of, typed_of, key_of};
-ghost use Rattle.krb_msg.specs.Module.{authenticator, authorization_data, checksum, encryption_key};
+ghost use Rattle.krb_msg.specs.Module.{authenticator, encryption_key, checksum, authorization_data};
 ghost use Rattle.krb_msg.specs.Owned.{owned_authenticator_of};
 
 use crate::key::{KeyRef, RawKey, owned_key};
@@ -75,7 +76,7 @@ impl<'a> Element<'a> for AuthenticatorRef<'a> {
     }
 }
 
-// The fields from the checksum on.
+// The fields from cksum on.
 #[derive(Drop)]
 struct AuthenticatorTail<'a> {
     checksum: Option<TypedRef<'a>>,
@@ -101,18 +102,13 @@ type AuthenticatorTailRow<'a> = (
 );
 
 impl<'a> Row<'a> for AuthenticatorTail<'a> {
-    ghost fields = { may (field 3 checksum) (must (field 4 (leaf microseconds)) (must (field 5 (leaf time))
-        (may (field 6 encryption_key) (may (field 7 (leaf seq_number)) (may (field 8 authorization_data) ends))))) };
+    ghost fields = { may (field 3 checksum) (must (field 4 (leaf microseconds))
+        (must (field 5 (leaf time)) (may (field 6 encryption_key) (may (field 7 (leaf seq_number))
+        (may (field 8 authorization_data) ends))))) };
 
     ghost view = { λ t. (
       option_map typed_of t.checksum,
-      (
-        t.cusec,
-        (
-          t.ctime,
-          (option_map key_of t.subkey, (t.seq_number, (t.authorization, tt))),
-        ),
-      ),
+      (t.cusec, (t.ctime, (option_map key_of t.subkey, (t.seq_number, (t.authorization, tt))))),
     ) };
 
     fn read_row(content: Cursor<'a>) -> Result<AuthenticatorTail<'a>, Fault> {
@@ -185,45 +181,21 @@ pub struct Authenticator {
     pub authorization: Option<Vec<Typed>>,
 }
 
-type AuthenticatorOut<'a> = (
-    Field<0xa0, Constant<5>>,
-    (
-        Field<0xa1, Text<'a>>,
-        (
-            Field<0xa2, NameIn<'a>>,
-            (MaybeRef<'a, 0xa3, Typed>, AuthenticatorOutTail<'a>),
-        ),
-    ),
-);
-
-type AuthenticatorOutTail<'a> = (
-    Field<0xa4, Microseconds>,
-    (
-        Field<0xa5, Seconds>,
-        (
-            MaybeRef<'a, 0xa6, RawKey>,
-            (Maybe<0xa7, SeqNumber>, (MaybeRef<'a, 0xa8, Vec<Typed>>, ())),
-        ),
-    ),
-);
-
 impl Encode for Authenticator {
     ghost kind = { authenticator };
 
     ghost view = { owned_authenticator_of };
 
     fn write(&self, out: &mut Writer) -> Result<(), EncodeFault> {
-        let rest = (
-            Maybe(seq_number_in(self.seq_number)),
-            (MaybeRef(&self.authorization), ()),
-        );
-        let rest = (Field(self.ctime), (MaybeRef(&self.subkey), rest));
-        let rest = (MaybeRef(&self.checksum), (Field(self.cusec), rest));
-        let rest = (Field(NameIn(&self.client)), rest);
-        let row: AuthenticatorOut = (
-            Field(Constant),
-            (Field(Text(self.client.realm.as_slice())), rest),
-        );
+        let rest = (MaybeRef::<0xa8, _>(&self.authorization), ());
+        let rest = (Maybe::<0xa7, _>(seq_number_in(self.seq_number)), rest);
+        let rest = (MaybeRef::<0xa6, _>(&self.subkey), rest);
+        let rest = (Field::<0xa5, _>(self.ctime), rest);
+        let rest = (Field::<0xa4, _>(self.cusec), rest);
+        let rest = (MaybeRef::<0xa3, _>(&self.checksum), rest);
+        let rest = (Field::<0xa2, _>(NameIn(&self.client)), rest);
+        let rest = (Field::<0xa1, _>(Text(self.client.realm.as_slice())), rest);
+        let row = (Field::<0xa0, Constant<5>>(Constant), rest);
         write_application(&row, tag::AUTHENTICATOR, out)
     }
 }

@@ -1,6 +1,7 @@
+// Made from messages.toml by packaging/messages.py. Don't edit this file.
 //! What a service seals for a client in a reply.
 
-ghost use Rattle.std.specs.Prelude.{refl, ◌≡◌, ◌<◌, IfOk};
+ghost use Rattle.std.specs.Prelude.{refl, ◌≡◌, IfOk};
 ghost use Rattle.krb_der.specs.Reading.{Parses};
 ghost use Rattle.krb_der.specs.Writing.{IsEncoded};
 ghost use Rattle.krb_msg.specs.Borrowed.{enc_ap_rep_part_of};
@@ -111,17 +112,10 @@ impl Encode for EncApRepPart {
     ghost view = { owned_enc_ap_rep_part_of };
 
     fn write(&self, out: &mut Writer) -> Result<(), EncodeFault> {
-        let rest = (
-            MaybeRef(&self.subkey),
-            (Maybe(seq_number_in(self.seq_number)), ()),
-        );
-        let row: (
-            Field<0xa0, Seconds>,
-            (
-                Field<0xa1, Microseconds>,
-                (MaybeRef<0xa2, RawKey>, (Maybe<0xa3, SeqNumber>, ())),
-            ),
-        ) = (Field(self.ctime), (Field(self.cusec), rest));
+        let rest = (Maybe::<0xa3, _>(seq_number_in(self.seq_number)), ());
+        let rest = (MaybeRef::<0xa2, _>(&self.subkey), rest);
+        let rest = (Field::<0xa1, _>(self.cusec), rest);
+        let row = (Field::<0xa0, _>(self.ctime), rest);
         write_application(&row, tag::ENC_AP_REP_PART, out)
     }
 }

@@ -1,6 +1,6 @@
+// Made from messages.toml by packaging/messages.py. Don't edit this file.
 //! The sealed part of a ticket, as an owned value.
 
-ghost use Rattle.std.specs.Prelude.{◌<◌};
 ghost use Rattle.krb_der.specs.Writing.{IsEncoded};
 ghost use Rattle.krb_msg.specs.Module.{enc_ticket_part};
 ghost use Rattle.krb_msg.specs.Owned.{owned_enc_ticket_part_of};
@@ -40,48 +40,24 @@ pub struct EncTicketPart {
     pub authorization: Option<Vec<Typed>>,
 }
 
-type EncTicketOut<'a> = (
-    Field<0xa0, Flags>,
-    (
-        Field<0xa1, &'a RawKey>,
-        (
-            Field<0xa2, Text<'a>>,
-            (
-                Field<0xa3, NameIn<'a>>,
-                (Field<0xa4, &'a Typed>, EncTicketTimesOut<'a>),
-            ),
-        ),
-    ),
-);
-
-type EncTicketTimesOut<'a> = (
-    Field<0xa5, Seconds>,
-    (
-        MaybeRef<'a, 0xa6, Seconds>,
-        (
-            Field<0xa7, Seconds>,
-            (MaybeRef<'a, 0xa8, Seconds>, EncTicketEndOut<'a>),
-        ),
-    ),
-);
-
-type EncTicketEndOut<'a> = (
-    MaybeRef<'a, 0xa9, Vec<Typed>>,
-    (MaybeRef<'a, 0xaa, Vec<Typed>>, ()),
-);
-
 impl Encode for EncTicketPart {
     ghost kind = { enc_ticket_part };
 
     ghost view = { owned_enc_ticket_part_of };
 
+    #[tactic(auto, using(std::proofs::lemmas::Iterator::Adapters::option_map_id))]
     fn write(&self, out: &mut Writer) -> Result<(), EncodeFault> {
-        let rest = (MaybeRef(&self.caddr), (MaybeRef(&self.authorization), ()));
-        let rest = (Field(self.endtime), (MaybeRef(&self.renew_till), rest));
-        let rest = (Field(self.authtime), (MaybeRef(&self.starttime), rest));
-        let rest = (Field(NameIn(&self.client)), (Field(&self.transited), rest));
-        let rest = (Field(Text(self.client.realm.as_slice())), rest);
-        let row: EncTicketOut = (Field(self.flags), (Field(&self.key), rest));
+        let rest = (MaybeRef::<0xaa, _>(&self.authorization), ());
+        let rest = (MaybeRef::<0xa9, _>(&self.caddr), rest);
+        let rest = (MaybeRef::<0xa8, _>(&self.renew_till), rest);
+        let rest = (Field::<0xa7, _>(self.endtime), rest);
+        let rest = (MaybeRef::<0xa6, _>(&self.starttime), rest);
+        let rest = (Field::<0xa5, _>(self.authtime), rest);
+        let rest = (Field::<0xa4, _>(&self.transited), rest);
+        let rest = (Field::<0xa3, _>(NameIn(&self.client)), rest);
+        let rest = (Field::<0xa2, _>(Text(self.client.realm.as_slice())), rest);
+        let rest = (Field::<0xa1, _>(&self.key), rest);
+        let row = (Field::<0xa0, _>(self.flags), rest);
         write_application(&row, tag::ENC_TICKET_PART, out)
     }
 }

@@ -1,10 +1,11 @@
+// Made from messages.toml by packaging/messages.py. Don't edit this file.
 //! The sealed part of a ticket, read in place.
 
 ghost use Rattle.std.specs.Prelude.{refl, ◌≡◌, IfOk};
 ghost use Rattle.krb_der.specs.Kind.{leaf, must, may, ends, field, time};
 ghost use Rattle.krb_der.specs.Reading.{Parses};
 ghost use Rattle.krb_msg.specs.Borrowed.{enc_ticket_part_of, typed_of};
-ghost use Rattle.krb_msg.specs.Module.{authorization_data, enc_ticket_part, host_address, sequence_of, transited_encoding};
+ghost use Rattle.krb_msg.specs.Module.{enc_ticket_part, sequence_of, host_address, authorization_data, transited_encoding};
 ghost use Rattle.krb_msg.specs.Owned.{owned_enc_ticket_part_of};
 
 use crate::enc_ticket_part::EncTicketPart;
@@ -81,7 +82,7 @@ impl<'a> Element<'a> for EncTicketRef<'a> {
     }
 }
 
-// The fields from the transited realms on.
+// The fields from transited on.
 #[derive(Drop)]
 struct EncTicketTail<'a> {
     transited: TypedRef<'a>,
@@ -99,32 +100,28 @@ type EncTicketTailRow<'a> = (
         Field<0xa5, Seconds>,
         (
             Maybe<0xa6, Seconds>,
-            (Field<0xa7, Seconds>, EncTicketEndRow<'a>),
+            (
+                Field<0xa7, Seconds>,
+                (
+                    Maybe<0xa8, Seconds>,
+                    (
+                        Maybe<0xa9, TypedListRef<'a>>,
+                        (Maybe<0xaa, TypedListRef<'a>>, ()),
+                    ),
+                ),
+            ),
         ),
-    ),
-);
-
-type EncTicketEndRow<'a> = (
-    Maybe<0xa8, Seconds>,
-    (
-        Maybe<0xa9, TypedListRef<'a>>,
-        (Maybe<0xaa, TypedListRef<'a>>, ()),
     ),
 );
 
 impl<'a> Row<'a> for EncTicketTail<'a> {
-    ghost fields = { must (field 4 transited_encoding) (must (field 5 (leaf time)) (may (field 6 (leaf time))
-        (must (field 7 (leaf time)) (may (field 8 (leaf time)) (may (field 9 (sequence_of host_address)) (may (field 10 authorization_data) ends)))))) };
+    ghost fields = { must (field 4 transited_encoding) (must (field 5 (leaf time))
+        (may (field 6 (leaf time)) (must (field 7 (leaf time)) (may (field 8 (leaf time))
+        (may (field 9 (sequence_of host_address)) (may (field 10 authorization_data) ends)))))) };
 
     ghost view = { λ t. (
       typed_of t.transited,
-      (
-        t.authtime,
-        (
-          t.starttime,
-          (t.endtime, (t.renew_till, (t.caddr, (t.authorization, tt)))),
-        ),
-      ),
+      (t.authtime, (t.starttime, (t.endtime, (t.renew_till, (t.caddr, (t.authorization, tt)))))),
     ) };
 
     fn read_row(content: Cursor<'a>) -> Result<EncTicketTail<'a>, Fault> {

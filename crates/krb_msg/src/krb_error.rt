@@ -1,17 +1,19 @@
+// Made from messages.toml by packaging/messages.py. Don't edit this file.
 //! Error messages, as owned values.
 
-ghost use Rattle.std.specs.Prelude.{◌≡◌, ◌<◌};
 ghost use Rattle.std.specs.Option.{option_map};
 ghost use Rattle.krb_der.specs.Kind.{leaf, must, may, ends, field, int32, octets, string};
 ghost use Rattle.krb_der.specs.Writing.{IsEncoded};
 ghost use Rattle.krb_msg.specs.Module.{krb_error, principal_name};
-ghost use Rattle.krb_msg.specs.Owned.{owned_krb_error_of, owned_name_of, principal_name_of};
+ghost use Rattle.krb_msg.specs.Owned.{owned_krb_error_of, principal_name_of, owned_name_of};
 
 use crate::name::{Name, NameIn};
+use crate::octets::octets_in;
+use crate::texts::text_in;
 use crate::{message_type, tag};
 use krb_der::{
-    Constant, Encode, EncodeFault, EncodeRow, Field, Maybe, MaybeRef, Microseconds, Octets,
-    Seconds, Text, Writer, write_application,
+    Constant, Encode, EncodeFault, EncodeRow, Field, Maybe, MaybeRef, Microseconds, Seconds, Text,
+    Writer, write_application,
 };
 use krb_name::{Bytes, Principal};
 use std::alloc::Global;
@@ -41,29 +43,14 @@ pub struct KrbError {
     pub e_data: Option<Vec<u8>>,
 }
 
-// The fields from the error code on.
+// The fields from error-code on.
 #[derive(Clone, Copy)]
-struct Tail<'a>(&'a KrbError);
+struct KrbErrorTail<'a>(&'a KrbError);
 
-type TailRow<'a> = (
-    Field<0xa6, &'a i32>,
-    (
-        Maybe<0xa7, Text<'a>>,
-        (MaybeRef<'a, 0xa8, Name>, EndRow<'a>),
-    ),
-);
-
-type EndRow<'a> = (
-    Field<0xa9, Text<'a>>,
-    (
-        Field<0xaa, NameIn<'a>>,
-        (Maybe<0xab, Text<'a>>, (Maybe<0xac, Octets<'a>>, ())),
-    ),
-);
-
-impl EncodeRow for Tail<'_> {
-    ghost fields = { must (field 6 (leaf int32)) (may (field 7 (leaf string)) (may (field 8 principal_name)
-        (must (field 9 (leaf string)) (must (field 10 principal_name) (may (field 11 (leaf string)) (may (field 12 (leaf octets)) ends)))))) };
+impl EncodeRow for KrbErrorTail<'_> {
+    ghost fields = { must (field 6 (leaf int32)) (may (field 7 (leaf string))
+        (may (field 8 principal_name) (must (field 9 (leaf string)) (must (field 10 principal_name)
+        (may (field 11 (leaf string)) (may (field 12 (leaf octets)) ends)))))) };
 
     ghost view = { λ t. (
       t.0.now.error_code,
@@ -71,69 +58,48 @@ impl EncodeRow for Tail<'_> {
         t.0.now.crealm,
         (
           option_map owned_name_of t.0.now.cname,
-          (t.0.now.service.realm, (principal_name_of t.0.now.service, (t.0.now.e_text, (option_map (λ x. x.items) t.0.now.e_data, tt)))),
+          (
+            t.0.now.service.realm,
+            (
+              principal_name_of t.0.now.service,
+              (t.0.now.e_text, (option_map (λ x. x.items) t.0.now.e_data, tt)),
+            ),
+          ),
         ),
       ),
     ) };
 
     fn write_row(&self, out: &mut Writer) -> Result<(), EncodeFault> {
-        let message = self.0;
+        let rest = (Maybe::<0xac, _>(octets_in(&self.0.e_data)), ());
+        let rest = (Maybe::<0xab, _>(text_in(&self.0.e_text)), rest);
+        let rest = (Field::<0xaa, _>(NameIn(&self.0.service)), rest);
         let rest = (
-            Maybe(text_in(&message.e_text)),
-            (Maybe(octets_in(&message.e_data)), ()),
+            Field::<0xa9, _>(Text(self.0.service.realm.as_slice())),
+            rest,
         );
-        let rest = (Field(NameIn(&message.service)), rest);
-        let rest = (Field(Text(message.service.realm.as_slice())), rest);
-        let rest = (MaybeRef(&message.cname), rest);
-        let row: TailRow = (
-            Field(&message.error_code),
-            (Maybe(text_in(&message.crealm)), rest),
-        );
+        let rest = (MaybeRef::<0xa8, _>(&self.0.cname), rest);
+        let rest = (Maybe::<0xa7, _>(text_in(&self.0.crealm)), rest);
+        let row = (Field::<0xa6, _>(&self.0.error_code), rest);
         row.write_row(out)
     }
 }
-
-fn text_in(text: &Option<Bytes>) -> Option<Text<'_>>
-    ensures { option_map (λ t. t.0.now) result ≡ text.now }
-{
-    match text {
-        Some(text) => Some(Text(text.as_slice())),
-        None => None,
-    }
-}
-
-fn octets_in(octets: &Option<Vec<u8>>) -> Option<Octets<'_>>
-    ensures { option_map (λ o. o.0.now) result ≡ option_map (λ x. x.items) octets.now }
-{
-    match octets {
-        Some(octets) => Some(Octets(octets.as_slice())),
-        None => None,
-    }
-}
-
-type KrbErrorOut<'a> = (
-    Field<0xa0, Constant<5>>,
-    (
-        Field<0xa1, Constant<{ message_type::KRB_ERROR }>>,
-        (
-            MaybeRef<'a, 0xa2, Seconds>,
-            (
-                MaybeRef<'a, 0xa3, Microseconds>,
-                (Field<0xa4, Seconds>, (Field<0xa5, Microseconds>, Tail<'a>)),
-            ),
-        ),
-    ),
-);
 
 impl Encode for KrbError {
     ghost kind = { krb_error };
 
     ghost view = { owned_krb_error_of };
 
+    #[tactic(auto, using(std::proofs::lemmas::Iterator::Adapters::option_map_id))]
     fn write(&self, out: &mut Writer) -> Result<(), EncodeFault> {
-        let rest = (Field(self.stime), (Field(self.susec), Tail(self)));
-        let rest = (MaybeRef(&self.ctime), (MaybeRef(&self.cusec), rest));
-        let row: KrbErrorOut = (Field(Constant), (Field(Constant), rest));
+        let rest = (Field::<0xa5, _>(self.susec), KrbErrorTail(self));
+        let rest = (Field::<0xa4, _>(self.stime), rest);
+        let rest = (MaybeRef::<0xa3, _>(&self.cusec), rest);
+        let rest = (MaybeRef::<0xa2, _>(&self.ctime), rest);
+        let rest = (
+            Field::<0xa1, Constant<{ message_type::KRB_ERROR }>>(Constant),
+            rest,
+        );
+        let row = (Field::<0xa0, Constant<5>>(Constant), rest);
         write_application(&row, tag::KRB_ERROR, out)
     }
 }

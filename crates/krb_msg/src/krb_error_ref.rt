@@ -1,3 +1,4 @@
+// Made from messages.toml by packaging/messages.py. Don't edit this file.
 //! Error messages.
 
 ghost use Rattle.std.specs.Prelude.{refl, ◌≡◌, IfOk};
@@ -10,7 +11,8 @@ ghost use Rattle.krb_msg.specs.Owned.{owned_krb_error_of};
 
 use crate::krb_error::KrbError;
 use crate::name::{NameRef, owned_name};
-use crate::texts::owned_text;
+use crate::octets::{octets_bytes, owned_octets};
+use crate::texts::{owned_text, text_bytes};
 use crate::{message_type, tag};
 use krb_der::{
     Constant, Cursor, Element, Fault, Field, Maybe, Message, Microseconds, Octets, Row, Seconds,
@@ -51,14 +53,15 @@ type KrbErrorRow<'a> = (
         Field<0xa1, Constant<{ message_type::KRB_ERROR }>>,
         (
             Maybe<0xa2, Seconds>,
-            (Maybe<0xa3, Microseconds>, KrbErrorMiddleRow<'a>),
+            (
+                Maybe<0xa3, Microseconds>,
+                (
+                    Field<0xa4, Seconds>,
+                    (Field<0xa5, Microseconds>, KrbErrorTail<'a>),
+                ),
+            ),
         ),
     ),
-);
-
-type KrbErrorMiddleRow<'a> = (
-    Field<0xa4, Seconds>,
-    (Field<0xa5, Microseconds>, KrbErrorTail<'a>),
 );
 
 impl<'a> Element<'a> for KrbErrorRef<'a> {
@@ -89,7 +92,7 @@ impl<'a> Element<'a> for KrbErrorRef<'a> {
     }
 }
 
-// The fields from the error code on.
+// The fields from error-code on.
 #[derive(Drop)]
 struct KrbErrorTail<'a> {
     error_code: i32,
@@ -105,21 +108,23 @@ type KrbErrorTailRow<'a> = (
     Field<0xa6, i32>,
     (
         Maybe<0xa7, Text<'a>>,
-        (Maybe<0xa8, NameRef<'a>>, KrbErrorEndRow<'a>),
-    ),
-);
-
-type KrbErrorEndRow<'a> = (
-    Field<0xa9, Text<'a>>,
-    (
-        Field<0xaa, NameRef<'a>>,
-        (Maybe<0xab, Text<'a>>, (Maybe<0xac, Octets<'a>>, ())),
+        (
+            Maybe<0xa8, NameRef<'a>>,
+            (
+                Field<0xa9, Text<'a>>,
+                (
+                    Field<0xaa, NameRef<'a>>,
+                    (Maybe<0xab, Text<'a>>, (Maybe<0xac, Octets<'a>>, ())),
+                ),
+            ),
+        ),
     ),
 );
 
 impl<'a> Row<'a> for KrbErrorTail<'a> {
-    ghost fields = { must (field 6 (leaf int32)) (may (field 7 (leaf string)) (may (field 8 principal_name)
-        (must (field 9 (leaf string)) (must (field 10 principal_name) (may (field 11 (leaf string)) (may (field 12 (leaf octets)) ends)))))) };
+    ghost fields = { must (field 6 (leaf int32)) (may (field 7 (leaf string))
+        (may (field 8 principal_name) (must (field 9 (leaf string)) (must (field 10 principal_name)
+        (may (field 11 (leaf string)) (may (field 12 (leaf octets)) ends)))))) };
 
     ghost view = { λ t. (
       t.error_code,
@@ -127,7 +132,13 @@ impl<'a> Row<'a> for KrbErrorTail<'a> {
         option_map (λ x. x.now) t.crealm,
         (
           option_map name_of t.cname,
-          (t.realm.now, (name_of t.sname, (option_map (λ x. x.now) t.e_text, (option_map (λ x. x.now) t.e_data, tt)))),
+          (
+            t.realm.now,
+            (
+              name_of t.sname,
+              (option_map (λ x. x.now) t.e_text, (option_map (λ x. x.now) t.e_data, tt)),
+            ),
+          ),
         ),
       ),
     ) };
@@ -148,24 +159,6 @@ impl<'a> Row<'a> for KrbErrorTail<'a> {
             }
             Err(fault) => Err(fault),
         }
-    }
-}
-
-fn text_bytes<'a>(text: Option<Text<'a>>) -> Option<&'a [u8]>
-    ensures { option_map (λ x. x.now) result ≡ option_map (λ t. t.0.now) text.entry }
-{
-    match text {
-        Some(text) => Some(text.0),
-        None => None,
-    }
-}
-
-fn octets_bytes<'a>(octets: Option<Octets<'a>>) -> Option<&'a [u8]>
-    ensures { option_map (λ x. x.now) result ≡ option_map (λ o. o.0.now) octets.entry }
-{
-    match octets {
-        Some(octets) => Some(octets.0),
-        None => None,
     }
 }
 
@@ -202,14 +195,5 @@ impl<'a> KrbErrorRef<'a> {
             e_text: owned_text(alloc, &self.e_text)?,
             e_data: owned_octets(alloc, &self.e_data)?,
         })
-    }
-}
-
-fn owned_octets(alloc: Global, bytes: &Option<&[u8]>) -> Result<Option<Vec<u8>>, AllocError>
-    ensures { IfOk result (λ made. option_map (λ x. x.items) made ≡ option_map (λ x. x.now) bytes.now) }
-{
-    match bytes {
-        Some(bytes) => Ok(Some(bytes.to_vec(alloc)?)),
-        None => Ok(None),
     }
 }

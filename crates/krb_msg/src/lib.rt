@@ -49,6 +49,7 @@ pub mod laws;
 pub mod message_type;
 mod moment;
 mod name;
+mod octets;
 mod reply;
 mod request;
 mod seq_number;

@@ -1,6 +1,7 @@
+// Made from messages.toml by packaging/messages.py. Don't edit this file.
 //! Replies.
 
-ghost use Rattle.std.specs.Prelude.{refl, ◌≡◌, ◌<◌, IfOk};
+ghost use Rattle.std.specs.Prelude.{refl, ◌≡◌, IfOk};
 ghost use Rattle.krb_der.specs.Reading.{Parses};
 ghost use Rattle.krb_der.specs.Writing.{IsEncoded};
 ghost use Rattle.krb_msg.specs.Borrowed.{ap_rep_of};
@@ -88,16 +89,12 @@ impl Encode for ApRep {
     ghost view = { owned_ap_rep_of };
 
     fn write(&self, out: &mut Writer) -> Result<(), EncodeFault> {
-        let row: (
-            Field<0xa0, Constant<5>>,
-            (
-                Field<0xa1, Constant<{ message_type::AP_REP }>>,
-                (Field<0xa2, &Encrypted>, ()),
-            ),
-        ) = (
-            Field(Constant),
-            (Field(Constant), (Field(&self.enc_part), ())),
+        let rest = (Field::<0xa2, _>(&self.enc_part), ());
+        let rest = (
+            Field::<0xa1, Constant<{ message_type::AP_REP }>>(Constant),
+            rest,
         );
+        let row = (Field::<0xa0, Constant<5>>(Constant), rest);
         write_application(&row, tag::AP_REP, out)
     }
 }

@@ -1,6 +1,7 @@
+// Made from messages.toml by packaging/messages.py. Don't edit this file.
 //! Requests.
 
-ghost use Rattle.std.specs.Prelude.{refl, ◌≡◌, ◌<◌, IfOk};
+ghost use Rattle.std.specs.Prelude.{refl, ◌≡◌, IfOk};
 ghost use Rattle.krb_der.specs.Reading.{Parses};
 ghost use Rattle.krb_der.specs.Writing.{IsEncoded};
 ghost use Rattle.krb_msg.specs.Borrowed.{ap_req_of};
@@ -32,12 +33,13 @@ type ApReqRow<'a> = (
         Field<0xa1, Constant<{ message_type::AP_REQ }>>,
         (
             Field<0xa2, Flags>,
-            (Field<0xa3, TicketRef<'a>>, ApReqEndRow<'a>),
+            (
+                Field<0xa3, TicketRef<'a>>,
+                (Field<0xa4, EncryptedRef<'a>>, ()),
+            ),
         ),
     ),
 );
-
-type ApReqEndRow<'a> = (Field<0xa4, EncryptedRef<'a>>, ());
 
 impl<'a> Element<'a> for ApReqRef<'a> {
     ghost kind = { ap_req };
@@ -105,20 +107,14 @@ impl Encode for ApReq {
     ghost view = { owned_ap_req_of };
 
     fn write(&self, out: &mut Writer) -> Result<(), EncodeFault> {
-        let rest = (Field(&self.ticket), (Field(&self.authenticator), ()));
-        let row: (
-            Field<0xa0, Constant<5>>,
-            (
-                Field<0xa1, Constant<{ message_type::AP_REQ }>>,
-                (
-                    Field<0xa2, Flags>,
-                    (Field<0xa3, &Ticket>, (Field<0xa4, &Encrypted>, ())),
-                ),
-            ),
-        ) = (
-            Field(Constant),
-            (Field(Constant), (Field(self.options), rest)),
+        let rest = (Field::<0xa4, _>(&self.authenticator), ());
+        let rest = (Field::<0xa3, _>(&self.ticket), rest);
+        let rest = (Field::<0xa2, _>(self.options), rest);
+        let rest = (
+            Field::<0xa1, Constant<{ message_type::AP_REQ }>>(Constant),
+            rest,
         );
+        let row = (Field::<0xa0, Constant<5>>(Constant), rest);
         write_application(&row, tag::AP_REQ, out)
     }
 }

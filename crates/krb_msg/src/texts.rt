@@ -99,6 +99,26 @@ pub(crate) fn owned_text(alloc: Global, text: &Option<&[u8]>) -> Result<Option<B
     }
 }
 
+/// The text that was read.
+pub(crate) fn text_bytes<'a>(text: Option<Text<'a>>) -> Option<&'a [u8]>
+    ensures { option_map (λ x. x.now) result ≡ option_map (λ t. t.0.now) text.entry }
+{
+    match text {
+        Some(text) => Some(text.0),
+        None => None,
+    }
+}
+
+/// The text to be written.
+pub(crate) fn text_in(text: &Option<Bytes>) -> Option<Text<'_>>
+    ensures { option_map (λ t. t.0.now) result ≡ text.now }
+{
+    match text {
+        Some(text) => Some(Text(text.as_slice())),
+        None => None,
+    }
+}
+
 impl<'a> Element<'a> for Texts<'a> {
     ghost kind = { sequence_of (leaf string) };
 

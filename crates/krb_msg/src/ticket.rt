@@ -1,6 +1,7 @@
+// Made from messages.toml by packaging/messages.py. Don't edit this file.
 //! Tickets and encrypted parts of messages.
 
-ghost use Rattle.std.specs.Prelude.{refl, ◌≡◌, ◌<◌, IfOk};
+ghost use Rattle.std.specs.Prelude.{refl, ◌≡◌, IfOk};
 ghost use Rattle.krb_der.specs.Reading.{Parses};
 ghost use Rattle.krb_der.specs.Writing.{IsEncoded};
 ghost use Rattle.krb_msg.specs.Borrowed.{encrypted_of, ticket_of};
@@ -86,16 +87,9 @@ impl Encode for Encrypted {
 
     #[tactic(auto, using(std::proofs::lemmas::Iterator::Adapters::option_map_id))]
     fn write(&self, out: &mut Writer) -> Result<(), EncodeFault> {
-        let row: (
-            Field<0xa0, &i32>,
-            (MaybeRef<0xa1, u32>, (Field<0xa2, Octets>, ())),
-        ) = (
-            Field(&self.etype),
-            (
-                MaybeRef(&self.kvno),
-                (Field(Octets(self.cipher.as_slice())), ()),
-            ),
-        );
+        let rest = (Field::<0xa2, _>(Octets(self.cipher.as_slice())), ());
+        let rest = (MaybeRef::<0xa1, _>(&self.kvno), rest);
+        let row = (Field::<0xa0, _>(&self.etype), rest);
         write_sequence(&row, out)
     }
 }
@@ -185,17 +179,10 @@ impl Encode for Ticket {
     ghost view = { owned_ticket_of };
 
     fn write(&self, out: &mut Writer) -> Result<(), EncodeFault> {
-        let rest = (Field(NameIn(&self.service)), (Field(&self.enc_part), ()));
-        let row: (
-            Field<0xa0, Constant<5>>,
-            (
-                Field<0xa1, Text>,
-                (Field<0xa2, NameIn>, (Field<0xa3, &Encrypted>, ())),
-            ),
-        ) = (
-            Field(Constant),
-            (Field(Text(self.service.realm.as_slice())), rest),
-        );
+        let rest = (Field::<0xa3, _>(&self.enc_part), ());
+        let rest = (Field::<0xa2, _>(NameIn(&self.service)), rest);
+        let rest = (Field::<0xa1, _>(Text(self.service.realm.as_slice())), rest);
+        let row = (Field::<0xa0, Constant<5>>(Constant), rest);
         write_application(&row, tag::TICKET, out)
     }
 }

@@ -1,4 +1,4 @@
-use Rattle.krb_msg.proofs.krb_error.TailEncodeRow.write_row.Goals as goal
+use Rattle.krb_msg.proofs.krb_error.KrbErrorTailEncodeRow.write_row.Goals as goal
 
 pub returns : goal.returns
 returns c = rw (c.as_slice.ensures, c.text_in.ensures, c.octets_in.ensures, c.text_in-2.ensures) at c.write_row.ensures

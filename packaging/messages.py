@@ -1,0 +1,761 @@
+#!/usr/bin/env python3
+"""Makes the messages' sources and definitions in crates/krb_msg from their table, messages.toml.
+
+    packaging/messages.py           writes the files
+    packaging/messages.py --check   writes none, and ends with 1 after the first line that differs
+
+The table says what its entries mean. `rattle fmt` lays the files out, as `rt fmt` does.
+"""
+import itertools
+import pathlib
+import re
+import shutil
+import subprocess
+import sys
+import tempfile
+import textwrap
+import tomllib
+from dataclasses import dataclass
+
+ROOT = pathlib.Path(__file__).resolve().parent.parent
+CRATE = ROOT / "crates/krb_msg"
+RATTLE = pathlib.Path(shutil.which("rt") or "/opt/rattle/bin/rt").resolve().parent / "rattle"
+
+MADE = "Made from messages.toml by packaging/messages.py. Don't edit this file."
+# Rows of more fields are read, and written, with a tail that has a type of its own: else a proof takes too many steps.
+LONGEST_READ, LONGEST_WRITTEN = 8, 11
+LONGEST_TAIL, SHORTEST_HEAD = 7, 3
+
+
+@dataclass(frozen=True)
+class Kind:
+    """A kind of field: what it is in definitions, its types in a view and in an owned value, and how it gets from one to the next.
+
+    In each form, {} is the field, or what was read. Where the form for an optional field is missing, it is the same.
+    """
+
+    definition: str
+    values: str
+    view: str
+    owned: str
+    # The values of a view's and of an owned field, in definitions.
+    view_value: str = "{}"
+    owned_value: str = "{}"
+    # What a row is read as, and how the view gets its field from that.
+    read: str = ""
+    taken: str = "{}.0"
+    taken_optional: str = "{}.0"
+    copied: str = "{}"
+    copied_optional: str = "{}"
+    # How it is written: `Maybe` and `MaybeRef` are for optional fields.
+    written: str = "{}"
+    written_optional: tuple[str, str] = ("MaybeRef", "&{}")
+    # Whether it holds texts, or a key.
+    has_texts: bool = False
+    has_key: bool = False
+
+    @property
+    def borrows(self):
+        return "'a" in self.view
+
+
+def number(definition, values, rust, value="{}", written="{}"):
+    """A kind whose values are copied as they are."""
+    return Kind(definition, values, rust, rust, value, value, written=written)
+
+
+def part(definition, view, owned, value, **more):
+    """A kind with a view and an owned value of its own. `owned_VALUE` copies one that is optional."""
+    return Kind(
+        definition,
+        f"ValueOf {definition}",
+        f"{view}<'a>",
+        owned,
+        f"{value}_of {{}}",
+        f"owned_{value}_of {{}}",
+        copied="{}.to_owned(alloc)?",
+        copied_optional=f"owned_{value}(alloc, &{{}})?",
+        written="&{}",
+        **more,
+    )
+
+
+def string(definition, owned, owned_value, element, word, copied, **more):
+    """A kind of bytes."""
+    return Kind(
+        definition,
+        "List ℕ",
+        "&'a [u8]",
+        owned,
+        "{}.now",
+        owned_value,
+        f"{element}<'a>",
+        "{}.0.0",
+        f"{word}_bytes({{}}.0)",
+        copied,
+        f"owned_{word}(alloc, &{{}})?",
+        f"{element}({{}}.as_slice())",
+        ("Maybe", f"{word}_in(&{{}})"),
+        **more,
+    )
+
+
+def typed_list(definition):
+    """A kind of lists of numbered bytes."""
+    return Kind(
+        definition,
+        "List (ValueOf (typed (leaf octets)))",
+        "TypedListRef<'a>",
+        "Vec<Typed>",
+        owned_value="owned_list_of {}.items",
+        copied="{}.to_owned(alloc)?",
+        copied_optional="owned_list(alloc, &{})?",
+        written="&{}",
+    )
+
+
+SEQ_NUMBER = Kind(
+    "leaf seq_number",
+    "ℕ",
+    "u32",
+    "u32",
+    read="SeqNumber",
+    taken="{}.0.0",
+    taken_optional="seq_number_of({}.0)",
+    written="SeqNumber({})",
+    written_optional=("Maybe", "seq_number_in({})"),
+)
+
+KINDS = {
+    "Int32": number("leaf int32", "ℤ", "i32", written="&{}"),
+    "UInt32": number("leaf uint32", "ℕ", "u32", written="&{}"),
+    "SeqNumber": SEQ_NUMBER,
+    "Microseconds": number("leaf microseconds", "ℕ", "Microseconds"),
+    "KerberosTime": number("leaf time", "ℤ", "Seconds"),
+    "Flags": number("leaf flags", "ℕ", "Flags", "{}.0"),
+    "OCTET STRING": string("leaf octets", "Vec<u8>", "{}.items", "Octets", "octets", "{}.to_vec(alloc)?"),
+    "KerberosString": string("leaf string", "Bytes", "{}", "Text", "text", "Bytes::from_slice(alloc, {})?", has_texts=True),
+    "PrincipalName": part("principal_name", "NameRef", "Name", "name", has_texts=True),
+    "EncryptionKey": part("encryption_key", "KeyRef", "RawKey", "key", has_key=True),
+    "Checksum": part("checksum", "TypedRef", "Typed", "typed"),
+    "TransitedEncoding": part("transited_encoding", "TypedRef", "Typed", "typed"),
+    "EncryptedData": part("encrypted_data", "EncryptedRef", "Encrypted", "encrypted"),
+    "Ticket": part("ticket", "TicketRef", "Ticket", "ticket", has_texts=True),
+    "HostAddresses": typed_list("sequence_of host_address"),
+    "AuthorizationData": typed_list("authorization_data"),
+}
+# The realm of a principal, and its name, as they are written.
+REALM, NAME = "Text({}.realm.as_slice())", "NameIn(&{})"
+
+
+def atom(term):
+    """A term as an argument, in definitions."""
+    return f"({term})" if " " in term else term
+
+
+@dataclass(frozen=True)
+class Principal:
+    """A field of an owned value that joins the realm and the name of a view."""
+
+    field: str
+    realm: str
+    name: str
+    definition: str
+    doc: str
+
+
+@dataclass(frozen=True)
+class Field:
+    """One row of a message."""
+
+    number: int
+    name: str
+    rust: str = ""
+    kind: str = ""
+    optional: bool = False
+    doc: str = ""
+    accessor: str = ""
+    constant: int | None = None
+    named: str = ""
+
+    @property
+    def of(self):
+        return KINDS[self.kind]
+
+    @property
+    def key(self):
+        """Its name in structs."""
+        return self.rust or self.name.replace("-", "_")
+
+    @property
+    def tag(self):
+        return f"{0xA0 + self.number:#x}"
+
+    @property
+    def definition(self):
+        inner = f"leaf (constant {self.constant})" if self.constant is not None else self.of.definition
+        return f"{'may' if self.optional else 'must'} (field {self.number} {atom(inner)})"
+
+    @property
+    def values(self):
+        return f"Option {atom(self.of.values)}" if self.optional else self.of.values
+
+    def in_struct(self, rust):
+        return f"Option<{rust}>" if self.optional else rust
+
+    def value(self, form, at):
+        """The value of this field of `at`, in definitions."""
+        place = f"{at}.{self.key}"
+        if not self.optional or form == "{}":
+            return form.format(place)
+        word, _, rest = form.partition(" ")
+        function = word if rest == "{}" else f"(λ x. {form.format('x')})"
+        return f"option_map {function} {place}"
+
+    @property
+    def read(self):
+        if self.constant is not None:
+            constant = f"{{ {self.named} }}" if self.named else self.constant
+            return f"Field<{self.tag}, Constant<{constant}>>"
+        return f"{'Maybe' if self.optional else 'Field'}<{self.tag}, {self.of.read or self.of.view}>"
+
+    @property
+    def taken(self):
+        return (self.of.taken_optional if self.optional else self.of.taken).format(self.key)
+
+    @property
+    def copied(self):
+        return (self.of.copied_optional if self.optional else self.of.copied).format(f"self.{self.key}")
+
+
+def nested(items, end):
+    """A row of nested pairs."""
+    return "".join(f"({it}, " for it in items) + end + ")" * len(items)
+
+
+def fields_item(rows):
+    """The same fields in definitions, as an item of an impl, on lines that aren't too long."""
+    terms = [it.definition.replace(" ", "\xa0") for it in rows]
+    text = " (".join(terms) + " ends" + ")" * (len(rows) - 1)
+    lines = textwrap.wrap(f"ghost fields = {{ {text} }};", 100, subsequent_indent="    ", break_long_words=False)
+    return "\n".join(lines).replace("\xa0", " ")
+
+
+def view_item(argument, values):
+    """Values in nested pairs, as an item of an impl, on lines that aren't too long."""
+    return f"ghost view = {{ λ {argument}. {pairs(values, 6)} }};"
+
+
+def pairs(values, indent):
+    whole = nested(values, "tt")
+    if len(values) == 1 or indent + len(whole) < 100:
+        return whole
+    space = " " * indent
+    return f"(\n{space}{values[0]},\n{space}{pairs(values[1:], indent + 2)},\n{space[2:]})"
+
+
+def arm(pattern, struct, fields):
+    """The arm of a match for what was read. It is a block if the struct's name finds no room behind the pattern."""
+    is_block = len(pattern) <= 80 < len(f"{pattern} => Ok({struct} {{") - 4
+    made = f"Ok({struct} {{ {fields} }})"
+    return f"Ok({pattern}) => {{ {made} }}" if is_block else f"Ok({pattern}) => {made},"
+
+
+class Message:
+    """A message, with the text that each of its files has of it."""
+
+    def __init__(self, name, section, kind, accessor, view, owned, fields, **more):
+        self.name, self.section, self.kind, self.accessor = name, section, kind, accessor
+        self.view_file, self.view = view.split("::")
+        self.owned_file, self.owned = owned.split("::")
+        self.rows = [Field(**it) for it in fields]
+        self.fields = [it for it in self.rows if it.constant is None]
+        self.principals = [Principal(**it) for it in more.get("principals", [])]
+        self.application, self.record = more.get("application"), more.get("record")
+        self.parses = more.get("parses", "a message of this type")
+        self.view_derive = more.get("view_derive", self.derive)
+        self.doc = more.get("doc", f"{'An' if name[0] in 'AEIOU' else 'A'} `{name}` (RFC 4120, section {section}).")
+        self.view_doc = more.get("view_doc", f"{self.doc} Its {self.slices} are slices of the input.")
+        self.base = self.view.removesuffix("Ref")
+        self.tag = f"tag::{kind.upper()}"
+        self.short = more.get("short", kind)
+        self.view_value = f"{self.short}_of"
+        self.owned_value = f"owned_{self.view_value}"
+
+    # ---- what follows from the fields
+
+    @property
+    def derive(self):
+        return "Drop" if any(it.of.has_key for it in self.fields) else "Debug, Drop"
+
+    @property
+    def slices(self):
+        return "texts and octets" if any(it.of.has_texts for it in self.fields) else "octets"
+
+    @property
+    def always_borrows(self):
+        return any(it.of.borrows and not it.optional for it in self.fields)
+
+    def head_and_tail(self, longest):
+        """The rows of fields, and those of the tail that a row of more than so many has."""
+        size = min(LONGEST_TAIL, len(self.rows) - SHORTEST_HEAD)
+        if len(self.rows) <= longest:
+            return self.rows, []
+        if len(self.rows) > LONGEST_TAIL + longest:
+            raise ValueError(f"{self.name} has too many fields for one tail")
+        return self.rows[:-size], self.rows[-size:]
+
+    def joined(self, field):
+        """The principal that a field is a part of, if it is one."""
+        return next((it for it in self.principals if field.key in (it.realm, it.name)), None)
+
+    # ---- definitions
+
+    def kind_text(self):
+        """The kind, for Module."""
+        names = [it.name for it in self.rows]
+        said = f"{', '.join(names[:-1])} and {names[-1]} (section {self.section})"
+        rows = "\n    (".join(it.definition for it in self.rows)
+        body = f"sequence\n    ({rows} ends{')' * len(self.rows)}"
+        whole = f"application {self.application} ({body})" if self.application else body
+        return f"{comment('-- ', said)}\nabbrev pub {self.kind} : Kind\n{self.kind} = {whole}\n"
+
+    def fields_text(self):
+        """The record of its fields, its value, and each field of a value, for Fields."""
+        value = f"ValueOf {self.kind}"
+        parts = [f"-- ---- {self.name} (section {self.section})"]
+        if self.record:
+            parts.append(f"pub record {self.record} : Type 0 where\n" + "".join(f"  pub {it.key} : {it.values}\n" for it in self.fields))
+        argument, at = ("f", "f.{}") if self.record else (self.fields[0].key, "{}")
+        of = self.record or self.fields[0].values
+        row = " ▸ ".join(["tt" if it.constant is not None else at.format(it.key) for it in self.rows] + ["tt"])
+        equation = f"{self.short}_value {argument} = {row}"
+        equation = equation if len(equation) <= 140 else equation.replace(" = ", " =\n    ", 1)
+        parts.append(f"abbrev pub {self.short}_value : {of} → {value}\n{equation}\n")
+        for place, it in enumerate(self.rows):
+            if it.constant is None:
+                name = it.accessor or self.accessor.format(it.key)
+                parts.append(f"abbrev pub {name} : {value} → {it.values}\n{name} v = v{'.1' * place}.0\n")
+        parts += [self.principal_text(it) for it in self.principals]
+        return "\n".join(parts)
+
+    def principal_text(self, principal):
+        names = {it.key: it.accessor or self.accessor.format(it.key) for it in self.fields}
+        of = f"principal_in ({names[principal.realm]} v) ({names[principal.name]} v)"
+        return (
+            f"-- the {principal.field}: {principal.realm} and {principal.name}\n"
+            f"abbrev pub {principal.definition} : ValueOf {self.kind} → Principal\n{principal.definition} v = {of}\n"
+        )
+
+    def value_text(self, name, struct, value_of):
+        """The value of one of its structs, for Borrowed and Owned."""
+        if self.record:
+            rows = "".join(f"  {it.key} = {value_of(it)};\n" for it in self.fields)
+            argument = f"(record {{\n{rows}}})"
+        else:
+            argument = atom(value_of(self.fields[0]))
+        return f"abbrev pub {name} : {struct} → ValueOf {self.kind}\n{name} m = {self.short}_value {argument}\n"
+
+    def borrowed_text(self):
+        return self.value_text(self.view_value, self.view, lambda it: it.value(it.of.view_value, "m"))
+
+    def owned_text(self):
+        return self.value_text(self.owned_value, self.owned, lambda it: self.owned_field(it, "m"))
+
+    def owned_field(self, field, at):
+        """The value of a field of the owned struct, in definitions."""
+        principal = self.joined(field)
+        if principal is None:
+            return field.value(field.of.owned_value, at)
+        place = f"{at}.{principal.field}"
+        return f"{place}.realm" if field.key == principal.realm else f"principal_name_of {place}"
+
+    # ---- the view
+
+    def view_text(self):
+        """The view, how it is read, parsed and copied."""
+        return self.view_struct() + self.reader() + self.tail_reader() + self.view_calls() + "\n"
+
+    def view_struct(self):
+        fields = "".join(f"/// {it.doc}\npub {it.key}: {it.in_struct(it.of.view)},\n" for it in self.fields)
+        if not self.always_borrows:
+            fields += "// Without this field the borrow checker refuses `?` on what `parse` answers.\ninput: PhantomData<&'a [u8]>,\n"
+        return f"{comment('/// ', self.view_doc)}\n#[derive({self.view_derive})]\npub struct {self.view}<'a> {{\n{fields}}}\n"
+
+    def reader(self):
+        head, tail = self.head_and_tail(LONGEST_READ)
+        row = nested([it.read for it in head], f"{self.base}Tail<'a>" if tail else "()")
+        pattern = nested(["_" if it.constant is not None else it.key for it in head], "tail" if tail else "()")
+        taken = [f"{it.key}: {it.taken},\n" for it in head if it.constant is None]
+        taken += [f"{it.key}: tail.{it.key},\n" for it in tail]
+        taken += [] if self.always_borrows else ["input: PhantomData,\n"]
+        reads = f"application({self.tag})" if self.application else "sequence()"
+        taken = "".join(taken)
+        return f"""
+            type {self.base}Row<'a> = {row};
+
+            impl<'a> Element<'a> for {self.view}<'a> {{
+                ghost kind = {{ {self.kind} }};
+
+                ghost view = {{ {self.view_value} }};
+
+                ghost clear = {{ refl }};
+
+                fn read(cursor: &mut Cursor<'a>) -> Result<{self.view}<'a>, Fault> {{
+                    let row: Result<{self.base}Row<'a>, Fault> = cursor.{reads};
+                    match row {{
+                        {arm(pattern, self.view, taken)}
+                        Err(fault) => Err(fault),
+                    }}
+                }}
+            }}
+        """
+
+    def tail_reader(self):
+        _, tail = self.head_and_tail(LONGEST_READ)
+        if not tail:
+            return ""
+        name = f"{self.base}Tail"
+        view = [it.value(it.of.view_value, "t") for it in tail]
+        fields = "".join(f"{it.key}: {it.in_struct(it.of.view)}, " for it in tail)
+        taken = "".join(f"{it.key}: {it.taken}, " for it in tail)
+        row, pattern = nested([it.read for it in tail], "()"), nested([it.key for it in tail], "()")
+        return f"""
+            // The fields from {tail[0].name} on.
+            #[derive(Drop)]
+            struct {name}<'a> {{ {fields} }}
+
+            type {name}Row<'a> = {row};
+
+            impl<'a> Row<'a> for {name}<'a> {{
+                {fields_item(tail)}
+
+                {view_item("t", view)}
+
+                fn read_row(content: Cursor<'a>) -> Result<{name}<'a>, Fault> {{
+                    let row: Result<{name}Row<'a>, Fault> = Row::read_row(content);
+                    match row {{
+                        {arm(pattern, name, taken)}
+                        Err(fault) => Err(fault),
+                    }}
+                }}
+            }}
+        """
+
+    def view_calls(self):
+        parse = f"""
+                /// Reads {self.parses} that takes up all of the bytes. Allocates no memory.
+                ///
+                /// # Errors
+                /// `TooLong` at offset 0 if there are more than 1,048,576 bytes. Otherwise a fault by the rules
+                /// of `krb_der`'s `specs::Fault`, at its offset.
+                pub fn parse(bytes: &'a [u8]) -> Result<{self.view}<'a>, Fault>
+                    ensures {{ Parses {self.kind} {self.view_value} result bytes.entry.now }}
+                {{
+                    krb_der::parse(bytes)
+                }}
+        """
+        is_message = f"impl<'a> Message<'a> for {self.view}<'a> {{}}\n"
+        copied = self.owned_fields(lambda it: f"{it.key}: {it.copied}", lambda it: f"{it.field}: self.{it.name}.to_principal(alloc, self.{it.realm})?")
+        fields, what = ", ".join(copied), "message" if self.application else "value"
+        return f"""
+            {is_message if self.application else ""}
+            impl<'a> {self.view}<'a> {{
+                {parse if self.application else ""}
+                /// Copies the {what}.
+                ///
+                /// # Errors
+                /// There is no memory.
+                pub fn to_owned(&self, alloc: Global) -> Result<{self.owned}, AllocError>
+                    ensures {{ IfOk result (λ made. {self.owned_value} made ≡ {self.view_value} self.now) }}
+                {{
+                    Ok({self.owned} {{ {fields} }})
+                }}
+            }}
+        """
+
+    def owned_fields(self, of_field, of_principal):
+        """What is said of each field of the owned struct. A principal stands where its name would."""
+        for it in self.fields:
+            principal = self.joined(it)
+            if principal is None:
+                yield of_field(it)
+            elif it.key == principal.name:
+                yield of_principal(principal)
+
+    # ---- the owned value
+
+    def owned_source(self):
+        """The owned struct, and how it is written."""
+        return self.owned_struct() + self.tail_writer() + self.writer() + self.encode_call() + "\n"
+
+    def owned_struct(self):
+        fields = self.owned_fields(
+            lambda it: f"/// {it.doc}\npub {it.key}: {it.in_struct(it.of.owned)},\n", lambda it: f"/// {it.doc}\npub {it.field}: Principal,\n"
+        )
+        return f"\n{comment('/// ', self.doc)}\n#[derive({self.derive})]\npub struct {self.owned} {{\n{''.join(fields)}}}\n"
+
+    def written(self, field, at):
+        """A field as it is written."""
+        principal = self.joined(field)
+        if field.constant is not None:
+            return f"{field.read.replace('Field<', 'Field::<', 1)}(Constant)"
+        if principal is not None:
+            value = (REALM if field.key == principal.realm else NAME).format(f"{at}.{principal.field}")
+            return f"Field::<{field.tag}, _>({value})"
+        word, value = field.of.written_optional if field.optional else ("Field", field.of.written)
+        return f"{word}::<{field.tag}, _>({value.format(f'{at}.{field.key}')})"
+
+    def written_rows(self, rows, at, end="()"):
+        """The lines that make the row which is written."""
+        values = [self.written(it, at) for it in reversed(rows)]
+        names = ["rest"] * (len(values) - 1) + ["row"]
+        return "\n".join(f"let {name} = ({it}, {end if place == 0 else 'rest'});" for place, (name, it) in enumerate(zip(names, values)))
+
+    def tactic(self, rows):
+        """What the proof of a writing call needs: that the value of an optional number is that number."""
+        plain = any(it.optional and it.of.owned_value == "{}" and it.of.written_optional[0] == "MaybeRef" for it in rows)
+        return "#[tactic(auto, using(std::proofs::lemmas::Iterator::Adapters::option_map_id))]\n" if plain else ""
+
+    def tail_writer(self):
+        _, tail = self.head_and_tail(LONGEST_WRITTEN)
+        if not tail:
+            return ""
+        view = [self.owned_field(it, "t.0.now") for it in tail]
+        return f"""
+            // The fields from {tail[0].name} on.
+            #[derive(Clone, Copy)]
+            struct {self.owned}Tail<'a>(&'a {self.owned});
+
+            impl EncodeRow for {self.owned}Tail<'_> {{
+                {fields_item(tail)}
+
+                {view_item("t", view)}
+
+                {self.tactic(tail)}fn write_row(&self, out: &mut Writer) -> Result<(), EncodeFault> {{
+                    {self.written_rows(tail, "self.0")}
+                    row.write_row(out)
+                }}
+            }}
+        """
+
+    def writer(self):
+        head, tail = self.head_and_tail(LONGEST_WRITTEN)
+        lines = self.written_rows(head, "self", f"{self.owned}Tail(self)" if tail else "()")
+        writes = f"write_application(&row, {self.tag}, out)" if self.application else "write_sequence(&row, out)"
+        return f"""
+            impl Encode for {self.owned} {{
+                ghost kind = {{ {self.kind} }};
+
+                ghost view = {{ {self.owned_value} }};
+
+                {self.tactic(head)}fn write(&self, out: &mut Writer) -> Result<(), EncodeFault> {{
+                    {lines}
+                    {writes}
+                }}
+            }}
+        """
+
+    def encode_call(self):
+        if not self.application:
+            return ""
+        return f"""
+            impl {self.owned} {{
+                /// Returns the bytes of the message.
+                ///
+                /// # Errors
+                /// - `TooLong`: there would be more than 1,048,576 bytes.
+                /// - `OutOfMemory`: there is no memory.
+                pub fn encode(&self, alloc: Global) -> Result<Vec<u8>, EncodeFault>
+                    ensures {{ IsEncoded {self.kind} ({self.owned_value} self.now) result }}
+                {{
+                    krb_der::encoded(alloc, self)
+                }}
+            }}
+        """
+
+
+def comment(mark, text):
+    return textwrap.fill(text, 100, initial_indent=mark, subsequent_indent=mark, break_on_hyphens=False)
+
+
+# ---- what a file uses
+
+# Names of the definitions, and of the sources, by their modules.
+GHOSTS = {
+    "Rattle.std.specs.Prelude": ["refl", "◌≡◌", "IfOk"],
+    "Rattle.std.specs.Option": ["option_map"],
+    "Rattle.krb_der.specs.Kind": "leaf must may ends field int32 uint32 seq_number microseconds octets string flags time".split(),
+    "Rattle.krb_der.specs.Reading": ["Parses"],
+    "Rattle.krb_der.specs.Writing": ["IsEncoded"],
+}
+PARTS = {
+    "Borrowed": ["name_of", "typed_of", "key_of"],
+    "Fields": "◌▸◌ name_value name_type_of components_of principal_in typed_value type_of bytes_of".split(),
+    "Module": "sequence_of typed principal_name encryption_key checksum host_address authorization_data transited_encoding".split(),
+    "Owned": ["principal_name_of", "owned_name_of", "owned_typed_of", "owned_list_of", "owned_key_of"],
+}
+KIND_WORDS = ["Kind", "sequence", "application", "constant", *GHOSTS["Rattle.krb_der.specs.Kind"]]
+# What the files of specs/ say at their heads.
+SAID = {
+    "Module": [
+        "-- The messages of Kerberos 5 as kinds of elements (RFC 4120, sections 5.2 to 5.9 and appendix A):",
+        "-- each field with its number, and whether it may be absent.",
+    ],
+    "Fields": [
+        "-- The values of messages by the names of their fields (RFC 4120, sections 5.2 to 5.9). For each",
+        "-- kind: the fields that vary; the value that they make, which nests them in pairs, in the order of",
+        "-- their numbers, with a tt for each constant; and each field of a value.",
+    ],
+    "Borrowed": ["-- The values of messages that are read in place: each field by its name."],
+    "Owned": ["-- The values of owned messages: each field by its name."],
+}
+RUST = {
+    "crate::key": ["KeyRef", "RawKey", "owned_key"],
+    "crate::name": ["Name", "NameIn", "NameRef", "owned_name"],
+    "crate::octets": ["octets_bytes", "octets_in", "owned_octets"],
+    "crate::seq_number": ["seq_number_in", "seq_number_of"],
+    "crate::texts": ["owned_text", "text_bytes", "text_in"],
+    "crate::typed": ["Typed", "TypedListRef", "TypedRef", "owned_list", "owned_typed"],
+    "crate": ["message_type", "tag"],
+    "krb_der": """Constant Cursor Element Encode EncodeFault EncodeRow Fault Field Flags Maybe MaybeRef Message Microseconds Octets Row Seconds
+        SeqNumber Text Writer write_application write_sequence""".split(),
+    "krb_name": ["Bytes", "Principal"],
+    "std::alloc": ["AllocError", "Global"],
+    "std::marker": ["PhantomData"],
+}
+
+
+# What an impl or a contract says in the terms of the definitions.
+GHOST = re.compile(r"(?:ghost \w+ = |ensures )\{.*?\}(?:;|$)", re.S | re.M)
+
+
+def words(text):
+    """The words of a text that are no fields, and its relation."""
+    return set(re.findall(r"(?<![.\w])[A-Za-zℕℤ_]\w*", text)) | {f"◌{it}◌" for it in "≡▸" if it in text}
+
+
+def used(names_by_module, text):
+    """Which of these names a text has, by their modules."""
+    there = words(text)
+    found = {module: [it for it in names if it in there] for module, names in names_by_module.items()}
+    return {module: names for module, names in found.items() if names}
+
+
+def source_uses(name, text, messages):
+    """The lines of `use` of a file of src/."""
+    ghosts, rust = GHOST.findall(text), GHOST.sub("", re.sub(r"^\s*//.*", "", text, flags=re.M))
+    specs = {
+        "Borrowed": [it.view_value for it in messages] + PARTS["Borrowed"],
+        "Module": [it.kind for it in messages] + PARTS["Module"],
+        "Owned": [it.owned_value for it in messages] + PARTS["Owned"],
+    }
+    ghosts = used(GHOSTS | {f"Rattle.krb_msg.specs.{it}": names for it, names in specs.items()}, "\n".join(ghosts))
+    modules = {module: list(names) for module, names in RUST.items()}
+    for it in messages:
+        modules.setdefault(f"crate::{it.view_file}", []).append(it.view)
+        modules.setdefault(f"crate::{it.owned_file}", []).append(it.owned)
+    modules.pop(f"crate::{name}", None)
+    lines = [f"ghost use {module}.{{{', '.join(names)}}};" for module, names in ghosts.items()] + [""]
+    for module, names in used(modules, rust).items():
+        lines.append(f"use {module}::{{{', '.join(sorted(names))}}};" if len(names) > 1 else f"use {module}::{names[0]};")
+    return "\n".join(lines)
+
+
+# ---- the files
+
+
+def source(name, doc, messages):
+    """A file of src/."""
+    text = "".join(
+        textwrap.dedent((it.view_text() if it.view_file == name else "") + (it.owned_source() if it.owned_file == name else ""))
+        for it in messages
+    )
+    return f"// {MADE}\n//! {doc}\n\n{source_uses(name, text, messages)}\n\n{text}"
+
+
+def definition_file(said, uses, again, body):
+    """A file of specs/, which also exports what a file that is written by hand defines."""
+    lines = [f"-- {MADE}", *said]
+    parts = {f"Rattle.krb_msg.specs.{module}": names for module, names in again.items()}
+    lines += [f"use {module}.{{{', '.join(names)}}}" for module, names in used(uses | parts, body).items()]
+    lines += [f"pub use {module}.{{{', '.join(names)}}}" for module, names in parts.items()]
+    return "\n".join(lines) + f"\n\n{body}"
+
+
+def structs(places):
+    return {f"Rattle.krb_msg.specs.declared.{file}.{struct}": [struct] for file, struct in places}
+
+
+def definitions(messages):
+    """The files of specs/, by their names."""
+    kinds = [it.kind for it in messages]
+    types = "\n".join(f"  is_{it.kind} : IsMessageKind {it.kind}" for it in messages if it.application)
+    alone = f"\n-- the messages, each of which comes alone\npub data IsMessageKind : Kind → Type 0 where\n{types}\n"
+    of_kind = {"Rattle.krb_der.specs.Kind": ["leaf", "octets", "ValueOf"]}
+    of_fields = {
+        "Rattle.std.specs.Prelude": ["ℕ", "ℤ", "List", "Option"],
+        "Rattle.krb_name.specs.declared.principal.Principal": ["Principal"],
+        **of_kind,
+        "Rattle.krb_msg.specs.Module": kinds + PARTS["Module"],
+    }
+    of_values = {
+        "Rattle.std.specs.Option": ["option_map"],
+        **of_kind,
+        "Rattle.krb_msg.specs.Fields": [f"{it.short}_value" for it in messages],
+        "Rattle.krb_msg.specs.Module": kinds,
+    }
+    views, owned = structs((it.view_file, it.view) for it in messages), structs((it.owned_file, it.owned) for it in messages)
+    return {
+        "Module": definition_file(
+            SAID["Module"], {"Rattle.krb_der.specs.Kind": KIND_WORDS}, {"Parts": PARTS["Module"]}, "\n".join(it.kind_text() for it in messages) + alone
+        ),
+        "Fields": definition_file(SAID["Fields"], of_fields, {"Parts": PARTS["Fields"]}, "\n".join(it.fields_text() for it in messages)),
+        "Borrowed": definition_file(
+            SAID["Borrowed"], of_values | views, {"PartsBorrowed": PARTS["Borrowed"]}, "\n".join(it.borrowed_text() for it in messages)
+        ),
+        "Owned": definition_file(SAID["Owned"], of_values | owned, {"PartsOwned": PARTS["Owned"]}, "\n".join(it.owned_text() for it in messages)),
+    }
+
+
+def files():
+    """The text of each file before it is laid out, by its path in the crate."""
+    table = tomllib.loads((CRATE / "messages.toml").read_text())
+    messages = [Message(**it) for it in table["message"]]
+    sources = {f"src/{name}.rt": source(name, doc, messages) for name, doc in table["files"].items()}
+    return sources | {f"specs/{name}.antt": text for name, text in definitions(messages).items()}
+
+
+def laid_out(texts):
+    """The texts of files in the layout of `rt fmt`."""
+    with tempfile.TemporaryDirectory() as room:
+        folder = pathlib.Path(room)
+        for path, text in texts.items():
+            (folder / path).parent.mkdir(exist_ok=True)
+            (folder / path).write_text(text)
+        subprocess.run([RATTLE, "fmt", "--write", *texts], cwd=folder, check=True, stdout=subprocess.DEVNULL)
+        return {path: (folder / path).read_text() for path in texts}
+
+
+def difference(path, wanted):
+    """What is wrong with a file, or None."""
+    found = (CRATE / path).read_text() if (CRATE / path).exists() else ""
+    if found == wanted:
+        return None
+    pairs = itertools.zip_longest(found.splitlines(), wanted.splitlines())
+    at, (has, should) = next((at, it) for at, it in enumerate(pairs, 1) if it[0] != it[1])
+    return f"crates/krb_msg/{path}, line {at}: {has!r} isn't {should!r}, as packaging/messages.py makes it of messages.toml"
+
+
+def main(words):
+    if words not in ([], ["--check"]):
+        sys.exit(__doc__)
+    for path, text in laid_out(files()).items():
+        if not words:
+            (CRATE / path).write_text(text)
+        elif wrong := difference(path, text):
+            sys.exit(wrong)
+
+
+if __name__ == "__main__":
+    main(sys.argv[1:])
