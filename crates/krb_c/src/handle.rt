@@ -1,18 +1,17 @@
 //! The handle of a service.
 
 ghost use Rattle.std.specs.Prelude.{◌≡◌, Option, Some, None};
-ghost use Rattle.std.specs.Option.{option_map, MatchOption};
+ghost use Rattle.std.specs.Option.{MatchOption};
 ghost use Rattle.std.specs.Coded.{coded_option};
 ghost use Rattle.krb_c.specs.Handle.{handle_owns};
 ghost use Rattle.krb_c.specs.contracts.login.Login.{the_row as login_row};
 ghost use Rattle.krb_c.specs.declared.login.Login.{Login};
 
-use crate::held::Held;
 use crate::login::Login;
+use crate::place::Place;
 use std::alloc::Global;
 use std::marker::Model;
 use std::mem::replace;
-use std::ptr::null_mut;
 
 /// The handle.
 #[repr(C)]
@@ -27,56 +26,44 @@ impl Model for Handle {
 }
 
 impl Handle {
-    pub(crate) fn empty(alloc: Global) -> Handle
-        ensures { result.value ≡ None }
+    fn of_place(place: Place<Login>) -> Handle
+        ensures { result.value ≡ place.value }
     {
-        Handle {
-            at: null_mut(),
-            alloc,
-        }
-    }
-
-    fn of_held(held: Held<Login, Global>) -> Handle
-        ensures { result.value ≡ Some held.value }
-    {
-        let Held { at, alloc } = held;
+        let Place { at, alloc } = place;
         Handle {
             at: at as *mut u8,
             alloc,
         }
     }
 
-    fn into_held(self) -> Option<Held<Login, Global>>
-        ensures { MatchOption result (self.value ≡ None) (λ held. self.value ≡ Some held.value) }
+    fn into_place(self) -> Place<Login>
+        ensures { result.value ≡ self.value }
     {
         let Handle { at, alloc } = self;
-        if at.is_null() {
-            None
-        } else {
-            Some(Held {
-                at: at as *mut Login,
-                alloc,
-            })
+        Place {
+            at: at as *mut Login,
+            alloc,
         }
+    }
+
+    pub(crate) fn empty(alloc: Global) -> Handle
+        ensures { result.value ≡ None }
+    {
+        Handle::of_place(Place::empty(alloc))
     }
 
     pub(crate) fn of(value: Box<Login>) -> Handle
         ensures { result.value ≡ Some value.value }
     {
-        Handle::of_held(Held::of(value))
+        Handle::of_place(Place::of(value))
     }
 
     pub(crate) fn into_box(self) -> Option<Box<Login>>
         ensures { MatchOption result (self.value ≡ None) (λ b. self.value ≡ Some b.value) }
     {
-        match self.into_held() {
-            None => None,
-            Some(held) => Some(held.into_box()),
-        }
+        self.into_place().into_box()
     }
-}
 
-impl Handle {
     /// Takes what the handle holds. The handle is empty then.
     pub(crate) fn take(&mut self, alloc: Global) -> Option<Box<Login>>
         ensures empty { self.new.value ≡ None }
