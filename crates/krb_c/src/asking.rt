@@ -5,7 +5,7 @@ ghost use Rattle.std.specs.Option.{MatchOption};
 ghost use Rattle.krb_ccache.specs.Format.{IsCache};
 ghost use Rattle.krb_name.specs.Reading.{IsReadAs};
 ghost use Rattle.krb_c.specs.Answer.{plain};
-ghost use Rattle.krb_c.specs.Asking.{Asks, HasCacheFault, IsAskFault, IsNameFault, Keeps, Sends, ask, context_for, cache_answer, name_answer, request_answer};
+ghost use Rattle.krb_c.specs.Asking.{HasCacheFault, IsAskFault, IsNameFault, IsRequestFor, Keeps, Sends, ask, context_for, cache_answer, name_answer, request_answer};
 ghost use Rattle.krb_c.specs.Codes.{empty_handle};
 
 use crate::answer::{Answer, Time, hand_over};
@@ -193,7 +193,7 @@ fn asked(
     cache: &mut Initiator,
     given: &Arguments<'_>,
 ) -> Result<(Vec<u8>, Box<Pending>), Answer>
-    ensures asks { IfOk result (λ made. Asks (ask cache.old given.now.service.now given.now.at.now given.now.choice.now given.now.subkey.now given.now.context) given.now.confounder.now made.0.items made.1.value) }
+    ensures asks { IfOk result (λ made. IsRequestFor (ask cache.old given.now.service.now given.now.at.now given.now.choice.now given.now.subkey.now given.now.context) given.now.confounder.now made.0.items made.1.value) }
     ensures fault { IfErr result (λ answer. IsAskFault (ask cache.old given.now.service.now given.now.at.now given.now.choice.now given.now.subkey.now given.now.context) given.now.confounder.now answer) }
     ensures kept { cache.new ≡ cache.old }
 {

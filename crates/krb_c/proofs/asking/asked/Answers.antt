@@ -1,13 +1,13 @@
 use Rattle.std.proofs.Common.{inr, refl, subst, sym}
 use Rattle.krb_ap.specs.Request.{Awaited}
 use Rattle.krb_ap.specs.declared.request_fault.RequestFault.TheVariants.{OutOfMemory}
-use Rattle.krb_c.specs.Asking.{Asks, ask, moment_of}
+use Rattle.krb_c.specs.Asking.{IsRequestFor, ask, moment_of}
 use Rattle.krb_c.proofs.Requests.{request_at, requested_ticket}
 use Rattle.krb_c.proofs.asking.asked.Goals as goal
 
 pub returns-in-Ok-new-clause-asks : goal.returns-in-Ok-new-clause-asks
 returns-in-Ok-new-clause-asks c =
-    subst (λ (awaited : Awaited). Asks (ask c.args.cache.now c.args.given.now.service.now c.args.given.now.at.now c.args.given.now.choice.now c.args.given.now.subkey.now c.args.given.now.context) c.args.given.now.confounder.now
+    subst (λ (awaited : Awaited). IsRequestFor (ask c.args.cache.now c.args.given.now.service.now c.args.given.now.at.now c.args.given.now.choice.now c.args.given.now.subkey.now c.args.given.now.context) c.args.given.now.confounder.now
     c.in-Ok-make_request.made.0.items awaited) (sym c.in-Ok-new.ensures.ok) (record {
       service = c.in-Ok.service;
       options = record { «mutual» = c.args.given.now.choice.now.wants_reply; subkey = c.in-Ok-subkey.subkey; seq = c.seq.result; context = c.args.given.now.context };

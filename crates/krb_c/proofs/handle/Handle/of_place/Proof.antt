@@ -5,7 +5,7 @@ use contract.Monad.{fact_i}
 use denote.Exit.{yes}
 use denote.Signature.{plain}
 use Rattle.core.proofs.alloc.Calls.{Goes-blank}
-use Rattle.krb_c.specs.contracts.login.Login.{the_row as V}
+use Rattle.krb_c.specs.contracts.service_state.ServiceState.{the_row as V}
 use Rattle.krb_c.specs.contracts.place.Place as place
 use Rattle.krb_c.specs.contracts.handle.Handle as handle
 use Rattle.krb_c.specs.contracts.handle.Handle.of_place.{clauses}

@@ -4,7 +4,7 @@ use Rattle.std.specs.Prelude.{Option}
 use Rattle.krb_ap.specs.declared.refusal.Refusal.{Refusal}
 use Rattle.krb_c.specs.Answer.{Hands}
 use Rattle.krb_c.specs.Refusing.{Errors, IsErrorFault, TellsError}
-use Rattle.krb_c.proofs.login.Login.error.Goals as goal
+use Rattle.krb_c.proofs.service_state.ServiceState.error.Goals as goal
 
 pub returns-in-Ok : goal.returns-in-Ok
 returns-in-Ok c = subst (λ (refusal : Option Refusal). TellsError refusal c.args.service.now c.args.name_type c.args.now.now c.args.buffer.now c.hand_over.new.buffer c.hand_over.result)

@@ -18,12 +18,12 @@ use std::alloc::Global;
 
 /// A service that accepts requests, and why it refused the last one, if it did.
 #[derive(Drop)]
-pub struct Login {
+pub struct ServiceState {
     pub acceptor: Acceptor<TimedMemory>,
     pub refusal: Option<Refusal>,
 }
 
-impl Login {
+impl ServiceState {
     /// Decides about a request, and keeps what is accepted, or why it is refused.
     pub(crate) fn decide(
         &mut self,
@@ -41,7 +41,7 @@ impl Login {
     }
 
     fn keep(&mut self, kept: &mut Kept, accepted: Accepted) -> Answer
-        ensures login { self.new ≡ record { acceptor = self.old.acceptor; refusal = None } }
+        ensures state { self.new ≡ record { acceptor = self.old.acceptor; refusal = None } }
         ensures kept { kept.new ≡ record { accepted = Some accepted } }
         ensures answer { result ≡ plain ok }
     {
@@ -51,7 +51,7 @@ impl Login {
     }
 
     fn refuse(&mut self, kept: &mut Kept, refusal: Refusal) -> Answer
-        ensures login { self.new ≡ record { acceptor = self.old.acceptor; refusal = Some refusal } }
+        ensures state { self.new ≡ record { acceptor = self.old.acceptor; refusal = Some refusal } }
         ensures kept { kept.new ≡ record { accepted = None } }
         ensures answer { result ≡ refused refusal }
     {
