@@ -1,9 +1,6 @@
 mod Values
-mod Handles
-mod Slots
-mod CacheHandles
-mod KeytabHandles
-mod PendingHandles
+mod Places
+mod Moved
 mod Making
 mod Requests
 mod Truth

@@ -15,7 +15,7 @@ use Rattle.krb_c.specs.Accepting.{IsFresh, Serves, fresh}
 use Rattle.krb_c.specs.Asking.{HasCache}
 use Rattle.krb_c.specs.Editing.{HasKeytab}
 use Rattle.krb_c.specs.declared.answer.Answer.{Answer}
-use Rattle.krb_c.specs.declared.login.Login.{Login}
+use Rattle.krb_c.specs.declared.service_state.ServiceState.{ServiceState}
 
 abbrev fault_or : {X E : Type 0} → E → Result X E → E
 fault_or e (Ok x) = e
@@ -65,12 +65,12 @@ keytab_there bytes f (Err fault) is faulty want = absurd (subst (IsKeytabFaultOf
 
 pub fresh_of : (a : Service Memory) (entries found : List KeytabEntry) (skew micros : ℕ) (start : Option ℤ) (memory : Memory)
     → a.setup ≡ record { entries = found; skew = skew; start = start } → a.memory ≡ memory → memory ≡ record { stamps = []; latest = None }
-    → found ≡ entries → skew ≡ micros → ◌≡◌ {A = Login} (record { acceptor = a; refusal = None }) (fresh entries micros start)
+    → found ≡ entries → skew ≡ micros → ◌≡◌ {A = ServiceState} (record { acceptor = a; refusal = None }) (fresh entries micros start)
 fresh_of a entries found skew micros start memory s m n e k =
     λ i. record { acceptor = record { setup = (s ∙ (λ j. record { entries = e j; skew = k j; start = start })) i; memory = (m ∙ n) i }; refusal = None }
 
 pub is_fresh : (a : Service Memory) (text : List ℕ) (entries found kept : List KeytabEntry) (skew micros : ℕ) (start : Option ℤ) (memory : Memory)
-    (login : Login) → a.setup ≡ record { entries = kept; skew = skew; start = start } → a.memory ≡ memory → memory ≡ record { stamps = []; latest = None }
-    → found ≡ entries → skew ≡ micros → Serves text found kept → login ≡ record { acceptor = a; refusal = None } → IsFresh text entries micros start login
-is_fresh a text entries found kept skew micros start memory login s m n e k serves made =
+    (state : ServiceState) → a.setup ≡ record { entries = kept; skew = skew; start = start } → a.memory ≡ memory → memory ≡ record { stamps = []; latest = None }
+    → found ≡ entries → skew ≡ micros → Serves text found kept → state ≡ record { acceptor = a; refusal = None } → IsFresh text entries micros start state
+is_fresh a text entries found kept skew micros start memory state s m n e k serves made =
     (kept, (subst (λ (es : List KeytabEntry). Serves text es kept) e serves, made ∙ fresh_of a kept kept skew micros start memory s m n refl k))

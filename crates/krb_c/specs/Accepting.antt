@@ -23,22 +23,22 @@ use Rattle.krb_c.specs.Codes.{nothing_there, ok}
 use Rattle.krb_c.specs.declared.answer.Answer.{Answer}
 use Rattle.krb_c.specs.declared.answer.Time.{Time}
 use Rattle.krb_c.specs.declared.kept.Kept.{Kept}
-use Rattle.krb_c.specs.declared.login.Login.{Login}
+use Rattle.krb_c.specs.declared.service_state.ServiceState.{ServiceState}
 
 -- what it has seen, and the latest moment that it was given
-abbrev pub Remembers : Login → Stamp → Type 0
-Remembers login = Contains login.acceptor.memory.stamps
+abbrev pub Remembers : ServiceState → Stamp → Type 0
+Remembers state = Contains state.acceptor.memory.stamps
 
-abbrev pub latest_of : Login → Option ℤ
-latest_of login = login.acceptor.memory.latest
+abbrev pub latest_of : ServiceState → Option ℤ
+latest_of state = state.acceptor.memory.latest
 
 -- its memory stands for what it was given before
-abbrev pub Stands : Login → List Arrival → Type 0
-Stands login history = StandsFor login.acceptor.setup (Remembers login) (latest_of login) history
+abbrev pub Stands : ServiceState → List Arrival → Type 0
+Stands state history = StandsFor state.acceptor.setup (Remembers state) (latest_of state) history
 
 -- it is new: it has these entries, a skew of so many microseconds, and the moment at which it was
 -- started again, if it ran before; it has seen nothing, and has refused nothing
-abbrev pub fresh : List KeytabEntry → ℕ → Option ℤ → Login
+abbrev pub fresh : List KeytabEntry → ℕ → Option ℤ → ServiceState
 fresh entries skew start = record {
   acceptor = record { setup = record { entries = entries; skew = skew; start = start }; memory = record { stamps = []; latest = None } };
   refusal = None;
@@ -51,8 +51,8 @@ Serves [] entries kept = kept ≡ entries
 Serves (byte ∷ text) entries kept = (name : Principal) × (IsReadAs (byte ∷ text) (Ok name) × KeepsOnly name entries kept)
 
 -- it is new, and decides by the entries of the wanted service
-abbrev pub IsFresh : List ℕ → List KeytabEntry → ℕ → Option ℤ → Login → Type 0
-IsFresh text entries skew start login = (kept : List KeytabEntry) × (Serves text entries kept × (login ≡ fresh kept skew start))
+abbrev pub IsFresh : List ℕ → List KeytabEntry → ℕ → Option ℤ → ServiceState → Type 0
+IsFresh text entries skew start state = (kept : List KeytabEntry) × (Serves text entries kept × (state ≡ fresh kept skew start))
 
 -- what an accepted request is remembered by
 abbrev pub stamp_told : Accepted → Stamp
@@ -69,8 +69,8 @@ refused_by (Ok accepted) = None
 refused_by (Err refusal) = Some refusal
 
 -- it refused nothing last, and is otherwise unchanged
-abbrev pub cleared : Login → Login
-cleared login = record { acceptor = login.acceptor; refusal = None }
+abbrev pub cleared : ServiceState → ServiceState
+cleared state = record { acceptor = state.acceptor; refusal = None }
 
 -- nothing accepted is kept
 abbrev pub nothing_kept : Kept
@@ -96,7 +96,7 @@ TellsLatest (Some at) old new answer = (answer ≡ plain ok) × ((at ≡ micros_
 
 -- A call is decided: this is the outcome, what is known afterwards, what is kept of it, and what is
 -- answered.
-pub record Decides (old new : Login) (call : Arrival) (kept : Option Accepted) (answer : Answer) : Type 0 where
+pub record Decides (old new : ServiceState) (call : Arrival) (kept : Option Accepted) (answer : Answer) : Type 0 where
   pub outcome : Result Accepted Refusal
   pub answers : (history : List Arrival) → Stands old history → Answers old.acceptor.setup history call outcome
   pub goes_on : (history : List Arrival) → Stands old history → Stands new (after history call outcome)

@@ -113,7 +113,8 @@ pub record IsAsked (a : Ask) (service : Principal) (options : RequestOptions) : 
 
 -- ---- the request
 
-pub record Asks (a : Ask) (confounder bytes : List ℕ) (awaited : Awaited) : Type 0 where
+-- the bytes are a request for what is passed, and this is awaited of the reply
+pub record IsRequestFor (a : Ask) (confounder bytes : List ℕ) (awaited : Awaited) : Type 0 where
   pub service : Principal
   pub options : RequestOptions
   pub asked : IsAsked a service options
@@ -146,7 +147,7 @@ IsAskFault a confounder answer =
 -- is unchanged
 abbrev pub Sends : Ask → List ℕ → Option Awaited → Option Awaited → List ℕ → List ℕ → Answer → Type 0
 Sends a confounder was is old new answer =
-    ((bytes : List ℕ) × ((awaited : Awaited) × (Asks a confounder bytes awaited × ((is ≡ Some awaited) × Hands bytes old new answer))))
+    ((bytes : List ℕ) × ((awaited : Awaited) × (IsRequestFor a confounder bytes awaited × ((is ≡ Some awaited) × Hands bytes old new answer))))
     ⊎ (IsAskFault a confounder answer × ((is ≡ was) × (new ≡ old)))
 
 -- the bytes are a cache, which is kept, and how many credentials it has; or the reason is reported,

@@ -20,7 +20,7 @@ use crate::asking::name_of;
 use crate::code;
 use crate::handle::Handle;
 use crate::kept::Kept;
-use crate::login::Login;
+use crate::service_state::ServiceState;
 use crate::slot::Slot;
 use krb_ap::Acceptor;
 use krb_keytab::Keytab;
@@ -42,16 +42,16 @@ pub extern "C" fn fevstunik_acceptor_new(
 ) -> Answer
     ensures skew { (result ≡ plain bad_skew) ↔ (86_400 < skew) }
     ensures made { (entries : List KeytabEntry) → skew ≤ 86_400 → IsKeytab keytab.now entries
-        → ((result ≡ plain ok) × IsSomeAnd handle.new.value (λ login. IsFresh service.now entries (1_000_000 * skew) None login))
+        → ((result ≡ plain ok) × IsSomeAnd handle.new.value (λ state. IsFresh service.now entries (1_000_000 * skew) None state))
         ⊎ (IsUnnamed service.now result ⊎ (result ≡ plain out_of_memory)) }
-    ensures stands { result ≡ plain ok → IsSomeAnd handle.new.value (λ login. Stands login []) }
+    ensures stands { result ≡ plain ok → IsSomeAnd handle.new.value (λ state. Stands state []) }
     ensures fault { (fault : KeytabFault) → skew ≤ 86_400 → IsFaultOf keytab.now fault
         → result ≡ keytab_answer fault }
     ensures unchanged { result ≢ plain ok → handle.new.value ≡ handle.old.value }
 {
     match service_of(alloc, keytab, skew, service, None) {
-        Ok(login) => {
-            *handle = Handle::of(login);
+        Ok(state) => {
+            *handle = Handle::of(state);
             Answer::plain(code::OK)
         }
         Err(answer) => answer,
@@ -74,9 +74,9 @@ pub extern "C" fn fevstunik_acceptor_started(
     ensures skew { IsMomentOf start.now → ((result ≡ plain bad_skew) ↔ (86_400 < skew)) }
     ensures made { (entries : List KeytabEntry) → IsMomentOf start.now → skew ≤ 86_400 → IsKeytab keytab.now entries
         → ((result ≡ plain ok) × IsSomeAnd handle.new.value
-        (λ login. IsFresh service.now entries (1_000_000 * skew) (Some (micros_of start.now.seconds start.now.micros)) login))
+        (λ state. IsFresh service.now entries (1_000_000 * skew) (Some (micros_of start.now.seconds start.now.micros)) state))
         ⊎ (IsUnnamed service.now result ⊎ (result ≡ plain out_of_memory)) }
-    ensures stands { result ≡ plain ok → IsSomeAnd handle.new.value (λ login. Stands login []) }
+    ensures stands { result ≡ plain ok → IsSomeAnd handle.new.value (λ state. Stands state []) }
     ensures fault { (fault : KeytabFault) → IsMomentOf start.now → skew ≤ 86_400 → IsFaultOf keytab.now fault
         → result ≡ keytab_answer fault }
     ensures unchanged { result ≢ plain ok → handle.new.value ≡ handle.old.value }
@@ -86,8 +86,8 @@ pub extern "C" fn fevstunik_acceptor_started(
         None => return Answer::plain(code::BAD_MOMENT),
     };
     match service_of(alloc, keytab, skew, service, Some(start)) {
-        Ok(login) => {
-            *handle = Handle::of(login);
+        Ok(state) => {
+            *handle = Handle::of(state);
             Answer::plain(code::OK)
         }
         Err(answer) => answer,
@@ -100,14 +100,14 @@ fn service_of(
     skew: u32,
     service: &[u8],
     start: Option<Moment>,
-) -> Result<Box<Login>, Answer>
+) -> Result<Box<ServiceState>, Answer>
     ensures skew { IsErrOf result (plain bad_skew) ↔ (86_400 < skew) }
     ensures made { (entries : List KeytabEntry) → skew ≤ 86_400 → IsKeytab keytab.now entries
-        → MatchResult result (λ login. IsFresh service.now entries (1_000_000 * skew) start login.value)
+        → MatchResult result (λ state. IsFresh service.now entries (1_000_000 * skew) start state.value)
         (λ answer. IsUnnamed service.now answer ⊎ (answer ≡ plain out_of_memory)) }
     ensures fault { (fault : KeytabFault) → skew ≤ 86_400 → IsFaultOf keytab.now fault
         → result ≡ Err (keytab_answer fault) }
-    ensures stands { IfOk result (λ login. Stands login.value []) }
+    ensures stands { IfOk result (λ state. Stands state.value []) }
     ensures refused { IfErr result (λ answer. answer ≢ plain ok) }
 {
     let skew = match Skew::new(skew) {
@@ -122,12 +122,12 @@ fn service_of(
         Ok(keytab) => keytab,
         Err(answer) => return Err(answer),
     };
-    let login = Login {
+    let state = ServiceState {
         acceptor: acceptor_of(alloc, keytab, skew, start),
         refusal: None,
     };
-    match Box::new(alloc, login) {
-        Ok(login) => Ok(login),
+    match Box::new(alloc, state) {
+        Ok(state) => Ok(state),
         Err(_) => Err(Answer::plain(code::OUT_OF_MEMORY)),
     }
 }
@@ -212,9 +212,9 @@ fn decided(
         (λ old new. Decides old new (arrival request.now now) kept.new.accepted result) }
 {
     match handle.take(alloc) {
-        Some(mut login) => {
-            let answer = login.decide(alloc, kept, request, now);
-            *handle = Handle::of(login);
+        Some(mut state) => {
+            let answer = state.decide(alloc, kept, request, now);
+            *handle = Handle::of(state);
             answer
         }
         None => {
@@ -229,9 +229,9 @@ fn clear(handle: &mut Handle, alloc: Global)
     ensures { handle.new.value ≡ option_map cleared handle.old.value }
 {
     match handle.take(alloc) {
-        Some(mut login) => {
-            login.clear();
-            *handle = Handle::of(login);
+        Some(mut state) => {
+            state.clear();
+            *handle = Handle::of(state);
         }
         None => {}
     }
@@ -262,13 +262,13 @@ pub extern "C" fn fevstunik_acceptor_error(
     buffer: &mut [u8],
 ) -> Answer
     ensures error { MatchOption handle.old.value ((result ≡ plain empty_handle) × (buffer.new ≡ buffer.old))
-        (λ login. TellsError login.refusal service.now name_type now.now buffer.old buffer.new result) }
+        (λ state. TellsError state.refusal service.now name_type now.now buffer.old buffer.new result) }
     ensures stays { handle.new.value ≡ handle.old.value }
 {
     match handle.take(alloc) {
-        Some(login) => {
-            let answer = login.error(alloc, service, name_type, now, buffer);
-            *handle = Handle::of(login);
+        Some(state) => {
+            let answer = state.error(alloc, service, name_type, now, buffer);
+            *handle = Handle::of(state);
             answer
         }
         None => Answer::plain(code::EMPTY_HANDLE),
@@ -278,13 +278,13 @@ pub extern "C" fn fevstunik_acceptor_error(
 /// Counts what is remembered. An empty handle remembers nothing.
 #[unsafe(no_mangle)]
 pub extern "C" fn fevstunik_acceptor_count(handle: &mut Handle, alloc: Global) -> usize
-    ensures count { MatchOption handle.old.value (result ≡ 0) (λ login. IsSizeOf (Remembers login) result) }
+    ensures count { MatchOption handle.old.value (result ≡ 0) (λ state. IsSizeOf (Remembers state) result) }
     ensures stays { handle.new.value ≡ handle.old.value }
 {
     match handle.take(alloc) {
-        Some(login) => {
-            let count = login.acceptor.memory().len();
-            *handle = Handle::of(login);
+        Some(state) => {
+            let count = state.acceptor.memory().len();
+            *handle = Handle::of(state);
             count
         }
         None => 0,
@@ -300,13 +300,13 @@ pub extern "C" fn fevstunik_acceptor_latest(
     latest: &mut Time,
 ) -> Answer
     ensures latest { MatchOption handle.old.value ((result ≡ plain empty_handle) × (latest.new ≡ latest.old))
-        (λ login. TellsLatest (latest_of login) latest.old latest.new result) }
+        (λ state. TellsLatest (latest_of state) latest.old latest.new result) }
     ensures stays { handle.new.value ≡ handle.old.value }
 {
     match handle.take(alloc) {
-        Some(login) => {
-            let answer = login.tell_latest(latest);
-            *handle = Handle::of(login);
+        Some(state) => {
+            let answer = state.tell_latest(latest);
+            *handle = Handle::of(state);
             answer
         }
         None => Answer::plain(code::EMPTY_HANDLE),

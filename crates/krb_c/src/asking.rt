@@ -5,7 +5,7 @@ ghost use Rattle.std.specs.Option.{MatchOption};
 ghost use Rattle.krb_ccache.specs.Format.{IsCache};
 ghost use Rattle.krb_name.specs.Reading.{IsReadAs};
 ghost use Rattle.krb_c.specs.Answer.{plain};
-ghost use Rattle.krb_c.specs.Asking.{Asks, HasCacheFault, IsAskFault, IsNameFault, Keeps, Sends, ask, context_for, cache_answer, name_answer, request_answer};
+ghost use Rattle.krb_c.specs.Asking.{HasCacheFault, IsAskFault, IsNameFault, IsRequestFor, Keeps, Sends, ask, context_for, cache_answer, name_answer, request_answer};
 ghost use Rattle.krb_c.specs.Codes.{empty_handle};
 
 use crate::answer::{Answer, Time, hand_over};
@@ -77,9 +77,15 @@ pub extern "C" fn fevstunik_request(
         (λ held. Sends (ask held service.now at.now choice.now subkey.now None) confounder.now pending.old.value pending.new.value buffer.old buffer.new result) }
     ensures stays { cache.new.value ≡ cache.old.value }
 {
-    request_by(
-        cache, pending, alloc, service, at, confounder, choice, subkey, None, buffer,
-    )
+    let given = Arguments {
+        service,
+        at,
+        confounder,
+        choice,
+        subkey,
+        context: None,
+    };
+    request_by(cache, pending, alloc, &given, buffer)
 }
 
 /// What a client of GSS-API asks for.
@@ -117,43 +123,44 @@ pub extern "C" fn fevstunik_context_request(
         flags: context.flags,
         bindings: context.bindings,
     };
-    request_by(
-        cache,
-        pending,
-        alloc,
+    let given = Arguments {
         service,
         at,
         confounder,
         choice,
         subkey,
-        Some(context),
-        buffer,
-    )
+        context: Some(context),
+    };
+    request_by(cache, pending, alloc, &given, buffer)
+}
+
+// What C passes for a request, besides the handles and the buffer.
+#[derive(Drop)]
+struct Arguments<'a> {
+    service: &'a [u8],
+    at: &'a Time,
+    confounder: &'a [u8],
+    choice: &'a Choice,
+    subkey: &'a [u8],
+    context: Option<ContextRequest>,
 }
 
 fn request_by(
     cache: &mut CacheHandle,
     pending: &mut PendingHandle,
     alloc: Global,
-    service: &[u8],
-    at: &Time,
-    confounder: &[u8],
-    choice: &Choice,
-    subkey: &[u8],
-    context: Option<ContextRequest>,
+    given: &Arguments<'_>,
     buffer: &mut [u8],
 ) -> Answer
     ensures sent { MatchOption cache.old.value
         ((result ≡ plain empty_handle) × ((pending.new.value ≡ pending.old.value) × (buffer.new ≡ buffer.old)))
-        (λ held. Sends (ask held service.now at.now choice.now subkey.now context)
-        confounder.now pending.old.value pending.new.value buffer.old buffer.new result) }
+        (λ held. Sends (ask held given.now.service.now given.now.at.now given.now.choice.now given.now.subkey.now given.now.context)
+        given.now.confounder.now pending.old.value pending.new.value buffer.old buffer.new result) }
     ensures stays { cache.new.value ≡ cache.old.value }
 {
     match cache.take(alloc) {
         Some(mut held) => {
-            let answer = send(
-                alloc, &mut held, pending, service, at, confounder, choice, subkey, context, buffer,
-            );
+            let answer = send(alloc, &mut held, pending, given, buffer);
             *cache = CacheHandle::of(held);
             answer
         }
@@ -165,20 +172,13 @@ fn send(
     alloc: Global,
     cache: &mut Initiator,
     pending: &mut PendingHandle,
-    service: &[u8],
-    at: &Time,
-    confounder: &[u8],
-    choice: &Choice,
-    subkey: &[u8],
-    context: Option<ContextRequest>,
+    given: &Arguments<'_>,
     buffer: &mut [u8],
 ) -> Answer
-    ensures sent { Sends (ask cache.old service.now at.now choice.now subkey.now context) confounder.now pending.old.value pending.new.value buffer.old buffer.new result }
+    ensures sent { Sends (ask cache.old given.now.service.now given.now.at.now given.now.choice.now given.now.subkey.now given.now.context) given.now.confounder.now pending.old.value pending.new.value buffer.old buffer.new result }
     ensures kept { cache.new ≡ cache.old }
 {
-    match asked(
-        alloc, cache, service, at, confounder, choice, subkey, context,
-    ) {
+    match asked(alloc, cache, given) {
         Ok((bytes, kept)) => {
             *pending = PendingHandle::of(kept);
             hand_over(bytes.as_slice(), buffer)
@@ -191,38 +191,33 @@ fn send(
 fn asked(
     alloc: Global,
     cache: &mut Initiator,
-    service: &[u8],
-    at: &Time,
-    confounder: &[u8],
-    choice: &Choice,
-    subkey: &[u8],
-    context: Option<ContextRequest>,
+    given: &Arguments<'_>,
 ) -> Result<(Vec<u8>, Box<Pending>), Answer>
-    ensures asks { IfOk result (λ made. Asks (ask cache.old service.now at.now choice.now subkey.now context) confounder.now made.0.items made.1.value) }
-    ensures fault { IfErr result (λ answer. IsAskFault (ask cache.old service.now at.now choice.now subkey.now context) confounder.now answer) }
+    ensures asks { IfOk result (λ made. IsRequestFor (ask cache.old given.now.service.now given.now.at.now given.now.choice.now given.now.subkey.now given.now.context) given.now.confounder.now made.0.items made.1.value) }
+    ensures fault { IfErr result (λ answer. IsAskFault (ask cache.old given.now.service.now given.now.at.now given.now.choice.now given.now.subkey.now given.now.context) given.now.confounder.now answer) }
     ensures kept { cache.new ≡ cache.old }
 {
-    let service = match name_of(alloc, service) {
+    let service = match name_of(alloc, given.service) {
         Ok(service) => service,
         Err(answer) => return Err(answer),
     };
-    let now = match at.moment() {
+    let now = match given.at.moment() {
         Some(now) => now,
         None => return Err(Answer::plain(code::BAD_MOMENT)),
     };
-    let confounder = match block_of(confounder) {
+    let confounder = match block_of(given.confounder) {
         Ok(confounder) => confounder,
         Err(answer) => return Err(answer),
     };
-    let subkey = match choice.subkey(subkey) {
+    let subkey = match given.choice.subkey(given.subkey) {
         Ok(subkey) => subkey,
         Err(answer) => return Err(answer),
     };
     let options = RequestOptions {
-        mutual: choice.wants_reply,
+        mutual: given.choice.wants_reply,
         subkey,
-        seq: choice.seq(),
-        context,
+        seq: given.choice.seq(),
+        context: given.context,
     };
     let (bytes, pending) = match cache.make_request(alloc, &service, now, &confounder, options) {
         Ok(made) => made,

@@ -1,18 +1,17 @@
 //! The handle of a credential cache.
 
 ghost use Rattle.std.specs.Prelude.{◌≡◌, Option, Some, None};
-ghost use Rattle.std.specs.Option.{option_map, MatchOption};
+ghost use Rattle.std.specs.Option.{MatchOption};
 ghost use Rattle.std.specs.Coded.{coded_option};
 ghost use Rattle.krb_c.specs.Handle.{handle_owns};
 ghost use Rattle.krb_ap.specs.contracts.initiator.Initiator.{the_row as cache_row};
 ghost use Rattle.krb_ccache.specs.Value.{Cache};
 
-use crate::held::Held;
+use crate::place::Place;
 use krb_ap::Initiator;
 use std::alloc::Global;
 use std::marker::Model;
 use std::mem::replace;
-use std::ptr::null_mut;
 
 /// The handle.
 #[repr(C)]
@@ -27,56 +26,44 @@ impl Model for CacheHandle {
 }
 
 impl CacheHandle {
-    pub(crate) fn empty(alloc: Global) -> CacheHandle
-        ensures { result.value ≡ None }
+    fn of_place(place: Place<Initiator>) -> CacheHandle
+        ensures { result.value ≡ place.value }
     {
-        CacheHandle {
-            at: null_mut(),
-            alloc,
-        }
-    }
-
-    fn of_held(held: Held<Initiator, Global>) -> CacheHandle
-        ensures { result.value ≡ Some held.value }
-    {
-        let Held { at, alloc } = held;
+        let Place { at, alloc } = place;
         CacheHandle {
             at: at as *mut u8,
             alloc,
         }
     }
 
-    fn into_held(self) -> Option<Held<Initiator, Global>>
-        ensures { MatchOption result (self.value ≡ None) (λ held. self.value ≡ Some held.value) }
+    fn into_place(self) -> Place<Initiator>
+        ensures { result.value ≡ self.value }
     {
         let CacheHandle { at, alloc } = self;
-        if at.is_null() {
-            None
-        } else {
-            Some(Held {
-                at: at as *mut Initiator,
-                alloc,
-            })
+        Place {
+            at: at as *mut Initiator,
+            alloc,
         }
+    }
+
+    pub(crate) fn empty(alloc: Global) -> CacheHandle
+        ensures { result.value ≡ None }
+    {
+        CacheHandle::of_place(Place::empty(alloc))
     }
 
     pub(crate) fn of(value: Box<Initiator>) -> CacheHandle
         ensures { result.value ≡ Some value.value }
     {
-        CacheHandle::of_held(Held::of(value))
+        CacheHandle::of_place(Place::of(value))
     }
 
     pub(crate) fn into_box(self) -> Option<Box<Initiator>>
         ensures { MatchOption result (self.value ≡ None) (λ b. self.value ≡ Some b.value) }
     {
-        match self.into_held() {
-            None => None,
-            Some(held) => Some(held.into_box()),
-        }
+        self.into_place().into_box()
     }
-}
 
-impl CacheHandle {
     /// Takes what the handle holds. The handle is empty then.
     pub(crate) fn take(&mut self, alloc: Global) -> Option<Box<Initiator>>
         ensures empty { self.new.value ≡ None }

@@ -1,86 +1,73 @@
 //! The handle of a service.
 
 ghost use Rattle.std.specs.Prelude.{◌≡◌, Option, Some, None};
-ghost use Rattle.std.specs.Option.{option_map, MatchOption};
+ghost use Rattle.std.specs.Option.{MatchOption};
 ghost use Rattle.std.specs.Coded.{coded_option};
 ghost use Rattle.krb_c.specs.Handle.{handle_owns};
-ghost use Rattle.krb_c.specs.contracts.login.Login.{the_row as login_row};
-ghost use Rattle.krb_c.specs.declared.login.Login.{Login};
+ghost use Rattle.krb_c.specs.contracts.service_state.ServiceState.{the_row as state_row};
+ghost use Rattle.krb_c.specs.declared.service_state.ServiceState.{ServiceState};
 
-use crate::held::Held;
-use crate::login::Login;
+use crate::place::Place;
+use crate::service_state::ServiceState;
 use std::alloc::Global;
 use std::marker::Model;
 use std::mem::replace;
-use std::ptr::null_mut;
 
 /// The handle.
 #[repr(C)]
 pub struct Handle {
     at: *mut u8,
     alloc: Global,
-    pub ghost value: { Option Login } by { coded_option login_row.coded },
+    pub ghost value: { Option ServiceState } by { coded_option state_row.coded },
 }
 
 impl Model for Handle {
-    ghost also_owns = { λ h. handle_owns login_row h.alloc h.at h.value };
+    ghost also_owns = { λ h. handle_owns state_row h.alloc h.at h.value };
 }
 
 impl Handle {
-    pub(crate) fn empty(alloc: Global) -> Handle
-        ensures { result.value ≡ None }
+    fn of_place(place: Place<ServiceState>) -> Handle
+        ensures { result.value ≡ place.value }
     {
-        Handle {
-            at: null_mut(),
-            alloc,
-        }
-    }
-
-    fn of_held(held: Held<Login, Global>) -> Handle
-        ensures { result.value ≡ Some held.value }
-    {
-        let Held { at, alloc } = held;
+        let Place { at, alloc } = place;
         Handle {
             at: at as *mut u8,
             alloc,
         }
     }
 
-    fn into_held(self) -> Option<Held<Login, Global>>
-        ensures { MatchOption result (self.value ≡ None) (λ held. self.value ≡ Some held.value) }
+    fn into_place(self) -> Place<ServiceState>
+        ensures { result.value ≡ self.value }
     {
         let Handle { at, alloc } = self;
-        if at.is_null() {
-            None
-        } else {
-            Some(Held {
-                at: at as *mut Login,
-                alloc,
-            })
+        Place {
+            at: at as *mut ServiceState,
+            alloc,
         }
     }
 
-    pub(crate) fn of(value: Box<Login>) -> Handle
+    pub(crate) fn empty(alloc: Global) -> Handle
+        ensures { result.value ≡ None }
+    {
+        Handle::of_place(Place::empty(alloc))
+    }
+
+    pub(crate) fn of(value: Box<ServiceState>) -> Handle
         ensures { result.value ≡ Some value.value }
     {
-        Handle::of_held(Held::of(value))
+        Handle::of_place(Place::of(value))
     }
 
-    pub(crate) fn into_box(self) -> Option<Box<Login>>
+    pub(crate) fn into_box(self) -> Option<Box<ServiceState>>
         ensures { MatchOption result (self.value ≡ None) (λ b. self.value ≡ Some b.value) }
     {
-        match self.into_held() {
-            None => None,
-            Some(held) => Some(held.into_box()),
-        }
+        self.into_place().into_box()
     }
-}
 
-impl Handle {
     /// Takes what the handle holds. The handle is empty then.
-    pub(crate) fn take(&mut self, alloc: Global) -> Option<Box<Login>>
+    pub(crate) fn take(&mut self, alloc: Global) -> Option<Box<ServiceState>>
         ensures empty { self.new.value ≡ None }
-        ensures held { MatchOption result (self.old.value ≡ None) (λ login. self.old.value ≡ Some login.value) }
+        ensures held { MatchOption result (self.old.value ≡ None) (λ state. self.old.value ≡ Some state.value) }
     {
         replace(self, Handle::empty(alloc)).into_box()
     }

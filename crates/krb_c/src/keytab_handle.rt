@@ -1,18 +1,17 @@
 //! The handle of a keytab.
 
 ghost use Rattle.std.specs.Prelude.{◌≡◌, List, Option, Some, None};
-ghost use Rattle.std.specs.Option.{option_map, MatchOption};
+ghost use Rattle.std.specs.Option.{MatchOption};
 ghost use Rattle.std.specs.Coded.{coded_option};
 ghost use Rattle.krb_c.specs.Handle.{handle_owns};
 ghost use Rattle.krb_keytab.specs.contracts.keytab.Keytab.{the_row as keytab_row};
 ghost use Rattle.krb_keytab.specs.Entry.{KeytabEntry};
 
-use crate::held::Held;
+use crate::place::Place;
 use krb_keytab::Keytab;
 use std::alloc::Global;
 use std::marker::Model;
 use std::mem::replace;
-use std::ptr::null_mut;
 
 /// The handle.
 #[repr(C)]
@@ -27,56 +26,44 @@ impl Model for KeytabHandle {
 }
 
 impl KeytabHandle {
-    pub(crate) fn empty(alloc: Global) -> KeytabHandle
-        ensures { result.value ≡ None }
+    fn of_place(place: Place<Keytab>) -> KeytabHandle
+        ensures { result.value ≡ place.value }
     {
-        KeytabHandle {
-            at: null_mut(),
-            alloc,
-        }
-    }
-
-    fn of_held(held: Held<Keytab, Global>) -> KeytabHandle
-        ensures { result.value ≡ Some held.value }
-    {
-        let Held { at, alloc } = held;
+        let Place { at, alloc } = place;
         KeytabHandle {
             at: at as *mut u8,
             alloc,
         }
     }
 
-    fn into_held(self) -> Option<Held<Keytab, Global>>
-        ensures { MatchOption result (self.value ≡ None) (λ held. self.value ≡ Some held.value) }
+    fn into_place(self) -> Place<Keytab>
+        ensures { result.value ≡ self.value }
     {
         let KeytabHandle { at, alloc } = self;
-        if at.is_null() {
-            None
-        } else {
-            Some(Held {
-                at: at as *mut Keytab,
-                alloc,
-            })
+        Place {
+            at: at as *mut Keytab,
+            alloc,
         }
+    }
+
+    pub(crate) fn empty(alloc: Global) -> KeytabHandle
+        ensures { result.value ≡ None }
+    {
+        KeytabHandle::of_place(Place::empty(alloc))
     }
 
     pub(crate) fn of(value: Box<Keytab>) -> KeytabHandle
         ensures { result.value ≡ Some value.value }
     {
-        KeytabHandle::of_held(Held::of(value))
+        KeytabHandle::of_place(Place::of(value))
     }
 
     pub(crate) fn into_box(self) -> Option<Box<Keytab>>
         ensures { MatchOption result (self.value ≡ None) (λ b. self.value ≡ Some b.value) }
     {
-        match self.into_held() {
-            None => None,
-            Some(held) => Some(held.into_box()),
-        }
+        self.into_place().into_box()
     }
-}
 
-impl KeytabHandle {
     /// Takes what the handle holds. The handle is empty then.
     pub(crate) fn take(&mut self, alloc: Global) -> Option<Box<Keytab>>
         ensures empty { self.new.value ≡ None }

@@ -7,7 +7,7 @@ ghost use Rattle.krb_c.specs.Refusing.{IsCauseOf, TellsErrorOf};
 
 use crate::answer::{Answer, Time, hand_over};
 use crate::code;
-use crate::login::error_of;
+use crate::service_state::error_of;
 use krb_ap::Refusal;
 use krb_der::{Fault, FaultKind};
 use std::alloc::Global;

@@ -8,7 +8,7 @@ use crate::answer::Answer;
 use crate::code;
 use crate::handle::Handle;
 use crate::keeping::keytab_of;
-use crate::login::Login;
+use crate::service_state::ServiceState;
 use krb_keytab::Keytab;
 use std::alloc::Global;
 
@@ -25,16 +25,16 @@ pub extern "C" fn fevstunik_acceptor_replace_keytab(
     ensures { RenewsHeld service.now keytab.now handle.old.value handle.new.value result }
 {
     match handle.take(alloc) {
-        Some(mut login) => {
-            let answer = login.renew(alloc, keytab, service);
-            *handle = Handle::of(login);
+        Some(mut state) => {
+            let answer = state.renew(alloc, keytab, service);
+            *handle = Handle::of(state);
             answer
         }
         None => Answer::plain(code::EMPTY_HANDLE),
     }
 }
 
-impl Login {
+impl ServiceState {
     /// Takes the keytab's entries of the wanted service in place of its own.
     pub(crate) fn renew(&mut self, alloc: Global, keytab: &[u8], service: &[u8]) -> Answer
         ensures { Renews service.now keytab.now self.old self.new result }

@@ -1,18 +1,17 @@
 //! The handle of an accepted request.
 
 ghost use Rattle.std.specs.Prelude.{◌≡◌, Option, Some, None};
-ghost use Rattle.std.specs.Option.{option_map, MatchOption};
+ghost use Rattle.std.specs.Option.{MatchOption};
 ghost use Rattle.std.specs.Coded.{coded_option};
 ghost use Rattle.krb_c.specs.Handle.{handle_owns};
 ghost use Rattle.krb_c.specs.contracts.kept.Kept.{the_row as kept_row};
 ghost use Rattle.krb_c.specs.declared.kept.Kept.{Kept};
 
-use crate::held::Held;
 use crate::kept::Kept;
+use crate::place::Place;
 use std::alloc::Global;
 use std::marker::Model;
 use std::mem::replace;
-use std::ptr::null_mut;
 
 /// The handle.
 #[repr(C)]
@@ -27,56 +26,44 @@ impl Model for Slot {
 }
 
 impl Slot {
-    pub(crate) fn empty(alloc: Global) -> Slot
-        ensures { result.value ≡ None }
+    fn of_place(place: Place<Kept>) -> Slot
+        ensures { result.value ≡ place.value }
     {
-        Slot {
-            at: null_mut(),
-            alloc,
-        }
-    }
-
-    fn of_held(held: Held<Kept, Global>) -> Slot
-        ensures { result.value ≡ Some held.value }
-    {
-        let Held { at, alloc } = held;
+        let Place { at, alloc } = place;
         Slot {
             at: at as *mut u8,
             alloc,
         }
     }
 
-    fn into_held(self) -> Option<Held<Kept, Global>>
-        ensures { MatchOption result (self.value ≡ None) (λ held. self.value ≡ Some held.value) }
+    fn into_place(self) -> Place<Kept>
+        ensures { result.value ≡ self.value }
     {
         let Slot { at, alloc } = self;
-        if at.is_null() {
-            None
-        } else {
-            Some(Held {
-                at: at as *mut Kept,
-                alloc,
-            })
+        Place {
+            at: at as *mut Kept,
+            alloc,
         }
+    }
+
+    pub(crate) fn empty(alloc: Global) -> Slot
+        ensures { result.value ≡ None }
+    {
+        Slot::of_place(Place::empty(alloc))
     }
 
     pub(crate) fn of(value: Box<Kept>) -> Slot
         ensures { result.value ≡ Some value.value }
     {
-        Slot::of_held(Held::of(value))
+        Slot::of_place(Place::of(value))
     }
 
     pub(crate) fn into_box(self) -> Option<Box<Kept>>
         ensures { MatchOption result (self.value ≡ None) (λ b. self.value ≡ Some b.value) }
     {
-        match self.into_held() {
-            None => None,
-            Some(held) => Some(held.into_box()),
-        }
+        self.into_place().into_box()
     }
-}
 
-impl Slot {
     /// Takes what the handle holds. The handle is empty then.
     pub(crate) fn take(&mut self, alloc: Global) -> Option<Box<Kept>>
         ensures empty { self.new.value ≡ None }

@@ -10,9 +10,9 @@ use Rattle.krb_c.proofs.asking.request_by.Goals as goal
 pub returns-in-Some-clause-sent : goal.returns-in-Some-clause-sent
 returns-in-Some-clause-sent c = subst (λ (value : Option Cache). MatchOption value
     ((c.send-answer.result ≡ plain empty_handle) × ((c.send-answer.new.pending.value ≡ c.args.pending.now.value) × (c.send-answer.new.buffer ≡ c.args.buffer.now)))
-    (λ held. Sends (ask held c.args.service.now c.args.at.now c.args.choice.now c.args.subkey.now c.args.context) c.args.confounder.now c.args.pending.now.value
+    (λ held. Sends (ask held c.args.given.now.service.now c.args.given.now.at.now c.args.given.now.choice.now c.args.given.now.subkey.now c.args.given.now.context) c.args.given.now.confounder.now c.args.pending.now.value
     c.send-answer.new.pending.value c.args.buffer.now c.send-answer.new.buffer c.send-answer.result))
     (sym c.in-Some.ensures.held)
-    (subst (λ (cache : Cache). Sends (ask cache c.args.service.now c.args.at.now c.args.choice.now c.args.subkey.now c.args.context) c.args.confounder.now c.args.pending.now.value
+    (subst (λ (cache : Cache). Sends (ask cache c.args.given.now.service.now c.args.given.now.at.now c.args.given.now.choice.now c.args.given.now.subkey.now c.args.given.now.context) c.args.given.now.confounder.now c.args.pending.now.value
     c.send-answer.new.pending.value c.args.buffer.now c.send-answer.new.buffer c.send-answer.result)
     c.deref_mut.ensures.value c.send-answer.ensures.sent)
