@@ -25,3 +25,5 @@ pub mod OneEnd
 pub mod CollectLaws
 pub mod OneReader
 pub mod OnePlace
+pub mod RoomLaws
+pub mod AdderLaws

@@ -15,6 +15,7 @@
 //! ```
 #![tactic(auto)]
 
+mod adder;
 mod edit;
 mod entry;
 mod fault;
@@ -34,6 +35,7 @@ mod usable;
 mod view;
 mod writing;
 
+pub use adder::EntryAdder;
 pub use entry::Entry;
 pub use fault::KeytabFault;
 pub use keytab::Keytab;
