@@ -1,5 +1,5 @@
 -- What is known of a file after an entry was added.
-use Rattle.std.proofs.Common.{◌≡◌, ℕ, ◌+◌, ◌-◌, ◌<◌, ◌≤◌, ◌^◌, List, [], ◌∷◌, ◌++◌, length, refl, sym, ap, subst, ◌∙◌, arith}
+use Rattle.std.proofs.Common.{◌≡◌, ℕ, ◌+◌, ◌-◌, ◌<◌, ◌≤◌, ◌^◌, List, [], ◌∷◌, ◌++◌, length, sym, ap, subst, ◌∙◌, arith}
 use Rattle.std.specs.List.{flat_map}
 use Rattle.std.specs.Prelude.{All}
 use Rattle.std.proofs.lemmas.List.{length-append}
@@ -89,10 +89,10 @@ knows_filled {old} {new} {holes} {at} {one} {others} e size is k t fits puts =
       is = made;
       at_is = omega (arith, k.at_is, whole_length k.is, whole_length made, Puts-length puts);
       holes_are = t.new_is ∙ sym (
-      holes_joined (length version) s.before (padded_record e zeros ∷ s.after)
-      ∙ ap (λ (n : ℕ). holes_of (length version) s.before ++ holes_of n s.after) place
-      ∙ ap (λ (l : List Hole). l ++ holes_of (one.from + one.size) s.after) s.front_is
-      ∙ ap (λ (l : List Hole). t.before ++ l) s.back_is);
+          holes_joined (length version) s.before (padded_record e zeros ∷ s.after)
+          ∙ ap (λ (n : ℕ). holes_of (length version) s.before ++ holes_of n s.after) place
+          ∙ ap (λ (l : List Hole). l ++ holes_of (one.from + one.size) s.after) s.front_is
+          ∙ ap (λ (l : List Hole). t.before ++ l) s.back_is);
     }
 
 -- a record was appended

@@ -27,3 +27,4 @@ pub mod OneReader
 pub mod OnePlace
 pub mod RoomLaws
 pub mod AdderLaws
+pub mod KeyLaws

@@ -29,6 +29,7 @@ mod next;
 mod opening;
 mod pick;
 mod reader;
+mod same_key;
 mod stage;
 mod step;
 mod usable;

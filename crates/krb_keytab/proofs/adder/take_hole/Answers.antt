@@ -1,4 +1,4 @@
-use Rattle.std.proofs.Common.{◌≡◌, ◌<◌, ◌∙◌, ap, sym, subst, arith, ◌≤◌, take, drop, length, ◌+◌, List}
+use Rattle.std.proofs.Common.{◌≡◌, ◌<◌, ap, subst, arith, ◌≤◌, take, drop, length, ◌+◌}
 use Rattle.std.proofs.lemmas.List.{take_all}
 use Rattle.std.specs.Prelude.{All}
 use Rattle.krb_keytab.specs.declared.adder.Hole.{Hole}

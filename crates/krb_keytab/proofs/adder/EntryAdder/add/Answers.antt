@@ -1,4 +1,4 @@
-use Rattle.std.proofs.Common.{◌≡◌, ◌+◌, ◌<◌, ◌≤◌, ℕ, arith, inl, inr, subst}
+use Rattle.std.proofs.Common.{◌<◌, ◌≤◌, ℕ, arith, inl, inr, subst}
 use Rattle.std.proofs.lemmas.Result.{err_from_is_err_and}
 use Rattle.krb_name.specs.File.{file_limit}
 use Rattle.krb_keytab.specs.Edit.{AddsEntry, GainsEntry, WouldGrow}
