@@ -29,8 +29,8 @@ def keytab_record(index):
     return struct.pack(">i", len(body)) + body
 
 
-def keytab(entries):
-    return b"\x05\x02" + b"".join(keytab_record(index) for index in range(entries))
+def keytab(entries, first=0):
+    return b"\x05\x02" + b"".join(keytab_record(index) for index in range(first, first + entries))
 
 
 def small_keytab(limit):

@@ -56,6 +56,16 @@ def commands(program, folder):
 
         return run_of
 
+    def adding(first):
+        """As many entries as the keytab has, from an index of the first of its names on."""
+        def run_of(size):
+            others = folder / "others"
+            keys.write_bytes(files.keytab(size))
+            others.write_bytes(files.keytab(size, first(size)))
+            return files.processor_time([program, "add-keys", str(keys), str(others), str(out)])
+
+        return run_of
+
     def on_cache(*words):
         def run_of(size):
             tickets.write_bytes(files.cache(size))
@@ -67,6 +77,8 @@ def commands(program, folder):
     yield "check-keytab, entries", 10_000, on_keytab("check-keytab")
     yield "convert-keytab, entries", 10_000, on_keytab("convert-keytab", "{out}")
     yield "remove-key, entries", 10_000, on_keytab("remove-key", "{out}", "{last}")
+    yield "add-keys, entries of other names", 1_000, adding(lambda size: size)
+    yield "add-keys, the same entries", 1_000, adding(lambda size: 0)
     yield "pick-key, entries", 10_000, on_keytab("pick-key", "host/web{last}.example.test@EXAMPLE.TEST", "19")
     yield "list-ccache, credentials", 1_500, on_cache("list-ccache")
     yield "check-ccache, credentials", 1_500, on_cache("check-ccache")

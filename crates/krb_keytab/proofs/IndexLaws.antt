@@ -57,7 +57,7 @@ one_linked buckets firsts nexts count place bucket within small here h = record 
 
 -- ---- names and buckets
 
-same_hash : (one other : Principal) → SameName one other → hash_of one ≡ hash_of other
+pub same_hash : (one other : Principal) → SameName one other → hash_of one ≡ hash_of other
 unfolding hash_of
 same_hash one other same =
     ap (λ (realm : List ℕ). finish (fold write (write initial realm) one.components) % 2 ^ 32) same.realm

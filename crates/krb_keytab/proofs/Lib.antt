@@ -25,3 +25,6 @@ pub mod OneEnd
 pub mod CollectLaws
 pub mod OneReader
 pub mod OnePlace
+pub mod RoomLaws
+pub mod AdderLaws
+pub mod KeyLaws

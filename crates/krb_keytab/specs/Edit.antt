@@ -104,3 +104,9 @@ abbrev pub IsRefusal : List ℕ → KeytabEntry → KeytabFault → Type 0
 IsRefusal old added TooLong = IsFaultOf old TooLong ⊎ WouldPass old added
 IsRefusal old added OutOfMemory = WouldGrow old added (λ count. count ≤ file_limit)
 IsRefusal old added fault = IsFaultOf old fault
+
+-- why an entry isn't added to a keytab: the longer file would pass the limit, or memory is lacking
+abbrev pub IsUnadded : List ℕ → KeytabEntry → KeytabFault → Type 0
+IsUnadded old added TooLong = WouldPass old added
+IsUnadded old added OutOfMemory = WouldGrow old added (λ count. count ≤ file_limit)
+IsUnadded old added fault = ⊥

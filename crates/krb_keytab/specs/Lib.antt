@@ -5,6 +5,7 @@ pub mod Format
 pub mod Items
 pub mod Only
 pub mod Pick
+pub mod SameKey
 pub mod Usable
 pub mod Written
 pub mod Inner

@@ -1,11 +1,12 @@
 //! A keytab: the list of its entries.
 
-ghost use Rattle.std.specs.Prelude.{◌≡◌, ◌≢◌, ◌⊎◌, ◌≤◌, ◌<◌, ◌^◌, ◌-◌, ◌+◌, ℕ, List, All, IfOk, IfErr, IfSome, OnOk, Some, Err, Result, length};
+ghost use Rattle.std.specs.Prelude.{◌≡◌, ◌≢◌, ◌⊎◌, ◌≤◌, ◌<◌, ◌^◌, ◌-◌, ◌+◌, ℕ, List, All, IsTrue, ◌↔◌, take, IfOk, IfErr, IfSome, OnOk, Some, Err, Result, length};
 ghost use Rattle.std.specs.Io.KnownBytes.{IsAtEnd};
 ghost use Rattle.krb_keytab.specs.Entry.{KeytabEntry};
 ghost use Rattle.krb_keytab.specs.Fault.{offset_of, failed_reads};
 ghost use Rattle.krb_keytab.specs.Only.{KeepsOnly};
 ghost use Rattle.krb_keytab.specs.Pick.{IsPicked};
+ghost use Rattle.krb_keytab.specs.SameKey.{HasKeyOf};
 ghost use Rattle.krb_name.specs.Name.{SameName};
 ghost use Rattle.krb_name.specs.File.{file_limit, ReadsFile};
 ghost use Rattle.krb_keytab.specs.Format.{IsKeytab, IsFaultOf, IsAnswerOf};
@@ -19,6 +20,7 @@ use crate::index::{NameIndex, renew};
 use crate::next::next_record;
 use crate::opening::{VERSION, open};
 use crate::pick::{Picked, pick_each, pick_indexed};
+use crate::same_key::{has_key_of, is_indexed_before};
 use crate::step::read_entries;
 use crate::writing::put_record;
 use krb_name::{FILE_LIMIT, Principal, Source, Window};
@@ -221,6 +223,26 @@ impl Keytab {
         match &self.index {
             Some(index) => pick_indexed(entries, index, name, etype, kvno),
             None => pick_each(entries, name, etype, kvno),
+        }
+    }
+}
+
+impl Keytab {
+    /// Returns whether one of the first `place` entries has the key of `entry`: its name, encryption
+    /// type, version number and bytes.
+    ///
+    /// Names are compared as by `Principal::same_name`. Timestamps aren't compared. Allocates no
+    /// memory. If there are more than 8 entries, it looks only at those that `pick` looks at.
+    ///
+    /// Condition: there are at least `place` entries.
+    pub fn has_key_before(&self, place: usize, entry: &Entry) -> bool
+        requires { place ≤ length self.now }
+        ensures { IsTrue result ↔ HasKeyOf (take place self.now) entry.now }
+    {
+        let entries = self.entries.as_slice();
+        match &self.index {
+            Some(index) => is_indexed_before(entries, index, place, entry),
+            None => has_key_of(&entries[..place], entry),
         }
     }
 }

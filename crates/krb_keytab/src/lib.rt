@@ -15,6 +15,7 @@
 //! ```
 #![tactic(auto)]
 
+mod adder;
 mod edit;
 mod entry;
 mod fault;
@@ -28,12 +29,14 @@ mod next;
 mod opening;
 mod pick;
 mod reader;
+mod same_key;
 mod stage;
 mod step;
 mod usable;
 mod view;
 mod writing;
 
+pub use adder::EntryAdder;
 pub use entry::Entry;
 pub use fault::KeytabFault;
 pub use keytab::Keytab;

@@ -4,16 +4,17 @@ use Rattle.std.proofs.Math.ListN.{get_or-append}
 use Rattle.std.proofs.Math.Seq.{get_or-append_right, take-suc}
 use Rattle.std.proofs.lemmas.Bool.{cases_lt}
 use Rattle.std.proofs.lemmas.List.{append-nil, get_or-append-add, take-append-drop}
-use Rattle.std.specs.Prelude.{◌↔◌, Bool, true, false, IsTrue, IfErr, IfSome, OnOk, Option, Some, None, Result, Ok, Err}
-use Rattle.krb_keytab.specs.Edit.{AddsEntry, GainsEntry, IsRefusal, WouldPass}
+use Rattle.std.specs.Prelude.{◌↔◌, ◌≢◌, Bool, true, false, IsTrue, IfErr, IfSome, OnOk, Option, Some, None, Result, Ok, Err}
+use Rattle.krb_keytab.specs.Edit.{AddsEntry, GainsEntry, IsUnadded, WouldPass}
 use Rattle.krb_keytab.specs.Entry.{KeytabEntry}
 use Rattle.krb_keytab.specs.Format.{IsAnswerOf, IsFaultOf, IsKeytab}
+use Rattle.krb_keytab.specs.SameKey.{HasKeyOf}
 use Rattle.krb_keytab.specs.declared.fault.KeytabFault.{KeytabFault}
 use Rattle.krb_keytab.specs.declared.fault.KeytabFault.TheVariants.{Version, Truncated, BadEntry, TooLong, NoSuchEntry, Read, OutOfMemory}
 use Rattle.krbtool.specs.declared.fault.EngineFault.TheVariants.{Keytab}
-use Rattle.krbtool.specs.Adding.{AddsEach, AreLacking, HasKeyOf, IsExtended, PassesLimit}
+use Rattle.krbtool.specs.Adding.{AddsEach, AreLacking, IsExtended, PassesLimit}
 use Rattle.krbtool.specs.Engine.{keytab_fault, OfFile}
-use Rattle.krbtool.specs.Inner.Adding.{IsAddedSoFar, IsSomeKeytab, TakesEntry}
+use Rattle.krbtool.specs.Inner.Adding.{IsAddedSoFar, TakesEntry}
 use Rattle.krbtool.proofs.FileLaws.{of_file}
 
 -- one more entry, whose key is known
@@ -62,19 +63,17 @@ adds_more old (first ∷ others) next entry new added step =
 
 -- the entries so far, and one more
 pub so_far_more : (old : List ℕ) (held before : List KeytabEntry) (next : List ℕ) (entry : KeytabEntry) (new : List ℕ) → IsAddedSoFar old held before next
-    → TakesEntry (held ++ before) next entry new → IsSomeKeytab new → IsAddedSoFar old held (before ++ entry ∷ []) new
-so_far_more old held before next entry new so_far takes keytab = elim takes [
+    → TakesEntry (held ++ before) next entry new → IsAddedSoFar old held (before ++ entry ∷ []) new
+so_far_more old held before next entry new so_far takes = elim takes [
   | inl known ↦ record {
     lacking = so_far.lacking;
     lacking_are = held_more held before so_far.lacking entry so_far.lacking_are known.0;
     added = subst (λ (l : List ℕ). AddsEach old so_far.lacking l) known.1 so_far.added;
-    keytab = keytab;
   }
   | inr lacks ↦ record {
     lacking = so_far.lacking ++ entry ∷ [];
     lacking_are = lacking_more held before so_far.lacking entry so_far.lacking_are lacks.0;
     added = adds_more old so_far.lacking next entry new so_far.added lacks.1;
-    keytab = keytab;
   }
 ]
 
@@ -109,38 +108,44 @@ pub taken : {F : Type 0} (result : Result Unit F) (known : List KeytabEntry) (ol
 taken (Ok x) known old entry new lacks adds gains = inr (lacks, (adds, gains))
 taken (Err fault) known old entry new lacks adds gains = tt
 
-pub still_keytab : {F : Type 0} (result : Result Unit F) (old : List ℕ) (entry : KeytabEntry) (new : List ℕ)
-    → OnOk result (GainsEntry old entry new) → OnOk result (IsSomeKeytab new)
-still_keytab (Ok x) old entry new gains = (gains.before ++ entry ∷ gains.after, gains.new_list)
-still_keytab (Err fault) old entry new gains = tt
-
 -- that each file has one answer
 abbrev pub HaveOne : Type 0
 HaveOne = (bytes : List ℕ) (answer other : Result (List KeytabEntry) KeytabFault) → IsAnswerOf bytes answer → IsAnswerOf bytes other → answer ≡ other
 
-no_fault : (bytes : List ℕ) (fault : KeytabFault) → HaveOne → IsSomeKeytab bytes → IsFaultOf bytes fault → ⊥
+no_fault : (bytes : List ℕ) (fault : KeytabFault) → HaveOne → (entries : List KeytabEntry) × IsKeytab bytes entries → IsFaultOf bytes fault → ⊥
 no_fault bytes fault one keytab is = let same = one bytes (Ok keytab.0) (Err fault) keytab.1 is in cc
 
--- why the entry isn't added to a keytab
-refused : (known : List KeytabEntry) (old : List ℕ) (entry : KeytabEntry) (fault : KeytabFault) → HaveOne → (¬ HasKeyOf known entry)
-    → IsSomeKeytab old → IsRefusal old entry fault
-    → (fault ≡ OutOfMemory) ⊎ ((fault ≡ TooLong) × ((¬ HasKeyOf known entry) × WouldPass old entry))
-refused known old entry Version one lacks keytab is = absurd (no_fault old Version one keytab is)
-refused known old entry (Truncated at) one lacks keytab is = absurd (no_fault old (Truncated at) one keytab is)
-refused known old entry (BadEntry at) one lacks keytab is = absurd (no_fault old (BadEntry at) one keytab is)
-refused known old entry TooLong one lacks keytab is = elim is [
-  | inl fault ↦ absurd (no_fault old TooLong one keytab fault)
-  | inr passes ↦ inr (refl, (lacks, passes))
-]
-refused known old entry NoSuchEntry one lacks keytab is = absurd is
-refused known old entry Read one lacks keytab is = absurd is
-refused known old entry OutOfMemory one lacks keytab is = inl refl
+-- a keytab isn't refused, except that memory may be lacking
+only_memory : (fault : KeytabFault) → (fault ≢ OutOfMemory → ⊥) → fault ≡ OutOfMemory
+only_memory OutOfMemory not_other = refl
+only_memory Version not_other = absurd (not_other (λ is. cc))
+only_memory (Truncated at) not_other = absurd (not_other (λ is. cc))
+only_memory (BadEntry at) not_other = absurd (not_other (λ is. cc))
+only_memory TooLong not_other = absurd (not_other (λ is. cc))
+only_memory NoSuchEntry not_other = absurd (not_other (λ is. cc))
+only_memory Read not_other = absurd (not_other (λ is. cc))
 
-pub refusal : {X : Type 0} (result : Result X KeytabFault) (known : List KeytabEntry) (old : List ℕ) (entry : KeytabEntry) → HaveOne
-    → (¬ HasKeyOf known entry) → IsSomeKeytab old → IfErr result (IsRefusal old entry)
+pub not_refused : {X : Type 0} (result : Result X KeytabFault) (bytes : List ℕ) → HaveOne → (entries : List KeytabEntry) × IsKeytab bytes entries
+    → IfErr result (λ fault. fault ≢ OutOfMemory → IsFaultOf bytes fault) → IfErr result (λ fault. fault ≡ OutOfMemory)
+not_refused (Ok x) bytes one keytab is = tt
+not_refused (Err fault) bytes one keytab is = only_memory fault (λ other. no_fault bytes fault one keytab (is other))
+
+-- why the entry, which is lacking, isn't added
+unadded : (known : List KeytabEntry) (old : List ℕ) (entry : KeytabEntry) (fault : KeytabFault) → (¬ HasKeyOf known entry) → IsUnadded old entry fault
+    → (fault ≡ OutOfMemory) ⊎ ((fault ≡ TooLong) × ((¬ HasKeyOf known entry) × WouldPass old entry))
+unadded known old entry Version lacks is = absurd is
+unadded known old entry (Truncated at) lacks is = absurd is
+unadded known old entry (BadEntry at) lacks is = absurd is
+unadded known old entry TooLong lacks is = inr (refl, (lacks, is))
+unadded known old entry NoSuchEntry lacks is = absurd is
+unadded known old entry Read lacks is = absurd is
+unadded known old entry OutOfMemory lacks is = inl refl
+
+pub not_added_if : {X : Type 0} (result : Result X KeytabFault) (known : List KeytabEntry) (old : List ℕ) (entry : KeytabEntry)
+    → (¬ HasKeyOf known entry) → IfErr result (IsUnadded old entry)
     → IfErr result (λ fault. (fault ≡ OutOfMemory) ⊎ ((fault ≡ TooLong) × ((¬ HasKeyOf known entry) × WouldPass old entry)))
-refusal (Ok x) known old entry one lacks keytab is = tt
-refusal (Err fault) known old entry one lacks keytab is = refused known old entry fault one lacks keytab is
+not_added_if (Ok x) known old entry lacks is = tt
+not_added_if (Err fault) known old entry lacks is = unadded known old entry fault lacks is
 
 at_next : (entries : List KeytabEntry) (at : ℕ) (entry : KeytabEntry) → at < length entries → entry ≡ get_or entries at entry
     → take (at + 1) entries ≡ take at entries ++ entry ∷ []
@@ -150,10 +155,10 @@ at_next entries at entry within is =
 -- one more step of the loop
 pub so_far_next : (old : List ℕ) (held entries : List KeytabEntry) (at : ℕ) (entry : KeytabEntry) (next new : List ℕ)
     → at < length entries → entry ≡ get_or entries at entry → IsAddedSoFar old held (take at entries) next
-    → TakesEntry (held ++ take at entries) next entry new → IsSomeKeytab new → IsAddedSoFar old held (take (at + 1) entries) new
-so_far_next old held entries at entry next new within is so_far takes keytab =
+    → TakesEntry (held ++ take at entries) next entry new → IsAddedSoFar old held (take (at + 1) entries) new
+so_far_next old held entries at entry next new within is so_far takes =
     subst (λ (l : List KeytabEntry). IsAddedSoFar old held l new) (sym (at_next entries at entry within is))
-    (so_far_more old held (take at entries) next entry new so_far takes keytab)
+    (so_far_more old held (take at entries) next entry new so_far takes)
 
 split_at : (entries : List KeytabEntry) (at : ℕ) (entry : KeytabEntry) → at < length entries → entry ≡ get_or entries at entry
     → entries ≡ take at entries ++ entry ∷ drop (suc at) entries

@@ -1,21 +1,9 @@
 -- What `add-keys` writes: a keytab with the keys of another that it lacks, or why there is none.
-use Rattle.std.specs.Prelude.{◌≡◌, ◌⊎◌, ℕ, List, [], ◌∷◌, ◌++◌, Any}
-use Rattle.krb_name.specs.Name.{SameName}
+use Rattle.std.specs.Prelude.{◌≡◌, ◌⊎◌, ℕ, List, [], ◌∷◌, ◌++◌}
 use Rattle.krb_keytab.specs.Edit.{AddsEntry, GainsEntry, WouldPass}
 use Rattle.krb_keytab.specs.Entry.{KeytabEntry}
 use Rattle.krb_keytab.specs.Format.{IsKeytab}
-
--- two entries have the same key: name, encryption type, version number and bytes; the timestamps
--- may differ
-pub record IsSameKey (one other : KeytabEntry) : Type 0 where
-  pub name : SameName one.principal other.principal
-  pub etype : one.etype ≡ other.etype
-  pub kvno : one.kvno ≡ other.kvno
-  pub key : one.key ≡ other.key
-
--- one of the entries has the key of this one
-abbrev pub HasKeyOf : List KeytabEntry → KeytabEntry → Type 0
-HasKeyOf entries entry = Any (λ held. IsSameKey held entry) entries
+use Rattle.krb_keytab.specs.SameKey.{HasKeyOf}
 
 -- of a list of entries, in order, those whose key no entry of `held` and no earlier one has
 abbrev pub AreLacking : List KeytabEntry → List KeytabEntry → List KeytabEntry → Type 0

@@ -1,21 +1,23 @@
 //! The engine of `add-keys`.
 
-ghost use Rattle.std.specs.Prelude.{◌≡◌, ◌≢◌, ◌⊎◌, ◌++◌, ◌+◌, ◌-◌, ◌^◌, ◌<◌, ◌↔◌, ℕ, List, Some, Err, IsTrue, IfOk, IfErr, IfSome, OnOk, length};
+ghost use Rattle.std.specs.Prelude.{◌≡◌, ◌≢◌, ◌⊎◌, ◌++◌, ◌+◌, ◌-◌, ◌^◌, ◌<◌, ◌≤◌, ◌↔◌, ℕ, List, Some, Err, IsTrue, IfOk, IfErr, IfSome, OnOk, length, take};
 ghost use Rattle.std.specs.Io.KnownBytes.{Appends, Keeps};
 ghost use Rattle.krb_keytab.specs.Edit.{WouldPass};
+ghost use Rattle.krb_keytab.specs.Entry.{KeytabEntry};
 ghost use Rattle.krb_keytab.specs.Fault as of_keytab;
 ghost use Rattle.krb_keytab.specs.Format.{IsAnswerOf, IsFaultOf, IsKeytab};
+ghost use Rattle.krb_keytab.specs.SameKey.{HasKeyOf};
 ghost use Rattle.krb_keytab.specs.declared.fault.KeytabFault.{KeytabFault};
 ghost use Rattle.krb_name.specs.File.{TakesFile, ReadsFile};
 ghost use Rattle.krb_name.specs.Flow.{AppendsBeginning};
-ghost use Rattle.krbtool.specs.Adding.{HasKeyOf, IsExtended, IsSameKey, PassesLimit};
+ghost use Rattle.krbtool.specs.Adding.{IsExtended, PassesLimit};
 ghost use Rattle.krbtool.specs.Engine.{added_fault, failed_added_reads, failed_reads, failed_writes, FailsWith, IsOfAdding, keytab_fault, OfFile};
-ghost use Rattle.krbtool.specs.Inner.Adding.{IsSomeKeytab, TakesEntry};
+ghost use Rattle.krbtool.specs.Inner.Adding.{TakesEntry};
 
 use crate::fault::EngineFault;
 use crate::whole::{read_bytes, write_bytes};
 use krb_keytab::laws::each_file_has_one_answer;
-use krb_keytab::{Entry, Keytab, KeytabFault};
+use krb_keytab::{Entry, EntryAdder, Keytab, KeytabFault};
 use krb_name::{Sink, Source};
 use std::alloc::Global;
 
@@ -24,7 +26,7 @@ use std::alloc::Global;
 /// An entry of `others` is added unless the keytab, or an earlier entry of `others`, has its name,
 /// encryption type, version number and key. Each goes into the first hole that is long enough, else
 /// to the end, as by `Keytab::add_in`. All other bytes stay the same. Both sources are read before
-/// a byte is written.
+/// a byte is written. Looks for keys by the keytabs' indexes, and finds the holes once.
 ///
 /// # Errors
 /// The first that applies:
@@ -110,10 +112,9 @@ fn extended<S: Source, F: Source>(
     ensures taken { TakesFile (S.remaining source.old) (S.remaining source.new) }
     ensures other_taken { TakesFile (F.remaining others.old) (F.remaining others.new) }
 {
-    let (mut file, held) = read_held(alloc, source)?;
+    let (file, held) = read_held(alloc, source)?;
     let others = read_others(alloc, others)?;
-    add_each(&mut file, held.entries(), others.entries())?;
-    Ok(file)
+    Ok(add_each(alloc, file, &held, &others)?)
 }
 
 // Reads a keytab, and returns its bytes and its entries.
@@ -156,59 +157,59 @@ fn read_others<F: Source>(alloc: Global, others: &mut F) -> Result<Keytab, Engin
     }
 }
 
-// Adds those of the entries that the file lacks; it holds these already.
-fn add_each(file: &mut Vec<u8>, held: &[Entry], entries: &[Entry]) -> Result<(), KeytabFault>
-    requires { IsKeytab file.old.items held.now }
-    ensures added { OnOk result
-        (IsExtended file.old.items entries.now (λ new. file.new.items ≡ new)) }
+// Adds those keys of a keytab that a file lacks, which has the keys of `held`.
+fn add_each(
+    alloc: Global,
+    file: Vec<u8>,
+    held: &Keytab,
+    others: &Keytab,
+) -> Result<Vec<u8>, KeytabFault>
+    requires { IsKeytab file.items held.now }
+    ensures added { IfOk result (λ new.
+        IsExtended file.items others.now (λ whole. new.items ≡ whole)) }
     ensures fault { IfErr result (λ fault. (fault ≡ KeytabFault.OutOfMemory)
-        ⊎ ((fault ≡ KeytabFault.TooLong) × PassesLimit file.old.items entries.now)) }
+        ⊎ ((fault ≡ KeytabFault.TooLong) × PassesLimit file.items others.now)) }
 {
-    for (at, entry) in entries.iter().enumerate() {
-        add_lacking(file, held, &entries[..at], entry)?;
+    let mut adder = adder_of(alloc, file)?;
+    for (at, entry) in others.entries().iter().enumerate() {
+        add_lacking(&mut adder, held, others, at, entry)?;
     }
-    Ok(())
+    Ok(adder.into_bytes())
 }
 
-// Adds the entry, unless one of those held, or an earlier one, has its key.
-fn add_lacking(
-    file: &mut Vec<u8>,
-    held: &[Entry],
-    earlier: &[Entry],
-    entry: &Entry,
-) -> Result<(), KeytabFault>
-    requires { IsSomeKeytab file.old.items }
-    ensures taken { OnOk result
-        (TakesEntry (held.now ++ earlier.now) file.old.items entry.now file.new.items) }
-    ensures keytab { OnOk result (IsSomeKeytab file.new.items) }
-    ensures fault { IfErr result (λ fault. (fault ≡ KeytabFault.OutOfMemory)
-        ⊎ ((fault ≡ KeytabFault.TooLong) × ((¬ HasKeyOf (held.now ++ earlier.now) entry.now)
-        × WouldPass file.old.items entry.now))) }
+fn adder_of(alloc: Global, file: Vec<u8>) -> Result<EntryAdder, KeytabFault>
+    requires { (entries : List KeytabEntry) × IsKeytab file.items entries }
+    ensures kept { IfOk result (λ adder. adder ≡ file.items) }
+    ensures memory { IfErr result (λ fault. fault ≡ KeytabFault.OutOfMemory) }
 {
     each_file_has_one_answer();
-    if is_known(held, earlier, entry) {
+    EntryAdder::new(alloc, file)
+}
+
+// Adds the entry, unless `held`, or an earlier entry of `others`, has its key.
+fn add_lacking(
+    adder: &mut EntryAdder,
+    held: &Keytab,
+    others: &Keytab,
+    at: usize,
+    entry: &Entry,
+) -> Result<(), KeytabFault>
+    requires { at ≤ length others.now }
+    ensures taken { OnOk result
+        (TakesEntry (held.now ++ take at others.now) adder.old entry.now adder.new) }
+    ensures fault { IfErr result (λ fault. (fault ≡ KeytabFault.OutOfMemory)
+        ⊎ ((fault ≡ KeytabFault.TooLong) × ((¬ HasKeyOf (held.now ++ take at others.now) entry.now)
+        × WouldPass adder.old entry.now))) }
+{
+    if is_known(held, others, at, entry) {
         return Ok(());
     }
-    Keytab::add_in(file, entry)
+    adder.add(entry)
 }
 
-fn is_known(held: &[Entry], earlier: &[Entry], entry: &Entry) -> bool
-    ensures { IsTrue result ↔ HasKeyOf (held.now ++ earlier.now) entry.now }
+fn is_known(held: &Keytab, others: &Keytab, at: usize, entry: &Entry) -> bool
+    requires { at ≤ length others.now }
+    ensures { IsTrue result ↔ HasKeyOf (held.now ++ take at others.now) entry.now }
 {
-    has_key_of(held, entry) || has_key_of(earlier, entry)
-}
-
-fn has_key_of(entries: &[Entry], entry: &Entry) -> bool
-    ensures { IsTrue result ↔ HasKeyOf entries.now entry.now }
-{
-    entries.iter().any(|held| is_same_key(held, entry))
-}
-
-fn is_same_key(one: &Entry, other: &Entry) -> bool
-    ensures { IsTrue result ↔ IsSameKey one.now other.now }
-{
-    one.principal().same_name(other.principal())
-        && one.etype() == other.etype()
-        && one.kvno() == other.kvno()
-        && one.key() == other.key()
+    held.has_key_before(held.entries().len(), entry) || others.has_key_before(at, entry)
 }

@@ -5,12 +5,10 @@ use Rattle.krbtool.proofs.add.extended.Goals as goal
 pub returns-in_err-add_each-clause-fault : goal.returns-in_err-add_each-clause-fault
 returns-in_err-add_each-clause-fault g c =
     let p = err_from_is_err_and c.from_residual-in_err-add_each.result c.from_residual-in_err-add_each.ensures.1 in
-    let which = rw c.entries-2.ensures at c.in_err-add_each.ensures.fault in
     rw (p.1, p.2) (too_long_known (g.S.Source.remaining c.args.source.now) (g.F.Source.remaining c.args.others.now)
-    c.in_ok-file.file.items c.in_ok-others.others c.in_err-add_each.field-0.0 c.in_ok-file.ensures.whole c.in_ok-others.ensures.found which)
+    c.in_ok-file.file.items c.in_ok-others.others c.in_err-add_each.field-0.0 c.in_ok-file.ensures.whole c.in_ok-others.ensures.found c.in_err-add_each.ensures.fault)
 
 pub returns-clause-added : goal.returns-clause-added
 returns-clause-added g c =
-    let added = rw c.entries-2.ensures at c.in_ok-add_each.ensures.added in
     extended_known (g.S.Source.remaining c.args.source.now) (g.F.Source.remaining c.args.others.now)
-    c.in_ok-file.file.items c.in_ok-others.others _ c.in_ok-file.ensures.whole c.in_ok-others.ensures.found added
+    c.in_ok-file.file.items c.in_ok-others.others _ c.in_ok-file.ensures.whole c.in_ok-others.ensures.found c.in_ok-add_each.ensures.added

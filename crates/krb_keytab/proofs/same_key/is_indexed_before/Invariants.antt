@@ -1,0 +1,14 @@
+use Rattle.std.proofs.Common.{◌≡◌, ◌<◌, ◌-◌, length}
+use Rattle.std.specs.Prelude.{slice_index}
+use Rattle.krb_keytab.specs.Inner.Index.{bucket_of, buckets_of}
+use Rattle.krb_keytab.proofs.KeyLaws.{OtherKeys}
+use Rattle.krb_keytab.proofs.same_key.is_indexed_before.Given as goal
+
+abbrev pub invariant-loop-at : goal.invariant-loop-at
+invariant-loop-at l = record {
+  others : OtherKeys l.entries l.entry l.at;
+  lands : l.at < length l.entries → slice_index (buckets_of (length l.index.firsts.items) l.entries) l.at ≡ bucket_of (length l.index.firsts.items) l.entry.principal;
+}
+
+abbrev pub decreases-loop-at : goal.decreases-loop-at
+decreases-loop-at l = length l.entries - l.at

@@ -1,0 +1,30 @@
+-- What is known of the room in a file.
+use Rattle.std.specs.Prelude.{◌≡◌, ℕ, ◌+◌, ◌<◌, ◌≤◌, List, [], ◌∷◌, ◌++◌, length, All}
+use Rattle.std.specs.List.{flat_map}
+use Rattle.krb_keytab.specs.Edit.{IsMadeOf}
+use Rattle.krb_keytab.specs.Format.{version, KeytabRecord, hole, entry, record_bytes}
+use Rattle.krb_keytab.specs.declared.adder.Hole.{Hole}
+
+-- the holes among records that begin at an offset
+abbrev pub holes_of : ℕ → List KeytabRecord → List Hole
+holes_of at [] = []
+holes_of at (hole ignored ∷ others) =
+    record { from = at; size = length (record_bytes (hole ignored)) } ∷ holes_of (at + length (record_bytes (hole ignored))) others
+holes_of at (entry e short_kvno rest ∷ others) = holes_of (at + length (record_bytes (entry e short_kvno rest))) others
+
+-- the holes of a keytab, and where its records end
+pub record KnowsRoom (bytes : List ℕ) (holes : List Hole) (at : ℕ) : Type 0 where
+  pub records : List KeytabRecord
+  pub end : List ℕ
+  pub is : IsMadeOf bytes records end
+  pub at_is : at ≡ length version + length (flat_map record_bytes records)
+  pub holes_are : holes ≡ holes_of (length version) records
+
+-- the first hole of at least so many bytes was taken out
+pub record IsTaken (old : List Hole) (size : ℕ) (one : Hole) (new : List Hole) : Type 0 where
+  pub before : List Hole
+  pub after : List Hole
+  pub old_is : old ≡ before ++ one ∷ after
+  pub new_is : new ≡ before ++ after
+  pub small : All (λ other. other.size < size) before
+  pub room : size ≤ one.size

@@ -1,0 +1,147 @@
+//! Adding entries one after another to the bytes of a keytab.
+
+ghost use Rattle.std.specs.Prelude.{◌≡◌, ◌≢◌, ◌⊎◌, List, All, ◌<◌, IfOk, IfErr, OnOk, OnErr, MatchOption, Err};
+ghost use Rattle.krb_keytab.specs.Edit.{AddsEntry, GainsEntry, IsUnadded, WouldPass};
+ghost use Rattle.krb_keytab.specs.Entry.{KeytabEntry};
+ghost use Rattle.krb_keytab.specs.Format.{IsFaultOf, IsKeytab};
+ghost use Rattle.krb_keytab.specs.Inner.Room.{IsTaken, KnowsRoom};
+ghost use Rattle.krb_keytab.specs.declared.fault.KeytabFault.{KeytabFault};
+
+use crate::entry::Entry;
+use crate::fault::KeytabFault;
+use crate::found::Found;
+use crate::next::next_record;
+use crate::opening::open;
+use crate::writing::{fill_in, put_record};
+use krb_name::FILE_LIMIT;
+use std::alloc::Global;
+use std::marker::Model;
+
+/// The bytes of a keytab, to which entries are added one after another. A contract sees it as the
+/// bytes.
+///
+/// The bytes become the same as by `Keytab::add_in`, which reads the whole file for each entry. The
+/// time for an entry grows with its length and with the number of holes that are left.
+#[derive(Drop)]
+pub struct EntryAdder {
+    file: Vec<u8>,
+    // The holes, in the order of the file.
+    holes: Vec<Hole>,
+    // Where the records end.
+    end: usize,
+}
+
+/// A hole: the offset of its size, and how many bytes it has with that size.
+#[derive(Drop)]
+pub(crate) struct Hole {
+    pub(crate) from: usize,
+    pub(crate) size: usize,
+}
+
+impl Model for EntryAdder {
+    ghost use Rattle.std.specs.Prelude.{ℕ, List};
+    ghost use Rattle.krb_keytab.specs.Inner.Room.{KnowsRoom};
+
+    ghost Value = { List ℕ };
+
+    ghost view = { λ a. a.file.items };
+
+    ghost invariant = { λ a. KnowsRoom a.file.items a.holes.items a.end };
+}
+
+impl EntryAdder {
+    /// Takes the bytes of a file, and reads where its holes are.
+    ///
+    /// Allocates 16 bytes for each hole.
+    ///
+    /// # Errors
+    /// - Those of `Keytab::parse` except `OutOfMemory`, if the bytes aren't a keytab.
+    /// - `OutOfMemory`: there is no memory for the list of holes. It may be reported instead of a
+    ///   fault that comes later.
+    ///
+    /// Source: MIT krb5, "Keytab file format".
+    pub fn new(alloc: Global, file: Vec<u8>) -> Result<EntryAdder, KeytabFault>
+        ensures kept { IfOk result (λ adder. adder ≡ file.items) }
+        ensures keytab { IfOk result (λ adder.
+            (entries : List KeytabEntry) × IsKeytab adder entries) }
+        ensures fault { IfErr result (λ fault.
+            fault ≢ KeytabFault.OutOfMemory → IsFaultOf file.items fault) }
+    {
+        let (holes, end) = find_holes(alloc, &file)?;
+        Ok(EntryAdder { file, holes, end })
+    }
+
+    /// Adds `entry`, as `Keytab::add_in` does: to the first hole that is at least as long, else to
+    /// the end.
+    ///
+    /// # Errors
+    /// The bytes are then unchanged.
+    /// - `TooLong`: no hole is long enough, and the longer file would have more than 16,777,216
+    ///   bytes.
+    /// - `OutOfMemory`: no hole is long enough, and there is no memory for the longer file.
+    pub fn add(&mut self, entry: &Entry) -> Result<(), KeytabFault>
+        ensures ok { OnOk result (AddsEntry self.old entry.now self.new) }
+        ensures list { OnOk result (GainsEntry self.old entry.now self.new) }
+        ensures too_long { WouldPass self.old entry.now → result ≡ Err KeytabFault.TooLong }
+        ensures unadded { IfErr result (IsUnadded self.old entry.now) }
+        ensures err { OnErr result (self.new ≡ self.old) }
+    {
+        let size = entry.record_length();
+        match take_hole(&mut self.holes, size) {
+            Some(hole) => {
+                fill_in(&mut self.file, hole.from, hole.from + hole.size, entry);
+                Ok(())
+            }
+            None => {
+                if FILE_LIMIT - self.end < size {
+                    return Err(KeytabFault::TooLong);
+                }
+                put_record(&mut self.file, self.end, entry)?;
+                self.end += size;
+                Ok(())
+            }
+        }
+    }
+
+    /// Returns the bytes.
+    pub fn into_bytes(self) -> Vec<u8>
+        ensures { result.items ≡ self }
+    {
+        self.file
+    }
+}
+
+// Finds the holes of a keytab, and where its records end.
+fn find_holes(alloc: Global, bytes: &[u8]) -> Result<(Vec<Hole>, usize), KeytabFault>
+    ensures room { IfOk result (λ found. KnowsRoom bytes.now found.0.items found.1) }
+    ensures fault { IfErr result (λ fault.
+        fault ≢ KeytabFault.OutOfMemory → IsFaultOf bytes.now fault) }
+{
+    let mut cursor = open(bytes)?;
+    let mut holes = Vec::new(alloc);
+    loop {
+        let from = cursor.at();
+        match next_record(&mut cursor)? {
+            Found::End => return Ok((holes, from)),
+            Found::Entry(_) => {}
+            Found::Hole => {
+                let size = cursor.at() - from;
+                holes.push(Hole { from, size })?;
+            }
+        }
+    }
+}
+
+// Takes the first hole of at least so many bytes out of the list.
+fn take_hole(holes: &mut Vec<Hole>, size: usize) -> Option<Hole>
+    ensures { MatchOption result
+        (All (λ hole. hole.size < size) holes.old.items × (holes.new.items ≡ holes.old.items))
+        (λ hole. IsTaken holes.old.items size hole holes.new.items) }
+{
+    for at in 0..holes.len() {
+        if size <= holes[at].size {
+            return Some(holes.remove(at));
+        }
+    }
+    None
+}
