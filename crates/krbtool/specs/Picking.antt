@@ -1,4 +1,4 @@
--- What `pick-key` prints: the entry of a keytab that a ticket would be opened with, or why there is none.
+-- What `pick-key` prints: the entry of a keytab whose key would open a ticket, or why there is none.
 use Rattle.std.specs.Prelude.{ℕ, ℤ, List, Option}
 use Rattle.krb_name.specs.declared.principal.Principal.{Principal}
 use Rattle.krb_keytab.specs.Entry.{KeytabEntry}

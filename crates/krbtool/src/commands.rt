@@ -88,7 +88,7 @@ const REQUEST: Help<'static> = Help {
     about: "Builds a request for a service with a ticket of a credential cache, and prints it in hexadecimal",
     file: CCACHE,
     end: with_statuses!(
-        "Prints one line of hexadecimal digits. Use a time at most once for each ticket. With --token gss the request is in a Kerberos token of GSS-API (RFC 4121), and with --token spnego that token is in a negotiation (RFC 4178).",
+        "Prints one line of hexadecimal digits. Use a time at most once for each client and service. With --token gss the request is in a Kerberos token of GSS-API (RFC 4121), and with --token spnego that token is in a negotiation (RFC 4178).",
         "if the file is faulty, or there is no request"
     ),
 };
@@ -97,7 +97,7 @@ const FINISH: Help<'static> = Help {
     about: "Reads the reply to a request that was built with a credential cache, and says what client and service agree on",
     file: CCACHE,
     end: with_statuses!(
-        "Prints one line: agreed CLIENT ENCTYPE [seq N] [subkey ENCTYPE], the encryption types of the session key and of the service's key.",
+        "The request must have been built with --mutual. Prints one line: agreed CLIENT ENCTYPE [seq N] [subkey ENCTYPE], the encryption types of the session key and of the service's key.",
         "if the file is faulty, there is no request, or the reply is refused"
     ),
 };
@@ -106,13 +106,13 @@ const ACCEPT: Help<'static> = Help {
     about: "Answers requests: says for each line SECONDS MICROS HEX [CONFOUNDER] of standard input whether a service accepts it",
     file: "The service's keytab",
     end: with_statuses!(
-        "A line of input: the service's clock (seconds since 1970-01-01, and microseconds), the request in hexadecimal (- for no bytes), and a confounder for the reply (32 digits). Its answer:\n  accepted CLIENT ENCTYPE SECONDS MICROS plain|mutual [reply HEX]\n  refused CODE NAME [error HEX]\n  bad token FAULT at OFFSET (with --tokens)\n  bad line\nEach run remembers only its own requests.",
+        "A line of input: the service's clock (seconds since 1970-01-01, and microseconds), the request in hexadecimal (- for no bytes), and a confounder for the reply (32 digits). Its answer:\n  accepted CLIENT ENCTYPE SECONDS MICROS plain|mutual [reply HEX]\n  refused CODE NAME [error HEX]\n  refused none OutOfMemory\n  bad token FAULT at OFFSET (with --tokens)\n  bad line\nEach run remembers only its own requests.",
         "if the keytab is faulty, or a request, a token or a line is refused"
     ),
 };
 
 const PICK_KEY: Help<'static> = Help {
-    about: "Prints the entry of a keytab that a ticket would be opened with",
+    about: "Prints the entry of a keytab whose key would open a ticket",
     file: KEYTAB,
     end: with_statuses!(
         "Prints the entry's line: KVNO ENCTYPE TIMESTAMP PRINCIPAL. If no entry is picked, the fault says why: NoName, NoKey or NoVersion.",
@@ -416,7 +416,7 @@ fn accept_with_times<'a>(alloc: Global) -> Result<Command<'a>, AllocError>
         alloc,
         "started",
         253_402_300_799,
-        "When the service was started again, in seconds since 1970-01-01, rounded up. Requests are refused as JustStarted until its clock and the client's are both later than this by more than the skew; omit it only for a service that never ran before",
+        "When the service was started again, in seconds since 1970-01-01, rounded up. Requests are refused as JustStarted until its clock and the client's are both later than this by more than the skew. Omit it only if no service has used this name and these keys before",
     );
     of_keytab_command(alloc, "accept", &ACCEPT)?
         .arg(skew)?
@@ -492,7 +492,7 @@ fn list_ccache_command<'a>(alloc: Global) -> Result<Command<'a>, AllocError>
         alloc,
         "now",
         253_402_300_799,
-        "A time in seconds since 1970-01-01: marks the tickets that ended before it. Needs --readable",
+        "Marks the tickets that ended before this time, in seconds since 1970-01-01. Needs --readable",
     );
     let now = needing_another(moment, "readable")?;
     of_file_command(alloc, "list-ccache", &LIST_CCACHE)?

@@ -47,7 +47,7 @@ pub enum Order<'a> {
     Accept(AcceptWords<'a>),
     /// `finish FILE SERVICE --time S --usec U --reply HEX`: what is agreed by the reply to a request.
     Finish(FinishWords<'a>),
-    /// `pick-key KEYTAB NAME ETYPE [--kvno N]`: the entry of a keytab that a ticket would be opened with.
+    /// `pick-key KEYTAB NAME ETYPE [--kvno N]`: the entry of a keytab whose key would open a ticket.
     PickKey(PickWords<'a>),
     /// `remove-key KEYTAB OUT INDEX`: a keytab with a hole in place of an entry.
     RemoveKey(RemoveWords<'a>),
