@@ -247,6 +247,7 @@ def view_item(argument, values):
 
 
 def pairs(values, indent):
+    """Values in nested pairs, each on a line of its own until the others find room on one."""
     whole = nested(values, "tt")
     if len(values) == 1 or indent + len(whole) < 100:
         return whole
@@ -456,7 +457,9 @@ class Message:
                 }}
         """
         is_message = f"impl<'a> Message<'a> for {self.view}<'a> {{}}\n"
-        copied = self.owned_fields(lambda it: f"{it.key}: {it.copied}", lambda it: f"{it.field}: self.{it.name}.to_principal(alloc, self.{it.realm})?")
+        copied = self.owned_fields(
+            lambda it: f"{it.key}: {it.copied}", lambda it: f"{it.field}: self.{it.name}.to_principal(alloc, self.{it.realm})?"
+        )
         fields, what = ", ".join(copied), "message" if self.application else "value"
         return f"""
             {is_message if self.application else ""}
@@ -576,6 +579,7 @@ class Message:
 
 
 def comment(mark, text):
+    """A comment, on lines that aren't too long."""
     return textwrap.fill(text, 100, initial_indent=mark, subsequent_indent=mark, break_on_hyphens=False)
 
 
@@ -684,6 +688,7 @@ def definition_file(said, uses, again, body):
 
 
 def structs(places):
+    """The structs that definitions are about, by their modules."""
     return {f"Rattle.krb_msg.specs.declared.{file}.{struct}": [struct] for file, struct in places}
 
 
