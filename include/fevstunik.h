@@ -655,9 +655,9 @@ fevstunik_answer fevstunik_name_check(const uint8_t *name, size_t name_size);
  *
  * Use this function only if no service has used this name and these keys before, with this or any
  * other software, or if all instances share a store of stamps (fevstunik_accepted_stamp) that has
- * been in use since the first start of any of them, and has lost nothing. After a restart use
- * fevstunik_acceptor_started: a service that has forgotten its requests may accept one of them
- * again.
+ * been in use since the first start of any service with this name and these keys, and has lost
+ * nothing. After a restart use fevstunik_acceptor_started: a service that has forgotten its
+ * requests may accept one of them again.
  *
  * Returns FEVSTUNIK_OK; or leaves the handle unchanged and returns the first that applies:
  * FEVSTUNIK_BAD_SKEW; FEVSTUNIK_TOO_LONG, _FILE_VERSION, _FILE_TRUNCATED or _FILE_BAD_ITEM for the
@@ -782,7 +782,7 @@ fevstunik_answer fevstunik_accepted_known(const fevstunik_accepted *accepted, fe
 fevstunik_answer fevstunik_accepted_stamp(const fevstunik_accepted *accepted, uint32_t skew, fevstunik_time *keep_until, uint8_t *buffer,
                                           size_t buffer_size);
 
-/* Returns when the ticket of the accepted request becomes valid, if the ticket says so. Otherwise
+/* Returns the time from which the ticket of the accepted request is valid, if the ticket has one (starttime). Otherwise
  * it is valid from `authtime` on. The call allocates no memory.
  *
  * Returns FEVSTUNIK_OK; or writes nothing and returns FEVSTUNIK_EMPTY_HANDLE, or
@@ -930,7 +930,7 @@ fevstunik_answer fevstunik_request(const fevstunik_cache *cache, fevstunik_pendi
  * checksum of type 0x8003 (RFC 4121, section 4.1.1), which says what `context` says. Its flag 2
  * (mutual) is set if and only if the request asks for a reply (`choice->wants_reply`), and its flag
  * 1 (delegation) is never set, whatever `context->flags` says. Such a request also needs a sequence
- * number (`choice->has_seq`). Pass it to fevstunik_token_request.
+ * number (`choice->has_seq`). Pass the request to fevstunik_token_request.
  *
  * Returns what fevstunik_request returns: FEVSTUNIK_OK or FEVSTUNIK_SHORT_BUFFER; or writes
  * nothing, leaves `pending` unchanged, and returns the first that applies: FEVSTUNIK_EMPTY_HANDLE
@@ -1038,7 +1038,7 @@ fevstunik_answer fevstunik_checksum_check(int32_t key_type, const uint8_t *key, 
 fevstunik_answer fevstunik_token_open(const uint8_t *token, size_t token_size, fevstunik_wrapped *wrapped, uint8_t *buffer,
                                       size_t buffer_size);
 
-/* Returns the first token of a client for a request. Build it with fevstunik_context_request: RFC
+/* Returns the first token of a client for a request. Build the request with fevstunik_context_request: RFC
  * 4121, section 4.1.1, requires the checksum of type 0x8003. A service of this library accepts a
  * request without one, but others may refuse it, or not reply.
  *

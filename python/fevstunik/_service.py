@@ -248,8 +248,8 @@ class Acceptor:
     started  the service's clock at this start, as time.time(). A restarted service has forgotten what it accepted. So it refuses requests
              with the cause JUST_STARTED until its clock and the client's are both later than this start by more than the skew. Pass None
              only if no service has used this name and these keys before, with this or any other software, or if all instances share a
-             store that has been in use since the first start of any of them, and has lost nothing. The service then accepts at once, and
-             would accept again what an earlier run accepted
+             store that has been in use since the first start of any service with this name and these keys, and has lost nothing. The
+             service then accepts at once, and would accept again what an earlier run accepted
 
     Make one and keep it. Any thread may call it. A lock lets one decision run at a time; what was accepted is read without that lock. An
     Acceptor belongs to the process that made it: after a fork, the child's calls raise RuntimeError.
