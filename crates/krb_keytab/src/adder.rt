@@ -10,6 +10,7 @@ ghost use Rattle.krb_keytab.specs.declared.fault.KeytabFault.{KeytabFault};
 use crate::entry::Entry;
 use crate::fault::KeytabFault;
 use crate::found::Found;
+use crate::keytab::fault_of;
 use crate::next::next_record;
 use crate::opening::open;
 use crate::writing::{fill_in, put_record};
@@ -52,12 +53,12 @@ impl Model for EntryAdder {
 impl EntryAdder {
     /// Takes the bytes of a file, and reads where its holes are.
     ///
-    /// Allocates 16 bytes for each hole.
+    /// Allocates memory for the list of holes, 16 bytes or more for each.
     ///
     /// # Errors
+    /// The bytes are freed.
     /// - Those of `Keytab::parse` except `OutOfMemory`, if the bytes aren't a keytab.
-    /// - `OutOfMemory`: there is no memory for the list of holes. It may be reported instead of a
-    ///   fault that comes later.
+    /// - `OutOfMemory`: they are one, and there is no memory for the list.
     ///
     /// Source: MIT krb5, "Keytab file format".
     pub fn new(alloc: Global, file: Vec<u8>) -> Result<EntryAdder, KeytabFault>
@@ -66,8 +67,10 @@ impl EntryAdder {
             (entries : List KeytabEntry) × IsKeytab adder entries) }
         ensures fault { IfErr result (λ fault.
             fault ≢ KeytabFault.OutOfMemory → IsFaultOf file.items fault) }
+        // Out of memory never takes the place of a fault.
+        ensures faulty { (fault : KeytabFault) → IsFaultOf file.items fault → result ≡ Err fault }
     {
-        let (holes, end) = find_holes(alloc, &file)?;
+        let (holes, end) = read_room(alloc, &file)?;
         Ok(EntryAdder { file, holes, end })
     }
 
@@ -111,7 +114,20 @@ impl EntryAdder {
     }
 }
 
-// Finds the holes of a keytab, and where its records end.
+// Finds the holes of a keytab, and where its records end. Looks for a fault again if there was no
+// memory, so that none is hidden.
+fn read_room(alloc: Global, bytes: &[u8]) -> Result<(Vec<Hole>, usize), KeytabFault>
+    ensures room { IfOk result (λ found. KnowsRoom bytes.now found.0.items found.1) }
+    ensures fault { IfErr result (λ fault.
+        fault ≢ KeytabFault.OutOfMemory → IsFaultOf bytes.now fault) }
+    ensures faulty { (fault : KeytabFault) → IsFaultOf bytes.now fault → result ≡ Err fault }
+{
+    match find_holes(alloc, bytes) {
+        Ok(found) => Ok(found),
+        Err(_) => Err(fault_of(bytes)),
+    }
+}
+
 fn find_holes(alloc: Global, bytes: &[u8]) -> Result<(Vec<Hole>, usize), KeytabFault>
     ensures room { IfOk result (λ found. KnowsRoom bytes.now found.0.items found.1) }
     ensures fault { IfErr result (λ fault.

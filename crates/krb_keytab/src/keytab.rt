@@ -248,7 +248,7 @@ impl Keytab {
 }
 
 // Why bytes weren't read: their fault, or `OutOfMemory` if they have none.
-fn fault_of(bytes: &[u8]) -> KeytabFault
+pub(crate) fn fault_of(bytes: &[u8]) -> KeytabFault
     ensures fault { result ≢ KeytabFault.OutOfMemory → IsFaultOf bytes.now result }
     ensures exact { (fault : KeytabFault) → IsFaultOf bytes.now fault → result ≡ fault }
 {

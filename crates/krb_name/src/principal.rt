@@ -52,7 +52,7 @@ impl Principal {
     /// Appends the text that `to_text` returns.
     ///
     /// # Errors
-    /// There is no memory. What was appended is then unspecified.
+    /// There is no memory. The text is then unspecified.
     pub fn write_text(&self, text: &mut String) -> Result<(), AllocError>
         ensures { OnOk result (string_bytes text.new ≡ string_bytes text.old ++ text_of self.now) }
     {
