@@ -1,6 +1,6 @@
 -- The command line of krbtool, in the words of clap's own definition of a simple command: its
 -- subcommands with their operands, and what order the words of a command line give.
-use Rattle.std.specs.Prelude.{◌≡◌, ℕ, Bool, List, [], ◌∷◌, Option, Some, None, true, false, codes}
+use Rattle.std.specs.Prelude.{◌≡◌, ℕ, Bool, List, [], ◌∷◌, ◌++◌, Option, Some, None, true, false, codes, fold}
 use Rattle.clap.specs.Words.{App, Row, Rule, Text, first_of, one_of, new_app, new_rule, with_rule, with_subcommand}
 use Rattle.clap.specs.declared.builder.value_parser.ValueParser.TheVariants.{Unsigned}
 use Rattle.clap.specs.declared.builder.action.ArgAction.TheVariants.{SetTrue}
@@ -53,100 +53,61 @@ needing_another rule = record rule { is_free = false }
 abbrev pub flag : Text → Rule
 flag id = record (new_rule id) { long = Some id; action = Some SetTrue }
 
--- NAME FILE
-abbrev pub of_file : Text → App
-of_file name = with_rule (new_app name) (operand (codes "FILE"))
+-- a command with these operands and options
+abbrev pub command : Text → List Rule → App
+command name rules = fold with_rule (new_app name) rules
 
--- list-keytab FILE [--readable]
-abbrev pub list_keytab : App
-list_keytab = with_rule (of_file (codes "list-keytab")) (flag (codes "readable"))
+abbrev pub file : Rule
+file = operand (codes "FILE")
 
--- list-ccache FILE [--readable [--now SECONDS]]
-abbrev pub list_ccache : App
-list_ccache =
-    with_rule (with_rule (of_file (codes "list-ccache")) (flag (codes "readable"))) (needing_another (free_number (codes "now") 253_402_300_799))
+abbrev pub keytab : Rule
+keytab = operand (codes "KEYTAB")
 
--- NAME FILE OUT
-abbrev pub of_file_and_out : Text → App
-of_file_and_out name = with_rule (of_file name) (operand (codes "OUT"))
+abbrev pub out : Rule
+out = operand (codes "OUT")
 
--- NAME FILE SERVICE
-abbrev pub of_service : Text → App
-of_service name = with_rule (of_file name) (operand (codes "SERVICE"))
+-- a cache, a service, and the moment of a request
+abbrev pub request_operands : List Rule
+request_operands =
+    file ∷ operand (codes "SERVICE") ∷ needed_number (codes "time") 253_402_300_799 ∷ needed_number (codes "usec") 999_999 ∷ []
 
--- NAME FILE SERVICE --time S --usec U
-abbrev pub of_moment : Text → App
-of_moment name = with_rule (with_rule (of_service name) (needed_number (codes "time") 253_402_300_799)) (needed_number (codes "usec") 999_999)
-
--- request FILE SERVICE --time S --usec U --confounder H [--mutual] [--token KIND]
-abbrev pub plain_request : App
-plain_request = with_rule (with_rule (of_moment (codes "request")) (needed_option (codes "confounder"))) (flag (codes "mutual"))
-
-abbrev pub request : App
-request = with_rule plain_request (free_option (codes "token"))
-
--- finish FILE SERVICE --time S --usec U --reply HEX
-abbrev pub finish : App
-finish = with_rule (of_moment (codes "finish")) (needed_option (codes "reply"))
-
--- NAME KEYTAB
-abbrev pub of_keytab : Text → App
-of_keytab name = with_rule (new_app name) (operand (codes "KEYTAB"))
-
--- pick-key KEYTAB NAME ETYPE [--kvno N]
-abbrev pub pick_operands : App
-pick_operands =
-    with_rule (with_rule (of_keytab (codes "pick-key")) (operand (codes "NAME"))) (number_operand (codes "ETYPE") 2_147_483_647)
-
-abbrev pub pick_key : App
-pick_key = with_rule pick_operands (free_number (codes "kvno") 4_294_967_295)
-
--- remove-key KEYTAB OUT INDEX
-abbrev pub remove_key : App
-remove_key = with_rule (with_rule (of_keytab (codes "remove-key")) (operand (codes "OUT"))) (number_operand (codes "INDEX") 4_294_967_295)
-
--- add-keys KEYTAB FROM OUT
-abbrev pub add_keys : App
-add_keys = with_rule (with_rule (of_keytab (codes "add-keys")) (operand (codes "FROM"))) (operand (codes "OUT"))
-
--- accept KEYTAB [--skew SECONDS] [--started SECONDS] [--service NAME] [--only NAME] [--tokens]
-abbrev pub accept_with_skew : App
-accept_with_skew = with_rule (of_keytab (codes "accept")) (number_option (codes "skew") 86_400 (codes "300"))
-
-abbrev pub accept_with_times : App
-accept_with_times = with_rule accept_with_skew (free_number (codes "started") 253_402_300_799)
-
-abbrev pub accept_with_names : App
-accept_with_names = with_rule (with_rule accept_with_times (free_option (codes "service"))) (free_option (codes "only"))
-
-abbrev pub accept : App
-accept = with_rule accept_with_names (flag (codes "tokens"))
-
--- an app with two more subcommands
-abbrev pub with_two : App → App → App → App
-with_two app one other = with_subcommand (with_subcommand app one.top) other.top
+-- the commands, each with its operands and options
+abbrev pub commands : List App
+commands =
+    command (codes "list-keytab") (file ∷ flag (codes "readable") ∷ [])
+    ∷ command (codes "list-ccache") (file ∷ flag (codes "readable") ∷ needing_another (free_number (codes "now") 253_402_300_799) ∷ [])
+    ∷ command (codes "check-keytab") (file ∷ [])
+    ∷ command (codes "check-ccache") (file ∷ [])
+    ∷ command (codes "convert-keytab") (file ∷ out ∷ [])
+    ∷ command (codes "convert-ccache") (file ∷ out ∷ [])
+    ∷ command (codes "request") (request_operands ++ needed_option (codes "confounder") ∷ flag (codes "mutual") ∷ free_option (codes "token") ∷ [])
+    ∷ command (codes "accept") (keytab
+    ∷ number_option (codes "skew") 86_400 (codes "300")
+    ∷ free_number (codes "started") 253_402_300_799
+    ∷ free_option (codes "service")
+    ∷ free_option (codes "only")
+    ∷ flag (codes "tokens")
+    ∷ [])
+    ∷ command (codes "finish") (request_operands ++ needed_option (codes "reply") ∷ [])
+    ∷ command (codes "pick-key") (keytab
+    ∷ operand (codes "NAME")
+    ∷ number_operand (codes "ETYPE") 2_147_483_647
+    ∷ free_number (codes "kvno") 4_294_967_295
+    ∷ [])
+    ∷ command (codes "remove-key") (keytab ∷ out ∷ number_operand (codes "INDEX") 4_294_967_295 ∷ [])
+    ∷ command (codes "add-keys") (keytab ∷ operand (codes "FROM") ∷ out ∷ [])
+    ∷ []
 
 -- krbtool COMMAND ..: one of its commands has to be there; it has a version, which --version asks for
 abbrev pub bare : App
 bare = let top = new_app (codes "krbtool") in record top { top = record top.top { has_version = true; subcommand_required = true } }
 
-abbrev pub with_lists : App
-with_lists = with_two bare list_keytab list_ccache
-
-abbrev pub with_checks : App
-with_checks = with_two with_lists (of_file (codes "check-keytab")) (of_file (codes "check-ccache"))
-
-abbrev pub with_conversions : App
-with_conversions = with_two with_checks (of_file_and_out (codes "convert-keytab")) (of_file_and_out (codes "convert-ccache"))
-
-abbrev pub with_exchange : App
-with_exchange = with_two with_conversions request accept
-
-abbrev pub with_keys : App
-with_keys = with_two with_exchange finish pick_key
+-- an app with one more command
+abbrev pub with_command : App → App → App
+with_command app one = with_subcommand app one.top
 
 unfoldable pub krbtool : App
-krbtool = with_two with_keys remove_key add_keys
+krbtool = fold with_command bare commands
 
 -- an operand or an option has this value
 abbrev pub HasOperand : List Row → Text → Text → Type 0

@@ -4,3 +4,4 @@ pub mod Held
 pub mod Going
 pub mod Whole
 pub mod Adding
+pub mod Commands

@@ -7,6 +7,7 @@
 mod accept;
 mod add;
 mod answering;
+mod arguments;
 mod call_line;
 mod check;
 mod commands;
