@@ -4,7 +4,7 @@ use Rattle.std.proofs.Math.ListN.{get_or-append}
 use Rattle.std.proofs.Math.Seq.{get_or-append_right, take-suc}
 use Rattle.std.proofs.lemmas.Bool.{cases_lt}
 use Rattle.std.proofs.lemmas.List.{append-nil, get_or-append-add, take-append-drop}
-use Rattle.std.specs.Prelude.{◌↔◌, ◌≢◌, Bool, true, false, IsTrue, IfErr, IfSome, OnOk, Option, Some, None, Result, Ok, Err}
+use Rattle.std.specs.Prelude.{◌≢◌, IfErr, IfSome, OnOk, Option, Some, None, Result, Ok, Err}
 use Rattle.krb_keytab.specs.Edit.{AddsEntry, GainsEntry, IsUnadded, WouldPass}
 use Rattle.krb_keytab.specs.Entry.{KeytabEntry}
 use Rattle.krb_keytab.specs.Format.{IsAnswerOf, IsFaultOf, IsKeytab}
@@ -95,11 +95,6 @@ key_in_one one other entry has = elim (cases_lt has.0 (length one)) [
       let at : has.0 - length one < length other = omega (arith, length-append one other, has.2, above) in
       inr (has.0 - length one, has.1, at, sym (get_or-append_right one other has.0 has.1 above) ∙ has.3, has.4)
 ]
-
--- what is false isn't so
-pub denied : {P : Type 0} (b : Bool) → IsTrue b ↔ P → b ≡ false → ¬ P
-denied true means is has = cc
-denied false means is has = let yes = means.1 has in cc
 
 -- the answer of a call that adds the entry, which is lacking
 pub taken : {F : Type 0} (result : Result Unit F) (known : List KeytabEntry) (old : List ℕ) (entry : KeytabEntry) (new : List ℕ)

@@ -1,21 +1,21 @@
 -- The command line of krbtool, in the words of clap's own definition of a simple command: its
--- subcommands with their operands, and what order the words of a command line give.
+-- subcommands with their operands, and which command the words of a command line give.
 use Rattle.std.specs.Prelude.{◌≡◌, ℕ, Bool, List, [], ◌∷◌, ◌++◌, Option, Some, None, true, false, codes, fold}
 use Rattle.clap.specs.Words.{App, Row, Rule, Text, first_of, one_of, new_app, new_rule, with_rule, with_subcommand}
 use Rattle.clap.specs.declared.builder.value_parser.ValueParser.TheVariants.{Unsigned}
 use Rattle.clap.specs.declared.builder.action.ArgAction.TheVariants.{SetTrue}
 use Rattle.std.specs.Borrow.{Bor}
 use Rattle.std.specs.Option.{option_map}
-use Rattle.krbtool.specs.declared.order.AcceptWords.{AcceptWords}
-use Rattle.krbtool.specs.declared.order.AddWords.{AddWords}
-use Rattle.krbtool.specs.declared.order.CacheForm.{CacheForm}
-use Rattle.krbtool.specs.declared.order.CacheForm.TheVariants.{Lines, Table}
-use Rattle.krbtool.specs.declared.order.FinishWords.{FinishWords}
-use Rattle.krbtool.specs.declared.order.PickWords.{PickWords}
-use Rattle.krbtool.specs.declared.order.RemoveWords.{RemoveWords}
-use Rattle.krbtool.specs.declared.order.RequestWords.{RequestWords}
-use Rattle.krbtool.specs.declared.order.Order.{Order}
-use Rattle.krbtool.specs.declared.order.Order.TheVariants.{ListKeytab, ListCcache, CheckKeytab, CheckCcache, ConvertKeytab, ConvertCcache, Request, Accept, Finish, PickKey, RemoveKey, AddKeys}
+use Rattle.krbtool.specs.declared.command_line.AcceptWords.{AcceptWords}
+use Rattle.krbtool.specs.declared.command_line.AddWords.{AddWords}
+use Rattle.krbtool.specs.declared.command_line.CacheForm.{CacheForm}
+use Rattle.krbtool.specs.declared.command_line.CacheForm.TheVariants.{Lines, Table}
+use Rattle.krbtool.specs.declared.command_line.FinishWords.{FinishWords}
+use Rattle.krbtool.specs.declared.command_line.PickWords.{PickWords}
+use Rattle.krbtool.specs.declared.command_line.RemoveWords.{RemoveWords}
+use Rattle.krbtool.specs.declared.command_line.RequestWords.{RequestWords}
+use Rattle.krbtool.specs.declared.command_line.Command.{Command}
+use Rattle.krbtool.specs.declared.command_line.Command.TheVariants.{ListKeytab, ListCcache, CheckKeytab, CheckCcache, ConvertKeytab, ConvertCcache, Request, Accept, Finish, PickKey, RemoveKey, AddKeys}
 
 -- an operand that has to be there
 abbrev pub operand : Text → Rule
@@ -181,19 +181,19 @@ pub record AsksAddition (rows : List Row) (words : AddWords) : Type 0 where
   pub from : HasOperand rows (codes "FROM") words.from.now
   pub out : HasOperand rows (codes "OUT") words.out.now
 
--- the order is the subcommand's, with the values that its entries have
-abbrev pub IsOrder : Order → Option (Text × List Row) → Type 0
-IsOrder order None = ⊥
-IsOrder (ListKeytab file readable) (Some (name, rows)) =
+-- the command is the subcommand's, with the values that its entries have
+abbrev pub IsCommand : Command → Option (Text × List Row) → Type 0
+IsCommand one None = ⊥
+IsCommand (ListKeytab file readable) (Some (name, rows)) =
     (name ≡ codes "list-keytab") × (HasFile rows file.now × HasFlag rows (codes "readable") readable)
-IsOrder (ListCcache file form) (Some (name, rows)) = (name ≡ codes "list-ccache") × (HasFile rows file.now × AsksForm rows form)
-IsOrder (CheckKeytab file) (Some (name, rows)) = (name ≡ codes "check-keytab") × HasFile rows file.now
-IsOrder (CheckCcache file) (Some (name, rows)) = (name ≡ codes "check-ccache") × HasFile rows file.now
-IsOrder (ConvertKeytab file out) (Some (name, rows)) = (name ≡ codes "convert-keytab") × HasFiles rows file.now out.now
-IsOrder (ConvertCcache file out) (Some (name, rows)) = (name ≡ codes "convert-ccache") × HasFiles rows file.now out.now
-IsOrder (Request words) (Some (name, rows)) = (name ≡ codes "request") × AsksRequest rows words
-IsOrder (Accept words) (Some (name, rows)) = (name ≡ codes "accept") × AsksAcceptance rows words
-IsOrder (Finish words) (Some (name, rows)) = (name ≡ codes "finish") × AsksFinish rows words
-IsOrder (PickKey words) (Some (name, rows)) = (name ≡ codes "pick-key") × AsksPick rows words
-IsOrder (RemoveKey words) (Some (name, rows)) = (name ≡ codes "remove-key") × AsksRemoval rows words
-IsOrder (AddKeys words) (Some (name, rows)) = (name ≡ codes "add-keys") × AsksAddition rows words
+IsCommand (ListCcache file form) (Some (name, rows)) = (name ≡ codes "list-ccache") × (HasFile rows file.now × AsksForm rows form)
+IsCommand (CheckKeytab file) (Some (name, rows)) = (name ≡ codes "check-keytab") × HasFile rows file.now
+IsCommand (CheckCcache file) (Some (name, rows)) = (name ≡ codes "check-ccache") × HasFile rows file.now
+IsCommand (ConvertKeytab file out) (Some (name, rows)) = (name ≡ codes "convert-keytab") × HasFiles rows file.now out.now
+IsCommand (ConvertCcache file out) (Some (name, rows)) = (name ≡ codes "convert-ccache") × HasFiles rows file.now out.now
+IsCommand (Request words) (Some (name, rows)) = (name ≡ codes "request") × AsksRequest rows words
+IsCommand (Accept words) (Some (name, rows)) = (name ≡ codes "accept") × AsksAcceptance rows words
+IsCommand (Finish words) (Some (name, rows)) = (name ≡ codes "finish") × AsksFinish rows words
+IsCommand (PickKey words) (Some (name, rows)) = (name ≡ codes "pick-key") × AsksPick rows words
+IsCommand (RemoveKey words) (Some (name, rows)) = (name ≡ codes "remove-key") × AsksRemoval rows words
+IsCommand (AddKeys words) (Some (name, rows)) = (name ≡ codes "add-keys") × AsksAddition rows words

@@ -10,6 +10,7 @@ mod answering;
 mod arguments;
 mod call_line;
 mod check;
+mod command_line;
 mod commands;
 mod convert;
 mod count;
@@ -21,7 +22,6 @@ mod form;
 mod format;
 mod line;
 mod list;
-mod order;
 mod part_line;
 mod pick;
 mod remove;
@@ -67,7 +67,7 @@ fn answer(rt: &HostRuntime) -> u8 {
         return refuse_words(rt, io::ErrorKind::OutOfMemory);
     };
     match read_words(rt.alloc(), &words) {
-        Ok(order) => run(rt, order),
+        Ok(command) => run(rt, command),
         Err(error) => show(rt, &error),
     }
 }

@@ -1,14 +1,14 @@
-//! Running an order: files are opened, output is buffered, and a fault is printed.
+//! Running a command: files are opened, output is buffered, and a fault is printed.
 
 ghost use Rattle.std.specs.Prelude.{◌≡◌, ◌<◌, ◌-◌, ◌^◌, IfOk};
 ghost use Rattle.krb_name.specs.Flow.{source_failures};
 
 use crate::check::check;
+use crate::command_line::{CacheForm, Command};
 use crate::convert::convert;
 use crate::fault::{EngineFault, FAILED, WRONG_WORDS, status};
 use crate::fault_line::{FaultLine, fault_line, file_line};
 use crate::list::{Lines, list};
-use crate::order::{CacheForm, Order};
 use crate::run_accept::run_accept;
 use crate::run_edit::{run_add, run_remove};
 use crate::run_finish::run_finish;
@@ -33,7 +33,7 @@ const OWNER_ALONE: u32 = 0o600;
 
 // What is done with the one file that a command has.
 #[derive(Clone, Copy)]
-enum OnFile {
+enum FileCommand {
     ListKeytab,
     ListCcache,
     TableKeytab,
@@ -42,13 +42,13 @@ enum OnFile {
     CheckCcache,
 }
 
-impl OnFile {
+impl FileCommand {
     fn name(self) -> &'static str {
         match self {
-            OnFile::ListKeytab | OnFile::TableKeytab => "list-keytab",
-            OnFile::ListCcache | OnFile::TableCcache(_) => "list-ccache",
-            OnFile::CheckKeytab => "check-keytab",
-            OnFile::CheckCcache => "check-ccache",
+            FileCommand::ListKeytab | FileCommand::TableKeytab => "list-keytab",
+            FileCommand::ListCcache | FileCommand::TableCcache(_) => "list-ccache",
+            FileCommand::CheckKeytab => "check-keytab",
+            FileCommand::CheckCcache => "check-ccache",
         }
     }
 
@@ -62,16 +62,16 @@ impl OnFile {
         requires sink { T.failure_count sink.old < 2 ^ 64 - 1 }
     {
         match self {
-            OnFile::ListKeytab => list::<Keytab, Lines, S, T>(alloc, source, sink, &Lines),
-            OnFile::ListCcache => list::<CCache, Lines, S, T>(alloc, source, sink, &Lines),
-            OnFile::TableKeytab => {
+            FileCommand::ListKeytab => list::<Keytab, Lines, S, T>(alloc, source, sink, &Lines),
+            FileCommand::ListCcache => list::<CCache, Lines, S, T>(alloc, source, sink, &Lines),
+            FileCommand::TableKeytab => {
                 list::<Keytab, KeytabTable, S, T>(alloc, source, sink, &KeytabTable)
             }
-            OnFile::TableCcache(now) => {
+            FileCommand::TableCcache(now) => {
                 list::<CCache, CacheTable, S, T>(alloc, source, sink, &CacheTable { now })
             }
-            OnFile::CheckKeytab => check::<Keytab, S, T>(alloc, source, sink),
-            OnFile::CheckCcache => check::<CCache, S, T>(alloc, source, sink),
+            FileCommand::CheckKeytab => check::<Keytab, S, T>(alloc, source, sink),
+            FileCommand::CheckCcache => check::<CCache, S, T>(alloc, source, sink),
         }
     }
 }
@@ -100,49 +100,56 @@ impl Convert {
     }
 }
 
-/// Runs an order, and returns the exit status: 0 if all is well, 1 if content is refused, 3
+/// Runs a command, and returns the exit status: 0 if all is well, 1 if content is refused, 3
 /// if a file, the output or memory failed.
-pub(crate) fn run<R: AllocGlobal + Files + Input + Print + Eprint>(rt: &R, order: Order<'_>) -> u8 {
-    match order {
-        Order::ListKeytab { file, readable } => run_on_file(rt, on_keytab(readable), file),
-        Order::ListCcache { file, form } => match on_ccache(form) {
+pub(crate) fn run<R: AllocGlobal + Files + Input + Print + Eprint>(
+    rt: &R,
+    command: Command<'_>,
+) -> u8 {
+    match command {
+        Command::ListKeytab { file, readable } => run_on_file(rt, on_keytab(readable), file),
+        Command::ListCcache { file, form } => match on_ccache(form) {
             Some(command) => run_on_file(rt, command, file),
             None => WRONG_WORDS,
         },
-        Order::CheckKeytab { file } => run_on_file(rt, OnFile::CheckKeytab, file),
-        Order::CheckCcache { file } => run_on_file(rt, OnFile::CheckCcache, file),
-        Order::ConvertKeytab { file, out } => run_convert(rt, Convert::Keytab, file, out),
-        Order::ConvertCcache { file, out } => run_convert(rt, Convert::Ccache, file, out),
-        Order::Request(words) => run_request(rt, words),
-        Order::Accept(words) => run_accept(rt, words),
-        Order::Finish(words) => run_finish(rt, words),
-        Order::PickKey(words) => run_pick(rt, words),
-        Order::RemoveKey(words) => run_remove(rt, words),
-        Order::AddKeys(words) => run_add(rt, words),
+        Command::CheckKeytab { file } => run_on_file(rt, FileCommand::CheckKeytab, file),
+        Command::CheckCcache { file } => run_on_file(rt, FileCommand::CheckCcache, file),
+        Command::ConvertKeytab { file, out } => run_convert(rt, Convert::Keytab, file, out),
+        Command::ConvertCcache { file, out } => run_convert(rt, Convert::Ccache, file, out),
+        Command::Request(words) => run_request(rt, words),
+        Command::Accept(words) => run_accept(rt, words),
+        Command::Finish(words) => run_finish(rt, words),
+        Command::PickKey(words) => run_pick(rt, words),
+        Command::RemoveKey(words) => run_remove(rt, words),
+        Command::AddKeys(words) => run_add(rt, words),
     }
 }
 
-fn on_keytab(readable: bool) -> OnFile {
+fn on_keytab(readable: bool) -> FileCommand {
     if readable {
-        OnFile::TableKeytab
+        FileCommand::TableKeytab
     } else {
-        OnFile::ListKeytab
+        FileCommand::ListKeytab
     }
 }
 
 // The words of the command line were read as a number in this range.
-fn on_ccache(form: CacheForm<'_>) -> Option<OnFile> {
+fn on_ccache(form: CacheForm<'_>) -> Option<FileCommand> {
     match form {
-        CacheForm::Lines => Some(OnFile::ListCcache),
-        CacheForm::Table { now: None } => Some(OnFile::TableCcache(None)),
+        CacheForm::Lines => Some(FileCommand::ListCcache),
+        CacheForm::Table { now: None } => Some(FileCommand::TableCcache(None)),
         CacheForm::Table { now: Some(text) } => {
             let now = text.parse::<u64>().ok()?;
-            Some(OnFile::TableCcache(Some(now)))
+            Some(FileCommand::TableCcache(Some(now)))
         }
     }
 }
 
-fn run_on_file<R: AllocGlobal + Files + Print + Eprint>(rt: &R, command: OnFile, file: &str) -> u8 {
+fn run_on_file<R: AllocGlobal + Files + Print + Eprint>(
+    rt: &R,
+    command: FileCommand,
+    file: &str,
+) -> u8 {
     let Ok(opened) = File::open(rt, file) else {
         return complain(rt, file_line(file), FAILED);
     };
@@ -155,7 +162,7 @@ fn run_on_file<R: AllocGlobal + Files + Print + Eprint>(rt: &R, command: OnFile,
 // Runs the command on the file, with standard output as its sink.
 fn printed<R: AllocGlobal + Files + Print>(
     rt: &R,
-    command: OnFile,
+    command: FileCommand,
     file: R::File,
 ) -> Result<(), EngineFault> {
     let mut source = source_of(rt.alloc(), file)?;

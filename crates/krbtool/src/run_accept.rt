@@ -1,10 +1,10 @@
 //! Running `accept`: its words are read before its keytab is opened.
 
 use crate::accept::{AnswerOptions, accept_lines};
+use crate::command_line::AcceptWords;
 use crate::fault::{EngineFault, FAILED, WRONG_WORDS, service_status};
 use crate::fault_line::{file_line, name_line};
 use crate::form::Form;
-use crate::order::AcceptWords;
 use crate::request::read_service;
 use crate::run::{complain, complain_of, source_of};
 use krb_ap::Acceptor;

@@ -1,9 +1,9 @@
 //! Running `remove-key` and `add-keys`: OUT is made or emptied before a keytab is read.
 
 use crate::add::add_keys;
+use crate::command_line::{AddWords, RemoveWords};
 use crate::fault::{EngineFault, FAILED, WRONG_WORDS, status};
 use crate::fault_line::{fault_line, file_line};
-use crate::order::{AddWords, RemoveWords};
 use crate::remove::remove_key;
 use crate::run::{complain, make, source_of, tell_wrote};
 use krb_keytab::KeytabFault;

@@ -1,9 +1,9 @@
 //! Running `finish`: its words are read before its file is opened.
 
+use crate::command_line::FinishWords;
 use crate::fault::{EngineFault, FAILED, WRONG_WORDS, service_status};
 use crate::fault_line::{fault_line, file_line, hex_line, name_line};
 use crate::finish::{finish_line, read_reply};
-use crate::order::FinishWords;
 use crate::request::read_service;
 use crate::run::{complain, complain_of, source_of};
 use crate::run_request::moment_of;

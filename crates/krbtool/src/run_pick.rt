@@ -1,8 +1,8 @@
 //! Running `pick-key`: its words are read before its keytab is opened.
 
+use crate::command_line::PickWords;
 use crate::fault::{EngineFault, FAILED, WRONG_WORDS, service_status};
 use crate::fault_line::{file_line, name_line};
-use crate::order::PickWords;
 use crate::pick::pick_key;
 use crate::request::read_service;
 use crate::run::{complain, complain_of, source_of};

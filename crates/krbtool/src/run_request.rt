@@ -1,8 +1,8 @@
 //! Running `request`: its words are read before its file is opened.
 
+use crate::command_line::RequestWords;
 use crate::fault::{EngineFault, FAILED, WRONG_WORDS, service_status};
 use crate::fault_line::{file_line, hex_line, name_line, word_line};
-use crate::order::RequestWords;
 use crate::request::{Asked, read_confounder, read_service, read_wrapping, request_line};
 use crate::run::{complain, complain_of, source_of};
 use krb_gss::Wrapping;

@@ -2,12 +2,12 @@
 
 ghost use Rattle.std.specs.Prelude.{◌≡◌, Some, IfOk, IfSome, map};
 ghost use Rattle.clap.specs.Words.{rows_of, found_of, subcommand_of, subcommand_rows_of};
-ghost use Rattle.krbtool.specs.CommandLine.{krbtool, AsksAcceptance, AsksAddition, AsksFinish, AsksForm, AsksPick, AsksRemoval, AsksRequest, HasFlag, HasFile, HasFiles, IsOrder};
+ghost use Rattle.krbtool.specs.CommandLine.{krbtool, AsksAcceptance, AsksAddition, AsksFinish, AsksForm, AsksPick, AsksRemoval, AsksRequest, HasFlag, HasFile, HasFiles, IsCommand};
 
-use crate::commands::krbtool_command;
-use crate::order::{
-    AcceptWords, AddWords, CacheForm, FinishWords, Order, PickWords, RemoveWords, RequestWords,
+use crate::command_line::{
+    AcceptWords, AddWords, CacheForm, Command, FinishWords, PickWords, RemoveWords, RequestWords,
 };
+use crate::commands::krbtool_command;
 use clap::error::ErrorKind;
 use clap::{ArgMatches, Error};
 use std::alloc::Global;
@@ -156,55 +156,55 @@ fn addition_of<'a>(matches: &ArgMatches<'a>) -> Option<AddWords<'a>>
 }
 
 // What a command of this name asks for, with these values.
-fn order_of<'a>(name: &str, matches: &ArgMatches<'a>) -> Option<Order<'a>>
-    ensures { IfSome result (λ order. IsOrder order (Some (name.now, rows_of (found_of matches.now)))) }
+fn command_named<'a>(name: &str, matches: &ArgMatches<'a>) -> Option<Command<'a>>
+    ensures { IfSome result (λ command. IsCommand command (Some (name.now, rows_of (found_of matches.now)))) }
 {
     match name {
-        "list-keytab" => Some(Order::ListKeytab {
+        "list-keytab" => Some(Command::ListKeytab {
             file: file_of(matches)?,
             readable: has_flag(matches, "readable"),
         }),
-        "list-ccache" => Some(Order::ListCcache {
+        "list-ccache" => Some(Command::ListCcache {
             file: file_of(matches)?,
             form: form_of(matches)?,
         }),
-        "check-keytab" => Some(Order::CheckKeytab {
+        "check-keytab" => Some(Command::CheckKeytab {
             file: file_of(matches)?,
         }),
-        "check-ccache" => Some(Order::CheckCcache {
+        "check-ccache" => Some(Command::CheckCcache {
             file: file_of(matches)?,
         }),
         "convert-keytab" => {
             let (file, out) = files_of(matches)?;
-            Some(Order::ConvertKeytab { file, out })
+            Some(Command::ConvertKeytab { file, out })
         }
         "convert-ccache" => {
             let (file, out) = files_of(matches)?;
-            Some(Order::ConvertCcache { file, out })
+            Some(Command::ConvertCcache { file, out })
         }
         "request" => {
             let words = request_of(matches)?;
-            Some(Order::Request(words))
+            Some(Command::Request(words))
         }
         "accept" => {
             let words = acceptance_of(matches)?;
-            Some(Order::Accept(words))
+            Some(Command::Accept(words))
         }
         "finish" => {
             let words = finish_of(matches)?;
-            Some(Order::Finish(words))
+            Some(Command::Finish(words))
         }
         "pick-key" => {
             let words = pick_of(matches)?;
-            Some(Order::PickKey(words))
+            Some(Command::PickKey(words))
         }
         "remove-key" => {
             let words = removal_of(matches)?;
-            Some(Order::RemoveKey(words))
+            Some(Command::RemoveKey(words))
         }
         "add-keys" => {
             let words = addition_of(matches)?;
-            Some(Order::AddKeys(words))
+            Some(Command::AddKeys(words))
         }
         _ => None,
     }
@@ -222,16 +222,16 @@ fn matches_of<'a>(alloc: Global, words: &'a [&'a str]) -> Result<ArgMatches<'a>,
 ///
 /// # Errors
 /// `clap`'s own: a fault of the words, help if it was asked for, or out of memory.
-pub fn read_words<'a>(alloc: Global, words: &'a [&'a str]) -> Result<Order<'a>, Error>
-    ensures order { IfOk result (λ order. IsOrder order (subcommand_of krbtool (map (λ w. w.now) words.entry.now))) }
+pub fn read_words<'a>(alloc: Global, words: &'a [&'a str]) -> Result<Command<'a>, Error>
+    ensures command { IfOk result (λ command. IsCommand command (subcommand_of krbtool (map (λ w. w.now) words.entry.now))) }
 {
     let matches = matches_of(alloc, words)?;
-    let order = match matches.subcommand() {
-        Some((name, matches)) => order_of(name, matches),
+    let command = match matches.subcommand() {
+        Some((name, matches)) => command_named(name, matches),
         None => None,
     };
-    match order {
-        Some(order) => Ok(order),
+    match command {
+        Some(command) => Ok(command),
         None => Err(krbtool_command(alloc)?.error(
             ErrorKind::InvalidSubcommand,
             "no such command",

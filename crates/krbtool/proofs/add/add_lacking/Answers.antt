@@ -1,5 +1,6 @@
 use Rattle.std.proofs.Common.{◌++◌, take}
-use Rattle.krbtool.proofs.AddLaws.{denied, not_added_if, taken}
+use Rattle.krb_keytab.proofs.KeyLaws.{denied}
+use Rattle.krbtool.proofs.AddLaws.{not_added_if, taken}
 use Rattle.krbtool.proofs.add.add_lacking.Goals as goal
 
 pub returns-clause-taken : goal.returns-clause-taken

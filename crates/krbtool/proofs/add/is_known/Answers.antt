@@ -1,7 +1,8 @@
 use Rattle.std.proofs.Common.{inl, inr, take, length, subst, sym, arith, ap}
 use Rattle.std.proofs.lemmas.List.{take_all}
 use Rattle.krb_keytab.specs.SameKey.{HasKeyOf}
-use Rattle.krbtool.proofs.AddLaws.{denied, key_after, key_in_one}
+use Rattle.krb_keytab.proofs.KeyLaws.{denied}
+use Rattle.krbtool.proofs.AddLaws.{key_after, key_in_one}
 use Rattle.krbtool.proofs.add.is_known.Goals as goal
 
 pub returns-else-has_key_before : goal.returns-else-has_key_before

@@ -9,6 +9,6 @@ pub loop-row-preserved : goal.loop-row-preserved
 loop-row-preserved c =
     let old = app_of c.loop-row.command in
     let added = c.in_ok-command.ensures.shape c.in_ok-command_of.ensures.local
-        ∙ ap (λ (one : App). with_command old one) c.in_ok-command_of.ensures.app in
+    ∙ ap (λ (one : App). with_command old one) c.in_ok-command_of.ensures.app in
     one_more with_command app_for c.args.rows.now c.loop-row.row-index _ old (app_of c.in_ok-command.command) c.loop-row-test.true added
     ∙ c.loop-row.invariant

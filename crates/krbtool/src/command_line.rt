@@ -1,6 +1,6 @@
 /// What a command line asks for.
 #[derive(Clone, Copy, Debug, PartialEq, Eq)]
-pub enum Order<'a> {
+pub enum Command<'a> {
     /// `list-keytab [--readable] FILE`: a line for each entry of a keytab, or a table for people.
     ListKeytab {
         /// The keytab's path.
