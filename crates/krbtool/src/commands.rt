@@ -67,7 +67,7 @@ const SERVICE: Argument<'static> = Argument(
 const TIME: Argument<'static> = Argument(
     "time",
     NeededNumber(253_402_300_799),
-    "The client's clock: seconds since 1970-01-01",
+    "The request's time by the client's clock: seconds since 1970-01-01",
 );
 
 const USEC: Argument<'static> = Argument(
@@ -106,7 +106,7 @@ static COMMANDS: [Row<'static>; 12] = [
         about: "Checks a keytab, and prints how many entries it has, or where the fault is",
         arguments: &[KEYTAB_FILE],
         end: of_faulty_file!(
-            "Prints 'ok COUNT', or on standard error the fault and its offset in bytes."
+            "Prints 'ok COUNT', or on standard error the fault, with its offset in bytes if it has one."
         ),
     },
     Row {
@@ -114,7 +114,7 @@ static COMMANDS: [Row<'static>; 12] = [
         about: "Checks a credential cache, and prints how many credentials it has, or where the fault is",
         arguments: &[CCACHE_FILE],
         end: of_faulty_file!(
-            "Prints 'ok COUNT', or on standard error the fault and its offset in bytes."
+            "Prints 'ok COUNT', or on standard error the fault, with its offset in bytes if it has one."
         ),
     },
     Row {
@@ -150,7 +150,7 @@ static COMMANDS: [Row<'static>; 12] = [
             ),
         ],
         end: with_statuses!(
-            "Prints one line of hexadecimal digits. Use a time at most once for each client and service. With --token gss the request is in a Kerberos token of GSS-API (RFC 4121), and with --token spnego that token is in a negotiation (RFC 4178).",
+            "Prints one line of hexadecimal digits. Use a moment (--time and --usec) at most once for each client and service. With --token gss the request is in a Kerberos token of GSS-API (RFC 4121), and with --token spnego that token is in a negotiation (RFC 4178).",
             "if the file is faulty, or there is no request"
         ),
     },
