@@ -43,9 +43,9 @@ def realm_in(folder):
     permitted, _, ktadd = tickets.advice()
     realm = kdc.MitRealm(folder / "realm", REALM, None, f"{tickets.AES256}:normal {tickets.AES128}:normal")
     realm.kadmin("addprinc", "-pw", kdc.PASSWORD, "alice")
-    for etype, adding in ((20, ktadd), (19, f"ktadd -e {tickets.AES128}:normal")):
+    for etype, adding in ((20, ktadd), (19, f"ktadd -k FILE -e {tickets.AES128}:normal NAME")):
         realm.kadmin("addprinc", "-randkey", SERVICES[etype])
-        realm.kadmin(*adding.split(), "-k", realm.folder / "good.keytab", SERVICES[etype])
+        realm.kadmin(*tickets.filled_in(adding, realm.folder / "good.keytab", SERVICES[etype]))
     bend(realm.folder / "good.keytab", realm.folder / "bent.keytab")
     try:
         realm.start("default", [permitted])

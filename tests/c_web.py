@@ -46,7 +46,7 @@ def realm_in(folder):
     realm.kadmin("addprinc", "-pw", kdc.PASSWORD, "alice")
     for name in (SERVICE, OTHER):
         realm.kadmin("addprinc", "-randkey", name)
-    realm.kadmin(*ktadd.split(), "-k", realm.folder / "www.keytab", SERVICE)
+    realm.kadmin(*tickets.filled_in(ktadd, realm.folder / "www.keytab", SERVICE))
     try:
         realm.start("default", [permitted])
         cache = realm.cache("alice", "default", [SERVICE, OTHER])
