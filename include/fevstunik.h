@@ -653,11 +653,10 @@ fevstunik_answer fevstunik_name_check(const uint8_t *name, size_t name_size);
  * someone who records a request can write another name into it. If two served names have the same
  * key, a recorded request is accepted once more under the other name.
  *
- * Use this function only if no service has used this name and these keys before, with this or any
- * other software, or if all instances share a store of stamps (fevstunik_accepted_stamp) that has
- * been in use since the first start of any service with this name and these keys, and has lost
- * nothing. After a restart use fevstunik_acceptor_started: a service that has forgotten its
- * requests may accept one of them again.
+ * After a restart use fevstunik_acceptor_started: a service that has forgotten its requests may
+ * accept one of them again. Use this function only if no service has used this name and these keys
+ * before, with this or any other software, or if all instances share a store of stamps
+ * (fevstunik_accepted_stamp) that has lost nothing. docs/OPERATING.md has the exact conditions.
  *
  * Returns FEVSTUNIK_OK; or leaves the handle unchanged and returns the first that applies:
  * FEVSTUNIK_BAD_SKEW; FEVSTUNIK_TOO_LONG, _FILE_VERSION, _FILE_TRUNCATED or _FILE_BAD_ITEM for the
