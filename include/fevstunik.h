@@ -763,12 +763,13 @@ fevstunik_answer fevstunik_accepted_known(const fevstunik_accepted *accepted, fe
 
 /* Writes the stamp of the accepted request to the buffer: the service, the client and the client's
  * time as one string of bytes. Requests have the same stamp if and only if they are of the same
- * service, client and time. Use it if several instances of a service share a store: let the client
- * in only if the store adds the stamp, in one step, and says that it was new; and have the store
- * keep it until `keep_until`, rounded up. That is the client's time plus twice `skew`, in seconds;
- * `skew` is the largest of all instances. Read the clock again after the store's answer, and refuse
- * the request if the clock is then later than the request's time by more than the skew.
- * docs/OPERATING.md says why. `keep_until` is written even if the buffer is too short.
+ * service, client and time. Use it if several instances of a service share a store. Let the client
+ * in only if the store adds the stamp, in one step, and says that it was new. Have the store keep it
+ * until `keep_until`, rounded up. That is the client's time plus twice `skew`, in seconds; `skew` is
+ * the largest of all instances. Read the clock again after the store's answer, and refuse the
+ * request if the clock is then later than the request's time by more than the skew.
+ * docs/OPERATING.md has all rules for such a store. `keep_until` is written even if the buffer is
+ * too short.
  *
  * Returns FEVSTUNIK_OK or FEVSTUNIK_SHORT_BUFFER; or writes nothing and returns
  * FEVSTUNIK_EMPTY_HANDLE, FEVSTUNIK_NOTHING_THERE, FEVSTUNIK_BAD_SKEW (more than 86,400 seconds),
