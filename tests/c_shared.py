@@ -259,7 +259,7 @@ def old_stamps(store):
 
 
 def user_of_redis():
-    """The user of docs/OPERATING.md may add a stamp, and nothing else; without a password, nobody may do anything."""
+    """The user of docs/OPERATING.md may set stamps, and do nothing else; without a password, nobody may do anything."""
     store, web = store_servers.Redis(), ("web", "a password")
     try:
         store.start_with_user(web[1])
