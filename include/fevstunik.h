@@ -653,11 +653,10 @@ fevstunik_answer fevstunik_name_check(const uint8_t *name, size_t name_size);
  * someone who records a request can write another name into it. If two served names have the same
  * key, a recorded request is accepted once more under the other name.
  *
- * Use this function only if no service has used this name and these keys before, with this or any
- * other software, or if all instances share a store of stamps (fevstunik_accepted_stamp) that has
- * been in use since the first start of any service with this name and these keys, and has lost
- * nothing. After a restart use fevstunik_acceptor_started: a service that has forgotten its
- * requests may accept one of them again.
+ * After a restart use fevstunik_acceptor_started: a service that has forgotten its requests may
+ * accept one of them again. Use this function only if no service has used this name and these keys
+ * before, with this or any other software, or if all instances share a store of stamps
+ * (fevstunik_accepted_stamp) that has lost nothing. docs/OPERATING.md has the exact conditions.
  *
  * Returns FEVSTUNIK_OK; or leaves the handle unchanged and returns the first that applies:
  * FEVSTUNIK_BAD_SKEW; FEVSTUNIK_TOO_LONG, _FILE_VERSION, _FILE_TRUNCATED or _FILE_BAD_ITEM for the
@@ -707,8 +706,7 @@ fevstunik_answer fevstunik_acceptor_replace_keytab(fevstunik_acceptor *handle, c
 
 /* Prepares the handle for fevstunik_acceptor_accept, which keeps an accepted request in it. The
  * handle keeps nothing yet, and what it held before is freed. One handle serves for any number of
- * requests, one after the other. If threads share a service, each thread has such a handle of its
- * own, and reads it without a lock.
+ * requests, one after the other.
  *
  * Returns FEVSTUNIK_OK; or leaves the handle unchanged and returns FEVSTUNIK_OUT_OF_MEMORY.
  *
@@ -724,9 +722,9 @@ fevstunik_answer fevstunik_accepted_new(fevstunik_accepted *accepted);
  * Keeps an accepted request in the handle `accepted`, which fevstunik_accepted_new prepared, until
  * the next call with that handle. fevstunik_accepted_known reads it, and fevstunik_accepted_reply
  * replies to it. What was kept there before is freed. If the call returns anything but
- * FEVSTUNIK_OK, nothing is kept there. Threads that share a service lock it for this call, as for
- * each call with its handle. If each thread has an accepted handle of its own, what was accepted
- * needs no lock.
+ * FEVSTUNIK_OK, nothing is kept there. If threads share a service, lock it for this call, as for
+ * each call with its handle. Give each thread an accepted handle of its own: then reading what was
+ * accepted needs no lock.
  *
  * fevstunik_error builds an error for the client from the answer's code, and needs no lock. The
  * service also keeps the cause of a refusal until the next call of fevstunik_acceptor_accept that
@@ -765,12 +763,13 @@ fevstunik_answer fevstunik_accepted_known(const fevstunik_accepted *accepted, fe
 
 /* Writes the stamp of the accepted request to the buffer: the service, the client and the client's
  * time as one string of bytes. Requests have the same stamp if and only if they are of the same
- * service, client and time. Use it if several instances of a service share a store: let the client
- * in only if the store adds the stamp, in one step, and says that it was new; and have the store
- * keep it until `keep_until`, rounded up. That is the client's time plus twice `skew`, in seconds;
- * `skew` is the largest of all instances. Read the clock again after the store's answer, and refuse
- * the request if the clock is then later than the request's time by more than the skew.
- * docs/OPERATING.md says why. `keep_until` is written even if the buffer is too short.
+ * service, client and time. Use it if several instances of a service share a store. Let the client
+ * in only if the store adds the stamp, in one step, and says that it was new. Have the store keep it
+ * until `keep_until`, rounded up. That is the client's time plus twice `skew`, in seconds; `skew` is
+ * the largest of all instances. Read the clock again after the store's answer, and refuse the
+ * request if the clock is then later than the request's time by more than the skew.
+ * docs/OPERATING.md has all rules for such a store. `keep_until` is written even if the buffer is
+ * too short.
  *
  * Returns FEVSTUNIK_OK or FEVSTUNIK_SHORT_BUFFER; or writes nothing and returns
  * FEVSTUNIK_EMPTY_HANDLE, FEVSTUNIK_NOTHING_THERE, FEVSTUNIK_BAD_SKEW (more than 86,400 seconds),
@@ -782,8 +781,8 @@ fevstunik_answer fevstunik_accepted_known(const fevstunik_accepted *accepted, fe
 fevstunik_answer fevstunik_accepted_stamp(const fevstunik_accepted *accepted, uint32_t skew, fevstunik_time *keep_until, uint8_t *buffer,
                                           size_t buffer_size);
 
-/* Returns the time from which the ticket of the accepted request is valid, if the ticket has one (starttime). Otherwise
- * it is valid from `authtime` on. The call allocates no memory.
+/* Returns the starttime of the accepted request's ticket, if it has one: the ticket is valid from
+ * then on. A ticket without one is valid from its `authtime` on. The call allocates no memory.
  *
  * Returns FEVSTUNIK_OK; or writes nothing and returns FEVSTUNIK_EMPTY_HANDLE, or
  * FEVSTUNIK_NOTHING_THERE if nothing was accepted or the ticket doesn't say.
@@ -1038,9 +1037,9 @@ fevstunik_answer fevstunik_checksum_check(int32_t key_type, const uint8_t *key, 
 fevstunik_answer fevstunik_token_open(const uint8_t *token, size_t token_size, fevstunik_wrapped *wrapped, uint8_t *buffer,
                                       size_t buffer_size);
 
-/* Returns the first token of a client for a request. Build the request with fevstunik_context_request: RFC
- * 4121, section 4.1.1, requires the checksum of type 0x8003. A service of this library accepts a
- * request without one, but others may refuse it, or not reply.
+/* Returns the first token of a client for a request. Build the request with
+ * fevstunik_context_request: RFC 4121, section 4.1.1, requires the checksum of type 0x8003. A
+ * service of this library accepts a request without one, but others may refuse it, or not reply.
  *
  * Returns FEVSTUNIK_OK or FEVSTUNIK_SHORT_BUFFER; or writes nothing and returns
  * FEVSTUNIK_BAD_MECHANISM, FEVSTUNIK_TOO_LONG (the token would have more than 1,048,576 bytes) or

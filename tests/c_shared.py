@@ -258,6 +258,21 @@ def old_stamps(store):
     yield "others aren't", is_it(store.run("SELECT count(*) FROM stamps").split()[2], str(count + 1))
 
 
+def user_of_redis():
+    """The user of docs/OPERATING.md may set stamps, and do nothing else; without a password, nobody may do anything."""
+    store, web = store_servers.Redis(), ("web", "a password")
+    try:
+        store.start_with_user(web[1])
+        step = "set", "fevstunik:a stamp", "", "NX", "EXAT", int(time.time()) + 60
+        yield "Redis: the user web adds a stamp", is_it(store.said(*step, user=web), "OK\n")
+        yield "Redis: a stamp that is there isn't added", is_it(store.said(*step, user=web), "\n")
+        for other in (("get", step[1]), ("del", step[1]), ("set", "another", ""), ("flushall",), ("acl", "list")):
+            yield f"Redis: the user web may not {' '.join(other)}", None if store.said(*other, user=web).startswith("NOPERM") else "it may"
+        yield "Redis: without a password nobody adds a stamp", None if store.said(*step).startswith("NOAUTH") else "somebody does"
+    finally:
+        store.close()
+
+
 def made_requests(cache, count, library, ago=0):
     """Requests of one second, so many seconds ago."""
     where = {**os.environ, "FEVSTUNIK_LIBRARY": str(library), "PYTHONPATH": str(TOP / "python")}
@@ -284,6 +299,8 @@ def checks(folder, library, program, cache):
                 yield f"{store.name}: {name}", fault
             if make is store_servers.Postgres:
                 yield from old_stamps(store)
+            else:
+                yield from user_of_redis()
         except (OSError, ValueError, LookupError, subprocess.SubprocessError) as error:
             yield f"{make.name}: instances that share a store", repr(error)
         finally:

@@ -7,7 +7,7 @@
 
 It installs what it needs (tests/peers/kdc.py names the packages), starts KDCs on 127.0.0.1 with ports and a temporary folder of
 their own, and stops them. tests/peers/ask.c and serve.c are a client and a service of either library. Session keys come to be of
-type 19 or 20 by the advice of docs/ACCEPTANCE.md, which is read from there.
+type 19 or 20 by the advice of docs/OPERATING.md, which is read from there.
 
 The last line is 'N passed, M failed'.
 """

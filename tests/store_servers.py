@@ -4,6 +4,7 @@ They keep what they were told, also when they are killed, as docs/OPERATING.md c
 """
 import contextlib
 import glob
+import hashlib
 import os
 import pwd
 import re
@@ -54,6 +55,11 @@ class Server:
         shutil.rmtree(self.folder)
 
 
+def lines_of_redis(first):
+    """The lines of redis.conf of the document's block that begins with this word."""
+    return re.search(rf"^```text\n({first} .*?)^```$", (TOP / "docs/OPERATING.md").read_text(), re.S | re.M)[1]
+
+
 class Redis(Server):
     name = "Redis"
 
@@ -62,11 +68,20 @@ class Redis(Server):
         self.socket = self.folder / "redis.sock"
         self.words = ["--redis", self.socket]
 
-    def start(self):
-        configured = re.search(r"```text\n(appendonly .*?)```", (TOP / "docs/OPERATING.md").read_text(), re.S)[1]
-        (self.folder / "redis.conf").write_text(f'{configured}port 0\nunixsocket {self.socket}\ndir {self.folder}\nsave ""\n')
+    def start(self, users="", wanted="PONG\n"):
+        settings = f'{lines_of_redis("appendonly")}port 0\nunixsocket {self.socket}\ndir {self.folder}\nsave ""\n{users}'
+        (self.folder / "redis.conf").write_text(settings)
         self.process = subprocess.Popen(["redis-server", self.folder / "redis.conf"], stdout=subprocess.DEVNULL, stderr=subprocess.DEVNULL)
-        wait_for(lambda: said(["redis-cli", "-s", self.socket, "ping"]).stdout == "PONG\n", "redis-server doesn't answer", self.process)
+        wait_for(lambda: self.said("ping").startswith(wanted), "redis-server doesn't answer", self.process)
+
+    def start_with_user(self, password):
+        """Starts it with the document's users. Nobody may do anything without a password, not even a ping."""
+        self.start(lines_of_redis("user").replace("HASH", hashlib.sha256(password.encode()).hexdigest()), "NOAUTH")
+
+    def said(self, *command, user=()):
+        """What redis-cli prints of a command; the user is a name and a password."""
+        login = ["--no-auth-warning", "--user", user[0], "--pass", user[1]] if user else []
+        return said(["redis-cli", "-s", self.socket, *login, *command]).stdout
 
 
 class Postgres(Server):

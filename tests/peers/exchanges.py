@@ -2,9 +2,13 @@
 
 A case is one request: what our service and those of both libraries answer to it, each in a new service.
 """
+import re
+import textwrap
+
 import reference
+from kdc import ran
 from sides import LIBRARIES, SKEW, first_words, now
-from tickets import Ticket, advice, filled_in
+from tickets import TOP, Ticket, advice, filled_in
 
 # The libraries' own numbers, which aren't codes of the protocol: Heimdal's where the keytab hasn't the key, and where a request was
 # seen before; MIT's where a ticket is marked invalid.
@@ -129,8 +133,33 @@ def turned_tickets(realm):
     return (early, [both, old], [new, holed]), (late, [both, new, holed], [old])
 
 
+def lines_below(heading):
+    """The shell's lines below a heading of docs/OPERATING.md, a text for each block."""
+    part = re.search(rf"^#+ {heading}\n(.*?)^#+ ", (TOP / "docs/OPERATING.md").read_text(), re.S | re.M)[1]
+    return [textwrap.dedent(it) for it in re.findall(r"^ *```sh\n(.*?)^ *```$", part, re.S | re.M)]
+
+
+def advised_tickets(realm):
+    """A service that is made, and whose key is then changed, by the lines of docs/OPERATING.md: tickets of both keys, and its keytabs."""
+    service, folder = "HTTP/www.example.com", realm.folder / "advised"
+    both, new = folder / "www.keytab", folder / "new.keytab"
+    folder.mkdir()
+
+    def shell(*blocks):
+        ran(["sh", "-ec", "".join(blocks)], cwd=folder, env=realm.environment("admin"))
+
+    made, (known, given, removed) = lines_below("Keys")[0], lines_below("Without a refused login")
+    shell(made)
+    early = Ticket("the key before an advised change", realm, realm.cache("advised-early", "one", [service]), service, 20, True)
+    both.unlink()
+    shell(known, given)
+    late = Ticket("the key after an advised change", realm, realm.cache("advised-late", "one", [service]), service, 20, True)
+    shell(removed)
+    return (early, [both], [new]), (late, [both, new], [])
+
+
 def turned_keys(cases, peers, realm):
-    for ticket, good, bad in turned_tickets(realm):
+    for ticket, good, bad in (*turned_tickets(realm), *advised_tickets(realm)):
         for who, request in requests_of_all(peers, ticket, now()):
             for keytab in good:
                 cases.equal(f"request: by {ticket.label} of {who} to {keytab.stem}", answers(peers, ticket, request, now(), keytab), taken(ticket))

@@ -13,12 +13,12 @@ NUMBERS = {AES128: 19, AES256: 20, OLD: 18}
 
 
 def advice():
-    """The lines that docs/ACCEPTANCE.md gives for session keys and service keys of type 19 or 20."""
-    text = (TOP / "docs/ACCEPTANCE.md").read_text()
-    forms = r"`(permitted_enctypes = [^`]*)`", r"`(setstr host/web\.example session_enctypes [^`]*)`", r"^(ktadd -k FILE -e .* NAME)$"
+    """The lines that docs/OPERATING.md gives for session keys and service keys of type 19 or 20."""
+    text = (TOP / "docs/OPERATING.md").read_text().replace('"$service"', "NAME")
+    forms = r"`(permitted_enctypes = [^`]*)`", r"^ *kadmin\.local (setstr NAME session_enctypes .*)$", r"^(ktadd -k FILE -e .* NAME)$"
     found = [re.search(form, text, re.M) for form in forms]
     if None in found:
-        raise Trouble("docs/ACCEPTANCE.md has other words than these cases look for")
+        raise Trouble("docs/OPERATING.md has other words than these cases look for")
     return [it.group(1) for it in found]
 
 
@@ -39,7 +39,7 @@ def mit_realm(folder, heimdal):
 
     for name in ("host/web.example", "host/web19.example", "host/plain.example"):
         service(name)
-    realm.kadmin(*setstr.split())
+    realm.kadmin(*filled_in(setstr, None, "host/web.example"))
     realm.kadmin("setstr", "host/web19.example", "session_enctypes", AES128)
     service("host/only19.example", adding=f"ktadd -k FILE -e {AES128}:normal NAME")
     service("host/bare.example", "+no_auth_data_required")
@@ -75,7 +75,7 @@ class Ticket:
 
 
 def of_mit(realm):
-    """Tickets with session keys of type 19 and 20 in each way that docs/ACCEPTANCE.md tells, with a PAC and without."""
+    """Tickets with session keys of type 19 and 20 in each way that docs/OPERATING.md tells, with a PAC and without."""
     permitted = advice()[0]
     realm.start("default")
     realm.start("all", [permitted], ["disable_pac = true"])
