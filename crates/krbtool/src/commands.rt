@@ -172,7 +172,7 @@ static COMMANDS: [Row<'static>; 12] = [
             Argument(
                 "service",
                 Free,
-                "The name that errors contain; without it, no errors are printed",
+                "The name that errors contain; without it, no errors are printed. It doesn't affect which requests are accepted (see --only)",
             ),
             Argument(
                 "only",
