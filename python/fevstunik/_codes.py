@@ -118,7 +118,7 @@ _TEXTS = {
     Code.OUT_OF_MEMORY: "out of memory: malloc or realloc returned NULL",
     Code.SHORT_BUFFER: "the buffer is too short: `size` bytes are needed",
     Code.EMPTY_HANDLE: "the handle is empty",
-    Code.NOTHING_THERE: "nothing was accepted, nothing was refused, or there is no such moment",
+    Code.NOTHING_THERE: "the handle has no accepted request, no refusal, or no such moment",
     Code.TOO_LONG: "a file, a request, an error, a token, a name or a key is longer than its limit",
     Code.BAD_SKEW: "the skew is more than 86,400 seconds",
     Code.BAD_MOMENT: "the moment is outside the years 0000 to 9999, or has 1,000,000 microseconds or more",

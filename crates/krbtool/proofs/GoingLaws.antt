@@ -17,8 +17,8 @@ use Rattle.krb_ap.specs.Setup.{Setup, Arrival, arrival}
 use Rattle.krb_ap.specs.Answer.{Answers, after}
 use Rattle.krb_gss.specs.declared.fault.TokenFault.{TokenFault}
 use Rattle.krbtool.specs.Forms.{Carries, IsUnopened}
-use Rattle.krbtool.specs.Tails.{IsTail, named}
-use Rattle.krbtool.specs.declared.tail.LineAnswer.{LineAnswer}
+use Rattle.krbtool.specs.AnswerEnd.{IsAnswerEnd, named}
+use Rattle.krbtool.specs.declared.answer_end.LineAnswer.{LineAnswer}
 use Rattle.krbtool.specs.CallLine.{SpellsCall}
 use Rattle.krb_ap.specs.History.{StandsFor}
 use Rattle.krb_name.specs.File.{TakesAtMost}
@@ -216,7 +216,7 @@ pub called : (options : AnswerOptions) (here there setup : Setup) (history : Lis
     → Carries options.form bytes envelope request
     → Answers here history (arrival request moment) answer.outcome
     → StandsFor there Later later (after history (arrival request moment) answer.outcome)
-    → IsTail envelope answer.outcome moment confounder (named options.service) answer.tail
+    → IsAnswerEnd envelope answer.outcome moment confounder (named options.service) answer.end
     → BecomesOf options there setup history line (became.Answered answer) Later later
 called options here there setup history line bytes request moment confounder envelope answer Later later is same spells carries answers stands follows = record {
   end = after history (arrival request moment) answer.outcome;

@@ -14,16 +14,16 @@ use Rattle.krb_ap.specs.declared.refusal.Refusal.{Refusal}
 use Rattle.krb_ap.specs.declared.refusal.Refusal.TheVariants.{OutOfMemory}
 use Rattle.krb_gss.specs.declared.fault.TokenFault.{TokenFault}
 use Rattle.krbtool.specs.CallLine.{SpellsCall, IsBadLine}
-use Rattle.krbtool.specs.FaultText.{token_fault_name, token_fault_place}
+use Rattle.krbtool.specs.FaultText.{token_text}
 use Rattle.krbtool.specs.Forms.{Carries, IsUnopened}
-use Rattle.krbtool.specs.Tails.{IsTail, named, tail_status, tail_text}
+use Rattle.krbtool.specs.AnswerEnd.{IsAnswerEnd, named, end_status, end_text}
 use Rattle.krbtool.specs.declared.accept.AnswerOptions.{AnswerOptions}
 use Rattle.krbtool.specs.declared.answering.LineOutcome.{LineOutcome}
 use Rattle.krbtool.specs.declared.answering.LineOutcome.TheVariants.{BadLine, BadToken, Answered}
 use Rattle.krbtool.specs.declared.form.Envelope.{Envelope}
 use Rattle.krbtool.specs.declared.form.Form.{Form}
-use Rattle.krbtool.specs.declared.tail.Tail.{Tail}
-use Rattle.krbtool.specs.declared.tail.LineAnswer.{LineAnswer}
+use Rattle.krbtool.specs.declared.answer_end.AnswerEnd.{AnswerEnd}
+use Rattle.krbtool.specs.declared.answer_end.LineAnswer.{LineAnswer}
 
 -- ---- one line
 
@@ -36,28 +36,28 @@ abbrev pub mutual_text : Bool → List ℕ
 mutual_text wants_reply = if wants_reply then codes "mutual" else codes "plain"
 
 -- client, enctype of the session key, the client's time, and whether it asks for a reply
-abbrev pub accepted_line : Accepted → Tail → List ℕ
-accepted_line x tail =
+abbrev pub accepted_line : Accepted → AnswerEnd → List ℕ
+accepted_line x end =
     codes "accepted " ++ (text_of x.client ++ (32 ∷ (signed_decimal x.session_key.etype ++ (32 ∷ (signed_decimal x.ctime
-    ++ (32 ∷ (decimal x.cusec ++ (32 ∷ (mutual_text x.mutual ++ (tail_text tail ++ 10 ∷ []))))))))))
+    ++ (32 ∷ (decimal x.cusec ++ (32 ∷ (mutual_text x.mutual ++ (end_text end ++ 10 ∷ []))))))))))
 
-abbrev pub refused_line : Refusal → Tail → List ℕ
-refused_line refusal tail = codes "refused " ++ (code_text (code_of refusal) ++ (32 ∷ (name_of refusal ++ (tail_text tail ++ 10 ∷ []))))
+abbrev pub refused_line : Refusal → AnswerEnd → List ℕ
+refused_line refusal end = codes "refused " ++ (code_text (code_of refusal) ++ (32 ∷ (name_of refusal ++ (end_text end ++ 10 ∷ []))))
 
-abbrev pub call_text : Result Accepted Refusal → Tail → List ℕ
-call_text (Ok accepted) tail = accepted_line accepted tail
-call_text (Err refusal) tail = refused_line refusal tail
+abbrev pub call_text : Result Accepted Refusal → AnswerEnd → List ℕ
+call_text (Ok accepted) end = accepted_line accepted end
+call_text (Err refusal) end = refused_line refusal end
 
 -- `bad token FAULT at OFFSET`
 abbrev pub bad_token_line : TokenFault → List ℕ
 bad_token_line fault =
-    codes "bad token " ++ (token_fault_name fault ++ (codes " at " ++ (decimal (token_fault_place fault) ++ 10 ∷ [])))
+    codes "bad token " ++ ((token_text fault).0 ++ (codes " at " ++ (decimal (token_text fault).1 ++ 10 ∷ [])))
 
 -- what is printed
 abbrev pub answer_line : LineOutcome → List ℕ
 answer_line BadLine = codes "bad line\n"
 answer_line (BadToken fault) = bad_token_line fault
-answer_line (Answered answer) = call_text answer.outcome answer.tail
+answer_line (Answered answer) = call_text answer.outcome answer.end
 
 -- the line spells bytes that are to be a token, aren't one, and have this fault
 pub record HoldsBadToken (form : Form) (line : List ℕ) (fault : TokenFault) : Type 0 where
@@ -79,7 +79,7 @@ pub record BecomesCall (options : AnswerOptions) (setup : Setup) (history : List
   pub carries : Carries options.form bytes envelope request
   pub answers : Answers setup history (arrival request moment) answer.outcome
   pub end_is : end ≡ after history (arrival request moment) answer.outcome
-  pub follows : IsTail envelope answer.outcome moment confounder (named options.service) answer.tail
+  pub follows : IsAnswerEnd envelope answer.outcome moment confounder (named options.service) answer.end
 
 -- after a history, this becomes of a line, and this is the history then
 abbrev pub Becomes : AnswerOptions → Setup → List Arrival → List ℕ → LineOutcome → List Arrival → Type 0
@@ -118,7 +118,7 @@ call_status (Err refusal) = 1
 abbrev pub outcome_status : LineOutcome → ℕ
 outcome_status BadLine = 1
 outcome_status (BadToken fault) = 1
-outcome_status (Answered answer) = max (call_status answer.outcome) (tail_status answer.tail)
+outcome_status (Answered answer) = max (call_status answer.outcome) (end_status answer.end)
 
 abbrev pub status_of_lines : List LineOutcome → ℕ
 status_of_lines [] = 0

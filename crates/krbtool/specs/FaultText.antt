@@ -3,15 +3,12 @@ use Rattle.std.specs.Prelude.{ℕ, List, ◌++◌, Option, Some, None, codes}
 use Rattle.std.specs.Fmt.{decimal}
 use Rattle.krb_keytab.specs.declared.fault.KeytabFault.{KeytabFault}
 use Rattle.krb_keytab.specs.declared.fault.KeytabFault.TheVariants as keytab
-use Rattle.krb_keytab.specs.Fault.{offset_of}
 use Rattle.krb_ccache.specs.declared.fault.CacheFault.{CacheFault}
 use Rattle.krb_ccache.specs.declared.fault.CacheFault.TheVariants as cache
-use Rattle.krb_ccache.specs.Fault as in_cache
 use Rattle.krb_name.specs.declared.text_fault.TextFault.{TextFault}
 use Rattle.krb_name.specs.declared.text_fault.TextFault.TheVariants as text
 use Rattle.krb_ap.specs.declared.request_fault.RequestFault.{RequestFault}
 use Rattle.krb_ap.specs.declared.request_fault.RequestFault.TheVariants as request
-use Rattle.krb_ap.specs.Finish.{finish_offset_of}
 use Rattle.krb_ap.specs.declared.finish_fault.FinishFault.{FinishFault}
 use Rattle.krb_ap.specs.declared.finish_fault.FinishFault.TheVariants as finish
 use Rattle.krb_der.specs.declared.fault.FaultKind.{FaultKind}
@@ -25,75 +22,63 @@ use Rattle.krbtool.specs.declared.fault.PickFault.TheVariants as pick
 use Rattle.krbtool.specs.declared.fault.EngineFault.{EngineFault}
 use Rattle.krbtool.specs.declared.fault.EngineFault.TheVariants.{Keytab, Added, Cache, Request, Pick, Finish, Input, Write, OutOfMemory}
 
-abbrev pub keytab_name : KeytabFault → List ℕ
-keytab_name keytab.Version = codes "Version"
-keytab_name (keytab.Truncated at) = codes "Truncated"
-keytab_name (keytab.BadEntry at) = codes "BadEntry"
-keytab_name keytab.TooLong = codes "TooLong"
-keytab_name keytab.NoSuchEntry = codes "NoSuchEntry"
-keytab_name keytab.Read = codes "Read"
-keytab_name keytab.OutOfMemory = codes "OutOfMemory"
+-- what is printed of a fault: its name, and its offset in bytes if it has one
+abbrev pub FaultText : Type 0
+FaultText = List ℕ × Option ℕ
 
-abbrev pub cache_name : CacheFault → List ℕ
-cache_name cache.Version = codes "Version"
-cache_name cache.Header = codes "Header"
-cache_name (cache.BadItem at) = codes "BadItem"
-cache_name cache.TooLong = codes "TooLong"
-cache_name cache.Read = codes "Read"
-cache_name cache.OutOfMemory = codes "OutOfMemory"
+abbrev pub keytab_text : KeytabFault → FaultText
+keytab_text keytab.Version = (codes "Version", None)
+keytab_text (keytab.Truncated at) = (codes "Truncated", Some at)
+keytab_text (keytab.BadEntry at) = (codes "BadEntry", Some at)
+keytab_text keytab.TooLong = (codes "TooLong", None)
+keytab_text keytab.NoSuchEntry = (codes "NoSuchEntry", None)
+keytab_text keytab.Read = (codes "Read", None)
+keytab_text keytab.OutOfMemory = (codes "OutOfMemory", None)
 
-abbrev pub request_name : RequestFault → List ℕ
-request_name request.NoCredential = codes "NoCredential"
-request_name request.NoUsableKey = codes "NoUsableKey"
-request_name request.Expired = codes "Expired"
-request_name request.BadTicket = codes "BadTicket"
-request_name request.TooLong = codes "TooLong"
-request_name request.OutOfMemory = codes "OutOfMemory"
+abbrev pub cache_text : CacheFault → FaultText
+cache_text cache.Version = (codes "Version", None)
+cache_text cache.Header = (codes "Header", None)
+cache_text (cache.BadItem at) = (codes "BadItem", Some at)
+cache_text cache.TooLong = (codes "TooLong", None)
+cache_text cache.Read = (codes "Read", None)
+cache_text cache.OutOfMemory = (codes "OutOfMemory", None)
 
-abbrev pub pick_name : PickFault → List ℕ
-pick_name pick.NoName = codes "NoName"
-pick_name pick.NoKey = codes "NoKey"
-pick_name pick.NoVersion = codes "NoVersion"
+abbrev pub request_text : RequestFault → FaultText
+request_text request.NoCredential = (codes "NoCredential", None)
+request_text request.NoUsableKey = (codes "NoUsableKey", None)
+request_text request.Expired = (codes "Expired", None)
+request_text request.BadTicket = (codes "BadTicket", None)
+request_text request.TooLong = (codes "TooLong", None)
+request_text request.OutOfMemory = (codes "OutOfMemory", None)
 
-abbrev pub finish_name : FinishFault → List ℕ
-finish_name finish.MessageType = codes "MessageType"
-finish_name (finish.Malformed fault) = codes "Malformed"
-finish_name finish.Integrity = codes "Integrity"
-finish_name finish.Mismatch = codes "Mismatch"
-finish_name finish.OutOfMemory = codes "OutOfMemory"
+abbrev pub pick_text : PickFault → FaultText
+pick_text pick.NoName = (codes "NoName", None)
+pick_text pick.NoKey = (codes "NoKey", None)
+pick_text pick.NoVersion = (codes "NoVersion", None)
 
-abbrev pub name_of : EngineFault → List ℕ
-name_of (Keytab fault) = keytab_name fault
-name_of (Added fault) = keytab_name fault
-name_of (Cache fault) = cache_name fault
-name_of (Request fault) = request_name fault
-name_of (Pick fault) = pick_name fault
-name_of (Finish fault) = finish_name fault
-name_of Input = codes "Read"
-name_of Write = codes "Write"
-name_of OutOfMemory = codes "OutOfMemory"
+abbrev pub finish_text : FinishFault → FaultText
+finish_text finish.MessageType = (codes "MessageType", None)
+finish_text (finish.Malformed fault) = (codes "Malformed", Some fault.at)
+finish_text finish.Integrity = (codes "Integrity", None)
+finish_text finish.Mismatch = (codes "Mismatch", None)
+finish_text finish.OutOfMemory = (codes "OutOfMemory", None)
 
-abbrev pub place_of : EngineFault → Option ℕ
-place_of (Keytab fault) = offset_of fault
-place_of (Added fault) = offset_of fault
-place_of (Cache fault) = in_cache.offset_of fault
-place_of (Request fault) = None
-place_of (Pick fault) = None
-place_of (Finish fault) = finish_offset_of fault
-place_of Input = None
-place_of Write = None
-place_of OutOfMemory = None
+abbrev pub text_of : EngineFault → FaultText
+text_of (Keytab fault) = keytab_text fault
+text_of (Added fault) = keytab_text fault
+text_of (Cache fault) = cache_text fault
+text_of (Request fault) = request_text fault
+text_of (Pick fault) = pick_text fault
+text_of (Finish fault) = finish_text fault
+text_of Input = (codes "Read", None)
+text_of Write = (codes "Write", None)
+text_of OutOfMemory = (codes "OutOfMemory", None)
 
 -- of a service's name
-abbrev pub text_fault_name : TextFault → List ℕ
-text_fault_name (text.BadText at) = codes "BadText"
-text_fault_name text.NoRealm = codes "NoRealm"
-text_fault_name text.OutOfMemory = codes "OutOfMemory"
-
-abbrev pub text_fault_place : TextFault → Option ℕ
-text_fault_place (text.BadText at) = Some at
-text_fault_place text.NoRealm = None
-text_fault_place text.OutOfMemory = None
+abbrev pub name_text : TextFault → FaultText
+name_text (text.BadText at) = (codes "BadText", Some at)
+name_text text.NoRealm = (codes "NoRealm", None)
+name_text text.OutOfMemory = (codes "OutOfMemory", None)
 
 -- of DER
 abbrev pub kind_name : FaultKind → List ℕ
@@ -113,25 +98,16 @@ foreign_name foreign.Ntlm = codes "Ntlm"
 foreign_name foreign.IaKerb = codes "IaKerb"
 foreign_name foreign.Unknown = codes "OtherMechanism"
 
--- of a token
-abbrev pub token_fault_name : TokenFault → List ℕ
-token_fault_name (token.Malformed fault) = kind_name fault.kind
-token_fault_name token.NotToken = codes "NotToken"
-token_fault_name token.Response = codes "Response"
-token_fault_name (token.OtherMechanism mechanism at) = foreign_name mechanism
-token_fault_name (token.NoToken at) = codes "NoToken"
-token_fault_name (token.TokenId at) = codes "TokenId"
-
--- by its first byte a token is known
-abbrev pub token_fault_place : TokenFault → ℕ
-token_fault_place (token.Malformed fault) = fault.at
-token_fault_place token.NotToken = 0
-token_fault_place token.Response = 0
-token_fault_place (token.OtherMechanism mechanism at) = at
-token_fault_place (token.NoToken at) = at
-token_fault_place (token.TokenId at) = at
+-- of a token: its name and its offset in bytes (another kind of token is known by its first byte)
+abbrev pub token_text : TokenFault → List ℕ × ℕ
+token_text (token.Malformed fault) = (kind_name fault.kind, fault.at)
+token_text token.NotToken = (codes "NotToken", 0)
+token_text token.Response = (codes "Response", 0)
+token_text (token.OtherMechanism mechanism at) = (foreign_name mechanism, at)
+token_text (token.NoToken at) = (codes "NoToken", at)
+token_text (token.TokenId at) = (codes "TokenId", at)
 
 -- `krbtool: NAME: FAULT`, with ` at OFFSET` if the fault has one
-abbrev pub line_of : List ℕ → List ℕ → Option ℕ → List ℕ
-line_of name fault None = codes "krbtool: " ++ (name ++ (codes ": " ++ fault))
-line_of name fault (Some at) = codes "krbtool: " ++ (name ++ (codes ": " ++ (fault ++ (codes " at " ++ decimal at))))
+abbrev pub line_of : List ℕ → FaultText → List ℕ
+line_of name (fault, None) = codes "krbtool: " ++ (name ++ (codes ": " ++ fault))
+line_of name (fault, Some at) = codes "krbtool: " ++ (name ++ (codes ": " ++ (fault ++ (codes " at " ++ decimal at))))

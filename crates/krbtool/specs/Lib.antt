@@ -10,6 +10,6 @@ pub mod Removing
 pub mod Adding
 pub mod CallLine
 pub mod Forms
-pub mod Tails
+pub mod AnswerEnd
 pub mod Answering
 pub mod Inner

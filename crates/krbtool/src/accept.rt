@@ -11,13 +11,13 @@ ghost use Rattle.krbtool.specs.Engine.{failed_writes};
 ghost use Rattle.krbtool.specs.Inner.Held.{Holds};
 ghost use Rattle.krbtool.specs.Inner.Going.{Answered, BecomesOf, Begun, Going, ReachedEnd, ReachedInput, ReachedStop, Stopped, Untouched};
 
+use crate::answer_end::{LineAnswer, end_of};
 use crate::answering::{LineOutcome, print_answer, status_of_outcome};
 use crate::call_line::SpelledCall;
 use crate::cut::cut_at;
 use crate::fault::EngineFault;
 use crate::form::{Form, take_request};
 use crate::part_line::PartLine;
-use crate::tail::{LineAnswer, tail_of};
 use krb_ap::Acceptor;
 use krb_name::{Principal, Sink, Source};
 use krb_replay::ReplayMemory;
@@ -56,7 +56,7 @@ fn answer_call<M: ReplayMemory>(
     match take_request(options.form, &call.bytes) {
         Ok(carried) => {
             let outcome = acceptor.accept(alloc, carried.request, call.now);
-            let tail = tail_of(
+            let end = end_of(
                 alloc,
                 carried.envelope,
                 &outcome,
@@ -64,7 +64,7 @@ fn answer_call<M: ReplayMemory>(
                 call.confounder,
                 options.service,
             );
-            LineOutcome::Answered(LineAnswer { outcome, tail })
+            LineOutcome::Answered(LineAnswer { outcome, end })
         }
         Err(fault) => LineOutcome::BadToken(fault),
     }

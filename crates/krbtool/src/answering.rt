@@ -6,8 +6,8 @@ ghost use Rattle.krb_name.specs.Flow.{AppendsBeginning};
 ghost use Rattle.krbtool.specs.Answering.{accepted_line, answer_line, call_status, call_text, outcome_status, refused_line};
 ghost use Rattle.krbtool.specs.Engine.{failed_writes};
 
+use crate::answer_end::{AnswerEnd, LineAnswer, end_text, status_of_end};
 use crate::fault::{EngineFault, FAILED, REFUSED};
-use crate::tail::{LineAnswer, Tail, status_of_tail, tail_text};
 use crate::token_fault::bad_token_text;
 use krb_ap::{Accepted, Outcome, Refusal};
 use krb_gss::TokenFault;
@@ -48,42 +48,42 @@ fn answer_text(alloc: Global, outcome: &LineOutcome) -> Result<String, AllocErro
     match outcome {
         LineOutcome::BadLine => String::from_str(alloc, "bad line\n"),
         LineOutcome::BadToken(fault) => bad_token_text(alloc, fault),
-        LineOutcome::Answered(answer) => call_text(alloc, &answer.outcome, &answer.tail),
+        LineOutcome::Answered(answer) => call_text(alloc, &answer.outcome, &answer.end),
     }
 }
 
-fn call_text(alloc: Global, outcome: &Outcome, tail: &Tail) -> Result<String, AllocError>
-    ensures { IfOk result (λ text. string_bytes text ≡ call_text outcome.now tail.now) }
+fn call_text(alloc: Global, outcome: &Outcome, end: &AnswerEnd) -> Result<String, AllocError>
+    ensures { IfOk result (λ text. string_bytes text ≡ call_text outcome.now end.now) }
 {
     match outcome {
-        Ok(accepted) => accepted_text(alloc, accepted, tail),
-        Err(refusal) => refused_text(alloc, refusal, tail),
+        Ok(accepted) => accepted_text(alloc, accepted, end),
+        Err(refusal) => refused_text(alloc, refusal, end),
     }
 }
 
-fn accepted_text(alloc: Global, accepted: &Accepted, tail: &Tail) -> Result<String, AllocError>
-    ensures { IfOk result (λ text. string_bytes text ≡ accepted_line accepted.now tail.now) }
+fn accepted_text(alloc: Global, accepted: &Accepted, end: &AnswerEnd) -> Result<String, AllocError>
+    ensures { IfOk result (λ text. string_bytes text ≡ accepted_line accepted.now end.now) }
 {
-    let tail = tail_text(alloc, tail)?;
+    let end = end_text(alloc, end)?;
     let client = accepted.client.to_text(alloc)?;
     let etype = accepted.session_key.etype();
     let ctime = accepted.ctime.get();
     let cusec = accepted.cusec.get();
     if accepted.mutual {
-        format!(in alloc; "accepted {client} {etype} {ctime} {cusec} mutual{tail}\n")
+        format!(in alloc; "accepted {client} {etype} {ctime} {cusec} mutual{end}\n")
     } else {
-        format!(in alloc; "accepted {client} {etype} {ctime} {cusec} plain{tail}\n")
+        format!(in alloc; "accepted {client} {etype} {ctime} {cusec} plain{end}\n")
     }
 }
 
-fn refused_text(alloc: Global, refusal: &Refusal, tail: &Tail) -> Result<String, AllocError>
-    ensures { IfOk result (λ text. string_bytes text ≡ refused_line refusal.now tail.now) }
+fn refused_text(alloc: Global, refusal: &Refusal, end: &AnswerEnd) -> Result<String, AllocError>
+    ensures { IfOk result (λ text. string_bytes text ≡ refused_line refusal.now end.now) }
 {
-    let tail = tail_text(alloc, tail)?;
+    let end = end_text(alloc, end)?;
     let name = refusal.name();
     match refusal.code() {
-        Some(code) => format!(in alloc; "refused {code} {name}{tail}\n"),
-        None => format!(in alloc; "refused none {name}{tail}\n"),
+        Some(code) => format!(in alloc; "refused {code} {name}{end}\n"),
+        None => format!(in alloc; "refused none {name}{end}\n"),
     }
 }
 
@@ -94,8 +94,8 @@ pub(crate) fn status_of_outcome(outcome: &LineOutcome) -> u8
 {
     match outcome {
         LineOutcome::BadLine | LineOutcome::BadToken(_) => REFUSED,
-        LineOutcome::Answered(answer) => status_of_call(&answer.outcome).max(status_of_tail(
-            &answer.tail,
+        LineOutcome::Answered(answer) => status_of_call(&answer.outcome).max(status_of_end(
+            &answer.end,
         )),
     }
 }

@@ -50,10 +50,8 @@ pub fn check<F: FileFormat, S: Source, T: Sink>(
     ensures taken { TakesFile (S.remaining source.old) (S.remaining source.new) }
     ensures writes { T.failure_count sink.new ≡ T.failure_count sink.old + failed_writes result }
 {
-    match F::count_file(alloc, source) {
-        Ok(count) => write_ok(alloc, count, sink),
-        Err(unread) => Err(unread),
-    }
+    let count = F::count_file(alloc, source)?;
+    write_ok(alloc, count, sink)
 }
 
 /// Writes the line `ok N`.
@@ -64,13 +62,7 @@ fn write_ok<T: Sink>(alloc: Global, count: usize, sink: &mut T) -> Result<(), En
     ensures which { IfErr result (λ e. (e ≡ EngineFault.Write) ⊎ (e ≡ EngineFault.OutOfMemory)) }
     ensures writes { T.failure_count sink.new ≡ T.failure_count sink.old + failed_writes result }
 {
-    let line = ok_line(alloc, count)?;
+    let line = format!(in alloc; "ok {count}\n")?;
     write_all(sink, line.as_bytes())?;
     Ok(())
-}
-
-fn ok_line(alloc: Global, count: usize) -> Result<String, AllocError>
-    ensures { IfOk result (λ line. string_bytes line ≡ ok_line count) }
-{
-    format!(in alloc; "ok {count}\n")
 }

@@ -58,32 +58,7 @@ pub fn convert<F: FileFormat, S: Source, T: Sink>(
     ensures taken { TakesFile (S.remaining source.old) (S.remaining source.new) }
     ensures writes { T.failure_count sink.new ≡ T.failure_count sink.old + failed_writes result }
 {
-    match F::read_file(alloc, source) {
-        Ok(value) => write_file(alloc, &value, sink),
-        Err(unread) => Err(unread),
-    }
-}
-
-fn write_file<F: FileFormat, T: Sink>(
-    alloc: Global,
-    value: &F,
-    sink: &mut T,
-) -> Result<usize, EngineFault>
-    requires { T.failure_count sink.old < 2 ^ 64 - 1 }
-    ensures ok { IfOk result (λ count. Appends (T.taken sink.old) (T.taken sink.new) (F.bytes value.now)
-        × (count ≡ length (F.bytes value.now))) }
-    ensures fault { IfErr result (λ e. IsContent e → (e ≡ F.too_long) × (file_limit < length (F.bytes value.now))) }
-    ensures grown { file_limit < length (F.bytes value.now) → FailsBy result F.too_long }
-    ensures unread { (e : EngineFault) → result ≡ Err e → IsOfFile e → Keeps (T.taken sink.old) (T.taken sink.new) }
-    ensures begun { result ≡ Err EngineFault.Write
-        → AppendsBeginning (T.taken sink.old) (T.taken sink.new) (F.bytes value.now) }
-    ensures memory { result ≡ Err EngineFault.OutOfMemory → ⊥ }
-    ensures kind { IfErr result (λ e. F.is_of e ⊎ (e ≡ EngineFault.Write)) }
-    ensures reads { failed_reads result ≡ 0 }
-    ensures writes { T.failure_count sink.new ≡ T.failure_count sink.old + failed_writes result }
-{
-    match value.file_bytes(alloc) {
-        Ok(bytes) => write_bytes(sink, &bytes),
-        Err(unmade) => Err(unmade),
-    }
+    let value = F::read_file(alloc, source)?;
+    let bytes = value.file_bytes(alloc)?;
+    write_bytes(sink, &bytes)
 }

@@ -1,8 +1,7 @@
 //! Why an engine ended early, what the program says of it, and its exit status.
 
 ghost use Rattle.std.specs.Prelude.{◌≡◌};
-ghost use Rattle.krb_ap.specs.Finish.{finish_offset_of};
-ghost use Rattle.krbtool.specs.FaultText.{keytab_name, cache_name, request_name, pick_name, finish_name, name_of, place_of};
+ghost use Rattle.krbtool.specs.FaultText.{keytab_text, cache_text, request_text, pick_text, finish_text, text_of};
 ghost use Rattle.krbtool.specs.Status.{status_of, service_status};
 ghost use Rattle.krbtool.specs.declared.fault.EngineFault.TheVariants.{Keytab, Cache, Request, Pick, Finish, Input, OutOfMemory, Write};
 
@@ -11,52 +10,39 @@ use krb_ccache::CacheFault;
 use krb_keytab::KeytabFault;
 use krb_name::{SinkFailed, SourceFailed, TextFault};
 use std::alloc::AllocError;
-use thiserror::Error;
 
 /// Why an engine ended early.
-#[derive(Clone, Copy, Debug, PartialEq, Eq, Error)]
+#[derive(Clone, Copy)]
 pub enum EngineFault {
     /// The keytab couldn't be read, memory ran out for it, what was read isn't a keytab, or what is to
     /// be written of it would be too long.
-    #[error("{0}")]
     Keytab(KeytabFault),
     /// The keytab whose keys are added couldn't be read, or isn't one, or memory ran out for it.
-    #[error("{0}")]
     Added(KeytabFault),
     /// The credential cache couldn't be read, memory ran out for it, or what was read isn't one.
-    #[error("{0}")]
     Cache(CacheFault),
     /// No request is built with the credential cache, or memory ran out for it.
-    #[error("{0}")]
     Request(RequestFault),
     /// No entry of the keytab is picked.
-    #[error("{0}")]
     Pick(PickFault),
     /// The reply is refused, or there was no room for it.
-    #[error("{0}")]
     Finish(FinishFault),
     /// The lines of an input couldn't be read, or there were more of them than is taken.
-    #[error("the input could not be read")]
     Input,
     /// The sink couldn't be written.
-    #[error("the output could not be written")]
     Write,
     /// There was no room, other than for the keytab, the credential cache, the request or the reply.
-    #[error("out of memory")]
     OutOfMemory,
 }
 
 /// Why no entry of a keytab is picked: the first that holds.
-#[derive(Clone, Copy, Debug, PartialEq, Eq, Error)]
+#[derive(Clone, Copy)]
 pub enum PickFault {
     /// No entry has the name.
-    #[error("no entry has the name")]
     NoName,
     /// No entry of that name has the encryption type, and a key that is usable with it.
-    #[error("no entry of the name has a usable key of the encryption type")]
     NoKey,
     /// None of these entries has the version number.
-    #[error("no such key has the version number")]
     NoVersion,
 }
 
@@ -124,106 +110,86 @@ impl From<AllocError> for EngineFault {
     }
 }
 
+/// What is printed of a fault: its name, and its offset in bytes if it has one.
+pub(crate) type FaultText = (&'static str, Option<usize>);
+
 impl EngineFault {
-    /// Answers the fault's name, as the program prints it.
-    pub(crate) fn name(&self) -> &'static str
-        ensures { result.now ≡ name_of self.now }
+    /// Returns what is printed of the fault.
+    pub(crate) fn text(&self) -> FaultText
+        ensures { (result.0.now, result.1) ≡ text_of self.now }
     {
         match self {
-            EngineFault::Keytab(fault) | EngineFault::Added(fault) => keytab_name(fault),
-            EngineFault::Cache(fault) => cache_name(fault),
-            EngineFault::Request(fault) => request_name(fault),
-            EngineFault::Pick(fault) => pick_name(fault),
-            EngineFault::Finish(fault) => finish_name(fault),
-            EngineFault::Input => "Read",
-            EngineFault::Write => "Write",
-            EngineFault::OutOfMemory => "OutOfMemory",
-        }
-    }
-
-    /// Returns the fault's offset in bytes, if it has one.
-    pub(crate) fn at(&self) -> Option<usize>
-        ensures { result ≡ place_of self.now }
-    {
-        match self {
-            EngineFault::Keytab(fault) | EngineFault::Added(fault) => fault.at(),
-            EngineFault::Cache(fault) => fault.at(),
-            EngineFault::Finish(fault) => finish_place(fault),
-            EngineFault::Request(_) | EngineFault::Pick(_) => None,
-            EngineFault::Input | EngineFault::Write | EngineFault::OutOfMemory => None,
+            EngineFault::Keytab(fault) | EngineFault::Added(fault) => keytab_text(fault),
+            EngineFault::Cache(fault) => cache_text(fault),
+            EngineFault::Request(fault) => request_text(fault),
+            EngineFault::Pick(fault) => pick_text(fault),
+            EngineFault::Finish(fault) => finish_text(fault),
+            EngineFault::Input => ("Read", None),
+            EngineFault::Write => ("Write", None),
+            EngineFault::OutOfMemory => ("OutOfMemory", None),
         }
     }
 }
 
-fn keytab_name(fault: &KeytabFault) -> &'static str
-    ensures { result.now ≡ keytab_name fault.now }
+fn keytab_text(fault: &KeytabFault) -> FaultText
+    ensures { (result.0.now, result.1) ≡ keytab_text fault.now }
 {
     match fault {
-        KeytabFault::Version => "Version",
-        KeytabFault::Truncated { .. } => "Truncated",
-        KeytabFault::BadEntry { .. } => "BadEntry",
-        KeytabFault::TooLong => "TooLong",
-        KeytabFault::NoSuchEntry => "NoSuchEntry",
-        KeytabFault::Read => "Read",
-        KeytabFault::OutOfMemory => "OutOfMemory",
+        KeytabFault::Version => ("Version", None),
+        KeytabFault::Truncated { at } => ("Truncated", Some(*at)),
+        KeytabFault::BadEntry { at } => ("BadEntry", Some(*at)),
+        KeytabFault::TooLong => ("TooLong", None),
+        KeytabFault::NoSuchEntry => ("NoSuchEntry", None),
+        KeytabFault::Read => ("Read", None),
+        KeytabFault::OutOfMemory => ("OutOfMemory", None),
     }
 }
 
-fn cache_name(fault: &CacheFault) -> &'static str
-    ensures { result.now ≡ cache_name fault.now }
+fn cache_text(fault: &CacheFault) -> FaultText
+    ensures { (result.0.now, result.1) ≡ cache_text fault.now }
 {
     match fault {
-        CacheFault::Version => "Version",
-        CacheFault::Header => "Header",
-        CacheFault::BadItem { .. } => "BadItem",
-        CacheFault::TooLong => "TooLong",
-        CacheFault::Read => "Read",
-        CacheFault::OutOfMemory => "OutOfMemory",
+        CacheFault::Version => ("Version", None),
+        CacheFault::Header => ("Header", None),
+        CacheFault::BadItem { at } => ("BadItem", Some(*at)),
+        CacheFault::TooLong => ("TooLong", None),
+        CacheFault::Read => ("Read", None),
+        CacheFault::OutOfMemory => ("OutOfMemory", None),
     }
 }
 
-fn request_name(fault: &RequestFault) -> &'static str
-    ensures { result.now ≡ request_name fault.now }
+fn request_text(fault: &RequestFault) -> FaultText
+    ensures { (result.0.now, result.1) ≡ request_text fault.now }
 {
     match fault {
-        RequestFault::NoCredential => "NoCredential",
-        RequestFault::NoUsableKey => "NoUsableKey",
-        RequestFault::Expired => "Expired",
-        RequestFault::BadTicket => "BadTicket",
-        RequestFault::TooLong => "TooLong",
-        RequestFault::OutOfMemory => "OutOfMemory",
+        RequestFault::NoCredential => ("NoCredential", None),
+        RequestFault::NoUsableKey => ("NoUsableKey", None),
+        RequestFault::Expired => ("Expired", None),
+        RequestFault::BadTicket => ("BadTicket", None),
+        RequestFault::TooLong => ("TooLong", None),
+        RequestFault::OutOfMemory => ("OutOfMemory", None),
     }
 }
 
-fn pick_name(fault: &PickFault) -> &'static str
-    ensures { result.now ≡ pick_name fault.now }
+fn pick_text(fault: &PickFault) -> FaultText
+    ensures { (result.0.now, result.1) ≡ pick_text fault.now }
 {
     match fault {
-        PickFault::NoName => "NoName",
-        PickFault::NoKey => "NoKey",
-        PickFault::NoVersion => "NoVersion",
+        PickFault::NoName => ("NoName", None),
+        PickFault::NoKey => ("NoKey", None),
+        PickFault::NoVersion => ("NoVersion", None),
     }
 }
 
-fn finish_name(fault: &FinishFault) -> &'static str
-    ensures { result.now ≡ finish_name fault.now }
+fn finish_text(fault: &FinishFault) -> FaultText
+    ensures { (result.0.now, result.1) ≡ finish_text fault.now }
 {
     match fault {
-        FinishFault::MessageType => "MessageType",
-        FinishFault::Malformed(_) => "Malformed",
-        FinishFault::Integrity => "Integrity",
-        FinishFault::Mismatch => "Mismatch",
-        FinishFault::OutOfMemory => "OutOfMemory",
-    }
-}
-
-// The place in the reply that a fault names.
-fn finish_place(fault: &FinishFault) -> Option<usize>
-    ensures { result ≡ finish_offset_of fault.now }
-{
-    match fault {
-        FinishFault::Malformed(fault) => Some(fault.at),
-        _ => None,
+        FinishFault::MessageType => ("MessageType", None),
+        FinishFault::Malformed(fault) => ("Malformed", Some(fault.at)),
+        FinishFault::Integrity => ("Integrity", None),
+        FinishFault::Mismatch => ("Mismatch", None),
+        FinishFault::OutOfMemory => ("OutOfMemory", None),
     }
 }
 

@@ -1,9 +1,9 @@
 //! The lines that the program prints of faults.
 
 ghost use Rattle.std.specs.Prelude.{◌≡◌, None, codes};
-ghost use Rattle.krbtool.specs.FaultText.{name_of, place_of, text_fault_name, text_fault_place, line_of};
+ghost use Rattle.krbtool.specs.FaultText.{line_of, name_text, text_of};
 
-use crate::fault::EngineFault;
+use crate::fault::{EngineFault, FaultText};
 use krb_name::TextFault;
 use std::fmt;
 use std::marker::Model;
@@ -23,7 +23,7 @@ impl<'a> Model for FaultLine<'a> {
 
     ghost Value = { List ℕ };
 
-    ghost view = { λ l. line_of l.name.now l.fault.now l.at };
+    ghost view = { λ l. line_of l.name.now (l.fault.now, l.at) };
 }
 
 impl fmt::Display for FaultLine<'_> {
@@ -44,18 +44,15 @@ impl fmt::Display for FaultLine<'_> {
 /// Gives the line for a fault of what has this name: a file as it was given, `output`, `input`, or
 /// a command. `Input` is printed as `Read`. It takes no memory.
 pub fn fault_line<'a>(name: &'a str, fault: &EngineFault) -> FaultLine<'a>
-    ensures { result ≡ line_of name.entry.now (name_of fault.now) (place_of fault.now) }
+    ensures { result ≡ line_of name.entry.now (text_of fault.now) }
 {
-    FaultLine {
-        name,
-        fault: fault.name(),
-        at: fault.at(),
-    }
+    let (fault, at) = fault.text();
+    FaultLine { name, fault, at }
 }
 
 /// Gives the line for a file that can't be opened or written. It takes no memory.
 pub fn file_line(name: &str) -> FaultLine<'_>
-    ensures { result ≡ line_of name.entry.now (codes "File") None }
+    ensures { result ≡ line_of name.entry.now (codes "File", None) }
 {
     FaultLine {
         name,
@@ -66,37 +63,29 @@ pub fn file_line(name: &str) -> FaultLine<'_>
 
 /// Gives the line for an argument of this name that isn't the name of a service. It takes no memory.
 pub fn name_line<'a>(argument: &'a str, fault: &TextFault) -> FaultLine<'a>
-    ensures { result ≡ line_of argument.entry.now (text_fault_name fault.now) (text_fault_place fault.now) }
+    ensures { result ≡ line_of argument.entry.now (name_text fault.now) }
 {
+    let (fault, at) = name_text(fault);
     FaultLine {
         name: argument,
-        fault: text_fault_name(fault),
-        at: text_fault_place(fault),
+        fault,
+        at,
     }
 }
 
-fn text_fault_name(fault: &TextFault) -> &'static str
-    ensures { result.now ≡ text_fault_name fault.now }
+fn name_text(fault: &TextFault) -> FaultText
+    ensures { (result.0.now, result.1) ≡ name_text fault.now }
 {
     match fault {
-        TextFault::BadText { .. } => "BadText",
-        TextFault::NoRealm => "NoRealm",
-        TextFault::OutOfMemory => "OutOfMemory",
-    }
-}
-
-fn text_fault_place(fault: &TextFault) -> Option<usize>
-    ensures { result ≡ text_fault_place fault.now }
-{
-    match fault {
-        TextFault::BadText { at } => Some(*at),
-        TextFault::NoRealm | TextFault::OutOfMemory => None,
+        TextFault::BadText { at } => ("BadText", Some(*at)),
+        TextFault::NoRealm => ("NoRealm", None),
+        TextFault::OutOfMemory => ("OutOfMemory", None),
     }
 }
 
 /// Gives the line for an argument of this name that isn't one of its words. It takes no memory.
 pub fn word_line(argument: &str) -> FaultLine<'_>
-    ensures { result ≡ line_of argument.entry.now (codes "BadWord") None }
+    ensures { result ≡ line_of argument.entry.now (codes "BadWord", None) }
 {
     FaultLine {
         name: argument,
@@ -107,7 +96,7 @@ pub fn word_line(argument: &str) -> FaultLine<'_>
 
 /// Gives the line for an argument of this name that isn't in hexadecimal, or not of the right length. It takes no memory.
 pub fn hex_line(argument: &str) -> FaultLine<'_>
-    ensures { result ≡ line_of argument.entry.now (codes "BadHex") None }
+    ensures { result ≡ line_of argument.entry.now (codes "BadHex", None) }
 {
     FaultLine {
         name: argument,

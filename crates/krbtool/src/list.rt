@@ -69,10 +69,8 @@ pub fn list<F: FileFormat, L: Listing<F>, S: Source, T: Sink>(
     ensures taken { TakesFile (S.remaining source.old) (S.remaining source.new) }
     ensures writes { T.failure_count sink.new ≡ T.failure_count sink.old + failed_writes result }
 {
-    match F::read_file(alloc, source) {
-        Ok(value) => listing.write(alloc, &value, sink),
-        Err(unread) => Err(unread),
-    }
+    let value = F::read_file(alloc, source)?;
+    listing.write(alloc, &value, sink)
 }
 
 /// Lines for programs.
@@ -123,22 +121,11 @@ impl Listing<CCache> for Lines {
         value: &CCache,
         sink: &mut T,
     ) -> Result<(), EngineFault> {
-        write_listing(alloc, value, sink)
-    }
-}
-
-fn write_listing<T: Sink>(alloc: Global, cache: &CCache, sink: &mut T) -> Result<(), EngineFault>
-    requires { T.failure_count sink.old < 2 ^ 64 - 1 }
-    ensures ok { OnOk result (Appends (T.taken sink.old) (T.taken sink.new) (cache_lines cache.now)) }
-    ensures err { OnErr result
-        (AppendsBeginning (T.taken sink.old) (T.taken sink.new) (cache_lines cache.now)) }
-    ensures which { IfErr result (λ e. (e ≡ EngineFault.Write) ⊎ (e ≡ EngineFault.OutOfMemory)) }
-    ensures writes { T.failure_count sink.new ≡ T.failure_count sink.old + failed_writes result }
-{
-    write_head(alloc, cache.default_principal(), cache.kdc_offset(), sink)?;
-    match write_lines(alloc, cache.credentials(), sink) {
-        Ok(()) => Ok(()),
-        Err(fault) => Err(fault),
+        write_head(alloc, value.default_principal(), value.kdc_offset(), sink)?;
+        match write_lines(alloc, value.credentials(), sink) {
+            Ok(()) => Ok(()),
+            Err(fault) => Err(fault),
+        }
     }
 }
 

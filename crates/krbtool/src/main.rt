@@ -6,6 +6,7 @@
 
 mod accept;
 mod add;
+mod answer_end;
 mod answering;
 mod arguments;
 mod call_line;
@@ -28,13 +29,12 @@ mod remove;
 mod request;
 mod run;
 mod run_accept;
-mod run_edit;
 mod run_finish;
 mod run_pick;
 mod run_request;
+mod run_rewrite;
 mod streams;
 mod table;
-mod tail;
 mod token_fault;
 mod whole;
 mod words;

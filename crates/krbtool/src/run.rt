@@ -5,35 +5,42 @@ ghost use Rattle.krb_name.specs.Flow.{source_failures};
 
 use crate::check::check;
 use crate::command_line::{CacheForm, Command};
-use crate::convert::convert;
 use crate::fault::{EngineFault, FAILED, WRONG_WORDS, status};
 use crate::fault_line::{FaultLine, fault_line, file_line};
 use crate::list::{Lines, list};
 use crate::run_accept::run_accept;
-use crate::run_edit::{run_add, run_remove};
 use crate::run_finish::run_finish;
 use crate::run_pick::run_pick;
 use crate::run_request::run_request;
+use crate::run_rewrite::{Rewriting, rewrite, run_add, run_remove};
 use crate::table::{CacheTable, KeytabTable};
 use krb_ccache::CCache;
 use krb_keytab::Keytab;
 use krb_name::{ReadSource, Sink, Source, WriteSink};
 use std::alloc::Global;
-use std::fs::{File, OpenOptions};
+use std::fs::File;
 use std::io;
 use std::io::{BufReader, BufWriter, Input, Read, Write};
-use std::os::unix::fs::OpenOptionsExt;
 use std::rt::Files;
 
 // How many bytes of a file are read at a time.
 const PIECE: usize = 65_536;
 
-// The mode of a file that its owner alone may read and write.
-const OWNER_ALONE: u32 = 0o600;
+/// What a command prints of the one file that it reads.
+pub(crate) trait Engine {
+    fn run<S: Source, T: Sink>(
+        &self,
+        alloc: Global,
+        source: &mut S,
+        sink: &mut T,
+    ) -> Result<(), EngineFault>
+        requires source { S.failure_count source.old < 2 ^ 64 - 1 }
+        requires sink { T.failure_count sink.old < 2 ^ 64 - 1 };
+}
 
-// What is done with the one file that a command has.
+// A keytab or a credential cache is listed or checked.
 #[derive(Clone, Copy)]
-enum FileCommand {
+enum Look {
     ListKeytab,
     ListCcache,
     TableKeytab,
@@ -42,60 +49,24 @@ enum FileCommand {
     CheckCcache,
 }
 
-impl FileCommand {
-    fn name(self) -> &'static str {
-        match self {
-            FileCommand::ListKeytab | FileCommand::TableKeytab => "list-keytab",
-            FileCommand::ListCcache | FileCommand::TableCcache(_) => "list-ccache",
-            FileCommand::CheckKeytab => "check-keytab",
-            FileCommand::CheckCcache => "check-ccache",
-        }
-    }
-
+impl Engine for Look {
     fn run<S: Source, T: Sink>(
-        self,
+        &self,
         alloc: Global,
         source: &mut S,
         sink: &mut T,
-    ) -> Result<(), EngineFault>
-        requires source { S.failure_count source.old < 2 ^ 64 - 1 }
-        requires sink { T.failure_count sink.old < 2 ^ 64 - 1 }
-    {
-        match self {
-            FileCommand::ListKeytab => list::<Keytab, Lines, S, T>(alloc, source, sink, &Lines),
-            FileCommand::ListCcache => list::<CCache, Lines, S, T>(alloc, source, sink, &Lines),
-            FileCommand::TableKeytab => {
+    ) -> Result<(), EngineFault> {
+        match *self {
+            Look::ListKeytab => list::<Keytab, Lines, S, T>(alloc, source, sink, &Lines),
+            Look::ListCcache => list::<CCache, Lines, S, T>(alloc, source, sink, &Lines),
+            Look::TableKeytab => {
                 list::<Keytab, KeytabTable, S, T>(alloc, source, sink, &KeytabTable)
             }
-            FileCommand::TableCcache(now) => {
+            Look::TableCcache(now) => {
                 list::<CCache, CacheTable, S, T>(alloc, source, sink, &CacheTable { now })
             }
-            FileCommand::CheckKeytab => check::<Keytab, S, T>(alloc, source, sink),
-            FileCommand::CheckCcache => check::<CCache, S, T>(alloc, source, sink),
-        }
-    }
-}
-
-// Which kind of file is written again.
-#[derive(Clone, Copy)]
-enum Convert {
-    Keytab,
-    Ccache,
-}
-
-impl Convert {
-    fn run<S: Source, T: Sink>(
-        self,
-        alloc: Global,
-        source: &mut S,
-        sink: &mut T,
-    ) -> Result<usize, EngineFault>
-        requires source { S.failure_count source.old < 2 ^ 64 - 1 }
-        requires sink { T.failure_count sink.old < 2 ^ 64 - 1 }
-    {
-        match self {
-            Convert::Keytab => convert::<Keytab, S, T>(alloc, source, sink),
-            Convert::Ccache => convert::<CCache, S, T>(alloc, source, sink),
+            Look::CheckKeytab => check::<Keytab, S, T>(alloc, source, sink),
+            Look::CheckCcache => check::<CCache, S, T>(alloc, source, sink),
         }
     }
 }
@@ -107,15 +78,32 @@ pub(crate) fn run<R: AllocGlobal + Files + Input + Print + Eprint>(
     command: Command<'_>,
 ) -> u8 {
     match command {
-        Command::ListKeytab { file, readable } => run_on_file(rt, on_keytab(readable), file),
-        Command::ListCcache { file, form } => match on_ccache(form) {
-            Some(command) => run_on_file(rt, command, file),
+        Command::ListKeytab { file, readable } => {
+            let look = if readable {
+                Look::TableKeytab
+            } else {
+                Look::ListKeytab
+            };
+            print_of_file(rt, &look, "list-keytab", file)
+        }
+        Command::ListCcache { file, form } => match look_of(form) {
+            Some(look) => print_of_file(rt, &look, "list-ccache", file),
             None => WRONG_WORDS,
         },
-        Command::CheckKeytab { file } => run_on_file(rt, FileCommand::CheckKeytab, file),
-        Command::CheckCcache { file } => run_on_file(rt, FileCommand::CheckCcache, file),
-        Command::ConvertKeytab { file, out } => run_convert(rt, Convert::Keytab, file, out),
-        Command::ConvertCcache { file, out } => run_convert(rt, Convert::Ccache, file, out),
+        Command::CheckKeytab { file } => print_of_file(
+            rt,
+            &Look::CheckKeytab,
+            "check-keytab",
+            file,
+        ),
+        Command::CheckCcache { file } => print_of_file(
+            rt,
+            &Look::CheckCcache,
+            "check-ccache",
+            file,
+        ),
+        Command::ConvertKeytab { file, out } => rewrite(rt, Rewriting::Keytab, file, out),
+        Command::ConvertCcache { file, out } => rewrite(rt, Rewriting::Ccache, file, out),
         Command::Request(words) => run_request(rt, words),
         Command::Accept(words) => run_accept(rt, words),
         Command::Finish(words) => run_finish(rt, words),
@@ -125,82 +113,42 @@ pub(crate) fn run<R: AllocGlobal + Files + Input + Print + Eprint>(
     }
 }
 
-fn on_keytab(readable: bool) -> FileCommand {
-    if readable {
-        FileCommand::TableKeytab
-    } else {
-        FileCommand::ListKeytab
-    }
-}
-
 // The words of the command line were read as a number in this range.
-fn on_ccache(form: CacheForm<'_>) -> Option<FileCommand> {
+fn look_of(form: CacheForm<'_>) -> Option<Look> {
     match form {
-        CacheForm::Lines => Some(FileCommand::ListCcache),
-        CacheForm::Table { now: None } => Some(FileCommand::TableCcache(None)),
-        CacheForm::Table { now: Some(text) } => {
-            let now = text.parse::<u64>().ok()?;
-            Some(FileCommand::TableCcache(Some(now)))
-        }
+        CacheForm::Lines => Some(Look::ListCcache),
+        CacheForm::Table { now: None } => Some(Look::TableCcache(None)),
+        CacheForm::Table { now: Some(text) } => Some(Look::TableCcache(Some(text.parse().ok()?))),
     }
 }
 
-fn run_on_file<R: AllocGlobal + Files + Print + Eprint>(
+/// Opens the command's file, prints on standard output what its engine says of it, and returns the exit status.
+pub(crate) fn print_of_file<R: AllocGlobal + Files + Print + Eprint, E: Engine>(
     rt: &R,
-    command: FileCommand,
+    engine: &E,
+    command: &str,
     file: &str,
 ) -> u8 {
     let Ok(opened) = File::open(rt, file) else {
         return complain(rt, file_line(file), FAILED);
     };
-    match printed(rt, command, opened) {
+    match printed(rt, engine, opened) {
         Ok(()) => 0,
-        Err(fault) => complain_of(rt, &fault, file, command.name()),
+        Err(fault) => complain_of(rt, &fault, file, command),
     }
 }
 
-// Runs the command on the file, with standard output as its sink.
-fn printed<R: AllocGlobal + Files + Print>(
+// Runs the engine on the file, with standard output as its sink.
+fn printed<R: AllocGlobal + Files + Print, E: Engine>(
     rt: &R,
-    command: FileCommand,
+    engine: &E,
     file: R::File,
 ) -> Result<(), EngineFault> {
     let mut source = source_of(rt.alloc(), file)?;
     let writer = BufWriter::new(rt.alloc(), io::writer(rt)).map_err(|_| EngineFault::OutOfMemory)?;
     let mut sink = WriteSink::new(writer);
-    command.run(rt.alloc(), &mut source, &mut sink)?;
+    engine.run(rt.alloc(), &mut source, &mut sink)?;
     sink.into_inner().flush().map_err(|_| EngineFault::Write)
-}
-
-// Writes the file again, into OUT, and says on standard output how many bytes that took.
-fn run_convert<R: AllocGlobal + Files + Print + Eprint>(
-    rt: &R,
-    kind: Convert,
-    file: &str,
-    out: &str,
-) -> u8 {
-    let Ok(opened) = File::open(rt, file) else {
-        return complain(rt, file_line(file), FAILED);
-    };
-    let Ok(made) = make(rt, out) else {
-        return complain(rt, file_line(out), FAILED);
-    };
-    match converted(rt, kind, opened, made) {
-        Ok(count) => tell_wrote(rt, count),
-        Err(EngineFault::Write) => complain(rt, file_line(out), FAILED),
-        Err(fault) => complain(rt, fault_line(file, &fault), status(&fault)),
-    }
-}
-
-fn converted<R: AllocGlobal + Files>(
-    rt: &R,
-    kind: Convert,
-    file: R::File,
-    out: R::File,
-) -> Result<usize, EngineFault> {
-    let mut source = source_of(rt.alloc(), file)?;
-    let mut sink = WriteSink::new(out);
-    kind.run(rt.alloc(), &mut source, &mut sink)
 }
 
 /// Makes a source of a file. What is asked of it a few bytes at a time is read in pieces of 65,536 bytes.
@@ -216,27 +164,6 @@ pub(crate) fn source_of<F: Read + Drop>(
     match BufReader::with_capacity(alloc, PIECE, file) {
         Ok(reader) => Ok(ReadSource::new(reader)),
         Err(_) => Err(EngineFault::OutOfMemory),
-    }
-}
-
-// Makes OUT, for its owner alone since it holds keys; or empties the one that is there, whose mode stays.
-pub(crate) fn make<R: Files>(rt: &R, out: &str) -> io::Result<R::File> {
-    OpenOptions::new()
-        .write(true)
-        .create(true)
-        .truncate(true)
-        .mode(OWNER_ALONE)
-        .open(rt, out)
-}
-
-// Prints how many bytes were written, and answers the status.
-pub(crate) fn tell_wrote<R: Print + Eprint>(rt: &R, count: usize) -> u8 {
-    match println!(rt; "wrote {count}") {
-        Ok(()) => 0,
-        Err(_) => {
-            let fault = EngineFault::Write;
-            complain(rt, fault_line("output", &fault), status(&fault))
-        }
     }
 }
 

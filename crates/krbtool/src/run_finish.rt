@@ -2,15 +2,14 @@
 
 use crate::command_line::FinishWords;
 use crate::fault::{EngineFault, FAILED, WRONG_WORDS, service_status};
-use crate::fault_line::{fault_line, file_line, hex_line, name_line};
+use crate::fault_line::{fault_line, hex_line, name_line};
 use crate::finish::{finish_line, read_reply};
 use crate::request::read_service;
-use crate::run::{complain, complain_of, source_of};
+use crate::run::{Engine, complain, print_of_file};
 use crate::run_request::moment_of;
 use krb_msg::Moment;
-use krb_name::{Principal, WriteSink};
-use std::fs::File;
-use std::io;
+use krb_name::{Principal, Sink, Source};
+use std::alloc::Global;
 use std::rt::Files;
 
 // The reply, and which request it answers.
@@ -19,6 +18,17 @@ struct Replied {
     service: Principal,
     at: Moment,
     reply: Vec<u8>,
+}
+
+impl Engine for Replied {
+    fn run<S: Source, T: Sink>(
+        &self,
+        alloc: Global,
+        source: &mut S,
+        sink: &mut T,
+    ) -> Result<(), EngineFault> {
+        finish_line(alloc, source, sink, &self.service, self.at, &self.reply)
+    }
 }
 
 /// Reads the reply to a request and prints what is agreed, and returns the exit status.
@@ -38,30 +48,6 @@ pub(crate) fn run_finish<R: AllocGlobal + Files + Print + Eprint>(
         Ok(None) => return complain(rt, hex_line("reply"), WRONG_WORDS),
         Err(_) => return complain(rt, fault_line("reply", &EngineFault::OutOfMemory), FAILED),
     };
-    let Ok(opened) = File::open(rt, words.file) else {
-        return complain(rt, file_line(words.file), FAILED);
-    };
     let replied = Replied { service, at, reply };
-    match printed(rt, opened, &replied) {
-        Ok(()) => 0,
-        Err(fault) => complain_of(rt, &fault, words.file, "finish"),
-    }
-}
-
-// Prints what is agreed, with standard output as the engine's sink.
-fn printed<R: AllocGlobal + Files + Print>(
-    rt: &R,
-    file: R::File,
-    replied: &Replied,
-) -> Result<(), EngineFault> {
-    let mut source = source_of(rt.alloc(), file)?;
-    let mut sink = WriteSink::new(io::writer(rt));
-    finish_line(
-        rt.alloc(),
-        &mut source,
-        &mut sink,
-        &replied.service,
-        replied.at,
-        replied.reply.as_slice(),
-    )
+    print_of_file(rt, &replied, "finish", words.file)
 }

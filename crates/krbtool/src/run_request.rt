@@ -1,16 +1,26 @@
 //! Running `request`: its words are read before its file is opened.
 
 use crate::command_line::RequestWords;
-use crate::fault::{EngineFault, FAILED, WRONG_WORDS, service_status};
-use crate::fault_line::{file_line, hex_line, name_line, word_line};
+use crate::fault::{EngineFault, WRONG_WORDS, service_status};
+use crate::fault_line::{hex_line, name_line, word_line};
 use crate::request::{Asked, read_confounder, read_service, read_wrapping, request_line};
-use crate::run::{complain, complain_of, source_of};
+use crate::run::{Engine, complain, print_of_file};
 use krb_gss::Wrapping;
 use krb_msg::Moment;
-use krb_name::WriteSink;
-use std::fs::File;
-use std::io;
+use krb_name::{Sink, Source};
+use std::alloc::Global;
 use std::rt::Files;
+
+impl Engine for Asked {
+    fn run<S: Source, T: Sink>(
+        &self,
+        alloc: Global,
+        source: &mut S,
+        sink: &mut T,
+    ) -> Result<(), EngineFault> {
+        request_line(alloc, source, sink, self)
+    }
+}
 
 /// Builds a request with the credential cache and prints it, and returns the exit status.
 pub(crate) fn run_request<R: AllocGlobal + Files + Print + Eprint>(
@@ -30,9 +40,6 @@ pub(crate) fn run_request<R: AllocGlobal + Files + Print + Eprint>(
     let Some(wrapping) = wrapping_of(words.token) else {
         return complain(rt, word_line("token"), WRONG_WORDS);
     };
-    let Ok(opened) = File::open(rt, words.file) else {
-        return complain(rt, file_line(words.file), FAILED);
-    };
     let asked = Asked {
         service,
         at,
@@ -40,10 +47,7 @@ pub(crate) fn run_request<R: AllocGlobal + Files + Print + Eprint>(
         wants_reply: words.mutual,
         wrapping,
     };
-    match printed(rt, opened, &asked) {
-        Ok(()) => 0,
-        Err(fault) => complain_of(rt, &fault, words.file, "request"),
-    }
+    print_of_file(rt, &asked, "request", words.file)
 }
 
 // `None` for a word of no token.
@@ -57,15 +61,4 @@ fn wrapping_of(word: Option<&str>) -> Option<Option<Wrapping>> {
 // The words of the command line were read as numbers in these ranges.
 pub(crate) fn moment_of(seconds: &str, micros: &str) -> Option<Moment> {
     Moment::new(seconds.parse::<i64>().ok()?, micros.parse::<u32>().ok()?)
-}
-
-// Prints the request, with standard output as the engine's sink.
-fn printed<R: AllocGlobal + Files + Print>(
-    rt: &R,
-    file: R::File,
-    asked: &Asked,
-) -> Result<(), EngineFault> {
-    let mut source = source_of(rt.alloc(), file)?;
-    let mut sink = WriteSink::new(io::writer(rt));
-    request_line(rt.alloc(), &mut source, &mut sink, asked)
 }

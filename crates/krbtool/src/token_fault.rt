@@ -1,7 +1,7 @@
 //! The line of `accept` for a token that can't be opened.
 
 ghost use Rattle.std.specs.Prelude.{◌≡◌, IfOk, string_bytes};
-ghost use Rattle.krbtool.specs.FaultText.{foreign_name, kind_name, token_fault_name, token_fault_place};
+ghost use Rattle.krbtool.specs.FaultText.{foreign_name, kind_name, token_text};
 ghost use Rattle.krbtool.specs.Answering.{bad_token_line};
 
 use krb_der::FaultKind;
@@ -12,33 +12,21 @@ use std::alloc::{AllocError, Global};
 pub(crate) fn bad_token_text(alloc: Global, fault: &TokenFault) -> Result<String, AllocError>
     ensures { IfOk result (λ text. string_bytes text ≡ bad_token_line fault.now) }
 {
-    let name = token_fault_name(fault);
-    let at = token_fault_place(fault);
+    let (name, at) = token_text(fault);
     format!(in alloc; "bad token {name} at {at}\n")
 }
 
-fn token_fault_name(fault: &TokenFault) -> &'static str
-    ensures { result.now ≡ token_fault_name fault.now }
+// The fault's name and its offset in bytes. Another kind of token is known by its first byte.
+fn token_text(fault: &TokenFault) -> (&'static str, usize)
+    ensures { (result.0.now, result.1) ≡ token_text fault.now }
 {
     match fault {
-        TokenFault::Malformed(fault) => kind_name(fault.kind),
-        TokenFault::NotToken => "NotToken",
-        TokenFault::Response => "Response",
-        TokenFault::OtherMechanism(foreign, _) => foreign_name(*foreign),
-        TokenFault::NoToken(_) => "NoToken",
-        TokenFault::TokenId(_) => "TokenId",
-    }
-}
-
-// A token is known by its first byte.
-fn token_fault_place(fault: &TokenFault) -> usize
-    ensures { result ≡ token_fault_place fault.now }
-{
-    match fault {
-        TokenFault::Malformed(fault) => fault.at,
-        TokenFault::NotToken | TokenFault::Response => 0,
-        TokenFault::OtherMechanism(_, at) => *at,
-        TokenFault::NoToken(at) | TokenFault::TokenId(at) => *at,
+        TokenFault::Malformed(fault) => (kind_name(fault.kind), fault.at),
+        TokenFault::NotToken => ("NotToken", 0),
+        TokenFault::Response => ("Response", 0),
+        TokenFault::OtherMechanism(foreign, at) => (foreign_name(*foreign), *at),
+        TokenFault::NoToken(at) => ("NoToken", *at),
+        TokenFault::TokenId(at) => ("TokenId", *at),
     }
 }
 

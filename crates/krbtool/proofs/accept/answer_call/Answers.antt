@@ -11,9 +11,9 @@ returns-in-Ok-clause-becomes g c = λ setup history line is stands spells.
     let carries = subst (λ (b : List ℕ). Carries c.args.options.now.form b c.in-Ok.carried.envelope c.in-Ok.carried.request.now) c.deref.ensures.value c.in-Ok.ensures.found in
     called c.args.options.now c.args.acceptor.now.setup c.accept-outcome.new.self.setup setup history line c.args.call.now.bytes.items
     c.in-Ok.carried.request.now c.args.call.now.now c.args.call.now.confounder c.in-Ok.carried.envelope
-    (record { outcome = c.accept-outcome.result; tail = c.tail_of-tail.result })
+    (record { outcome = c.accept-outcome.result; end = c.end_of-end.result })
     (g.M.ReplayMemory.has c.accept-outcome.new.self.memory) (g.M.ReplayMemory.newest c.accept-outcome.new.self.memory) is c.accept-outcome.ensures.setup
-    spells carries (c.accept-outcome.ensures.answer history before) (c.accept-outcome.ensures.goes_on history before) c.tail_of-tail.ensures
+    spells carries (c.accept-outcome.ensures.answer history before) (c.accept-outcome.ensures.goes_on history before) c.end_of-end.ensures
 
 pub returns-in-Err-clause-becomes : goal.returns-in-Err-clause-becomes
 returns-in-Err-clause-becomes g c = λ setup history line is stands spells.

@@ -3,7 +3,7 @@
 ghost use Rattle.std.specs.Prelude.{◌≡◌, IfOk, IsErrOf, string_bytes};
 ghost use Rattle.krb_gss.specs.Answer.{message_of};
 ghost use Rattle.krbtool.specs.Forms.{IsSentTooLong, TellsAnswer};
-ghost use Rattle.krbtool.specs.Tails.{IsErrorTail, IsReplyTail, IsTail, named, tail_status, tail_text};
+ghost use Rattle.krbtool.specs.AnswerEnd.{IsErrorEnd, IsReplyEnd, IsAnswerEnd, named, end_status, end_text};
 
 use crate::fault::FAILED;
 use crate::form::Envelope;
@@ -15,15 +15,15 @@ use std::alloc::{AllocError, Global};
 
 /// What follows an answer on its line.
 #[derive(Drop)]
-pub(crate) enum Tail {
+pub(crate) enum AnswerEnd {
     /// Nothing.
     Nothing,
     /// A reply, or the token that holds it, in hexadecimal.
     Reply(String),
     /// An error, or the token that holds it, in hexadecimal.
     Error(String),
-    /// Nothing either, since there was no room for it.
-    Wanting,
+    /// Nothing either: memory ran out for it.
+    OutOfMemory,
 }
 
 /// What a call is answered, and what follows that on its line.
@@ -32,43 +32,43 @@ pub(crate) struct LineAnswer {
     /// The acceptor's answer.
     pub outcome: Outcome,
     /// What follows it.
-    pub tail: Tail,
+    pub end: AnswerEnd,
 }
 
 /// Makes what follows the answer to a call of this moment: a reply to a request that asks for one and came with a confounder, or the
 /// error that reports a refusal, if the service's name is given. It is wrapped as the request was.
-pub(crate) fn tail_of(
+pub(crate) fn end_of(
     alloc: Global,
     envelope: Option<Envelope>,
     outcome: &Outcome,
     now: Moment,
     confounder: Option<[u8; 16]>,
     service: Option<&Principal>,
-) -> Tail
-    ensures { IsTail envelope outcome.now now confounder (named service.entry) result }
+) -> AnswerEnd
+    ensures { IsAnswerEnd envelope outcome.now now confounder (named service.entry) result }
 {
     match outcome {
         Ok(accepted) => match confounder {
-            Some(confounder) => reply_tail(alloc, envelope, accepted, &confounder),
-            None => Tail::Nothing,
+            Some(confounder) => reply_end(alloc, envelope, accepted, &confounder),
+            None => AnswerEnd::Nothing,
         },
         Err(refusal) => match service {
-            Some(service) => error_tail(alloc, envelope, refusal, now, service),
-            None => Tail::Nothing,
+            Some(service) => error_end(alloc, envelope, refusal, now, service),
+            None => AnswerEnd::Nothing,
         },
     }
 }
 
-fn reply_tail(
+fn reply_end(
     alloc: Global,
     envelope: Option<Envelope>,
     accepted: &Accepted,
     confounder: &[u8; 16],
-) -> Tail
-    ensures { IsReplyTail envelope accepted.now confounder.now result }
+) -> AnswerEnd
+    ensures { IsReplyEnd envelope accepted.now confounder.now result }
 {
     if !accepted.mutual {
-        return Tail::Nothing;
+        return AnswerEnd::Nothing;
     }
     let options = ReplyOptions {
         subkey: None,
@@ -77,34 +77,34 @@ fn reply_tail(
     // A reply without a subkey is far shorter than a token may be.
     match accepted.reply(alloc, confounder, options) {
         Ok(bytes) => match sent_text(alloc, envelope, Answer::Reply(&bytes)) {
-            Ok(text) => Tail::Reply(text),
-            Err(_) => Tail::Wanting,
+            Ok(text) => AnswerEnd::Reply(text),
+            Err(_) => AnswerEnd::OutOfMemory,
         },
-        Err(_) => Tail::Wanting,
+        Err(_) => AnswerEnd::OutOfMemory,
     }
 }
 
-fn error_tail(
+fn error_end(
     alloc: Global,
     envelope: Option<Envelope>,
     refusal: &Refusal,
     now: Moment,
     service: &Principal,
-) -> Tail
-    ensures { IsErrorTail envelope refusal.now now service.now result }
+) -> AnswerEnd
+    ensures { IsErrorEnd envelope refusal.now now service.now result }
 {
     match error_reply(alloc, refusal, now, service) {
         Ok(bytes) => match sent_text(alloc, envelope, Answer::Error(&bytes)) {
-            Ok(text) => Tail::Error(text),
+            Ok(text) => AnswerEnd::Error(text),
             Err(fault) => match fault {
-                WrapFault::TooLong => Tail::Nothing,
-                WrapFault::OutOfMemory => Tail::Wanting,
+                WrapFault::TooLong => AnswerEnd::Nothing,
+                WrapFault::OutOfMemory => AnswerEnd::OutOfMemory,
             },
         },
         Err(fault) => match fault {
-            ReplyFault::NoCode => Tail::Nothing,
-            ReplyFault::TooLong => Tail::Nothing,
-            ReplyFault::OutOfMemory => Tail::Wanting,
+            ReplyFault::NoCode => AnswerEnd::Nothing,
+            ReplyFault::TooLong => AnswerEnd::Nothing,
+            ReplyFault::OutOfMemory => AnswerEnd::OutOfMemory,
         },
     }
 }
@@ -133,25 +133,25 @@ fn token_text(alloc: Global, envelope: Envelope, answer: Answer<'_>) -> Result<S
 }
 
 /// Gives what is printed of it, with a space in front.
-pub(crate) fn tail_text(alloc: Global, tail: &Tail) -> Result<String, AllocError>
-    ensures { IfOk result (λ text. string_bytes text ≡ tail_text tail.now) }
+pub(crate) fn end_text(alloc: Global, end: &AnswerEnd) -> Result<String, AllocError>
+    ensures { IfOk result (λ text. string_bytes text ≡ end_text end.now) }
 {
-    match tail {
-        Tail::Nothing => Ok(String::new(alloc)),
-        Tail::Reply(digits) => format!(in alloc; " reply {digits}"),
-        Tail::Error(digits) => format!(in alloc; " error {digits}"),
-        Tail::Wanting => Ok(String::new(alloc)),
+    match end {
+        AnswerEnd::Nothing => Ok(String::new(alloc)),
+        AnswerEnd::Reply(digits) => format!(in alloc; " reply {digits}"),
+        AnswerEnd::Error(digits) => format!(in alloc; " error {digits}"),
+        AnswerEnd::OutOfMemory => Ok(String::new(alloc)),
     }
 }
 
 /// Returns what it makes of the exit status: 3 if memory ran out, else 0.
-pub(crate) fn status_of_tail(tail: &Tail) -> u8
-    ensures { result ≡ tail_status tail.now }
+pub(crate) fn status_of_end(end: &AnswerEnd) -> u8
+    ensures { result ≡ end_status end.now }
 {
-    match tail {
-        Tail::Wanting => FAILED,
-        Tail::Nothing => 0,
-        Tail::Reply(_) => 0,
-        Tail::Error(_) => 0,
+    match end {
+        AnswerEnd::OutOfMemory => FAILED,
+        AnswerEnd::Nothing => 0,
+        AnswerEnd::Reply(_) => 0,
+        AnswerEnd::Error(_) => 0,
     }
 }

@@ -13,8 +13,8 @@ use Rattle.krb_ap.specs.declared.reply.ReplyOptions.{ReplyOptions}
 use Rattle.krb_gss.specs.Answer as gss
 use Rattle.krbtool.specs.Forms.{IsSentTooLong, TellsAnswer}
 use Rattle.krbtool.specs.declared.form.Envelope.{Envelope}
-use Rattle.krbtool.specs.declared.tail.Tail.{Tail}
-use Rattle.krbtool.specs.declared.tail.Tail.TheVariants.{Nothing, Reply, Error, Wanting}
+use Rattle.krbtool.specs.declared.answer_end.AnswerEnd.{AnswerEnd}
+use Rattle.krbtool.specs.declared.answer_end.AnswerEnd.TheVariants.{Nothing, Reply, Error, OutOfMemory}
 
 -- the service's name, if it was given
 abbrev pub named : Option (Bor Principal) → Option Principal
@@ -43,35 +43,35 @@ pub record IsErrorUnsent (envelope : Option Envelope) (refusal : Refusal) (now :
   pub too_long : IsSentTooLong envelope (gss.error bytes)
 
 -- what follows `accepted`, if there is a confounder: a reply if the client asked for one, unless memory ran out
-abbrev pub IsReplyTail : Option Envelope → Accepted → List ℕ → Tail → Type 0
-IsReplyTail envelope accepted confounder Nothing = accepted.mutual ≡ false
-IsReplyTail envelope accepted confounder (Reply text) = (accepted.mutual ≡ true) × TellsReply envelope accepted confounder (string_bytes text)
-IsReplyTail envelope accepted confounder (Error text) = ⊥
-IsReplyTail envelope accepted confounder Wanting = accepted.mutual ≡ true
+abbrev pub IsReplyEnd : Option Envelope → Accepted → List ℕ → AnswerEnd → Type 0
+IsReplyEnd envelope accepted confounder Nothing = accepted.mutual ≡ false
+IsReplyEnd envelope accepted confounder (Reply text) = (accepted.mutual ≡ true) × TellsReply envelope accepted confounder (string_bytes text)
+IsReplyEnd envelope accepted confounder (Error text) = ⊥
+IsReplyEnd envelope accepted confounder OutOfMemory = accepted.mutual ≡ true
 
 -- what follows `refused`, if the service has a name: the error if there is one, unless memory ran out
-abbrev pub IsErrorTail : Option Envelope → Refusal → ℤ → Principal → Tail → Type 0
-IsErrorTail envelope refusal now service Nothing =
+abbrev pub IsErrorEnd : Option Envelope → Refusal → ℤ → Principal → AnswerEnd → Type 0
+IsErrorEnd envelope refusal now service Nothing =
     (code_of refusal ≡ None) ⊎ (IsErrorTooLong refusal now service ⊎ IsErrorUnsent envelope refusal now service)
-IsErrorTail envelope refusal now service (Reply text) = ⊥
-IsErrorTail envelope refusal now service (Error text) = TellsError envelope refusal now service (string_bytes text)
-IsErrorTail envelope refusal now service Wanting = code_of refusal ≢ None
+IsErrorEnd envelope refusal now service (Reply text) = ⊥
+IsErrorEnd envelope refusal now service (Error text) = TellsError envelope refusal now service (string_bytes text)
+IsErrorEnd envelope refusal now service OutOfMemory = code_of refusal ≢ None
 
 -- what follows the answer to a call of this moment, by the request's envelope, its line's confounder and the service's name
-abbrev pub IsTail : Option Envelope → Result Accepted Refusal → ℤ → Option (List ℕ) → Option Principal → Tail → Type 0
-IsTail envelope (Ok accepted) now None service tail = tail ≡ Nothing
-IsTail envelope (Ok accepted) now (Some confounder) service tail = IsReplyTail envelope accepted confounder tail
-IsTail envelope (Err refusal) now confounder None tail = tail ≡ Nothing
-IsTail envelope (Err refusal) now confounder (Some service) tail = IsErrorTail envelope refusal now service tail
+abbrev pub IsAnswerEnd : Option Envelope → Result Accepted Refusal → ℤ → Option (List ℕ) → Option Principal → AnswerEnd → Type 0
+IsAnswerEnd envelope (Ok accepted) now None service end = end ≡ Nothing
+IsAnswerEnd envelope (Ok accepted) now (Some confounder) service end = IsReplyEnd envelope accepted confounder end
+IsAnswerEnd envelope (Err refusal) now confounder None end = end ≡ Nothing
+IsAnswerEnd envelope (Err refusal) now confounder (Some service) end = IsErrorEnd envelope refusal now service end
 
 -- what is printed of it
-abbrev pub tail_text : Tail → List ℕ
-tail_text Nothing = []
-tail_text (Reply text) = codes " reply " ++ string_bytes text
-tail_text (Error text) = codes " error " ++ string_bytes text
-tail_text Wanting = []
+abbrev pub end_text : AnswerEnd → List ℕ
+end_text Nothing = []
+end_text (Reply text) = codes " reply " ++ string_bytes text
+end_text (Error text) = codes " error " ++ string_bytes text
+end_text OutOfMemory = []
 
 -- and what it makes of the exit status
-abbrev pub tail_status : Tail → ℕ
-tail_status Wanting = 3
-tail_status _ = 0
+abbrev pub end_status : AnswerEnd → ℕ
+end_status OutOfMemory = 3
+end_status _ = 0

@@ -1,6 +1,6 @@
 use Rattle.std.proofs.Common.{ap, inr, Result, Err, String, Global}
 use Rattle.krb_gss.specs.declared.wrapping.WrapFault.{WrapFault}
-use Rattle.krbtool.proofs.tail.error_tail.Goals as goal
+use Rattle.krbtool.proofs.answer_end.error_end.Goals as goal
 
 abbrev Failed : WrapFault → Result (String Global) WrapFault
 Failed fault = Err fault
