@@ -18,6 +18,7 @@ use crate::accepted::Accepted;
 use crate::call::{Call, Outcome};
 use crate::inner_laws::facts;
 use crate::laws::no_stamp_twice;
+use crate::ready_key::ReadyKey;
 use crate::refusal::Refusal;
 use krb_enc::UsageKey;
 use krb_keytab::Keytab;
@@ -29,10 +30,10 @@ use std::marker::Model;
 /// The service's side of the exchange (RFC 4120, section 3.2.3): a keytab, a skew and a memory of
 /// seen requests.
 ///
-/// It caches, in place, the keys that it derived for tickets under the service key that it used
-/// last, so the next ticket under that key costs no derivation. A contract sees the entries, the
-/// skew and the start, by which the service decides, and the memory. No answer depends on the
-/// cached keys.
+/// It caches, in place, the keys that it derived from the service key and from the session key that
+/// it used last, so the next request with the same ticket costs no derivation. A contract sees the
+/// entries, the skew and the start, by which the service decides, and the memory. No answer depends
+/// on the cached keys.
 #[derive(Drop)]
 pub struct Acceptor<M> {
     pub(crate) keytab: Keytab,
@@ -42,6 +43,8 @@ pub struct Acceptor<M> {
     pub(crate) start: Option<Moment>,
     // The keys for tickets of the service key that was used last, so that they needn't be derived again for the next ticket.
     pub(crate) ready: Option<UsageKey>,
+    // The session key that was used last, with its keys for authenticators, for the next request with that ticket.
+    pub(crate) session: Option<ReadyKey>,
 }
 
 impl<M> Model for Acceptor<M> {
@@ -103,6 +106,7 @@ impl<M: ReplayMemory> Acceptor<M> {
             memory,
             start,
             ready: None,
+            session: None,
         }
     }
 

@@ -6,7 +6,9 @@ use Rattle.krb_der.specs.Spells.{IsMessage}
 use Rattle.krb_enc.specs.Key.{KeyValue, UsageKeyValue, profile_of}
 use Rattle.krb_enc.specs.Opens.{Opens}
 use Rattle.krb_msg.specs.Module.{ap_req, encrypted_data, enc_ticket_part, authenticator}
-use Rattle.krb_msg.specs.Fields.{etype_of, kvno_of}
+use Rattle.krb_msg.specs.Borrowed.{key_of}
+use Rattle.krb_msg.specs.Fields.{etype_of, kvno_of, type_of, bytes_of}
+use Rattle.krb_msg.specs.declared.key.KeyRef.{KeyRef}
 use Rattle.krb_keytab.specs.Entry.{KeytabEntry}
 use Rattle.krb_keytab.specs.Pick.{chosen, no_name, no_key, no_version, IsChoice}
 use Rattle.krb_ap.specs.Setup.{Setup, Arrival, arrival}
@@ -38,6 +40,10 @@ pub record HoldsChosen (entries : List KeytabEntry) (name : Principal) (text : V
   pub key : KeyValue
   pub chosen : IsChosenKey entries name text key
   pub held_is : held ≡ Some (ready_key key)
+
+-- a message's key
+abbrev pub key_in : KeyRef → KeyValue
+key_in key = record { etype = type_of (key_of key); bytes = bytes_of (key_of key) }
 
 -- what is wanting, as a refusal
 abbrev pub Wants : List KeytabEntry → Principal → ValueOf encrypted_data → Refusal → Type 0
