@@ -20,7 +20,7 @@ use crate::inner_laws::facts;
 use crate::laws::no_stamp_twice;
 use crate::ready_key::ReadyKey;
 use crate::refusal::Refusal;
-use krb_enc::UsageKey;
+use crate::service_key::ServiceKey;
 use krb_keytab::Keytab;
 use krb_msg::Moment;
 use krb_replay::{ReplayMemory, Skew, Tuple};
@@ -41,8 +41,9 @@ pub struct Acceptor<M> {
     pub(crate) memory: M,
     // When it was started again, if it had an earlier life.
     pub(crate) start: Option<Moment>,
-    // The keys for tickets of the service key that was used last, so that they needn't be derived again for the next ticket.
-    pub(crate) ready: Option<UsageKey>,
+    // The keys for tickets of the service key that was used last, and the ticket that it opened last, for the next request with
+    // that key or that ticket.
+    pub(crate) ready: Option<ServiceKey>,
     // The session key that was used last, with its keys for authenticators, for the next request with that ticket.
     pub(crate) session: Option<ReadyKey>,
 }

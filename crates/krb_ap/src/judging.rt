@@ -22,8 +22,9 @@ use crate::opening::{
 };
 use crate::ready_key::ReadyKey;
 use crate::refusal::Refusal;
+use crate::service_key::ServiceKey;
 use crate::session_keys::make_session_ready;
-use crate::ticket_keys::{make_ready, open_ticket};
+use crate::ticket_keys::{make_ready, open_ticket, opened_ticket};
 use crate::times::{is_near, is_past, refusal_of_times};
 use krb_enc::Key;
 use krb_msg::{
@@ -80,11 +81,33 @@ impl<M: ReplayMemory> Acceptor<M> {
         ensures judged { (bytes : List ℕ) → Asks bytes (ap_req_of request.now) → server ≡ service_of (ap_req_of request.now)
             → JudgedBy M.has M.newest self.old bytes now result }
     {
+        // The opened ticket is lent from what is kept of the service key, so that is taken out meanwhile.
+        let mut ready = self.ready.take();
+        let judged = self.judge_sealed(alloc, &mut ready, server, request, now);
+        self.ready = ready;
+        judged
+    }
+
+    fn judge_sealed(
+        &mut self,
+        alloc: Global,
+        ready: &mut Option<ServiceKey>,
+        server: Principal,
+        request: &ApReqRef,
+        now: Moment,
+    ) -> Result<Judged, Refusal>
+        ensures same { self.new ≡ self.old }
+        ensures named { IsNamed result }
+        ensures placeless { IsPlaceless result }
+        ensures service { IsFor (service_of (ap_req_of request.now)) result }
+        ensures judged { (bytes : List ℕ) → Asks bytes (ap_req_of request.now) → server ≡ service_of (ap_req_of request.now)
+            → JudgedBy M.has M.newest self.old bytes now result }
+    {
         facts();
         let sealed = &request.ticket.enc_part;
-        make_ready(&mut self.ready, &self.keytab, &server, sealed)?;
-        let plain = open_ticket(alloc, &self.ready, sealed.cipher)?;
-        let part = read_part(plain.as_slice())?;
+        make_ready(alloc, ready, &self.keytab, &server, sealed)?;
+        open_ticket(alloc, ready, sealed.cipher)?;
+        let part = read_part(opened_ticket(ready))?;
         make_session_ready(&mut self.session, &part.key)?;
         match &self.session {
             Some(key) => self.judge_ticket(alloc, server, key, request, &part, now),
