@@ -30,10 +30,11 @@ use std::marker::Model;
 /// The service's side of the exchange (RFC 4120, section 3.2.3): a keytab, a skew and a memory of
 /// seen requests.
 ///
-/// It caches, in place, the keys that it derived from the service key and from the session key that
-/// it used last, so the next request with the same ticket costs no derivation. A contract sees the
-/// entries, the skew and the start, by which the service decides, and the memory. No answer depends
-/// on the cached keys.
+/// It caches the keys that it derived from the service key and from the session key that it used
+/// last, and the ticket that it opened last, with its plain text. So the next request with the same
+/// ticket costs no derivation, and only its authenticator is opened. If there is no memory to cache
+/// a ticket, it is opened again. A contract sees the entries, the skew and the start, by which the
+/// service decides, and the memory. No answer depends on what is cached.
 #[derive(Drop)]
 pub struct Acceptor<M> {
     pub(crate) keytab: Keytab,
@@ -41,8 +42,7 @@ pub struct Acceptor<M> {
     pub(crate) memory: M,
     // When it was started again, if it had an earlier life.
     pub(crate) start: Option<Moment>,
-    // The keys for tickets of the service key that was used last, and the ticket that it opened last, for the next request with
-    // that key or that ticket.
+    // The service key that was used last, with its keys for tickets and the ticket that it opened last, for the next request.
     pub(crate) ready: Option<ServiceKey>,
     // The session key that was used last, with its keys for authenticators, for the next request with that ticket.
     pub(crate) session: Option<ReadyKey>,

@@ -81,7 +81,7 @@ impl<M: ReplayMemory> Acceptor<M> {
         ensures judged { (bytes : List ℕ) → Asks bytes (ap_req_of request.now) → server ≡ service_of (ap_req_of request.now)
             → JudgedBy M.has M.newest self.old bytes now result }
     {
-        // The opened ticket is lent from what is kept of the service key, so that is taken out meanwhile.
+        // The opened ticket is borrowed from the cached service key, so that is taken out meanwhile.
         let mut ready = self.ready.take();
         let judged = self.judge_sealed(alloc, &mut ready, server, request, now);
         self.ready = ready;

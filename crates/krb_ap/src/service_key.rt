@@ -1,4 +1,4 @@
-//! A service key with the keys that are derived from it, and the ticket that it opened last.
+//! A service key with the keys that are derived from it, and the ticket that was opened last.
 
 ghost use Rattle.std.specs.Prelude.{◌≡◌, ◌≢◌, ◌↔◌, IfErr, IsTrue, OnOk};
 ghost use Rattle.krb_enc.specs.Key.{profile_of};
@@ -15,12 +15,14 @@ use std::marker::Model;
 
 /// The keys of a service key for tickets, and the ticket that they opened last.
 ///
-/// A contract sees the keys, and the plain text of that ticket.
+/// A contract sees the keys, and the plain text of that ticket. There is no `Debug`, so no log shows
+/// them.
 #[derive(Drop)]
 pub(crate) struct ServiceKey {
     keys: UsageKey,
     // The sealed ticket, unless none was opened, or there was no memory to keep it.
     ticket: Option<Vec<u8>>,
+    // What it opened to.
     plain: Vec<u8>,
 }
 
