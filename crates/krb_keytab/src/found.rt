@@ -1,4 +1,11 @@
-//! What a reader finds where a record may begin.
+//! What a reader finds where a record may begin, and what it keeps of an entry.
+
+ghost use Rattle.std.specs.Prelude.{◌≡◌, IfOk};
+ghost use Rattle.krb_keytab.specs.Entry.{KeytabEntry};
+
+use crate::entry::Entry;
+use crate::view::EntryView;
+use std::alloc::{AllocError, Global};
 
 /// What is at a place where a record may begin, with what is kept of an entry.
 #[derive(Drop)]
@@ -9,4 +16,44 @@ pub(crate) enum Found<E> {
     Hole,
     /// An entry.
     Entry(E),
+}
+
+/// What a reader keeps of each entry.
+pub(crate) trait Keep {
+    type Kept: Drop;
+
+    /// What is kept of this entry.
+    ghost kept_of: { KeytabEntry → Self.Kept };
+
+    /// Returns what is kept of `entry`.
+    fn keep(&self, entry: &EntryView) -> Result<Self::Kept, AllocError>
+        ensures { IfOk result (λ kept. kept ≡ kept_of entry.now) };
+}
+
+/// Keeps nothing.
+#[derive(Drop)]
+pub(crate) struct Nothing;
+
+impl Keep for Nothing {
+    type Kept = ();
+
+    ghost kept_of = { λ _. tt };
+
+    fn keep(&self, _entry: &EntryView) -> Result<(), AllocError> {
+        Ok(())
+    }
+}
+
+/// Keeps a copy, in this memory.
+#[derive(Drop)]
+pub(crate) struct Copies(pub(crate) Global);
+
+impl Keep for Copies {
+    type Kept = Entry;
+
+    ghost kept_of = { λ entry. entry };
+
+    fn keep(&self, entry: &EntryView) -> Result<Entry, AllocError> {
+        entry.to_entry(self.0)
+    }
 }

@@ -1,6 +1,6 @@
 //! Reading a keytab record by record, with one record in memory.
 
-ghost use Rattle.std.specs.Prelude.{◌≡◌, ◌+◌, ◌-◌, ◌^◌, ◌<◌, ◌≤◌, pos, int_lt, true, false, FitsSigned, unsigned_abs, length, IfOk, IfErr, OnOk, OnErr, None, Some};
+ghost use Rattle.std.specs.Prelude.{◌≡◌, ◌+◌, ◌-◌, ◌^◌, ◌<◌, ◌≤◌, pos, int_lt, true, false, FitsSigned, unsigned_abs, length, IfOk, IfErr, OnErr, MatchOption, None, Some};
 ghost use Rattle.std.specs.Int.{w32};
 ghost use Rattle.krb_name.specs.Cursor.{signed_bytes};
 ghost use Rattle.krb_name.specs.Field.{IsBytes};
@@ -10,11 +10,11 @@ ghost use Rattle.krb_keytab.specs.Items.{LacksVersion};
 ghost use Rattle.krb_keytab.specs.Fault.{failed_reads};
 ghost use Rattle.krb_name.specs.File.{file_limit, TakesFile};
 ghost use Rattle.krb_keytab.specs.Format.{version};
-ghost use Rattle.krb_keytab.specs.Inner.Meeting.{MeetsOne, MeetsSizeAt, MeetsNext, MeetsPast, OpensAt, RunsOutTo, MeetsBody, IsFewAt, IsFound, IsFaulty};
+ghost use Rattle.krb_keytab.specs.Inner.Meeting.{MeetsOne, MeetsSizeAt, MeetsNext, MeetsKept, MeetsPast, OpensAt, RunsOutTo, MeetsBody, IsFewAt, IsFound, IsFaulty};
 
 use crate::entry::Entry;
 use crate::fault::KeytabFault;
-use crate::found::Found;
+use crate::found::{Copies, Found, Keep, Nothing};
 use crate::opening::VERSION;
 use crate::view::EntryView;
 use krb_name::{FILE_LIMIT, FileCursor, Short, Source, SourceFailed, Window};
@@ -83,15 +83,11 @@ pub(crate) fn read_entry<S: Source>(
         ≡ S.failure_count window.old.source + failed_reads result }
     ensures lent { S.lender window.new.source ≡ S.lender window.old.source }
 {
-    if pass_entry(window)? {
-        Ok(entry_of(alloc, window.bytes())?)
-    } else {
-        Ok(None)
-    }
+    next_entry(window, &Copies(alloc))
 }
 
-/// Reads records up to the next entry, and returns whether there is one. Its bytes after the size
-/// of its record are then buffered. There is none if the records have ended.
+/// Reads records up to the next entry, and returns whether there is one. There is none if the
+/// records have ended.
 pub(crate) fn pass_entry<S: Source>(window: &mut Window<S>) -> Result<bool, KeytabFault>
     requires reads { S.failure_count window.old.source < 2 ^ 64 - 1 }
     requires limit { window.old.given ≤ file_limit }
@@ -101,20 +97,41 @@ pub(crate) fn pass_entry<S: Source>(window: &mut Window<S>) -> Result<bool, Keyt
         ≡ S.failure_count window.old.source + failed_reads result }
     ensures lent { S.lender window.new.source ≡ S.lender window.old.source }
 {
+    Ok(next_entry(window, &Nothing)?.is_some())
+}
+
+// Reads records up to the next entry, and returns what is kept of it, or none if the records have
+// ended.
+fn next_entry<S: Source, K: Keep>(
+    window: &mut Window<S>,
+    keep: &K,
+) -> Result<Option<K::Kept>, KeytabFault>
+    requires reads { S.failure_count window.old.source < 2 ^ 64 - 1 }
+    requires limit { window.old.given ≤ file_limit }
+    ensures meets { MeetsKept K.kept_of (S.remaining window.old.source)
+        (S.remaining window.new.source) window.old window.new result }
+    ensures failed { S.failure_count window.new.source
+        ≡ S.failure_count window.old.source + failed_reads result }
+    ensures lent { S.lender window.new.source ≡ S.lender window.old.source }
+{
     loop {
-        match read_record(window)? {
-            Found::End => return Ok(false),
+        match read_record(window, keep)? {
+            Found::End => return Ok(None),
             Found::Hole => {}
-            Found::Entry(()) => return Ok(true),
+            Found::Entry(kept) => return Ok(Some(kept)),
         }
     }
 }
 
-fn read_record<S: Source>(window: &mut Window<S>) -> Result<Found<()>, KeytabFault>
+// Reads the record that begins here, and keeps this of an entry.
+fn read_record<S: Source, K: Keep>(
+    window: &mut Window<S>,
+    keep: &K,
+) -> Result<Found<K::Kept>, KeytabFault>
     requires reads { S.failure_count window.old.source < 2 ^ 64 - 1 }
     requires limit { window.old.given ≤ file_limit }
-    ensures meets { MeetsOne (S.remaining window.old.source) (S.remaining window.new.source)
-        window.old window.new result }
+    ensures meets { MeetsOne K.kept_of (S.remaining window.old.source)
+        (S.remaining window.new.source) window.old window.new result }
     ensures failed { S.failure_count window.new.source
         ≡ S.failure_count window.old.source + failed_reads result }
     ensures lent { S.lender window.new.source ≡ S.lender window.old.source }
@@ -123,7 +140,7 @@ fn read_record<S: Source>(window: &mut Window<S>) -> Result<Found<()>, KeytabFau
     match read_size(window)? {
         None => Ok(Found::End),
         Some(size) if size < 0 => pass_hole(window, at, size),
-        Some(size) => read_body(window, at, size),
+        Some(size) => read_body(window, at, size, keep),
     }
 }
 
@@ -184,19 +201,19 @@ fn size_of(bytes: &[u8]) -> Result<i32, Short>
 }
 
 // Takes the bytes of a hole, after its size.
-fn pass_hole<S: Source>(
+fn pass_hole<S: Source, E: Drop>(
     window: &mut Window<S>,
     at: usize,
     size: i32,
-) -> Result<Found<()>, KeytabFault>
+) -> Result<Found<E>, KeytabFault>
     requires reads { S.failure_count window.old.source < 2 ^ 64 - 1 }
     requires limit { window.old.given ≤ file_limit }
     requires at { window.old.given ≡ at + 4 }
     requires fits { FitsSigned w32 size }
     requires hole { int_lt size (pos 0) ≡ true }
-    ensures meets { MeetsBody (S.remaining window.old.source) (S.remaining window.new.source)
+    ensures meets { (of_entry : KeytabEntry → E) → MeetsBody of_entry
+        (S.remaining window.old.source) (S.remaining window.new.source)
         window.old window.new at size result }
-    ensures kept { window.new.bytes ≡ window.old.bytes }
     ensures failed { S.failure_count window.new.source
         ≡ S.failure_count window.old.source + failed_reads result }
     ensures lent { S.lender window.new.source ≡ S.lender window.old.source }
@@ -212,19 +229,20 @@ fn pass_hole<S: Source>(
 }
 
 // Reads the bytes of an entry, after their size.
-fn read_body<S: Source>(
+fn read_body<S: Source, K: Keep>(
     window: &mut Window<S>,
     at: usize,
     size: i32,
-) -> Result<Found<()>, KeytabFault>
+    keep: &K,
+) -> Result<Found<K::Kept>, KeytabFault>
     requires reads { S.failure_count window.old.source < 2 ^ 64 - 1 }
     requires limit { window.old.given ≤ file_limit }
     requires at { window.old.given ≡ at + 4 }
     requires fits { FitsSigned w32 size }
     requires entry { int_lt size (pos 0) ≡ false }
     requires some { 0 < unsigned_abs size }
-    ensures meets { MeetsBody (S.remaining window.old.source) (S.remaining window.new.source)
-        window.old window.new at size result }
+    ensures meets { MeetsBody K.kept_of (S.remaining window.old.source)
+        (S.remaining window.new.source) window.old window.new at size result }
     ensures failed { S.failure_count window.new.source
         ≡ S.failure_count window.old.source + failed_reads result }
     ensures lent { S.lender window.new.source ≡ S.lender window.old.source }
@@ -237,28 +255,20 @@ fn read_body<S: Source>(
     if !window.fill(count)? {
         return Err(KeytabFault::Truncated { at });
     }
-    match has_entry(window.bytes()) {
-        Ok(()) => Ok(Found::Entry(())),
-        Err(Short) => conclude(window, Err(KeytabFault::BadEntry { at })),
+    match keep_of(window.bytes(), keep)? {
+        Some(kept) => Ok(Found::Entry(kept)),
+        None => conclude(window, Err(KeytabFault::BadEntry { at })),
     }
 }
 
-// Whether an entry is at the front of the bytes of a record.
-fn has_entry(body: &[u8]) -> Result<(), Short>
+// What is kept of the entry at the front of the bytes of a record, if there is one.
+fn keep_of<K: Keep>(body: &[u8], keep: &K) -> Result<Option<K::Kept>, AllocError>
     ensures bytes { IsBytes body.now }
-    ensures found { OnOk result ((entry : KeytabEntry) × (entry_at body.now ≡ Some entry)) }
-    ensures short { OnErr result (entry_at body.now ≡ None) }
-{
-    EntryView::read(body)?;
-    Ok(())
-}
-
-// The entry at the front of the bytes of a record.
-fn entry_of(alloc: Global, body: &[u8]) -> Result<Option<Entry>, AllocError>
-    ensures { IfOk result (λ entry. entry_at body.now ≡ entry) }
+    ensures kept { IfOk result (λ kept. MatchOption kept (entry_at body.now ≡ None) (λ one.
+        (entry : KeytabEntry) × (entry_at body.now ≡ Some entry) × (one ≡ K.kept_of entry))) }
 {
     match EntryView::read(body) {
-        Ok(view) => Ok(Some(view.to_entry(alloc)?)),
+        Ok(view) => Ok(Some(keep.keep(&view)?)),
         Err(Short) => Ok(None),
     }
 }
