@@ -15,7 +15,7 @@ use Rattle.krb_keytab.specs.Inner.Putting.{Puts}
 use Rattle.krb_keytab.specs.declared.fault.KeytabFault.{KeytabFault}
 use Rattle.krb_keytab.specs.declared.finding.Extent.{Extent}
 use Rattle.krb_keytab.proofs.MadeLaws.{made_keytab, padded_fits, written_fits}
-use Rattle.krb_keytab.proofs.ScanLaws.{flat_push}
+use Rattle.krb_keytab.proofs.FileLaws.{flat_push}
 use Rattle.krb_keytab.proofs.WrittenLaws.{padded_length}
 use Rattle.krb_keytab.proofs.EditLaws.{flat_split, at_one, replaced, within, no_fault}
 use Rattle.krb_keytab.proofs.OneSplit.{same_records}

@@ -51,7 +51,7 @@ ended from to bytes c limit end = record { given = c; limit = omega (arith, limi
 there : (bytes : List ℕ) (entries : List KeytabEntry) (place at : ℕ) (behind : List ℕ) (IsFault : List ℕ → Type 0) → length bytes ≤ file_limit → IsReached bytes at entries behind → place ≡ at → IsFault behind → StandsAt bytes place IsFault
 there bytes entries place at behind IsFault limit reached e faulty = record { limit = limit; entries = entries; behind = behind; reached = subst (λ (n : ℕ). IsReached bytes n entries behind) (sym e) reached; faulty = faulty }
 
-fault_of : (from to : Option (List ℕ)) (held : ℕ) (bytes : List ℕ) (entries : List KeytabEntry) (fault : KeytabFault) → Consumes from to bytes → StandsTo to held (Failed fault) bytes entries → IsFaulty from to fault
+pub fault_of : (from to : Option (List ℕ)) (held : ℕ) (bytes : List ℕ) (entries : List KeytabEntry) (fault : KeytabFault) → Consumes from to bytes → StandsTo to held (Failed fault) bytes entries → IsFaulty from to fault
 fault_of from to held bytes entries Version c s = λ memory read. (bytes, ended from to bytes c s.limit s.all, (s.limit, s.stops.1))
 fault_of from to held bytes entries (Truncated place) c s = λ memory read. (bytes, ended from to bytes c s.limit s.all, there bytes entries place s.stops.at s.stops.behind IsCutOff s.limit s.stops.reached s.stops.lacks.0 s.stops.lacks.1)
 fault_of from to held bytes entries (BadEntry place) c s = λ memory read. (bytes, ended from to bytes c s.limit s.all, there bytes entries place s.stops.at s.stops.behind HoldsNoEntry s.limit s.stops.reached s.stops.lacks.0 s.stops.lacks.1)

@@ -69,10 +69,10 @@ same_standing (entry d s r) (entry f t u) p q e =
 behind_fits : (front behind : List ℕ) → IsBytes (front ++ behind) → IsBytes behind
 behind_fits front behind fits = subst IsBytes (drop_at front behind (length front) refl) (IsBytes-drop (length front) (front ++ behind) fits)
 
--- ---- what a loop over the records needs
+-- ---- one record more
 
-pub starts_at : (bytes : List ℕ) (place : Place) (items : List KeytabEntry) → place.at ≡ 2 → bytes ≡ version ++ place.rest → items ≡ [] → IsReached bytes place.at items place.rest
-starts_at bytes place items e f g = rw (e, g) (reach_start bytes place.rest f)
+pub flat_push : {X A : Type 0} (f : X → List A) (xs : List X) (x : X) → flat_map f (xs ++ x ∷ []) ≡ flat_map f xs ++ f x
+flat_push f xs x = flat_map-append f xs (x ∷ []) ∙ ap (λ t. flat_map f xs ++ t) (append-nil (f x))
 
 pub start_fits : (bytes rest : List ℕ) → IsBytes bytes → bytes ≡ version ++ rest → IsBytes rest
 start_fits bytes rest fits e = behind_fits version rest (subst IsBytes e fits)

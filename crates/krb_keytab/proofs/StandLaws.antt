@@ -14,6 +14,7 @@ use Rattle.krb_keytab.specs.Entry.{KeytabEntry}
 use Rattle.krb_name.specs.File.{file_limit}
 use Rattle.krb_keytab.specs.Format.{version, KeytabRecord, hole, entry, entry_bytes, record_bytes, FitsRecord, entries_of, IsReached}
 use Rattle.krb_keytab.specs.Items.{LacksVersion, LacksRecord, Stops, StopsSo, IsTooLong, Concludes, AreFirst, EndsWithEntry, StandsTo, IsPartOfRecord, HasMet, HasRead, EntriesRead, passed, stage_after, stage_passed, entries_after, GivesMore}
+use Rattle.krb_keytab.specs.Inner.Feed.{nothing_of}
 use Rattle.krb_keytab.specs.Inner.Meeting.{Moves, Peaks, RanOut, OpensAt, MeetsVersion, IsWhole, IsLastAt, IsLongAt, MeetsLast, MeetsOne, PassesHoles, MeetsNext, keeping, MeetsKept, MeetsPast, MeetsFirst, IsWithin}
 use Rattle.krb_keytab.specs.declared.fault.KeytabFault.{KeytabFault}
 use Rattle.krb_keytab.specs.declared.fault.KeytabFault.TheVariants.{Version, Truncated, BadEntry, TooLong, NoSuchEntry, Read, OutOfMemory}
@@ -21,8 +22,7 @@ use Rattle.krb_keytab.specs.declared.found.Found.{Found}
 use Rattle.krb_keytab.specs.declared.found.Found.TheVariants.{End, Hole, Entry}
 use Rattle.krb_keytab.specs.declared.stage.Stage.{Stage}
 use Rattle.krb_keytab.specs.declared.stage.Stage.TheVariants.{Start, Records}
-use Rattle.krb_keytab.proofs.FileLaws.{reach_start, record_first}
-use Rattle.krb_keytab.proofs.ScanLaws.{flat_push}
+use Rattle.krb_keytab.proofs.FileLaws.{reach_start, record_first, flat_push}
 use Rattle.krb_keytab.proofs.MeetLaws.{cut_behind}
 
 -- ---- whole records, and what lies behind them
@@ -271,20 +271,20 @@ pub next_read : {S : Type 0} (from to : Option (List ℕ)) (old new : AtHand S) 
 next_read from to old new said m = subst (MeetsNext from to old new) (sym (m.said_is ∙ kept_whole m.answer)) m.meets
 
 -- that there is one
-pub next_passed : {S : Type 0} (from to : Option (List ℕ)) (old new : AtHand S) (found : Option (Unit {0})) → MeetsKept (λ e. tt {0}) from to old new (Ok found) → MeetsPast from to old new (Ok (is_some found))
+pub next_passed : {S : Type 0} (from to : Option (List ℕ)) (old new : AtHand S) (found : Option (Unit {0})) → MeetsKept nothing_of from to old new (Ok found) → MeetsPast from to old new (Ok (is_some found))
 next_passed from to old new found m = record { answer = m.answer; said_is = same found m.answer m.said_is; meets = m.meets }
   where
-    same : (found : Option (Unit {0})) (answer : Result (Option KeytabEntry) KeytabFault) → Ok found ≡ keeping (λ e. tt {0}) answer → Ok (is_some found) ≡ passed answer
+    same : (found : Option (Unit {0})) (answer : Result (Option KeytabEntry) KeytabFault) → Ok found ≡ keeping nothing_of answer → Ok (is_some found) ≡ passed answer
     same None (Ok None) e = refl
     same (Some unit) (Ok (Some one)) e = refl
     same None (Ok (Some one)) e = absurd cc
     same (Some unit) (Ok None) e = absurd cc
     same found (Err fault) e = absurd cc
 
-pub passed_fault : {S : Type 0} (from to : Option (List ℕ)) (old new : AtHand S) (fault : KeytabFault) → MeetsKept (λ e. tt {0}) from to old new (Err fault) → MeetsPast from to old new (Err fault)
+pub passed_fault : {S : Type 0} (from to : Option (List ℕ)) (old new : AtHand S) (fault : KeytabFault) → MeetsKept nothing_of from to old new (Err fault) → MeetsPast from to old new (Err fault)
 passed_fault from to old new fault m = record { answer = m.answer; said_is = same m.answer m.said_is; meets = m.meets }
   where
-    same : (answer : Result (Option KeytabEntry) KeytabFault) → Err fault ≡ keeping (λ e. tt {0}) answer → Err fault ≡ passed answer
+    same : (answer : Result (Option KeytabEntry) KeytabFault) → Err fault ≡ keeping nothing_of answer → Err fault ≡ passed answer
     same (Ok (Some e)) q = absurd cc
     same (Ok None) q = absurd cc
     same (Err other) q = let one : other ≡ fault = cc in ap (λ (f : KeytabFault). told_of (Err f)) (sym one)

@@ -1,5 +1,6 @@
 pub mod Components
 pub mod Entry
+pub mod Feed
 pub mod Finding
 pub mod Hash
 pub mod Index

@@ -1,7 +1,8 @@
 //! What a reader finds where a record may begin, and what it keeps of an entry.
 
-ghost use Rattle.std.specs.Prelude.{◌≡◌, IfOk};
+ghost use Rattle.std.specs.Prelude.{◌≡◌, ⊤, IfOk, OnErr};
 ghost use Rattle.krb_keytab.specs.Entry.{KeytabEntry};
+ghost use Rattle.krb_keytab.specs.Inner.Feed.{nothing_of};
 
 use crate::entry::Entry;
 use crate::view::EntryView;
@@ -25,9 +26,13 @@ pub(crate) trait Keep {
     /// What is kept of this entry.
     ghost kept_of: { KeytabEntry → Self.Kept };
 
+    /// That memory may be lacking for it.
+    ghost allocates: { Type 0 };
+
     /// Returns what is kept of `entry`.
     fn keep(&self, entry: &EntryView) -> Result<Self::Kept, AllocError>
-        ensures { IfOk result (λ kept. kept ≡ kept_of entry.now) };
+        ensures kept { IfOk result (λ kept. kept ≡ kept_of entry.now) }
+        ensures memory { OnErr result allocates };
 }
 
 /// Keeps nothing.
@@ -37,7 +42,9 @@ pub(crate) struct Nothing;
 impl Keep for Nothing {
     type Kept = ();
 
-    ghost kept_of = { λ _. tt };
+    ghost kept_of = { nothing_of };
+
+    ghost allocates = { ⊥ };
 
     fn keep(&self, _entry: &EntryView) -> Result<(), AllocError> {
         Ok(())
@@ -52,6 +59,8 @@ impl Keep for Copies {
     type Kept = Entry;
 
     ghost kept_of = { λ entry. entry };
+
+    ghost allocates = { ⊤ };
 
     fn keep(&self, entry: &EntryView) -> Result<Entry, AllocError> {
         entry.to_entry(self.0)

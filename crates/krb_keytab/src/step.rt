@@ -1,6 +1,6 @@
 //! Reading a keytab record by record, with one record in memory.
 
-ghost use Rattle.std.specs.Prelude.{◌≡◌, ◌+◌, ◌-◌, ◌^◌, ◌<◌, ◌≤◌, pos, int_lt, true, false, FitsSigned, unsigned_abs, length, IfOk, IfErr, OnErr, MatchOption, None, Some};
+ghost use Rattle.std.specs.Prelude.{◌≡◌, ◌≢◌, ◌⊎◌, ◌+◌, ◌-◌, ◌^◌, ◌<◌, ◌≤◌, pos, int_lt, true, false, FitsSigned, unsigned_abs, length, IfOk, IfErr, OnErr, MatchOption, None, Some, Err};
 ghost use Rattle.std.specs.Int.{w32};
 ghost use Rattle.krb_name.specs.Cursor.{signed_bytes};
 ghost use Rattle.krb_name.specs.Field.{IsBytes};
@@ -14,11 +14,14 @@ ghost use Rattle.krb_keytab.specs.Inner.Meeting.{MeetsOne, MeetsSizeAt, MeetsNex
 
 use crate::entry::Entry;
 use crate::fault::KeytabFault;
+use crate::feed::Feed;
 use crate::found::{Copies, Found, Keep, Nothing};
-use crate::opening::VERSION;
 use crate::view::EntryView;
-use krb_name::{FILE_LIMIT, FileCursor, Short, Source, SourceFailed, Window};
+use krb_name::{FILE_LIMIT, FileCursor, Short, SourceFailed};
 use std::alloc::{AllocError, Global};
+
+/// The version of the format that is read and written. A keytab begins with it.
+pub(crate) const VERSION: u16 = 0x0502;
 
 // How many bytes the version and the size of a record have.
 const VERSION_LENGTH: usize = 2;
@@ -26,96 +29,87 @@ const VERSION_LENGTH: usize = 2;
 const SIZE_LENGTH: usize = 4;
 
 /// Reads the version of a file.
-pub(crate) fn read_version<S: Source>(window: &mut Window<S>) -> Result<(), KeytabFault>
-    requires reads { S.failure_count window.old.source < 2 ^ 64 - 1 }
-    requires start { window.old.given ≡ 0 }
-    ensures opens { OpensAt (S.remaining window.old.source) (S.remaining window.new.source)
-        window.old window.new result }
-    ensures failed { S.failure_count window.new.source
-        ≡ S.failure_count window.old.source + failed_reads result }
-    ensures lent { S.lender window.new.source ≡ S.lender window.old.source }
+pub(crate) fn read_version<F: Feed>(feed: &mut F) -> Result<(), KeytabFault>
+    requires reads { F.failure_count feed.old < 2 ^ 64 - 1 }
+    requires start { (F.at_hand feed.old).given ≡ 0 }
+    ensures opens { OpensAt (F.remaining feed.old) (F.remaining feed.new)
+        (F.at_hand feed.old) (F.at_hand feed.new) result }
+    ensures memory { result ≡ Err KeytabFault.OutOfMemory → F.allocates }
+    ensures failed { F.failure_count feed.new
+        ≡ F.failure_count feed.old + failed_reads result }
+    ensures lent { F.lender feed.new ≡ F.lender feed.old }
 {
-    window.clear();
-    let whole = window.fill(VERSION_LENGTH)?;
-    if is_version(window.bytes()) {
+    let whole = feed.hold(VERSION_LENGTH)?;
+    if is_version(feed.bytes()) {
         Ok(())
     } else if whole {
-        conclude(window, Err(KeytabFault::Version))
+        conclude(feed, Err(KeytabFault::Version))
     } else {
         Err(KeytabFault::Version)
     }
 }
 
 /// Reads a keytab to its end, and returns its entries.
-pub(crate) fn read_entries<S: Source>(
-    alloc: Global,
-    window: &mut Window<S>,
-) -> Result<Vec<Entry>, KeytabFault>
-    requires reads { S.failure_count window.old.source < 2 ^ 64 - 1 }
-    requires start { window.old.given ≡ 0 }
+pub(crate) fn read_entries<F: Feed>(alloc: Global, feed: &mut F) -> Result<Vec<Entry>, KeytabFault>
+    requires reads { F.failure_count feed.old < 2 ^ 64 - 1 }
+    requires start { (F.at_hand feed.old).given ≡ 0 }
     ensures found { IfOk result (λ entries. IsFound
-        (S.remaining window.old.source) (S.remaining window.new.source) entries.items) }
+        (F.remaining feed.old) (F.remaining feed.new) entries.items) }
     ensures fault { IfErr result
-        (IsFaulty (S.remaining window.old.source) (S.remaining window.new.source)) }
-    ensures taken { TakesFile (S.remaining window.old.source) (S.remaining window.new.source) }
-    ensures failed { S.failure_count window.new.source
-        ≡ S.failure_count window.old.source + failed_reads result }
-    ensures lent { S.lender window.new.source ≡ S.lender window.old.source }
+        (IsFaulty (F.remaining feed.old) (F.remaining feed.new)) }
+    ensures taken { TakesFile (F.remaining feed.old) (F.remaining feed.new) }
+    ensures failed { F.failure_count feed.new
+        ≡ F.failure_count feed.old + failed_reads result }
+    ensures lent { F.lender feed.new ≡ F.lender feed.old }
 {
-    read_version(window)?;
+    read_version(feed)?;
     let mut entries = Vec::new(alloc);
-    while let Some(entry) = read_entry(alloc, window)? {
+    while let Some(entry) = read_entry(alloc, feed)? {
         entries.push(entry)?;
     }
     Ok(entries)
 }
 
 /// Reads records up to the next entry and returns it, or none if the records have ended.
-pub(crate) fn read_entry<S: Source>(
-    alloc: Global,
-    window: &mut Window<S>,
-) -> Result<Option<Entry>, KeytabFault>
-    requires reads { S.failure_count window.old.source < 2 ^ 64 - 1 }
-    requires limit { window.old.given ≤ file_limit }
-    ensures meets { MeetsNext (S.remaining window.old.source) (S.remaining window.new.source)
-        window.old window.new result }
-    ensures failed { S.failure_count window.new.source
-        ≡ S.failure_count window.old.source + failed_reads result }
-    ensures lent { S.lender window.new.source ≡ S.lender window.old.source }
+pub(crate) fn read_entry<F: Feed>(alloc: Global, feed: &mut F) -> Result<Option<Entry>, KeytabFault>
+    requires reads { F.failure_count feed.old < 2 ^ 64 - 1 }
+    requires limit { (F.at_hand feed.old).given ≤ file_limit }
+    ensures meets { MeetsNext (F.remaining feed.old) (F.remaining feed.new)
+        (F.at_hand feed.old) (F.at_hand feed.new) result }
+    ensures failed { F.failure_count feed.new
+        ≡ F.failure_count feed.old + failed_reads result }
+    ensures lent { F.lender feed.new ≡ F.lender feed.old }
 {
-    next_entry(window, &Copies(alloc))
+    next_entry(feed, &Copies(alloc))
 }
 
 /// Reads records up to the next entry, and returns whether there is one. There is none if the
 /// records have ended.
-pub(crate) fn pass_entry<S: Source>(window: &mut Window<S>) -> Result<bool, KeytabFault>
-    requires reads { S.failure_count window.old.source < 2 ^ 64 - 1 }
-    requires limit { window.old.given ≤ file_limit }
-    ensures meets { MeetsPast (S.remaining window.old.source) (S.remaining window.new.source)
-        window.old window.new result }
-    ensures failed { S.failure_count window.new.source
-        ≡ S.failure_count window.old.source + failed_reads result }
-    ensures lent { S.lender window.new.source ≡ S.lender window.old.source }
+pub(crate) fn pass_entry<F: Feed>(feed: &mut F) -> Result<bool, KeytabFault>
+    requires reads { F.failure_count feed.old < 2 ^ 64 - 1 }
+    requires limit { (F.at_hand feed.old).given ≤ file_limit }
+    ensures meets { MeetsPast (F.remaining feed.old) (F.remaining feed.new)
+        (F.at_hand feed.old) (F.at_hand feed.new) result }
+    ensures failed { F.failure_count feed.new
+        ≡ F.failure_count feed.old + failed_reads result }
+    ensures lent { F.lender feed.new ≡ F.lender feed.old }
 {
-    Ok(next_entry(window, &Nothing)?.is_some())
+    Ok(next_entry(feed, &Nothing)?.is_some())
 }
 
 // Reads records up to the next entry, and returns what is kept of it, or none if the records have
 // ended.
-fn next_entry<S: Source, K: Keep>(
-    window: &mut Window<S>,
-    keep: &K,
-) -> Result<Option<K::Kept>, KeytabFault>
-    requires reads { S.failure_count window.old.source < 2 ^ 64 - 1 }
-    requires limit { window.old.given ≤ file_limit }
-    ensures meets { MeetsKept K.kept_of (S.remaining window.old.source)
-        (S.remaining window.new.source) window.old window.new result }
-    ensures failed { S.failure_count window.new.source
-        ≡ S.failure_count window.old.source + failed_reads result }
-    ensures lent { S.lender window.new.source ≡ S.lender window.old.source }
+fn next_entry<F: Feed, K: Keep>(feed: &mut F, keep: &K) -> Result<Option<K::Kept>, KeytabFault>
+    requires reads { F.failure_count feed.old < 2 ^ 64 - 1 }
+    requires limit { (F.at_hand feed.old).given ≤ file_limit }
+    ensures meets { MeetsKept K.kept_of (F.remaining feed.old)
+        (F.remaining feed.new) (F.at_hand feed.old) (F.at_hand feed.new) result }
+    ensures failed { F.failure_count feed.new
+        ≡ F.failure_count feed.old + failed_reads result }
+    ensures lent { F.lender feed.new ≡ F.lender feed.old }
 {
     loop {
-        match read_record(window, keep)? {
+        match read_record(feed, keep)? {
             Found::End => return Ok(None),
             Found::Hole => {}
             Found::Entry(kept) => return Ok(Some(kept)),
@@ -123,46 +117,47 @@ fn next_entry<S: Source, K: Keep>(
     }
 }
 
-// Reads the record that begins here, and keeps this of an entry.
-fn read_record<S: Source, K: Keep>(
-    window: &mut Window<S>,
+/// Reads the record that begins here, and returns what is kept of an entry.
+pub(crate) fn read_record<F: Feed, K: Keep>(
+    feed: &mut F,
     keep: &K,
 ) -> Result<Found<K::Kept>, KeytabFault>
-    requires reads { S.failure_count window.old.source < 2 ^ 64 - 1 }
-    requires limit { window.old.given ≤ file_limit }
-    ensures meets { MeetsOne K.kept_of (S.remaining window.old.source)
-        (S.remaining window.new.source) window.old window.new result }
-    ensures failed { S.failure_count window.new.source
-        ≡ S.failure_count window.old.source + failed_reads result }
-    ensures lent { S.lender window.new.source ≡ S.lender window.old.source }
+    requires reads { F.failure_count feed.old < 2 ^ 64 - 1 }
+    requires limit { (F.at_hand feed.old).given ≤ file_limit }
+    ensures meets { MeetsOne K.kept_of (F.remaining feed.old)
+        (F.remaining feed.new) (F.at_hand feed.old) (F.at_hand feed.new) result }
+    ensures memory { result ≡ Err KeytabFault.OutOfMemory → F.allocates ⊎ K.allocates }
+    ensures failed { F.failure_count feed.new
+        ≡ F.failure_count feed.old + failed_reads result }
+    ensures lent { F.lender feed.new ≡ F.lender feed.old }
 {
-    let at = window.given();
-    match read_size(window)? {
+    let at = feed.given();
+    match read_size(feed)? {
         None => Ok(Found::End),
-        Some(size) if size < 0 => pass_hole(window, at, size),
-        Some(size) => read_body(window, at, size, keep),
+        Some(size) if size < 0 => pass_hole(feed, at, size),
+        Some(size) => read_body(feed, at, size, keep),
     }
 }
 
 // Reads the size of a record; none if the records have ended.
-fn read_size<S: Source>(window: &mut Window<S>) -> Result<Option<i32>, KeytabFault>
-    requires reads { S.failure_count window.old.source < 2 ^ 64 - 1 }
-    requires limit { window.old.given ≤ file_limit }
-    ensures meets { MeetsSizeAt (S.remaining window.old.source) (S.remaining window.new.source)
-        window.old window.new result }
-    ensures failed { S.failure_count window.new.source
-        ≡ S.failure_count window.old.source + failed_reads result }
-    ensures lent { S.lender window.new.source ≡ S.lender window.old.source }
+fn read_size<F: Feed>(feed: &mut F) -> Result<Option<i32>, KeytabFault>
+    requires reads { F.failure_count feed.old < 2 ^ 64 - 1 }
+    requires limit { (F.at_hand feed.old).given ≤ file_limit }
+    ensures meets { MeetsSizeAt (F.remaining feed.old) (F.remaining feed.new)
+        (F.at_hand feed.old) (F.at_hand feed.new) result }
+    ensures memory { result ≡ Err KeytabFault.OutOfMemory → F.allocates }
+    ensures failed { F.failure_count feed.new
+        ≡ F.failure_count feed.old + failed_reads result }
+    ensures lent { F.lender feed.new ≡ F.lender feed.old }
 {
-    let at = window.given();
-    window.clear();
-    let whole = window.fill(SIZE_LENGTH.min(FILE_LIMIT - at))?;
-    let Ok(size) = size_of(window.bytes()) else {
-        let last = last_behind(window.bytes(), at);
-        return if whole { conclude(window, last) } else { last };
+    let at = feed.given();
+    let whole = feed.hold(SIZE_LENGTH.min(FILE_LIMIT - at))?;
+    let Ok(size) = size_of(feed.bytes()) else {
+        let last = last_behind(feed.bytes(), at);
+        return if whole { conclude(feed, last) } else { last };
     };
     if size == 0 {
-        return conclude(window, Ok(None));
+        return conclude(feed, Ok(None));
     }
     Ok(Some(size))
 }
@@ -201,63 +196,60 @@ fn size_of(bytes: &[u8]) -> Result<i32, Short>
 }
 
 // Takes the bytes of a hole, after its size.
-fn pass_hole<S: Source, E: Drop>(
-    window: &mut Window<S>,
-    at: usize,
-    size: i32,
-) -> Result<Found<E>, KeytabFault>
-    requires reads { S.failure_count window.old.source < 2 ^ 64 - 1 }
-    requires limit { window.old.given ≤ file_limit }
-    requires at { window.old.given ≡ at + 4 }
+fn pass_hole<F: Feed, E: Drop>(feed: &mut F, at: usize, size: i32) -> Result<Found<E>, KeytabFault>
+    requires reads { F.failure_count feed.old < 2 ^ 64 - 1 }
+    requires limit { (F.at_hand feed.old).given ≤ file_limit }
+    requires at { (F.at_hand feed.old).given ≡ at + 4 }
     requires fits { FitsSigned w32 size }
     requires hole { int_lt size (pos 0) ≡ true }
     ensures meets { (of_entry : KeytabEntry → E) → MeetsBody of_entry
-        (S.remaining window.old.source) (S.remaining window.new.source)
-        window.old window.new at size result }
-    ensures failed { S.failure_count window.new.source
-        ≡ S.failure_count window.old.source + failed_reads result }
-    ensures lent { S.lender window.new.source ≡ S.lender window.old.source }
+        (F.remaining feed.old) (F.remaining feed.new)
+        (F.at_hand feed.old) (F.at_hand feed.new) at size result }
+    ensures memory { result ≢ Err KeytabFault.OutOfMemory }
+    ensures failed { F.failure_count feed.new
+        ≡ F.failure_count feed.old + failed_reads result }
+    ensures lent { F.lender feed.new ≡ F.lender feed.old }
 {
     let count = size.unsigned_abs() as usize;
-    if count > FILE_LIMIT - window.given() {
-        return conclude(window, Err(KeytabFault::Truncated { at }));
+    if count > FILE_LIMIT - feed.given() {
+        return conclude(feed, Err(KeytabFault::Truncated { at }));
     }
-    if !window.skip(count)? {
+    if !feed.skip(count)? {
         return Err(KeytabFault::Truncated { at });
     }
     Ok(Found::Hole)
 }
 
 // Reads the bytes of an entry, after their size.
-fn read_body<S: Source, K: Keep>(
-    window: &mut Window<S>,
+fn read_body<F: Feed, K: Keep>(
+    feed: &mut F,
     at: usize,
     size: i32,
     keep: &K,
 ) -> Result<Found<K::Kept>, KeytabFault>
-    requires reads { S.failure_count window.old.source < 2 ^ 64 - 1 }
-    requires limit { window.old.given ≤ file_limit }
-    requires at { window.old.given ≡ at + 4 }
+    requires reads { F.failure_count feed.old < 2 ^ 64 - 1 }
+    requires limit { (F.at_hand feed.old).given ≤ file_limit }
+    requires at { (F.at_hand feed.old).given ≡ at + 4 }
     requires fits { FitsSigned w32 size }
     requires entry { int_lt size (pos 0) ≡ false }
     requires some { 0 < unsigned_abs size }
-    ensures meets { MeetsBody K.kept_of (S.remaining window.old.source)
-        (S.remaining window.new.source) window.old window.new at size result }
-    ensures failed { S.failure_count window.new.source
-        ≡ S.failure_count window.old.source + failed_reads result }
-    ensures lent { S.lender window.new.source ≡ S.lender window.old.source }
+    ensures meets { MeetsBody K.kept_of (F.remaining feed.old)
+        (F.remaining feed.new) (F.at_hand feed.old) (F.at_hand feed.new) at size result }
+    ensures memory { result ≡ Err KeytabFault.OutOfMemory → F.allocates ⊎ K.allocates }
+    ensures failed { F.failure_count feed.new
+        ≡ F.failure_count feed.old + failed_reads result }
+    ensures lent { F.lender feed.new ≡ F.lender feed.old }
 {
     let count = size.unsigned_abs() as usize;
-    if count > FILE_LIMIT - window.given() {
-        return conclude(window, Err(KeytabFault::Truncated { at }));
+    if count > FILE_LIMIT - feed.given() {
+        return conclude(feed, Err(KeytabFault::Truncated { at }));
     }
-    window.clear();
-    if !window.fill(count)? {
+    if !feed.hold(count)? {
         return Err(KeytabFault::Truncated { at });
     }
-    match keep_of(window.bytes(), keep)? {
+    match keep_of(feed.bytes(), keep)? {
         Some(kept) => Ok(Found::Entry(kept)),
-        None => conclude(window, Err(KeytabFault::BadEntry { at })),
+        None => conclude(feed, Err(KeytabFault::BadEntry { at })),
     }
 }
 
@@ -266,6 +258,7 @@ fn keep_of<K: Keep>(body: &[u8], keep: &K) -> Result<Option<K::Kept>, AllocError
     ensures bytes { IsBytes body.now }
     ensures kept { IfOk result (λ kept. MatchOption kept (entry_at body.now ≡ None) (λ one.
         (entry : KeytabEntry) × (entry_at body.now ≡ Some entry) × (one ≡ K.kept_of entry))) }
+    ensures memory { OnErr result K.allocates }
 {
     match EntryView::read(body) {
         Ok(view) => Ok(Some(keep.keep(&view)?)),
@@ -274,22 +267,20 @@ fn keep_of<K: Keep>(body: &[u8], keep: &K) -> Result<Option<K::Kept>, AllocError
 }
 
 // Answers `last` once the source has run out, and otherwise that there are too many bytes.
-fn conclude<S: Source, T: Drop>(
-    window: &mut Window<S>,
-    last: Result<T, KeytabFault>,
-) -> Result<T, KeytabFault>
-    requires reads { S.failure_count window.old.source < 2 ^ 64 - 1 }
-    requires limit { window.old.given ≤ file_limit }
+fn conclude<F: Feed, T: Drop>(feed: &mut F, last: Result<T, KeytabFault>) -> Result<T, KeytabFault>
+    requires reads { F.failure_count feed.old < 2 ^ 64 - 1 }
+    requires limit { (F.at_hand feed.old).given ≤ file_limit }
     requires last { failed_reads last ≡ 0 }
-    ensures runs_out { RunsOutTo (S.remaining window.old.source) (S.remaining window.new.source)
-        window.old window.new last result }
-    ensures failed { S.failure_count window.new.source
-        ≡ S.failure_count window.old.source + failed_reads result }
-    ensures lent { S.lender window.new.source ≡ S.lender window.old.source }
+    ensures runs_out { RunsOutTo (F.remaining feed.old) (F.remaining feed.new)
+        (F.at_hand feed.old) (F.at_hand feed.new) last result }
+    ensures memory { result ≡ Err KeytabFault.OutOfMemory → last ≡ Err KeytabFault.OutOfMemory }
+    ensures failed { F.failure_count feed.new
+        ≡ F.failure_count feed.old + failed_reads result }
+    ensures lent { F.lender feed.new ≡ F.lender feed.old }
 {
-    match window.run_out(FILE_LIMIT) {
-        Ok(true) => last,
-        Ok(false) => Err(KeytabFault::TooLong),
+    match feed.skip(FILE_LIMIT + 1 - feed.given()) {
+        Ok(false) => last,
+        Ok(true) => Err(KeytabFault::TooLong),
         Err(SourceFailed) => Err(KeytabFault::Read),
     }
 }

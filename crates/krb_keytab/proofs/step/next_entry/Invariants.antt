@@ -5,11 +5,11 @@ use Rattle.krb_keytab.proofs.step.next_entry.Given as goal
 
 abbrev pub invariant-loop-kept : goal.invariant-loop-kept
 invariant-loop-kept g l = record {
-  passes : PassesHoles (g.S.Source.remaining l.fn.window.source) (g.S.Source.remaining l.window.source) l.fn.window l.window;
-  limit : l.window.given ≤ file_limit;
-  failures : g.S.Source.failure_count l.window.source ≡ g.S.Source.failure_count l.fn.window.source;
-  lent : g.S.Source.lender l.window.source ≡ g.S.Source.lender l.fn.window.source;
+  passes : PassesHoles (g.F.Feed.remaining l.fn.feed) (g.F.Feed.remaining l.feed) (g.F.Feed.at_hand l.fn.feed) (g.F.Feed.at_hand l.feed);
+  limit : (g.F.Feed.at_hand l.feed).given ≤ file_limit;
+  failures : g.F.Feed.failure_count l.feed ≡ g.F.Feed.failure_count l.fn.feed;
+  lent : g.F.Feed.lender l.feed ≡ g.F.Feed.lender l.fn.feed;
 }
 
 abbrev pub decreases-loop-kept : goal.decreases-loop-kept
-decreases-loop-kept g l = file_limit - l.window.given
+decreases-loop-kept g l = file_limit - (g.F.Feed.at_hand l.feed).given

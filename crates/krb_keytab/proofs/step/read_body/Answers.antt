@@ -28,28 +28,28 @@ returns-then-count-given-clause-meets g c =
           (λ h. h) (λ h. h) tt;
     }
 
-pub returns-in_err-fill-clause-meets : goal.returns-in_err-fill-clause-meets
-returns-in_err-fill-clause-meets g c =
+pub returns-in_err-hold-clause-meets : goal.returns-in_err-hold-clause-meets
+returns-in_err-hold-clause-meets g c =
     let p = err_from_is_err_and c.from_residual.result c.from_residual.ensures.1 in
     let count = count_is c.args.size _ c.requires.fits c.unsigned_abs-count.ensures.value in
-    rw (p.1, p.2) (body_lost g.K.Keep.kept_of _ _ c.args.window.now _ c.args.at _ c.args.size (omega (arith, c.if-count-given.false, c.given.ensures, c.requires.limit)) count c.requires.entry _ (rw c.clear.ensures at c.in_err-fill.ensures.fills))
+    rw (p.1, p.2) (body_lost g.K.Keep.kept_of _ _ (g.F.Feed.at_hand c.args.feed.now) _ c.args.at _ c.args.size (omega (arith, c.if-count-given.false, c.given.ensures, c.requires.limit)) count c.requires.entry _ (c.in_err-hold.ensures.fills))
 
 pub returns-in_err-kept-clause-meets : goal.returns-in_err-kept-clause-meets
 returns-in_err-kept-clause-meets g c =
     let p = err_from_is_err_and c.from_residual-in_err-kept.result c.from_residual-in_err-kept.ensures.1 in
     let count = count_is c.args.size _ c.requires.fits c.unsigned_abs-count.ensures.value in
-    rw (p.1, p.2) (body_met g.K.Keep.kept_of _ _ c.args.window.now _ c.args.at _ c.args.size (omega (arith, c.if-count-given.false, c.given.ensures, c.requires.limit)) count c.requires.entry _ (rw c.clear.ensures at c.in_ok-fill.ensures.fills) _ tt)
+    rw (p.1, p.2) (body_met g.K.Keep.kept_of _ _ (g.F.Feed.at_hand c.args.feed.now) _ c.args.at _ c.args.size (omega (arith, c.if-count-given.false, c.given.ensures, c.requires.limit)) count c.requires.entry _ (c.in_ok-hold.ensures.fills) _ tt)
 
 pub returns-in-Some-clause-meets : goal.returns-in-Some-clause-meets
 returns-in-Some-clause-meets g c =
-    let fills = rw c.clear.ensures at c.in_ok-fill.ensures.fills in
+    let fills = c.in_ok-hold.ensures.fills in
     let count = count_is c.args.size _ c.requires.fits c.unsigned_abs-count.ensures.value in
     let came = rw c.if-not-branch.false at fills.came in
     let body_is = c.bytes.ensures ∙ fills.keeps.bytes in
     let word = signed_bytes w32 c.args.size in
     let room = c.if-count-given.false in
     let kept = rw c.in-Some.is at c.in_ok-kept.ensures.kept in
-    body_met g.K.Keep.kept_of _ _ c.args.window.now _ c.args.at _ c.args.size (omega (arith, room, c.given.ensures, c.requires.limit)) count c.requires.entry _ fills _ (
+    body_met g.K.Keep.kept_of _ _ (g.F.Feed.at_hand c.args.feed.now) _ c.args.at _ c.args.size (omega (arith, room, c.given.ensures, c.requires.limit)) count c.requires.entry _ fills _ (
       kept.0,
       kept.2,
       omega (arith, length-append word fills.piece, fills.keeps.peak, ap length fills.keeps.bytes),
@@ -59,7 +59,7 @@ returns-in-Some-clause-meets g c =
 
 pub returns-in-None-clause-meets : goal.returns-in-None-clause-meets
 returns-in-None-clause-meets g c =
-    let fills = rw c.clear.ensures at c.in_ok-fill.ensures.fills in
+    let fills = c.in_ok-hold.ensures.fills in
     let count = count_is c.args.size _ c.requires.fits c.unsigned_abs-count.ensures.value in
     let came = rw c.if-not-branch.false at fills.came in
     let body_is = c.bytes.ensures ∙ fills.keeps.bytes in
@@ -71,7 +71,7 @@ returns-in-None-clause-meets g c =
     let read = ap entry_at (sym body_is) ∙ rw c.in-None.is at c.in_ok-kept.ensures.kept in
     let first : List ℕ = word ++ fills.piece in
     let size : length first ≡ 4 + length fills.piece = length-append word fills.piece in
-    let left = g.S.Source.remaining c.conclude-in-None.new.window.source in
+    let left = g.F.Feed.remaining c.conclude-in-None.new.feed in
     record {
       piece = fills.piece ++ ran_out.piece;
       moves = record {
@@ -79,9 +79,9 @@ returns-in-None-clause-meets g c =
         given = omega (arith, fills.keeps.given, ran_out.moves.given, length-append fills.piece ran_out.piece);
         limit = λ l. ran_out.moves.limit (omega (arith, fills.keeps.given, came, room, c.given.ensures, c.requires.limit));
       };
-      peaks = peaks_at _ (fills.piece ++ ran_out.piece) fills.piece ran_out.piece _ _ c.fill.new.self.bytes refl (omega (arith, came, count, kept_is c.args.size c.requires.entry)) fills.keeps.bytes (omega (arith, came, room)) (ran_out.peak ∙ fills.keeps.peak);
-      meets = subst (λ (t : List ℕ). Meets of_entry left at t c.conclude-in-None.new.window.peak c.conclude-in-None.result) (append_assoc word fills.piece ran_out.piece)
-          (ran (Meets of_entry left at (first ++ ran_out.piece) c.conclude-in-None.new.window.peak) (Err (BadEntry at)) c.conclude-in-None.result _ at _ first ran_out.piece (Some (BadEntry at)) ran_out.ran
+      peaks = peaks_at _ (fills.piece ++ ran_out.piece) fills.piece ran_out.piece _ _ (g.F.Feed.at_hand c.hold.new.self).bytes refl (omega (arith, came, count, kept_is c.args.size c.requires.entry)) fills.keeps.bytes (omega (arith, came, room)) (ran_out.peak ∙ fills.keeps.peak);
+      meets = subst (λ (t : List ℕ). Meets of_entry left at t (g.F.Feed.at_hand c.conclude-in-None.new.feed).peak c.conclude-in-None.result) (append_assoc word fills.piece ran_out.piece)
+          (ran (Meets of_entry left at (first ++ ran_out.piece) (g.F.Feed.at_hand c.conclude-in-None.new.feed).peak) (Err (BadEntry at)) c.conclude-in-None.result _ at _ first ran_out.piece (Some (BadEntry at)) ran_out.ran
           (omega (arith, size, came, room, c.given.ensures, c.requires.at, c.requires.limit)) (omega (arith, ran_out.moves.given, fills.keeps.given, c.requires.at, size, length-append first ran_out.piece))
           (λ more within. no_entry at c.args.size fills.piece more c.requires.fits c.requires.entry c.requires.some (came ∙ count) read)
           (λ h. h) (λ h. h) tt);
