@@ -205,6 +205,7 @@ fn pass_hole<F: Feed, E: Drop>(feed: &mut F, at: usize, size: i32) -> Result<Fou
     ensures meets { (of_entry : KeytabEntry → E) → MeetsBody of_entry
         (F.remaining feed.old) (F.remaining feed.new)
         (F.at_hand feed.old) (F.at_hand feed.new) at size result }
+    ensures kept { (F.at_hand feed.new).bytes ≡ (F.at_hand feed.old).bytes }
     ensures memory { result ≢ Err KeytabFault.OutOfMemory }
     ensures failed { F.failure_count feed.new
         ≡ F.failure_count feed.old + failed_reads result }
