@@ -8,5 +8,4 @@ pub mod Meeting
 pub mod Pick
 pub mod Putting
 pub mod Reading
-pub mod Standing
 pub mod Room
