@@ -160,31 +160,22 @@ none_more at few more all within = ap (λ (t : List ℕ). few ++ t) (nil_from_le
 
 -- the source ended behind them
 pub few_last : (left : Option (List ℕ)) (at : ℕ) (few : List ℕ) (last : Result (Option ℤ) KeytabFault) → IsFewAt at few last → IsAtEnd left → at + length few ≤ file_limit → length few < 4 → MeetsSize left at few last
-few_last left at few (Ok None) f end within short = record { limit = within; all = end; lacks = inl f }
-few_last left at few (Ok (Some size)) f end within short = absurd f
-few_last left at few (Err (Truncated place)) f end within short = record { limit = within; all = end; lacks = (f.0, inl (f.1, short)) }
-few_last left at few (Err Version) f end within short = absurd f
-few_last left at few (Err (BadEntry place)) f end within short = absurd f
-few_last left at few (Err TooLong) f end within short = absurd f
-few_last left at few (Err NoSuchEntry) f end within short = absurd f
-few_last left at few (Err Read) f end within short = absurd f
-few_last left at few (Err OutOfMemory) f end within short = absurd f
+few_last left at few last f end within short =
+    elim f [
+      | inl none ↦ subst (MeetsSize left at few) (sym none.0) (record { limit = within; all = end; lacks = inl none.1 })
+      | inr some ↦ subst (MeetsSize left at few) (sym some.0) (record { limit = within; all = end; lacks = (refl, inl (some.1, short)) })
+    ]
 
 -- or a file has no more
 pub few_ran : (left : Option (List ℕ)) (at given : ℕ) (few later : List ℕ) (last answer : Result (Option ℤ) KeytabFault) → IsFewAt at few last → RanOut last answer left given
     → at + length few ≡ file_limit → length few < 4 → given ≡ at + length (few ++ later) → MeetsSize left at (few ++ later) answer
-few_ran left at given few later (Ok None) answer f r all short g =
-    ran (MeetsSize left at (few ++ later)) (Ok None) answer left at given few later None r (omega (arith, all)) g (λ more within. inl (none_more at few more all within ∙ f)) (λ h. h) (λ h. h) tt
-few_ran left at given few later (Ok (Some size)) answer f r all short g = absurd f
-few_ran left at given few later (Err (Truncated place)) answer f r all short g =
-    ran (MeetsSize left at (few ++ later)) (Err (Truncated place)) answer left at given few later (Some (Truncated place)) r (omega (arith, all)) g
-    (λ more within. (f.0, inl (omega (arith, f.1, length-append few more), omega (arith, short, ap length (none_more at few more all within))))) (λ h. h) (λ h. h) tt
-few_ran left at given few later (Err Version) answer f r all short g = absurd f
-few_ran left at given few later (Err (BadEntry place)) answer f r all short g = absurd f
-few_ran left at given few later (Err TooLong) answer f r all short g = absurd f
-few_ran left at given few later (Err NoSuchEntry) answer f r all short g = absurd f
-few_ran left at given few later (Err Read) answer f r all short g = absurd f
-few_ran left at given few later (Err OutOfMemory) answer f r all short g = absurd f
+few_ran left at given few later last answer f r all short g =
+    elim f [
+      | inl none ↦ ran (MeetsSize left at (few ++ later)) (Ok None) answer left at given few later None (subst (λ (l : Result (Option ℤ) KeytabFault). RanOut l answer left given) none.0 r) (omega (arith, all)) g
+          (λ more within. inl (none_more at few more all within ∙ none.1)) (λ h. h) (λ h. h) tt
+      | inr some ↦ ran (MeetsSize left at (few ++ later)) (Err (Truncated at)) answer left at given few later (Some (Truncated at)) (subst (λ (l : Result (Option ℤ) KeytabFault). RanOut l answer left given) some.0 r) (omega (arith, all)) g
+          (λ more within. (refl, inl (omega (arith, some.1, length-append few more), omega (arith, short, ap length (none_more at few more all within))))) (λ h. h) (λ h. h) tt
+    ]
 
 -- ---- the size at hand
 

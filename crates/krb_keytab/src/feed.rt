@@ -44,8 +44,7 @@ pub(crate) trait Feed {
         ensures fills { Fills (remaining self.old) (remaining self.new)
             (emptied (at_hand self.old)) (at_hand self.new) count result }
         ensures memory { result ≡ Err ReadFault.OutOfMemory → allocates }
-        ensures failed { failure_count self.new
-            ≡ failure_count self.old + failed_reads result }
+        ensures failed { failure_count self.new ≡ failure_count self.old + failed_reads result }
         ensures lent { lender self.new ≡ lender self.old };
 
     /// Takes the next `count` bytes, holds none of them, and returns whether so many came. Fewer
@@ -55,8 +54,7 @@ pub(crate) trait Feed {
         requires count { (at_hand self.old).given + count < 2 ^ 64 }
         ensures passes { Passes (remaining self.old) (remaining self.new)
             (at_hand self.old) (at_hand self.new) count result }
-        ensures failed { failure_count self.new
-            ≡ failure_count self.old + (if is_ok result then 0 else 1) }
+        ensures failed { failure_count self.new ≡ failure_count self.old + (if is_ok result then 0 else 1) }
         ensures lent { lender self.new ≡ lender self.old };
 }
 

@@ -1,7 +1,6 @@
 //! Finding the record to edit. Each file is read to its end, so its faults come first.
 
 ghost use Rattle.std.specs.Prelude.{◌≡◌, ◌≢◌, ◌≤◌, ◌++◌, IfOk, IfErr, MatchResult, Some};
-ghost use Rattle.krb_name.specs.Field.{IsBytes};
 ghost use Rattle.krb_name.specs.File.{file_limit};
 ghost use Rattle.krb_keytab.specs.Format.{version, IsFaultOf};
 ghost use Rattle.krb_keytab.specs.Inner.Feed.{nothing_of};
@@ -62,8 +61,7 @@ pub(crate) fn next_record(slice: &mut Slice) -> Result<Found<()>, KeytabFault>
 /// # Errors
 /// Those of `Keytab::parse` except `OutOfMemory`.
 pub(crate) fn find_entry(bytes: &[u8], index: usize) -> Result<Option<Extent>, KeytabFault>
-    ensures bytes { IsBytes bytes.now }
-    ensures found { MatchResult result (IsFoundEntry bytes.now index) (IsFaultOf bytes.now) }
+    ensures { MatchResult result (IsFoundEntry bytes.now index) (IsFaultOf bytes.now) }
 {
     let mut slice = open(bytes)?;
     let mut found = None;
@@ -91,8 +89,7 @@ pub(crate) fn find_entry(bytes: &[u8], index: usize) -> Result<Option<Extent>, K
 /// # Errors
 /// Those of `Keytab::parse` except `OutOfMemory`.
 pub(crate) fn find_room(bytes: &[u8], size: usize) -> Result<Room, KeytabFault>
-    ensures bytes { IsBytes bytes.now }
-    ensures found { MatchResult result (IsFoundRoom bytes.now size) (IsFaultOf bytes.now) }
+    ensures { MatchResult result (IsFoundRoom bytes.now size) (IsFaultOf bytes.now) }
 {
     let mut slice = open(bytes)?;
     let mut hole = None;

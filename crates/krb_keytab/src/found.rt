@@ -52,10 +52,7 @@ impl Keep for Nothing {
 }
 
 /// Keeps a copy, in this memory.
-#[derive(Drop)]
-pub(crate) struct Copies(pub(crate) Global);
-
-impl Keep for Copies {
+impl Keep for Global {
     type Kept = Entry;
 
     ghost kept_of = { λ entry. entry };
@@ -63,6 +60,6 @@ impl Keep for Copies {
     ghost allocates = { ⊤ };
 
     fn keep(&self, entry: &EntryView) -> Result<Entry, AllocError> {
-        entry.to_entry(self.0)
+        entry.to_entry(*self)
     }
 }

@@ -119,8 +119,7 @@ impl Keytab {
         requires start { (F.at_hand feed.old).given ≡ 0 }
         ensures reads { ReadsFile IsAnswerOf KeytabFault.OutOfMemory KeytabFault.Read
             (F.remaining feed.old) (F.remaining feed.new) result }
-        ensures failed { F.failure_count feed.new
-            ≡ F.failure_count feed.old + failed_reads result }
+        ensures failed { F.failure_count feed.new ≡ F.failure_count feed.old + failed_reads result }
         ensures lent { F.lender feed.new ≡ F.lender feed.old }
     {
         match read_entries(alloc, feed) {
@@ -156,7 +155,7 @@ impl Keytab {
         ensures fault { IfErr result (λ fault. fault ≢ KeytabFault.OutOfMemory
             → (fault ≡ KeytabFault.TooLong) × (file_limit < length (written self.now))) }
     {
-        let mut bytes = Vec::from_slice(alloc, &VERSION.to_be_bytes())?;
+        let mut bytes = Vec::from_slice(alloc, &VERSION)?;
         for entry in self.entries() {
             let at = bytes.len();
             if FILE_LIMIT - at < entry.record_length() {

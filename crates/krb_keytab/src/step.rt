@@ -15,17 +15,15 @@ ghost use Rattle.krb_keytab.specs.Inner.Meeting.{MeetsOne, MeetsSizeAt, MeetsNex
 use crate::entry::Entry;
 use crate::fault::KeytabFault;
 use crate::feed::Feed;
-use crate::found::{Copies, Found, Keep, Nothing};
+use crate::found::{Found, Keep, Nothing};
 use crate::view::EntryView;
 use krb_name::{FILE_LIMIT, FileCursor, Short, SourceFailed};
 use std::alloc::{AllocError, Global};
 
 /// The version of the format that is read and written. A keytab begins with it.
-pub(crate) const VERSION: u16 = 0x0502;
+pub(crate) const VERSION: [u8; 2] = [0x05, 0x02];
 
-// How many bytes the version and the size of a record have.
-const VERSION_LENGTH: usize = 2;
-
+// How many bytes the size of a record has.
 const SIZE_LENGTH: usize = 4;
 
 /// Reads the version of a file.
@@ -35,11 +33,10 @@ pub(crate) fn read_version<F: Feed>(feed: &mut F) -> Result<(), KeytabFault>
     ensures opens { OpensAt (F.remaining feed.old) (F.remaining feed.new)
         (F.at_hand feed.old) (F.at_hand feed.new) result }
     ensures memory { result ≡ Err KeytabFault.OutOfMemory → F.allocates }
-    ensures failed { F.failure_count feed.new
-        ≡ F.failure_count feed.old + failed_reads result }
+    ensures failed { F.failure_count feed.new ≡ F.failure_count feed.old + failed_reads result }
     ensures lent { F.lender feed.new ≡ F.lender feed.old }
 {
-    let whole = feed.hold(VERSION_LENGTH)?;
+    let whole = feed.hold(VERSION.len())?;
     if is_version(feed.bytes()) {
         Ok(())
     } else if whole {
@@ -55,11 +52,9 @@ pub(crate) fn read_entries<F: Feed>(alloc: Global, feed: &mut F) -> Result<Vec<E
     requires start { (F.at_hand feed.old).given ≡ 0 }
     ensures found { IfOk result (λ entries. IsFound
         (F.remaining feed.old) (F.remaining feed.new) entries.items) }
-    ensures fault { IfErr result
-        (IsFaulty (F.remaining feed.old) (F.remaining feed.new)) }
+    ensures fault { IfErr result (IsFaulty (F.remaining feed.old) (F.remaining feed.new)) }
     ensures taken { TakesFile (F.remaining feed.old) (F.remaining feed.new) }
-    ensures failed { F.failure_count feed.new
-        ≡ F.failure_count feed.old + failed_reads result }
+    ensures failed { F.failure_count feed.new ≡ F.failure_count feed.old + failed_reads result }
     ensures lent { F.lender feed.new ≡ F.lender feed.old }
 {
     read_version(feed)?;
@@ -76,11 +71,10 @@ pub(crate) fn read_entry<F: Feed>(alloc: Global, feed: &mut F) -> Result<Option<
     requires limit { (F.at_hand feed.old).given ≤ file_limit }
     ensures meets { MeetsNext (F.remaining feed.old) (F.remaining feed.new)
         (F.at_hand feed.old) (F.at_hand feed.new) result }
-    ensures failed { F.failure_count feed.new
-        ≡ F.failure_count feed.old + failed_reads result }
+    ensures failed { F.failure_count feed.new ≡ F.failure_count feed.old + failed_reads result }
     ensures lent { F.lender feed.new ≡ F.lender feed.old }
 {
-    next_entry(feed, &Copies(alloc))
+    next_entry(feed, &alloc)
 }
 
 /// Reads records up to the next entry, and returns whether there is one. There is none if the
@@ -90,8 +84,7 @@ pub(crate) fn pass_entry<F: Feed>(feed: &mut F) -> Result<bool, KeytabFault>
     requires limit { (F.at_hand feed.old).given ≤ file_limit }
     ensures meets { MeetsPast (F.remaining feed.old) (F.remaining feed.new)
         (F.at_hand feed.old) (F.at_hand feed.new) result }
-    ensures failed { F.failure_count feed.new
-        ≡ F.failure_count feed.old + failed_reads result }
+    ensures failed { F.failure_count feed.new ≡ F.failure_count feed.old + failed_reads result }
     ensures lent { F.lender feed.new ≡ F.lender feed.old }
 {
     Ok(next_entry(feed, &Nothing)?.is_some())
@@ -104,8 +97,7 @@ fn next_entry<F: Feed, K: Keep>(feed: &mut F, keep: &K) -> Result<Option<K::Kept
     requires limit { (F.at_hand feed.old).given ≤ file_limit }
     ensures meets { MeetsKept K.kept_of (F.remaining feed.old)
         (F.remaining feed.new) (F.at_hand feed.old) (F.at_hand feed.new) result }
-    ensures failed { F.failure_count feed.new
-        ≡ F.failure_count feed.old + failed_reads result }
+    ensures failed { F.failure_count feed.new ≡ F.failure_count feed.old + failed_reads result }
     ensures lent { F.lender feed.new ≡ F.lender feed.old }
 {
     loop {
@@ -127,8 +119,7 @@ pub(crate) fn read_record<F: Feed, K: Keep>(
     ensures meets { MeetsOne K.kept_of (F.remaining feed.old)
         (F.remaining feed.new) (F.at_hand feed.old) (F.at_hand feed.new) result }
     ensures memory { result ≡ Err KeytabFault.OutOfMemory → F.allocates ⊎ K.allocates }
-    ensures failed { F.failure_count feed.new
-        ≡ F.failure_count feed.old + failed_reads result }
+    ensures failed { F.failure_count feed.new ≡ F.failure_count feed.old + failed_reads result }
     ensures lent { F.lender feed.new ≡ F.lender feed.old }
 {
     let at = feed.given();
@@ -146,8 +137,7 @@ fn read_size<F: Feed>(feed: &mut F) -> Result<Option<i32>, KeytabFault>
     ensures meets { MeetsSizeAt (F.remaining feed.old) (F.remaining feed.new)
         (F.at_hand feed.old) (F.at_hand feed.new) result }
     ensures memory { result ≡ Err KeytabFault.OutOfMemory → F.allocates }
-    ensures failed { F.failure_count feed.new
-        ≡ F.failure_count feed.old + failed_reads result }
+    ensures failed { F.failure_count feed.new ≡ F.failure_count feed.old + failed_reads result }
     ensures lent { F.lender feed.new ≡ F.lender feed.old }
 {
     let at = feed.given();
@@ -173,16 +163,13 @@ fn last_behind(few: &[u8], at: usize) -> Result<Option<i32>, KeytabFault>
     }
 }
 
-// Whether the version stands in the first two bytes.
+// Whether these are the bytes of the version.
 fn is_version(bytes: &[u8]) -> bool
     requires { length bytes.now ≤ 2 }
     ensures is { result ≡ true → bytes.now ≡ version }
     ensures other { result ≡ false → LacksVersion bytes.now }
 {
-    match FileCursor::new(bytes).read_u16() {
-        Ok(VERSION) => true,
-        _ => false,
-    }
+    bytes == VERSION.as_slice()
 }
 
 // The size in the first four bytes.
@@ -207,8 +194,7 @@ fn pass_hole<F: Feed, E: Drop>(feed: &mut F, at: usize, size: i32) -> Result<Fou
         (F.at_hand feed.old) (F.at_hand feed.new) at size result }
     ensures kept { (F.at_hand feed.new).bytes ≡ (F.at_hand feed.old).bytes }
     ensures memory { result ≢ Err KeytabFault.OutOfMemory }
-    ensures failed { F.failure_count feed.new
-        ≡ F.failure_count feed.old + failed_reads result }
+    ensures failed { F.failure_count feed.new ≡ F.failure_count feed.old + failed_reads result }
     ensures lent { F.lender feed.new ≡ F.lender feed.old }
 {
     let count = size.unsigned_abs() as usize;
@@ -237,8 +223,7 @@ fn read_body<F: Feed, K: Keep>(
     ensures meets { MeetsBody K.kept_of (F.remaining feed.old)
         (F.remaining feed.new) (F.at_hand feed.old) (F.at_hand feed.new) at size result }
     ensures memory { result ≡ Err KeytabFault.OutOfMemory → F.allocates ⊎ K.allocates }
-    ensures failed { F.failure_count feed.new
-        ≡ F.failure_count feed.old + failed_reads result }
+    ensures failed { F.failure_count feed.new ≡ F.failure_count feed.old + failed_reads result }
     ensures lent { F.lender feed.new ≡ F.lender feed.old }
 {
     let count = size.unsigned_abs() as usize;
@@ -275,8 +260,7 @@ fn conclude<F: Feed, T: Drop>(feed: &mut F, last: Result<T, KeytabFault>) -> Res
     ensures runs_out { RunsOutTo (F.remaining feed.old) (F.remaining feed.new)
         (F.at_hand feed.old) (F.at_hand feed.new) last result }
     ensures memory { result ≡ Err KeytabFault.OutOfMemory → last ≡ Err KeytabFault.OutOfMemory }
-    ensures failed { F.failure_count feed.new
-        ≡ F.failure_count feed.old + failed_reads result }
+    ensures failed { F.failure_count feed.new ≡ F.failure_count feed.old + failed_reads result }
     ensures lent { F.lender feed.new ≡ F.lender feed.old }
 {
     match feed.skip(FILE_LIMIT + 1 - feed.given()) {

@@ -109,9 +109,7 @@ pub record MeetsOne {S E : Type 0} (of_entry : KeytabEntry → E) (from to : Opt
 
 -- what is answered where fewer bytes than a size has are left
 abbrev pub IsFewAt : ℕ → List ℕ → Result (Option ℤ) KeytabFault → Type 0
-IsFewAt at few (Ok None) = few ≡ []
-IsFewAt at few (Err (Truncated place)) = (place ≡ at) × (0 < length few)
-IsFewAt at few _ = ⊥
+IsFewAt at few last = ((last ≡ Ok None) × (few ≡ [])) ⊎ ((last ≡ Err (Truncated at)) × (0 < length few))
 
 pub record IsSizeAt (at : ℕ) (piece : List ℕ) (size : ℤ) : Type 0 where
   pub piece_is : piece ≡ signed_bytes w32 size

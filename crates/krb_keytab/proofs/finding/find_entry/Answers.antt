@@ -16,13 +16,13 @@ each_record-init c =
       few = omega arith;
     }
 
-pub returns-in_err-next_record-clause-found : goal.returns-in_err-next_record-clause-found
-returns-in_err-next_record-clause-found c =
+pub returns-in_err-next_record : goal.returns-in_err-next_record
+returns-in_err-next_record c =
     let p = err_from_is_err_and c.from_residual-in_err-next_record.result c.from_residual-in_err-next_record.ensures.1 in
     rw (p.1, p.2) (stopped _ c.each_record.invariant.spans c.in_err-next_record.field-0.0 c.each_record.invariant.limit c.in_err-next_record.ensures.meets c.in_err-next_record.ensures.content)
 
-pub returns-in-End-clause-found : goal.returns-in-End-clause-found
-returns-in-End-clause-found c =
+pub returns-in-End : goal.returns-in-End
+returns-in-End c =
     let now = c.each_record.invariant in
     let read = rw c.in-End.is at c.in_ok-next_record.ensures.meets in
     counted c.args.index c.each_record.count c.each_record.found (ended c.next_record.new.slice now.spans read) now.counts

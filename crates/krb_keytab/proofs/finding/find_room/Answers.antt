@@ -25,20 +25,20 @@ loop-place-init c =
       rooms = start_rooms c.args.size;
     }
 
-pub returns-in_err-next_record-clause-found : goal.returns-in_err-next_record-clause-found
-returns-in_err-next_record-clause-found c =
+pub returns-in_err-next_record : goal.returns-in_err-next_record
+returns-in_err-next_record c =
     let p = err_from_is_err_and c.from_residual-in_err-next_record.result c.from_residual-in_err-next_record.ensures.1 in
     rw (p.1, p.2) (stopped _ c.loop-place.invariant.spans c.in_err-next_record.field-0.0 c.loop-place.invariant.limit c.in_err-next_record.ensures.meets c.in_err-next_record.ensures.content)
 
-pub returns-in-Some-clause-found : goal.returns-in-Some-clause-found
-returns-in-Some-clause-found c =
+pub returns-in-Some : goal.returns-in-Some
+returns-in-Some c =
     let now = c.loop-place.invariant in
     let read = rw c.in-End.is at c.in_ok-next_record.ensures.meets in
     let rooms = rw c.in-Some.is at now.rooms in
     found_room (ended c.next_record.new.slice now.spans read) rooms
 
-pub returns-in-None-clause-found : goal.returns-in-None-clause-found
-returns-in-None-clause-found c =
+pub returns-in-None : goal.returns-in-None
+returns-in-None c =
     let now = c.loop-place.invariant in
     let read = rw c.in-End.is at c.in_ok-next_record.ensures.meets in
     let rooms = rw c.in-None.is at now.rooms in
