@@ -46,20 +46,17 @@ module _ (at : ℕ) (rest : List ℕ) (bytes : IsBytes rest) where
   split : (word : List ℕ) (n : ℕ) → word ++ rest ≡ (word ++ take n rest) ++ drop n rest
   split word n = ap (λ (t : List ℕ). word ++ t) (sym (take-append-drop n rest)) ∙ sym (append_assoc word (take n rest) (drop n rest))
 
+  there : (size : ℤ) (n : ℕ) (entries : List KeytabEntry) → IsWhole at (signed_bytes w32 size ++ take n rest) entries → Kind at (signed_bytes w32 size ++ rest)
+  there size n entries whole = inl (record { piece = signed_bytes w32 size ++ take n rest; more = drop n rest; entries = entries; parts = split (signed_bytes w32 size) n; whole = whole; fits = IsBytes-drop n rest bytes })
+
+  within : (size : ℤ) (n : ℕ) → at + length (signed_bytes w32 size ++ rest) ≤ file_limit → at + length (signed_bytes w32 size ++ take n rest) ≤ file_limit
+  within size n limit = omega (arith, limit, length-append (signed_bytes w32 size) rest, length-append (signed_bytes w32 size) (take n rest), length-take n rest)
+
   made : (n : ℕ) → FitsSigned w32 (pos n) → 0 < n → n ≤ length rest → at + length (signed_bytes w32 (pos n) ++ rest) ≤ file_limit → (read : Option KeytabEntry) → entry_at (take n rest) ≡ read → Kind at (signed_bytes w32 (pos n) ++ rest)
   made n fits some enough limit None e =
-      let word : List ℕ = signed_bytes w32 (pos n) in
-      inr (inr (inr (subst HoldsNoEntry (sym (split word n)) (no_entry at (pos n) (take n rest) (drop n rest) fits (not_below n) some (omega (arith, length-take n rest, enough)) e).1)))
+      inr (inr (inr (subst HoldsNoEntry (sym (split (signed_bytes w32 (pos n)) n)) (no_entry at (pos n) (take n rest) (drop n rest) fits (not_below n) some (omega (arith, length-take n rest, enough)) e).1)))
   made n fits some enough limit (Some one) e =
-      let word : List ℕ = signed_bytes w32 (pos n) in
-      inl (record {
-        piece = word ++ take n rest;
-        more = drop n rest;
-        entries = one ∷ [];
-        parts = split word n;
-        whole = entry_whole at (pos n) (take n rest) one fits (not_below n) (IsBytes-take n rest bytes) (omega (arith, length-take n rest, enough)) e (omega (arith, limit, length-append word rest, length-append word (take n rest), length-take n rest));
-        fits = IsBytes-drop n rest bytes;
-      })
+      there (pos n) n (one ∷ []) (entry_whole at (pos n) (take n rest) one fits (not_below n) (IsBytes-take n rest bytes) (omega (arith, length-take n rest, enough)) e (within (pos n) n limit))
 
   sized : (size : ℤ) → FitsSigned w32 size → at + length (signed_bytes w32 size ++ rest) ≤ file_limit → Kind at (signed_bytes w32 size ++ rest)
   sized (pos zero) fits limit = inr (inl (inr (rest, refl)))
@@ -69,17 +66,9 @@ module _ (at : ℕ) (rest : List ℕ) (bytes : IsBytes rest) where
         | inr enough ↦ made (suc n) fits (omega arith) enough limit (entry_at (take (suc n) rest)) refl
       ]
   sized (negsuc n) fits limit =
-      let word : List ℕ = signed_bytes w32 (negsuc n) in
       elim (cases_lt (length rest) (suc n)) [
         | inl short ↦ inr (inr (inl (cut_off at (negsuc n) rest fits short).1))
-        | inr enough ↦ inl (record {
-          piece = word ++ take (suc n) rest;
-          more = drop (suc n) rest;
-          entries = [];
-          parts = split word (suc n);
-          whole = hole_whole at (negsuc n) (take (suc n) rest) fits refl (omega (arith, length-take (suc n) rest, enough)) (omega (arith, limit, length-append word rest, length-append word (take (suc n) rest), length-take (suc n) rest));
-          fits = IsBytes-drop (suc n) rest bytes;
-        })
+        | inr enough ↦ there (negsuc n) (suc n) [] (hole_whole at (negsuc n) (take (suc n) rest) fits refl (omega (arith, length-take (suc n) rest, enough)) (within (negsuc n) (suc n) limit))
       ]
 
 few : (at : ℕ) (rest : List ℕ) → length rest < 4 → Kind at rest

@@ -2,7 +2,7 @@
 use Rattle.std.proofs.Common.{◌≡◌, ℕ, ℤ, pos, negsuc, neg_ℤ, ◌+◌, ◌-◌, ◌<◌, ◌≤◌, ◌^◌, Bool, true, false, List, [], ◌∷◌, ◌++◌, length, take, Option, Some, None, Result, Ok, Err, refl, sym, ap, subst, ◌∙◌, append_assoc, append-nil, to_z, of_z, arith, inl, inr}
 use Rattle.std.specs.Int.{w32}
 use Rattle.std.specs.Prelude.{FitsSigned, unsigned_abs, int_lt, max, IfOk, OnErr}
-use Rattle.std.specs.Io.KnownBytes.{Consumes, IsAtEnd}
+use Rattle.std.specs.Io.KnownBytes.{Consumes}
 use Rattle.std.proofs.KnownBytes.{Consumes-trans}
 use Rattle.std.proofs.Math.Seq.{take-append-add}
 use Rattle.std.proofs.lemmas.Bool.{ltb-true}
@@ -22,7 +22,7 @@ use Rattle.krb_keytab.specs.Items.{LacksRecord, IsPartOfRecord}
 use Rattle.krb_keytab.specs.Inner.Entry.{entry_at}
 use Rattle.krb_keytab.specs.Inner.Meeting.{Peaks, RanOut, IsWhole, IsLastAt, IsLongAt, IsFewAt, kept_of, MeetsLast, MeetsSize, MeetsSizeAt, MeetsBody, MeetsOne, Meets}
 use Rattle.krb_keytab.specs.declared.fault.KeytabFault.{KeytabFault}
-use Rattle.krb_keytab.specs.declared.fault.KeytabFault.TheVariants.{Version, Truncated, BadEntry, TooLong, NoSuchEntry, Read, OutOfMemory}
+use Rattle.krb_keytab.specs.declared.fault.KeytabFault.TheVariants.{Truncated, BadEntry, TooLong, Read}
 use Rattle.krb_keytab.specs.declared.found.Found.{Found}
 use Rattle.krb_keytab.proofs.EntryLaws.{take_entry, again_entry}
 use Rattle.krb_keytab.proofs.RecordLaws.{short_size}
@@ -158,15 +158,7 @@ peaks_kept IsPart piece old new p e = record { part = []; after = piece; piece_i
 none_more : (at : ℕ) (few more : List ℕ) → at + length few ≡ file_limit → at + length (few ++ more) ≤ file_limit → few ++ more ≡ few
 none_more at few more all within = ap (λ (t : List ℕ). few ++ t) (nil_from_length more (omega (arith, length-append few more))) ∙ append-nil few
 
--- the source ended behind them
-pub few_last : (left : Option (List ℕ)) (at : ℕ) (few : List ℕ) (last : Result (Option ℤ) KeytabFault) → IsFewAt at few last → IsAtEnd left → at + length few ≤ file_limit → length few < 4 → MeetsSize left at few last
-few_last left at few last f end within short =
-    elim f [
-      | inl none ↦ subst (MeetsSize left at few) (sym none.0) (record { limit = within; all = end; lacks = inl none.1 })
-      | inr some ↦ subst (MeetsSize left at few) (sym some.0) (record { limit = within; all = end; lacks = (refl, inl (some.1, short)) })
-    ]
-
--- or a file has no more
+-- a file has no more
 pub few_ran : (left : Option (List ℕ)) (at given : ℕ) (few later : List ℕ) (last answer : Result (Option ℤ) KeytabFault) → IsFewAt at few last → RanOut last answer left given
     → at + length few ≡ file_limit → length few < 4 → given ≡ at + length (few ++ later) → MeetsSize left at (few ++ later) answer
 few_ran left at given few later last answer f r all short g =

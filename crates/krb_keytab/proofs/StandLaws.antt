@@ -334,9 +334,6 @@ first_fault from to old new fault o start = record {
   met = λ m. met_version o.piece old.peak new.peak o.peaks m;
 }
 
-pub opened_given : {S : Type 0} (from to : Option (List ℕ)) (old new : AtHand S) (opened : Unit) → OpensAt from to old new (Ok opened) → old.given ≡ 0 → new.given ≡ 2
-opened_given from to old new opened o start = omega (arith, o.moves.given, start, ap length o.meets)
-
 -- ---- what a reader has read
 
 pub read_first : {S : Type 0} (from to : Option (List ℕ)) (reader : EntriesRead S) (old new : AtHand S) (answer : Result (Option KeytabEntry) KeytabFault) → reader.stage ≡ Start → reader.held ≡ old.peak → MeetsFirst from to old new answer → old.given ≡ 0
