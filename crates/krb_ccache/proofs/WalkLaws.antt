@@ -246,19 +246,72 @@ module _ (Within : Hand → Type 0) where
               ∙ ap (λ (n : ℕ). others number (record { at = n; rest = rest })) (omega (arith, ap length parts, length-append front back));
         }
 
+-- so many bytes, and two numbers after them
+module _ (Within : Hand → Type 0) (skip : ℕ) (others : ℕ → ℕ → Pass) where
+  abbrev pub pass_pair : Pass
+  pass_pair = pass_number w32 (λ one. pass_number w32 (others one))
+
+  no_pair : (at : ℕ) (rest : List ℕ) → length rest < 8 → pass_pair (record { at = at; rest = rest }) ≡ None
+  no_pair at rest few =
+      elim (cases_lt (length rest) 4) [
+        | inl lt ↦ no_number w32 (λ one. pass_number w32 (others one)) at rest lt
+        | inr le ↦
+            let front : List ℕ = take 4 rest in
+            let first = numbers w32 (λ one. pass_number w32 (others one)) (from_be_bytes w32 front) at front (drop 4 rest) (omega (arith, length-take 4 rest, le)) refl in
+            ap (λ (t : List ℕ). pass_pair (record { at = at; rest = t })) (sym (take-append-drop 4 rest)) ∙ first ∙ no_number w32 (others (from_be_bytes w32 front)) (at + length front) (drop 4 rest) (omega (arith, length-drop 4 rest, few, le))
+      ]
+
+  pub pair_goes : (old new : Hand) (one other : ℕ) → Taken Within (skip + 8) old new → one ≡ from_be_bytes w32 (take 4 (drop (length old.bytes + skip) new.bytes)) → other ≡ last_number w32 (skip + 4) old.bytes new.bytes
+      → Goes (and_then (skip_at skip) pass_pair) (others one other) Within old new
+  pair_goes old new one other t is also_is =
+      let front : List ℕ = take skip t.piece in
+      let back : List ℕ = drop skip t.piece in
+      let a : List ℕ = take 4 back in
+      let b : List ℕ = drop 4 back in
+      let len : length back ≡ 8 = omega (arith, length-drop skip t.piece, t.length_is) in
+      let parts : t.piece ≡ front ++ (a ++ b) = sym (take-append-drop skip t.piece) ∙ ap (λ (l : List ℕ). front ++ l) (sym (take-append-drop 4 back)) in
+      let first : length front ≡ skip = omega (arith, length-take skip t.piece, t.length_is) in
+      let second : length a ≡ 4 = omega (arith, length-take 4 back, len) in
+      let third : length b ≡ 4 = omega (arith, length-drop 4 back, len) in
+      let after : drop (length old.bytes + skip) new.bytes ≡ back = ap (drop (length old.bytes + skip)) t.keeps.bytes ∙ sym (drop-drop skip (length old.bytes) (old.bytes ++ t.piece)) ∙ ap (drop skip) (drop_at old.bytes t.piece (length old.bytes) refl) in
+      let one_is : one ≡ from_be_bytes w32 a = is ∙ ap (λ (l : List ℕ). from_be_bytes w32 (take 4 l)) after in
+      let at_end : drop (length old.bytes + (skip + 4)) new.bytes ≡ b = ap (λ (n : ℕ). drop n new.bytes) (omega arith) ∙ sym (drop-drop 4 (length old.bytes + skip) new.bytes) ∙ ap (drop 4) after in
+      let other_is : other ≡ from_be_bytes w32 b = also_is ∙ ap (from_be_bytes w32) at_end in
+      record {
+        piece = t.piece;
+        keeps = t.keeps;
+        within = t.within;
+        same = λ at rest.
+            ap (λ (l : List ℕ). and_then (skip_at skip) pass_pair (record { at = at; rest = l })) (ap (λ (l : List ℕ). l ++ rest) parts ∙ append_assoc front (a ++ b) rest ∙ ap (λ (l : List ℕ). front ++ l) (append_assoc a b rest))
+            ∙ ap (λ (o : Option Place). o >>= pass_pair) (skips skip at front (a ++ (b ++ rest)) first) ∙ numbers w32 (λ n. pass_number w32 (others n)) one (at + length front) a (b ++ rest) second one_is
+            ∙ numbers w32 (others one) other ((at + length front) + length a) b rest third other_is ∙ ap (λ (n : ℕ). others one other (record { at = n; rest = rest })) (omega (arith, first, second, third, t.length_is));
+      }
+
+  pub pair_stops : (Lacks : TakeFault → Hand → ℕ → Type 0) (old new : Hand) (stop : TakeFault) → TookFewer Within Lacks (skip + 8) old new stop → Stops (and_then (skip_at skip) pass_pair) Within Lacks old new stop
+  pair_stops Lacks old new stop t = record {
+    piece = t.piece;
+    keeps = t.keeps;
+    within = t.within;
+    count = (skip + 8) - length t.piece;
+    some = omega (arith, t.fewer);
+    none = λ at rest few. too_few skip 8 pass_pair no_pair at (t.piece ++ rest) (omega (arith, few, length-append t.piece rest, t.fewer));
+    lacks = t.lacks;
+  }
+
 -- ---- so many times bytes after their length
 
-module _ (Within : Hand → Type 0) (gap : ℕ) where
+module _ (Within : Hand → Type 0) (skip gap : ℕ) where
+  abbrev whole : ℕ → Pass
+  whole count = and_then (skip_at skip) (pass_times count (pass_data gap))
+
   -- so many were passed over, but for the bytes of the last
   abbrev pub Front : Hand → Hand → ℕ → ℕ → ℕ → Type 0
-  Front old now count i last = Goes (pass_times count (pass_data gap)) (and_then (skip_at last) (pass_times (count - i) (pass_data gap))) Within old now
+  Front old now count i last = Goes (whole count) (and_then (skip_at last) (pass_times (count - i) (pass_data gap))) Within old now
 
-  pub front_none : (old : Hand) (count : ℕ) → length old.bytes ≤ old.peak → Within old → Front old old count 0 0
+  pub front_none : (old : Hand) (count : ℕ) → length old.bytes ≤ old.peak → Within old → Front old old count 0 skip
   front_none old count peak within =
-      let same : count - 0 ≡ count = omega arith in
-      let all : Pass = pass_times count (pass_data gap) in
-      goes_same Within all all all (and_then (skip_at 0) (pass_times (count - 0) (pass_data gap))) old old (λ place. refl)
-      (λ place. sym (none_skipped all place) ∙ ap (λ (n : ℕ). and_then (skip_at 0) (pass_times n (pass_data gap)) place) (sym same)) (goes_none Within all old peak within)
+      let same : count ≡ count - 0 = omega arith in
+      goes_same Within _ _ _ _ old old (λ place. refl) (λ place. ap (λ (n : ℕ). whole n place) same) (goes_none Within (whole count) old peak within)
 
   -- what comes next of those that are left
   next : (count i last : ℕ) → i < count → Same (and_then (skip_at last) (pass_times (count - i) (pass_data gap))) (and_then (and_then (skip_at (last + gap)) (pass_number w32 skip_at)) (pass_times (count - (i + 1)) (pass_data gap)))
@@ -275,16 +328,16 @@ module _ (Within : Hand → Type 0) (gap : ℕ) where
     abbrev others_left : Pass
     others_left = pass_times (count - (i + 1)) (pass_data gap)
 
-    begun : Goes (pass_times count (pass_data gap)) (and_then one_number others_left) Within old middle
+    begun : Goes (whole count) (and_then one_number others_left) Within old middle
     begun = goes_same Within _ _ _ _ old middle (λ place. refl) (next count i last lt) f
 
     pub front_more : (number : ℕ) → Taken Within ((last + gap) + 4) middle new → number ≡ last_number w32 (last + gap) middle.bytes new.bytes → Front old new count (i + 1) number
     front_more number t is = goes_then Within _ _ _ old middle new begun (goes_more Within one_number (skip_at number) others_left middle new (number_goes Within w32 (last + gap) skip_at middle new number t is))
 
-    pub front_stops : (Lacks : TakeFault → Hand → ℕ → Type 0) (stop : TakeFault) → TookFewer Within Lacks ((last + gap) + 4) middle new stop → Stops (pass_times count (pass_data gap)) Within Lacks old new stop
+    pub front_stops : (Lacks : TakeFault → Hand → ℕ → Type 0) (stop : TakeFault) → TookFewer Within Lacks ((last + gap) + 4) middle new stop → Stops (whole count) Within Lacks old new stop
     front_stops Lacks stop t = stops_then Within Lacks _ _ old middle new stop begun (stops_more Within Lacks one_number others_left middle new stop (number_stops Within Lacks w32 (last + gap) skip_at middle new stop t))
 
-  pub front_all : (old now : Hand) (count i last : ℕ) → Front old now count i last → count ≤ i → Goes (pass_times count (pass_data gap)) (skip_at last) Within old now
+  pub front_all : (old now : Hand) (count i last : ℕ) → Front old now count i last → count ≤ i → Goes (whole count) (skip_at last) Within old now
   front_all old now count i last f le =
       let none : count - i ≡ 0 = omega (arith, le) in
       goes_same Within _ _ _ _ old now (λ place. refl) (λ place. ap (λ (n : ℕ). and_then (skip_at last) (pass_times n (pass_data gap)) place) none ∙ nothing_then (skip_at last) place) f

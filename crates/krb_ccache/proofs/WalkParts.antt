@@ -1,5 +1,5 @@
 -- How a walk goes over the parts of a cache.
-use Rattle.std.proofs.Common.{◌≡◌, ℕ, zero, suc, ◌+◌, ℤ, Bool, true, false, cond, List, ◌∷◌, Option, Some, None, Result, refl, sym, ap, subst, ◌∙◌, arith}
+use Rattle.std.proofs.Common.{◌≡◌, ℕ, zero, suc, ◌+◌, ℤ, Bool, true, false, cond, List, ◌∷◌, Option, Some, None, Result, refl, sym, ap, ◌∙◌}
 use Rattle.std.specs.Prelude.{is_some}
 use Rattle.std.specs.Int.{Width, w8, w16, w32, byte_len, from_be_bytes, cast_signed}
 use Rattle.krb_name.specs.Cursor.{Place, ◌>>=◌, bytes_at, number_at, signed_at, data_at, times_at}
@@ -10,7 +10,7 @@ use Rattle.krb_ccache.specs.declared.credential.Credential.{Credential}
 use Rattle.krb_ccache.specs.Format.{second_size}
 use Rattle.krb_ccache.specs.Inner.Reading.{both_at, made_at, passing_at, name_at, flag_of, flag_at, typed_of, typed_at, list_at, tail_at, credential_of, parts_with, parts_at, credential_at}
 use Rattle.krb_ccache.specs.Inner.Walking.{Hand, Pass, passed_at, skip_at, and_then, pass_none, pass_if, pass_number, pass_times, pass_data, pass_credential, is_flag, Goes, Stops, IsWalk, Taken, TookFewer, IsTaken, last_number}
-use Rattle.krb_ccache.proofs.WalkLaws.{Same, also, grouped, same_both, same_then, none_skipped, skip_more, goes_same, goes_then, goes_more, goes_if, stops_same, stops_then, stops_more, stops_if, walk_same, walk_then, bytes_walk, number_goes, number_stops}
+use Rattle.krb_ccache.proofs.WalkLaws.{Same, also, grouped, same_both, same_then, none_skipped, skip_more, goes_same, goes_then, goes_more, goes_if, stops_same, stops_then, stops_more, stops_if, walk_same, walk_then, bytes_walk, number_goes, number_stops, pair_stops}
 
 -- ---- what is passed over of what is read
 
@@ -101,13 +101,16 @@ times_passed {X} read p e (suc count) place = from_first (read place) ∙ same_b
 
 -- ---- the parts
 
+abbrev pub from_realm : ℕ → ℕ → Pass
+from_realm count realm = and_then (skip_at realm) (pass_times count (pass_data 0))
+
 abbrev from_count : ℕ → Pass
-from_count count = pass_times (suc count) (pass_data 0)
+from_count count = pass_number w32 (from_realm count)
 
 strings_passed : (count : ℕ) → Same (and_then (passed_at (data_at w32)) (passed_at (times_at (data_at w32) count))) (from_count count)
 strings_passed count =
     let one = also _ _ _ (data_passed w32) (λ place. sym (none_skipped (pass_number w32 skip_at) place)) in
-    same_both (passed_at (data_at w32)) (pass_data 0) _ _ one (times_passed (data_at w32) (pass_data 0) one count)
+    also _ _ _ (same_both (passed_at (data_at w32)) (pass_number w32 skip_at) _ _ (data_passed w32) (times_passed (data_at w32) (pass_data 0) one count)) (number_grouped w32 skip_at (pass_times count (pass_data 0)))
 
 abbrev named : ℤ → List ℕ → List (List ℕ) × Place → Option (Principal × Place)
 named t realm components = Some (record { realm = realm; name_type = t; components = components.0 }, components.1)
@@ -116,13 +119,13 @@ name_passed : Same (passed_at name_at) (and_then (skip_at 4) (pass_number w32 fr
 unfolding name_at
 name_passed place = from_type (signed_at w32 place) ∙ same_both (passed_at (signed_at w32)) (skip_at 4) _ _ (signed_passed w32) (number_same w32 _ from_count strings_passed) place
   where
-    from_realm : (t : ℤ) (realm : List ℕ) (o : Option (List (List ℕ) × Place)) → ((o >>= named t realm) >>= behind) ≡ (o >>= behind)
-    from_realm t realm None = refl
-    from_realm t realm (Some components) = refl
+    from_strings : (t : ℤ) (realm : List ℕ) (o : Option (List (List ℕ) × Place)) → ((o >>= named t realm) >>= behind) ≡ (o >>= behind)
+    from_strings t realm None = refl
+    from_strings t realm (Some components) = refl
 
     from_components : (t : ℤ) (count : ℕ) (o : Option (List ℕ × Place)) → ((o >>= λ realm. times_at (data_at w32) count realm.1 >>= named t realm.0) >>= behind) ≡ ((o >>= behind) >>= passed_at (times_at (data_at w32) count))
     from_components t count None = refl
-    from_components t count (Some realm) = from_realm t realm.0 (times_at (data_at w32) count realm.1)
+    from_components t count (Some realm) = from_strings t realm.0 (times_at (data_at w32) count realm.1)
 
     from_head : (t : ℤ) (o : Option (ℕ × Place)) → ((o >>= λ count. data_at w32 count.1 >>= λ realm. times_at (data_at w32) count.0 realm.1 >>= named t realm.0) >>= behind)
         ≡ (o >>= λ count. and_then (passed_at (data_at w32)) (passed_at (times_at (data_at w32) count.0)) count.1)
@@ -271,15 +274,12 @@ module _ (Within : Hand → Type 0) (Lacks : TakeFault → Hand → ℕ → Type
   name_same : (skip : ℕ) → Same (and_then (skip_at skip) name_pass) (name_start skip)
   name_same skip = also _ _ _ (same_then (skip_at skip) name_pass _ name_passed) (skip_more skip 4 (pass_number w32 from_count))
 
-  pub name_first : (skip : ℕ) (old new : Hand) (stop : TakeFault) → TookFewer Within Lacks ((skip + 4) + 4) old new stop → Stops (and_then (skip_at skip) name_pass) Within Lacks old new stop
-  name_first skip old new stop t = stops_same Within Lacks _ _ old new stop (name_same skip) (number_stops Within Lacks w32 (skip + 4) from_count old new stop t)
+  pub name_first : (skip : ℕ) (old new : Hand) (stop : TakeFault) → TookFewer Within Lacks ((skip + 4) + 8) old new stop → Stops (and_then (skip_at skip) name_pass) Within Lacks old new stop
+  name_first skip old new stop t = stops_same Within Lacks _ _ old new stop (name_same skip) (pair_stops Within (skip + 4) from_realm Lacks old new stop t)
 
-  pub name_then : (skip : ℕ) (old middle new : Hand) (count many : ℕ) (result : Result ℕ TakeFault) → Taken Within ((skip + 4) + 4) old middle → count ≡ last_number w32 (skip + 4) old.bytes middle.bytes → many ≡ count + 1
-      → IsWalk (pass_times many (pass_data 0)) skip_at Within Lacks middle new result → IsWalk (and_then (skip_at skip) name_pass) skip_at Within Lacks old new result
-  name_then skip old middle new count many result t is more h =
-      let one : many ≡ suc count = omega (arith, more) in
-      walk_same Within Lacks _ _ _ old new result (name_same skip)
-      (walk_then Within Lacks _ (from_count count) _ old middle new result (number_goes Within w32 (skip + 4) from_count old middle count t is) (subst (λ (n : ℕ). IsWalk (pass_times n (pass_data 0)) skip_at Within Lacks middle new result) one h))
+  pub name_then : (skip : ℕ) (old middle new : Hand) (count realm : ℕ) (result : Result ℕ TakeFault) → Goes (and_then (skip_at (skip + 4)) (pass_number w32 from_count)) (from_realm count realm) Within old middle
+      → IsWalk (from_realm count realm) skip_at Within Lacks middle new result → IsWalk (and_then (skip_at skip) name_pass) skip_at Within Lacks old new result
+  name_then skip old middle new count realm result g h = walk_same Within Lacks _ _ _ old new result (name_same skip) (walk_then Within Lacks _ (from_realm count realm) _ old middle new result g h)
 
   list_same : (skip : ℕ) → Same (and_then (skip_at skip) list_pass) (and_then (skip_at skip) (pass_number w32 from_length))
   list_same skip = same_then (skip_at skip) list_pass _ list_passed
@@ -287,10 +287,10 @@ module _ (Within : Hand → Type 0) (Lacks : TakeFault → Hand → ℕ → Type
   pub list_first : (skip : ℕ) (old new : Hand) (stop : TakeFault) → TookFewer Within Lacks (skip + 4) old new stop → Stops (and_then (skip_at skip) list_pass) Within Lacks old new stop
   list_first skip old new stop t = stops_same Within Lacks _ _ old new stop (list_same skip) (number_stops Within Lacks w32 skip from_length old new stop t)
 
-  pub list_then : (skip : ℕ) (old middle new : Hand) (count : ℕ) (result : Result ℕ TakeFault) → Taken Within (skip + 4) old middle → count ≡ last_number w32 skip old.bytes middle.bytes → IsWalk (pass_times count (pass_data 2)) skip_at Within Lacks middle new result
+  pub list_then : (skip : ℕ) (old middle new : Hand) (count : ℕ) (result : Result ℕ TakeFault) → Taken Within (skip + 4) old middle → count ≡ last_number w32 skip old.bytes middle.bytes → IsWalk (and_then (skip_at 0) (from_length count)) skip_at Within Lacks middle new result
       → IsWalk (and_then (skip_at skip) list_pass) skip_at Within Lacks old new result
   list_then skip old middle new count result t is h =
-      walk_same Within Lacks _ _ _ old new result (list_same skip) (walk_then Within Lacks _ (from_length count) _ old middle new result (number_goes Within w32 skip from_length old middle count t is) h)
+      walk_same Within Lacks _ _ _ old new result (list_same skip) (walk_then Within Lacks _ (from_length count) _ old middle new result (number_goes Within w32 skip from_length old middle count t is) (walk_same Within Lacks _ _ _ middle new result (λ place. sym (none_skipped (from_length count) place)) h))
 
   -- a whole part, of which the last bytes were to come
   pub whole_then : {T : Type 0} (p : Pass) (old middle new : Hand) (last : ℕ) (result : Result T TakeFault) → Goes p (skip_at last) Within old middle → IsTaken Within Lacks last middle new result → IsWalk p (λ x. pass_none) Within Lacks old new result

@@ -1,7 +1,7 @@
 //! Taking as many bytes as a part of a cache has, by its lengths and counts as they come. What the
 //! bytes mean doesn't matter here.
 
-ghost use Rattle.std.specs.Prelude.{◌≡◌, ◌+◌, ◌-◌, ◌<◌, ◌^◌, ℕ, Bool, length, drop, IfOk};
+ghost use Rattle.std.specs.Prelude.{◌≡◌, ◌+◌, ◌-◌, ◌<◌, ◌^◌, ℕ, Bool, length, take, drop, IfOk};
 ghost use Rattle.std.specs.Int.{w8, w16, w32, from_be_bytes};
 ghost use Rattle.krb_name.specs.Cursor.{data_at};
 ghost use Rattle.krb_ccache.specs.Inner.Reading.{name_at, list_at, tail_at};
@@ -133,21 +133,40 @@ fn take_u32<T: Taker>(taker: &mut T, skip: usize) -> Result<u32, TakeFault>
     Ok(u32_at(taker.taken(), at + skip))
 }
 
+// Two numbers, one right after the other.
+fn take_pair<T: Taker>(taker: &mut T, skip: usize) -> Result<(u32, u32), TakeFault>
+    requires few { skip < 2 ^ 33 }
+    requires reads { T.failures taker.old < 2 ^ 64 - 1 }
+    requires within { T.Within (T.hand taker.old) }
+    ensures taken { IsTaken T.Within T.Lacks (skip + 8) (T.hand taker.old) (T.hand taker.new) result }
+    ensures first { IfOk result (λ pair. pair.0
+        ≡ from_be_bytes w32 (take 4 (drop (length (T.hand taker.old).bytes + skip) (T.hand taker.new).bytes))) }
+    ensures second { IfOk result (λ pair.
+        pair.1 ≡ last_number w32 (skip + 4) (T.hand taker.old).bytes (T.hand taker.new).bytes) }
+    ensures failed { T.failures taker.new ≡ T.failures taker.old + stopped_reads result }
+    ensures lent { T.lender taker.new ≡ T.lender taker.old }
+{
+    let at = taker.taken().len() + skip;
+    taker.take(skip + 8)?;
+    let taken = taker.taken();
+    Ok((u32_at(&taken[at..at + 4], 0), u32_at(taken, at + 4)))
+}
+
 // Each of these calls takes the bytes of a part but for the last of them, which have a length of
 // their own, and returns that length. It takes as many bytes first as a call before it returned.
 
 // So many times a gap of bytes, and bytes after their length.
-fn take_many<T: Taker>(taker: &mut T, gap: usize, count: u64) -> Result<u32, TakeFault>
+fn take_many<T: Taker>(taker: &mut T, skip: u32, gap: usize, count: u32) -> Result<u32, TakeFault>
     requires few { gap < 2 ^ 32 }
     requires reads { T.failures taker.old < 2 ^ 64 - 1 }
     requires within { T.Within (T.hand taker.old) }
-    ensures walk { IsWalk (pass_times count (pass_data gap)) skip_at T.Within T.Lacks
-        (T.hand taker.old) (T.hand taker.new) result }
+    ensures walk { IsWalk (and_then (skip_at skip) (pass_times count (pass_data gap))) skip_at
+        T.Within T.Lacks (T.hand taker.old) (T.hand taker.new) result }
     ensures failed { T.failures taker.new ≡ T.failures taker.old + stopped_reads result }
     ensures lent { T.lender taker.new ≡ T.lender taker.old }
 {
     let _taken = taker.taken();
-    let mut last = 0;
+    let mut last = skip;
     for _ in 0..count {
         last = take_u32(taker, last as usize + gap)?;
     }
@@ -162,8 +181,8 @@ fn take_name<T: Taker>(taker: &mut T, skip: u32) -> Result<u32, TakeFault>
     ensures failed { T.failures taker.new ≡ T.failures taker.old + stopped_reads result }
     ensures lent { T.lender taker.new ≡ T.lender taker.old }
 {
-    let count = take_u32(taker, skip as usize + NAME_TYPE)?;
-    take_many(taker, 0, u64::from(count) + 1)
+    let (count, realm) = take_pair(taker, skip as usize + NAME_TYPE)?;
+    take_many(taker, realm, 0, count)
 }
 
 fn take_list<T: Taker>(taker: &mut T, skip: usize) -> Result<u32, TakeFault>
@@ -176,7 +195,7 @@ fn take_list<T: Taker>(taker: &mut T, skip: usize) -> Result<u32, TakeFault>
     ensures lent { T.lender taker.new ≡ T.lender taker.old }
 {
     let count = take_u32(taker, skip)?;
-    take_many(taker, KIND, u64::from(count))
+    take_many(taker, 0, KIND, count)
 }
 
 // Each of these calls takes all bytes of a part.

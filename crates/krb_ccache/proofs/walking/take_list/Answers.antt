@@ -5,7 +5,7 @@ use Rattle.krb_ccache.proofs.walking.take_list.Goals as goal
 pub returns-clause-walk : goal.returns-clause-walk
 returns-clause-walk g c =
     let hand = g.T.Taker.hand in
-    list_then g.T.Taker.Within g.T.Taker.Lacks c.args.skip (hand c.args.taker.now) (hand c.take_u32.new.taker) (hand c.take_many.new.taker) c.in_ok-count.count c.take_many.result c.in_ok-count.ensures.taken c.in_ok-count.ensures.number (rw c.from.ensures at c.take_many.ensures.walk)
+    list_then g.T.Taker.Within g.T.Taker.Lacks c.args.skip (hand c.args.taker.now) (hand c.take_u32.new.taker) (hand c.take_many.new.taker) c.in_ok-count.count c.take_many.result c.in_ok-count.ensures.taken c.in_ok-count.ensures.number c.take_many.ensures.walk
 
 pub returns-in_err-count-clause-walk : goal.returns-in_err-count-clause-walk
 returns-in_err-count-clause-walk g c =
