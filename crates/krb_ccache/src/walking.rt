@@ -152,8 +152,9 @@ fn take_pair<T: Taker>(taker: &mut T, skip: usize) -> Result<(u32, u32), TakeFau
     Ok((u32_at(&taken[at..at + 4], 0), u32_at(taken, at + 4)))
 }
 
-// Each of these calls takes the bytes of a part but for the last of them, which have a length of
-// their own, and returns that length. It takes as many bytes first as a call before it returned.
+// Each of these calls takes a part except for its last bytes, and returns how many these are: they
+// are taken together with what comes after them. First it takes the `skip` bytes that the part
+// before it left.
 
 // So many times a gap of bytes, and bytes after their length.
 fn take_many<T: Taker>(taker: &mut T, skip: u32, gap: usize, count: u32) -> Result<u32, TakeFault>
