@@ -17,8 +17,8 @@
  *    call may write to the handle, too. So put a lock around calls that share a handle, and never
  *    define a handle as const. Any thread may make a call. Two handles share nothing, in one
  *    process or in two. After a fork, the child must not use its copies.
- *  - Pointers are valid. Only a pointer to bytes whose size is 0 may be NULL (this is tested, not
- *    proved).
+ *  - Pointers are valid. A pointer to bytes whose size is 0 isn't read: it may be NULL (this is
+ *    tested, not proved), or point anywhere.
  *  - What a call writes to (its handle, its buffer, its other results) overlaps nothing else that
  *    the call is given.
  *  - A bool is 0 or 1. Sizes are at most PTRDIFF_MAX.
@@ -136,7 +136,7 @@ typedef enum fevstunik_code {
     FEVSTUNIK_TEXT_SHORT = 800,     /* the text has fewer bytes than a sealed empty text: 32 (type 19) or 40 (type 20) */
     FEVSTUNIK_TEXT_INTEGRITY = 801, /* the tag is wrong */
     FEVSTUNIK_BAD_TEXT = 810,       /* the text isn't a valid name; `at` is the place of the fault */
-    FEVSTUNIK_NO_REALM = 811,       /* the text has no `@` without a backslash before it */
+    FEVSTUNIK_NO_REALM = 811,       /* the text has no unescaped `@` */
     FEVSTUNIK_NOT_UTF8 = 812,       /* the text isn't UTF-8 */
 
     /* Why bytes aren't a GSS-API token, or the checksum of a GSS-API client. */
@@ -282,7 +282,7 @@ static inline const char *fevstunik_code_text(uint32_t code)
     case FEVSTUNIK_TEXT_SHORT: return "the text has fewer bytes than a sealed empty text: 32 (type 19) or 40 (type 20)";
     case FEVSTUNIK_TEXT_INTEGRITY: return "the tag is wrong";
     case FEVSTUNIK_BAD_TEXT: return "the text isn't a valid name; `at` is the place of the fault";
-    case FEVSTUNIK_NO_REALM: return "the text has no `@` without a backslash before it";
+    case FEVSTUNIK_NO_REALM: return "the text has no unescaped `@`";
     case FEVSTUNIK_NOT_UTF8: return "the text isn't UTF-8";
     case FEVSTUNIK_NOT_A_TOKEN: return "the first byte isn't that of a token";
     case FEVSTUNIK_TOKEN_MALFORMED: return "the bytes aren't a token; `at` is the place of the fault";
@@ -906,8 +906,9 @@ void fevstunik_acceptor_free(fevstunik_acceptor *handle);
 /* Builds a request (the bytes of an AP-REQ) for a service from the first credential of a cache that
  * fits. A credential fits if it is a ticket of the default principal for the service, has a usable
  * session key, and ends after `at`, the time of the client's clock. `service` has the service's
- * name as text, such as host/web@EX. `confounder` is 16 random bytes, new for each call. `subkey`
- * has the bytes of the subkey whose type is in `choice`. If that type is 0, they are ignored.
+ * name as text, such as host/web@EX. `confounder` is 16 random bytes, new for each request (a
+ * repeat for a longer buffer keeps it). `subkey` has the bytes of the subkey whose type is in
+ * `choice`. If that type is 0, they are ignored.
  *
  * Keeps what is needed to read the reply in the handle `pending`, even if the buffer is too short.
  * What that handle held is freed. The cache's handle keeps the keys that were derived, so later

@@ -142,7 +142,7 @@ _TEXTS = {
     Code.TEXT_SHORT: "the text has fewer bytes than a sealed empty text: 32 (type 19) or 40 (type 20)",
     Code.TEXT_INTEGRITY: "the tag is wrong",
     Code.BAD_TEXT: "the text isn't a valid name; `at` is the place of the fault",
-    Code.NO_REALM: "the text has no `@` without a backslash before it",
+    Code.NO_REALM: "the text has no unescaped `@`",
     Code.NOT_UTF8: "the text isn't UTF-8",
     Code.NOT_A_TOKEN: "the first byte isn't that of a token",
     Code.TOKEN_MALFORMED: "the bytes aren't a token; `at` is the place of the fault",

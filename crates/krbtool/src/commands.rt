@@ -21,7 +21,7 @@ macro_rules! with_statuses {
             $text,
             "\n\nExit status: 0 success; 1 ",
             $refused,
-            "; 2 the command line is wrong or couldn't be taken; 3 something can't be opened, read or written, or memory ran out"
+            "; 2 the command line is wrong, or memory ran out while it was read; 3 something can't be opened, read or written, or memory ran out"
         )
     };
 }
@@ -172,7 +172,7 @@ static COMMANDS: [Row<'static>; 12] = [
             Argument(
                 "service",
                 Free,
-                "The name that errors contain; without it, no errors are printed. It doesn't affect which requests are accepted (see --only)",
+                "The service's name for the KRB-ERRORs that answer refused requests; without it, none are printed. It doesn't affect which requests are accepted (see --only)",
             ),
             Argument(
                 "only",
