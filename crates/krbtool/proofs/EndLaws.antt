@@ -1,5 +1,5 @@
 -- How `accept` ends.
-use Rattle.std.proofs.Common.{◌≡◌, inl, inr, ℕ, ℤ, max, List, [], ◌∷◌, ◌++◌, Option, Some, None, length, ap, sym, refl, ◌∙◌, subst, append_assoc, append-nil, arith, ◌<◌}
+use Rattle.std.proofs.Common.{◌≡◌, inl, inr, ℕ, ℤ, List, [], ◌∷◌, ◌++◌, Option, Some, None, length, ap, sym, refl, ◌∙◌, subst, append_assoc, append-nil, arith, ◌<◌}
 use Rattle.std.specs.Io.KnownBytes.{Consumes, IsAtEnd}
 use Rattle.std.proofs.KnownBytes.{Appends-nil}
 use Rattle.krbtool.specs.declared.accept.AnswerOptions.{AnswerOptions}
@@ -7,6 +7,7 @@ use Rattle.krbtool.specs.declared.accept.Session.{Session}
 use Rattle.krb_replay.specs.Stamp.{Stamp}
 use Rattle.krb_ap.specs.Setup.{Setup, Arrival}
 use Rattle.krb_ap.specs.History.{StandsFor}
+use Rattle.krb_ap.specs.Service.{Service}
 use Rattle.krbtool.specs.Answering.{AnswersAll, AnswersBeginning, AnswersWhole, BecomeInTurn, HasLines, input_limit, last_line}
 use Rattle.krbtool.specs.Inner.Going.{Answered, Begun, ReachedEnd, ReachedInput, ReachedStop, Start, Stays}
 use Rattle.krbtool.proofs.GoingLaws.{all_begun, become_on, begun_on, no_lines, printed_on, status_on}
@@ -46,11 +47,11 @@ stands_by : {here setup : Setup} {Has : Stamp → Type 0} {latest : Option ℤ} 
     → StandsFor setup Has latest history
 stands_by {Has = Has} {latest = latest} {history = history} is stands = subst (λ (s : Setup). StandsFor s Has latest history) is stands
 
-module _ {M : Type 0} {has : M → Stamp → Type 0} {newest : M → Option ℤ} {start : Start} {from to : Option (List ℕ)} {session : Session M}
-    {taken : Option (List ℕ)} {input : List ℕ} (tells : from ≡ Some input) where
+module _ {M : Type 0} {has : M → Stamp → Type 0} {newest : M → Option ℤ} {start : Start} {from to : Option (List ℕ)} {session : Session}
+    {service : Service M} {taken : Option (List ℕ)} {input : List ℕ} (tells : from ≡ Some input) where
   -- ---- at the end of the source
 
-  module _ (ended : ReachedEnd has newest start from to session taken) where
+  module _ (ended : ReachedEnd has newest start from to session service taken) where
     input_parts : HasLines input ended.reached.going.lines ended.reached.going.rest
     input_parts = subst (λ (i : List ℕ). HasLines i ended.reached.going.lines ended.reached.going.rest)
         (sym (all_by input ended.reached.came from to tells ended.reached.consumed ended.end)) ended.reached.going.parts
@@ -60,7 +61,7 @@ module _ {M : Type 0} {has : M → Stamp → Type 0} {newest : M → Option ℤ}
 
     -- there is no last line
     pub all_answered : ended.reached.going.rest ≡ [] → AnswersAll start.options start.setup start.history input session.status start.taken taken
-        (has session.acceptor.now.memory) (newest session.acceptor.now.memory)
+        (has service.memory) (newest service.memory)
     all_answered none = record {
       lines = ended.reached.going.lines;
       rest = ended.reached.going.rest;
@@ -76,9 +77,9 @@ module _ {M : Type 0} {has : M → Stamp → Type 0} {newest : M → Option ℤ}
     }
 
     -- the last line was answered
-    pub last_answered : {new : Session M} {last : Option (List ℕ)} → (ended.reached.going.rest ≡ [] → ⊥) → Stays session new
-        → Answered has newest session new ended.reached.going.end ended.reached.going.rest taken last
-        → AnswersAll start.options start.setup start.history input new.status start.taken last (has new.acceptor.now.memory) (newest new.acceptor.now.memory)
+    pub last_answered : {new : Session} {next : Service M} {last : Option (List ℕ)} → (ended.reached.going.rest ≡ [] → ⊥) → Stays session new service next
+        → Answered has newest session new service next ended.reached.going.end ended.reached.going.rest taken last
+        → AnswersAll start.options start.setup start.history input new.status start.taken last (has next.memory) (newest next.memory)
     last_answered {last = last} some stays one = record {
       lines = ended.reached.going.lines;
       rest = ended.reached.going.rest;
@@ -95,9 +96,9 @@ module _ {M : Type 0} {has : M → Stamp → Type 0} {newest : M → Option ℤ}
     }
 
     -- it wasn't, or not whole
-    pub last_begun : {new : Session M} {last : Option (List ℕ)} → (ended.reached.going.rest ≡ [] → ⊥) → Stays session new
-        → Begun has newest session new ended.reached.going.end ended.reached.going.rest taken last
-        → AnswersBeginning start.options start.setup start.history input start.taken last (has new.acceptor.now.memory) (newest new.acceptor.now.memory)
+    pub last_begun : {new : Session} {next : Service M} {last : Option (List ℕ)} → (ended.reached.going.rest ≡ [] → ⊥) → Stays session new service next
+        → Begun has newest session.options service next ended.reached.going.end ended.reached.going.rest taken last
+        → AnswersBeginning start.options start.setup start.history input start.taken last (has next.memory) (newest next.memory)
     last_begun some stays begun = record {
       taken = ended.reached.going.lines ++ begun.lines;
       outcomes = ended.reached.going.outcomes ++ begun.outcomes;
@@ -121,9 +122,9 @@ module _ {M : Type 0} {has : M → Stamp → Type 0} {newest : M → Option ℤ}
 
   -- ---- before the end
 
-  pub whole_answered : {old_failures new_failures : ℕ} → ReachedInput has newest start from to old_failures new_failures session taken
+  pub whole_answered : {old_failures new_failures : ℕ} → ReachedInput has newest start from to old_failures new_failures session service taken
       → AnswersWhole start.options start.setup start.history input to old_failures new_failures start.taken taken
-      (has session.acceptor.now.memory) (newest session.acceptor.now.memory)
+      (has service.memory) (newest service.memory)
   whole_answered stops =
       let rest = left_by input stops.reached.came from to tells stops.reached.consumed in
       record {
@@ -142,27 +143,28 @@ module _ {M : Type 0} {has : M → Stamp → Type 0} {newest : M → Option ℤ}
         stands = stands_by stops.reached.going.setup_is stops.reached.going.stands;
       }
 
-  pub stop_begun : ReachedStop has newest start from to session taken
-      → AnswersBeginning start.options start.setup start.history input start.taken taken (has session.acceptor.now.memory) (newest session.acceptor.now.memory)
-  stop_begun stops =
-      let rest = left_by input stops.came from to tells stops.consumed in
-      record {
-        taken = stops.stopped.lines;
-        outcomes = stops.stopped.outcomes;
-        end = stops.stopped.end;
-        takes = record {
-          came = stops.stopped.first;
-          left = stops.stopped.left ++ rest.left;
-          lines = stops.stopped.lines;
-          rest = stops.stopped.rest;
-          input_is = rest.input_is ∙ ap (λ (l : List ℕ). l ++ rest.left) stops.stopped.came_is ∙ append_assoc stops.stopped.first stops.stopped.left rest.left;
-          parts = stops.stopped.parts;
-          taken_are = inl refl;
-        };
-        become = stops.stopped.become;
-        printed = stops.stopped.printed;
-        stands = stands_by stops.stopped.setup_is stops.stopped.stands;
-      }
+pub stop_begun : {M : Type 0} {has : M → Stamp → Type 0} {newest : M → Option ℤ} {start : Start} {from to : Option (List ℕ)} {service : Service M}
+    {taken : Option (List ℕ)} {input : List ℕ} → from ≡ Some input → ReachedStop has newest start from to service taken
+    → AnswersBeginning start.options start.setup start.history input start.taken taken (has service.memory) (newest service.memory)
+stop_begun {from = from} {to = to} {input = input} tells stops =
+    let rest = left_by input stops.came from to tells stops.consumed in
+    record {
+      taken = stops.stopped.lines;
+      outcomes = stops.stopped.outcomes;
+      end = stops.stopped.end;
+      takes = record {
+        came = stops.stopped.first;
+        left = stops.stopped.left ++ rest.left;
+        lines = stops.stopped.lines;
+        rest = stops.stopped.rest;
+        input_is = rest.input_is ∙ ap (λ (l : List ℕ). l ++ rest.left) stops.stopped.came_is ∙ append_assoc stops.stopped.first stops.stopped.left rest.left;
+        parts = stops.stopped.parts;
+        taken_are = inl refl;
+      };
+      become = stops.stopped.become;
+      printed = stops.stopped.printed;
+      stands = stands_by stops.stopped.setup_is stops.stopped.stands;
+    }
 
 pub none_begun : (options : AnswerOptions) (setup : Setup) (history : List Arrival) (known : Option (List ℕ)) (Has : Stamp → Type 0) (latest : Option ℤ) (input : List ℕ)
     → StandsFor setup Has latest history → AnswersBeginning options setup history input known known Has latest

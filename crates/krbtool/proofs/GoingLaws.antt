@@ -2,7 +2,7 @@
 use Rattle.std.proofs.Common.{◌≡◌, ◌≢◌, ℕ, ℤ, inl, inr, max, List, [], ◌∷◌, ◌++◌, Option, length, take, ap, sym, refl, ◌∙◌, subst, append_assoc, append-nil, All, arith, ◌+◌, ◌≤◌, suc, zero}
 use Rattle.std.specs.List.{flat_map}
 use Rattle.std.specs.Io.KnownBytes.{Appends, Consumes, Keeps}
-use Rattle.std.proofs.KnownBytes.{Appends-nil, Appends-trans, Consumes-nil, Consumes-trans, Consumes-kept}
+use Rattle.std.proofs.KnownBytes.{Appends-nil, Appends-trans, Consumes-trans, Consumes-kept}
 use Rattle.std.proofs.lemmas.Grind.{flat_map-append}
 use Rattle.std.proofs.lemmas.List.Concat.{flat_map-cons}
 use Rattle.std.proofs.lemmas.List.{length-append, length-take}
@@ -11,7 +11,7 @@ use Rattle.krb_name.specs.File.{TakesAtMost}
 use Rattle.krb_name.specs.Flow.{AppendsBeginning}
 use Rattle.krb_replay.specs.Stamp.{Stamp}
 use Rattle.krb_ap.specs.Setup.{Setup, Arrival}
-use Rattle.krb_ap.specs.Service.{Stands}
+use Rattle.krb_ap.specs.Service.{Service, Stands}
 use Rattle.krbtool.specs.Answering.{BecomeInTurn, Came, HasLines, PrintsBeginning, answer_line, answer_lines, ended, input_limit, outcome_status, status_of_lines}
 use Rattle.krbtool.specs.Inner.Held.{Holds}
 use Rattle.krbtool.specs.Inner.Going.{Answered, BecomesOf, Begun, Going, Reached, ReachedStop, Start, Stays, Stopped}
@@ -104,28 +104,18 @@ begun_more old mid new outcomes others printed begun =
           (Appends-trans old mid new (answer_lines outcomes) (answer_lines begun.whole ++ next) printed begun.printed);
     }
 
-pub stays_on : {M : Type 0} {old mid new : Session M} → Stays old mid → Stays mid new → Stays old new
-stays_on first next = record {
-  same_reference = next.same_reference ∙ first.same_reference;
-  setup = next.setup ∙ first.setup;
-  options = next.options ∙ first.options;
+pub stays_on : {M : Type 0} {old mid new : Session} {service then next : Service M} → Stays old mid service then → Stays mid new then next
+    → Stays old new service next
+stays_on first second = record {
+  setup = second.setup ∙ first.setup;
+  options = second.options ∙ first.options;
 }
 
 module _ {M : Type 0} {has : M → Stamp → Type 0} {newest : M → Option ℤ} where
   -- ---- a line
 
-  pub answered_by : {old next new : Session M} {history : List Arrival} {line : List ℕ} {Old New : Option (List ℕ)} (outcome : LineOutcome)
-      → BecomesOf has newest old next history line outcome → next.acceptor ≡ new.acceptor → Appends Old New (answer_line outcome)
-      → new.status ≡ max old.status (outcome_status outcome) → Answered has newest old new history line Old New
-  answered_by outcome of_line same printed status_is = record {
-    outcome = outcome;
-    of_line = record { end = of_line.end; becomes = of_line.becomes; stands = subst (λ a. Stands has newest a.now of_line.end) same of_line.stands };
-    printed = printed;
-    status_is = status_is;
-  }
-
-  pub none_begun : {old new : Session M} {history : List Arrival} {line : List ℕ} {known : Option (List ℕ)} → Stands has newest new.acceptor.now history
-      → Begun has newest old new history line known known
+  pub none_begun : {options : AnswerOptions} {service next : Service M} {history : List Arrival} {line : List ℕ} {known : Option (List ℕ)}
+      → Stands has newest next history → Begun has newest options service next history line known known
   none_begun {history = history} {known = known} stands = record {
     lines = [];
     lines_are = inl refl;
@@ -136,8 +126,9 @@ module _ {M : Type 0} {has : M → Stamp → Type 0} {newest : M → Option ℤ}
     stands = stands;
   }
 
-  pub line_begun : {old new : Session M} {history : List Arrival} {line : List ℕ} {Old New : Option (List ℕ)} {outcome : LineOutcome}
-      → BecomesOf has newest old new history line outcome → AppendsBeginning Old New (answer_line outcome) → Begun has newest old new history line Old New
+  pub line_begun : {options : AnswerOptions} {service next : Service M} {history : List Arrival} {line : List ℕ} {Old New : Option (List ℕ)}
+      {outcome : LineOutcome} → BecomesOf has newest options service next history line outcome → AppendsBeginning Old New (answer_line outcome)
+      → Begun has newest options service next history line Old New
   line_begun {line = line} {Old = Old} {New = New} {outcome = outcome} of_line begun = record {
     lines = line ∷ [];
     lines_are = inr refl;
@@ -150,10 +141,10 @@ module _ {M : Type 0} {has : M → Stamp → Type 0} {newest : M → Option ℤ}
 
   -- ---- going on
 
-  pub going_start : (options : AnswerOptions) (history : List Arrival) (session : Session M) (known : Option (List ℕ)) → Holds session.part [] → session.status ≡ 0
-      → session.options ≡ options → Stands has newest session.acceptor.now history
-      → Going has newest (record { options = options; setup = session.acceptor.now.setup; history = history; taken = known }) [] session known
-  going_start options history session known holds status_is options_are stands = record {
+  pub going_start : (history : List Arrival) (session : Session) (service : Service M) (known : Option (List ℕ)) → Holds session.part [] → session.status ≡ 0
+      → Stands has newest service history
+      → Going has newest (record { options = session.options; setup = service.setup; history = history; taken = known }) [] session service known
+  going_start history session service known holds status_is stands = record {
     rest = [];
     holds = holds;
     lines = [];
@@ -165,12 +156,13 @@ module _ {M : Type 0} {has : M → Stamp → Type 0} {newest : M → Option ℤ}
     status_is = status_is;
     stands = stands;
     setup_is = refl;
-    options_are = options_are;
+    options_are = refl;
   }
 
-  module _ {start : Start} {came : List ℕ} {old : Session M} {mid : Option (List ℕ)} (going : Going has newest start came old mid) where
+  module _ {start : Start} {came : List ℕ} {old : Session} {service : Service M} {mid : Option (List ℕ)}
+      (going : Going has newest start came old service mid) where
     pub become_on : (lines : List (List ℕ)) (outcomes : List LineOutcome) (end : List Arrival)
-        → BecomeInTurn old.options old.acceptor.now.setup going.end lines outcomes end
+        → BecomeInTurn old.options service.setup going.end lines outcomes end
         → BecomeInTurn start.options start.setup start.history (going.lines ++ lines) (going.outcomes ++ outcomes) end
     become_on lines outcomes end become = become_more start.options start.setup start.history going.end end going.lines lines going.outcomes outcomes going.become
         (subst (λ o. BecomeInTurn o start.setup going.end lines outcomes end) going.options_are
@@ -187,7 +179,7 @@ module _ {M : Type 0} {has : M → Stamp → Type 0} {newest : M → Option ℤ}
     status_on outcome is = omega (arith, going.status_is, is, status_push going.outcomes outcome)
 
     pub going_bytes : (part : PartLine) (bytes : List ℕ) → All (λ b. b ≢ 10) bytes → ((line : List ℕ) → Holds old.part line → Holds part (line ++ bytes))
-        → Going has newest start (came ++ bytes) (record old { part = part }) mid
+        → Going has newest start (came ++ bytes) (record old { part = part }) service mid
     going_bytes part bytes others held = record {
       rest = going.rest ++ bytes;
       holds = held going.rest going.holds;
@@ -203,8 +195,9 @@ module _ {M : Type 0} {has : M → Stamp → Type 0} {newest : M → Option ℤ}
       options_are = going.options_are;
     }
 
-    pub going_line : {new : Session M} {taken : Option (List ℕ)} (part : PartLine) → Holds part [] → Stays old new → Answered has newest old new going.end going.rest mid taken
-        → Going has newest start (came ++ 10 ∷ []) (record new { part = part }) taken
+    pub going_line : {new : Session} {next : Service M} {taken : Option (List ℕ)} (part : PartLine) → Holds part [] → Stays old new service next
+        → Answered has newest old new service next going.end going.rest mid taken
+        → Going has newest start (came ++ 10 ∷ []) (record new { part = part }) next taken
     going_line {taken = taken} part held stays one = record {
       rest = [];
       holds = held;
@@ -222,8 +215,8 @@ module _ {M : Type 0} {has : M → Stamp → Type 0} {newest : M → Option ℤ}
 
     -- ---- stopping
 
-    pub stopped_before : (part : PartLine) (more : List ℕ) → Stopped has newest start (came ++ more) (record old { part = part }) mid
-    stopped_before part more = record {
+    pub stopped_before : (more : List ℕ) → Stopped has newest start (came ++ more) service mid
+    stopped_before more = record {
       first = came;
       left = more;
       lines = going.lines;
@@ -238,11 +231,11 @@ module _ {M : Type 0} {has : M → Stamp → Type 0} {newest : M → Option ℤ}
       setup_is = going.setup_is;
     }
 
-    pub stopped_within : {new : Session M} {taken : Option (List ℕ)} → Stays old new → Begun has newest old new going.end going.rest mid taken
-        → Stopped has newest start (came ++ 10 ∷ []) new taken
-    stopped_within {new = new} {taken = taken} stays begun =
+    pub stopped_within : {new : Session} {next : Service M} {taken : Option (List ℕ)} → Stays old new service next
+        → Begun has newest old.options service next going.end going.rest mid taken → Stopped has newest start (came ++ 10 ∷ []) next taken
+    stopped_within {next = next} {taken = taken} stays begun =
         let stopped : (first left rest : List ℕ) → came ++ 10 ∷ [] ≡ first ++ left → HasLines first (going.lines ++ begun.lines) rest
-        → Stopped has newest start (came ++ 10 ∷ []) new taken = λ first left rest came_is parts. record {
+        → Stopped has newest start (came ++ 10 ∷ []) next taken = λ first left rest came_is parts. record {
           first = first;
           left = left;
           lines = going.lines ++ begun.lines;
@@ -263,8 +256,8 @@ module _ {M : Type 0} {has : M → Stamp → Type 0} {newest : M → Option ℤ}
               (subst (λ l. HasLines (came ++ 10 ∷ []) (going.lines ++ l) []) (sym one) (line_ended came going.lines going.rest going.parts))
         ]
 
-  pub stopped_more : {start : Start} {came : List ℕ} {session : Session M} {taken : Option (List ℕ)} (more : List ℕ) → Stopped has newest start came session taken
-      → Stopped has newest start (came ++ more) session taken
+  pub stopped_more : {start : Start} {came : List ℕ} {service : Service M} {taken : Option (List ℕ)} (more : List ℕ) → Stopped has newest start came service taken
+      → Stopped has newest start (came ++ more) service taken
   stopped_more more stopped = record {
     first = stopped.first;
     left = stopped.left ++ more;
@@ -282,10 +275,10 @@ module _ {M : Type 0} {has : M → Stamp → Type 0} {newest : M → Option ℤ}
 
   -- ---- a source
 
-  module _ {start : Start} {from mid : Option (List ℕ)} {count : ℕ} {old : Session M} {now : Option (List ℕ)}
-      (reached : Reached has newest start from mid count old now) where
-    pub reached_more : {to new : Option (List ℕ)} {next : Session M} (piece : List ℕ) (more : ℕ) → Consumes mid to piece → length piece ≡ more
-        → Going has newest start (reached.came ++ piece) next new → Reached has newest start from to (count + more) next new
+  module _ {start : Start} {from mid : Option (List ℕ)} {count : ℕ} {old : Session} {service : Service M} {now : Option (List ℕ)}
+      (reached : Reached has newest start from mid count old service now) where
+    pub reached_more : {to new : Option (List ℕ)} {session : Session} {next : Service M} (piece : List ℕ) (more : ℕ) → Consumes mid to piece → length piece ≡ more
+        → Going has newest start (reached.came ++ piece) session next new → Reached has newest start from to (count + more) session next new
     reached_more {to = to} piece more consumed counted going = record {
       came = reached.came ++ piece;
       consumed = Consumes-trans from mid to reached.came piece reached.consumed consumed;
@@ -293,7 +286,7 @@ module _ {M : Type 0} {has : M → Stamp → Type 0} {newest : M → Option ℤ}
       going = going;
     }
 
-    pub reached_kept : {to : Option (List ℕ)} → Keeps mid to → Reached has newest start from to count old now
+    pub reached_kept : {to : Option (List ℕ)} → Keeps mid to → Reached has newest start from to count old service now
     reached_kept {to = to} kept = record {
       came = reached.came;
       consumed = Consumes-kept from mid to reached.came reached.consumed kept;
@@ -301,7 +294,7 @@ module _ {M : Type 0} {has : M → Stamp → Type 0} {newest : M → Option ℤ}
       going = reached.going;
     }
 
-    pub reached_none : {to : Option (List ℕ)} (piece : List ℕ) → Consumes mid to piece → piece ≡ [] → Reached has newest start from to count old now
+    pub reached_none : {to : Option (List ℕ)} (piece : List ℕ) → Consumes mid to piece → piece ≡ [] → Reached has newest start from to count old service now
     reached_none {to = to} piece consumed none = record {
       came = reached.came;
       consumed = subst (Consumes from to) (ap (λ (l : List ℕ). reached.came ++ l) none ∙ append-nil reached.came)
@@ -310,7 +303,7 @@ module _ {M : Type 0} {has : M → Stamp → Type 0} {newest : M → Option ℤ}
       going = reached.going;
     }
 
-    pub reached_stop : {to new : Option (List ℕ)} {next : Session M} (piece : List ℕ) → Consumes mid to piece
+    pub reached_stop : {to new : Option (List ℕ)} {next : Service M} (piece : List ℕ) → Consumes mid to piece
         → Stopped has newest start (reached.came ++ piece) next new → ReachedStop has newest start from to next new
     reached_stop {to = to} piece consumed stopped = record {
       came = reached.came ++ piece;

@@ -58,29 +58,26 @@ fn read_some<S: Source>(source: &mut S, piece: &mut [u8], most: usize) -> Result
     Ok(count)
 }
 
-// How far `accept` is: what it answers by, the line that is being read, and the exit status so far.
+// How far `accept` is: how it answers, the line that is being read, and the exit status so far.
 #[derive(Drop)]
-struct Session<'a, M> {
+struct Session<'a> {
     alloc: Global,
-    acceptor: &'a mut Acceptor<M>,
     options: AnswerOptions<'a>,
     part: PartLine,
     status: u8,
 }
 
-impl<M: ReplayMemory> Session<'_, M> {
+impl Session<'_> {
     // Makes the call whose request the bytes of a line carry, if they carry one.
-    fn answer_call(&mut self, call: &SpelledCall) -> LineOutcome
-        ensures becomes { (history : List Arrival) (line : List ℕ) → Stands M.has M.newest self.old.acceptor.now history
+    fn answer_call<M: ReplayMemory>(&self, acceptor: &mut Acceptor<M>, call: &SpelledCall) -> LineOutcome
+        ensures becomes { (history : List Arrival) (line : List ℕ) → Stands M.has M.newest acceptor.old history
             → SpellsCall line (arrival call.entry.now.bytes.items call.entry.now.now) call.entry.now.confounder
-            → BecomesOf M.has M.newest self.old self.new history line result }
-        ensures same_reference { self.new.acceptor.ghost_name ≡ self.old.acceptor.ghost_name }
-        ensures stays { Stays self.old self.new }
-        ensures status { self.new.status ≡ self.old.status }
+            → BecomesOf M.has M.newest self.now.options acceptor.old acceptor.new history line result }
+        ensures setup { acceptor.new.setup ≡ acceptor.old.setup }
     {
         match take_request(self.options.form, &call.bytes) {
             Ok(carried) => {
-                let outcome = self.acceptor.accept(self.alloc, carried.request, call.now);
+                let outcome = acceptor.accept(self.alloc, carried.request, call.now);
                 let end = end_of(
                     self.alloc,
                     carried.envelope,
@@ -96,72 +93,81 @@ impl<M: ReplayMemory> Session<'_, M> {
     }
 
     // Makes the call that the line spells, if any.
-    fn outcome(&mut self) -> Result<LineOutcome, AllocError>
-        ensures ok { (history : List Arrival) (line : List ℕ) → Stands M.has M.newest self.old.acceptor.now history → Holds self.old.part line
-            → IfOk result (BecomesOf M.has M.newest self.old self.new history line) }
-        ensures err { OnErr result (self.new ≡ self.old) }
-        ensures same_reference { self.new.acceptor.ghost_name ≡ self.old.acceptor.ghost_name }
-        ensures stays { Stays self.old self.new }
-        ensures status { self.new.status ≡ self.old.status }
+    fn outcome<M: ReplayMemory>(&self, acceptor: &mut Acceptor<M>) -> Result<LineOutcome, AllocError>
+        ensures ok { (history : List Arrival) (line : List ℕ) → Stands M.has M.newest acceptor.old history → Holds self.now.part line
+            → IfOk result (BecomesOf M.has M.newest self.now.options acceptor.old acceptor.new history line) }
+        ensures err { OnErr result (acceptor.new ≡ acceptor.old) }
+        ensures setup { acceptor.new.setup ≡ acceptor.old.setup }
     {
         match self.part.call(self.alloc)? {
-            Some(call) => Ok(self.answer_call(&call)),
+            Some(call) => Ok(self.answer_call(acceptor, &call)),
             None => Ok(LineOutcome::BadLine),
         }
     }
 
     // Answers the line that was read.
-    fn answer_line<K: Sink>(&mut self, sink: &mut K) -> Result<(), EngineFault>
+    fn answer_line<M: ReplayMemory, K: Sink>(
+        &mut self,
+        acceptor: &mut Acceptor<M>,
+        sink: &mut K,
+    ) -> Result<(), EngineFault>
         requires { K.failure_count sink.old < 2 ^ 64 - 1 }
-        ensures ok { (history : List Arrival) (line : List ℕ) → Stands M.has M.newest self.old.acceptor.now history → Holds self.old.part line
-            → OnOk result (Answered M.has M.newest self.old self.new history line (K.taken sink.old) (K.taken sink.new)) }
-        ensures err { (history : List Arrival) (line : List ℕ) → Stands M.has M.newest self.old.acceptor.now history → Holds self.old.part line
-            → OnErr result (Begun M.has M.newest self.old self.new history line (K.taken sink.old) (K.taken sink.new)) }
-        ensures same_reference { self.new.acceptor.ghost_name ≡ self.old.acceptor.ghost_name }
-        ensures stays { Stays self.old self.new }
+        ensures ok { (history : List Arrival) (line : List ℕ) → Stands M.has M.newest acceptor.old history → Holds self.old.part line
+            → OnOk result (Answered M.has M.newest self.old self.new acceptor.old acceptor.new history line (K.taken sink.old) (K.taken sink.new)) }
+        ensures err { (history : List Arrival) (line : List ℕ) → Stands M.has M.newest acceptor.old history → Holds self.old.part line
+            → OnErr result (Begun M.has M.newest self.old.options acceptor.old acceptor.new history line (K.taken sink.old) (K.taken sink.new)) }
+        ensures stays { Stays self.old self.new acceptor.old acceptor.new }
         ensures which { IfErr result (λ e. (e ≡ EngineFault.Write) ⊎ (e ≡ EngineFault.OutOfMemory)) }
         ensures writes { K.failure_count sink.new ≡ K.failure_count sink.old + failed_writes result }
     {
-        let outcome = self.outcome()?;
+        let outcome = self.outcome(acceptor)?;
         print_answer(self.alloc, &outcome, sink)?;
         self.status = self.status.max(status_of_outcome(&outcome));
         Ok(())
     }
 
     // Answers the line that ends with these bytes, and goes on to the next one.
-    fn end_line<K: Sink>(&mut self, bytes: &[u8], sink: &mut K) -> Result<(), EngineFault>
+    fn end_line<M: ReplayMemory, K: Sink>(
+        &mut self,
+        acceptor: &mut Acceptor<M>,
+        bytes: &[u8],
+        sink: &mut K,
+    ) -> Result<(), EngineFault>
         requires writes { K.failure_count sink.old < 2 ^ 64 - 1 }
         requires plain { All (λ byte. byte ≢ 10) bytes.now }
-        ensures ok { (start : Start) (came : List ℕ) → Going M.has M.newest start came self.old (K.taken sink.old)
-            → OnOk result (Going M.has M.newest start ((came ++ bytes.now) ++ 10 ∷ []) self.new (K.taken sink.new)) }
-        ensures err { (start : Start) (came : List ℕ) → Going M.has M.newest start came self.old (K.taken sink.old)
-            → OnErr result (Stopped M.has M.newest start ((came ++ bytes.now) ++ 10 ∷ []) self.new (K.taken sink.new)) }
-        ensures same_reference { self.new.acceptor.ghost_name ≡ self.old.acceptor.ghost_name }
-        ensures stays { Stays self.old self.new }
+        ensures ok { (start : Start) (came : List ℕ) → Going M.has M.newest start came self.old acceptor.old (K.taken sink.old)
+            → OnOk result (Going M.has M.newest start ((came ++ bytes.now) ++ 10 ∷ []) self.new acceptor.new (K.taken sink.new)) }
+        ensures err { (start : Start) (came : List ℕ) → Going M.has M.newest start came self.old acceptor.old (K.taken sink.old)
+            → OnErr result (Stopped M.has M.newest start ((came ++ bytes.now) ++ 10 ∷ []) acceptor.new (K.taken sink.new)) }
+        ensures stays { Stays self.old self.new acceptor.old acceptor.new }
         ensures which { IfErr result (λ e. (e ≡ EngineFault.Write) ⊎ (e ≡ EngineFault.OutOfMemory)) }
         ensures writes { K.failure_count sink.new ≡ K.failure_count sink.old + failed_writes result }
     {
         self.part.extend(bytes)?;
-        self.answer_line(sink)?;
+        self.answer_line(acceptor, sink)?;
         self.part.clear();
         Ok(())
     }
 
     // Goes on by some bytes.
-    fn answer_piece<K: Sink>(&mut self, piece: &[u8], sink: &mut K) -> Result<(), EngineFault>
+    fn answer_piece<M: ReplayMemory, K: Sink>(
+        &mut self,
+        acceptor: &mut Acceptor<M>,
+        piece: &[u8],
+        sink: &mut K,
+    ) -> Result<(), EngineFault>
         requires { K.failure_count sink.old < 2 ^ 64 - 1 }
-        ensures ok { (start : Start) (came : List ℕ) → Going M.has M.newest start came self.old (K.taken sink.old)
-            → OnOk result (Going M.has M.newest start (came ++ piece.now) self.new (K.taken sink.new)) }
-        ensures err { (start : Start) (came : List ℕ) → Going M.has M.newest start came self.old (K.taken sink.old)
-            → OnErr result (Stopped M.has M.newest start (came ++ piece.now) self.new (K.taken sink.new)) }
-        ensures same_reference { self.new.acceptor.ghost_name ≡ self.old.acceptor.ghost_name }
-        ensures stays { Stays self.old self.new }
+        ensures ok { (start : Start) (came : List ℕ) → Going M.has M.newest start came self.old acceptor.old (K.taken sink.old)
+            → OnOk result (Going M.has M.newest start (came ++ piece.now) self.new acceptor.new (K.taken sink.new)) }
+        ensures err { (start : Start) (came : List ℕ) → Going M.has M.newest start came self.old acceptor.old (K.taken sink.old)
+            → OnErr result (Stopped M.has M.newest start (came ++ piece.now) acceptor.new (K.taken sink.new)) }
+        ensures stays { Stays self.old self.new acceptor.old acceptor.new }
         ensures which { IfErr result (λ e. (e ≡ EngineFault.Write) ⊎ (e ≡ EngineFault.OutOfMemory)) }
         ensures writes { K.failure_count sink.new ≡ K.failure_count sink.old + failed_writes result }
     {
         let mut left = piece;
         'lines: while let Some((bytes, rest)) = cut_at(LINE_END, left) {
-            self.end_line(bytes, sink)?;
+            self.end_line(acceptor, bytes, sink)?;
             left = rest;
         }
         self.part.extend(left)?;
@@ -169,8 +175,9 @@ impl<M: ReplayMemory> Session<'_, M> {
     }
 
     // Answers the whole lines of the source, and keeps what follows the last line end.
-    fn answer_source<S: Source, K: Sink>(
+    fn answer_source<M: ReplayMemory, S: Source, K: Sink>(
         &mut self,
+        acceptor: &mut Acceptor<M>,
         source: &mut S,
         piece: &mut [u8],
         sink: &mut K,
@@ -178,16 +185,15 @@ impl<M: ReplayMemory> Session<'_, M> {
         requires source { S.failure_count source.old < 2 ^ 64 - 1 }
         requires sink { K.failure_count sink.old < 2 ^ 64 - 1 }
         requires piece { 0 < length piece.old }
-        ensures ok { (start : Start) → Going M.has M.newest start [] self.old (K.taken sink.old)
-            → OnOk result (ReachedEnd M.has M.newest start (S.remaining source.old) (S.remaining source.new) self.new (K.taken sink.new)) }
-        ensures input { (start : Start) → Going M.has M.newest start [] self.old (K.taken sink.old) → result ≡ Err EngineFault.Input
+        ensures ok { (start : Start) → Going M.has M.newest start [] self.old acceptor.old (K.taken sink.old)
+            → OnOk result (ReachedEnd M.has M.newest start (S.remaining source.old) (S.remaining source.new) self.new acceptor.new (K.taken sink.new)) }
+        ensures input { (start : Start) → Going M.has M.newest start [] self.old acceptor.old (K.taken sink.old) → result ≡ Err EngineFault.Input
             → ReachedInput M.has M.newest start (S.remaining source.old) (S.remaining source.new) (S.failure_count source.old) (S.failure_count source.new)
-            self.new (K.taken sink.new) }
-        ensures stop { (start : Start) → Going M.has M.newest start [] self.old (K.taken sink.old)
+            self.new acceptor.new (K.taken sink.new) }
+        ensures stop { (start : Start) → Going M.has M.newest start [] self.old acceptor.old (K.taken sink.old)
             → (result ≡ Err EngineFault.Write) ⊎ (result ≡ Err EngineFault.OutOfMemory)
-            → ReachedStop M.has M.newest start (S.remaining source.old) (S.remaining source.new) self.new (K.taken sink.new) }
-        ensures same_reference { self.new.acceptor.ghost_name ≡ self.old.acceptor.ghost_name }
-        ensures stays { Stays self.old self.new }
+            → ReachedStop M.has M.newest start (S.remaining source.old) (S.remaining source.new) acceptor.new (K.taken sink.new) }
+        ensures stays { Stays self.old self.new acceptor.old acceptor.new }
         ensures which { IfErr result (λ e. (e ≡ EngineFault.Input) ⊎ ((e ≡ EngineFault.Write) ⊎ (e ≡ EngineFault.OutOfMemory))) }
         ensures failed { result ≡ Err EngineFault.Input
             → (S.failure_count source.new ≡ S.failure_count source.old + 1)
@@ -202,7 +208,7 @@ impl<M: ReplayMemory> Session<'_, M> {
             if count == 0 {
                 return Ok(());
             }
-            self.answer_piece(&piece[..count], sink)?;
+            self.answer_piece(acceptor, &piece[..count], sink)?;
             came += count;
         }
         Err(EngineFault::Input)
@@ -280,15 +286,14 @@ pub fn accept_lines<M: ReplayMemory, S: Source, K: Sink>(
     let mut piece = vec![in alloc; 0u8; PIECE]?;
     let mut session = Session {
         alloc,
-        acceptor,
         options: *options,
         part: PartLine::new(alloc),
         status: 0,
     };
-    session.answer_source(source, &mut piece, sink)?;
+    session.answer_source(acceptor, source, &mut piece, sink)?;
     if session.part.is_empty() {
         return Ok(session.status);
     }
-    session.answer_line(sink)?;
+    session.answer_line(acceptor, sink)?;
     Ok(session.status)
 }

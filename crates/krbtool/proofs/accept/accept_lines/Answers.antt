@@ -1,4 +1,4 @@
-use Rattle.std.proofs.Common.{rules, arith, ◌≡◌, [], ap, sym, refl, inl, inr, ◌∙◌, Err}
+use Rattle.std.proofs.Common.{arith, [], ap, sym, refl, inl, inr, ◌∙◌, Err}
 use Rattle.std.proofs.KnownBytes.{Consumes-nil}
 use Rattle.std.proofs.lemmas.Result.{err_from_is_err_and}
 use Rattle.krbtool.specs.declared.fault.EngineFault.TheVariants.{Input}
@@ -20,13 +20,13 @@ pub returns-in_err-answer_source-clause-unread : goal.returns-in_err-answer_sour
 returns-in_err-answer_source-clause-unread g c = λ input history tells stands err.
     let p = err_from_is_err_and c.from_residual-in_err-answer_source.result c.from_residual-in_err-answer_source.ensures.1 in
     let was = c.in_err-answer_source.was ∙ same_fault (sym (p.1 ∙ ap (λ e. Err e) p.2) ∙ err) in
-    whole_answered tells (c.answer_source.ensures.input _ (going_start _ history _ _ c.new.ensures refl refl stands) was)
+    whole_answered tells (c.answer_source.ensures.input _ (going_start history _ _ _ c.new.ensures refl stands) was)
 
 pub returns-in_err-answer_source-clause-begun : goal.returns-in_err-answer_source-clause-begun
 returns-in_err-answer_source-clause-begun g c = λ input history tells stands err.
     let p = err_from_is_err_and c.from_residual-in_err-answer_source.result c.from_residual-in_err-answer_source.ensures.1 in
     let was = sym (p.1 ∙ ap (λ e. Err e) p.2) in
-    stop_begun tells (c.answer_source.ensures.stop _ (going_start _ history _ _ c.new.ensures refl refl stands)
+    stop_begun tells (c.answer_source.ensures.stop _ (going_start history _ _ _ c.new.ensures refl stands)
     (elim err [ inl e ↦ inl (c.in_err-answer_source.was ∙ same_fault (was ∙ e)) | inr e ↦ inr (c.in_err-answer_source.was ∙ same_fault (was ∙ e)) ]))
 
 pub returns-in_err-answer_source-clause-failed : goal.returns-in_err-answer_source-clause-failed
@@ -51,7 +51,7 @@ returns-in_err-answer_line-clause-failed g c = λ err.
 
 pub returns-in_err-answer_line-clause-begun : goal.returns-in_err-answer_line-clause-begun
 returns-in_err-answer_line-clause-begun g c = λ input history tells stands _.
-    let ended = c.in_ok-answer_source.ensures.ok _ (going_start _ history _ _ c.new.ensures refl refl stands) in
+    let ended = c.in_ok-answer_source.ensures.ok _ (going_start history _ _ _ c.new.ensures refl stands) in
     let going = ended.reached.going in
     last_begun tells ended (λ none. unlike c.is_empty.result c.if-is_empty.false ((c.is_empty.ensures going.rest going.holds).1 none))
     c.answer_line.ensures.stays (c.in_err-answer_line.ensures.err going.end going.rest going.stands going.holds)
@@ -72,12 +72,12 @@ returns-in_err-answer_line-clause-setup g c = c.answer_line.ensures.stays.setup 
 
 pub returns-then-is_empty-clause-answered : goal.returns-then-is_empty-clause-answered
 returns-then-is_empty-clause-answered g c = λ input history tells stands.
-    let ended = c.in_ok-answer_source.ensures.ok _ (going_start _ history _ _ c.new.ensures refl refl stands) in
+    let ended = c.in_ok-answer_source.ensures.ok _ (going_start history _ _ _ c.new.ensures refl stands) in
     all_answered tells ended ((c.is_empty.ensures ended.reached.going.rest ended.reached.going.holds).0 c.if-is_empty.true)
 
 pub returns-clause-answered : goal.returns-clause-answered
 returns-clause-answered g c = λ input history tells stands.
-    let ended = c.in_ok-answer_source.ensures.ok _ (going_start _ history _ _ c.new.ensures refl refl stands) in
+    let ended = c.in_ok-answer_source.ensures.ok _ (going_start history _ _ _ c.new.ensures refl stands) in
     let going = ended.reached.going in
     last_answered tells ended (λ none. unlike c.is_empty.result c.if-is_empty.false ((c.is_empty.ensures going.rest going.holds).1 none))
     c.answer_line.ensures.stays (c.in_ok-answer_line.ensures.ok going.end going.rest going.stands going.holds)

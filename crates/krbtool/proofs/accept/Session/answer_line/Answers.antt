@@ -1,6 +1,6 @@
-use Rattle.std.proofs.Common.{rules, arith, refl}
+use Rattle.std.proofs.Common.{rules, arith}
 use Rattle.std.proofs.lemmas.Result.{err_from_is_err_and}
-use Rattle.krbtool.proofs.GoingLaws.{answered_by, line_begun, none_begun}
+use Rattle.krbtool.proofs.GoingLaws.{line_begun, none_begun}
 use Rattle.krbtool.proofs.accept.Session.answer_line.Goals as goal
 
 pub returns-in_err-outcome-clause-err : goal.returns-in_err-outcome-clause-err
@@ -14,5 +14,9 @@ returns-in_err-print_answer-clause-err g c = λ history line stands holds.
     rw p.1 (line_begun (c.in_ok-outcome.ensures.ok history line stands holds) c.in_err-print_answer.ensures.err)
 
 pub returns-clause-ok : goal.returns-clause-ok
-returns-clause-ok g c = λ history line stands holds.
-    answered_by c.in_ok-outcome.outcome (c.in_ok-outcome.ensures.ok history line stands holds) refl c.in_ok-print_answer.ensures.ok (search (arith, rules))
+returns-clause-ok g c = λ history line stands holds. record {
+  outcome = c.in_ok-outcome.outcome;
+  of_line = c.in_ok-outcome.ensures.ok history line stands holds;
+  printed = c.in_ok-print_answer.ensures.ok;
+  status_is = search (arith, rules);
+}

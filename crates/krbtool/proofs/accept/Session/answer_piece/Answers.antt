@@ -1,4 +1,4 @@
-use Rattle.std.proofs.Common.{rules, arith, ◌≢◌, ◌++◌, ◌∷◌, [], ℕ, All, refl, append-nil, sym, ◌∙◌}
+use Rattle.std.proofs.Common.{rules, arith, ◌≢◌, ◌++◌, ◌∷◌, [], All, refl, append-nil, sym}
 use Rattle.std.proofs.lemmas.Result.{err_from_is_err_and}
 use Rattle.krbtool.proofs.GoingLaws.{going_bytes, left_on, line_on, piece_is, stays_on, stopped_before, stopped_more, whole_is}
 use Rattle.krbtool.proofs.accept.Session.answer_piece.Goals as goal
@@ -9,7 +9,7 @@ lines-init g c = (
   record {
     parts = refl;
     going = λ start came going. rw (append-nil came) going;
-    stays = record { same_reference = refl; setup = refl; options = refl };
+    stays = record { setup = refl; options = refl };
     counted = refl;
   },
 )
@@ -38,19 +38,10 @@ pub returns-in_err-extend-clause-err : goal.returns-in_err-extend-clause-err
 returns-in_err-extend-clause-err g c = λ start came going.
     let p = err_from_is_err_and c.from_residual-in_err-extend.result c.from_residual-in_err-extend.ensures.1 in
     rw (p.1, sym (piece_is came c.args.piece.now c.lines.invariant.0 c.lines.left.now c.lines.invariant.1.parts))
-    (stopped_before (c.lines.invariant.1.going start came going) c.extend.new.self c.lines.left.now)
+    (stopped_before (c.lines.invariant.1.going start came going) c.lines.left.now)
 
 pub returns-clause-ok : goal.returns-clause-ok
 returns-clause-ok g c = λ start came going.
     let plain : All (λ byte. byte ≢ 10) c.lines.left.now = search rules in
     rw (sym (piece_is came c.args.piece.now c.lines.invariant.0 c.lines.left.now c.lines.invariant.1.parts))
     (going_bytes (c.lines.invariant.1.going start came going) c.extend.new.self c.lines.left.now plain (search rules))
-
-pub returns-in_err-end_line-clause-same_reference : goal.returns-in_err-end_line-clause-same_reference
-returns-in_err-end_line-clause-same_reference g c = c.end_line.ensures.stays.same_reference ∙ c.lines.invariant.1.stays.same_reference
-
-pub returns-in_err-extend-clause-same_reference : goal.returns-in_err-extend-clause-same_reference
-returns-in_err-extend-clause-same_reference g c = c.lines.invariant.1.stays.same_reference
-
-pub returns-clause-same_reference : goal.returns-clause-same_reference
-returns-clause-same_reference g c = c.lines.invariant.1.stays.same_reference

@@ -9,7 +9,7 @@ loop-came-init g c = record {
   room = c.requires.piece;
   reached = λ start going. record { came = []; consumed = Consumes-nil (g.S.Source.remaining c.args.source.now); counted = refl; going = going };
   came = record { bytes = []; consumed = Consumes-nil (g.S.Source.remaining c.args.source.now); counted = refl };
-  stays = record { same_reference = refl; setup = refl; options = refl };
+  stays = record { setup = refl; options = refl };
   reads = refl;
   writes = refl;
 }
@@ -74,15 +74,3 @@ returns-in_err-answer_piece-clause-taken g c =
 
 pub returns-clause-taken : goal.returns-clause-taken
 returns-clause-taken g c = came_takes _ _ _ c.loop-came.invariant.came c.loop-came.invariant.within
-
-pub returns-in_err-count-clause-same_reference : goal.returns-in_err-count-clause-same_reference
-returns-in_err-count-clause-same_reference g c = c.loop-came.invariant.stays.same_reference
-
-pub returns-then-count-eq0-clause-same_reference : goal.returns-then-count-eq0-clause-same_reference
-returns-then-count-eq0-clause-same_reference g c = c.loop-came.invariant.stays.same_reference
-
-pub returns-in_err-answer_piece-clause-same_reference : goal.returns-in_err-answer_piece-clause-same_reference
-returns-in_err-answer_piece-clause-same_reference g c = c.answer_piece.ensures.stays.same_reference ∙ c.loop-came.invariant.stays.same_reference
-
-pub returns-clause-same_reference : goal.returns-clause-same_reference
-returns-clause-same_reference g c = c.loop-came.invariant.stays.same_reference

@@ -6,7 +6,7 @@ use Rattle.krbtool.proofs.accept.Session.end_line.Goals as goal
 pub returns-in_err-extend-clause-err : goal.returns-in_err-extend-clause-err
 returns-in_err-extend-clause-err g c = λ start came going.
     let p = err_from_is_err_and c.from_residual.result c.from_residual.ensures.1 in
-    rw (p.1, append_assoc came c.args.bytes.now (10 ∷ [])) (stopped_before going c.extend.new.self (c.args.bytes.now ++ 10 ∷ []))
+    rw (p.1, append_assoc came c.args.bytes.now (10 ∷ [])) (stopped_before going (c.args.bytes.now ++ 10 ∷ []))
 
 pub returns-in_err-answer_line-clause-err : goal.returns-in_err-answer_line-clause-err
 returns-in_err-answer_line-clause-err g c = λ start came before.
