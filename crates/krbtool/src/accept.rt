@@ -69,7 +69,11 @@ struct Session<'a> {
 
 impl Session<'_> {
     // Makes the call whose request the bytes of a line carry, if they carry one.
-    fn answer_call<M: ReplayMemory>(&self, acceptor: &mut Acceptor<M>, call: &SpelledCall) -> LineOutcome
+    fn answer_call<M: ReplayMemory>(
+        &self,
+        acceptor: &mut Acceptor<M>,
+        call: &SpelledCall,
+    ) -> LineOutcome
         ensures becomes { (history : List Arrival) (line : List ℕ) → Stands M.has M.newest acceptor.old history
             → SpellsCall line (arrival call.entry.now.bytes.items call.entry.now.now) call.entry.now.confounder
             → BecomesOf M.has M.newest self.now.options acceptor.old acceptor.new history line result }
@@ -93,7 +97,10 @@ impl Session<'_> {
     }
 
     // Makes the call that the line spells, if any.
-    fn outcome<M: ReplayMemory>(&self, acceptor: &mut Acceptor<M>) -> Result<LineOutcome, AllocError>
+    fn outcome<M: ReplayMemory>(
+        &self,
+        acceptor: &mut Acceptor<M>,
+    ) -> Result<LineOutcome, AllocError>
         ensures ok { (history : List Arrival) (line : List ℕ) → Stands M.has M.newest acceptor.old history → Holds self.now.part line
             → IfOk result (BecomesOf M.has M.newest self.now.options acceptor.old acceptor.new history line) }
         ensures err { OnErr result (acceptor.new ≡ acceptor.old) }
