@@ -111,7 +111,7 @@ def sealing_row(ours, mit, way, etype, size, name, ready=False):
     count = str(max(4, 4_000_000 // (size + 2_000)))
     word = f"{way}-ready" if ready else way
     it = compared(run_of([ours, word, etype, str(size), count]), run_of([mit, way, etype, str(size), count]))
-    more = ", the key made ready" if ready else ""
+    more = ", a prepared key" if ready else ""
     print(f"| {way}, type {etype}, {name}{more} | {time_of(it.ours)} | {time_of(it.theirs)} | {it.shown} |", flush=True)
 
 

@@ -13,13 +13,12 @@
  *    between calls, but not during one. After a move its old place is not used again. A program
  *    that uses a copy, or that lets a handle overlap a buffer, may free memory that is still in
  *    use.
- *  - Any thread may make a call, but only one call at a time may use a handle, even a const one.
- *    Put a lock around calls that share a handle. Two handles share nothing, in one process or in
- *    two. After a fork the child's handles are copies, and the child must not use them. A call may
- *    write to a const handle too, though what the handle stands for stays the same. So never define
- *    a handle as const.
- *  - Pointers are valid. Only a pointer to bytes whose size is 0 may be NULL (this is tested, not
- *    proved).
+ *  - Only one call at a time may use a handle, even if the call takes a pointer to const: such a
+ *    call may write to the handle, too. So put a lock around calls that share a handle, and never
+ *    define a handle as const. Any thread may make a call. Two handles share nothing, in one
+ *    process or in two. After a fork, the child must not use its copies.
+ *  - Pointers are valid. A pointer to bytes whose size is 0 isn't read: it may be NULL (this is
+ *    tested, not proved), or point anywhere.
  *  - What a call writes to (its handle, its buffer, its other results) overlaps nothing else that
  *    the call is given.
  *  - A bool is 0 or 1. Sizes are at most PTRDIFF_MAX.
@@ -28,16 +27,17 @@
  * forked while it had several threads.
  *
  * The library keeps its state in handles only. It reads no clock and no random numbers, and has no
- * output but its results. Freed memory isn't wiped of keys, and nothing is promised about how long
- * a call takes.
+ * output but its results. Freed memory isn't wiped of keys. No call is promised to take constant
+ * time, so whoever can time calls may learn about keys.
  *
  * Arguments belong to the caller: no function keeps a pointer to them or frees them. The library
  * allocates what a handle holds, and the handle's function whose name ends in _free frees it. There
  * is nothing else to free. Files have at most 16,777,216 bytes, and requests, replies and errors at
  * most 1,048,576: anything longer is a fault. Other sizes are limited by memory alone, unless a
- * limit is named. FEVSTUNIK_OUT_OF_MEMORY may be returned instead of a fault, unless the fault is
- * found before the call allocates memory. It is never returned instead of a fault of a keytab or a
- * cache, except by fevstunik_keytab_add and fevstunik_keytab_remove, which copy the file first.
+ * limit is named. If memory runs out, a call may return FEVSTUNIK_OUT_OF_MEMORY in place of another
+ * fault, unless it found that fault before it allocated memory. A fault of a keytab or a cache is
+ * returned even then, except by fevstunik_keytab_add and fevstunik_keytab_remove, which copy the
+ * file first.
  *
  * A function that returns bytes writes them to the start of the caller's buffer, and leaves the
  * rest of the buffer unchanged. If the buffer is too short, the code is FEVSTUNIK_SHORT_BUFFER,
@@ -104,7 +104,7 @@ typedef enum fevstunik_code {
     FEVSTUNIK_OUT_OF_MEMORY = 400,  /* out of memory: malloc or realloc returned NULL */
     FEVSTUNIK_SHORT_BUFFER = 401,   /* the buffer is too short: `size` bytes are needed */
     FEVSTUNIK_EMPTY_HANDLE = 402,   /* the handle is empty */
-    FEVSTUNIK_NOTHING_THERE = 403,  /* nothing was accepted, nothing was refused, or there is no such moment */
+    FEVSTUNIK_NOTHING_THERE = 403,  /* the handle has no accepted request, no refusal, or no such moment */
     FEVSTUNIK_TOO_LONG = 404,       /* a file, a request, an error, a token, a name or a key is longer than its limit */
     FEVSTUNIK_BAD_SKEW = 410,       /* the skew is more than 86,400 seconds */
     FEVSTUNIK_BAD_MOMENT = 411,     /* the moment is outside the years 0000 to 9999, or has 1,000,000 microseconds or more */
@@ -136,7 +136,7 @@ typedef enum fevstunik_code {
     FEVSTUNIK_TEXT_SHORT = 800,     /* the text has fewer bytes than a sealed empty text: 32 (type 19) or 40 (type 20) */
     FEVSTUNIK_TEXT_INTEGRITY = 801, /* the tag is wrong */
     FEVSTUNIK_BAD_TEXT = 810,       /* the text isn't a valid name; `at` is the place of the fault */
-    FEVSTUNIK_NO_REALM = 811,       /* the text has no `@` without a backslash before it */
+    FEVSTUNIK_NO_REALM = 811,       /* the text has no unescaped `@` */
     FEVSTUNIK_NOT_UTF8 = 812,       /* the text isn't UTF-8 */
 
     /* Why bytes aren't a GSS-API token, or the checksum of a GSS-API client. */
@@ -258,7 +258,7 @@ static inline const char *fevstunik_code_text(uint32_t code)
     case FEVSTUNIK_OUT_OF_MEMORY: return "out of memory: malloc or realloc returned NULL";
     case FEVSTUNIK_SHORT_BUFFER: return "the buffer is too short: `size` bytes are needed";
     case FEVSTUNIK_EMPTY_HANDLE: return "the handle is empty";
-    case FEVSTUNIK_NOTHING_THERE: return "nothing was accepted, nothing was refused, or there is no such moment";
+    case FEVSTUNIK_NOTHING_THERE: return "the handle has no accepted request, no refusal, or no such moment";
     case FEVSTUNIK_TOO_LONG: return "a file, a request, an error, a token, a name or a key is longer than its limit";
     case FEVSTUNIK_BAD_SKEW: return "the skew is more than 86,400 seconds";
     case FEVSTUNIK_BAD_MOMENT: return "the moment is outside the years 0000 to 9999, or has 1,000,000 microseconds or more";
@@ -282,7 +282,7 @@ static inline const char *fevstunik_code_text(uint32_t code)
     case FEVSTUNIK_TEXT_SHORT: return "the text has fewer bytes than a sealed empty text: 32 (type 19) or 40 (type 20)";
     case FEVSTUNIK_TEXT_INTEGRITY: return "the tag is wrong";
     case FEVSTUNIK_BAD_TEXT: return "the text isn't a valid name; `at` is the place of the fault";
-    case FEVSTUNIK_NO_REALM: return "the text has no `@` without a backslash before it";
+    case FEVSTUNIK_NO_REALM: return "the text has no unescaped `@`";
     case FEVSTUNIK_NOT_UTF8: return "the text isn't UTF-8";
     case FEVSTUNIK_NOT_A_TOKEN: return "the first byte isn't that of a token";
     case FEVSTUNIK_TOKEN_MALFORMED: return "the bytes aren't a token; `at` is the place of the fault";
@@ -348,8 +348,8 @@ typedef struct fevstunik_known {
     bool wants_reply;           /* whether it asks for a reply */
 } fevstunik_known;
 
-/* The lists of an accepted request. A number never changes its meaning. Treat data of a type that
- * you don't know as RFC 4120 says for each list.
+/* The lists of an accepted request. A number never changes its meaning. If you don't know an item's
+ * type, do what RFC 4120 says for that list.
  */
 typedef enum fevstunik_list {
     FEVSTUNIK_LIST_ADDRESSES = 1,                   /* the ticket's addresses, which were compared with nothing */
@@ -414,7 +414,9 @@ typedef struct fevstunik_cache_entry {
     bool is_skey;          /* whether the ticket is sealed under another ticket's session key */
 } fevstunik_cache_entry;
 
-/* The owner of a cache, and its KDC's clock. The span is a place in the buffer of the call. */
+/* The owner of a cache, and the offset of its KDC's clock. The span is a place in the buffer of the
+ * call.
+ */
 typedef struct fevstunik_owner {
     fevstunik_span name;    /* the default principal, as text */
     int32_t name_type;      /* the type of its name */
@@ -520,7 +522,8 @@ fevstunik_answer fevstunik_keytab_new(fevstunik_keytab *keytab, const uint8_t *f
 
 /* Reads one entry of a keytab; `index` counts from 0. Writes the text of the entry's name and then
  * its key to the buffer, and their places and the numbers to `entry`. `entry` is written even if
- * the buffer is too short: then make the call again with a longer one. The handle is unchanged.
+ * the buffer is too short. On FEVSTUNIK_SHORT_BUFFER the places lie in the longer buffer that you
+ * need: don't use them yet. The handle is unchanged.
  *
  * Returns FEVSTUNIK_OK or FEVSTUNIK_SHORT_BUFFER; or writes nothing and returns
  * FEVSTUNIK_EMPTY_HANDLE, FEVSTUNIK_NO_SUCH_ENTRY or FEVSTUNIK_OUT_OF_MEMORY.
@@ -540,8 +543,8 @@ void fevstunik_keytab_free(fevstunik_keytab *keytab);
 
 /* Reads a credential cache (the bytes of a file of version 0x0503 or 0x0504), and keeps it in the
  * handle, for any number of requests and to read its credentials one by one. What the handle held
- * is freed. The file's bytes aren't needed afterwards. `size` is the number of its credentials;
- * configuration entries count too.
+ * is freed. After `kinit` or a renewal, read the file again. The file's bytes aren't needed
+ * afterwards. `size` is the number of its credentials; configuration entries count too.
  *
  * Returns FEVSTUNIK_OK; or leaves the handle unchanged and returns the first that applies:
  * FEVSTUNIK_TOO_LONG, _FILE_VERSION, _FILE_HEADER, _FILE_BAD_ITEM or, only if the bytes are a
@@ -554,8 +557,9 @@ fevstunik_answer fevstunik_cache_new(fevstunik_cache *cache, const uint8_t *file
 
 /* Reads one credential of a cache; `index` counts from 0. Writes the client's text, the service's
  * text, the session key and the ticket to the buffer, one after the other, and their places and the
- * numbers to `credential`. `credential` is written even if the buffer is too short. Addresses,
- * authorization data and a second ticket aren't returned. The handle is unchanged.
+ * numbers to `credential`. `credential` is written even if the buffer is too short. On
+ * FEVSTUNIK_SHORT_BUFFER the places lie in the longer buffer that you need: don't use them yet.
+ * Addresses, authorization data and a second ticket aren't returned. The handle is unchanged.
  *
  * Returns FEVSTUNIK_OK or FEVSTUNIK_SHORT_BUFFER; or writes nothing and returns
  * FEVSTUNIK_EMPTY_HANDLE, FEVSTUNIK_NO_SUCH_ENTRY or FEVSTUNIK_OUT_OF_MEMORY.
@@ -568,7 +572,8 @@ fevstunik_answer fevstunik_cache_credential(const fevstunik_cache *cache, size_t
 
 /* Reads the owner of a cache. Writes the default principal's text to the buffer, and its place and
  * the numbers to `owner`, with the KDC's clock offset if the cache has one. `owner` is written even
- * if the buffer is too short. The handle is unchanged.
+ * if the buffer is too short. On FEVSTUNIK_SHORT_BUFFER the places lie in the longer buffer that
+ * you need: don't use them yet. The handle is unchanged.
  *
  * Returns FEVSTUNIK_OK or FEVSTUNIK_SHORT_BUFFER; or writes nothing and returns
  * FEVSTUNIK_EMPTY_HANDLE or FEVSTUNIK_OUT_OF_MEMORY.
@@ -586,8 +591,8 @@ void fevstunik_cache_free(fevstunik_cache *cache);
 
 /* Adds an entry to a keytab, and returns the bytes of the new file. `name` is the name's text.
  * `key` has the key's bytes, which may be of any type. The entry goes into the first hole that is
- * long enough. If there is none, it goes after the last record, and an end word (a record size of
- * 0) and the bytes after it are lost. The bytes 05 02 are an empty keytab.
+ * long enough, or else to the end, in place of an end word and the bytes after it
+ * (docs/FORMATS.md). The bytes 05 02 are an empty keytab.
  *
  * Returns FEVSTUNIK_OK or FEVSTUNIK_SHORT_BUFFER; or writes nothing and returns the first that
  * applies: FEVSTUNIK_NOT_UTF8, _BAD_TEXT or _NO_REALM for the name; FEVSTUNIK_TOO_LONG if the name
@@ -613,8 +618,8 @@ fevstunik_answer fevstunik_keytab_add(const uint8_t *keytab, size_t keytab_size,
  */
 fevstunik_answer fevstunik_keytab_remove(const uint8_t *keytab, size_t keytab_size, size_t index, uint8_t *buffer, size_t buffer_size);
 
-/* Returns the bytes of a new file with the entries of a keytab, in their order. Holes, and whatever
- * follows an end word, are left out. Each entry has its version number in 32 bits too.
+/* Returns the bytes of a new file with the entries of a keytab, in their order, and nothing else.
+ * docs/FORMATS.md says how entries are written.
  *
  * Returns FEVSTUNIK_OK or FEVSTUNIK_SHORT_BUFFER; or writes nothing and returns the first that
  * applies: FEVSTUNIK_TOO_LONG, _FILE_VERSION, _FILE_TRUNCATED or _FILE_BAD_ITEM for the keytab;
@@ -628,8 +633,8 @@ fevstunik_answer fevstunik_keytab_write(const uint8_t *keytab, size_t keytab_siz
 
 /* Checks that a text is a valid name, such as host/web@EX: components separated by `/`, then `@`
  * and a realm. Within a component or the realm, a backslash comes before each `/`, `@` and
- * backslash, and a byte that isn't a visible ASCII character is written as `\x` and two
- * hexadecimal digits in lower case. `size` is the number of components. A name has only one text.
+ * backslash, and a byte that isn't a visible ASCII character is written as `\x` and two hexadecimal
+ * digits in lower case. `size` is the number of components. A name has only one text.
  *
  * Returns FEVSTUNIK_OK, FEVSTUNIK_NOT_UTF8, FEVSTUNIK_BAD_TEXT with the offset in `at`,
  * FEVSTUNIK_NO_REALM or FEVSTUNIK_OUT_OF_MEMORY.
@@ -646,17 +651,15 @@ fevstunik_answer fevstunik_name_check(const uint8_t *name, size_t name_size);
  * forgets what the old one has seen. The keytab's bytes aren't needed afterwards.
  *
  * `service` is the text of the one name that is served, such as host/web@EX: a ticket for any other
- * name is refused with NOT_US, if no cause before it applies. If the keytab has no entry of this
- * name, that is no fault: then every ticket is refused in this way. If `service_size` is 0, each
- * name of the keytab is served. Name the service if the keytab has keys of several names: otherwise
- * clients with a ticket for any of these names are let in. The name in a ticket isn't encrypted, so
- * someone who records a request can write another name into it. If two served names have the same
- * key, a recorded request is accepted once more under the other name.
+ * name is refused with NOT_US, if no cause before it applies. The name isn't compared with the
+ * keytab at the start: if the keytab has no entry of it, every ticket is refused in this way. If
+ * `service_size` is 0, each name of the keytab is served. Name the service if the keytab has keys
+ * of several names (docs/OPERATING.md, "Keys", says why).
  *
  * After a restart use fevstunik_acceptor_started: a service that has forgotten its requests may
  * accept one of them again. Use this function only if no service has used this name and these keys
- * before, with this or any other software, or if all instances share a store of stamps
- * (fevstunik_accepted_stamp) that has lost nothing. docs/OPERATING.md has the exact conditions.
+ * before, or over a store of stamps (fevstunik_accepted_stamp) that has lost nothing
+ * (docs/OPERATING.md, "Restarts", has the exact conditions).
  *
  * Returns FEVSTUNIK_OK; or leaves the handle unchanged and returns the first that applies:
  * FEVSTUNIK_BAD_SKEW; FEVSTUNIK_TOO_LONG, _FILE_VERSION, _FILE_TRUNCATED or _FILE_BAD_ITEM for the
@@ -674,8 +677,8 @@ fevstunik_answer fevstunik_acceptor_new(fevstunik_acceptor *handle, const uint8_
  * client's are both later than `start` by more than the skew, it refuses requests with
  * JUST_STARTED. So no request that was accepted before is accepted again. This holds on two
  * conditions: `start` is no earlier than any moment that was given before, and the skew is no
- * smaller than it was (docs/ACCEPTANCE.md has the argument). Round `start` up if it comes from a
- * coarser clock than those moments.
+ * smaller than it was (docs/ACCEPTANCE.md has the argument). If you have the start in whole
+ * seconds, add one.
  *
  * Returns FEVSTUNIK_OK; or leaves the handle unchanged and returns the first that applies:
  * FEVSTUNIK_BAD_MOMENT for `start`; FEVSTUNIK_BAD_SKEW; FEVSTUNIK_TOO_LONG, _FILE_VERSION,
@@ -717,14 +720,14 @@ fevstunik_answer fevstunik_accepted_new(fevstunik_accepted *accepted);
 
 /* Decides whether a request (the bytes of an AP-REQ) is accepted at `now`, a moment of the
  * service's clock. Remembers what it needs to recognize a repeat. Time doesn't go back: the latest
- * moment given so far is the one that counts.
+ * moment given so far is the one that counts. A moment that is far ahead makes the service refuse
+ * right requests as SKEW until its clock gets there (docs/OPERATING.md, "Clocks").
  *
  * Keeps an accepted request in the handle `accepted`, which fevstunik_accepted_new prepared, until
  * the next call with that handle. fevstunik_accepted_known reads it, and fevstunik_accepted_reply
  * replies to it. What was kept there before is freed. If the call returns anything but
- * FEVSTUNIK_OK, nothing is kept there. If threads share a service, lock it for this call, as for
- * each call with its handle. Give each thread an accepted handle of its own: then reading what was
- * accepted needs no lock.
+ * FEVSTUNIK_OK, nothing is kept there. If threads share a service, give each an accepted handle of
+ * its own: then reading what was accepted needs no lock.
  *
  * fevstunik_error builds an error for the client from the answer's code, and needs no lock. The
  * service also keeps the cause of a refusal until the next call of fevstunik_acceptor_accept that
@@ -744,7 +747,8 @@ fevstunik_answer fevstunik_acceptor_accept(fevstunik_acceptor *handle, fevstunik
 
 /* Reads what was accepted. Writes the client's text, the session key, the client's subkey and the
  * service's text to the buffer, one after the other, and their places and the numbers to `known`.
- * `known` is written even if the buffer is too short.
+ * `known` is written even if the buffer is too short. On FEVSTUNIK_SHORT_BUFFER the places lie in
+ * the longer buffer that you need: don't use them yet.
  *
  * The request is remembered by `service`, `client`, `ctime` and `cusec`. (The types of the names
  * don't count. A name without components has the same text as a name with a single empty component,
@@ -757,23 +761,26 @@ fevstunik_answer fevstunik_acceptor_accept(fevstunik_acceptor *handle, fevstunik
  *     fevstunik_known known;
  *     uint8_t buffer[4096];
  *     fevstunik_answer answer = fevstunik_accepted_known(&accepted, &known, buffer, sizeof buffer);
- *     printf("%.*s\n", (int)known.client.size, (const char *)buffer + known.client.at);
+ *     if (answer.code == FEVSTUNIK_OK)
+ *         printf("%.*s\n", (int)known.client.size, (const char *)buffer + known.client.at);
  */
 fevstunik_answer fevstunik_accepted_known(const fevstunik_accepted *accepted, fevstunik_known *known, uint8_t *buffer, size_t buffer_size);
 
 /* Writes the stamp of the accepted request to the buffer: the service, the client and the client's
  * time as one string of bytes. Requests have the same stamp if and only if they are of the same
- * service, client and time. Use it if several instances of a service share a store. Let the client
- * in only if the store adds the stamp, in one step, and says that it was new. Have the store keep it
- * until `keep_until`, rounded up. That is the client's time plus twice `skew`, in seconds; `skew` is
- * the largest of all instances. Read the clock again after the store's answer, and refuse the
- * request if the clock is then later than the request's time by more than the skew.
- * docs/OPERATING.md has all rules for such a store. `keep_until` is written even if the buffer is
- * too short.
+ * service, client and time. `skew` is the largest skew of all instances, in seconds. `keep_until`
+ * is the client's time plus twice `skew`. It is written even if the buffer is too short.
+ *
+ * Use the stamp if several instances of a service share a store. Let the client in only if the
+ * store adds the stamp, in one step, and says that it was new. The store keeps it until
+ * `keep_until`, rounded up. After its answer read the clock again, and refuse the request if the
+ * clock is later than the request's time by more than the skew. docs/OPERATING.md, "Several
+ * instances", has all rules.
  *
  * Returns FEVSTUNIK_OK or FEVSTUNIK_SHORT_BUFFER; or writes nothing and returns
  * FEVSTUNIK_EMPTY_HANDLE, FEVSTUNIK_NOTHING_THERE, FEVSTUNIK_BAD_SKEW (more than 86,400 seconds),
- * FEVSTUNIK_BAD_MOMENT (`keep_until` would be after the year 9999) or FEVSTUNIK_OUT_OF_MEMORY.
+ * FEVSTUNIK_BAD_MOMENT (`keep_until` would be after the year 9999: refuse the client) or
+ * FEVSTUNIK_OUT_OF_MEMORY.
  *
  *     fevstunik_time keep_until;
  *     answer = fevstunik_accepted_stamp(&accepted, 300, &keep_until, buffer, sizeof buffer);
@@ -827,7 +834,7 @@ fevstunik_answer fevstunik_accepted_item(const fevstunik_accepted *accepted, uin
  *
  *     fevstunik_choice choice = {0, 0, false, false};
  *     uint8_t reply[256];
- *     answer = fevstunik_accepted_reply(&accepted, random, 16, &choice, random, 0, reply, sizeof reply);
+ *     answer = fevstunik_accepted_reply(&accepted, confounder, 16, &choice, NULL, 0, reply, sizeof reply);
  */
 fevstunik_answer fevstunik_accepted_reply(const fevstunik_accepted *accepted, const uint8_t *confounder, size_t confounder_size,
                                           const fevstunik_choice *choice, const uint8_t *subkey, size_t subkey_size, uint8_t *buffer,
@@ -897,10 +904,11 @@ void fevstunik_acceptor_free(fevstunik_acceptor *handle);
 /* ---- the client's side ---- */
 
 /* Builds a request (the bytes of an AP-REQ) for a service from the first credential of a cache that
- * fits. It fits if it has a ticket of the cache's default principal for the service, its session
- * key is usable, and it expires later than `at`, the client's clock. `service` has the service's
- * name as text, such as host/web@EX. `confounder` is 16 random bytes, new for each call. `subkey`
- * has the bytes of the subkey whose type is in `choice`. If that type is 0, they are ignored.
+ * fits. A credential fits if it is a ticket of the default principal for the service, has a usable
+ * session key, and ends after `at`, the time of the client's clock. `service` has the service's
+ * name as text, such as host/web@EX. `confounder` is 16 random bytes, new for each request (a
+ * repeat for a longer buffer keeps it). `subkey` has the bytes of the subkey whose type is in
+ * `choice`. If that type is 0, they are ignored.
  *
  * Keeps what is needed to read the reply in the handle `pending`, even if the buffer is too short.
  * What that handle held is freed. The cache's handle keeps the keys that were derived, so later
@@ -917,7 +925,7 @@ void fevstunik_acceptor_free(fevstunik_acceptor *handle);
  *
  *     fevstunik_pending pending = FEVSTUNIK_PENDING_INIT;
  *     fevstunik_choice choice = {0, 0, false, true};
- *     answer = fevstunik_request(&cache, &pending, (const uint8_t *)"host/web@EX", 11, &now, random, 16, &choice, random, 0,
+ *     answer = fevstunik_request(&cache, &pending, (const uint8_t *)"host/web@EX", 11, &now, confounder, 16, &choice, NULL, 0,
  *                                buffer, sizeof buffer);
  */
 fevstunik_answer fevstunik_request(const fevstunik_cache *cache, fevstunik_pending *pending, const uint8_t *service, size_t service_size,
@@ -931,16 +939,15 @@ fevstunik_answer fevstunik_request(const fevstunik_cache *cache, fevstunik_pendi
  * 1 (delegation) is never set, whatever `context->flags` says. Such a request also needs a sequence
  * number (`choice->has_seq`). Pass the request to fevstunik_token_request.
  *
- * Returns what fevstunik_request returns: FEVSTUNIK_OK or FEVSTUNIK_SHORT_BUFFER; or writes
- * nothing, leaves `pending` unchanged, and returns the first that applies: FEVSTUNIK_EMPTY_HANDLE
- * if `cache` is empty; FEVSTUNIK_NOT_UTF8, _BAD_TEXT or _NO_REALM for the service;
- * FEVSTUNIK_BAD_MOMENT; FEVSTUNIK_BAD_CONFOUNDER; FEVSTUNIK_KEY_TYPE or _KEY_LENGTH;
- * FEVSTUNIK_NO_CREDENTIAL, _NO_USABLE_KEY, _CREDENTIAL_EXPIRED, _BAD_TICKET or _TOO_LONG; or
- * FEVSTUNIK_OUT_OF_MEMORY.
+ * Returns FEVSTUNIK_OK or FEVSTUNIK_SHORT_BUFFER; or writes nothing, leaves `pending` unchanged,
+ * and returns the first that applies: FEVSTUNIK_EMPTY_HANDLE if `cache` is empty;
+ * FEVSTUNIK_NOT_UTF8, _BAD_TEXT or _NO_REALM for the service; FEVSTUNIK_BAD_MOMENT;
+ * FEVSTUNIK_BAD_CONFOUNDER; FEVSTUNIK_KEY_TYPE or _KEY_LENGTH; FEVSTUNIK_NO_CREDENTIAL,
+ * _NO_USABLE_KEY, _CREDENTIAL_EXPIRED, _BAD_TICKET or _TOO_LONG; or FEVSTUNIK_OUT_OF_MEMORY.
  *
  *     fevstunik_choice choice = {0, number, true, true};
  *     fevstunik_context_choice context = {0, {0}};
- *     answer = fevstunik_context_request(&cache, &pending, (const uint8_t *)"host/web@EX", 11, &now, random, 16, &choice, random, 0,
+ *     answer = fevstunik_context_request(&cache, &pending, (const uint8_t *)"host/web@EX", 11, &now, confounder, 16, &choice, NULL, 0,
  *                                        &context, buffer, sizeof buffer);
  */
 fevstunik_answer fevstunik_context_request(const fevstunik_cache *cache, fevstunik_pending *pending, const uint8_t *service,
@@ -952,7 +959,8 @@ fevstunik_answer fevstunik_context_request(const fevstunik_cache *cache, fevstun
 /* Reads the reply (the bytes of an AP-REP) to the request that is kept in the handle, and returns
  * what both sides agree on. Writes the client's text, the session key and the service's subkey to
  * the buffer, one after the other, and their places and the numbers to `agreement`. `agreement` is
- * written even if the buffer is too short. The handle is unchanged, so another reply may be read.
+ * written even if the buffer is too short. On FEVSTUNIK_SHORT_BUFFER the places lie in the longer
+ * buffer that you need: don't use them yet. The handle is unchanged, so another reply may be read.
  *
  * Returns FEVSTUNIK_OK or FEVSTUNIK_SHORT_BUFFER; or writes nothing and returns the first that
  * applies: FEVSTUNIK_EMPTY_HANDLE, FEVSTUNIK_REPLY_TYPE, _REPLY_MALFORMED, _REPLY_INTEGRITY,
@@ -982,7 +990,7 @@ void fevstunik_pending_free(fevstunik_pending *pending);
  * applies: FEVSTUNIK_KEY_TYPE, FEVSTUNIK_KEY_LENGTH, FEVSTUNIK_BAD_CONFOUNDER or
  * FEVSTUNIK_OUT_OF_MEMORY.
  *
- *     answer = fevstunik_seal(19, key, 16, 1024, random, 16, text, text_size, buffer, sizeof buffer);
+ *     answer = fevstunik_seal(19, key, 16, 1024, confounder, 16, text, text_size, buffer, sizeof buffer);
  */
 fevstunik_answer fevstunik_seal(int32_t key_type, const uint8_t *key, size_t key_size, uint32_t usage, const uint8_t *confounder,
                                 size_t confounder_size, const uint8_t *plain, size_t plain_size, uint8_t *buffer, size_t buffer_size);
@@ -1074,7 +1082,9 @@ fevstunik_answer fevstunik_token_error(const fevstunik_wrapped *wrapped, const u
                                        size_t buffer_size);
 
 /* Opens a service's answer to a client's first token, and returns the reply or the KRB-ERROR.
- * `is_error` says which; it is set on FEVSTUNIK_OK and FEVSTUNIK_SHORT_BUFFER. The call allocates
+ * `is_error` says which; it is set on FEVSTUNIK_OK and FEVSTUNIK_SHORT_BUFFER. An answer in a
+ * negotiation may have neither, for example if the request asked for no reply. Then the call
+ * returns FEVSTUNIK_TOKEN_EMPTY, though the service may have let the client in. The call allocates
  * no memory.
  *
  * Returns FEVSTUNIK_OK or FEVSTUNIK_SHORT_BUFFER; or writes nothing and returns
@@ -1089,9 +1099,10 @@ fevstunik_answer fevstunik_token_answer(const uint8_t *token, size_t token_size,
 /* Reads what a GSS-API client asks for, in the authenticator's checksum of type 0x8003 (32771; RFC
  * 4121, section 4.1.1), as `fevstunik_accepted_item` returns it. Check the item's type first: the
  * call can't. The bindings, the delegation and the extensions are written to the buffer. `context`
- * is filled on FEVSTUNIK_OK and FEVSTUNIK_SHORT_BUFFER. The call compares the bindings with
- * nothing: if you know your channel's bindings, compare their MD5 hash with these bytes. 16 zeros
- * mean that the client bound nothing; decide whether you accept that.
+ * is filled on FEVSTUNIK_OK and FEVSTUNIK_SHORT_BUFFER: on the latter the places lie in the longer
+ * buffer that you need. The call compares the bindings with nothing: if you know your channel's
+ * bindings, compare their MD5 hash with these bytes. 16 zeros mean that the client bound nothing;
+ * decide whether you accept that.
  *
  * Returns FEVSTUNIK_OK or FEVSTUNIK_SHORT_BUFFER; or writes nothing and returns
  * FEVSTUNIK_CONTEXT_TRUNCATED, FEVSTUNIK_CONTEXT_BINDINGS, FEVSTUNIK_CONTEXT_DELEGATION or

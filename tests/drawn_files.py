@@ -253,38 +253,37 @@ class Credentials:
         if not self.hand.fill(count):
             raise Stop(True)
 
-    def number(self, form, after=0):
-        """The number after so many bytes, with which it is taken."""
+    def numbers(self, form, after=0):
+        """The numbers after so many bytes, with which they are taken."""
         size = struct.calcsize(form)
         self.take(after + size)
         source = self.hand.source
-        return struct.unpack(form, source.data[source.at - size : source.at])[0]
+        return struct.unpack(form, source.data[source.at - size : source.at])
 
-    def data(self):
-        self.take(self.number(">I"))
+    def number(self, form, after=0):
+        return self.numbers(form, after)[0]
 
-    def name(self):
-        count = self.number(">I", 4)
-        length = self.number(">I")
+    # Each of these takes a part but for its last bytes, after so many others, and gives how many the last ones are.
+
+    def name(self, last=0):
+        count, last = self.numbers(">II", last + 4)
         for _ in range(count):
-            length = self.number(">I", length)
-        self.take(length)
+            last = self.number(">I", last)
+        return last
 
-    def list(self):
-        for _ in range(self.number(">I")):
-            self.take(2)
-            self.data()
+    def list(self, last):
+        count, last = self.number(">I", last), 0
+        for _ in range(count):
+            last = self.number(">I", last + 2)
+        return last
 
     def credential(self):
-        self.name()
-        self.name()
-        length = self.number(">I", 4 if self.found == reference.OLD else 2)
-        self.number("B", length + 16)
-        self.take(4)
-        self.list()
-        self.list()
-        self.data()
-        self.data()
+        server = self.name(self.name())
+        key = self.number(">I", server + (4 if self.found == reference.OLD else 2))
+        self.number("B", key + 16)
+        authdata = self.list(self.list(4))
+        ticket = self.number(">I", authdata)
+        self.take(self.number(">I", ticket))
         return reference.credential(Reader(self.hand.bytes()), self.found)
 
     def version(self):
@@ -300,7 +299,7 @@ class Credentials:
         return reference.header_fields(self.hand.bytes()[2:])
 
     def default(self):
-        self.name()
+        self.take(self.name())
         return reference.cache_principal(Reader(self.hand.bytes()))
 
     def part(self, function, fault):

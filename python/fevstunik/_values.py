@@ -227,7 +227,7 @@ def check_name(text: str) -> int:
     >>> check_name("host/web")
     Traceback (most recent call last):
         ...
-    fevstunik.Fault: NO_REALM: the text has no `@` without a backslash before it
+    fevstunik.Fault: NO_REALM: the text has no unescaped `@`
     """
     data = text.encode()
     return int(done(library().call("name_check", data, len(data))).size)

@@ -1,3 +1,4 @@
+pub mod ServiceKeys
 pub mod Stages
 pub mod Facts
 pub mod Judging

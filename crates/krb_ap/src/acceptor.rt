@@ -18,8 +18,9 @@ use crate::accepted::Accepted;
 use crate::call::{Call, Outcome};
 use crate::inner_laws::facts;
 use crate::laws::no_stamp_twice;
+use crate::ready_key::ReadyKey;
 use crate::refusal::Refusal;
-use krb_enc::UsageKey;
+use crate::service_key::ServiceKey;
 use krb_keytab::Keytab;
 use krb_msg::Moment;
 use krb_replay::{ReplayMemory, Skew, Tuple};
@@ -29,10 +30,11 @@ use std::marker::Model;
 /// The service's side of the exchange (RFC 4120, section 3.2.3): a keytab, a skew and a memory of
 /// seen requests.
 ///
-/// It caches, in place, the keys that it derived for tickets under the service key that it used
-/// last, so the next ticket under that key costs no derivation. A contract sees the entries, the
-/// skew and the start, by which the service decides, and the memory. No answer depends on the
-/// cached keys.
+/// It caches the keys that it derived from the service key and from the session key that it used
+/// last, and the ticket that it opened last, with its plain text. So the next request with the same
+/// ticket costs no derivation, and only its authenticator is opened. If there is no memory to cache
+/// a ticket, it is opened again. A contract sees the entries, the skew and the start, by which the
+/// service decides, and the memory. No answer depends on what is cached.
 #[derive(Drop)]
 pub struct Acceptor<M> {
     pub(crate) keytab: Keytab,
@@ -40,8 +42,10 @@ pub struct Acceptor<M> {
     pub(crate) memory: M,
     // When it was started again, if it had an earlier life.
     pub(crate) start: Option<Moment>,
-    // The keys for tickets of the service key that was used last, so that they needn't be derived again for the next ticket.
-    pub(crate) ready: Option<UsageKey>,
+    // The service key that was used last, with its keys for tickets and the ticket that it opened last, for the next request.
+    pub(crate) ready: Option<ServiceKey>,
+    // The session key that was used last, with its keys for authenticators, for the next request with that ticket.
+    pub(crate) session: Option<ReadyKey>,
 }
 
 impl<M> Model for Acceptor<M> {
@@ -103,6 +107,7 @@ impl<M: ReplayMemory> Acceptor<M> {
             memory,
             start,
             ready: None,
+            session: None,
         }
     }
 

@@ -2,6 +2,7 @@
 
 ghost use Rattle.std.specs.Prelude.{◌≡◌, ◌↔◌, ℕ, List, IfOk, IsErrOf, IsTrue};
 ghost use Rattle.std.specs.Option.{option_map};
+ghost use Rattle.krb_enc.specs.Key.{IsUsable};
 ghost use Rattle.krb_msg.specs.Borrowed.{ap_req_of, authenticator_of, enc_ticket_part_of, typed_of};
 ghost use Rattle.krb_msg.specs.Owned.{owned_list_of, owned_typed_of};
 ghost use Rattle.krb_ap.specs.Opened.{Asks, AsksFor, IsOrdinary, OpenedAs, Ticketed, session_key as key_of_part, service_of};
@@ -17,10 +18,13 @@ use crate::inner_laws::facts;
 use crate::keys::owned_key;
 use crate::opening::{
     is_of_type, is_same_client, open_authenticator, read_authenticator, read_part, read_request,
-    service, usable_key,
+    service,
 };
+use crate::ready_key::ReadyKey;
 use crate::refusal::Refusal;
-use crate::ticket_keys::{make_ready, open_ticket};
+use crate::service_key::ServiceKey;
+use crate::session_keys::make_session_ready;
+use crate::ticket_keys::{make_ready, open_ticket, opened_ticket};
 use crate::times::{is_near, is_past, refusal_of_times};
 use krb_enc::Key;
 use krb_msg::{
@@ -77,18 +81,45 @@ impl<M: ReplayMemory> Acceptor<M> {
         ensures judged { (bytes : List ℕ) → Asks bytes (ap_req_of request.now) → server ≡ service_of (ap_req_of request.now)
             → JudgedBy M.has M.newest self.old bytes now result }
     {
+        // The opened ticket is borrowed from the cached service key, so that is taken out meanwhile.
+        let mut ready = self.ready.take();
+        let judged = self.judge_sealed(alloc, &mut ready, server, request, now);
+        self.ready = ready;
+        judged
+    }
+
+    fn judge_sealed(
+        &mut self,
+        alloc: Global,
+        ready: &mut Option<ServiceKey>,
+        server: Principal,
+        request: &ApReqRef,
+        now: Moment,
+    ) -> Result<Judged, Refusal>
+        ensures same { self.new ≡ self.old }
+        ensures named { IsNamed result }
+        ensures placeless { IsPlaceless result }
+        ensures service { IsFor (service_of (ap_req_of request.now)) result }
+        ensures judged { (bytes : List ℕ) → Asks bytes (ap_req_of request.now) → server ≡ service_of (ap_req_of request.now)
+            → JudgedBy M.has M.newest self.old bytes now result }
+    {
         facts();
         let sealed = &request.ticket.enc_part;
-        make_ready(&mut self.ready, &self.keytab, &server, sealed)?;
-        let plain = open_ticket(alloc, &self.ready, sealed.cipher)?;
-        let part = read_part(plain.as_slice())?;
-        self.judge_ticket(alloc, server, request, &part, now)
+        make_ready(alloc, ready, &self.keytab, &server, sealed)?;
+        open_ticket(alloc, ready, sealed.cipher)?;
+        let part = read_part(opened_ticket(ready))?;
+        make_session_ready(&mut self.session, &part.key)?;
+        match &self.session {
+            Some(key) => self.judge_ticket(alloc, server, key, request, &part, now),
+            None => unreachable!(),
+        }
     }
 
     fn judge_ticket(
         &self,
         alloc: Global,
         server: Principal,
+        key: &ReadyKey,
         request: &ApReqRef,
         part: &EncTicketRef,
         now: Moment,
@@ -97,21 +128,21 @@ impl<M: ReplayMemory> Acceptor<M> {
         ensures placeless { IsPlaceless result }
         ensures service { IsFor (service_of (ap_req_of request.now)) result }
         ensures judged { (bytes : List ℕ) → Ticketed self.now.setup bytes (ap_req_of request.now) (enc_ticket_part_of part.now)
-            → server ≡ service_of (ap_req_of request.now)
+            → server ≡ service_of (ap_req_of request.now) → key.now ≡ key_of_part (enc_ticket_part_of part.now)
+            → IsUsable (key_of_part (enc_ticket_part_of part.now))
             → JudgedBy M.has M.newest self.now bytes now result }
     {
         facts();
-        let key = usable_key(&part.key)?;
         let sealed = &request.authenticator;
         if !is_of_type(sealed, &part.key) {
             return Err(Refusal::AuthenticatorIntegrity);
         }
-        let plain = open_authenticator(alloc, &key, sealed.cipher)?;
+        let plain = open_authenticator(alloc, key, sealed.cipher)?;
         let auth = read_authenticator(plain.as_slice())?;
         if !is_same_client(part, &auth) {
             return Err(Refusal::BadMatch);
         }
-        self.judge_opened(alloc, server, key, request, part, &auth, now)
+        self.judge_opened(alloc, server, key.key().copy(), request, part, &auth, now)
     }
 
     fn judge_opened(

@@ -2,24 +2,25 @@
 //! authenticator.
 
 ghost use Rattle.std.specs.Prelude.{◌≡◌, ◌≢◌, ◌<◌, ◌↔◌, ℕ, ℤ, IfOk, IfErr, IsTrue};
-ghost use Rattle.krb_enc.specs.Key.{IsKnown, IsUsable, profile_of};
+ghost use Rattle.krb_enc.specs.Key.{IsKnown, profile_of};
 ghost use Rattle.krb_enc.specs.Opens.{Opens};
 ghost use Rattle.krb_der.specs.Spells.{IsMessage};
-ghost use Rattle.krb_msg.specs.Borrowed.{ap_req_of, authenticator_of, enc_ticket_part_of, name_of, key_of};
-ghost use Rattle.krb_msg.specs.Fields.{ticket_service, principal_in, type_of, bytes_of};
+ghost use Rattle.krb_msg.specs.Borrowed.{ap_req_of, authenticator_of, enc_ticket_part_of, name_of};
+ghost use Rattle.krb_msg.specs.Fields.{ticket_service, principal_in};
 ghost use Rattle.krb_msg.specs.Borrowed.{ticket_of};
 ghost use Rattle.krb_msg.specs.Module.{ap_req, authenticator, enc_ticket_part};
 ghost use Rattle.krb_ap.specs.Causes.{BeginsOtherwise, place};
 ghost use Rattle.krb_ap.specs.Opened.{Asks, SameClient, authenticator_usage};
 ghost use Rattle.krb_ap.specs.Inner.Stages.{IsCauseOfBytes, IsNone, IsShut};
-ghost use Rattle.krb_ap.specs.declared.refusal.Refusal.TheVariants.{OutOfMemory, TicketIntegrity, AuthenticatorIntegrity, SessionKey, Skew};
+ghost use Rattle.krb_ap.specs.declared.refusal.Refusal.TheVariants.{OutOfMemory, TicketIntegrity, AuthenticatorIntegrity, Skew};
 
 use crate::inner_laws::facts;
+use crate::ready_key::ReadyKey;
 use crate::refusal::Refusal;
-use krb_enc::{Key, OpenFault, UsageKey, etype};
+use krb_enc::{OpenFault, UsageKey, etype};
 use krb_msg::{
     ApReqRef, AuthenticatorRef, EncTicketRef, EncryptedRef, KeyRef, NameRef, Principal, TicketRef,
-    USE_SESSION_KEY, tag, usage,
+    USE_SESSION_KEY, tag,
 };
 use std::alloc::{AllocError, Global};
 
@@ -94,7 +95,7 @@ pub(crate) fn open_under(
 /// Opens an authenticator under a ticket's session key.
 pub(crate) fn open_authenticator(
     alloc: Global,
-    key: &Key,
+    key: &ReadyKey,
     cipher: &[u8],
 ) -> Result<Vec<u8>, Refusal>
     ensures opened { IfOk result (λ plain.
@@ -102,8 +103,7 @@ pub(crate) fn open_authenticator(
     ensures refused { IfErr result (λ refusal. refusal ≢ OutOfMemory → refusal ≡ AuthenticatorIntegrity) }
     ensures nothing { IfErr result (λ refusal. refusal ≢ OutOfMemory → IsShut key.now authenticator_usage cipher.now) }
 {
-    let ready = key.for_usage(usage::AUTHENTICATOR);
-    open_under(alloc, &ready, cipher, Refusal::AuthenticatorIntegrity)
+    open_under(alloc, key.keys(), cipher, Refusal::AuthenticatorIntegrity)
 }
 
 /// Reads the opened ticket. It allocates no memory.
@@ -127,19 +127,6 @@ pub(crate) fn read_authenticator<'a>(plain: &'a [u8]) -> Result<AuthenticatorRef
     match AuthenticatorRef::parse(plain) {
         Ok(auth) => Ok(auth),
         Err(_) => Err(Refusal::AuthenticatorIntegrity),
-    }
-}
-
-/// The ticket's session key, if it is usable. It allocates no memory.
-pub(crate) fn usable_key(key: &KeyRef) -> Result<Key, Refusal>
-    ensures made { IfOk result (λ made. made ≡ record { etype = type_of (key_of key.now); bytes = bytes_of (key_of key.now) }) }
-    ensures usable { IfOk result IsUsable }
-    ensures refused { IfErr result (λ refusal. (refusal ≡ SessionKey)
-        × ¬ IsUsable (record { etype = type_of (key_of key.now); bytes = bytes_of (key_of key.now) })) }
-{
-    match Key::new(key.etype, key.bytes) {
-        Ok(key) => Ok(key),
-        Err(_) => Err(Refusal::SessionKey),
     }
 }
 

@@ -12,11 +12,11 @@ use krb_msg::usage;
 use std::alloc::{AllocError, Global};
 use std::marker::Model;
 
-/// A session key, and the keys that seal an authenticator under it.
+/// A session key, and the keys that seal and open authenticators under it.
 #[derive(Drop)]
 pub(crate) struct ReadyKey {
     key: Key,
-    sealing: UsageKey,
+    keys: UsageKey,
 }
 
 impl Model for ReadyKey {
@@ -28,18 +28,24 @@ impl Model for ReadyKey {
 
     ghost view = { λ k. k.key };
 
-    ghost invariant = { λ k. k.sealing ≡ record { key = k.key; usage = authenticator_usage } };
+    ghost invariant = { λ k. k.keys ≡ record { key = k.key; usage = authenticator_usage } };
 }
 
 impl ReadyKey {
+    /// Derives the keys from a session key.
+    pub(crate) fn new(key: Key) -> ReadyKey
+        ensures { result ≡ key }
+    {
+        let keys = key.for_usage(usage::AUTHENTICATOR);
+        ReadyKey { key, keys }
+    }
+
     /// Derives the keys from a credential's session key.
     pub(crate) fn of(credential: &Credential) -> ReadyKey
         requires { IsUsable (credential_key credential.now) }
         ensures { result ≡ credential_key credential.now }
     {
-        let key = session_key(credential);
-        let sealing = key.for_usage(usage::AUTHENTICATOR);
-        ReadyKey { key, sealing }
+        ReadyKey::new(session_key(credential))
     }
 
     /// Returns whether this is the credential's session key.
@@ -47,8 +53,14 @@ impl ReadyKey {
         ensures { IsTrue result ↔ (self.now ≡ credential_key credential.now) }
     {
         let etype = i32::from(credential.etype);
-        self.sealing
-            .is_for(etype, credential.key.as_slice(), usage::AUTHENTICATOR)
+        self.is_for(etype, credential.key.as_slice())
+    }
+
+    /// Returns whether this is the key of type `etype` with the bytes `key`.
+    pub(crate) fn is_for(&self, etype: i32, key: &[u8]) -> bool
+        ensures { IsTrue result ↔ (self.now ≡ record { etype = etype; bytes = key.now }) }
+    {
+        self.keys.is_for(etype, key, usage::AUTHENTICATOR)
     }
 
     /// The session key.
@@ -56,6 +68,13 @@ impl ReadyKey {
         ensures { result.now ≡ self.now }
     {
         &self.key
+    }
+
+    /// The keys for authenticators.
+    pub(crate) fn keys(&self) -> &UsageKey
+        ensures { result.now ≡ record { key = self.now; usage = authenticator_usage } }
+    {
+        &self.keys
     }
 
     /// Seals an authenticator.
@@ -70,7 +89,7 @@ impl ReadyKey {
     {
         krb_enc::laws::each_profile_is_known();
         krb_enc::laws::sealed_lengths();
-        Ok(self.sealing.seal(alloc, confounder, plain)?)
+        Ok(self.keys.seal(alloc, confounder, plain)?)
     }
 }
 

@@ -32,7 +32,7 @@ impl<M: ReplayMemory> Acceptor<M> {
         self.put_keytab(keytab)
     }
 
-    // The keys that were derived from the old keytab go with it.
+    // What is cached of a service key of the old keytab goes with it.
     fn put_keytab(&mut self, keytab: Keytab) -> Keytab
         ensures setup { self.new.setup ≡ with_entries self.old.setup keytab }
         ensures memory { self.new.memory ≡ self.old.memory }

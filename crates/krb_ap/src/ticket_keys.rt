@@ -1,16 +1,17 @@
 //! The keys that open tickets: derived from the key that a keytab has for a ticket, and cached for
-//! later tickets.
+//! later tickets, with the plain text of the last one.
 
-ghost use Rattle.std.specs.Prelude.{◌≡◌, ◌≢◌, ◌↔◌, IfOk, IfErr, IsSome, IfSome, IsTrue, OnOk, Some};
-ghost use Rattle.krb_enc.specs.Key.{IsUsable, profile_of};
-ghost use Rattle.krb_enc.specs.Opens.{Opens};
+ghost use Rattle.std.specs.Prelude.{◌≡◌, ◌≢◌, ◌↔◌, IfErr, IsSome, IfSome, IsTrue, OnOk, Some};
+ghost use Rattle.std.specs.Option.{option_map};
+ghost use Rattle.krb_enc.specs.Key.{IsUsable};
 ghost use Rattle.krb_msg.specs.Borrowed.{encrypted_of};
 ghost use Rattle.krb_ap.specs.Opened.{entry_key};
+ghost use Rattle.krb_ap.specs.Inner.ServiceKeys.{HoldsOpened, keys_of};
 ghost use Rattle.krb_ap.specs.Inner.Stages.{HoldsChosen, IsShut, Wants, ready_key};
 ghost use Rattle.krb_ap.specs.declared.refusal.Refusal.TheVariants.{OutOfMemory, TicketIntegrity};
 
-use crate::opening::open_under;
 use crate::refusal::Refusal;
+use crate::service_key::ServiceKey;
 use krb_enc::{Key, UsageKey};
 use krb_keytab::{Entry, Keytab, Picked};
 use krb_msg::{EncryptedRef, Principal, usage};
@@ -19,7 +20,8 @@ use std::alloc::Global;
 /// Makes `ready` the keys for tickets of the key that a keytab has for a service's ticket. If it
 /// has them already, nothing is derived. It allocates no memory.
 pub(crate) fn make_ready(
-    ready: &mut Option<UsageKey>,
+    alloc: Global,
+    ready: &mut Option<ServiceKey>,
     keytab: &Keytab,
     service: &Principal,
     sealed: &EncryptedRef,
@@ -29,7 +31,7 @@ pub(crate) fn make_ready(
 {
     match keytab.pick(service, sealed.etype, sealed.kvno) {
         Picked::Entry(entry) => {
-            make_ready_for(ready, entry);
+            make_ready_for(alloc, ready, entry);
             Ok(())
         }
         Picked::NoName => Err(Refusal::NotUs),
@@ -38,20 +40,20 @@ pub(crate) fn make_ready(
     }
 }
 
-fn make_ready_for(ready: &mut Option<UsageKey>, entry: &Entry)
+fn make_ready_for(alloc: Global, ready: &mut Option<ServiceKey>, entry: &Entry)
     requires { IsUsable (entry_key entry.now) }
-    ensures { ready.new ≡ Some (ready_key (entry_key entry.now)) }
+    ensures { option_map keys_of ready.new ≡ Some (ready_key (entry_key entry.now)) }
 {
     if !is_ready(ready, entry) {
-        *ready = Some(derived(entry));
+        *ready = Some(ServiceKey::new(alloc, derived(entry)));
     }
 }
 
-fn is_ready(ready: &Option<UsageKey>, entry: &Entry) -> bool
-    ensures { IsTrue result ↔ (ready.now ≡ Some (ready_key (entry_key entry.now))) }
+fn is_ready(ready: &Option<ServiceKey>, entry: &Entry) -> bool
+    ensures { IsTrue result ↔ (option_map keys_of ready.now ≡ Some (ready_key (entry_key entry.now))) }
 {
     match ready {
-        Some(key) => key.is_for(i32::from(entry.etype()), entry.key(), usage::TICKET),
+        Some(key) => key.is_for(i32::from(entry.etype()), entry.key()),
         None => false,
     }
 }
@@ -66,21 +68,31 @@ fn derived(entry: &Entry) -> UsageKey
     }
 }
 
-/// Opens a ticket under the cached key.
+/// Opens a ticket under the cached key, unless it is the one that was opened last.
 pub(crate) fn open_ticket(
     alloc: Global,
-    ready: &Option<UsageKey>,
+    ready: &mut Option<ServiceKey>,
     cipher: &[u8],
-) -> Result<Vec<u8>, Refusal>
-    requires { IsSome ready.now }
-    ensures opened { IfOk result (λ plain. IfSome ready.now
-        (λ k. Opens (profile_of k.key) k.key.bytes k.usage cipher.now plain.items)) }
+) -> Result<(), Refusal>
+    requires { IsSome ready.old }
+    ensures opened { OnOk result (IfSome ready.old (λ k. HoldsOpened k.keys cipher.now ready.new)) }
     ensures refused { IfErr result (λ refusal. refusal ≢ OutOfMemory → refusal ≡ TicketIntegrity) }
     ensures nothing { IfErr result (λ refusal. refusal ≢ OutOfMemory
-        → IfSome ready.now (λ k. IsShut k.key k.usage cipher.now)) }
+        → IfSome ready.old (λ k. IsShut k.keys.key k.keys.usage cipher.now)) }
 {
     match ready {
-        Some(key) => open_under(alloc, key, cipher, Refusal::TicketIntegrity),
+        Some(key) => key.open(alloc, cipher),
+        None => unreachable!(),
+    }
+}
+
+/// The plain text of the ticket that was opened last.
+pub(crate) fn opened_ticket(ready: &Option<ServiceKey>) -> &[u8]
+    requires { IsSome ready.now }
+    ensures { IfSome ready.now (λ k. result.now ≡ k.plain) }
+{
+    match ready {
+        Some(key) => key.plain(),
         None => unreachable!(),
     }
 }

@@ -50,6 +50,8 @@ fn cache_laws() {
     krb_ccache::laws::each_fault_lies_within();
     krb_ccache::laws::a_source_tells_its_file();
     krb_ccache::laws::a_reader_stops_in_one_place();
+    krb_ccache::laws::a_reader_gives_the_first_credentials();
+    krb_ccache::laws::each_credential_ends_at_one_place();
 }
 
 /// Calls of names.

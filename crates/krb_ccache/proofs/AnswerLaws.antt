@@ -4,7 +4,7 @@ use Rattle.std.specs.Int.{w16}
 use Rattle.std.specs.Prelude.{IfOk, IfErr}
 use Rattle.std.specs.List.{flat_map}
 use Rattle.std.proofs.lemmas.Bool.{cases_lt}
-use Rattle.std.proofs.lemmas.List.{drop_at}
+use Rattle.std.proofs.lemmas.List.{drop_at, length-append, length-map, map-append, nil_from_length}
 use Rattle.std.proofs.lemmas.List.Elements.{recursion_from_All}
 use Rattle.krb_name.specs.Cursor.{Place, data_at, number_bytes, data_bytes}
 use Rattle.krb_name.specs.Field.{IsBytes}
@@ -23,10 +23,11 @@ use Rattle.krb_ccache.specs.declared.fault.CacheFault.TheVariants.{Version, Head
 use Rattle.krb_ccache.specs.Inner.Reading.{field_at, name_at, layout_at, spelled_at}
 use Rattle.krb_ccache.specs.Inner.Standing.{bytes_of, Lies, Reaches, IsMissing, Fills}
 use Rattle.krb_ccache.specs.Inner.Stepping.{Any}
+use Rattle.krb_ccache.specs.Reader.{HasTaken, IsFirstOf}
 use Rattle.krb_ccache.proofs.PartLaws.{FitsField, IsField-field, IsField-name, IsField-layout, IsField-spelled}
-use Rattle.krb_ccache.proofs.Repeats.{same_front, same_things, runs_out}
+use Rattle.krb_ccache.proofs.Repeats.{same_front, same_things, first_things, runs_out}
 use Rattle.krb_ccache.proofs.HeaderLaws.{field_some, fits_fields, filled, filled_same, header_lies, header_cut, header_wrong, no_head, opened, no_version}
-use Rattle.krb_ccache.proofs.LayoutLaws.{credential_in, read_cache, written_reached, reached_written}
+use Rattle.krb_ccache.proofs.LayoutLaws.{credential_in, read_cache, written_reached, reached_written, reached_before}
 use Rattle.krb_ccache.proofs.FileLaws.{spelled_bytes_some, name_lies, name_missing, Begun, HasStart, header_read, cache_read, cache_found, header_fault, default_fault}
 
 -- ---- at most one answer
@@ -108,6 +109,61 @@ module _ (bytes : List ℕ) where
   same_reached layout also one other at here a b p q ends too =
       let start = same_start bytes layout also one.header other.header _ _ (reached_start layout at one a p) (reached_start also here other b q) in
       same_in layout one other at here a b p (subst (λ (l : Layout). IsReached l bytes here other b) (sym start.layouts) q) ends (subst (λ (l : Layout). Ends l b) (sym start.layouts) too)
+
+-- ---- the first credentials
+
+module _ (bytes : List ℕ) where
+  -- with one layout
+  first_in : (layout : Layout) (one other : Cache) (at here : ℕ) (a b : List ℕ) → IsReached layout bytes at one a → IsReached layout bytes here other b → (length one.credentials ≤ length other.credentials) ⊎ (b ≡ []) → IsFirstOf one other × (one ≡ other → at ≡ here)
+  first_in layout one other at here a b p q ends =
+      let start = same_start bytes layout layout one.header other.header _ _ (reached_start bytes layout at one a p) (reached_start bytes layout here other b q) in
+      let name = same_front name_at name_bytes FitsName IsField-name one.default_principal other.default_principal (after_name p.spelled a) (after_name q.spelled b) p.name_fits q.name_fits start.behinds in
+      let first = first_things (spelled_at layout) bytes_of (Spells layout) (IsField-spelled layout) (spelled_bytes_some layout) p.spelled q.spelled a b (recursion_from_All (Spells layout) p.spelled p.spell) (recursion_from_All (Spells layout) q.spelled q.spell) (fewer ends) name.1 in
+      let credentials = q.credentials_are ∙ ap (map credential_in) first.1 ∙ map-append credential_in p.spelled first.0 ∙ ap (λ (cs : List Credential). cs ++ map credential_in first.0) (sym p.credentials_are) in (
+        record { header = start.headers; default_principal = name.0; others = map credential_in first.0; credentials = credentials },
+        λ same.
+            let none : first.0 ≡ [] = nil_from_length first.0 (omega (arith, length-map first.0 credential_in, ap length credentials, length-append one.credentials (map credential_in first.0), ap (λ (cache : Cache). length cache.credentials) same)) in
+            let spelled : q.spelled ≡ p.spelled = first.1 ∙ ap (λ (t : List Spelled). p.spelled ++ t) none ∙ append-nil p.spelled in
+            omega (
+              arith,
+              p.at_is,
+              q.at_is,
+              ap (λ (header : List HeaderField). length (start_bytes layout header)) start.headers,
+              ap (λ (n : Principal). length (name_bytes n)) name.0,
+              ap (λ (ones : List Spelled). length (flat_map bytes_of ones)) spelled,
+            ),
+      )
+    where
+      fewer : (length one.credentials ≤ length other.credentials) ⊎ (b ≡ []) → (length p.spelled ≤ length q.spelled) ⊎ (b ≡ [])
+      fewer (inl few) = inl (omega (arith, few, ap length p.credentials_are, ap length q.credentials_are, length-map p.spelled credential_in, length-map q.spelled credential_in))
+      fewer (inr none) = inr none
+
+  pub first_reached : (layout also : Layout) (one other : Cache) (at here : ℕ) (a b : List ℕ) → IsReached layout bytes at one a → IsReached also bytes here other b → (length one.credentials ≤ length other.credentials) ⊎ (b ≡ [])
+      → IsFirstOf one other × (one ≡ other → at ≡ here)
+  first_reached layout also one other at here a b p q ends =
+      let start = same_start bytes layout also one.header other.header _ _ (reached_start bytes layout at one a p) (reached_start bytes also here other b q) in
+      first_in layout one other at here a b p (subst (λ (l : Layout). IsReached l bytes here other b) (sym start.layouts) q) ends
+
+-- all that a reader has taken of these bytes is at their front
+taken_reached : (whole : List ℕ) (left : Option (List ℕ)) (layout : Layout) (at : ℕ) (cache : Cache) → HasTaken layout (Some whole) left at cache → (rest : List ℕ) × IsReached layout whole at cache rest
+taken_reached whole None layout at cache h = absurd h.taken
+taken_reached whole (Some rest) layout at cache h = (rest, subst (λ (t : List ℕ). IsReached layout t at cache rest) (sym h.taken) (reached_before layout h.bytes at cache h.reached rest))
+
+pub taken_first : (whole : List ℕ) (left : Option (List ℕ)) (layout : Layout) (at : ℕ) (cache all : Cache) → HasTaken layout (Some whole) left at cache → IsCache whole all → IsFirstOf cache all
+taken_first whole left layout at cache all h k =
+    let r = taken_reached whole left layout at cache h in
+    (first_reached whole layout k.layout cache all at k.at r.0 [] r.1 k.reached (inr refl)).0
+
+pub taken_same : (whole : List ℕ) (left right : Option (List ℕ)) (layout also : Layout) (at here : ℕ) (one other : Cache) → HasTaken layout (Some whole) left at one → HasTaken also (Some whole) right here other → length one.credentials ≡ length other.credentials → (one ≡ other) × (at ≡ here)
+taken_same whole left right layout also at here one other h k same =
+    let r = taken_reached whole left layout at one h in
+    let t = taken_reached whole right also here other k in
+    let first = first_reached whole layout also one other at here r.0 t.0 r.1 t.1 (inl (omega (arith, same))) in
+    let none : first.0.others ≡ [] = nil_from_length first.0.others (omega (arith, ap length first.0.credentials, length-append one.credentials first.0.others, same)) in
+    let credentials : one.credentials ≡ other.credentials = sym (first.0.credentials ∙ ap (λ (cs : List Credential). one.credentials ++ cs) none ∙ append-nil one.credentials) in
+    let caches : one ≡ other = ap (λ (header : List HeaderField). record one { header = header }) first.0.header ∙ ap (λ (n : Principal). record { header = other.header; default_principal = n; credentials = one.credentials }) first.0.default_principal
+    ∙ ap (λ (cs : List Credential). record other { credentials = cs }) credentials in
+    (caches, first.1 caches)
 
 -- a header, a principal and whole credentials, and what that says of the file
 record Ran (bytes : List ℕ) (answer : Result Cache CacheFault) : Type 0 where

@@ -12,10 +12,7 @@ pub mod WritingLaws
 pub mod RoomLaws
 pub mod LayoutLaws
 pub mod WalkLaws
-pub mod WalkTimes
-pub mod WalkStrings
 pub mod WalkParts
 pub mod WalkEnds
-pub mod FlagLaws
 pub mod StepLaws
 pub mod ReaderLaws

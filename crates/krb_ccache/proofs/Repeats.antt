@@ -46,6 +46,20 @@ module _ {X : Type 0} (r : Place → Option (X × Place)) (s : X → List ℕ) (
         let others = same_things xs ys a b p.1 q.1 ends also first.1 in
         (ap (λ (k : X). k ∷ xs) first.0 ∙ ap (λ (k : List X). y ∷ k) others.0, others.1)
 
+    -- what was read before is the first of what is read to the end, or of as many and more
+    pub first_things : (xs ys : List X) (a b : List ℕ) → AllByRecursion P xs → AllByRecursion P ys → (length xs ≤ length ys) ⊎ (b ≡ []) → flat_map s xs ++ a ≡ flat_map s ys ++ b → (zs : List X) × (ys ≡ xs ++ zs)
+    first_things [] ys a b p q ends e = (ys, refl)
+    first_things (x ∷ xs) [] a b p q (inl few) e = absurd (omega (arith, few))
+    first_things (x ∷ xs) [] a b p q (inr none) e = let some_bytes : 0 < length (s x) = some x p.0 in absurd (omega (arith, ap length (sym (parts_of x xs a) ∙ e ∙ none), length-append (s x) (flat_map s xs ++ a)))
+    first_things (x ∷ xs) (y ∷ ys) a b p q ends e =
+        let first = same_front x y (flat_map s xs ++ a) (flat_map s ys ++ b) p.0 q.0 (sym (parts_of x xs a) ∙ e ∙ parts_of y ys b) in
+        let others = first_things xs ys a b p.1 q.1 (fewer ends) first.1 in
+        (others.0, ap (λ (k : X). k ∷ ys) (sym first.0) ∙ ap (λ (k : List X). x ∷ k) others.1)
+      where
+        fewer : (length (x ∷ xs) ≤ length (y ∷ ys)) ⊎ (b ≡ []) → (length xs ≤ length ys) ⊎ (b ≡ [])
+        fewer (inl few) = inl (omega (arith, few))
+        fewer (inr none) = inr none
+
   -- ---- one more
 
   pub reach_none : (place : Place) → IsBytes place.rest → Reaches s P place [] place

@@ -1,15 +1,14 @@
 -- A walk over parts, one after the other, is a walk over the whole.
-use Rattle.std.proofs.Common.{◌≡◌, ℕ, ◌+◌, ◌-◌, ◌<◌, List, ◌++◌, length, Option, Some, None, Result, Ok, Err, refl, sym, ap, ◌∙◌, append_assoc, arith, drop, take, leb, false, subst, inl, inr}
-use Rattle.std.specs.Int.{Width, byte_len, from_be_bytes, cast_signed}
+use Rattle.std.proofs.Common.{◌≡◌, ℕ, suc, ◌+◌, ◌-◌, ◌<◌, ◌≤◌, Bool, true, false, List, [], ◌++◌, length, take, drop, leb, Option, Some, None, Result, Ok, Err, refl, sym, ap, ◌∙◌, append_assoc, append-nil, arith, inl, inr}
+use Rattle.std.specs.Int.{Width, w32, byte_len, from_be_bytes}
 use Rattle.std.proofs.lemmas.Bool.{cases_lt, lt-leb}
-use Rattle.std.proofs.KnownBytes.{Consumes-trans}
+use Rattle.std.proofs.KnownBytes.{Consumes-nil, Consumes-trans}
 use Rattle.std.proofs.lemmas.List.{length-append, length-take, length-drop, drop-drop, take_at, drop_at, take-append-drop}
 use Rattle.krb_name.specs.Window.{AtHand, Keeps}
-use Rattle.krb_name.specs.Cursor.{Place, ◌>>=◌, bytes_at, number_at, signed_at}
+use Rattle.krb_name.specs.Cursor.{Place, ◌>>=◌, bytes_at, number_at}
 use Rattle.krb_name.proofs.CursorLaws.{IsField-bytes}
 use Rattle.krb_ccache.specs.declared.walking.TakeFault.{TakeFault}
-use Rattle.krb_ccache.specs.Inner.Reading.{both_at, made_at}
-use Rattle.krb_ccache.specs.Inner.Walking.{Hand, Reads, NeedsMore, Walked, Stopped, IsWalk, Taken, TookFewer, last_number}
+use Rattle.krb_ccache.specs.Inner.Walking.{Hand, Pass, skip_at, and_then, pass_none, pass_if, pass_number, pass_times, pass_data, Goes, Stops, IsWalk, Taken, TookFewer, IsTaken, last_number}
 
 -- ---- lists
 
@@ -22,7 +21,7 @@ front_same xs ys more others len e = (
 
 -- ---- what is at hand
 
-pub keeps_then : {S : Type 0} (a b c : Option (List ℕ)) (old middle new : AtHand S) (front bytes : List ℕ) → Keeps a b old middle front → Keeps b c middle new bytes → Keeps a c old new (front ++ bytes)
+keeps_then : {S : Type 0} (a b c : Option (List ℕ)) (old middle new : AtHand S) (front bytes : List ℕ) → Keeps a b old middle front → Keeps b c middle new bytes → Keeps a c old new (front ++ bytes)
 keeps_then a b c old middle new front bytes p q = record {
   consumed = Consumes-trans a b c front bytes p.consumed q.consumed;
   bytes = q.bytes ∙ ap (λ (t : List ℕ). t ++ bytes) p.bytes ∙ append_assoc old.bytes front bytes;
@@ -30,264 +29,315 @@ keeps_then a b c old middle new front bytes p q = record {
   given = omega (arith, p.given, q.given, length-append front bytes);
 }
 
-pub joined : (old middle new : Hand) (front bytes : List ℕ) → Keeps old.source middle.source old middle front → Keeps middle.source new.source middle new bytes → Keeps old.source new.source old new (front ++ bytes)
+joined : (old middle new : Hand) (front bytes : List ℕ) → Keeps old.source middle.source old middle front → Keeps middle.source new.source middle new bytes → Keeps old.source new.source old new (front ++ bytes)
 joined old middle new front bytes p q = keeps_then old.source middle.source new.source old middle new front bytes p q
 
--- ---- a thing, and what is read after it
+-- ---- two ways to pass over the same
 
-module _ {X Y : Type 0} (one : Place → Option (X × Place)) (other : X → Place → Option (Y × Place)) where
-  abbrev pub bound : Place → Option (Y × Place)
-  bound place = one place >>= λ x. other x.0 x.1
+abbrev pub Same : Pass → Pass → Type 0
+Same p q = (place : Place) → p place ≡ q place
 
-  pub reads_bound : (front bytes : List ℕ) (x : X) (y : Y) → Reads one front x → Reads (other x) bytes y → Reads bound (front ++ bytes) y
-  reads_bound front bytes x y p q at more =
-      let grouped : (front ++ bytes) ++ more ≡ front ++ (bytes ++ more) = append_assoc front bytes more in
-      let first = p at (bytes ++ more) in
-      let second = q (at + length front) more in
-      let place : (at + length front) + length bytes ≡ at + length (front ++ bytes) = omega (arith, length-append front bytes) in
-      rw (grouped, first, second, place) refl
+pub also : (p q r : Pass) → Same p q → Same q r → Same p r
+also p q r e f place = e place ∙ f place
 
-  pub needs_first : (bytes : List ℕ) (count : ℕ) → NeedsMore one bytes count → NeedsMore bound bytes count
-  needs_first bytes count p at more few = let none = p at more few in rw none refl
+pub grouped : (p q r : Pass) → Same (and_then (and_then p q) r) (and_then p (and_then q r))
+grouped p q r place = from_first (p place)
+  where
+    from_first : (o : Option Place) → ((o >>= q) >>= r) ≡ (o >>= λ next. q next >>= r)
+    from_first None = refl
+    from_first (Some next) = refl
 
-  pub needs_bound : (front bytes : List ℕ) (x : X) (count : ℕ) → Reads one front x → NeedsMore (other x) bytes count → NeedsMore bound (front ++ bytes) count
-  needs_bound front bytes x count p q at more few =
-      let grouped : (front ++ bytes) ++ more ≡ front ++ (bytes ++ more) = append_assoc front bytes more in
-      let first = p at (bytes ++ more) in
-      let none = q (at + length front) more few in
-      rw (grouped, first, none) refl
+pub same_both : (p p' q q' : Pass) → Same p p' → Same q q' → Same (and_then p q) (and_then p' q')
+same_both p p' q q' e f place = ap (λ (o : Option Place). o >>= q) (e place) ∙ from_first (p' place)
+  where
+    from_first : (o : Option Place) → (o >>= q) ≡ (o >>= q')
+    from_first None = refl
+    from_first (Some next) = f next
 
-  module _ (Within : Hand → Type 0) where
-    abbrev pub walked_bound : (old middle new : Hand) (w : Walked one Within old middle) → Walked (other w.thing) Within middle new → Walked bound Within old new
-    walked_bound old middle new w v = record {
-      thing = v.thing;
-      piece = w.piece ++ v.piece;
-      keeps = joined old middle new w.piece v.piece w.keeps v.keeps;
-      within = v.within;
-      reads = reads_bound w.piece v.piece w.thing v.thing w.reads v.reads;
-    }
+pub same_then : (p q q' : Pass) → Same q q' → Same (and_then p q) (and_then p q')
+same_then p q q' f = same_both p p q q' (λ place. refl) f
 
-    module _ (Lacks : TakeFault → Hand → ℕ → Type 0) where
-      pub stopped_first : (old new : Hand) (stop : TakeFault) → Stopped one Within Lacks old new stop → Stopped bound Within Lacks old new stop
-      stopped_first old new stop h = record {
-        piece = h.piece;
-        keeps = h.keeps;
-        within = h.within;
-        count = h.count;
-        some = h.some;
-        needs = needs_first h.piece h.count h.needs;
-        lacks = h.lacks;
-      }
+pub nothing_then : (p : Pass) → Same (and_then p pass_none) p
+nothing_then p place = from_first (p place)
+  where
+    from_first : (o : Option Place) → (o >>= pass_none) ≡ o
+    from_first None = refl
+    from_first (Some next) = refl
 
-      pub stopped_bound : (old middle new : Hand) (stop : TakeFault) (w : Walked one Within old middle) → Stopped (other w.thing) Within Lacks middle new stop → Stopped bound Within Lacks old new stop
-      stopped_bound old middle new stop w h = record {
-        piece = w.piece ++ h.piece;
-        keeps = joined old middle new w.piece h.piece w.keeps h.keeps;
-        within = h.within;
-        count = h.count;
-        some = h.some;
-        needs = needs_bound w.piece h.piece w.thing h.count w.reads h.needs;
-        lacks = h.lacks;
-      }
+-- ---- so many bytes, and a number
 
-      pub walk_bound : {T : Type 0} (old middle new : Hand) (result : Result T TakeFault) (w : Walked one Within old middle) → IsWalk (other w.thing) Within Lacks middle new result → IsWalk bound Within Lacks old new result
-      walk_bound old middle new (Ok x) w v = walked_bound old middle new w v
-      walk_bound old middle new (Err stop) w h = stopped_bound old middle new stop w h
+pub skips : (count at : ℕ) (bytes rest : List ℕ) → length bytes ≡ count → skip_at count (record { at = at; rest = bytes ++ rest }) ≡ Some (record { at = at + length bytes; rest = rest })
+skips count at bytes rest len = ap (λ (o : Option (List ℕ × Place)). o >>= λ x. Some x.1) ((IsField-bytes count).again at bytes rest len)
 
--- ---- what is made of another
+pub no_skip : (count at : ℕ) (rest : List ℕ) → length rest < count → skip_at count (record { at = at; rest = rest }) ≡ None
+unfolding bytes_at
+no_skip count at rest few = let short : leb count (length rest) ≡ false = lt-leb count (length rest) few in rw short refl
 
-module _ {X Y : Type 0} (make : X → Y) (read : Place → Option (X × Place)) (made : Place → Option (Y × Place)) (same : (place : Place) → made place ≡ made_at make read place) (Within : Hand → Type 0) where
-  pub reads_made : (bytes : List ℕ) (x : X) → Reads read bytes x → Reads made bytes (make x)
-  reads_made bytes x p at more = same (record { at = at; rest = bytes ++ more }) ∙ ap (λ (o : Option (X × Place)). o >>= λ y. Some (make y.0, y.1)) (p at more)
+abbrev number_of : Width → List ℕ × Place → Option (ℕ × Place)
+number_of w read = Some (from_be_bytes w read.0, read.1)
 
-  pub needs_made : (bytes : List ℕ) (count : ℕ) → NeedsMore read bytes count → NeedsMore made bytes count
-  needs_made bytes count p at more few = same (record { at = at; rest = bytes ++ more }) ∙ ap (λ (o : Option (X × Place)). o >>= λ y. Some (make y.0, y.1)) (p at more few)
+pub numbers : (w : Width) (others : ℕ → Pass) (number at : ℕ) (bytes rest : List ℕ) → length bytes ≡ byte_len w → number ≡ from_be_bytes w bytes → pass_number w others (record { at = at; rest = bytes ++ rest }) ≡ others number (record { at = at + length bytes; rest = rest })
+unfolding number_at
+numbers w others number at bytes rest len is =
+    ap (λ (o : Option (List ℕ × Place)). (o >>= number_of w) >>= λ n. others n.0 n.1) ((IsField-bytes (byte_len w)).again at bytes rest len) ∙ ap (λ (n : ℕ). others n (record { at = at + length bytes; rest = rest })) (sym is)
 
-  abbrev pub walked_made : (old new : Hand) → Walked read Within old new → Walked made Within old new
-  walked_made old new w = record { thing = make w.thing; piece = w.piece; keeps = w.keeps; within = w.within; reads = reads_made w.piece w.thing w.reads }
+no_number : (w : Width) (others : ℕ → Pass) (at : ℕ) (rest : List ℕ) → length rest < byte_len w → pass_number w others (record { at = at; rest = rest }) ≡ None
+unfolding number_at bytes_at
+no_number w others at rest few = let short : leb (byte_len w) (length rest) ≡ false = lt-leb (byte_len w) (length rest) few in rw short refl
+
+-- where the second of two has too few bytes
+module _ (count more : ℕ) (p : Pass) (none : (at : ℕ) (rest : List ℕ) → length rest < more → p (record { at = at; rest = rest }) ≡ None) where
+  too_few : (at : ℕ) (rest : List ℕ) → length rest < count + more → and_then (skip_at count) p (record { at = at; rest = rest }) ≡ None
+  too_few at rest few =
+      elim (cases_lt (length rest) count) [
+        | inl lt ↦ ap (λ (o : Option Place). o >>= p) (no_skip count at rest lt)
+        | inr le ↦
+            let first = skips count at (take count rest) (drop count rest) (omega (arith, length-take count rest, le)) in
+            let whole = ap (λ (t : List ℕ). skip_at count (record { at = at; rest = t })) (sym (take-append-drop count rest)) ∙ first in
+            ap (λ (o : Option Place). o >>= p) whole ∙ none (at + length (take count rest)) (drop count rest) (omega (arith, length-drop count rest, few, le))
+      ]
+
+-- as many bytes as both have are skipped at once
+pub skip_both : (one other : ℕ) → Same (skip_at (one + other)) (and_then (skip_at one) (skip_at other))
+skip_both one other place =
+    elim (cases_lt (length place.rest) (one + other)) [
+      | inl lt ↦ no_skip (one + other) place.at place.rest lt ∙ sym (too_few one other (skip_at other) (no_skip other) place.at place.rest lt)
+      | inr le ↦
+          let a : List ℕ = take one place.rest in
+          let b : List ℕ = take other (drop one place.rest) in
+          let rest : List ℕ = drop other (drop one place.rest) in
+          let first : length a ≡ one = omega (arith, length-take one place.rest, le) in
+          let second : length b ≡ other = omega (arith, length-take other (drop one place.rest), length-drop one place.rest, le) in
+          let parts : place.rest ≡ a ++ (b ++ rest) = sym (take-append-drop one place.rest) ∙ ap (λ (t : List ℕ). a ++ t) (sym (take-append-drop other (drop one place.rest))) in
+          let both : length (a ++ b) ≡ one + other = omega (arith, length-append a b, first, second) in
+          let at : (place.at + length a) + length b ≡ place.at + length (a ++ b) = omega (arith, length-append a b) in
+          let here = ap (λ (t : List ℕ). record { at = place.at; rest = t }) parts in
+          let once = ap (λ (t : List ℕ). skip_at (one + other) (record { at = place.at; rest = t })) (parts ∙ sym (append_assoc a b rest)) ∙ skips (one + other) place.at (a ++ b) rest both in
+          let twice = ap (λ (p : Place). and_then (skip_at one) (skip_at other) p) here ∙ ap (λ (o : Option Place). o >>= skip_at other) (skips one place.at a (b ++ rest) first) ∙ skips other (place.at + length a) b rest second in
+          once ∙ sym (twice ∙ ap (λ (n : ℕ). Some (record { at = n; rest = rest })) at)
+    ]
+
+pub skip_zero : Same (skip_at 0) pass_none
+skip_zero place = skips 0 place.at [] place.rest refl ∙ ap (λ (n : ℕ). Some (record { at = n; rest = place.rest })) (omega arith)
+
+pub skip_more : (one other : ℕ) (p : Pass) → Same (and_then (skip_at one) (and_then (skip_at other) p)) (and_then (skip_at (one + other)) p)
+skip_more one other p place = sym (grouped (skip_at one) (skip_at other) p place) ∙ sym (same_both (skip_at (one + other)) (and_then (skip_at one) (skip_at other)) p p (skip_both one other) (λ next. refl) place)
+
+pub none_skipped : (p : Pass) → Same (and_then (skip_at 0) p) p
+none_skipped p = same_both (skip_at 0) pass_none p p skip_zero (λ next. refl)
+
+-- ---- how a walk goes on
+
+module _ (Within : Hand → Type 0) where
+  pub goes_same : (p p' q q' : Pass) (old new : Hand) → Same p' p → Same q q' → Goes p q Within old new → Goes p' q' Within old new
+  goes_same p p' q q' old new e f g = record {
+    piece = g.piece;
+    keeps = g.keeps;
+    within = g.within;
+    same = λ at rest. e _ ∙ g.same at rest ∙ f _;
+  }
+
+  pub goes_then : (p q r : Pass) (old middle new : Hand) → Goes p q Within old middle → Goes q r Within middle new → Goes p r Within old new
+  goes_then p q r old middle new g h = record {
+    piece = g.piece ++ h.piece;
+    keeps = joined old middle new g.piece h.piece g.keeps h.keeps;
+    within = h.within;
+    same = λ at rest.
+        ap (λ (t : List ℕ). p (record { at = at; rest = t })) (append_assoc g.piece h.piece rest) ∙ g.same at (h.piece ++ rest) ∙ h.same (at + length g.piece) rest
+        ∙ ap (λ (n : ℕ). r (record { at = n; rest = rest })) (omega (arith, length-append g.piece h.piece));
+  }
+
+  pub goes_more : (p q r : Pass) (old new : Hand) → Goes p q Within old new → Goes (and_then p r) (and_then q r) Within old new
+  goes_more p q r old new g = record { piece = g.piece; keeps = g.keeps; within = g.within; same = λ at rest. ap (λ (o : Option Place). o >>= r) (g.same at rest) }
+
+  -- nothing was taken
+  pub goes_none : (p : Pass) (old : Hand) → length old.bytes ≤ old.peak → Within old → Goes p p Within old old
+  goes_none p old peak within = record {
+    piece = [];
+    keeps = record { consumed = Consumes-nil old.source; bytes = sym (append-nil old.bytes); peak = omega (arith, peak); given = omega arith };
+    within = within;
+    same = λ at rest. ap (λ (n : ℕ). p (record { at = n; rest = rest })) (omega arith);
+  }
+
+  pub goes_if : (b : Bool) (p : Pass) (old new : Hand) → Goes p pass_none Within old new → Goes (and_then (pass_if b) p) (pass_if b) Within old new
+  goes_if true p old new g = g
+  goes_if false p old new g = record { piece = g.piece; keeps = g.keeps; within = g.within; same = λ at rest. refl }
+
+  pub bytes_goes : (count : ℕ) (old new : Hand) → Taken Within count old new → Goes (skip_at count) pass_none Within old new
+  bytes_goes count old new t = record { piece = t.piece; keeps = t.keeps; within = t.within; same = λ at rest. skips count at t.piece rest t.length_is }
 
   module _ (Lacks : TakeFault → Hand → ℕ → Type 0) where
-    pub stopped_made : (old new : Hand) (stop : TakeFault) → Stopped read Within Lacks old new stop → Stopped made Within Lacks old new stop
-    stopped_made old new stop h = record {
-      piece = h.piece;
-      keeps = h.keeps;
+    pub stops_same : (p p' : Pass) (old new : Hand) (stop : TakeFault) → Same p' p → Stops p Within Lacks old new stop → Stops p' Within Lacks old new stop
+    stops_same p p' old new stop e h = record { piece = h.piece; keeps = h.keeps; within = h.within; count = h.count; some = h.some; none = λ at rest few. e _ ∙ h.none at rest few; lacks = h.lacks }
+
+    pub stops_then : (p q : Pass) (old middle new : Hand) (stop : TakeFault) → Goes p q Within old middle → Stops q Within Lacks middle new stop → Stops p Within Lacks old new stop
+    stops_then p q old middle new stop g h = record {
+      piece = g.piece ++ h.piece;
+      keeps = joined old middle new g.piece h.piece g.keeps h.keeps;
       within = h.within;
       count = h.count;
       some = h.some;
-      needs = needs_made h.piece h.count h.needs;
+      none = λ at rest few. ap (λ (t : List ℕ). p (record { at = at; rest = t })) (append_assoc g.piece h.piece rest) ∙ g.same at (h.piece ++ rest) ∙ h.none (at + length g.piece) rest few;
       lacks = h.lacks;
     }
 
-    pub walk_made : {T : Type 0} (old new : Hand) (result : Result T TakeFault) → IsWalk read Within Lacks old new result → IsWalk made Within Lacks old new result
-    walk_made old new (Ok x) w = walked_made old new w
-    walk_made old new (Err stop) h = stopped_made old new stop h
+    pub stops_more : (p r : Pass) (old new : Hand) (stop : TakeFault) → Stops p Within Lacks old new stop → Stops (and_then p r) Within Lacks old new stop
+    stops_more p r old new stop h = record { piece = h.piece; keeps = h.keeps; within = h.within; count = h.count; some = h.some; none = λ at rest few. ap (λ (o : Option Place). o >>= r) (h.none at rest few); lacks = h.lacks }
 
--- ---- one thing and another after it
+    pub stops_if : (b : Bool) (p : Pass) (old new : Hand) (stop : TakeFault) → Stops p Within Lacks old new stop → Stops (and_then (pass_if b) p) Within Lacks old new stop
+    stops_if true p old new stop h = h
+    stops_if false p old new stop h = record { piece = h.piece; keeps = h.keeps; within = h.within; count = h.count; some = h.some; none = λ at rest few. refl; lacks = h.lacks }
 
--- a thing, and one that was read after it
-abbrev pub pair_with : {X Y : Type 0} → X → Option (Y × Place) → Option ((X × Y) × Place)
-pair_with x read = read >>= λ y. Some ((x, y.0), y.1)
+    pub walk_same : {T : Type 0} (p p' : Pass) (q : T → Pass) (old new : Hand) (result : Result T TakeFault) → Same p' p → IsWalk p q Within Lacks old new result → IsWalk p' q Within Lacks old new result
+    walk_same p p' q old new (Ok x) e g = goes_same p p' (q x) (q x) old new e (λ place. refl) g
+    walk_same p p' q old new (Err stop) e h = stops_same p p' old new stop e h
 
-module _ {X Y : Type 0} (one : Place → Option (X × Place)) (other : Place → Option (Y × Place)) where
-  abbrev with_one : X → Place → Option ((X × Y) × Place)
-  with_one x = made_at (λ (y : Y). (x, y)) other
+    pub walk_then : {T : Type 0} (p q : Pass) (r : T → Pass) (old middle new : Hand) (result : Result T TakeFault) → Goes p q Within old middle → IsWalk q r Within Lacks middle new result → IsWalk p r Within Lacks old new result
+    walk_then p q r old middle new (Ok x) g h = goes_then p q (r x) old middle new g h
+    walk_then p q r old middle new (Err stop) g h = stops_then p q old middle new stop g h
 
-  pub reads_both : (front bytes : List ℕ) (x : X) (y : Y) → Reads one front x → Reads other bytes y → Reads (both_at one other) (front ++ bytes) (x, y)
-  reads_both front bytes x y p q = reads_bound one with_one front bytes x (x, y) p (reads_made (λ (z : Y). (x, z)) other (with_one x) (λ place. refl) (λ hand. Unit {0}) bytes y q)
+    -- ---- what is taken at once
 
-  pub needs_other : (front bytes : List ℕ) (x : X) (count : ℕ) → Reads one front x → NeedsMore other bytes count → NeedsMore (both_at one other) (front ++ bytes) count
-  needs_other front bytes x count p q = needs_bound one with_one front bytes x count p (needs_made (λ (z : Y). (x, z)) other (with_one x) (λ place. refl) (λ hand. Unit {0}) bytes count q)
-
-  module _ (Within : Hand → Type 0) where
-    abbrev pub walked_both : (old middle new : Hand) → Walked one Within old middle → Walked other Within middle new → Walked (both_at one other) Within old new
-    walked_both old middle new w v = walked_bound one with_one Within old middle new w (walked_made (λ (y : Y). (w.thing, y)) other (with_one w.thing) (λ place. refl) Within middle new v)
-
-    module _ (Lacks : TakeFault → Hand → ℕ → Type 0) where
-      pub stopped_one : (old new : Hand) (stop : TakeFault) → Stopped one Within Lacks old new stop → Stopped (both_at one other) Within Lacks old new stop
-      stopped_one old new stop h = stopped_first one with_one Within Lacks old new stop h
-
-      pub stopped_other : (old middle new : Hand) (stop : TakeFault) → Walked one Within old middle → Stopped other Within Lacks middle new stop → Stopped (both_at one other) Within Lacks old new stop
-      stopped_other old middle new stop w h =
-          stopped_bound one with_one Within Lacks old middle new stop w (stopped_made (λ (y : Y). (w.thing, y)) other (with_one w.thing) (λ place. refl) Within Lacks middle new stop h)
-
-      pub walk_both : {T : Type 0} (old middle new : Hand) (result : Result T TakeFault) → Walked one Within old middle → IsWalk other Within Lacks middle new result → IsWalk (both_at one other) Within Lacks old new result
-      walk_both old middle new (Ok x) w v = walked_both old middle new w v
-      walk_both old middle new (Err stop) w h = stopped_other old middle new stop w h
-
--- two things and a third are one thing and two others
-module _ {X Y Z : Type 0} (one : Place → Option (X × Place)) (other : Place → Option (Y × Place)) (third : Place → Option (Z × Place)) where
-  abbrev pub regroup : (X × Y) × Z → X × (Y × Z)
-  regroup p = (p.0.0, (p.0.1, p.1))
-
-  abbrev regroup_at : Option (((X × Y) × Z) × Place) → Option ((X × (Y × Z)) × Place)
-  regroup_at o = o >>= λ w. Some (regroup w.0, w.1)
-
-  last : (x : X) (y : Y) (o : Option (Z × Place)) → pair_with x (pair_with y o) ≡ regroup_at (pair_with (x, y) o)
-  last x y None = refl
-  last x y (Some z) = refl
-
-  second : (x : X) (o : Option (Y × Place)) → pair_with x (o >>= λ y. pair_with y.0 (third y.1)) ≡ regroup_at (pair_with x o >>= λ p. pair_with p.0 (third p.1))
-  second x None = refl
-  second x (Some y) = last x y.0 (third y.1)
-
-  first : (o : Option (X × Place)) → (o >>= λ x. pair_with x.0 (other x.1 >>= λ y. pair_with y.0 (third y.1))) ≡ regroup_at ((o >>= λ x. pair_with x.0 (other x.1)) >>= λ p. pair_with p.0 (third p.1))
-  first None = refl
-  first (Some x) = second x.0 (other x.1)
-
-  pub regrouped : (place : Place) → both_at one (both_at other third) place ≡ made_at regroup (both_at (both_at one other) third) place
-  regrouped place = first (one place)
-
--- ---- things of a fixed size
-
-pub record Sized {X : Type 0} (read : Place → Option (X × Place)) (size : ℕ) : Type 0 where
-  pub reads : (bytes : List ℕ) → length bytes ≡ size → (x : X) × Reads read bytes x
-  pub none : (at : ℕ) (rest : List ℕ) → length rest < size → read (record { at = at; rest = rest }) ≡ None
-
-pub sized_bytes : (count : ℕ) → Sized (bytes_at count) count
-unfolding bytes_at
-sized_bytes count = record {
-  reads = λ bytes len. (bytes, λ at more. (IsField-bytes count).again at bytes more len);
-  none = λ at rest few. let short : leb count (length rest) ≡ false = lt-leb count (length rest) few in rw short refl;
-}
-
-pub number_reads : (w : Width) (bytes : List ℕ) (number : ℕ) → length bytes ≡ byte_len w → number ≡ from_be_bytes w bytes → Reads (number_at w) bytes number
-unfolding number_at
-number_reads w bytes number len e at more =
-    ap (λ (o : Option (List ℕ × Place)). o >>= λ read. Some (from_be_bytes w read.0, read.1)) ((IsField-bytes (byte_len w)).again at bytes more len) ∙ ap (λ (n : ℕ). Some (n, record { at = at + length bytes; rest = more })) (sym e)
-
-module _ (Within : Hand → Type 0) where
-  pub number_is : (w : Width) (skip : ℕ) (old new : Hand) (piece : List ℕ) (number : ℕ) → new.bytes ≡ old.bytes ++ piece → number ≡ last_number w skip old.bytes new.bytes → number ≡ from_be_bytes w (drop skip piece)
-  number_is w skip old new piece number bytes last =
-      last ∙ ap (λ (t : List ℕ). from_be_bytes w (drop (length old.bytes + skip) t)) bytes ∙ ap (from_be_bytes w) (sym (drop-drop skip (length old.bytes) (old.bytes ++ piece)) ∙ ap (drop skip) (drop_at old.bytes piece (length old.bytes) refl))
-
-  -- a number was taken
-  abbrev pub walked_number : (w : Width) (old new : Hand) (number : ℕ) → Taken Within (byte_len w) old new → number ≡ last_number w 0 old.bytes new.bytes → Walked (number_at w) Within old new
-  walked_number w old new number t last = record {
-    thing = number;
-    piece = t.piece;
-    keeps = t.keeps;
-    within = t.within;
-    reads = number_reads w t.piece number t.length_is (number_is w 0 old new t.piece number t.keeps.bytes last);
-  }
-
-  module _ {X : Type 0} (read : Place → Option (X × Place)) (size : ℕ) (sized : Sized read size) where
-    abbrev pub walked_sized : (old new : Hand) → Taken Within size old new → Walked read Within old new
-    walked_sized old new t = record {
-      thing = (sized.reads t.piece t.length_is).0;
+    pub bytes_stops : (count : ℕ) (old new : Hand) (stop : TakeFault) → TookFewer Within Lacks count old new stop → Stops (skip_at count) Within Lacks old new stop
+    bytes_stops count old new stop t = record {
       piece = t.piece;
       keeps = t.keeps;
       within = t.within;
-      reads = (sized.reads t.piece t.length_is).1;
-    }
-
-    pub stopped_sized : (Lacks : TakeFault → Hand → ℕ → Type 0) (old new : Hand) (stop : TakeFault) → TookFewer Within Lacks size old new stop → Stopped read Within Lacks old new stop
-    stopped_sized Lacks old new stop t = record {
-      piece = t.piece;
-      keeps = t.keeps;
-      within = t.within;
-      count = size - length t.piece;
+      count = count - length t.piece;
       some = omega (arith, t.fewer);
-      needs = λ at more few. sized.none at (t.piece ++ more) (omega (arith, few, length-append t.piece more, t.fewer));
+      none = λ at rest few. no_skip count at (t.piece ++ rest) (omega (arith, few, length-append t.piece rest, t.fewer));
       lacks = t.lacks;
     }
 
-module _ {X Y : Type 0} (make : X → Y) (read : Place → Option (X × Place)) (size : ℕ) (sized : Sized read size) where
-  pub sized_made : Sized (made_at make read) size
-  sized_made = record {
-    reads = λ bytes len. let a = sized.reads bytes len in (make a.0, reads_made make read (made_at make read) (λ place. refl) (λ hand. Unit {0}) bytes a.0 a.1);
-    none = λ at rest few. ap (λ (o : Option (X × Place)). o >>= λ y. Some (make y.0, y.1)) (sized.none at rest few);
-  }
+    pub bytes_walk : {T : Type 0} (count : ℕ) (old new : Hand) (result : Result T TakeFault) → IsTaken Within Lacks count old new result → IsWalk (skip_at count) (λ x. pass_none) Within Lacks old new result
+    bytes_walk count old new (Ok x) t = bytes_goes count old new t
+    bytes_walk count old new (Err stop) t = bytes_stops count old new stop t
 
-pub sized_number : (w : Width) → Sized (number_at w) (byte_len w)
-unfolding number_at
-sized_number w = sized_made (from_be_bytes w) (bytes_at (byte_len w)) (byte_len w) (sized_bytes (byte_len w))
+    -- so many bytes, and a number after them
+    module _ (w : Width) (skip : ℕ) (others : ℕ → Pass) where
+      pub number_stops : (old new : Hand) (stop : TakeFault) → TookFewer Within Lacks (skip + byte_len w) old new stop → Stops (and_then (skip_at skip) (pass_number w others)) Within Lacks old new stop
+      number_stops old new stop t = record {
+        piece = t.piece;
+        keeps = t.keeps;
+        within = t.within;
+        count = (skip + byte_len w) - length t.piece;
+        some = omega (arith, t.fewer);
+        none = λ at rest few. too_few skip (byte_len w) (pass_number w others) (no_number w others) at (t.piece ++ rest) (omega (arith, few, length-append t.piece rest, t.fewer));
+        lacks = t.lacks;
+      }
 
-pub sized_signed : (w : Width) → Sized (signed_at w) (byte_len w)
-unfolding signed_at
-sized_signed w = sized_made (cast_signed w) (number_at w) (byte_len w) (sized_number w)
+  module _ (w : Width) (skip : ℕ) (others : ℕ → Pass) where
+    pub number_goes : (old new : Hand) (number : ℕ) → Taken Within (skip + byte_len w) old new → number ≡ last_number w skip old.bytes new.bytes → Goes (and_then (skip_at skip) (pass_number w others)) (others number) Within old new
+    number_goes old new number t last =
+        let front : List ℕ = take skip t.piece in
+        let back : List ℕ = drop skip t.piece in
+        let parts : t.piece ≡ front ++ back = sym (take-append-drop skip t.piece) in
+        let first : length front ≡ skip = omega (arith, length-take skip t.piece, t.length_is) in
+        let second : length back ≡ byte_len w = omega (arith, length-drop skip t.piece, t.length_is) in
+        let is = last ∙ ap (λ (l : List ℕ). from_be_bytes w (drop (length old.bytes + skip) l)) t.keeps.bytes
+        ∙ ap (from_be_bytes w) (sym (drop-drop skip (length old.bytes) (old.bytes ++ t.piece)) ∙ ap (drop skip) (drop_at old.bytes t.piece (length old.bytes) refl)) in
+        record {
+          piece = t.piece;
+          keeps = t.keeps;
+          within = t.within;
+          same = λ at rest.
+              ap (λ (l : List ℕ). and_then (skip_at skip) (pass_number w others) (record { at = at; rest = l })) (ap (λ (l : List ℕ). l ++ rest) parts ∙ append_assoc front back rest)
+              ∙ ap (λ (o : Option Place). o >>= pass_number w others) (skips skip at front (back ++ rest) first) ∙ numbers w others number (at + length front) back rest second is
+              ∙ ap (λ (n : ℕ). others number (record { at = n; rest = rest })) (omega (arith, ap length parts, length-append front back));
+        }
 
-module _ {X Y : Type 0} (one : Place → Option (X × Place)) (other : Place → Option (Y × Place)) (n m : ℕ) (sized : Sized one n) (none_after : (at : ℕ) (rest : List ℕ) → length rest < m → other (record { at = at; rest = rest }) ≡ None) where
-  pub too_few : (at : ℕ) (rest : List ℕ) → length rest < n + m → both_at one other (record { at = at; rest = rest }) ≡ None
-  too_few at rest few =
-      elim (cases_lt (length rest) n) [
-        | inl lt ↦ let none = sized.none at rest lt in rw none refl
+-- so many bytes, and two numbers after them
+module _ (Within : Hand → Type 0) (skip : ℕ) (others : ℕ → ℕ → Pass) where
+  abbrev pub pass_pair : Pass
+  pass_pair = pass_number w32 (λ one. pass_number w32 (others one))
+
+  no_pair : (at : ℕ) (rest : List ℕ) → length rest < 8 → pass_pair (record { at = at; rest = rest }) ≡ None
+  no_pair at rest few =
+      elim (cases_lt (length rest) 4) [
+        | inl lt ↦ no_number w32 (λ one. pass_number w32 (others one)) at rest lt
         | inr le ↦
-            let len : length (take n rest) ≡ n = omega (arith, length-take n rest, le) in
-            let front = sized.reads (take n rest) len in
-            let read = front.1 at (drop n rest) in
-            let none = none_after (at + length (take n rest)) (drop n rest) (omega (arith, length-drop n rest, few, le)) in
-            let parts : both_at one other (record { at = at; rest = take n rest ++ drop n rest }) ≡ None = rw (read, none) refl in
-            subst (λ (t : List ℕ). both_at one other (record { at = at; rest = t }) ≡ None) (take-append-drop n rest) parts
+            let front : List ℕ = take 4 rest in
+            let first = numbers w32 (λ one. pass_number w32 (others one)) (from_be_bytes w32 front) at front (drop 4 rest) (omega (arith, length-take 4 rest, le)) refl in
+            ap (λ (t : List ℕ). pass_pair (record { at = at; rest = t })) (sym (take-append-drop 4 rest)) ∙ first ∙ no_number w32 (others (from_be_bytes w32 front)) (at + length front) (drop 4 rest) (omega (arith, length-drop 4 rest, few, le))
       ]
 
-module _ {X Y : Type 0} (one : Place → Option (X × Place)) (other : Place → Option (Y × Place)) (n m : ℕ) (sized : Sized one n) (also : Sized other m) where
-  parted : (bytes : List ℕ) → length bytes ≡ n + m → (x : X × Y) × Reads (both_at one other) bytes x
-  parted bytes len =
-      let front = sized.reads (take n bytes) (omega (arith, length-take n bytes, len)) in
-      let back = also.reads (drop n bytes) (omega (arith, length-drop n bytes, len)) in
-      let both : Reads (both_at one other) (take n bytes ++ drop n bytes) (front.0, back.0) = reads_both one other (take n bytes) (drop n bytes) front.0 back.0 front.1 back.1 in
-      ((front.0, back.0), subst (λ (t : List ℕ). Reads (both_at one other) t (front.0, back.0)) (take-append-drop n bytes) both)
+  pub pair_goes : (old new : Hand) (one other : ℕ) → Taken Within (skip + 8) old new → one ≡ from_be_bytes w32 (take 4 (drop (length old.bytes + skip) new.bytes)) → other ≡ last_number w32 (skip + 4) old.bytes new.bytes
+      → Goes (and_then (skip_at skip) pass_pair) (others one other) Within old new
+  pair_goes old new one other t is also_is =
+      let front : List ℕ = take skip t.piece in
+      let back : List ℕ = drop skip t.piece in
+      let a : List ℕ = take 4 back in
+      let b : List ℕ = drop 4 back in
+      let len : length back ≡ 8 = omega (arith, length-drop skip t.piece, t.length_is) in
+      let parts : t.piece ≡ front ++ (a ++ b) = sym (take-append-drop skip t.piece) ∙ ap (λ (l : List ℕ). front ++ l) (sym (take-append-drop 4 back)) in
+      let first : length front ≡ skip = omega (arith, length-take skip t.piece, t.length_is) in
+      let second : length a ≡ 4 = omega (arith, length-take 4 back, len) in
+      let third : length b ≡ 4 = omega (arith, length-drop 4 back, len) in
+      let after : drop (length old.bytes + skip) new.bytes ≡ back = ap (drop (length old.bytes + skip)) t.keeps.bytes ∙ sym (drop-drop skip (length old.bytes) (old.bytes ++ t.piece)) ∙ ap (drop skip) (drop_at old.bytes t.piece (length old.bytes) refl) in
+      let one_is : one ≡ from_be_bytes w32 a = is ∙ ap (λ (l : List ℕ). from_be_bytes w32 (take 4 l)) after in
+      let at_end : drop (length old.bytes + (skip + 4)) new.bytes ≡ b = ap (λ (n : ℕ). drop n new.bytes) (omega arith) ∙ sym (drop-drop 4 (length old.bytes + skip) new.bytes) ∙ ap (drop 4) after in
+      let other_is : other ≡ from_be_bytes w32 b = also_is ∙ ap (from_be_bytes w32) at_end in
+      record {
+        piece = t.piece;
+        keeps = t.keeps;
+        within = t.within;
+        same = λ at rest.
+            ap (λ (l : List ℕ). and_then (skip_at skip) pass_pair (record { at = at; rest = l })) (ap (λ (l : List ℕ). l ++ rest) parts ∙ append_assoc front (a ++ b) rest ∙ ap (λ (l : List ℕ). front ++ l) (append_assoc a b rest))
+            ∙ ap (λ (o : Option Place). o >>= pass_pair) (skips skip at front (a ++ (b ++ rest)) first) ∙ numbers w32 (λ n. pass_number w32 (others n)) one (at + length front) a (b ++ rest) second one_is
+            ∙ numbers w32 (others one) other ((at + length front) + length a) b rest third other_is ∙ ap (λ (n : ℕ). others one other (record { at = n; rest = rest })) (omega (arith, first, second, third, t.length_is));
+      }
 
-  pub sized_both : Sized (both_at one other) (n + m)
-  sized_both = record { reads = parted; none = too_few one other n m sized also.none }
-
--- a thing of a fixed size was taken, and a number after it
-module _ (Within : Hand → Type 0) {X : Type 0} (read : Place → Option (X × Place)) (size : ℕ) (sized : Sized read size) (w : Width) where
-  pub front_length : (piece : List ℕ) → length piece ≡ size + byte_len w → length (take size piece) ≡ size
-  front_length piece len = omega (arith, length-take size piece, len)
-
-  pub after_reads : (piece : List ℕ) (number : ℕ) (len : length piece ≡ size + byte_len w) → number ≡ from_be_bytes w (drop size piece) → Reads (both_at read (number_at w)) piece ((sized.reads (take size piece) (front_length piece len)).0, number)
-  after_reads piece number len is =
-      let front = sized.reads (take size piece) (front_length piece len) in
-      let both : Reads (both_at read (number_at w)) (take size piece ++ drop size piece) (front.0, number) =
-      reads_both read (number_at w) (take size piece) (drop size piece) front.0 number front.1 (number_reads w (drop size piece) number (omega (arith, length-drop size piece, len)) is) in
-      subst (λ (t : List ℕ). Reads (both_at read (number_at w)) t (front.0, number)) (take-append-drop size piece) both
-
-  abbrev pub walked_after : (old new : Hand) (number : ℕ) → Taken Within (size + byte_len w) old new → number ≡ last_number w size old.bytes new.bytes → Walked (both_at read (number_at w)) Within old new
-  walked_after old new number t last = record {
-    thing = ((sized.reads (take size t.piece) (front_length t.piece t.length_is)).0, number);
+  pub pair_stops : (Lacks : TakeFault → Hand → ℕ → Type 0) (old new : Hand) (stop : TakeFault) → TookFewer Within Lacks (skip + 8) old new stop → Stops (and_then (skip_at skip) pass_pair) Within Lacks old new stop
+  pair_stops Lacks old new stop t = record {
     piece = t.piece;
     keeps = t.keeps;
     within = t.within;
-    reads = after_reads t.piece number t.length_is (number_is Within w size old new t.piece number t.keeps.bytes last);
+    count = (skip + 8) - length t.piece;
+    some = omega (arith, t.fewer);
+    none = λ at rest few. too_few skip 8 pass_pair no_pair at (t.piece ++ rest) (omega (arith, few, length-append t.piece rest, t.fewer));
+    lacks = t.lacks;
   }
+
+-- ---- so many times bytes after their length
+
+module _ (Within : Hand → Type 0) (skip gap : ℕ) where
+  abbrev whole : ℕ → Pass
+  whole count = and_then (skip_at skip) (pass_times count (pass_data gap))
+
+  -- so many were passed over, but for the bytes of the last
+  abbrev pub Front : Hand → Hand → ℕ → ℕ → ℕ → Type 0
+  Front old now count i last = Goes (whole count) (and_then (skip_at last) (pass_times (count - i) (pass_data gap))) Within old now
+
+  pub front_none : (old : Hand) (count : ℕ) → length old.bytes ≤ old.peak → Within old → Front old old count 0 skip
+  front_none old count peak within =
+      let same : count ≡ count - 0 = omega arith in
+      goes_same Within _ _ _ _ old old (λ place. refl) (λ place. ap (λ (n : ℕ). whole n place) same) (goes_none Within (whole count) old peak within)
+
+  -- what comes next of those that are left
+  next : (count i last : ℕ) → i < count → Same (and_then (skip_at last) (pass_times (count - i) (pass_data gap))) (and_then (and_then (skip_at (last + gap)) (pass_number w32 skip_at)) (pass_times (count - (i + 1)) (pass_data gap)))
+  next count i last lt place =
+      let one : count - i ≡ suc (count - (i + 1)) = omega (arith, lt) in
+      let others : Pass = pass_times (count - (i + 1)) (pass_data gap) in
+      ap (λ (n : ℕ). and_then (skip_at last) (pass_times n (pass_data gap)) place) one ∙ sym (grouped (skip_at last) (pass_data gap) others place)
+      ∙ same_both (and_then (skip_at last) (pass_data gap)) (and_then (skip_at (last + gap)) (pass_number w32 skip_at)) others others (skip_more last gap (pass_number w32 skip_at)) (λ p. refl) place
+
+  module _ (old middle new : Hand) (count i last : ℕ) (f : Front old middle count i last) (lt : i < count) where
+    abbrev one_number : Pass
+    one_number = and_then (skip_at (last + gap)) (pass_number w32 skip_at)
+
+    abbrev others_left : Pass
+    others_left = pass_times (count - (i + 1)) (pass_data gap)
+
+    begun : Goes (whole count) (and_then one_number others_left) Within old middle
+    begun = goes_same Within _ _ _ _ old middle (λ place. refl) (next count i last lt) f
+
+    pub front_more : (number : ℕ) → Taken Within ((last + gap) + 4) middle new → number ≡ last_number w32 (last + gap) middle.bytes new.bytes → Front old new count (i + 1) number
+    front_more number t is = goes_then Within _ _ _ old middle new begun (goes_more Within one_number (skip_at number) others_left middle new (number_goes Within w32 (last + gap) skip_at middle new number t is))
+
+    pub front_stops : (Lacks : TakeFault → Hand → ℕ → Type 0) (stop : TakeFault) → TookFewer Within Lacks ((last + gap) + 4) middle new stop → Stops (whole count) Within Lacks old new stop
+    front_stops Lacks stop t = stops_then Within Lacks _ _ old middle new stop begun (stops_more Within Lacks one_number others_left middle new stop (number_stops Within Lacks w32 (last + gap) skip_at middle new stop t))
+
+  pub front_all : (old now : Hand) (count i last : ℕ) → Front old now count i last → count ≤ i → Goes (whole count) (skip_at last) Within old now
+  front_all old now count i last f le =
+      let none : count - i ≡ 0 = omega (arith, le) in
+      goes_same Within _ _ _ _ old now (λ place. refl) (λ place. ap (λ (n : ℕ). and_then (skip_at last) (pass_times n (pass_data gap)) place) none ∙ nothing_then (skip_at last) place) f

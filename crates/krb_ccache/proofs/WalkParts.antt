@@ -1,360 +1,405 @@
 -- How a walk goes over the parts of a cache.
-use Rattle.std.proofs.Common.{◌≡◌, ℕ, ◌+◌, ℤ, List, Option, Some, Result, Ok, Err, refl, None, ◌∙◌, subst, arith}
-use Rattle.std.specs.Int.{Width, w8, w16, w32, byte_len}
+use Rattle.std.proofs.Common.{◌≡◌, ℕ, zero, suc, ◌+◌, ℤ, Bool, true, false, cond, List, ◌∷◌, Option, Some, None, Result, refl, sym, ap, ◌∙◌}
+use Rattle.std.specs.Prelude.{is_some}
+use Rattle.std.specs.Int.{Width, w8, w16, w32, byte_len, from_be_bytes, cast_signed}
 use Rattle.krb_name.specs.Cursor.{Place, ◌>>=◌, bytes_at, number_at, signed_at, data_at, times_at}
-use Rattle.krb_name.specs.declared.principal.Principal.{Principal}
-use Rattle.krb_ccache.specs.declared.typed.TypedBytes.{TypedBytes}
 use Rattle.krb_ccache.specs.declared.walking.TakeFault.{TakeFault}
+use Rattle.krb_name.specs.declared.principal.Principal.{Principal}
 use Rattle.krb_ccache.specs.declared.layout.Layout.{Layout}
+use Rattle.krb_ccache.specs.declared.credential.Credential.{Credential}
 use Rattle.krb_ccache.specs.Format.{second_size}
-use Rattle.krb_ccache.specs.Inner.Reading.{both_at, name_at, typed_of, typed_at, list_at, tail_at, marked_at, strings_at, made_at}
-use Rattle.krb_ccache.specs.Inner.Walking.{Hand, Walked, Stopped, IsWalk, Taken, TookFewer, IsTaken, last_number, WalkedOne}
-use Rattle.krb_ccache.proofs.WalkLaws.{bound, walked_bound, Sized, stopped_first, stopped_bound, walk_bound, walk_made, stopped_made, walked_made, walked_both, walk_both, stopped_one, stopped_other, regroup, regrouped, walked_number, walked_sized, stopped_sized, sized_number, sized_signed, sized_bytes, sized_both, pair_with, walked_after}
+use Rattle.krb_ccache.specs.Inner.Reading.{both_at, made_at, passing_at, name_at, flag_of, flag_at, typed_of, typed_at, list_at, tail_at, credential_of, parts_with, parts_at, credential_at}
+use Rattle.krb_ccache.specs.Inner.Walking.{Hand, Pass, passed_at, skip_at, and_then, pass_none, pass_if, pass_number, pass_times, pass_data, pass_credential, is_flag, Goes, Stops, IsWalk, Taken, TookFewer, IsTaken, last_number}
+use Rattle.krb_ccache.proofs.WalkLaws.{Same, also, grouped, same_both, same_then, none_skipped, skip_more, goes_same, goes_then, goes_more, goes_if, stops_same, stops_then, stops_more, stops_if, walk_same, walk_then, bytes_walk, number_goes, number_stops, pair_stops}
+
+-- ---- what is passed over of what is read
+
+-- the place after what is read
+abbrev behind : {X : Type 0} → X × Place → Option Place
+behind x = Some x.1
+
+module _ {X Y : Type 0} where
+  abbrev paired : X → Y × Place → Option ((X × Y) × Place)
+  paired x y = Some ((x, y.0), y.1)
+
+  pub both_passed : (one : Place → Option (X × Place)) (other : Place → Option (Y × Place)) → Same (passed_at (both_at one other)) (and_then (passed_at one) (passed_at other))
+  both_passed one other place = from_one (one place)
+    where
+      from_other : (x : X) (o : Option (Y × Place)) → ((o >>= paired x) >>= behind) ≡ (o >>= behind)
+      from_other x None = refl
+      from_other x (Some y) = refl
+
+      from_one : (o : Option (X × Place)) → ((o >>= λ x. other x.1 >>= paired x.0) >>= behind) ≡ ((o >>= behind) >>= λ p. other p >>= behind)
+      from_one None = refl
+      from_one (Some x) = from_other x.0 (other x.1)
+
+  abbrev made : (X → Y) → X × Place → Option (Y × Place)
+  made make x = Some (make x.0, x.1)
+
+  made_passed : (make : X → Y) (read : Place → Option (X × Place)) → Same (passed_at (made_at make read)) (passed_at read)
+  made_passed make read place = from_read (read place)
+    where
+      from_read : (o : Option (X × Place)) → ((o >>= made make) >>= behind) ≡ (o >>= behind)
+      from_read None = refl
+      from_read (Some x) = refl
+
+both_as : {X Y : Type 0} (one : Place → Option (X × Place)) (p : Pass) → Same (passed_at one) p → (other : Place → Option (Y × Place)) (q : Pass) → Same (passed_at other) q → Same (passed_at (both_at one other)) (and_then p q)
+both_as one p e other q f = also _ _ _ (both_passed one other) (same_both (passed_at one) p (passed_at other) q e f)
+
+as_read : (p : Pass) → Same p p
+as_read p place = refl
+
+number_passed : (w : Width) → Same (passed_at (number_at w)) (skip_at (byte_len w))
+unfolding number_at
+number_passed w = made_passed (from_be_bytes w) (bytes_at (byte_len w))
+
+signed_passed : (w : Width) → Same (passed_at (signed_at w)) (skip_at (byte_len w))
+unfolding signed_at
+signed_passed w = also _ _ _ (made_passed (cast_signed w) (number_at w)) (number_passed w)
+
+-- a number, and what is read after it
+bound_passed : {X : Type 0} (w : Width) (read : ℕ → Place → Option (X × Place)) (place : Place) → ((number_at w place >>= λ n. read n.0 n.1) >>= λ x. Some x.1) ≡ pass_number w (λ n. passed_at (read n)) place
+bound_passed {X} w read place = from_number (number_at w place)
+  where
+    from_number : (o : Option (ℕ × Place)) → ((o >>= λ n. read n.0 n.1) >>= λ x. Some x.1) ≡ (o >>= λ n. read n.0 n.1 >>= λ x. Some x.1)
+    from_number None = refl
+    from_number (Some n) = refl
+
+number_same : (w : Width) (p q : ℕ → Pass) → ((n : ℕ) → Same (p n) (q n)) → Same (pass_number w p) (pass_number w q)
+number_same w p q e place = from_number (number_at w place)
+  where
+    from_number : (o : Option (ℕ × Place)) → (o >>= λ n. p n.0 n.1) ≡ (o >>= λ n. q n.0 n.1)
+    from_number None = refl
+    from_number (Some n) = e n.0 n.1
+
+number_grouped : (w : Width) (p : ℕ → Pass) (q : Pass) → Same (and_then (pass_number w p) q) (pass_number w (λ n. and_then (p n) q))
+number_grouped w p q place = from_number (number_at w place)
+  where
+    from_number : (o : Option (ℕ × Place)) → ((o >>= λ n. p n.0 n.1) >>= q) ≡ (o >>= λ n. p n.0 n.1 >>= q)
+    from_number None = refl
+    from_number (Some n) = refl
+
+pub data_passed : (w : Width) → Same (passed_at (data_at w)) (pass_number w skip_at)
+unfolding data_at
+data_passed w place = bound_passed w bytes_at place
+
+times_passed : {X : Type 0} (read : Place → Option (X × Place)) (p : Pass) → Same (passed_at read) p → (count : ℕ) → Same (passed_at (times_at read count)) (pass_times count p)
+unfolding times_at
+times_passed read p e zero place = refl
+times_passed {X} read p e (suc count) place = from_first (read place) ∙ same_both (passed_at read) p (passed_at (times_at read count)) (pass_times count p) e (times_passed read p e count) place
+  where
+    others_of : X → List X × Place → Option (List X × Place)
+    others_of x xs = Some (x ∷ xs.0, xs.1)
+
+    from_others : (x : X) (o : Option (List X × Place)) → ((o >>= others_of x) >>= behind) ≡ (o >>= behind)
+    from_others x None = refl
+    from_others x (Some xs) = refl
+
+    from_first : (o : Option (X × Place)) → ((o >>= λ x. times_at read count x.1 >>= others_of x.0) >>= behind) ≡ ((o >>= behind) >>= λ next. times_at read count next >>= behind)
+    from_first None = refl
+    from_first (Some x) = from_others x.0 (times_at read count x.1)
+
+-- ---- the parts
+
+abbrev pub from_realm : ℕ → ℕ → Pass
+from_realm count realm = and_then (skip_at realm) (pass_times count (pass_data 0))
+
+abbrev from_count : ℕ → Pass
+from_count count = pass_number w32 (from_realm count)
+
+strings_passed : (count : ℕ) → Same (and_then (passed_at (data_at w32)) (passed_at (times_at (data_at w32) count))) (from_count count)
+strings_passed count =
+    let one = also _ _ _ (data_passed w32) (λ place. sym (none_skipped (pass_number w32 skip_at) place)) in
+    also _ _ _ (same_both (passed_at (data_at w32)) (pass_number w32 skip_at) _ _ (data_passed w32) (times_passed (data_at w32) (pass_data 0) one count)) (number_grouped w32 skip_at (pass_times count (pass_data 0)))
+
+abbrev named : ℤ → List ℕ → List (List ℕ) × Place → Option (Principal × Place)
+named t realm components = Some (record { realm = realm; name_type = t; components = components.0 }, components.1)
+
+name_passed : Same (passed_at name_at) (and_then (skip_at 4) (pass_number w32 from_count))
+unfolding name_at
+name_passed place = from_type (signed_at w32 place) ∙ same_both (passed_at (signed_at w32)) (skip_at 4) _ _ (signed_passed w32) (number_same w32 _ from_count strings_passed) place
+  where
+    from_strings : (t : ℤ) (realm : List ℕ) (o : Option (List (List ℕ) × Place)) → ((o >>= named t realm) >>= behind) ≡ (o >>= behind)
+    from_strings t realm None = refl
+    from_strings t realm (Some components) = refl
+
+    from_components : (t : ℤ) (count : ℕ) (o : Option (List ℕ × Place)) → ((o >>= λ realm. times_at (data_at w32) count realm.1 >>= named t realm.0) >>= behind) ≡ ((o >>= behind) >>= passed_at (times_at (data_at w32) count))
+    from_components t count None = refl
+    from_components t count (Some realm) = from_strings t realm.0 (times_at (data_at w32) count realm.1)
+
+    from_head : (t : ℤ) (o : Option (ℕ × Place)) → ((o >>= λ count. data_at w32 count.1 >>= λ realm. times_at (data_at w32) count.0 realm.1 >>= named t realm.0) >>= behind)
+        ≡ (o >>= λ count. and_then (passed_at (data_at w32)) (passed_at (times_at (data_at w32) count.0)) count.1)
+    from_head t None = refl
+    from_head t (Some count) = from_components t count.0 (data_at w32 count.1)
+
+    from_type : (o : Option (ℤ × Place)) → ((o >>= λ t. number_at w32 t.1 >>= λ count. data_at w32 count.1 >>= λ realm. times_at (data_at w32) count.0 realm.1 >>= named t.0 realm.0) >>= behind)
+        ≡ ((o >>= behind) >>= pass_number w32 (λ count. and_then (passed_at (data_at w32)) (passed_at (times_at (data_at w32) count))))
+    from_type None = refl
+    from_type (Some t) = from_head t.0 (number_at w32 t.1)
+
+typed_passed : Same (passed_at typed_at) (pass_data 2)
+unfolding typed_at
+typed_passed = also _ _ _ (made_passed typed_of (both_at (number_at w16) (data_at w32))) (both_as (number_at w16) (skip_at 2) (number_passed w16) (data_at w32) (pass_number w32 skip_at) (data_passed w32))
+
+abbrev from_length : ℕ → Pass
+from_length count = pass_times count (pass_data 2)
+
+list_passed : Same (passed_at list_at) (pass_number w32 from_length)
+unfolding list_at
+list_passed place = bound_passed w32 (times_at typed_at) place ∙ number_same w32 _ from_length (times_passed typed_at (pass_data 2) typed_passed) place
+
+abbrev pub list_pass : Pass
+list_pass = passed_at list_at
+
+abbrev pub data_pass : Pass
+data_pass = pass_number w32 skip_at
+
+abbrev pub from_ticket : Pass
+from_ticket = and_then data_pass data_pass
+
+abbrev pub from_authdata : Pass
+from_authdata = and_then list_pass from_ticket
+
+abbrev pub from_addresses : Pass
+from_addresses = and_then list_pass from_authdata
+
+tail_passed : Same (passed_at tail_at) (and_then (skip_at 4) from_addresses)
+tail_passed =
+    both_as (number_at w32) (skip_at 4) (number_passed w32) _ _
+    (both_as list_at list_pass (as_read list_pass) _ _ (both_as list_at list_pass (as_read list_pass) _ _ (both_as (data_at w32) data_pass (data_passed w32) (data_at w32) data_pass (data_passed w32))))
+
+abbrev pub name_pass : Pass
+name_pass = passed_at name_at
+
+abbrev pub tail_pass : Pass
+tail_pass = passed_at tail_at
+
+-- the key, the times, `is_skey` and all that comes after it
+abbrev pub from_key : Pass → Pass
+from_key mark = and_then data_pass (and_then (skip_at 4) (and_then (skip_at 4) (and_then (skip_at 4) (and_then (skip_at 4) (and_then mark tail_pass)))))
+
+abbrev pub from_etype : Layout → Pass → Pass
+from_etype layout mark = and_then (skip_at 2) (and_then (skip_at (second_size layout)) (from_key mark))
+
+pub parts_passed : {Mark : Type 0} (mark_at : Place → Option (Mark × Place)) (mark : Pass) → Same (passed_at mark_at) mark → (layout : Layout) → Same (passed_at (parts_with mark_at layout)) (and_then name_pass (and_then name_pass (from_etype layout mark)))
+parts_passed mark_at mark e layout =
+    both_as name_at name_pass (as_read name_pass) _ _
+    (both_as name_at name_pass (as_read name_pass) _ _
+    (both_as (signed_at w16) (skip_at 2) (signed_passed w16) _ _
+    (both_as (bytes_at (second_size layout)) (skip_at (second_size layout)) (as_read _) _ _
+    (both_as (data_at w32) data_pass (data_passed w32) _ _
+    (both_as (number_at w32) (skip_at 4) (number_passed w32) _ _
+    (both_as (number_at w32) (skip_at 4) (number_passed w32) _ _
+    (both_as (number_at w32) (skip_at 4) (number_passed w32) _ _
+    (both_as (number_at w32) (skip_at 4) (number_passed w32) _ _ (both_as mark_at mark e tail_at tail_pass (as_read tail_pass))))))))))
+
+-- ---- `is_skey`
+
+abbrev pub tested : (ℕ → Bool) → Pass
+tested test = pass_number w8 (λ mark. pass_if (test mark))
+
+pub tested_passed : (test : ℕ → Bool) → Same (passed_at (passing_at test (number_at w8))) (tested test)
+tested_passed test place = from_number (number_at w8 place)
+  where
+    by_test : (n : ℕ × Place) (b : Bool) → (cond b (Some n) None >>= λ x. Some x.1) ≡ pass_if b n.1
+    by_test n true = refl
+    by_test n false = refl
+
+    from_number : (o : Option (ℕ × Place)) → ((o >>= λ n. cond (test n.0) (Some n) None) >>= λ x. Some x.1) ≡ (o >>= λ n. pass_if (test n.0) n.1)
+    from_number None = refl
+    from_number (Some n) = by_test n (test n.0)
+
+flag_passed : Same (passed_at flag_at) (tested is_flag)
+unfolding flag_at
+flag_passed place = from_number (number_at w8 place)
+  where
+    flagged : Place → Bool → Option (Bool × Place)
+    flagged next flag = Some (flag, next)
+
+    by_flag : (next : Place) (o : Option Bool) → ((o >>= flagged next) >>= behind) ≡ pass_if (is_some o) next
+    by_flag next None = refl
+    by_flag next (Some flag) = refl
+
+    from_number : (o : Option (ℕ × Place)) → ((o >>= λ n. flag_of n.0 >>= flagged n.1) >>= behind) ≡ (o >>= λ n. pass_if (is_flag n.0) n.1)
+    from_number None = refl
+    from_number (Some n) = by_flag n.1 (flag_of n.0)
+
+pub credential_passed : (layout : Layout) (test : ℕ → Bool) → Same (pass_credential layout test) (and_then name_pass (and_then name_pass (from_etype layout (tested test))))
+credential_passed layout test = parts_passed (passing_at test (number_at w8)) (tested test) (tested_passed test) layout
+
+-- what is read of a credential is passed over
+credential_flagged : (layout : Layout) → Same (passed_at (credential_at layout)) (pass_credential layout is_flag)
+unfolding credential_at
+credential_flagged layout =
+    also _ _ _ (made_passed credential_of (parts_at layout))
+    (also _ _ _ (parts_passed flag_at (tested is_flag) flag_passed layout) (λ place. sym (credential_passed layout is_flag place)))
+
+pub passed_some : {X : Type 0} (o : Option (X × Place)) (behind : Place) → (o >>= λ x. Some x.1) ≡ Some behind → (x : X) × (o ≡ Some (x, behind))
+passed_some None behind e = absurd cc
+passed_some (Some (x, next)) behind e = let same : next ≡ behind = cc in (x, ap (λ (p : Place). Some (x, p)) same)
+
+pub passed_none : {X : Type 0} (o : Option (X × Place)) → (o >>= λ x. Some x.1) ≡ None → o ≡ None
+passed_none None e = refl
+passed_none (Some x) e = absurd cc
+
+module _ (layout : Layout) (place behind : Place) (mark : ℕ) (passed : pass_credential layout is_flag place ≡ pass_if (is_flag mark) behind) where
+  abbrev by_flag : Option Bool → Option Place
+  by_flag flag = pass_if (is_some flag) behind
+
+  pub credential_is : (flag : Bool) → flag_of mark ≡ Some flag → (credential : Credential) × (credential_at layout place ≡ Some (credential, behind))
+  credential_is flag is = passed_some (credential_at layout place) behind (credential_flagged layout place ∙ passed ∙ ap by_flag is)
+
+  pub credential_not : flag_of mark ≡ None → credential_at layout place ≡ None
+  credential_not is = passed_none (credential_at layout place) (credential_flagged layout place ∙ passed ∙ ap by_flag is)
+
+pub credential_none : (layout : Layout) (place : Place) → pass_credential layout is_flag place ≡ None → credential_at layout place ≡ None
+credential_none layout place none = passed_none (credential_at layout place) (credential_flagged layout place ∙ none)
+
+-- ---- the walks
 
 module _ (Within : Hand → Type 0) (Lacks : TakeFault → Hand → ℕ → Type 0) where
-  -- ---- a number, and what is read after it
+  module _ {T : Type 0} (old middle new : Hand) (number : ℕ) (result : Result T TakeFault) where
+    pub data_then : (w : Width) → Taken Within (0 + byte_len w) old middle → number ≡ last_number w 0 old.bytes middle.bytes → IsTaken Within Lacks number middle new result → IsWalk (passed_at (data_at w)) (λ x. pass_none) Within Lacks old new result
+    data_then w t is h =
+        walk_same Within Lacks _ _ _ old new result (also _ _ _ (data_passed w) (λ place. sym (none_skipped (pass_number w skip_at) place)))
+        (walk_then Within Lacks _ (skip_at number) _ old middle new result (number_goes Within w 0 skip_at old middle number t is) (bytes_walk Within Lacks number middle new result h))
 
-  module _ {Y : Type 0} (w : Width) (other : ℕ → Place → Option (Y × Place)) where
-    pub number_then : {T : Type 0} (old middle new : Hand) (count : ℕ) (result : Result T TakeFault) → Taken Within (byte_len w) old middle → count ≡ last_number w 0 old.bytes middle.bytes
-        → IsWalk (other count) Within Lacks middle new result → IsWalk (bound (number_at w) other) Within Lacks old new result
-    number_then old middle new count result t last h = walk_bound (number_at w) other Within Lacks old middle new result (walked_number Within w old middle count t last) h
+  pub data_first : (w : Width) (old new : Hand) (stop : TakeFault) → TookFewer Within Lacks (0 + byte_len w) old new stop → Stops (passed_at (data_at w)) Within Lacks old new stop
+  data_first w old new stop t = stops_same Within Lacks _ _ old new stop (also _ _ _ (data_passed w) (λ place. sym (none_skipped (pass_number w skip_at) place))) (number_stops Within Lacks w 0 skip_at old new stop t)
 
-    pub number_first : (old new : Hand) (stop : TakeFault) → TookFewer Within Lacks (byte_len w) old new stop → Stopped (bound (number_at w) other) Within Lacks old new stop
-    number_first old new stop t = stopped_first (number_at w) other Within Lacks old new stop (stopped_sized Within (number_at w) (byte_len w) (sized_number w) Lacks old new stop t)
+  -- the bytes before a principal, and its number of components
+  abbrev name_start : ℕ → Pass
+  name_start skip = and_then (skip_at (skip + 4)) (pass_number w32 from_count)
 
-  -- ---- a principal
+  name_same : (skip : ℕ) → Same (and_then (skip_at skip) name_pass) (name_start skip)
+  name_same skip = also _ _ _ (same_then (skip_at skip) name_pass _ name_passed) (skip_more skip 4 (pass_number w32 from_count))
 
-  abbrev head_at : Place → Option ((ℤ × ℕ) × Place)
-  head_at = both_at (signed_at w32) (number_at w32)
+  pub name_first : (skip : ℕ) (old new : Hand) (stop : TakeFault) → TookFewer Within Lacks ((skip + 4) + 8) old new stop → Stops (and_then (skip_at skip) name_pass) Within Lacks old new stop
+  name_first skip old new stop t = stops_same Within Lacks _ _ old new stop (name_same skip) (pair_stops Within (skip + 4) from_realm Lacks old new stop t)
 
-  abbrev named : ℤ × ℕ → List ℕ × List (List ℕ) → Principal
-  named head strings = record { realm = strings.0; name_type = head.0; components = strings.1 }
+  pub name_then : (skip : ℕ) (old middle new : Hand) (count realm : ℕ) (result : Result ℕ TakeFault) → Goes (and_then (skip_at (skip + 4)) (pass_number w32 from_count)) (from_realm count realm) Within old middle
+      → IsWalk (from_realm count realm) skip_at Within Lacks middle new result → IsWalk (and_then (skip_at skip) name_pass) skip_at Within Lacks old new result
+  name_then skip old middle new count realm result g h = walk_same Within Lacks _ _ _ old new result (name_same skip) (walk_then Within Lacks _ (from_realm count realm) _ old middle new result g h)
 
-  abbrev from_length : ℤ × ℕ → Place → Option ((List ℕ × List (List ℕ)) × Place)
-  from_length head = bound (number_at w32) (λ length. strings_at length head.1)
+  list_same : (skip : ℕ) → Same (and_then (skip_at skip) list_pass) (and_then (skip_at skip) (pass_number w32 from_length))
+  list_same skip = same_then (skip_at skip) list_pass _ list_passed
 
-  abbrev from_head : ℤ × ℕ → Place → Option (Principal × Place)
-  from_head head = made_at (named head) (from_length head)
+  pub list_first : (skip : ℕ) (old new : Hand) (stop : TakeFault) → TookFewer Within Lacks (skip + 4) old new stop → Stops (and_then (skip_at skip) list_pass) Within Lacks old new stop
+  list_first skip old new stop t = stops_same Within Lacks _ _ old new stop (list_same skip) (number_stops Within Lacks w32 skip from_length old new stop t)
 
-  abbrev of_strings : ℤ × ℕ → Option ((List ℕ × List (List ℕ)) × Place) → Option (Principal × Place)
-  of_strings head read = read >>= λ strings. Some (named head strings.0, strings.1)
+  pub list_then : (skip : ℕ) (old middle new : Hand) (count : ℕ) (result : Result ℕ TakeFault) → Taken Within (skip + 4) old middle → count ≡ last_number w32 skip old.bytes middle.bytes → IsWalk (and_then (skip_at 0) (from_length count)) skip_at Within Lacks middle new result
+      → IsWalk (and_then (skip_at skip) list_pass) skip_at Within Lacks old new result
+  list_then skip old middle new count result t is h =
+      walk_same Within Lacks _ _ _ old new result (list_same skip) (walk_then Within Lacks _ (from_length count) _ old middle new result (number_goes Within w32 skip from_length old middle count t is) (walk_same Within Lacks _ _ _ middle new result (λ place. sym (none_skipped (from_length count) place)) h))
 
-  abbrev of_realm : ℤ × ℕ → List ℕ → Option (List (List ℕ) × Place) → Option (Principal × Place)
-  of_realm head realm read = read >>= λ components. Some (named head (realm, components.0), components.1)
+  -- a whole part, of which the last bytes were to come
+  pub whole_then : {T : Type 0} (p : Pass) (old middle new : Hand) (last : ℕ) (result : Result T TakeFault) → Goes p (skip_at last) Within old middle → IsTaken Within Lacks last middle new result → IsWalk p (λ x. pass_none) Within Lacks old new result
+  whole_then p old middle new last result g h = walk_then Within Lacks p (skip_at last) _ old middle new result g (bytes_walk Within Lacks last middle new result h)
 
-  abbrev from_realm : ℤ × ℕ → List ℕ × Place → Option (Principal × Place)
-  from_realm head realm = of_realm head realm.0 (times_at (data_at w32) head.1 realm.1)
+  module _ (old middle : Hand) where
+    no_gap : Same name_pass (and_then (skip_at 0) name_pass)
+    no_gap place = sym (none_skipped name_pass place)
 
-  after_realm : (head : ℤ × ℕ) (realm : List ℕ) (o : Option (List (List ℕ) × Place)) → of_realm head realm o ≡ of_strings head (pair_with realm o)
-  after_realm head realm None = refl
-  after_realm head realm (Some components) = refl
+    pub principal_then : {T : Type 0} (new : Hand) (last : ℕ) (result : Result T TakeFault) → Goes (and_then (skip_at 0) name_pass) (skip_at last) Within old middle → IsTaken Within Lacks last middle new result → IsWalk name_pass (λ x. pass_none) Within Lacks old new result
+    principal_then new last result g h = walk_same Within Lacks _ name_pass _ old new result no_gap (whole_then (and_then (skip_at 0) name_pass) old middle new last result g h)
 
-  after_length : (head : ℤ × ℕ) (o : Option (List ℕ × Place)) → (o >>= λ realm. from_realm head realm) ≡ of_strings head (o >>= λ realm. pair_with realm.0 (times_at (data_at w32) head.1 realm.1))
-  after_length head None = refl
-  after_length head (Some realm) = after_realm head realm.0 (times_at (data_at w32) head.1 realm.1)
+    pub principal_first : (stop : TakeFault) → Stops (and_then (skip_at 0) name_pass) Within Lacks old middle stop → Stops name_pass Within Lacks old middle stop
+    principal_first stop h = stops_same Within Lacks _ name_pass old middle stop no_gap h
 
-  after_count : (head : ℤ × ℕ) (o : Option (ℕ × Place)) → ((o >>= λ length. bytes_at length.0 length.1) >>= λ realm. from_realm head realm) ≡ of_strings head (o >>= λ length. strings_at length.0 head.1 length.1)
-  after_count head None = refl
-  after_count head (Some length) = after_length head (bytes_at length.0 length.1)
+  -- ---- one part of several, up to the bytes that are to come
 
-  after_type : (name_type : ℤ) (o : Option (ℕ × Place)) → (o >>= λ count. data_at w32 count.1 >>= λ realm. from_realm (name_type, count.0) realm) ≡ (pair_with name_type o >>= λ head. from_head head.0 head.1)
-  unfolding data_at
-  after_type name_type None = refl
-  after_type name_type (Some count) = after_count (name_type, count.0) (number_at w32 count.1)
+  module _ (whole : Pass) (old middle new : Hand) where
+    module _ (skip : ℕ) (p q : Pass) (g : Goes whole (and_then (skip_at skip) (and_then p q)) Within old middle) where
+      abbrev parted : Goes whole (and_then (and_then (skip_at skip) p) q) Within old middle
+      parted = goes_same Within _ _ _ _ old middle (λ place. refl) (λ place. sym (grouped (skip_at skip) p q place)) g
 
-  from_start : (o : Option (ℤ × Place)) → (o >>= λ name_type. number_at w32 name_type.1 >>= λ count. data_at w32 count.1 >>= λ realm. from_realm (name_type.0, count.0) realm) ≡ ((o >>= λ name_type. pair_with name_type.0 (number_at w32 name_type.1)) >>= λ head. from_head head.0 head.1)
-  from_start None = refl
-  from_start (Some name_type) = after_type name_type.0 (number_at w32 name_type.1)
+      pub part_goes : (last : ℕ) → Goes (and_then (skip_at skip) p) (skip_at last) Within middle new → Goes whole (and_then (skip_at last) q) Within old new
+      part_goes last h = goes_then Within whole _ _ old middle new parted (goes_more Within (and_then (skip_at skip) p) (skip_at last) q middle new h)
 
-  abbrev same_name : Principal → Principal
-  same_name name = name
+      pub part_stops : (stop : TakeFault) → Stops (and_then (skip_at skip) p) Within Lacks middle new stop → Stops whole Within Lacks old new stop
+      part_stops stop h = stops_then Within Lacks whole _ old middle new stop parted (stops_more Within Lacks (and_then (skip_at skip) p) q middle new stop h)
 
-  name_parts : (place : Place) → name_at place ≡ made_at same_name (bound head_at from_head) place
-  unfolding name_at
-  name_parts place = from_start (signed_at w32 place) ∙ again (bound head_at from_head place)
-    where
-      again : (o : Option (Principal × Place)) → o ≡ (o >>= λ name. Some (same_name name.0, name.1))
-      again None = refl
-      again (Some name) = refl
+    -- the length of bytes
+    module _ (skip : ℕ) (q : Pass) (g : Goes whole (and_then (skip_at skip) (and_then data_pass q)) Within old middle) where
+      pub length_goes : (last : ℕ) → Taken Within (skip + 4) middle new → last ≡ last_number w32 skip middle.bytes new.bytes → Goes whole (and_then (skip_at last) q) Within old new
+      length_goes last t is = part_goes skip data_pass q g last (number_goes Within w32 skip skip_at middle new last t is)
 
-  type_sized : Sized (signed_at w32) 4
-  type_sized = sized_signed w32
+      pub length_stops : (stop : TakeFault) → TookFewer Within Lacks (skip + 4) middle new stop → Stops whole Within Lacks old new stop
+      length_stops stop t = part_stops skip data_pass q g stop (number_stops Within Lacks w32 skip skip_at middle new stop t)
 
-  abbrev head_walked : (old new : Hand) (count : ℕ) → Taken Within 8 old new → count ≡ last_number w32 4 old.bytes new.bytes → Walked head_at Within old new
-  head_walked old new count t last = walked_after Within (signed_at w32) 4 type_sized w32 old new count t last
+    -- and the last one
+    module _ (skip : ℕ) (g : Goes whole (and_then (skip_at skip) data_pass) Within old middle) where
+      pub last_goes : (last : ℕ) → Taken Within (skip + 4) middle new → last ≡ last_number w32 skip middle.bytes new.bytes → Goes whole (skip_at last) Within old new
+      last_goes last t is = goes_then Within whole _ _ old middle new g (number_goes Within w32 skip skip_at middle new last t is)
 
-  pub name_walk : {T : Type 0} (old a b new : Hand) (count length : ℕ) (result : Result T TakeFault) → Taken Within 8 old a → count ≡ last_number w32 4 old.bytes a.bytes → Taken Within 4 a b → length ≡ last_number w32 0 a.bytes b.bytes
-      → IsWalk (strings_at length count) Within Lacks b new result → IsWalk name_at Within Lacks old new result
-  name_walk old a b new count length result t last u next h =
-      let head = head_walked old a count t last in
-      walk_made same_name (bound head_at from_head) name_at name_parts Within Lacks old new result
-      (walk_bound head_at from_head Within Lacks old a new result head
-      (walk_made (named head.thing) (from_length head.thing) (from_head head.thing) (λ place. refl) Within Lacks a new result (number_then w32 (λ n. strings_at n count) a b new length result u next h)))
-
-  named_stops : (old new : Hand) (stop : TakeFault) → Stopped (bound head_at from_head) Within Lacks old new stop → Stopped name_at Within Lacks old new stop
-  named_stops old new stop h = stopped_made same_name (bound head_at from_head) name_at name_parts Within Lacks old new stop h
-
-  pub name_count_stops : (old new : Hand) (stop : TakeFault) → TookFewer Within Lacks 8 old new stop → Stopped name_at Within Lacks old new stop
-  name_count_stops old new stop t =
-      named_stops old new stop (stopped_first head_at from_head Within Lacks old new stop (stopped_sized Within head_at 8 (sized_both (signed_at w32) (number_at w32) 4 4 type_sized (sized_number w32)) Lacks old new stop t))
-
-  pub name_length_stops : (old a new : Hand) (count : ℕ) (stop : TakeFault) → Taken Within 8 old a → count ≡ last_number w32 4 old.bytes a.bytes → TookFewer Within Lacks 4 a new stop → Stopped name_at Within Lacks old new stop
-  name_length_stops old a new count stop t last u =
-      let head = head_walked old a count t last in
-      named_stops old new stop
-      (stopped_bound head_at from_head Within Lacks old a new stop head
-      (stopped_made (named head.thing) (from_length head.thing) (from_head head.thing) (λ place. refl) Within Lacks a new stop (number_first w32 (λ n. strings_at n count) a new stop u)))
-
-  -- ---- bytes after their length
-
-  bytes_walk : {T : Type 0} (old new : Hand) (count : ℕ) (result : Result T TakeFault) → IsTaken Within Lacks count old new result → IsWalk (bytes_at count) Within Lacks old new result
-  bytes_walk old new count (Ok x) t = walked_sized Within (bytes_at count) count (sized_bytes count) old new t
-  bytes_walk old new count (Err stop) t = stopped_sized Within (bytes_at count) count (sized_bytes count) Lacks old new stop t
-
-  pub data_then : {T : Type 0} (w : Width) (old middle new : Hand) (count : ℕ) (result : Result T TakeFault) → Taken Within (byte_len w) old middle → count ≡ last_number w 0 old.bytes middle.bytes → IsTaken Within Lacks count middle new result
-      → IsWalk (data_at w) Within Lacks old new result
-  unfolding data_at
-  data_then w old middle new count result t last h = number_then w bytes_at old middle new count result t last (bytes_walk middle new count result h)
-
-  pub data_first : (w : Width) (old new : Hand) (stop : TakeFault) → TookFewer Within Lacks (byte_len w) old new stop → Stopped (data_at w) Within Lacks old new stop
-  unfolding data_at
-  data_first w old new stop t = number_first w bytes_at old new stop t
-
-  -- ---- addresses and authorization data
-
-  pub kind_then : {T : Type 0} (old middle new : Hand) (result : Result T TakeFault) → Taken Within 2 old middle → IsWalk (data_at w32) Within Lacks middle new result → IsWalk typed_at Within Lacks old new result
-  unfolding typed_at
-  kind_then old middle new result t h =
-      walk_made typed_of (both_at (number_at w16) (data_at w32)) typed_at (λ place. refl) Within Lacks old new result
-      (walk_both (number_at w16) (data_at w32) Within Lacks old middle new result (walked_sized Within (number_at w16) 2 (sized_number w16) old middle t) h)
-
-  pub kind_first : (old new : Hand) (stop : TakeFault) → TookFewer Within Lacks 2 old new stop → Stopped typed_at Within Lacks old new stop
-  unfolding typed_at
-  kind_first old new stop t =
-      stopped_made typed_of (both_at (number_at w16) (data_at w32)) typed_at (λ place. refl) Within Lacks old new stop
-      (stopped_one (number_at w16) (data_at w32) Within Lacks old new stop (stopped_sized Within (number_at w16) 2 (sized_number w16) Lacks old new stop t))
-
-  pub list_then : {T : Type 0} (old middle new : Hand) (count : ℕ) (result : Result T TakeFault) → Taken Within 4 old middle → count ≡ last_number w32 0 old.bytes middle.bytes → IsWalk (times_at typed_at count) Within Lacks middle new result
-      → IsWalk list_at Within Lacks old new result
-  unfolding list_at
-  list_then old middle new count result t last h = number_then w32 (times_at typed_at) old middle new count result t last h
-
-  pub list_first : (old new : Hand) (stop : TakeFault) → TookFewer Within Lacks 4 old new stop → Stopped list_at Within Lacks old new stop
-  unfolding list_at
-  list_first old new stop t = number_first w32 (times_at typed_at) old new stop t
+      pub last_stops : (stop : TakeFault) → TookFewer Within Lacks (skip + 4) middle new stop → Stops whole Within Lacks old new stop
+      last_stops stop t = stops_then Within Lacks whole _ old middle new stop g (number_stops Within Lacks w32 skip skip_at middle new stop t)
 
   -- ---- from the flags on
 
-  abbrev tickets_at : Place → Option ((List ℕ × List ℕ) × Place)
-  tickets_at = both_at (data_at w32) (data_at w32)
+  tail_parts : Same tail_pass (and_then (and_then (skip_at 4) list_pass) from_authdata)
+  tail_parts = also _ _ _ tail_passed (λ place. sym (grouped (skip_at 4) list_pass from_authdata place))
 
-  abbrev authdata_at : Place → Option ((List TypedBytes × (List ℕ × List ℕ)) × Place)
-  authdata_at = both_at list_at tickets_at
+  module _ (old new : Hand) where
+    pub addresses_go : (last : ℕ) → Goes (and_then (skip_at 4) list_pass) (skip_at last) Within old new → Goes tail_pass (and_then (skip_at last) from_authdata) Within old new
+    addresses_go last g = goes_same Within _ _ _ _ old new tail_parts (λ place. refl) (goes_more Within _ (skip_at last) from_authdata old new g)
 
-  abbrev lists_at : Place → Option ((List TypedBytes × (List TypedBytes × (List ℕ × List ℕ))) × Place)
-  lists_at = both_at list_at authdata_at
-
-  flags_of : (old new : Hand) → Taken Within 4 old new → Walked (number_at w32) Within old new
-  flags_of old new t = walked_sized Within (number_at w32) 4 (sized_number w32) old new t
-
-  pub flags_stop : (old new : Hand) (stop : TakeFault) → TookFewer Within Lacks 4 old new stop → Stopped tail_at Within Lacks old new stop
-  flags_stop old new stop t = stopped_one (number_at w32) lists_at Within Lacks old new stop (stopped_sized Within (number_at w32) 4 (sized_number w32) Lacks old new stop t)
-
-  module _ {T : Type 0} (old a new : Hand) (result : Result T TakeFault) (t : Taken Within 4 old a) where
-    pub addresses_then : IsWalk lists_at Within Lacks a new result → IsWalk tail_at Within Lacks old new result
-    addresses_then h = walk_both (number_at w32) lists_at Within Lacks old a new result (flags_of old a t) h
-
-    pub authdata_then : (b : Hand) → Walked list_at Within a b → IsWalk authdata_at Within Lacks b new result → IsWalk tail_at Within Lacks old new result
-    authdata_then b one h = addresses_then (walk_both list_at authdata_at Within Lacks a b new result one h)
-
-    pub ticket_then : (b c : Hand) → Walked list_at Within a b → Walked list_at Within b c → IsWalk tickets_at Within Lacks c new result → IsWalk tail_at Within Lacks old new result
-    ticket_then b c one other h = authdata_then b one (walk_both list_at tickets_at Within Lacks b c new result other h)
-
-    pub tickets_then : (b c d : Hand) → Walked list_at Within a b → Walked list_at Within b c → Walked (data_at w32) Within c d → IsWalk (data_at w32) Within Lacks d new result → IsWalk tail_at Within Lacks old new result
-    tickets_then b c d one other ticket h = ticket_then b c one other (walk_both (data_at w32) (data_at w32) Within Lacks c d new result ticket h)
-
-  pub addresses_stop : (old new : Hand) (stop : TakeFault) → Stopped list_at Within Lacks old new stop → Stopped lists_at Within Lacks old new stop
-  addresses_stop old new stop h = stopped_one list_at authdata_at Within Lacks old new stop h
-
-  pub authdata_stop : (old new : Hand) (stop : TakeFault) → Stopped list_at Within Lacks old new stop → Stopped authdata_at Within Lacks old new stop
-  authdata_stop old new stop h = stopped_one list_at tickets_at Within Lacks old new stop h
-
-  pub ticket_stop : (old new : Hand) (stop : TakeFault) → Stopped (data_at w32) Within Lacks old new stop → Stopped tickets_at Within Lacks old new stop
-  ticket_stop old new stop h = stopped_one (data_at w32) (data_at w32) Within Lacks old new stop h
-
-  -- ---- from the times on
-
-  abbrev u32_at : Place → Option (ℕ × Place)
-  u32_at = number_at w32
-
-  abbrev pub from_mark : Place → Option ((ℕ × (ℕ × (List TypedBytes × (List TypedBytes × (List ℕ × List ℕ))))) × Place)
-  from_mark = both_at (number_at w8) tail_at
-
-  abbrev pub from_times : Place → Option ((ℕ × (ℕ × (ℕ × (ℕ × (ℕ × (ℕ × (List TypedBytes × (List TypedBytes × (List ℕ × List ℕ))))))))) × Place)
-  from_times = both_at u32_at (both_at u32_at (both_at u32_at (both_at u32_at from_mark)))
-
-  sized_as : {X : Type 0} (read : Place → Option (X × Place)) (n m : ℕ) → n ≡ m → Sized read n → Sized read m
-  sized_as read n m e sized = subst (Sized read) e sized
-
-  -- the bytes of a key, the times and `is_skey`, and what comes after them
-  module _ (size : ℕ) where
-    abbrev no_times : Place → Option (List ℕ × Place)
-    no_times = bytes_at size
-
-    abbrev one_time : Place → Option ((List ℕ × ℕ) × Place)
-    one_time = both_at no_times u32_at
-
-    abbrev two_times : Place → Option (((List ℕ × ℕ) × ℕ) × Place)
-    two_times = both_at one_time u32_at
-
-    abbrev three_times : Place → Option ((((List ℕ × ℕ) × ℕ) × ℕ) × Place)
-    three_times = both_at two_times u32_at
-
-    abbrev four_times : Place → Option (((((List ℕ × ℕ) × ℕ) × ℕ) × ℕ) × Place)
-    four_times = both_at three_times u32_at
-
-    abbrev to_mark : Place → Option ((((((List ℕ × ℕ) × ℕ) × ℕ) × ℕ) × ℕ) × Place)
-    to_mark = both_at four_times (number_at w8)
-
-    abbrev pub from_bytes : Place → Option ((List ℕ × (ℕ × (ℕ × (ℕ × (ℕ × (ℕ × (ℕ × (List TypedBytes × (List TypedBytes × (List ℕ × List ℕ)))))))))) × Place)
-    from_bytes = both_at no_times from_times
-
-    times_sized : Sized four_times (size + 16)
-    times_sized =
-        sized_as four_times ((((size + 4) + 4) + 4) + 4) (size + 16) (omega arith)
-        (sized_both three_times u32_at (((size + 4) + 4) + 4) 4 (sized_both two_times u32_at ((size + 4) + 4) 4 (sized_both one_time u32_at (size + 4) 4 (sized_both no_times u32_at size 4 (sized_bytes size) (sized_number w32)) (sized_number w32)) (sized_number w32)) (sized_number w32))
-
-    mark_sized : Sized to_mark (size + 16 + 1)
-    mark_sized = sized_both four_times (number_at w8) (size + 16) 1 times_sized (sized_number w8)
-
-    abbrev from_fourth : Place → Option ((ℕ × (ℕ × (ℕ × (List TypedBytes × (List TypedBytes × (List ℕ × List ℕ)))))) × Place)
-    from_fourth = both_at u32_at from_mark
-
-    abbrev from_third : Place → Option ((ℕ × (ℕ × (ℕ × (ℕ × (List TypedBytes × (List TypedBytes × (List ℕ × List ℕ))))))) × Place)
-    from_third = both_at u32_at from_fourth
-
-    abbrev from_second : Place → Option ((ℕ × (ℕ × (ℕ × (ℕ × (ℕ × (List TypedBytes × (List TypedBytes × (List ℕ × List ℕ)))))))) × Place)
-    from_second = both_at u32_at from_third
-
-    abbrev times_walked : (old middle new : Hand) (mark : ℕ) → Taken Within (size + 16 + 1) old middle → mark ≡ last_number w8 (size + 16) old.bytes middle.bytes → Walked tail_at Within middle new → Walked from_bytes Within old new
-    times_walked old middle new mark t last h =
-        let five = walked_both to_mark tail_at Within old middle new (walked_after Within four_times (size + 16) times_sized w8 old middle mark t last) h in
-        let four = walked_made (regroup four_times (number_at w8) tail_at) (both_at to_mark tail_at) (both_at four_times from_mark) (regrouped four_times (number_at w8) tail_at) Within old new five in
-        let three = walked_made (regroup three_times u32_at from_mark) (both_at four_times from_mark) (both_at three_times from_fourth) (regrouped three_times u32_at from_mark) Within old new four in
-        let two = walked_made (regroup two_times u32_at from_fourth) (both_at three_times from_fourth) (both_at two_times from_third) (regrouped two_times u32_at from_fourth) Within old new three in
-        let one = walked_made (regroup one_time u32_at from_third) (both_at two_times from_third) (both_at one_time from_second) (regrouped one_time u32_at from_third) Within old new two in
-        walked_made (regroup no_times u32_at from_second) (both_at one_time from_second) from_bytes (regrouped no_times u32_at from_second) Within old new one
-
-    times_flat : (old new : Hand) (stop : TakeFault) → Stopped (both_at to_mark tail_at) Within Lacks old new stop → Stopped from_bytes Within Lacks old new stop
-    times_flat old new stop five =
-        let four = stopped_made (regroup four_times (number_at w8) tail_at) (both_at to_mark tail_at) (both_at four_times from_mark) (regrouped four_times (number_at w8) tail_at) Within Lacks old new stop five in
-        let three = stopped_made (regroup three_times u32_at from_mark) (both_at four_times from_mark) (both_at three_times from_fourth) (regrouped three_times u32_at from_mark) Within Lacks old new stop four in
-        let two = stopped_made (regroup two_times u32_at from_fourth) (both_at three_times from_fourth) (both_at two_times from_third) (regrouped two_times u32_at from_fourth) Within Lacks old new stop three in
-        let one = stopped_made (regroup one_time u32_at from_third) (both_at two_times from_third) (both_at one_time from_second) (regrouped one_time u32_at from_third) Within Lacks old new stop two in
-        stopped_made (regroup no_times u32_at from_second) (both_at one_time from_second) from_bytes (regrouped no_times u32_at from_second) Within Lacks old new stop one
-
-    times_first : (old new : Hand) (stop : TakeFault) → TookFewer Within Lacks (size + 16 + 1) old new stop → Stopped from_bytes Within Lacks old new stop
-    times_first old new stop t = times_flat old new stop (stopped_one to_mark tail_at Within Lacks old new stop (stopped_sized Within to_mark (size + 16 + 1) mark_sized Lacks old new stop t))
-
-    times_then : (old middle new : Hand) (stop : TakeFault) → Taken Within (size + 16 + 1) old middle → Stopped tail_at Within Lacks middle new stop → Stopped from_bytes Within Lacks old new stop
-    times_then old middle new stop t h = times_flat old new stop (stopped_other to_mark tail_at Within Lacks old middle new stop (walked_sized Within to_mark (size + 16 + 1) mark_sized old middle t) h)
+    pub addresses_stop : (stop : TakeFault) → Stops (and_then (skip_at 4) list_pass) Within Lacks old new stop → Stops tail_pass Within Lacks old new stop
+    addresses_stop stop h = stops_same Within Lacks _ _ old new stop tail_parts (stops_more Within Lacks _ from_authdata old new stop h)
 
   -- ---- a credential
 
-  module _ (layout : Layout) where
-    abbrev second_at : Place → Option (List ℕ × Place)
-    second_at = bytes_at (second_size layout)
+  module _ (layout : Layout) (test : ℕ → Bool) where
+    abbrev whole : Pass
+    whole = pass_credential layout test
 
-    abbrev etypes_at : Place → Option ((ℤ × List ℕ) × Place)
-    etypes_at = both_at (signed_at w16) second_at
+    abbrev pub from_type : Pass
+    from_type = from_etype layout (tested test)
 
-    abbrev Key : Type 0
-    Key = List ℕ × (ℕ × (ℕ × (ℕ × (ℕ × (ℕ × (ℕ × (List TypedBytes × (List TypedBytes × (List ℕ × List ℕ)))))))))
+    credential_parts : Same whole (and_then (and_then (skip_at 0) name_pass) (and_then name_pass from_type))
+    credential_parts = also _ _ _ (credential_passed layout test) (same_both name_pass _ _ _ (λ place. sym (none_skipped name_pass place)) (λ place. refl))
 
-    abbrev from_key : Place → Option (Key × Place)
-    from_key = both_at (data_at w32) from_times
+    -- what comes after the times
+    abbrev from_mark : Pass
+    from_mark = pass_number w8 (λ mark. and_then (pass_if (test mark)) tail_pass)
 
-    abbrev from_etype : Place → Option ((ℤ × (List ℕ × Key)) × Place)
-    from_etype = both_at (signed_at w16) (both_at second_at from_key)
+    timed : (skip : ℕ) → Same (and_then (skip_at skip) (and_then (skip_at 4) (and_then (skip_at 4) (and_then (skip_at 4) (and_then (skip_at 4) (and_then (tested test) tail_pass)))))) (and_then (skip_at (skip + 16)) from_mark)
+    timed skip place =
+        let marks : Pass = and_then (tested test) tail_pass in
+        same_then (skip_at skip) _ _ (also _ _ _ (skip_more 4 4 _) (also _ _ _ (skip_more 8 4 _) (skip_more 12 4 marks))) place ∙ skip_more skip 16 marks place
+        ∙ same_then (skip_at (skip + 16)) marks from_mark (number_grouped w8 (λ mark. pass_if (test mark)) tail_pass) place
 
-    abbrev from_server : Place → Option ((Principal × (ℤ × (List ℕ × Key))) × Place)
-    from_server = both_at name_at from_etype
+    typed : (skip : ℕ) → Same (and_then (skip_at skip) from_type) (and_then (skip_at ((skip + 2) + second_size layout)) (from_key (tested test)))
+    typed skip = also _ _ _ (skip_more skip 2 _) (skip_more (skip + 2) (second_size layout) (from_key (tested test)))
 
-    etypes_sized : Sized etypes_at (2 + second_size layout)
-    etypes_sized = sized_both (signed_at w16) second_at 2 (second_size layout) (sized_signed w16) (sized_bytes (second_size layout))
+    module _ (old new : Hand) where
+      pub client_goes : (last : ℕ) → Goes (and_then (skip_at 0) name_pass) (skip_at last) Within old new → Goes whole (and_then (skip_at last) (and_then name_pass from_type)) Within old new
+      client_goes last g = goes_same Within _ _ _ _ old new credential_parts (λ place. refl) (goes_more Within _ (skip_at last) _ old new g)
 
-    abbrev to_length : Place → Option (((ℤ × List ℕ) × ℕ) × Place)
-    to_length = both_at etypes_at (number_at w32)
+      pub client_stops : (stop : TakeFault) → Stops (and_then (skip_at 0) name_pass) Within Lacks old new stop → Stops whole Within Lacks old new stop
+      client_stops stop h = stops_same Within Lacks _ _ old new stop credential_parts (stops_more Within Lacks _ _ old new stop h)
 
-    abbrev from_length_of : (ℤ × List ℕ) × ℕ → Place → Option (((ℤ × List ℕ) × Key) × Place)
-    from_length_of p = made_at (λ (key : Key). (p.0, key)) (from_bytes p.1)
+    module _ (old middle new : Hand) where
+      module _ (skip : ℕ) (g : Goes whole (and_then (skip_at skip) from_type) Within old middle) where
+        abbrev keyed : Goes whole (and_then (skip_at ((skip + 2) + second_size layout)) (from_key (tested test))) Within old middle
+        keyed = goes_same Within _ _ _ _ old middle (λ place. refl) (typed skip) g
 
-    abbrev same_parts : (ℤ × List ℕ) × Key → (ℤ × List ℕ) × Key
-    same_parts p = p
+        pub key_goes : (key : ℕ) → Taken Within (((skip + 2) + second_size layout) + 4) middle new → key ≡ last_number w32 ((skip + 2) + second_size layout) middle.bytes new.bytes → Goes whole (and_then (skip_at (key + 16)) from_mark) Within old new
+        key_goes key t is = goes_same Within _ _ _ _ old new (λ place. refl) (timed key) (length_goes whole old middle new ((skip + 2) + second_size layout) _ keyed key t is)
 
-    with_number : (etypes : ℤ × List ℕ) (o : Option (ℕ × Place)) → pair_with etypes ((o >>= λ size. bytes_at size.0 size.1) >>= λ key. pair_with key.0 (from_times key.1)) ≡ (pair_with etypes o >>= λ p. from_length_of p.0 p.1)
-    with_number etypes None = refl
-    with_number etypes (Some size) = refl
+        pub key_stops : (stop : TakeFault) → TookFewer Within Lacks (((skip + 2) + second_size layout) + 4) middle new stop → Stops whole Within Lacks old new stop
+        key_stops stop t = length_stops whole old middle new ((skip + 2) + second_size layout) _ keyed stop t
 
-    with_etypes : (o : Option ((ℤ × List ℕ) × Place)) → (o >>= λ etypes. pair_with etypes.0 (from_key etypes.1)) ≡ ((o >>= λ etypes. pair_with etypes.0 (number_at w32 etypes.1)) >>= λ p. from_length_of p.0 p.1)
-    unfolding data_at
-    with_etypes None = refl
-    with_etypes (Some etypes) = with_number etypes.0 (number_at w32 etypes.1)
+      module _ (skip : ℕ) (g : Goes whole (and_then (skip_at skip) from_mark) Within old middle) where
+        pub mark_goes : (mark : ℕ) → Taken Within (skip + 1) middle new → mark ≡ last_number w8 skip middle.bytes new.bytes → Goes whole (and_then (pass_if (test mark)) tail_pass) Within old new
+        mark_goes mark t is = goes_then Within whole _ _ old middle new g (number_goes Within w8 skip (λ mark. and_then (pass_if (test mark)) tail_pass) middle new mark t is)
 
-    key_parts : (place : Place) → both_at etypes_at from_key place ≡ made_at same_parts (bound to_length from_length_of) place
-    key_parts place = with_etypes (etypes_at place) ∙ again (bound to_length from_length_of place)
-      where
-        again : (o : Option (((ℤ × List ℕ) × Key) × Place)) → o ≡ (o >>= λ p. Some (same_parts p.0, p.1))
-        again None = refl
-        again (Some p) = refl
+        pub mark_stops : (stop : TakeFault) → TookFewer Within Lacks (skip + 1) middle new stop → Stops whole Within Lacks old new stop
+        mark_stops stop t = stops_then Within Lacks whole _ old middle new stop g (number_stops Within Lacks w8 skip (λ mark. and_then (pass_if (test mark)) tail_pass) middle new stop t)
 
-    abbrev length_walked : (old new : Hand) (size : ℕ) → Taken Within (2 + second_size layout + 4) old new → size ≡ last_number w32 (2 + second_size layout) old.bytes new.bytes → Walked to_length Within old new
-    length_walked old new size t last = walked_after Within etypes_at (2 + second_size layout) etypes_sized w32 old new size t last
+      module _ (mark : ℕ) (g : Goes whole (and_then (pass_if (test mark)) tail_pass) Within old middle) where
+        pub tail_goes : Goes tail_pass pass_none Within middle new → Goes whole (pass_if (test mark)) Within old new
+        tail_goes h = goes_then Within whole _ _ old middle new g (goes_if Within (test mark) tail_pass middle new h)
 
-    abbrev etypes_walked : (old middle new : Hand) (w : Walked to_length Within old middle) → Walked (from_bytes w.thing.1) Within middle new → Walked from_etype Within old new
-    etypes_walked old middle new w h =
-        walked_made (regroup (signed_at w16) second_at from_key) (both_at etypes_at from_key) from_etype (regrouped (signed_at w16) second_at from_key) Within old new
-        (walked_made same_parts (bound to_length from_length_of) (both_at etypes_at from_key) key_parts Within old new
-        (walked_bound to_length from_length_of Within old middle new w
-        (walked_made (λ (key : Key). (w.thing.0, key)) (from_bytes w.thing.1) (from_length_of w.thing) (λ place. refl) Within middle new h)))
-
-    etypes_flat : (old new : Hand) (stop : TakeFault) → Stopped (bound to_length from_length_of) Within Lacks old new stop → Stopped from_etype Within Lacks old new stop
-    etypes_flat old new stop h =
-        stopped_made (regroup (signed_at w16) second_at from_key) (both_at etypes_at from_key) from_etype (regrouped (signed_at w16) second_at from_key) Within Lacks old new stop
-        (stopped_made same_parts (bound to_length from_length_of) (both_at etypes_at from_key) key_parts Within Lacks old new stop h)
-
-    pub one_walked : (old a b c d new : Hand) (size mark : ℕ) → Walked name_at Within old a → Walked name_at Within a b → Taken Within (2 + second_size layout + 4) b c → size ≡ last_number w32 (2 + second_size layout) b.bytes c.bytes → Taken Within (size + 16 + 1) c d
-        → mark ≡ last_number w8 (size + 16) c.bytes d.bytes → Walked tail_at Within d new → WalkedOne layout Within old new mark
-    one_walked old a b c d new size mark client server etypes size_is times last tail =
-        let served = walked_both name_at from_etype Within a b new server (etypes_walked b c new (length_walked b c size etypes size_is) (times_walked size c d new mark times last tail)) in
-        record { walked = walked_both name_at from_server Within old a new client served; mark_is = refl }
-
-    pub client_stops : (old new : Hand) (stop : TakeFault) → Stopped name_at Within Lacks old new stop → Stopped (marked_at layout) Within Lacks old new stop
-    client_stops old new stop h = stopped_one name_at from_server Within Lacks old new stop h
-
-    module _ (old a new : Hand) (stop : TakeFault) (client : Walked name_at Within old a) where
-      pub server_stops : Stopped name_at Within Lacks a new stop → Stopped (marked_at layout) Within Lacks old new stop
-      server_stops h = stopped_other name_at from_server Within Lacks old a new stop client (stopped_one name_at from_etype Within Lacks a new stop h)
-
-      module _ (b : Hand) (server : Walked name_at Within a b) where
-        served : Stopped from_etype Within Lacks b new stop → Stopped (marked_at layout) Within Lacks old new stop
-        served h = stopped_other name_at from_server Within Lacks old a new stop client (stopped_other name_at from_etype Within Lacks a b new stop server h)
-
-        pub length_stops : TookFewer Within Lacks (2 + second_size layout + 4) b new stop → Stopped (marked_at layout) Within Lacks old new stop
-        length_stops t =
-            served (etypes_flat b new stop
-            (stopped_first to_length from_length_of Within Lacks b new stop
-            (stopped_sized Within to_length (2 + second_size layout + 4) (sized_both etypes_at (number_at w32) (2 + second_size layout) 4 etypes_sized (sized_number w32)) Lacks b new stop t)))
-
-        module _ (c : Hand) (size : ℕ) (etypes : Taken Within (2 + second_size layout + 4) b c) (size_is : size ≡ last_number w32 (2 + second_size layout) b.bytes c.bytes) where
-          timed : Stopped (from_bytes size) Within Lacks c new stop → Stopped (marked_at layout) Within Lacks old new stop
-          timed h =
-              let w = length_walked b c size etypes size_is in
-              served (etypes_flat b new stop
-              (stopped_bound to_length from_length_of Within Lacks b c new stop w (stopped_made (λ (key : Key). (w.thing.0, key)) (from_bytes size) (from_length_of w.thing) (λ place. refl) Within Lacks c new stop h)))
-
-          pub mark_stops : TookFewer Within Lacks (size + 16 + 1) c new stop → Stopped (marked_at layout) Within Lacks old new stop
-          mark_stops t = timed (times_first size c new stop t)
-
-          pub tail_stops : (d : Hand) → Taken Within (size + 16 + 1) c d → Stopped tail_at Within Lacks d new stop → Stopped (marked_at layout) Within Lacks old new stop
-          tail_stops d times h = timed (times_then size c d new stop times h)
+        pub tail_stops : (stop : TakeFault) → Stops tail_pass Within Lacks middle new stop → Stops whole Within Lacks old new stop
+        tail_stops stop h = stops_then Within Lacks whole _ old middle new stop g (stops_if Within Lacks (test mark) tail_pass middle new stop h)

@@ -107,3 +107,10 @@ pub record GoesTo (bytes : List ℕ) (cache : Cache) : Type 0 where
   pub reached : IsReached layout bytes at cache behind
   pub within : at ≤ file_limit
   pub missing : (one : Spelled) (others : List ℕ) → Spells layout one → at + length one.bytes ≤ file_limit → behind ≢ one.bytes ++ others
+
+-- the header and the default principal are those of a cache, and the credentials its first ones
+pub record IsFirstOf (one all : Cache) : Type 0 where
+  pub header : one.header ≡ all.header
+  pub default_principal : one.default_principal ≡ all.default_principal
+  pub others : List Credential
+  pub credentials : all.credentials ≡ one.credentials ++ others

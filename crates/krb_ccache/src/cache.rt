@@ -25,9 +25,10 @@ use crate::header::{open, read_head};
 use crate::item_fault::ItemFault;
 use crate::items::{read_credential, read_name};
 use crate::layout::{Layout, VERSION_4};
-use crate::room::{behind_credentials, behind_header, behind_name};
+use crate::part::{behind_each, write_each};
+use crate::room::{behind_header, behind_name};
 use crate::stepping::{Start, begin, steps};
-use crate::writing::{write_credentials, write_header, write_name, write_u16};
+use crate::writing::{write_header, write_name, write_u16};
 use krb_name::{FILE_LIMIT, FileCursor, Principal, Source, Window};
 use std::alloc::{AllocError, Global};
 use std::marker::Model;
@@ -256,7 +257,7 @@ impl CCache {
     {
         let rest = behind_header(left.checked_sub(2)?, self.header.as_slice())?;
         let rest = behind_name(rest, &self.default_principal)?;
-        behind_credentials(rest, self.credentials.as_slice())
+        behind_each(rest, self.credentials.as_slice())
     }
 
     fn written(&self, alloc: Global, size: usize) -> Result<Vec<u8>, AllocError>
@@ -267,7 +268,7 @@ impl CCache {
         write_u16(&mut bytes, VERSION_4)?;
         write_header(&mut bytes, self.header.as_slice())?;
         write_name(&mut bytes, &self.default_principal)?;
-        write_credentials(&mut bytes, self.credentials.as_slice())?;
+        write_each(&mut bytes, self.credentials.as_slice())?;
         Ok(bytes)
     }
 

@@ -15,7 +15,7 @@ use crate::header::{open, read_field};
 use crate::items::to_flag;
 use crate::layout::Layout;
 use crate::taker::{Passing, Taker};
-use crate::walking::{take_credential, take_name};
+use crate::walking::{take_credential, take_principal};
 use krb_name::{FileCursor, Short};
 
 /// Returns `Ok` if the bytes are a cache.
@@ -114,7 +114,7 @@ fn skip_name(cursor: &mut FileCursor<'_>) -> Result<(), Short>
     ensures short { OnErr result (name_at cursor.old ≡ None) }
 {
     let mut passing = Passing::new(cursor.rest());
-    take_name(&mut passing)?;
+    take_principal(&mut passing)?;
     cursor.read_bytes(passing.taken().len())?;
     Ok(())
 }

@@ -8,10 +8,11 @@ ghost use Rattle.krb_ccache.specs.declared.fault.CacheFault.{CacheFault};
 ghost use Rattle.krb_ccache.specs.Configuration.{HoldsOffset};
 ghost use Rattle.krb_name.specs.File.{file_limit, IsGiven};
 ghost use Rattle.krb_ccache.specs.Format.{version_of, written, IsCache, IsAnswerOf, IsFaultOf};
+ghost use Rattle.krb_ccache.specs.declared.layout.Layout.{Layout};
 ghost use Rattle.krb_ccache.specs.declared.layout.Layout.TheVariants.{Version4};
 ghost use Rattle.krb_ccache.specs.Fault.{offset_of};
 ghost use Rattle.krb_ccache.specs.Offset.{clock_offset};
-ghost use Rattle.krb_ccache.specs.Reader.{GoesTo};
+ghost use Rattle.krb_ccache.specs.Reader.{HasTaken, GoesTo, IsFirstOf};
 ghost use Rattle.krb_ccache.specs.Value.{Cache, Fits};
 
 /// States that bytes either are a cache, of one value only, or have a fault, and only one.
@@ -75,4 +76,21 @@ pub fn a_source_tells_its_file()
 pub fn a_reader_stops_in_one_place()
     ensures { (bytes : List ℕ) (one other : Cache)
         → GoesTo bytes one → GoesTo bytes other → one ≡ other }
+{}
+
+/// States that the credentials that a reader returns are the first ones of the cache, wherever the
+/// reader is. None is skipped.
+pub fn a_reader_gives_the_first_credentials()
+    ensures { (whole : List ℕ) (left : Option (List ℕ)) (layout : Layout) (at : ℕ) (cache all : Cache)
+        → HasTaken layout (Some whole) left at cache → IsCache whole all → IsFirstOf cache all }
+{}
+
+/// States that if two readers of one file have read the same number of credentials, then they read
+/// the same ones, and their sources gave the same number of bytes: those up to the end of the last
+/// of these credentials.
+pub fn each_credential_ends_at_one_place()
+    ensures { (whole : List ℕ) (left right : Option (List ℕ)) (layout also : Layout) (at here : ℕ)
+        (one other : Cache) → HasTaken layout (Some whole) left at one
+        → HasTaken also (Some whole) right here other
+        → length one.credentials ≡ length other.credentials → (one ≡ other) × (at ≡ here) }
 {}

@@ -31,6 +31,7 @@ mod item_fault;
 mod items;
 pub mod laws;
 mod layout;
+mod part;
 mod reader;
 mod room;
 mod stepping;

@@ -22,7 +22,7 @@ use crate::item_fault::ItemFault;
 use crate::items::{read_credential, read_name, to_flag};
 use crate::layout::{Layout, read_layout};
 use crate::taker::Taker;
-use crate::walking::{TakeFault, take_credential, take_header, take_name};
+use crate::walking::{TakeFault, take_credential, take_header, take_principal};
 use krb_name::{FILE_LIMIT, FileCursor, Principal, Short, Source, Window};
 use std::alloc::{AllocError, Global};
 
@@ -173,7 +173,7 @@ fn come_name<S: Source>(alloc: Global, window: &mut Window<S>) -> Result<Princip
     ensures lent { S.lender window.new.source ≡ S.lender window.old.source }
 {
     window.clear();
-    take_name(window)?;
+    take_principal(window)?;
     match name_of(alloc, window.bytes()) {
         Ok(name) => Ok(name),
         Err(fault) => Err(TakeFault::from(fault)),

@@ -1,11 +1,11 @@
 //! Taking as many bytes as a part of a cache has, by its lengths and counts as they come. What the
 //! bytes mean doesn't matter here.
 
-ghost use Rattle.std.specs.Prelude.{◌≡◌, ◌+◌, ◌-◌, ◌<◌, ◌^◌, length, drop, IfOk, OnOk};
+ghost use Rattle.std.specs.Prelude.{◌≡◌, ◌+◌, ◌-◌, ◌<◌, ◌^◌, ℕ, Bool, length, take, drop, IfOk};
 ghost use Rattle.std.specs.Int.{w8, w16, w32, from_be_bytes};
-ghost use Rattle.krb_name.specs.Cursor.{data_at, times_at};
-ghost use Rattle.krb_ccache.specs.Inner.Reading.{name_at, strings_at, typed_at, list_at, tail_at};
-ghost use Rattle.krb_ccache.specs.Inner.Walking.{IsTaken, IsWalk, IsOneWalk, last_number, stopped_reads};
+ghost use Rattle.krb_name.specs.Cursor.{data_at};
+ghost use Rattle.krb_ccache.specs.Inner.Reading.{name_at, list_at, tail_at};
+ghost use Rattle.krb_ccache.specs.Inner.Walking.{IsTaken, IsWalk, IsWhole, passed_at, skip_at, and_then, pass_if, pass_times, pass_data, pass_credential, last_number, stopped_reads};
 
 use crate::layout::Layout;
 use crate::taker::Taker;
@@ -13,6 +13,12 @@ use krb_name::{ReadFault, Short};
 
 // How many bytes the type of a principal has.
 const NAME_TYPE: usize = 4;
+
+// How many bytes the type of an address or of authorization data has.
+const KIND: usize = 2;
+
+// How many bytes the encryption type of a key has.
+const ETYPE: usize = 2;
 
 // How many bytes the times of a credential have.
 const TIMES: usize = 4 * 4;
@@ -80,7 +86,7 @@ fn u32_at(bytes: &[u8], at: usize) -> u32
     u32::from_be_bytes([last[0], last[1], last[2], last[3]])
 }
 
-// Each call takes so many bytes and a number after them, or the bytes of a part.
+// Each call takes so many bytes and a number after them.
 
 fn take_u8<T: Taker>(taker: &mut T, skip: usize) -> Result<u8, TakeFault>
     requires few { skip < 2 ^ 33 }
@@ -127,21 +133,78 @@ fn take_u32<T: Taker>(taker: &mut T, skip: usize) -> Result<u32, TakeFault>
     Ok(u32_at(taker.taken(), at + skip))
 }
 
-fn take_data<T: Taker>(taker: &mut T) -> Result<(), TakeFault>
+// Two numbers, one right after the other.
+fn take_pair<T: Taker>(taker: &mut T, skip: usize) -> Result<(u32, u32), TakeFault>
+    requires few { skip < 2 ^ 33 }
     requires reads { T.failures taker.old < 2 ^ 64 - 1 }
     requires within { T.Within (T.hand taker.old) }
-    ensures walk { IsWalk (data_at w32) T.Within T.Lacks (T.hand taker.old) (T.hand taker.new) result }
+    ensures taken { IsTaken T.Within T.Lacks (skip + 8) (T.hand taker.old) (T.hand taker.new) result }
+    ensures first { IfOk result (λ pair. pair.0
+        ≡ from_be_bytes w32 (take 4 (drop (length (T.hand taker.old).bytes + skip) (T.hand taker.new).bytes))) }
+    ensures second { IfOk result (λ pair.
+        pair.1 ≡ last_number w32 (skip + 4) (T.hand taker.old).bytes (T.hand taker.new).bytes) }
     ensures failed { T.failures taker.new ≡ T.failures taker.old + stopped_reads result }
     ensures lent { T.lender taker.new ≡ T.lender taker.old }
 {
-    let count = take_u32(taker, 0)?;
-    taker.take(count as usize)
+    let at = taker.taken().len() + skip;
+    taker.take(skip + 8)?;
+    let taken = taker.taken();
+    Ok((u32_at(&taken[at..at + 4], 0), u32_at(taken, at + 4)))
 }
+
+// Each of these calls takes a part except for its last bytes, and returns how many these are: they
+// are taken together with what comes after them. First it takes the `skip` bytes that the part
+// before it left.
+
+// So many times a gap of bytes, and bytes after their length.
+fn take_many<T: Taker>(taker: &mut T, skip: u32, gap: usize, count: u32) -> Result<u32, TakeFault>
+    requires few { gap < 2 ^ 32 }
+    requires reads { T.failures taker.old < 2 ^ 64 - 1 }
+    requires within { T.Within (T.hand taker.old) }
+    ensures walk { IsWalk (and_then (skip_at skip) (pass_times count (pass_data gap))) skip_at
+        T.Within T.Lacks (T.hand taker.old) (T.hand taker.new) result }
+    ensures failed { T.failures taker.new ≡ T.failures taker.old + stopped_reads result }
+    ensures lent { T.lender taker.new ≡ T.lender taker.old }
+{
+    let _taken = taker.taken();
+    let mut last = skip;
+    for _ in 0..count {
+        last = take_u32(taker, last as usize + gap)?;
+    }
+    Ok(last)
+}
+
+fn take_name<T: Taker>(taker: &mut T, skip: u32) -> Result<u32, TakeFault>
+    requires reads { T.failures taker.old < 2 ^ 64 - 1 }
+    requires within { T.Within (T.hand taker.old) }
+    ensures walk { IsWalk (and_then (skip_at skip) (passed_at name_at)) skip_at T.Within T.Lacks
+        (T.hand taker.old) (T.hand taker.new) result }
+    ensures failed { T.failures taker.new ≡ T.failures taker.old + stopped_reads result }
+    ensures lent { T.lender taker.new ≡ T.lender taker.old }
+{
+    let (count, realm) = take_pair(taker, skip as usize + NAME_TYPE)?;
+    take_many(taker, realm, 0, count)
+}
+
+fn take_list<T: Taker>(taker: &mut T, skip: usize) -> Result<u32, TakeFault>
+    requires few { skip < 2 ^ 33 }
+    requires reads { T.failures taker.old < 2 ^ 64 - 1 }
+    requires within { T.Within (T.hand taker.old) }
+    ensures walk { IsWalk (and_then (skip_at skip) (passed_at list_at)) skip_at T.Within T.Lacks
+        (T.hand taker.old) (T.hand taker.new) result }
+    ensures failed { T.failures taker.new ≡ T.failures taker.old + stopped_reads result }
+    ensures lent { T.lender taker.new ≡ T.lender taker.old }
+{
+    let count = take_u32(taker, skip)?;
+    take_many(taker, 0, KIND, count)
+}
+
+// Each of these calls takes all bytes of a part.
 
 pub(crate) fn take_header<T: Taker>(taker: &mut T) -> Result<(), TakeFault>
     requires reads { T.failures taker.old < 2 ^ 64 - 1 }
     requires within { T.Within (T.hand taker.old) }
-    ensures walk { IsWalk (data_at w16) T.Within T.Lacks (T.hand taker.old) (T.hand taker.new) result }
+    ensures walk { IsWhole (passed_at (data_at w16)) T.Within T.Lacks (T.hand taker.old) (T.hand taker.new) result }
     ensures failed { T.failures taker.new ≡ T.failures taker.old + stopped_reads result }
     ensures lent { T.lender taker.new ≡ T.lender taker.old }
 {
@@ -149,82 +212,30 @@ pub(crate) fn take_header<T: Taker>(taker: &mut T) -> Result<(), TakeFault>
     taker.take(usize::from(count))
 }
 
-pub(crate) fn take_name<T: Taker>(taker: &mut T) -> Result<(), TakeFault>
+pub(crate) fn take_principal<T: Taker>(taker: &mut T) -> Result<(), TakeFault>
     requires reads { T.failures taker.old < 2 ^ 64 - 1 }
     requires within { T.Within (T.hand taker.old) }
-    ensures walk { IsWalk name_at T.Within T.Lacks (T.hand taker.old) (T.hand taker.new) result }
+    ensures walk { IsWhole (passed_at name_at) T.Within T.Lacks (T.hand taker.old) (T.hand taker.new) result }
     ensures failed { T.failures taker.new ≡ T.failures taker.old + stopped_reads result }
     ensures lent { T.lender taker.new ≡ T.lender taker.old }
 {
-    let count = take_u32(taker, NAME_TYPE)?;
-    let length = take_u32(taker, 0)?;
-    take_strings(taker, length, count)
-}
-
-// Bytes of this length, and then so many with a length of their own.
-fn take_strings<T: Taker>(taker: &mut T, length: u32, count: u32) -> Result<(), TakeFault>
-    requires reads { T.failures taker.old < 2 ^ 64 - 1 }
-    requires within { T.Within (T.hand taker.old) }
-    ensures walk { IsWalk (strings_at length count) T.Within T.Lacks (T.hand taker.old) (T.hand taker.new) result }
-    ensures failed { T.failures taker.new ≡ T.failures taker.old + stopped_reads result }
-    ensures lent { T.lender taker.new ≡ T.lender taker.old }
-{
-    let _taken = taker.taken();
-    let mut last = length;
-    for _ in 0..count {
-        last = take_u32(taker, last as usize)?;
-    }
+    let last = take_name(taker, 0)?;
     taker.take(last as usize)
-}
-
-fn take_typed<T: Taker>(taker: &mut T) -> Result<(), TakeFault>
-    requires reads { T.failures taker.old < 2 ^ 64 - 1 }
-    requires within { T.Within (T.hand taker.old) }
-    ensures walk { IsWalk typed_at T.Within T.Lacks (T.hand taker.old) (T.hand taker.new) result }
-    ensures failed { T.failures taker.new ≡ T.failures taker.old + stopped_reads result }
-    ensures lent { T.lender taker.new ≡ T.lender taker.old }
-{
-    taker.take(2)?;
-    take_data(taker)
-}
-
-fn take_list<T: Taker>(taker: &mut T) -> Result<(), TakeFault>
-    requires reads { T.failures taker.old < 2 ^ 64 - 1 }
-    requires within { T.Within (T.hand taker.old) }
-    ensures walk { IsWalk list_at T.Within T.Lacks (T.hand taker.old) (T.hand taker.new) result }
-    ensures failed { T.failures taker.new ≡ T.failures taker.old + stopped_reads result }
-    ensures lent { T.lender taker.new ≡ T.lender taker.old }
-{
-    let count = take_u32(taker, 0)?;
-    take_elements(taker, count)
-}
-
-fn take_elements<T: Taker>(taker: &mut T, count: u32) -> Result<(), TakeFault>
-    requires reads { T.failures taker.old < 2 ^ 64 - 1 }
-    requires within { T.Within (T.hand taker.old) }
-    ensures walk { IsWalk (times_at typed_at count) T.Within T.Lacks (T.hand taker.old) (T.hand taker.new) result }
-    ensures failed { T.failures taker.new ≡ T.failures taker.old + stopped_reads result }
-    ensures lent { T.lender taker.new ≡ T.lender taker.old }
-{
-    let _taken = taker.taken();
-    for _ in 0..count {
-        take_typed(taker)?;
-    }
-    Ok(())
 }
 
 // Returns the byte that `is_skey` has.
 pub(crate) fn take_credential<T: Taker>(layout: Layout, taker: &mut T) -> Result<u8, TakeFault>
     requires reads { T.failures taker.old < 2 ^ 64 - 1 }
     requires within { T.Within (T.hand taker.old) }
-    ensures walk { IsOneWalk layout T.Within T.Lacks (T.hand taker.old) (T.hand taker.new) result }
+    ensures walk { (test : ℕ → Bool) → IsWalk (pass_credential layout test) (λ mark. pass_if (test mark))
+        T.Within T.Lacks (T.hand taker.old) (T.hand taker.new) result }
     ensures failed { T.failures taker.new ≡ T.failures taker.old + stopped_reads result }
     ensures lent { T.lender taker.new ≡ T.lender taker.old }
 {
-    take_name(taker)?;
-    take_name(taker)?;
-    let length = take_u32(taker, 2 + layout.second_size())?;
-    let mark = take_u8(taker, length as usize + TIMES)?;
+    let client = take_name(taker, 0)?;
+    let server = take_name(taker, client)?;
+    let key = take_u32(taker, server as usize + ETYPE + layout.second_size())?;
+    let mark = take_u8(taker, key as usize + TIMES)?;
     take_tail(taker)?;
     Ok(mark)
 }
@@ -233,13 +244,13 @@ pub(crate) fn take_credential<T: Taker>(layout: Layout, taker: &mut T) -> Result
 fn take_tail<T: Taker>(taker: &mut T) -> Result<(), TakeFault>
     requires reads { T.failures taker.old < 2 ^ 64 - 1 }
     requires within { T.Within (T.hand taker.old) }
-    ensures walk { IsWalk tail_at T.Within T.Lacks (T.hand taker.old) (T.hand taker.new) result }
+    ensures walk { IsWhole (passed_at tail_at) T.Within T.Lacks (T.hand taker.old) (T.hand taker.new) result }
     ensures failed { T.failures taker.new ≡ T.failures taker.old + stopped_reads result }
     ensures lent { T.lender taker.new ≡ T.lender taker.old }
 {
-    taker.take(FLAGS)?;
-    take_list(taker)?;
-    take_list(taker)?;
-    take_data(taker)?;
-    take_data(taker)
+    let addresses = take_list(taker, FLAGS)?;
+    let authdata = take_list(taker, addresses as usize)?;
+    let ticket = take_u32(taker, authdata as usize)?;
+    let second_ticket = take_u32(taker, ticket as usize)?;
+    taker.take(second_ticket as usize)
 }

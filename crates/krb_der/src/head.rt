@@ -11,7 +11,7 @@ pub struct Head {
     ghost within: { len ≤ 6 },
 }
 
-/// The head of an element with this tag and a content of `len` bytes.
+/// Returns the head of an element with this tag and a content of `len` bytes.
 pub fn head_of(tag: u8, len: u32) -> Head
     ensures is { IsHeadOf tag len (take result.len result.bytes) }
     ensures width { length (take result.len result.bytes) ≡ result.len }

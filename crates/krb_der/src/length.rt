@@ -26,7 +26,7 @@ fn long(count: usize, bytes: &[u8]) -> Result<(usize, &[u8]), FaultKind>
     Ok((length as usize, rest))
 }
 
-/// The length that the bytes begin with, and the bytes after it.
+/// Reads the length that the bytes begin with. Returns it, and the bytes after it.
 #[tactic(auto, unfolding(crate::specs::Computed::Read::length_of))]
 pub fn length(bytes: &[u8]) -> Result<(usize, &[u8]), FaultKind>
     ensures value { plain_length result ≡ length_of bytes.now }

@@ -142,7 +142,7 @@ fn seconds_of(civil: &Civil) -> Option<Seconds>
     })
 }
 
-/// The time that the content is.
+/// Returns the time that the content is.
 #[tactic(auto, unfolding(crate::specs::Computed::Clock::time_of))]
 pub fn time_in(content: &[u8]) -> Option<Seconds>
     ensures { result ≡ time_of content.now }
@@ -185,7 +185,7 @@ fn two(number: u8) -> [u8; 2]
     [b'0' + number / 10, b'0' + number % 10]
 }
 
-/// The text of a time: `YYYYMMDDHHMMSSZ`.
+/// Returns the text of a time: `YYYYMMDDHHMMSSZ`.
 pub fn text_of(seconds: Seconds) -> [u8; 15]
     ensures { IsTime seconds result }
 {

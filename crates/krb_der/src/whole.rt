@@ -27,7 +27,7 @@ fn is_negative(content: &[u8]) -> bool
     }
 }
 
-/// The number that the bytes are, the most significant first.
+/// Returns the number that the bytes are, the most significant first.
 pub fn number(bytes: &[u8]) -> u64
     requires { length bytes.now ≤ 5 }
     ensures value { result ≡ number bytes.now }
@@ -55,7 +55,7 @@ fn contents(len: usize) -> Option<i64>
     }
 }
 
-/// The whole number that the content is, in its shortest form and of at most five bytes.
+/// Returns the whole number that the content is, if it has its shortest form and at most five bytes.
 pub fn whole(content: &[u8]) -> Option<i64>
     ensures { result ≡ whole_of content.now }
 {
@@ -71,7 +71,7 @@ pub fn whole(content: &[u8]) -> Option<i64>
     })
 }
 
-/// The 32 bits of a content without unused bits.
+/// Returns the 32 bits of a content without unused bits.
 pub fn flags_in(content: &[u8]) -> Option<u32>
     ensures { result ≡ flags_of content.now }
 {
@@ -82,7 +82,7 @@ pub fn flags_in(content: &[u8]) -> Option<u32>
     Some(number(bits) as u32)
 }
 
-/// The sequence number that the content is; a negative number is the one of the same 32 bits.
+/// Returns the sequence number that the content is. A negative number stands for the one of the same 32 bits.
 pub fn seq_number_in(content: &[u8]) -> Option<u32>
     ensures { result ≡ content_of seq_number content.now }
 {
@@ -98,7 +98,7 @@ pub fn seq_number_in(content: &[u8]) -> Option<u32>
     .ok()
 }
 
-/// The bytes without the leading ones that the whole number doesn't need.
+/// Returns the bytes without the leading ones that the whole number doesn't need.
 pub fn shortest(bytes: &[u8]) -> &[u8]
     ensures value { result.now ≡ shortest_of bytes.now }
     ensures shorter { length result.now ≤ length bytes.now }

@@ -85,7 +85,7 @@ fn message<'a>(inner: &Cursor<'a>) -> Result<Answer<'a>, TokenFault>
     }
 }
 
-/// What an InitialContextToken of Kerberos holds.
+/// Reads what an InitialContextToken of Kerberos holds.
 fn content<'a>(oid: &Cursor, inner: &Cursor<'a>) -> Result<(Mechanism, Answer<'a>), TokenFault>
     ensures { ReadsMessageOf result oid.now inner.now }
 {

@@ -23,7 +23,7 @@ pub fn framed<'a>(cursor: Cursor<'a>) -> Result<(Cursor<'a>, Cursor<'a>), Fault>
     Ok((oid, inside))
 }
 
-/// The mechanism of Kerberos that is named here.
+/// Returns the mechanism of Kerberos that is named here.
 pub fn name(oid: &Cursor) -> Result<Mechanism, TokenFault>
     ensures { result ≡ name_at oid.now }
 {
@@ -43,7 +43,7 @@ fn message<'a>(inner: &Cursor<'a>, id: u8) -> Result<&'a [u8], TokenFault>
     }
 }
 
-/// What an InitialContextToken of Kerberos holds.
+/// Reads what an InitialContextToken of Kerberos holds.
 pub fn content<'a>(
     oid: &Cursor,
     inner: &Cursor<'a>,

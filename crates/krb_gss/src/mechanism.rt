@@ -36,7 +36,7 @@ const NTLM: &[u8] = &[0x2b, 0x06, 0x01, 0x04, 0x01, 0x82, 0x37, 0x02, 0x02, 0x0a
 const IAKERB: &[u8] = &[0x2b, 0x06, 0x01, 0x05, 0x02, 0x05];
 
 impl Mechanism {
-    /// The content of the OBJECT IDENTIFIER that names it.
+    /// Returns the content of the OBJECT IDENTIFIER that names it.
     pub fn oid(self) -> &'static [u8]
         ensures { result.now ≡ oid_of self }
     {
@@ -47,7 +47,7 @@ impl Mechanism {
     }
 }
 
-/// The mechanism that the OBJECT IDENTIFIER with this content names.
+/// Returns the mechanism that the OBJECT IDENTIFIER with this content names.
 pub fn named(oid: &[u8]) -> Result<Mechanism, Foreign>
     ensures { result ≡ named_of oid.now }
 {

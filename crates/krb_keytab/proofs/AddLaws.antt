@@ -4,7 +4,6 @@ use Rattle.std.specs.List.{flat_map}
 use Rattle.std.specs.Prelude.{All}
 use Rattle.std.proofs.lemmas.List.{length-append, take_at}
 use Rattle.std.proofs.lemmas.List.Elements.{recursion_from_All, All-push}
-use Rattle.krb_name.specs.Field.{IsBytes}
 use Rattle.krb_keytab.specs.Entry.{KeytabEntry, FitsEntry}
 use Rattle.krb_name.specs.File.{file_limit}
 use Rattle.krb_keytab.specs.Format.{version, KeytabRecord, hole, record_bytes, FitsRecord, entries_of, IsKeytab, IsFaultOf}
@@ -15,7 +14,7 @@ use Rattle.krb_keytab.specs.Inner.Putting.{Puts}
 use Rattle.krb_keytab.specs.declared.fault.KeytabFault.{KeytabFault}
 use Rattle.krb_keytab.specs.declared.finding.Extent.{Extent}
 use Rattle.krb_keytab.proofs.MadeLaws.{made_keytab, padded_fits, written_fits}
-use Rattle.krb_keytab.proofs.ScanLaws.{flat_push}
+use Rattle.krb_keytab.proofs.FileLaws.{flat_push}
 use Rattle.krb_keytab.proofs.WrittenLaws.{padded_length}
 use Rattle.krb_keytab.proofs.EditLaws.{flat_split, at_one, replaced, within, no_fault}
 use Rattle.krb_keytab.proofs.OneSplit.{same_records}
@@ -92,8 +91,8 @@ growing {old} e size at Bound is h bound =
     }
 
 -- the file would pass the limit: so it is a keytab
-pub passing_no_fault : {old : List ℕ} {e : KeytabEntry} (fault : KeytabFault) → IsBytes old → WouldPass old e → IsFaultOf old fault → ⊥
-passing_no_fault {old} {e} fault fits w f = no_fault old (flat_map entries_of w.records) fault fits (made_keytab w.old_is.is) f
+pub passing_no_fault : {old : List ℕ} {e : KeytabEntry} (fault : KeytabFault) → WouldPass old e → IsFaultOf old fault → ⊥
+passing_no_fault {old} {e} fault w f = no_fault old (flat_map entries_of w.records) fault (made_keytab w.old_is.is) f
 
 -- and no hole has room for the entry
 pub passing_no_room : {old : List ℕ} {e : KeytabEntry} {place : Extent} (size : ℕ) → size ≡ record_length e → WouldPass old e → HasRoom old size place → ⊥
@@ -108,8 +107,8 @@ passing_is_long {old} {e} size at is w h limit =
     let same : w.records ≡ h.records = same_records w.old_is.is h.is in
     omega (arith, w.bound, h.at_is, is, limit, ap (λ (t : List KeytabRecord). length (flat_map record_bytes t)) same)
 
-pub room_no_fault : {old : List ℕ} {size : ℕ} {place : Extent} (fault : KeytabFault) → IsBytes old → HasRoom old size place → IsFaultOf old fault → ⊥
-room_no_fault {old} {size} {place} fault fits h f = no_fault old (flat_map entries_of (h.before ++ hole h.ignored ∷ h.after)) fault fits (made_keytab h.is) f
+pub room_no_fault : {old : List ℕ} {size : ℕ} {place : Extent} (fault : KeytabFault) → HasRoom old size place → IsFaultOf old fault → ⊥
+room_no_fault {old} {size} {place} fault h f = no_fault old (flat_map entries_of (h.before ++ hole h.ignored ∷ h.after)) fault (made_keytab h.is) f
 
-pub none_no_fault : {old : List ℕ} {size at : ℕ} (fault : KeytabFault) → IsBytes old → HasNone old size at → IsFaultOf old fault → ⊥
-none_no_fault {old} {size} {at} fault fits h f = no_fault old (flat_map entries_of h.records) fault fits (made_keytab h.is) f
+pub none_no_fault : {old : List ℕ} {size at : ℕ} (fault : KeytabFault) → HasNone old size at → IsFaultOf old fault → ⊥
+none_no_fault {old} {size} {at} fault h f = no_fault old (flat_map entries_of h.records) fault (made_keytab h.is) f

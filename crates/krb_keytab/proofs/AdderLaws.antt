@@ -18,7 +18,7 @@ use Rattle.krb_keytab.proofs.MadeLaws.{padded_fits}
 use Rattle.krb_keytab.proofs.OneSplit.{same_records}
 use Rattle.krb_keytab.proofs.PutLaws.{Puts-length}
 use Rattle.krb_keytab.proofs.RoomLaws.{entry_more, holes_joined, none_fits, stands_for, StandsFor}
-use Rattle.krb_keytab.proofs.ScanLaws.{flat_push}
+use Rattle.krb_keytab.proofs.FileLaws.{flat_push}
 use Rattle.krb_keytab.proofs.WrittenLaws.{padded_length}
 
 abbrev pub place_of : Hole → Extent

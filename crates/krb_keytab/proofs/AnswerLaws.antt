@@ -1,32 +1,113 @@
 -- Each file is a keytab or has a fault.
-use Rattle.std.proofs.Common.{◌≡◌, ◌⊎◌, ℕ, zero, suc, ◌≤◌, Bool, true, false, eqb, List, [], ◌∷◌, ◌++◌, length, Result, Ok, Err, refl, ap, arith, inl, inr, ◌∙◌}
-use Rattle.std.proofs.lemmas.Bool.{cases_lt, eqb-true, eqb-false}
-use Rattle.krb_name.specs.Cursor.{Place}
+use Rattle.std.proofs.Common.{◌≡◌, ◌⊎◌, ℕ, zero, suc, ℤ, pos, negsuc, ◌+◌, ◌<◌, ◌≤◌, Bool, true, false, eqb, List, [], ◌∷◌, ◌++◌, length, take, drop, Option, Some, None, Result, Ok, Err, refl, sym, ap, subst, append_assoc, arith, inl, inr, ◌∙◌}
+use Rattle.std.specs.Int.{w32}
+use Rattle.std.specs.Prelude.{FitsSigned, int_lt}
+use Rattle.std.proofs.lemmas.Bool.{cases_lt, eqb-true, eqb-false, ltb-true}
+use Rattle.std.proofs.lemmas.List.{length-append, length-take, take-append-drop, drop_at}
+use Rattle.krb_name.specs.Cursor.{Place, signed_at, signed_bytes}
 use Rattle.krb_name.specs.Field.{IsBytes}
+use Rattle.krb_name.proofs.CursorLaws.{IsField-i32, IsBytes-take, IsBytes-drop}
 use Rattle.krb_keytab.specs.Entry.{KeytabEntry}
 use Rattle.krb_name.specs.File.{file_limit}
-use Rattle.krb_keytab.specs.Format.{version, IsReached, IsAnswerOf}
+use Rattle.krb_keytab.specs.Format.{version, IsReached, IsEnd, IsCutOff, HoldsNoEntry, IsAnswerOf}
+use Rattle.krb_keytab.specs.Inner.Entry.{entry_at}
+use Rattle.krb_keytab.specs.Inner.Meeting.{IsWhole}
 use Rattle.krb_keytab.specs.declared.fault.KeytabFault.{KeytabFault}
-use Rattle.krb_keytab.specs.declared.fault.KeytabFault.TheVariants.{Version, TooLong}
-use Rattle.krb_keytab.specs.declared.found.Found.{Found}
-use Rattle.krb_keytab.specs.declared.found.Found.TheVariants.{End, Hole, Entry}
-use Rattle.krb_keytab.specs.Inner.Reading.{record_at}
-use Rattle.krb_keytab.proofs.FileLaws.{reach_start, start_fits, Goes, hole_goes, entry_goes, keytab_found, fault_found}
+use Rattle.krb_keytab.specs.declared.fault.KeytabFault.TheVariants.{Version, Truncated, BadEntry, TooLong}
+use Rattle.krb_keytab.proofs.RecordLaws.{short_size}
+use Rattle.krb_keytab.proofs.FileLaws.{reach_start, record_first}
+use Rattle.krb_keytab.proofs.MeetLaws.{cut_off, hole_whole, entry_whole, no_entry}
+use Rattle.krb_keytab.proofs.StandLaws.{reach_piece, reach_whole}
 
 abbrev pub HasAnswer : List ℕ → Type 0
 HasAnswer bytes = (answer : Result (List KeytabEntry) KeytabFault) × IsAnswerOf bytes answer
 
-step : (bytes : List ℕ) (place : Place) (entries : List KeytabEntry) → length bytes ≤ file_limit → IsReached bytes place.at entries place.rest → IsBytes place.rest
-    → ((after : Place) (more : List KeytabEntry) → Goes bytes place more after → HasAnswer bytes) → (read : Result (Found KeytabEntry × Place) KeytabFault) → record_at place ≡ read → HasAnswer bytes
-step bytes place entries limit reached fits next (Ok (End, after)) e = (Ok entries, keytab_found bytes place after entries limit reached fits e)
-step bytes place entries limit reached fits next (Ok (Hole, after)) e = next after entries (hole_goes bytes place after entries reached fits e)
-step bytes place entries limit reached fits next (Ok (Entry one, after)) e = next after (entries ++ one ∷ []) (entry_goes bytes place after entries one reached fits e)
-step bytes place entries limit reached fits next (Err fault) e = (Err fault, fault_found bytes place entries fault limit reached fits e)
+-- a record begins at an offset, and more comes behind it
+record Whole (at : ℕ) (rest : List ℕ) : Type 0 where
+  piece : List ℕ
+  more : List ℕ
+  entries : List KeytabEntry
+  parts : rest ≡ piece ++ more
+  whole : IsWhole at piece entries
+  fits : IsBytes more
 
-answer_from : (most : ℕ) (bytes : List ℕ) (place : Place) (entries : List KeytabEntry) → length bytes ≤ file_limit → IsReached bytes place.at entries place.rest → IsBytes place.rest → length place.rest ≤ most → HasAnswer bytes
-answer_from zero bytes place entries limit reached fits few = step bytes place entries limit reached fits (λ after more goes. absurd (omega (arith, goes.smaller))) (record_at place) refl
-answer_from (suc most) bytes place entries limit reached fits few =
-    step bytes place entries limit reached fits (λ after more goes. answer_from most bytes after more limit goes.reached goes.fits (omega (arith, goes.smaller))) (record_at place) refl
+-- or the end, or a fault
+abbrev Kind : ℕ → List ℕ → Type 0
+Kind at rest = Whole at rest ⊎ (IsEnd rest ⊎ (IsCutOff rest ⊎ HoldsNoEntry rest))
+
+not_below : (n : ℕ) → int_lt (pos n) (pos 0) ≡ false
+not_below n = tested (int_lt (pos n) (pos 0)) refl
+  where
+    tested : (b : Bool) → int_lt (pos n) (pos 0) ≡ b → b ≡ false
+    tested true e = let below = ltb-true n 0 e in absurd (omega arith)
+    tested false e = refl
+
+module _ (at : ℕ) (rest : List ℕ) (bytes : IsBytes rest) where
+  split : (word : List ℕ) (n : ℕ) → word ++ rest ≡ (word ++ take n rest) ++ drop n rest
+  split word n = ap (λ (t : List ℕ). word ++ t) (sym (take-append-drop n rest)) ∙ sym (append_assoc word (take n rest) (drop n rest))
+
+  there : (size : ℤ) (n : ℕ) (entries : List KeytabEntry) → IsWhole at (signed_bytes w32 size ++ take n rest) entries → Kind at (signed_bytes w32 size ++ rest)
+  there size n entries whole = inl (record { piece = signed_bytes w32 size ++ take n rest; more = drop n rest; entries = entries; parts = split (signed_bytes w32 size) n; whole = whole; fits = IsBytes-drop n rest bytes })
+
+  within : (size : ℤ) (n : ℕ) → at + length (signed_bytes w32 size ++ rest) ≤ file_limit → at + length (signed_bytes w32 size ++ take n rest) ≤ file_limit
+  within size n limit = omega (arith, limit, length-append (signed_bytes w32 size) rest, length-append (signed_bytes w32 size) (take n rest), length-take n rest)
+
+  made : (n : ℕ) → FitsSigned w32 (pos n) → 0 < n → n ≤ length rest → at + length (signed_bytes w32 (pos n) ++ rest) ≤ file_limit → (read : Option KeytabEntry) → entry_at (take n rest) ≡ read → Kind at (signed_bytes w32 (pos n) ++ rest)
+  made n fits some enough limit None e =
+      inr (inr (inr (subst HoldsNoEntry (sym (split (signed_bytes w32 (pos n)) n)) (no_entry at (pos n) (take n rest) (drop n rest) fits (not_below n) some (omega (arith, length-take n rest, enough)) e).1)))
+  made n fits some enough limit (Some one) e =
+      there (pos n) n (one ∷ []) (entry_whole at (pos n) (take n rest) one fits (not_below n) (IsBytes-take n rest bytes) (omega (arith, length-take n rest, enough)) e (within (pos n) n limit))
+
+  sized : (size : ℤ) → FitsSigned w32 size → at + length (signed_bytes w32 size ++ rest) ≤ file_limit → Kind at (signed_bytes w32 size ++ rest)
+  sized (pos zero) fits limit = inr (inl (inr (rest, refl)))
+  sized (pos (suc n)) fits limit =
+      elim (cases_lt (length rest) (suc n)) [
+        | inl short ↦ inr (inr (inl (cut_off at (pos (suc n)) rest fits short).1))
+        | inr enough ↦ made (suc n) fits (omega arith) enough limit (entry_at (take (suc n) rest)) refl
+      ]
+  sized (negsuc n) fits limit =
+      elim (cases_lt (length rest) (suc n)) [
+        | inl short ↦ inr (inr (inl (cut_off at (negsuc n) rest fits short).1))
+        | inr enough ↦ there (negsuc n) (suc n) [] (hole_whole at (negsuc n) (take (suc n) rest) fits refl (omega (arith, length-take (suc n) rest, enough)) (within (negsuc n) (suc n) limit))
+      ]
+
+few : (at : ℕ) (rest : List ℕ) → length rest < 4 → Kind at rest
+few at [] short = inr (inl (inl refl))
+few at (x ∷ xs) short = inr (inr (inl (inl (omega arith, short))))
+
+kind : (at : ℕ) (rest : List ℕ) → IsBytes rest → at + length rest ≤ file_limit → Kind at rest
+kind at rest bytes limit = by_size (signed_at w32 (record { at = 0; rest = rest })) refl
+  where
+    by_size : (read : Option (ℤ × Place)) → signed_at w32 (record { at = 0; rest = rest }) ≡ read → Kind at rest
+    by_size None e = few at rest (short_size (record { at = 0; rest = rest }) e)
+    by_size (Some (size, after)) e =
+        let t = IsField-i32.takes (record { at = 0; rest = rest }) size after bytes e in
+        subst (Kind at) (sym t.0.parts) (sized at after.rest t.0.rest_fits size t.1 (omega (arith, limit, ap length t.0.parts)))
+
+module _ (front : List ℕ) (rest : List ℕ) (entries : List KeytabEntry) (reached : IsReached front (length front) entries []) (fits : IsBytes rest) (limit : length (front ++ rest) ≤ file_limit) where
+  step : (Whole (length front) rest → HasAnswer (front ++ rest)) → HasAnswer (front ++ rest)
+  step next =
+      let behind = reach_piece front entries reached rest in
+      elim (kind (length front) rest fits (omega (arith, limit, length-append front rest))) [
+        | inl whole ↦ next whole
+        | inr other ↦ elim other [
+          | inl end ↦ (Ok entries, record { limit = limit; at = length front; behind = rest; reached = behind; end = end })
+          | inr fault ↦ elim fault [
+            | inl cut ↦ (Err (Truncated (length front)), record { limit = limit; entries = entries; behind = rest; reached = behind; faulty = cut })
+            | inr bad ↦ (Err (BadEntry (length front)), record { limit = limit; entries = entries; behind = rest; reached = behind; faulty = bad })
+          ]
+        ]
+      ]
+
+further : (at : ℕ) (rest : List ℕ) (w : Whole at rest) → length w.more + 4 ≤ length rest
+further at rest w = omega (arith, ap length w.parts, length-append w.piece w.more, ap length w.whole.piece_is, record_first w.whole.one)
+
+answer_from : (most : ℕ) (front rest : List ℕ) (entries : List KeytabEntry) → IsReached front (length front) entries [] → IsBytes rest → length (front ++ rest) ≤ file_limit → length rest ≤ most → HasAnswer (front ++ rest)
+answer_from zero front rest entries reached fits limit most = step front rest entries reached fits limit (λ w. absurd (omega (arith, most, further (length front) rest w)))
+answer_from (suc count) front rest entries reached fits limit most =
+    step front rest entries reached fits limit (λ w.
+    let same : (front ++ w.piece) ++ w.more ≡ front ++ rest = append_assoc front w.piece w.more ∙ ap (λ (t : List ℕ). front ++ t) (sym w.parts) in
+    subst HasAnswer same (answer_from count (front ++ w.piece) w.more (entries ++ w.entries) (reach_whole front entries reached w.piece w.entries w.whole) w.fits (omega (arith, limit, ap length same)) (omega (arith, most, further (length front) rest w))))
 
 same_or_not : (a b : ℕ) → (a ≡ b) ⊎ (a ≡ b → ⊥)
 same_or_not a b = tested (eqb a b) refl
@@ -64,7 +145,7 @@ some_answer bytes fits =
     elim (cases_lt file_limit (length bytes)) [
       | inl long ↦ (Err TooLong, long)
       | inr limit ↦ elim (begins bytes) [
-        | inl start ↦ answer_from (length start.0) bytes (record { at = 2; rest = start.0 }) [] limit (reach_start bytes start.0 start.1) (start_fits bytes start.0 fits start.1) (omega arith)
+        | inl start ↦ subst HasAnswer (sym start.1) (answer_from (length start.0) version start.0 [] (reach_start version [] refl) (subst IsBytes (ap (drop 2) start.1 ∙ drop_at version start.0 2 refl) (IsBytes-drop 2 bytes fits)) (omega (arith, limit, ap length start.1)) (omega arith))
         | inr other ↦ (Err Version, (limit, other))
       ]
     ]

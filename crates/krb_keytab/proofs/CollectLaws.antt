@@ -6,22 +6,13 @@ use Rattle.std.proofs.lemmas.List.{length-append}
 use Rattle.krb_name.specs.Window.{AtHand}
 use Rattle.krb_keytab.specs.Entry.{KeytabEntry}
 use Rattle.krb_name.specs.File.{file_limit, IsGiven, TakesFile}
-use Rattle.krb_keytab.specs.Format.{version, IsReached, IsCutOff, HoldsNoEntry, StandsAt}
+use Rattle.krb_keytab.specs.Format.{IsReached, IsCutOff, HoldsNoEntry, StandsAt}
 use Rattle.krb_keytab.specs.Items.{StandsTo}
 use Rattle.krb_keytab.specs.Inner.Meeting.{OpensAt, MeetsNext, HasTaken, IsFound, IsFaulty}
 use Rattle.krb_keytab.specs.declared.fault.KeytabFault.{KeytabFault}
 use Rattle.krb_keytab.specs.declared.fault.KeytabFault.TheVariants.{Version, Truncated, BadEntry, TooLong, NoSuchEntry, Read, OutOfMemory}
 use Rattle.krb_keytab.specs.declared.stage.Stage.TheVariants.{Failed}
-use Rattle.krb_keytab.proofs.FileLaws.{reach_start}
 use Rattle.krb_keytab.proofs.StandLaws.{ends_reached, first_fault}
-
-pub version_taken : {S : Type 0} (from to : Option (List ℕ)) (old new : AtHand S) (opened : Unit) → OpensAt from to old new (Ok opened) → old.given ≡ 0 → HasTaken from to new.given []
-version_taken from to old new opened o start = record {
-  bytes = o.piece;
-  taken = o.moves.consumed;
-  given_is = omega (arith, o.moves.given, start);
-  reached = subst (λ (t : List ℕ). IsReached t (length t) [] []) (sym o.meets) (reach_start version [] refl);
-}
 
 pub entry_taken : {S : Type 0} (from mid to : Option (List ℕ)) (old new : AtHand S) (entries more : List KeytabEntry) (e : KeytabEntry) → HasTaken from mid old.given entries → old.given ≤ file_limit → MeetsNext mid to old new (Ok (Some e)) → more ≡ entries ++ e ∷ []
     → HasTaken from to new.given more
@@ -51,7 +42,7 @@ ended from to bytes c limit end = record { given = c; limit = omega (arith, limi
 there : (bytes : List ℕ) (entries : List KeytabEntry) (place at : ℕ) (behind : List ℕ) (IsFault : List ℕ → Type 0) → length bytes ≤ file_limit → IsReached bytes at entries behind → place ≡ at → IsFault behind → StandsAt bytes place IsFault
 there bytes entries place at behind IsFault limit reached e faulty = record { limit = limit; entries = entries; behind = behind; reached = subst (λ (n : ℕ). IsReached bytes n entries behind) (sym e) reached; faulty = faulty }
 
-fault_of : (from to : Option (List ℕ)) (held : ℕ) (bytes : List ℕ) (entries : List KeytabEntry) (fault : KeytabFault) → Consumes from to bytes → StandsTo to held (Failed fault) bytes entries → IsFaulty from to fault
+pub fault_of : (from to : Option (List ℕ)) (held : ℕ) (bytes : List ℕ) (entries : List KeytabEntry) (fault : KeytabFault) → Consumes from to bytes → StandsTo to held (Failed fault) bytes entries → IsFaulty from to fault
 fault_of from to held bytes entries Version c s = λ memory read. (bytes, ended from to bytes c s.limit s.all, (s.limit, s.stops.1))
 fault_of from to held bytes entries (Truncated place) c s = λ memory read. (bytes, ended from to bytes c s.limit s.all, there bytes entries place s.stops.at s.stops.behind IsCutOff s.limit s.stops.reached s.stops.lacks.0 s.stops.lacks.1)
 fault_of from to held bytes entries (BadEntry place) c s = λ memory read. (bytes, ended from to bytes c s.limit s.all, there bytes entries place s.stops.at s.stops.behind HoldsNoEntry s.limit s.stops.reached s.stops.lacks.0 s.stops.lacks.1)

@@ -4,7 +4,6 @@ use Rattle.std.specs.List.{flat_map, AllByRecursion}
 use Rattle.std.proofs.lemmas.List.{length-append, length-replicate, take_at, drop_at}
 use Rattle.std.proofs.lemmas.List.Concat.{flat_map-append}
 use Rattle.std.proofs.lemmas.List.Elements.{All-from_recursion, recursion_from_All}
-use Rattle.krb_name.specs.Field.{IsBytes}
 use Rattle.krb_keytab.specs.Entry.{KeytabEntry}
 use Rattle.krb_keytab.specs.Format.{version, KeytabRecord, entry, entry_bytes, record_bytes, FitsRecord, entries_of, IsKeytab, IsFaultOf}
 use Rattle.krb_keytab.specs.Edit.{IsMadeOf, zero_hole, MakesHole, LosesEntry, LacksEntry}
@@ -124,21 +123,21 @@ not_both xs fault e = cc
 fault_is : (f g : KeytabFault) → answer_of (Err f) ≡ answer_of (Err g) → f ≡ g
 fault_is f g e = cc
 
-pub no_fault : (bytes : List ℕ) (entries : List KeytabEntry) (fault : KeytabFault) → IsBytes bytes → IsKeytab bytes entries → IsFaultOf bytes fault → ⊥
-no_fault bytes entries fault fits k f = not_both entries fault (same_answers bytes (Ok entries) (Err fault) k f)
+pub no_fault : (bytes : List ℕ) (entries : List KeytabEntry) (fault : KeytabFault) → IsKeytab bytes entries → IsFaultOf bytes fault → ⊥
+no_fault bytes entries fault k f = not_both entries fault (same_answers bytes (Ok entries) (Err fault) k f)
 
-pub same_fault : (bytes : List ℕ) (f g : KeytabFault) → IsBytes bytes → IsFaultOf bytes f → IsFaultOf bytes g → f ≡ g
-same_fault bytes f g fits p q = fault_is f g (same_answers bytes (Err f) (Err g) p q)
+pub same_fault : (bytes : List ℕ) (f g : KeytabFault) → IsFaultOf bytes f → IsFaultOf bytes g → f ≡ g
+same_fault bytes f g p q = fault_is f g (same_answers bytes (Err f) (Err g) p q)
 
 -- a file that was searched to its end has no fault
-pub searched : (bytes : List ℕ) (index : ℕ) (place : Option Extent) (fault : KeytabFault) → IsBytes bytes → IsFoundEntry bytes index place → IsFaultOf bytes fault → ⊥
-searched bytes index None fault fits l f = no_fault bytes l.entries fault fits l.list f
-searched bytes index (Some place) fault fits h f =
-    no_fault bytes (flat_map entries_of (h.before ++ entry h.removed h.short_kvno h.rest ∷ h.after)) fault fits (made_keytab h.is) f
+pub searched : (bytes : List ℕ) (index : ℕ) (place : Option Extent) (fault : KeytabFault) → IsFoundEntry bytes index place → IsFaultOf bytes fault → ⊥
+searched bytes index None fault l f = no_fault bytes l.entries fault l.list f
+searched bytes index (Some place) fault h f =
+    no_fault bytes (flat_map entries_of (h.before ++ entry h.removed h.short_kvno h.rest ∷ h.after)) fault (made_keytab h.is) f
 
 -- an entry of this index is there, or it isn't
-pub not_lacking : (bytes : List ℕ) (index : ℕ) (place : Extent) → IsBytes bytes → HoldsIndex bytes index place → LacksEntry bytes index → ⊥
-not_lacking bytes index place fits h l =
+pub not_lacking : (bytes : List ℕ) (index : ℕ) (place : Extent) → HoldsIndex bytes index place → LacksEntry bytes index → ⊥
+not_lacking bytes index place h l =
     let one : KeytabRecord = entry h.removed h.short_kvno h.rest in
     let listed : List KeytabEntry = flat_map entries_of h.before ++ (h.removed ∷ flat_map entries_of h.after) in
     let k : IsKeytab bytes listed = subst (IsKeytab bytes) (flat_split entries_of h.before one h.after) (made_keytab h.is) in
@@ -156,19 +155,19 @@ refused_is f g e = cc
 pub not_done : (fault : KeytabFault) → done_of (Ok tt) ≡ done_of (Err fault) → ⊥
 not_done fault e = cc
 
-pub removal_fault : (bytes : List ℕ) (index : ℕ) (fault : KeytabFault) → IsBytes bytes → IsFaultOf bytes fault
+pub removal_fault : (bytes : List ℕ) (index : ℕ) (fault : KeytabFault) → IsFaultOf bytes fault
     → (done_of (Err fault) ≡ Err NoSuchEntry → LacksEntry bytes index) × (LacksEntry bytes index → done_of (Err fault) ≡ Err NoSuchEntry)
-removal_fault bytes index fault fits f = (λ e. absurd (subst (IsFaultOf bytes) (refused_is fault NoSuchEntry e) f), λ l. absurd (no_fault bytes l.entries fault fits l.list f))
+removal_fault bytes index fault f = (λ e. absurd (subst (IsFaultOf bytes) (refused_is fault NoSuchEntry e) f), λ l. absurd (no_fault bytes l.entries fault l.list f))
 
-pub removal_faults : (bytes : List ℕ) (fault other : KeytabFault) → IsBytes bytes → IsFaultOf bytes fault → (done_of (Err fault) ≡ Err other → IsFaultOf bytes other) × (IsFaultOf bytes other → done_of (Err fault) ≡ Err other)
-removal_faults bytes fault other fits f = (λ e. subst (IsFaultOf bytes) (refused_is fault other e) f, λ g. ap (λ x. done_of (Err x)) (same_fault bytes fault other fits f g))
+pub removal_faults : (bytes : List ℕ) (fault other : KeytabFault) → IsFaultOf bytes fault → (done_of (Err fault) ≡ Err other → IsFaultOf bytes other) × (IsFaultOf bytes other → done_of (Err fault) ≡ Err other)
+removal_faults bytes fault other f = (λ e. subst (IsFaultOf bytes) (refused_is fault other e) f, λ g. ap (λ x. done_of (Err x)) (same_fault bytes fault other f g))
 
-pub lacking_faults : (bytes : List ℕ) (index : ℕ) (other : KeytabFault) → IsBytes bytes → LacksEntry bytes index → (other ≡ NoSuchEntry → ⊥)
+pub lacking_faults : (bytes : List ℕ) (index : ℕ) (other : KeytabFault) → LacksEntry bytes index → (other ≡ NoSuchEntry → ⊥)
     → (done_of (Err NoSuchEntry) ≡ Err other → IsFaultOf bytes other) × (IsFaultOf bytes other → done_of (Err NoSuchEntry) ≡ Err other)
-lacking_faults bytes index other fits l differs = (λ e. absurd (differs (sym (refused_is NoSuchEntry other e))), λ f. absurd (searched bytes index None other fits l f))
+lacking_faults bytes index other l differs = (λ e. absurd (differs (sym (refused_is NoSuchEntry other e))), λ f. absurd (searched bytes index None other l f))
 
-pub removed_faults : (bytes : List ℕ) (index : ℕ) (place : Extent) (other : KeytabFault) → IsBytes bytes → HoldsIndex bytes index place → (done_of (Ok tt) ≡ Err other → IsFaultOf bytes other) × (IsFaultOf bytes other → done_of (Ok tt) ≡ Err other)
-removed_faults bytes index place other fits h = (
+pub removed_faults : (bytes : List ℕ) (index : ℕ) (place : Extent) (other : KeytabFault) → HoldsIndex bytes index place → (done_of (Ok tt) ≡ Err other → IsFaultOf bytes other) × (IsFaultOf bytes other → done_of (Ok tt) ≡ Err other)
+removed_faults bytes index place other h = (
   λ e. absurd (not_done other e),
-  λ f. absurd (searched bytes index (Some place) other fits h f),
+  λ f. absurd (searched bytes index (Some place) other h f),
 )

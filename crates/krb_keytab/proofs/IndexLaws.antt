@@ -72,9 +72,6 @@ bucket_at count entries k e lt = get_or-map (λ entry. bucket_of count entry.pri
 nobody : Principal → KeytabEntry
 nobody name = record { principal = name; timestamp = 0; kvno = 0; etype = pos 0; key = [] }
 
-OtherAt : List KeytabEntry → Principal → ℕ → Type 0
-OtherAt entries name k = k < length entries → ¬ SameName (get_or entries k (nobody name)).principal name
-
 pass_one : (entries : List KeytabEntry) (name : Principal) (etype : ℤ) (kvno : Option ℕ) (choice : Choice) (k : ℕ) → (k < length entries → ¬ SameName (get_or entries k (nobody name)).principal name)
     → IsChoice (take k entries) name etype kvno choice → IsChoice (take (k + 1) entries) name etype kvno choice
 pass_one entries name etype kvno choice k other h = elim (cases_lt k (length entries)) [

@@ -2,7 +2,6 @@ pub mod ComponentLaws
 pub mod EntryLaws
 pub mod RecordLaws
 pub mod FileLaws
-pub mod OpeningLaws
 pub mod SourceLaws
 pub mod PickLaws
 pub mod IndexLaws

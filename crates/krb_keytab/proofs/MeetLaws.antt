@@ -2,7 +2,7 @@
 use Rattle.std.proofs.Common.{◌≡◌, ℕ, ℤ, pos, negsuc, neg_ℤ, ◌+◌, ◌-◌, ◌<◌, ◌≤◌, ◌^◌, Bool, true, false, List, [], ◌∷◌, ◌++◌, length, take, Option, Some, None, Result, Ok, Err, refl, sym, ap, subst, ◌∙◌, append_assoc, append-nil, to_z, of_z, arith, inl, inr}
 use Rattle.std.specs.Int.{w32}
 use Rattle.std.specs.Prelude.{FitsSigned, unsigned_abs, int_lt, max, IfOk, OnErr}
-use Rattle.std.specs.Io.KnownBytes.{Consumes, IsAtEnd}
+use Rattle.std.specs.Io.KnownBytes.{Consumes}
 use Rattle.std.proofs.KnownBytes.{Consumes-trans}
 use Rattle.std.proofs.Math.Seq.{take-append-add}
 use Rattle.std.proofs.lemmas.Bool.{ltb-true}
@@ -12,15 +12,17 @@ use Rattle.krb_name.specs.Cursor.{Place, signed_at, signed_bytes}
 use Rattle.krb_name.specs.Field.{IsBytes}
 use Rattle.krb_name.specs.Window.{AtHand, CameOf, Fills}
 use Rattle.krb_name.specs.declared.reading.ReadFault.{ReadFault}
+use Rattle.krb_name.specs.declared.reading.ReadFault.TheVariants as source
 use Rattle.krb_name.proofs.CursorLaws.{IsField-i32}
 use Rattle.krb_keytab.specs.Entry.{KeytabEntry}
 use Rattle.krb_name.specs.File.{file_limit}
+use Rattle.krb_keytab.specs.Fault.{source_fault}
 use Rattle.krb_keytab.specs.Format.{hole, entry, entry_bytes}
 use Rattle.krb_keytab.specs.Items.{LacksRecord, IsPartOfRecord}
 use Rattle.krb_keytab.specs.Inner.Entry.{entry_at}
-use Rattle.krb_keytab.specs.Inner.Meeting.{Peaks, RanOut, IsWhole, IsLastAt, IsLongAt, IsFewAt, kept_of, MeetsSize, MeetsSizeAt, MeetsBody, MeetsOne, Meets}
+use Rattle.krb_keytab.specs.Inner.Meeting.{Peaks, RanOut, IsWhole, IsLastAt, IsLongAt, IsFewAt, kept_of, MeetsLast, MeetsSize, MeetsSizeAt, MeetsBody, MeetsOne, Meets}
 use Rattle.krb_keytab.specs.declared.fault.KeytabFault.{KeytabFault}
-use Rattle.krb_keytab.specs.declared.fault.KeytabFault.TheVariants.{Version, Truncated, BadEntry, TooLong, NoSuchEntry, Read, OutOfMemory}
+use Rattle.krb_keytab.specs.declared.fault.KeytabFault.TheVariants.{Truncated, BadEntry, TooLong, Read}
 use Rattle.krb_keytab.specs.declared.found.Found.{Found}
 use Rattle.krb_keytab.proofs.EntryLaws.{take_entry, again_entry}
 use Rattle.krb_keytab.proofs.RecordLaws.{short_size}
@@ -156,33 +158,16 @@ peaks_kept IsPart piece old new p e = record { part = []; after = piece; piece_i
 none_more : (at : ℕ) (few more : List ℕ) → at + length few ≡ file_limit → at + length (few ++ more) ≤ file_limit → few ++ more ≡ few
 none_more at few more all within = ap (λ (t : List ℕ). few ++ t) (nil_from_length more (omega (arith, length-append few more))) ∙ append-nil few
 
--- the source ended behind them
-pub few_last : (left : Option (List ℕ)) (at : ℕ) (few : List ℕ) (last : Result (Option ℤ) KeytabFault) → IsFewAt at few last → IsAtEnd left → at + length few ≤ file_limit → length few < 4 → MeetsSize left at few last
-few_last left at few (Ok None) f end within short = record { limit = within; all = end; lacks = inl f }
-few_last left at few (Ok (Some size)) f end within short = absurd f
-few_last left at few (Err (Truncated place)) f end within short = record { limit = within; all = end; lacks = (f.0, inl (f.1, short)) }
-few_last left at few (Err Version) f end within short = absurd f
-few_last left at few (Err (BadEntry place)) f end within short = absurd f
-few_last left at few (Err TooLong) f end within short = absurd f
-few_last left at few (Err NoSuchEntry) f end within short = absurd f
-few_last left at few (Err Read) f end within short = absurd f
-few_last left at few (Err OutOfMemory) f end within short = absurd f
-
--- or a file has no more
+-- a file has no more
 pub few_ran : (left : Option (List ℕ)) (at given : ℕ) (few later : List ℕ) (last answer : Result (Option ℤ) KeytabFault) → IsFewAt at few last → RanOut last answer left given
     → at + length few ≡ file_limit → length few < 4 → given ≡ at + length (few ++ later) → MeetsSize left at (few ++ later) answer
-few_ran left at given few later (Ok None) answer f r all short g =
-    ran (MeetsSize left at (few ++ later)) (Ok None) answer left at given few later None r (omega (arith, all)) g (λ more within. inl (none_more at few more all within ∙ f)) (λ h. h) (λ h. h) tt
-few_ran left at given few later (Ok (Some size)) answer f r all short g = absurd f
-few_ran left at given few later (Err (Truncated place)) answer f r all short g =
-    ran (MeetsSize left at (few ++ later)) (Err (Truncated place)) answer left at given few later (Some (Truncated place)) r (omega (arith, all)) g
-    (λ more within. (f.0, inl (omega (arith, f.1, length-append few more), omega (arith, short, ap length (none_more at few more all within))))) (λ h. h) (λ h. h) tt
-few_ran left at given few later (Err Version) answer f r all short g = absurd f
-few_ran left at given few later (Err (BadEntry place)) answer f r all short g = absurd f
-few_ran left at given few later (Err TooLong) answer f r all short g = absurd f
-few_ran left at given few later (Err NoSuchEntry) answer f r all short g = absurd f
-few_ran left at given few later (Err Read) answer f r all short g = absurd f
-few_ran left at given few later (Err OutOfMemory) answer f r all short g = absurd f
+few_ran left at given few later last answer f r all short g =
+    elim f [
+      | inl none ↦ ran (MeetsSize left at (few ++ later)) (Ok None) answer left at given few later None (subst (λ (l : Result (Option ℤ) KeytabFault). RanOut l answer left given) none.0 r) (omega (arith, all)) g
+          (λ more within. inl (none_more at few more all within ∙ none.1)) (λ h. h) (λ h. h) tt
+      | inr some ↦ ran (MeetsSize left at (few ++ later)) (Err (Truncated at)) answer left at given few later (Some (Truncated at)) (subst (λ (l : Result (Option ℤ) KeytabFault). RanOut l answer left given) some.0 r) (omega (arith, all)) g
+          (λ more within. (refl, inl (omega (arith, some.1, length-append few more), omega (arith, short, ap length (none_more at few more all within))))) (λ h. h) (λ h. h) tt
+    ]
 
 -- ---- the size at hand
 
@@ -203,12 +188,32 @@ came_within (Err fault) count piece to came = omega (arith, came)
 pub fills_within : {S : Type 0} (from to : Option (List ℕ)) (old new : AtHand S) (count : ℕ) (answer : Result Bool ReadFault) (f : Fills from to old new count answer) → length f.piece ≤ count
 fills_within from to old new count answer f = came_within answer count f.piece to f.came
 
+-- ---- the bytes of an entry
+
+lost : (left : Option (List ℕ)) (at : ℕ) (piece : List ℕ) (fault : ReadFault) → MeetsLast left at piece (Some (source_fault fault))
+lost left at piece source.Read = tt
+lost left at piece source.OutOfMemory = tt
+
+module _ {S E : Type 0} (of_entry : KeytabEntry → E) (from to : Option (List ℕ)) (old new : AtHand S) (at count : ℕ) (size : ℤ) (fits : old.given + count ≤ file_limit) (is : count ≡ unsigned_abs size) (positive : int_lt size (pos 0) ≡ false) where
+  pub body_met : (came : Result Bool ReadFault) (f : Fills from to (record old { bytes = [] }) new count came) (answer : Result (Found E) KeytabFault) → Meets of_entry to at (signed_bytes w32 size ++ f.piece) new.peak answer → MeetsBody of_entry from to old new at size answer
+  body_met came f answer meets =
+      let few = fills_within from to (record old { bytes = [] }) new count came f in
+      record {
+        piece = f.piece;
+        moves = record { consumed = f.keeps.consumed; given = f.keeps.given; limit = λ l. omega (arith, f.keeps.given, few, fits) };
+        peaks = peaks_at _ f.piece f.piece [] _ _ new.bytes (sym (append-nil f.piece)) (omega (arith, few, is, kept_is size positive)) f.keeps.bytes (omega (arith, few, fits)) f.keeps.peak;
+        meets = meets;
+      }
+
+  pub body_lost : (fault : ReadFault) → Fills from to (record old { bytes = [] }) new count (Err fault) → MeetsBody of_entry from to old new at size (Err (source_fault fault))
+  body_lost fault f = body_met (Err fault) f (Err (source_fault fault)) (lost to at (signed_bytes w32 size ++ f.piece) fault)
+
 -- ---- a record
 
-pub record_met : {S : Type 0} (from mid to : Option (List ℕ)) (old between new : AtHand S) (at : ℕ) (size : ℤ) (answer : Result (Found Unit) KeytabFault) → MeetsSizeAt from mid old between (Ok (Some size)) → at ≡ old.given
-    → MeetsBody mid to between new at (to_z w32 (of_z w32 size)) answer → MeetsOne from to old new answer
-record_met from mid to old between new at size answer first is handed =
-    let behind = subst (λ (z : ℤ). MeetsBody mid to between new at z answer) (to_z-of_z w32 size first.meets.fits) handed in
+pub record_met : {S E : Type 0} (of_entry : KeytabEntry → E) (from mid to : Option (List ℕ)) (old between new : AtHand S) (at : ℕ) (size : ℤ) (answer : Result (Found E) KeytabFault) → MeetsSizeAt from mid old between (Ok (Some size)) → at ≡ old.given
+    → MeetsBody of_entry mid to between new at (to_z w32 (of_z w32 size)) answer → MeetsOne of_entry from to old new answer
+record_met of_entry from mid to old between new at size answer first is handed =
+    let behind = subst (λ (z : ℤ). MeetsBody of_entry mid to between new at z answer) (to_z-of_z w32 size first.meets.fits) handed in
     let word : List ℕ = signed_bytes w32 size in
     let whole = Consumes-trans from mid to first.piece behind.piece first.moves.consumed behind.moves.consumed in
     record {
@@ -219,5 +224,5 @@ record_met from mid to old between new at size answer first is handed =
         limit = λ l. behind.moves.limit (first.moves.limit l);
       };
       peaks = peaks_on size behind.piece old.peak between.peak new.peak first.meets.fits (subst (λ (t : List ℕ). Peaks (λ part. length part ≤ 4) t old.peak between.peak) first.meets.piece_is first.peaks) behind.peaks;
-      meets = subst (λ (n : ℕ). Meets to n (word ++ behind.piece) new.peak new.bytes answer) is behind.meets;
+      meets = subst (λ (n : ℕ). Meets of_entry to n (word ++ behind.piece) new.peak answer) is behind.meets;
     }

@@ -1,13 +1,12 @@
--- What is read at a place stands there.
-use Rattle.std.proofs.Common.{◌≡◌, ℕ, zero, suc, ℤ, pos, negsuc, ◌+◌, ◌<◌, ◌≤◌, ◌^◌, Bool, true, false, cond, leb, eqb, List, [], ◌∷◌, ◌++◌, length, take, drop, Option, Some, None, Result, Ok, Err, refl, sym, ap, subst, ◌∙◌, append_assoc, arith, inl, inr, neg_ℤ, nat_abs}
+-- What stands at a place is read there.
+use Rattle.std.proofs.Common.{◌≡◌, ℕ, zero, suc, ℤ, pos, negsuc, ◌+◌, ◌<◌, ◌≤◌, ◌^◌, Bool, true, false, cond, leb, List, [], ◌∷◌, ◌++◌, length, take, drop, Option, Some, None, Result, Ok, Err, refl, ap, ◌∙◌, append_assoc, arith, inl, inr, nat_abs}
 use Rattle.std.specs.Int.{w8, w16, w32, from_be_bytes, cast_signed}
 use Rattle.std.specs.Prelude.{FitsSigned}
 use Rattle.std.specs.List.{flat_map}
-use Rattle.std.proofs.lemmas.Bool.{eqb-true, eqb-false, leb-false, ne_eqb, lt-leb}
-use Rattle.std.proofs.lemmas.List.{nil_from_length, length-append}
+use Rattle.std.proofs.lemmas.Bool.{leb-false, ne_eqb, lt-leb}
+use Rattle.std.proofs.lemmas.List.{length-append}
 use Rattle.krb_name.specs.Cursor.{Place, ◌>>=◌, bytes_at, number_at, signed_at, number_bytes, signed_bytes, data_bytes}
-use Rattle.krb_name.specs.Field.{IsBytes, Takes}
-use Rattle.krb_name.proofs.CursorLaws.{Takes-then, IsField-bytes, IsField-i32}
+use Rattle.krb_name.proofs.CursorLaws.{IsField-bytes, IsField-i32}
 use Rattle.krb_keytab.specs.Entry.{KeytabEntry}
 use Rattle.krb_keytab.specs.Format.{entry_bytes, IsEntry, KeytabRecord, hole, entry, record_bytes, FitsRecord, IsEnd, IsCutOff}
 use Rattle.krb_keytab.specs.declared.fault.KeytabFault.{KeytabFault}
@@ -16,10 +15,9 @@ use Rattle.krb_keytab.specs.declared.found.Found.{Found}
 use Rattle.krb_keytab.specs.declared.found.Found.TheVariants.{End, Hole, Entry}
 use Rattle.krb_keytab.specs.Inner.Entry.{entry_at}
 use Rattle.krb_keytab.specs.Inner.Reading.{record_at, size_in, sized_at, hole_in, body_in, entry_in}
-use Rattle.krb_keytab.specs.Inner.Standing.{Stands}
-use Rattle.krb_keytab.proofs.EntryLaws.{take_entry, again_entry}
+use Rattle.krb_keytab.proofs.EntryLaws.{again_entry}
 
--- ---- what is read at a place stands there
+-- ---- fewer bytes than a size has
 
 none_bytes : {A : Type 0} (b : Bool) (x : A) → cond b (Some x) None ≡ None → b ≡ false
 none_bytes true x e = absurd cc
@@ -39,75 +37,6 @@ short_size place e =
     let f : number_at w32 place ≡ None = none_then (number_at w32 place) (λ read. (cast_signed w32 read.0, read.1)) e in
     let g : bytes_at 4 place ≡ None = none_then (bytes_at 4 place) (λ read. (from_be_bytes w32 read.0, read.1)) f in
     short_bytes 4 place g
-
--- a record's size, and its bytes
-record Sized (place : Place) (size : ℤ) (behind : Place) : Type 0 where
-  takes : Takes place (signed_bytes w32 size) behind
-  fits : FitsSigned w32 size
-
-hole_stands : (place after : Place) (n : ℕ) → Sized place (negsuc n) after → (read : Option (List ℕ × Place)) → bytes_at (suc n) after ≡ read → Stands place (hole_in place.at read)
-hole_stands place after n sized None e = (refl, inr (record { size = negsuc n; body = after.rest; behind_is = sized.takes.parts; size_fits = sized.fits; short = short_bytes (suc n) after e }))
-hole_stands place after n sized (Some (body, behind)) e =
-    let t = (IsField-bytes (suc n)).takes after body behind sized.takes.rest_fits e in
-    let small : n < 2 ^ 31 = sized.fits.sfits in
-    let size : signed_bytes w32 (neg_ℤ (pos (length body))) ≡ signed_bytes w32 (negsuc n) = ap (λ (k : ℕ). signed_bytes w32 (neg_ℤ (pos k))) t.1 in
-    record {
-      one = hole body;
-      fits = (omega (arith, t.1), omega (arith, t.1));
-      takes = subst (λ (text : List ℕ). Takes place (text ++ body) behind) (sym size) (Takes-then place (signed_bytes w32 (negsuc n)) after body behind sized.takes t.0);
-      entries_are = refl;
-    }
-
-entry_stands : (place after behind : Place) (body : List ℕ) → Sized place (pos (length body)) after → 0 < length body → Takes after body behind → (read : Option KeytabEntry) → entry_at body ≡ read
-    → Stands place (entry_in place.at behind read)
-entry_stands place after behind body sized filled takes None e = (
-  refl,
-  record {
-    body = body;
-    others = behind.rest;
-    behind_is = sized.takes.parts ∙ ap (λ (text : List ℕ). signed_bytes w32 (pos (length body)) ++ text) takes.parts;
-    size = filled;
-    size_fits = sized.fits.sfits;
-    no_entry = λ made short_kvno rest is_entry same. none_and_some (entry_at body) made e (ap entry_at same ∙ again_entry made short_kvno rest is_entry);
-  },
-)
-  where
-    none_and_some : (read : Option KeytabEntry) (made : KeytabEntry) → read ≡ None → read ≡ Some made → ⊥
-    none_and_some read made p q = cc
-entry_stands place after behind body sized filled takes (Some made) e =
-    let held = take_entry body made takes.text_fits e in
-    let whole = Takes-then place (signed_bytes w32 (pos (length body))) after body behind sized.takes takes in
-    record {
-      one = entry made held.short_kvno held.rest;
-      fits = (held.is_entry, subst (λ (text : List ℕ). length text < 2 ^ 31) held.body_is sized.fits.sfits);
-      takes = subst (λ (text : List ℕ). Takes place (signed_bytes w32 (pos (length text)) ++ text) behind) held.body_is whole;
-      entries_are = refl;
-    }
-
-body_stands : (place after : Place) (n : ℕ) → Sized place (pos (suc n)) after → (read : Option (List ℕ × Place)) → bytes_at (suc n) after ≡ read → Stands place (body_in place.at read)
-body_stands place after n sized None e = (refl, inr (record { size = pos (suc n); body = after.rest; behind_is = sized.takes.parts; size_fits = sized.fits; short = short_bytes (suc n) after e }))
-body_stands place after n sized (Some (body, behind)) e =
-    let t = (IsField-bytes (suc n)).takes after body behind sized.takes.rest_fits e in
-    entry_stands place after behind body (subst (λ (k : ℕ). Sized place (pos k) after) (sym t.1) sized) (omega (arith, t.1)) t.0 (entry_at body) refl
-
-sized_stands : (place : Place) (size : ℤ) (after : Place) → Sized place size after → Stands place (sized_at place.at size after)
-sized_stands place (pos zero) after sized = inr (after.rest, sized.takes.parts)
-sized_stands place (pos (suc n)) after sized = body_stands place after n sized (bytes_at (suc n) after) refl
-sized_stands place (negsuc n) after sized = hole_stands place after n sized (bytes_at (suc n) after) refl
-
-size_stands : (place : Place) (read : Option (ℤ × Place)) → signed_at w32 place ≡ read → 0 < length place.rest → IsBytes place.rest → Stands place (size_in place.at read)
-size_stands place None e some fits = (refl, inl (some, short_size place e))
-size_stands place (Some (size, after)) e some fits =
-    let t = IsField-i32.takes place size after fits e in
-    sized_stands place size after (record { takes = t.0; fits = t.1 })
-
-first_stands : (place : Place) (b : Bool) → eqb (length place.rest) 0 ≡ b → IsBytes place.rest → Stands place (cond b (Ok (End, place)) (size_in place.at (signed_at w32 place)))
-first_stands place true e fits = inl (nil_from_length place.rest (eqb-true _ _ e))
-first_stands place false e fits = let some : 0 < length place.rest = omega (arith, eqb-false _ _ e) in size_stands place (signed_at w32 place) refl some fits
-
-pub take_record : (place : Place) → IsBytes place.rest → Stands place (record_at place)
-unfolding record_at
-take_record place fits = first_stands place (eqb (length place.rest) 0) refl fits
 
 -- ---- what stands at a place is read
 

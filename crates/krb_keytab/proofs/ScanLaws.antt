@@ -1,67 +1,74 @@
 -- Reading the records of a file to their end, and keeping where one of them lies.
-use Rattle.std.proofs.Common.{◌≡◌, ℕ, ◌+◌, ◌<◌, ◌≤◌, List, [], ◌∷◌, ◌++◌, length, Option, Some, None, Ok, Err, refl, sym, ap, subst, ◌∙◌, append_assoc, append-nil, arith}
+use Rattle.std.proofs.Common.{◌≡◌, ℕ, ◌+◌, ◌<◌, ◌≤◌, List, [], ◌∷◌, ◌++◌, length, Option, Some, None, Result, Ok, Err, refl, sym, ap, subst, ◌∙◌, append_assoc, append-nil, arith}
 use Rattle.std.specs.List.{flat_map}
-use Rattle.std.specs.Prelude.{All}
+use Rattle.std.specs.Prelude.{◌≢◌, All, IfErr}
 use Rattle.std.proofs.lemmas.List.{length-append}
-use Rattle.std.proofs.lemmas.List.Concat.{flat_map-append}
 use Rattle.std.proofs.lemmas.List.Elements.{All-nil, All-push}
-use Rattle.krb_name.specs.Cursor.{Place}
-use Rattle.krb_name.specs.Field.{IsBytes, Takes}
+use Rattle.krb_name.specs.Window.{AtHand}
 use Rattle.krb_keytab.specs.Entry.{KeytabEntry}
 use Rattle.krb_name.specs.File.{file_limit}
-use Rattle.krb_keytab.specs.Format.{version, KeytabRecord, hole, entry, record_bytes, FitsRecord, entries_of, IsFaultOf}
+use Rattle.krb_keytab.specs.Fault.{failed_reads}
+use Rattle.krb_keytab.specs.Format.{version, KeytabRecord, hole, entry, record_bytes, FitsRecord, entries_of, IsReached, IsEnd, IsFaultOf}
 use Rattle.krb_keytab.specs.Edit.{IsMadeOf, LacksRoom}
+use Rattle.krb_keytab.specs.Inner.Feed.{nothing_of}
 use Rattle.krb_keytab.specs.Inner.Finding.{LiesAt, IsFoundEntry, HasRoom}
-use Rattle.krb_keytab.specs.Inner.Reading.{record_at}
+use Rattle.krb_keytab.specs.Inner.Meeting.{Moves, IsWhole, MeetsLast, MeetsOne}
 use Rattle.krb_keytab.specs.declared.fault.KeytabFault.{KeytabFault}
+use Rattle.krb_keytab.specs.declared.fault.KeytabFault.TheVariants.{Version, Truncated, BadEntry, TooLong, NoSuchEntry, Read, OutOfMemory}
 use Rattle.krb_keytab.specs.declared.finding.Extent.{Extent}
+use Rattle.krb_keytab.specs.declared.found.Found.{Found}
 use Rattle.krb_keytab.specs.declared.found.Found.TheVariants.{End, Hole, Entry}
-use Rattle.krb_keytab.proofs.FileLaws.{start_fits, read_stands, record_first, fault_found}
+use Rattle.krb_keytab.proofs.FileLaws.{record_first, flat_push}
+use Rattle.krb_keytab.proofs.StandLaws.{failed_stands}
+use Rattle.krb_keytab.proofs.CollectLaws.{fault_of}
+use Rattle.krb_keytab.proofs.SourceLaws.{fault_whole}
 use Rattle.krb_keytab.proofs.MadeLaws.{made_keytab}
 
 -- ---- the records that were read
 
-pub record Spans (bytes : List ℕ) (place : Place) (records : List KeytabRecord) : Type 0 where
-  pub limit : length bytes ≤ file_limit
+-- of the bytes these records were read, and the place is behind them
+pub record Spans (bytes : List ℕ) (place : AtHand (List ℕ)) (records : List KeytabRecord) : Type 0 where
   pub fit : All FitsRecord records
-  pub bytes_are : bytes ≡ version ++ (flat_map record_bytes records ++ place.rest)
-  pub at : place.at ≡ length version + length (flat_map record_bytes records)
-  pub rest_fits : IsBytes place.rest
+  pub bytes_are : bytes ≡ version ++ (flat_map record_bytes records ++ place.source)
+  pub at : place.given ≡ length version + length (flat_map record_bytes records)
 
-pub start_spans : (bytes : List ℕ) (place : Place) → length bytes ≤ file_limit → place.at ≡ 2 → bytes ≡ version ++ place.rest → IsBytes bytes → Spans bytes place []
-start_spans bytes place limit at is fits = record { limit = limit; fit = All-nil FitsRecord; bytes_are = is; at = at; rest_fits = start_fits bytes place.rest fits is }
+pub start_spans : (bytes : List ℕ) (place : AtHand (List ℕ)) → place.given ≡ 2 → bytes ≡ version ++ place.source → Spans bytes place []
+start_spans bytes place at is = record { fit = All-nil FitsRecord; bytes_are = is; at = at }
 
 -- a record of this kind was read, and where it lies
-pub record Passes (bytes : List ℕ) (place : Place) (records : List KeytabRecord) (one : KeytabRecord) (after : Place) : Type 0 where
+pub record Passes (bytes : List ℕ) (place : AtHand (List ℕ)) (records : List KeytabRecord) (one : KeytabRecord) (after : AtHand (List ℕ)) : Type 0 where
   pub spans : Spans bytes after (records ++ one ∷ [])
-  pub lies : LiesAt records one (record { from = place.at; to = after.at })
-  pub smaller : length after.rest < length place.rest
+  pub lies : LiesAt records one (record { from = place.given; to = after.given })
+  pub smaller : length after.source < length place.source
+  pub limit : after.given ≤ file_limit
 
-pub flat_push : {X A : Type 0} (f : X → List A) (xs : List X) (x : X) → flat_map f (xs ++ x ∷ []) ≡ flat_map f xs ++ f x
-flat_push f xs x = flat_map-append f xs (x ∷ []) ∙ ap (λ t. flat_map f xs ++ t) (append-nil (f x))
+abbrev Reads : AtHand (List ℕ) → AtHand (List ℕ) → Result (Found (Unit {0})) KeytabFault → Type 0
+Reads place after answer = MeetsOne nothing_of (Some place.source) (Some after.source) place after answer
 
-pass : {bytes : List ℕ} {place : Place} {records : List KeytabRecord} (one : KeytabRecord) (after : Place) → Spans bytes place records → FitsRecord one → Takes place (record_bytes one) after → Passes bytes place records one after
-pass {bytes} {place} {records} one after s fits t =
-    let flat = flat_push record_bytes records one in
-    let before : List ℕ = flat_map record_bytes records in
-    record {
-      spans = record {
-        limit = s.limit;
-        fit = All-push FitsRecord records one s.fit fits;
-        bytes_are = s.bytes_are ∙ ap (λ (u : List ℕ). version ++ u) (ap (λ (u : List ℕ). before ++ u) t.parts ∙ sym (append_assoc before (record_bytes one) after.rest) ∙ ap (λ (u : List ℕ). u ++ after.rest) (sym flat));
-        at = omega (arith, t.at, s.at, ap length flat, length-append before (record_bytes one));
-        rest_fits = t.rest_fits;
-      };
-      lies = record { from = s.at; to = t.at };
-      smaller = omega (arith, record_first one, ap length t.parts, length-append (record_bytes one) after.rest);
-    }
+module _ {bytes : List ℕ} {place : AtHand (List ℕ)} {records : List KeytabRecord} (after : AtHand (List ℕ)) (s : Spans bytes place records) where
+  pass : (one : KeytabRecord) (piece : List ℕ) → FitsRecord one → piece ≡ record_bytes one → Moves (Some place.source) (Some after.source) place after piece → place.given + length piece ≤ file_limit → Passes bytes place records one after
+  pass one piece fits is m limit =
+      let flat = flat_push record_bytes records one in
+      let before : List ℕ = flat_map record_bytes records in
+      let parts : place.source ≡ record_bytes one ++ after.source = m.consumed ∙ ap (λ (t : List ℕ). t ++ after.source) is in
+      record {
+        spans = record {
+          fit = All-push FitsRecord records one s.fit fits;
+          bytes_are = s.bytes_are ∙ ap (λ (u : List ℕ). version ++ u) (ap (λ (u : List ℕ). before ++ u) parts ∙ sym (append_assoc before (record_bytes one) after.source) ∙ ap (λ (u : List ℕ). u ++ after.source) (sym flat));
+          at = omega (arith, m.given, ap length is, s.at, ap length flat, length-append before (record_bytes one));
+        };
+        lies = record { from = s.at; to = omega (arith, m.given, ap length is) };
+        smaller = omega (arith, record_first one, ap length parts, length-append (record_bytes one) after.source);
+        limit = omega (arith, m.given, limit);
+      }
 
 -- a hole was read
-pub record PassesHole (bytes : List ℕ) (place : Place) (records : List KeytabRecord) (after : Place) : Type 0 where
+pub record PassesHole (bytes : List ℕ) (place : AtHand (List ℕ)) (records : List KeytabRecord) (after : AtHand (List ℕ)) : Type 0 where
   pub ignored : List ℕ
   pub passes : Passes bytes place records (hole ignored) after
 
-pub record PassesEntry (bytes : List ℕ) (place : Place) (records : List KeytabRecord) (e : KeytabEntry) (after : Place) : Type 0 where
+pub record PassesEntry (bytes : List ℕ) (place : AtHand (List ℕ)) (records : List KeytabRecord) (after : AtHand (List ℕ)) : Type 0 where
+  pub e : KeytabEntry
   pub short_kvno : ℕ
   pub rest : List ℕ
   pub passes : Passes bytes place records (entry e short_kvno rest) after
@@ -69,31 +76,55 @@ pub record PassesEntry (bytes : List ℕ) (place : Place) (records : List Keytab
 abbrev list_of : List KeytabEntry → List KeytabEntry
 list_of xs = xs
 
-one_is : (e f : KeytabEntry) → list_of (e ∷ []) ≡ list_of (f ∷ []) → f ≡ e
-one_is e f q = cc
+module _ {bytes : List ℕ} {place : AtHand (List ℕ)} {records : List KeytabRecord} (after : AtHand (List ℕ)) (s : Spans bytes place records) where
+  pub hole_passed : Reads place after (Ok Hole) → PassesHole bytes place records after
+  hole_passed m = of_kind m.meets.one m.meets.fits m.meets.piece_is m.meets.entries_are
+    where
+      of_kind : (one : KeytabRecord) → FitsRecord one → m.piece ≡ record_bytes one → list_of [] ≡ entries_of one → PassesHole bytes place records after
+      of_kind (hole ignored) fits is none = record { ignored = ignored; passes = pass after s (hole ignored) m.piece fits is m.moves m.meets.limit }
+      of_kind (entry e short_kvno rest) fits is none = absurd cc
 
-hole_passes : {bytes : List ℕ} {place : Place} {records : List KeytabRecord} (one : KeytabRecord) (after : Place) → Spans bytes place records → FitsRecord one → Takes place (record_bytes one) after → list_of [] ≡ entries_of one → PassesHole bytes place records after
-hole_passes (hole ignored) after s fits t e = record { ignored = ignored; passes = pass (hole ignored) after s fits t }
-hole_passes (entry f short_kvno rest) after s fits t e = absurd cc
+  pub entry_passed : Reads place after (Ok (Entry tt)) → PassesEntry bytes place records after
+  entry_passed m = let w : IsWhole place.given m.piece (m.meets.0 ∷ []) = m.meets.3 in of_kind w.one w.fits w.piece_is w.entries_are w.limit
+    where
+      of_kind : (one : KeytabRecord) → FitsRecord one → m.piece ≡ record_bytes one → list_of (m.meets.0 ∷ []) ≡ entries_of one → place.given + length m.piece ≤ file_limit → PassesEntry bytes place records after
+      of_kind (hole ignored) fits is some limit = absurd cc
+      of_kind (entry e short_kvno rest) fits is some limit = record { e = e; short_kvno = short_kvno; rest = rest; passes = pass after s (entry e short_kvno rest) m.piece fits is m.moves limit }
 
-entry_passes : {bytes : List ℕ} {place : Place} {records : List KeytabRecord} (e : KeytabEntry) (one : KeytabRecord) (after : Place) → Spans bytes place records → FitsRecord one → Takes place (record_bytes one) after → list_of (e ∷ []) ≡ entries_of one → PassesEntry bytes place records e after
-entry_passes e (hole ignored) after s fits t q = absurd cc
-entry_passes {bytes} {place} {records} e (entry f short_kvno rest) after s fits t q =
-    subst (λ (g : KeytabEntry). PassesEntry bytes place records g after) (one_is e f q) (record { short_kvno = short_kvno; rest = rest; passes = pass (entry f short_kvno rest) after s fits t })
+  -- the records have ended
+  pub ended : Reads place after (Ok End) → IsMadeOf bytes records place.source
+  ended m =
+      let before : List ℕ = flat_map record_bytes records in
+      let last : place.source ≡ m.piece = m.moves.consumed ∙ ap (λ (t : List ℕ). m.piece ++ t) m.meets.all ∙ append-nil m.piece in
+      record {
+        limit = omega (arith, ap length s.bytes_are, length-append before place.source, s.at, ap length last, m.meets.limit);
+        fit = s.fit;
+        bytes_are = s.bytes_are;
+        is_end = subst IsEnd (sym last) m.meets.lacks;
+      }
 
-pub hole_passed : {bytes : List ℕ} {place : Place} {records : List KeytabRecord} (after : Place) → Spans bytes place records → record_at place ≡ Ok (Hole, after) → PassesHole bytes place records after
-hole_passed {bytes} {place} {records} after s e = let b = read_stands place (Ok (Hole, after)) s.rest_fits e in hole_passes b.one after s b.fits b.takes b.entries_are
+  pub stopped : (fault : KeytabFault) → place.given ≤ file_limit → Reads place after (Err fault) → (fault ≢ OutOfMemory) × (fault ≢ Read) → IsFaultOf bytes fault
+  stopped fault limit m content =
+      let before : List ℕ = flat_map record_bytes records in
+      let front : List ℕ = version ++ before in
+      let entries : List KeytabEntry = flat_map entries_of records in
+      let here : place.given ≡ length front = omega (arith, s.at) in
+      let reached : IsReached front (length front) entries [] = record { records = records; fit = s.fit; bytes_are = ap (λ (t : List ℕ). version ++ t) (sym (append-nil before)); at_is = length-append version before; entries_are = refl } in
+      let stands = failed_stands front entries reached (Some after.source) after.peak m.piece fault (omega (arith, here, limit)) (subst (λ (n : ℕ). MeetsLast (Some after.source) n m.piece (Some fault)) here m.meets) in
+      let given : bytes ≡ (front ++ m.piece) ++ after.source =
+      s.bytes_are ∙ sym (append_assoc version before place.source) ∙ ap (λ (t : List ℕ). front ++ t) m.moves.consumed ∙ sym (append_assoc front m.piece after.source) in
+      fault_whole (Some bytes) (Some after.source) fault (fault_of (Some bytes) (Some after.source) after.peak (front ++ m.piece) entries fault given stands) content.0 content.1
 
-pub entry_passed : {bytes : List ℕ} {place : Place} {records : List KeytabRecord} (f : KeytabEntry) (after : Place) → Spans bytes place records → record_at place ≡ Ok (Entry f, after) → PassesEntry bytes place records f after
-entry_passed {bytes} {place} {records} f after s e = let b = read_stands place (Ok (Entry f, after)) s.rest_fits e in entry_passes f b.one after s b.fits b.takes b.entries_are
-
--- the records have ended
-pub ended : {bytes : List ℕ} {place : Place} {records : List KeytabRecord} (after : Place) → Spans bytes place records → record_at place ≡ Ok (End, after) → IsMadeOf bytes records place.rest
-ended {bytes} {place} {records} after s e = record { limit = s.limit; fit = s.fit; bytes_are = s.bytes_are; is_end = read_stands place (Ok (End, after)) s.rest_fits e }
-
-pub stopped : {bytes : List ℕ} {place : Place} {records : List KeytabRecord} (fault : KeytabFault) → Spans bytes place records → record_at place ≡ Err fault → IsFaultOf bytes fault
-stopped {bytes} {place} {records} fault s e =
-    fault_found bytes place (flat_map entries_of records) fault s.limit (record { records = records; fit = s.fit; bytes_are = s.bytes_are; at_is = s.at; entries_are = refl }) s.rest_fits e
+-- bytes in memory are there, and can be read
+pub content : {T : Type 0} (answer : Result T KeytabFault) → (answer ≡ Err OutOfMemory → ⊥) → 0 ≡ 0 + failed_reads answer → IfErr answer (λ fault. (fault ≢ OutOfMemory) × (fault ≢ Read))
+content (Ok x) memory failed = tt
+content (Err Version) memory failed = (λ e. cc, λ e. cc)
+content (Err (Truncated at)) memory failed = (λ e. cc, λ e. cc)
+content (Err (BadEntry at)) memory failed = (λ e. cc, λ e. cc)
+content (Err TooLong) memory failed = (λ e. cc, λ e. cc)
+content (Err NoSuchEntry) memory failed = (λ e. cc, λ e. cc)
+content (Err Read) memory failed = absurd (omega (arith, failed))
+content (Err OutOfMemory) memory failed = absurd (memory refl)
 
 -- ---- the entry of an index
 
@@ -177,7 +208,7 @@ counted {bytes} {records} {end} index count (Some place) m k =
 pub start_counts : (index : ℕ) → Counts [] index 0 None
 start_counts index = record { count_is = refl; keeps = omega arith }
 
-pub further : {bytes : List ℕ} {place : Place} {records : List KeytabRecord} {one : KeytabRecord} {after : Place} → Passes bytes place records one after → place.at + 4 ≤ after.at
+pub further : {bytes : List ℕ} {place : AtHand (List ℕ)} {records : List KeytabRecord} {one : KeytabRecord} {after : AtHand (List ℕ)} → Passes bytes place records one after → place.given + 4 ≤ after.given
 further {bytes} {place} {records} {one} {after} p = omega (arith, p.lies.to, record_first one)
 
 -- ---- the first hole that has room

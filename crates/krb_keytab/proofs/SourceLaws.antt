@@ -27,34 +27,23 @@ long_answer bytes more (Err Read) long longer a = absurd a
 long_answer bytes more (Err OutOfMemory) long longer a = absurd a
 
 -- all the bytes are those that were given, or both are too many
-all_given : (whole bytes : List ℕ) (to : Option (List ℕ)) → IsGiven (Some whole) to bytes → (whole ≡ bytes) ⊎ ((file_limit < length bytes) × (file_limit < length whole))
+all_given : (whole bytes : List ℕ) (to : Option (List ℕ)) → IsGiven (Some whole) to bytes → (whole ≡ bytes) ⊎ ((file_limit < length whole) × (file_limit < length bytes))
 all_given whole bytes None g = absurd g.given
 all_given whole bytes (Some rest) g =
     elim (cases_lt file_limit (length bytes)) [
-      | inl long ↦ inr (long, omega (arith, ap length g.given, length-append bytes rest))
+      | inl long ↦ inr (omega (arith, ap length g.given, length-append bytes rest), long)
       | inr within ↦ inl (g.given ∙ ap (λ (t : List ℕ). bytes ++ t) (g.end within) ∙ append-nil bytes)
     ]
 
-answer_of_given : (whole bytes : List ℕ) (to : Option (List ℕ)) (answer : Result (List KeytabEntry) KeytabFault) → IsGiven (Some whole) to bytes → IsAnswerOf whole answer → IsAnswerOf bytes answer
-answer_of_given whole bytes to answer g a =
-    elim (all_given whole bytes to g) [
-      | inl same ↦ subst (λ (t : List ℕ). IsAnswerOf t answer) same a
-      | inr long ↦ long_answer whole bytes answer long.1 long.0 a
-    ]
+same_answer : (bytes more : List ℕ) (answer : Result (List KeytabEntry) KeytabFault) → (bytes ≡ more) ⊎ ((file_limit < length bytes) × (file_limit < length more)) → IsAnswerOf bytes answer → IsAnswerOf more answer
+same_answer bytes more answer both a = elim both [ inl same ↦ subst (λ (t : List ℕ). IsAnswerOf t answer) same a | inr long ↦ long_answer bytes more answer long.0 long.1 a ]
 
 -- ---- what a source gave, told of all the bytes that were to come
 
 -- an answer for what was given is one for all
-answer_of_whole : (whole bytes : List ℕ) (to : Option (List ℕ)) (answer : Result (List KeytabEntry) KeytabFault) → IsGiven (Some whole) to bytes → IsAnswerOf bytes answer → IsAnswerOf whole answer
-answer_of_whole whole bytes to answer g a =
-    elim (all_given whole bytes to g) [
-      | inl same ↦ subst (λ (t : List ℕ). IsAnswerOf t answer) (sym same) a
-      | inr long ↦ long_answer bytes whole answer long.0 long.1 a
-    ]
-
 answer_known : (from to : Option (List ℕ)) (bytes : List ℕ) (answer : Result (List KeytabEntry) KeytabFault) → IsGiven from to bytes → IsAnswerOf bytes answer → IfSome from (λ whole. IsAnswerOf whole answer)
 answer_known None to bytes answer g a = tt
-answer_known (Some whole) to bytes answer g a = answer_of_whole whole bytes to answer g a
+answer_known (Some whole) to bytes answer g a = same_answer bytes whole answer (elim (all_given whole bytes to g) [ inl same ↦ inl (sym same) | inr long ↦ inr (long.1, long.0) ]) a
 
 pub found_whole : (from to : Option (List ℕ)) (entries : List KeytabEntry) → IsFound from to entries → IfSome from (λ whole. IsKeytab whole entries)
 found_whole from to entries f = answer_known from to f.0 (Ok entries) f.1 f.2
@@ -68,7 +57,7 @@ fault_whole from to fault f memory read = let g = f memory read in answer_known 
 -- the one answer for all the bytes
 only_given : (from to : Option (List ℕ)) (bytes whole : List ℕ) (result answer : Result (List KeytabEntry) KeytabFault) → IsGiven from to bytes → IsAnswerOf bytes result → from ≡ Some whole → IsAnswerOf whole answer → result ≡ answer
 only_given from to bytes whole result answer g r known a =
-    same_answers bytes result answer r (answer_of_given whole bytes to answer (subst (λ (o : Option (List ℕ)). IsGiven o to bytes) known g) a)
+    same_answers bytes result answer r (same_answer whole bytes answer (all_given whole bytes to (subst (λ (o : Option (List ℕ)). IsGiven o to bytes) known g)) a)
 
 pub only_found : (from to : Option (List ℕ)) (entries : List KeytabEntry) → IsFound from to entries → (whole : List ℕ) (answer : Result (List KeytabEntry) KeytabFault) → from ≡ Some whole → IsAnswerOf whole answer
     → (result_of (Ok entries) ≡ answer) ⊎ ((result_of (Ok entries) ≡ Err OutOfMemory) ⊎ (result_of (Ok entries) ≡ Err Read))

@@ -1,6 +1,7 @@
 -- Where a reader stands after what it met.
-use Rattle.std.proofs.Common.{◌≡◌, ℕ, pos, ◌+◌, ◌-◌, ◌≤◌, Bool, true, false, List, [], ◌∷◌, ◌++◌, length, take, Option, Some, None, Result, Ok, Err, refl, sym, ap, subst, ◌∙◌, append_assoc, append-nil, arith, inl, inr}
+use Rattle.std.proofs.Common.{◌≡◌, ℕ, pos, ◌+◌, ◌-◌, ◌≤◌, Bool, List, [], ◌∷◌, ◌++◌, length, take, Option, Some, None, Result, Ok, Err, refl, sym, ap, subst, ◌∙◌, append_assoc, append-nil, arith, inl, inr}
 use Rattle.std.specs.Int.{w32}
+use Rattle.std.specs.Option.{is_some}
 use Rattle.std.specs.List.{flat_map}
 use Rattle.std.specs.Io.KnownBytes.{Consumes}
 use Rattle.std.proofs.KnownBytes.{Consumes-nil, Consumes-trans}
@@ -13,16 +14,15 @@ use Rattle.krb_keytab.specs.Entry.{KeytabEntry}
 use Rattle.krb_name.specs.File.{file_limit}
 use Rattle.krb_keytab.specs.Format.{version, KeytabRecord, hole, entry, entry_bytes, record_bytes, FitsRecord, entries_of, IsReached}
 use Rattle.krb_keytab.specs.Items.{LacksVersion, LacksRecord, Stops, StopsSo, IsTooLong, Concludes, AreFirst, EndsWithEntry, StandsTo, IsPartOfRecord, HasMet, HasRead, EntriesRead, passed, stage_after, stage_passed, entries_after, GivesMore}
-use Rattle.krb_keytab.specs.Inner.Entry.{entry_at}
-use Rattle.krb_keytab.specs.Inner.Meeting.{Moves, Peaks, RanOut, OpensAt, MeetsVersion, IsWhole, IsLastAt, IsLongAt, MeetsLast, MeetsOne, PassesHoles, MeetsNext, MeetsPast, MeetsFirst, IsAtHand, IsWithin}
+use Rattle.krb_keytab.specs.Inner.Feed.{nothing_of}
+use Rattle.krb_keytab.specs.Inner.Meeting.{Moves, Peaks, RanOut, OpensAt, MeetsVersion, IsWhole, IsLastAt, IsLongAt, MeetsLast, MeetsOne, PassesHoles, MeetsNext, keeping, MeetsKept, MeetsPast, MeetsFirst, IsWithin}
 use Rattle.krb_keytab.specs.declared.fault.KeytabFault.{KeytabFault}
 use Rattle.krb_keytab.specs.declared.fault.KeytabFault.TheVariants.{Version, Truncated, BadEntry, TooLong, NoSuchEntry, Read, OutOfMemory}
 use Rattle.krb_keytab.specs.declared.found.Found.{Found}
 use Rattle.krb_keytab.specs.declared.found.Found.TheVariants.{End, Hole, Entry}
 use Rattle.krb_keytab.specs.declared.stage.Stage.{Stage}
 use Rattle.krb_keytab.specs.declared.stage.Stage.TheVariants.{Start, Records}
-use Rattle.krb_keytab.proofs.FileLaws.{reach_start, record_first}
-use Rattle.krb_keytab.proofs.ScanLaws.{flat_push}
+use Rattle.krb_keytab.proofs.FileLaws.{reach_start, record_first, flat_push}
 use Rattle.krb_keytab.proofs.MeetLaws.{cut_behind}
 
 -- ---- whole records, and what lies behind them
@@ -188,8 +188,8 @@ moves_on from mid to old between new p q m n = record { consumed = Consumes-tran
 come : {S : Type 0} (from mid : Option (List ℕ)) (old between : AtHand S) (bytes p : List ℕ) → Moves from mid old between p → old.given ≡ length bytes → between.given ≡ length (bytes ++ p)
 come from mid old between bytes p m g = omega (arith, m.given, g, length-append bytes p)
 
-pub passes_hole : {S : Type 0} (from mid to : Option (List ℕ)) (old between new : AtHand S) → PassesHoles from mid old between → MeetsOne mid to between new (Ok Hole) → PassesHoles from to old new
-passes_hole from mid to old between new h m = record {
+pub passes_hole : {S E : Type 0} (of_entry : KeytabEntry → E) (from mid to : Option (List ℕ)) (old between new : AtHand S) → PassesHoles from mid old between → MeetsOne of_entry mid to between new (Ok Hole) → PassesHoles from to old new
+passes_hole of_entry from mid to old between new h m = record {
   piece = h.piece ++ m.piece;
   moves = moves_on from mid to old between new h.piece m.piece h.moves m.moves;
   limit = omega (arith, m.meets.limit, m.moves.given);
@@ -205,11 +205,17 @@ passes_hole from mid to old between new h m = record {
       (met_record (bytes ++ h.piece) m.piece entries between.peak new.peak (h.reaches bytes entries given reached) m.peaks (h.met bytes entries given reached was));
 }
 
-next_by : {S : Type 0} (from mid to : Option (List ℕ)) (old between new : AtHand S) (found : Result (Found Unit) KeytabFault) (answer : Result (Option KeytabEntry) KeytabFault) (P : ℕ → Type 0) → PassesHoles from mid old between → (m : MeetsOne mid to between new found) → P between.given
+abbrev said_of : {E : Type 0} → Result (Option E) KeytabFault → Result (Option E) KeytabFault
+said_of said = said
+
+abbrev told_of : Result Bool KeytabFault → Result Bool KeytabFault
+told_of told = told
+
+next_by : {S E : Type 0} (of_entry : KeytabEntry → E) (from mid to : Option (List ℕ)) (old between new : AtHand S) (found : Result (Found E) KeytabFault) (answer : Result (Option KeytabEntry) KeytabFault) (P : ℕ → Type 0) → PassesHoles from mid old between → (m : MeetsOne of_entry mid to between new found) → P between.given
     → IsWithin (stage_after answer) new.given → GivesMore answer old.given new.given
     → ((some : List ℕ) (entries : List KeytabEntry) → IsReached some (length some) entries [] → length some ≤ file_limit → P (length some) → StandsTo to new.peak (stage_after answer) (some ++ m.piece) (entries_after entries answer))
     → MeetsNext from to old new answer
-next_by from mid to old between new found answer P h m meets within more ends = record {
+next_by of_entry from mid to old between new found answer P h m meets within more ends = record {
   piece = h.piece ++ m.piece;
   moves = moves_on from mid to old between new h.piece m.piece h.moves m.moves;
   grows = omega (arith, h.grows, m.peaks.grows);
@@ -226,60 +232,62 @@ next_by from mid to old between new found answer P h m meets within more ends = 
       (met_record (bytes ++ h.piece) m.piece entries between.peak new.peak (h.reaches bytes entries given reached) m.peaks (h.met bytes entries given reached was));
 }
 
-pub next_end : {S : Type 0} (from mid to : Option (List ℕ)) (old between new : AtHand S) → PassesHoles from mid old between → MeetsOne mid to between new (Ok End) → MeetsNext from to old new (Ok None)
-next_end from mid to old between new h m = next_by from mid to old between new (Ok End) (Ok None) (λ (n : ℕ). MeetsLast to n m.piece None) h m m.meets (m.moves.limit (omega (arith, h.limit))) tt (λ some entries reached limit meets. end_stands some entries reached to new.peak m.piece meets)
-
-pub next_entry : {S : Type 0} (from mid to : Option (List ℕ)) (old between new : AtHand S) → PassesHoles from mid old between → (m : MeetsOne mid to between new (Ok (Entry tt))) → MeetsNext from to old new (Ok (Some m.meets.0))
-next_entry from mid to old between new h m =
-    let e = m.meets.0 in
-    let room : length m.piece ≤ 4 + new.peak = m.meets.2 in
-    let whole : IsWhole between.given m.piece (e ∷ []) = m.meets.3 in
-    next_by from mid to old between new (Ok (Entry tt)) (Ok (Some e)) (λ (n : ℕ). IsWhole n m.piece (e ∷ [])) h m whole (omega (arith, whole.limit, m.moves.given))
-    (omega (arith, m.moves.given, h.moves.given, ap length whole.piece_is, record_first whole.one), omega (arith, whole.limit, m.moves.given)) (λ some entries reached limit meets. entry_stands some entries reached to new.peak m.piece e room meets)
-
-pub next_fault : {S : Type 0} (from mid to : Option (List ℕ)) (old between new : AtHand S) (fault : KeytabFault) → PassesHoles from mid old between → MeetsOne mid to between new (Err fault) → MeetsNext from to old new (Err fault)
-next_fault from mid to old between new fault h m =
-    next_by from mid to old between new (Err fault) (Err fault) (λ (n : ℕ). MeetsLast to n m.piece (Some fault)) h m m.meets (m.moves.limit (omega (arith, h.limit))) tt (λ some entries reached limit meets. failed_stands some entries reached to new.peak m.piece fault limit meets)
-
--- ---- an answer that says of an entry only that it was there
-
-module _ {S : Type 0} (from to : Option (List ℕ)) (old new : AtHand S) where
-  pub past_entry : MeetsPast from to old new (Ok true) → (e : KeytabEntry) × (entry_at new.bytes ≡ Some e) × MeetsNext from to old new (Ok (Some e))
-  past_entry p = by_answer p.answer p.said_is p.at_hand p.meets
-    where
-      by_answer : (answer : Result (Option KeytabEntry) KeytabFault) → Ok true ≡ passed answer → IsAtHand answer new.bytes → MeetsNext from to old new answer → (e : KeytabEntry) × (entry_at new.bytes ≡ Some e) × MeetsNext from to old new (Ok (Some e))
-      by_answer (Ok (Some e)) same at_hand m = (e, at_hand, m)
-      by_answer (Ok None) same at_hand m = absurd cc
-      by_answer (Err fault) same at_hand m = absurd cc
-
-  pub past_end : MeetsPast from to old new (Ok false) → MeetsNext from to old new (Ok None)
-  past_end p = by_answer p.answer p.said_is p.meets
-    where
-      by_answer : (answer : Result (Option KeytabEntry) KeytabFault) → Ok false ≡ passed answer → MeetsNext from to old new answer → MeetsNext from to old new (Ok None)
-      by_answer (Ok (Some e)) same m = absurd cc
-      by_answer (Ok None) same m = m
-      by_answer (Err fault) same m = absurd cc
-
-  pub past_fault : (fault : KeytabFault) → MeetsPast from to old new (Err fault) → MeetsNext from to old new (Err fault)
-  past_fault fault p = by_answer p.answer p.said_is p.meets
-    where
-      by_answer : (answer : Result (Option KeytabEntry) KeytabFault) → Err fault ≡ passed answer → MeetsNext from to old new answer → MeetsNext from to old new (Err fault)
-      by_answer (Ok (Some e)) same m = absurd cc
-      by_answer (Ok None) same m = absurd cc
-      by_answer (Err other) same m = let one : other ≡ fault = cc in subst (λ (f : KeytabFault). MeetsNext from to old new (Err f)) one m
-
-  -- there was no room for the entry
-  pub not_made : (e : KeytabEntry) → MeetsNext from to old new (Ok (Some e)) → MeetsNext from to old new (Err OutOfMemory)
-  not_made e m = record {
-    piece = m.piece;
-    moves = m.moves;
-    grows = m.grows;
-    low = m.low;
-    within = omega (arith, m.within);
-    more = tt;
-    stands = λ bytes entries given limit reached. inr (length bytes, m.piece, reach_piece bytes entries reached m.piece);
-    met = m.met;
+module _ {S E : Type 0} (of_entry : KeytabEntry → E) (from mid to : Option (List ℕ)) (old between new : AtHand S) (h : PassesHoles from mid old between) where
+  pub next_end : MeetsOne of_entry mid to between new (Ok End) → MeetsKept of_entry from to old new (Ok None)
+  next_end m = record {
+    answer = Ok None;
+    said_is = refl;
+    meets = next_by of_entry from mid to old between new (Ok End) (Ok None) (λ (n : ℕ). MeetsLast to n m.piece None) h m m.meets (m.moves.limit (omega (arith, h.limit))) tt (λ some entries reached limit meets. end_stands some entries reached to new.peak m.piece meets);
   }
+
+  pub next_kept : (kept : E) → MeetsOne of_entry mid to between new (Ok (Entry kept)) → MeetsKept of_entry from to old new (Ok (Some kept))
+  next_kept kept m =
+      let e = m.meets.0 in
+      let room : length m.piece ≤ 4 + new.peak = m.meets.2 in
+      let whole : IsWhole between.given m.piece (e ∷ []) = m.meets.3 in
+      record {
+        answer = Ok (Some e);
+        said_is = ap (λ (k : E). said_of (Ok (Some k))) m.meets.1;
+        meets = next_by of_entry from mid to old between new (Ok (Entry kept)) (Ok (Some e)) (λ (n : ℕ). IsWhole n m.piece (e ∷ [])) h m whole (omega (arith, whole.limit, m.moves.given))
+            (omega (arith, m.moves.given, h.moves.given, ap length whole.piece_is, record_first whole.one), omega (arith, whole.limit, m.moves.given)) (λ some entries reached limit meets. entry_stands some entries reached to new.peak m.piece e room meets);
+      }
+
+  pub next_fault : (fault : KeytabFault) → MeetsOne of_entry mid to between new (Err fault) → MeetsKept of_entry from to old new (Err fault)
+  next_fault fault m = record {
+    answer = Err fault;
+    said_is = refl;
+    meets = next_by of_entry from mid to old between new (Err fault) (Err fault) (λ (n : ℕ). MeetsLast to n m.piece (Some fault)) h m m.meets (m.moves.limit (omega (arith, h.limit))) tt (λ some entries reached limit meets. failed_stands some entries reached to new.peak m.piece fault limit meets);
+  }
+
+-- ---- what was kept of an entry
+
+kept_whole : (answer : Result (Option KeytabEntry) KeytabFault) → keeping (λ e. e) answer ≡ answer
+kept_whole (Ok (Some e)) = refl
+kept_whole (Ok None) = refl
+kept_whole (Err fault) = refl
+
+-- the entry itself
+pub next_read : {S : Type 0} (from to : Option (List ℕ)) (old new : AtHand S) (said : Result (Option KeytabEntry) KeytabFault) → MeetsKept (λ e. e) from to old new said → MeetsNext from to old new said
+next_read from to old new said m = subst (MeetsNext from to old new) (sym (m.said_is ∙ kept_whole m.answer)) m.meets
+
+-- that there is one
+pub next_passed : {S : Type 0} (from to : Option (List ℕ)) (old new : AtHand S) (found : Option (Unit {0})) → MeetsKept nothing_of from to old new (Ok found) → MeetsPast from to old new (Ok (is_some found))
+next_passed from to old new found m = record { answer = m.answer; said_is = same found m.answer m.said_is; meets = m.meets }
+  where
+    same : (found : Option (Unit {0})) (answer : Result (Option KeytabEntry) KeytabFault) → Ok found ≡ keeping nothing_of answer → Ok (is_some found) ≡ passed answer
+    same None (Ok None) e = refl
+    same (Some unit) (Ok (Some one)) e = refl
+    same None (Ok (Some one)) e = absurd cc
+    same (Some unit) (Ok None) e = absurd cc
+    same found (Err fault) e = absurd cc
+
+pub passed_fault : {S : Type 0} (from to : Option (List ℕ)) (old new : AtHand S) (fault : KeytabFault) → MeetsKept nothing_of from to old new (Err fault) → MeetsPast from to old new (Err fault)
+passed_fault from to old new fault m = record { answer = m.answer; said_is = same m.answer m.said_is; meets = m.meets }
+  where
+    same : (answer : Result (Option KeytabEntry) KeytabFault) → Err fault ≡ keeping nothing_of answer → Err fault ≡ passed answer
+    same (Ok (Some e)) q = absurd cc
+    same (Ok None) q = absurd cc
+    same (Err other) q = let one : other ≡ fault = cc in ap (λ (f : KeytabFault). told_of (Err f)) (sym one)
 
 -- ---- the first answer
 
@@ -325,9 +333,6 @@ first_fault from to old new fault o start = record {
   stands = version_stands to new.peak o.piece fault o.meets;
   met = λ m. met_version o.piece old.peak new.peak o.peaks m;
 }
-
-pub opened_given : {S : Type 0} (from to : Option (List ℕ)) (old new : AtHand S) (opened : Unit) → OpensAt from to old new (Ok opened) → old.given ≡ 0 → new.given ≡ 2
-opened_given from to old new opened o start = omega (arith, o.moves.given, start, ap length o.meets)
 
 -- ---- what a reader has read
 

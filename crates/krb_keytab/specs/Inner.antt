@@ -1,5 +1,6 @@
 pub mod Components
 pub mod Entry
+pub mod Feed
 pub mod Finding
 pub mod Hash
 pub mod Index
@@ -7,5 +8,4 @@ pub mod Meeting
 pub mod Pick
 pub mod Putting
 pub mod Reading
-pub mod Standing
 pub mod Room

@@ -9,10 +9,10 @@ ghost use Rattle.krb_keytab.specs.declared.fault.KeytabFault.{KeytabFault};
 
 use crate::entry::Entry;
 use crate::fault::KeytabFault;
+use crate::feed::Feed;
+use crate::finding::{next_record, open};
 use crate::found::Found;
 use crate::keytab::fault_of;
-use crate::next::next_record;
-use crate::opening::open;
 use crate::writing::{fill_in, put_record};
 use krb_name::FILE_LIMIT;
 use std::alloc::Global;
@@ -133,15 +133,15 @@ fn find_holes(alloc: Global, bytes: &[u8]) -> Result<(Vec<Hole>, usize), KeytabF
     ensures fault { IfErr result (λ fault.
         fault ≢ KeytabFault.OutOfMemory → IsFaultOf bytes.now fault) }
 {
-    let mut cursor = open(bytes)?;
+    let mut slice = open(bytes)?;
     let mut holes = Vec::new(alloc);
     loop {
-        let from = cursor.at();
-        match next_record(&mut cursor)? {
+        let from = slice.given();
+        match next_record(&mut slice)? {
             Found::End => return Ok((holes, from)),
-            Found::Entry(_) => {}
+            Found::Entry(()) => {}
             Found::Hole => {
-                let size = cursor.at() - from;
+                let size = slice.given() - from;
                 holes.push(Hole { from, size })?;
             }
         }

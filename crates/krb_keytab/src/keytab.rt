@@ -14,14 +14,12 @@ ghost use Rattle.krb_keytab.specs.Written.{written};
 
 use crate::entry::Entry;
 use crate::fault::KeytabFault;
+use crate::feed::{Feed, Slice};
 use crate::finding::find_entry;
-use crate::found::Found;
 use crate::index::{NameIndex, renew};
-use crate::next::next_record;
-use crate::opening::{VERSION, open};
 use crate::pick::{Picked, pick_each, pick_indexed};
 use crate::same_key::{has_key_of, is_indexed_before};
-use crate::step::read_entries;
+use crate::step::{VERSION, read_entries};
 use crate::writing::put_record;
 use krb_name::{FILE_LIMIT, Principal, Source, Window};
 use std::alloc::{AllocError, Global};
@@ -81,7 +79,7 @@ impl Keytab {
         ensures offset { IfErr result (λ fault.
             IfSome (offset_of fault) (λ at. at ≤ length bytes.now)) }
     {
-        match Keytab::of_records(alloc, bytes) {
+        match Keytab::read_from(alloc, &mut Slice::new(bytes)) {
             Ok(keytab) => Ok(keytab),
             Err(_) => Err(fault_of(bytes)),
         }
@@ -110,37 +108,23 @@ impl Keytab {
             ≡ S.failure_count source.old + failed_reads result }
     {
         let mut window = Window::new(alloc, source);
-        let answer = Keytab::read_window(alloc, &mut window);
+        let answer = Keytab::read_from(alloc, &mut window);
         let _source = window.into_source();
         answer
     }
 
-    fn read_window<S: Source>(alloc: Global, window: &mut Window<S>) -> Result<Keytab, KeytabFault>
-        requires reads { S.failure_count window.old.source < 2 ^ 64 - 1 }
-        requires start { window.old.given ≡ 0 }
+    // Reads a keytab to its end.
+    fn read_from<F: Feed>(alloc: Global, feed: &mut F) -> Result<Keytab, KeytabFault>
+        requires reads { F.failure_count feed.old < 2 ^ 64 - 1 }
+        requires start { (F.at_hand feed.old).given ≡ 0 }
         ensures reads { ReadsFile IsAnswerOf KeytabFault.OutOfMemory KeytabFault.Read
-            (S.remaining window.old.source) (S.remaining window.new.source) result }
-        ensures failed { S.failure_count window.new.source
-            ≡ S.failure_count window.old.source + failed_reads result }
-        ensures lent { S.lender window.new.source ≡ S.lender window.old.source }
+            (F.remaining feed.old) (F.remaining feed.new) result }
+        ensures failed { F.failure_count feed.new ≡ F.failure_count feed.old + failed_reads result }
+        ensures lent { F.lender feed.new ≡ F.lender feed.old }
     {
-        match read_entries(alloc, window) {
+        match read_entries(alloc, feed) {
             Ok(entries) => Ok(Keytab::of_entries(alloc, entries)?),
             Err(fault) => Err(fault),
-        }
-    }
-
-    fn of_records(alloc: Global, bytes: &[u8]) -> Result<Keytab, KeytabFault>
-        ensures { IfOk result (λ keytab. IsKeytab bytes.now keytab) }
-    {
-        let mut cursor = open(bytes)?;
-        let mut entries = Vec::new(alloc);
-        loop {
-            match next_record(&mut cursor)? {
-                Found::End => return Ok(Keytab::of_entries(alloc, entries)?),
-                Found::Hole => {}
-                Found::Entry(entry) => entries.push(entry.to_entry(alloc)?)?,
-            }
         }
     }
 
@@ -171,7 +155,7 @@ impl Keytab {
         ensures fault { IfErr result (λ fault. fault ≢ KeytabFault.OutOfMemory
             → (fault ≡ KeytabFault.TooLong) × (file_limit < length (written self.now))) }
     {
-        let mut bytes = Vec::from_slice(alloc, &VERSION.to_be_bytes())?;
+        let mut bytes = Vec::from_slice(alloc, &VERSION)?;
         for entry in self.entries() {
             let at = bytes.len();
             if FILE_LIMIT - at < entry.record_length() {

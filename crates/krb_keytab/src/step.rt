@@ -1,6 +1,6 @@
 //! Reading a keytab record by record, with one record in memory.
 
-ghost use Rattle.std.specs.Prelude.{◌≡◌, ◌+◌, ◌-◌, ◌^◌, ◌<◌, ◌≤◌, pos, int_lt, true, false, FitsSigned, unsigned_abs, length, IfOk, IfErr, OnOk, OnErr, None, Some};
+ghost use Rattle.std.specs.Prelude.{◌≡◌, ◌≢◌, ◌⊎◌, ◌+◌, ◌-◌, ◌^◌, ◌<◌, ◌≤◌, pos, int_lt, true, false, FitsSigned, unsigned_abs, length, IfOk, IfErr, OnErr, MatchOption, None, Some, Err};
 ghost use Rattle.std.specs.Int.{w32};
 ghost use Rattle.krb_name.specs.Cursor.{signed_bytes};
 ghost use Rattle.krb_name.specs.Field.{IsBytes};
@@ -10,142 +10,144 @@ ghost use Rattle.krb_keytab.specs.Items.{LacksVersion};
 ghost use Rattle.krb_keytab.specs.Fault.{failed_reads};
 ghost use Rattle.krb_name.specs.File.{file_limit, TakesFile};
 ghost use Rattle.krb_keytab.specs.Format.{version};
-ghost use Rattle.krb_keytab.specs.Inner.Meeting.{MeetsOne, MeetsSizeAt, MeetsNext, MeetsPast, OpensAt, RunsOutTo, MeetsBody, IsFewAt, IsFound, IsFaulty};
+ghost use Rattle.krb_keytab.specs.Inner.Meeting.{MeetsOne, MeetsSizeAt, MeetsNext, MeetsKept, MeetsPast, OpensAt, RunsOutTo, MeetsBody, IsFewAt, IsFound, IsFaulty};
 
 use crate::entry::Entry;
 use crate::fault::KeytabFault;
-use crate::found::Found;
-use crate::opening::VERSION;
+use crate::feed::Feed;
+use crate::found::{Found, Keep, Nothing};
 use crate::view::EntryView;
-use krb_name::{FILE_LIMIT, FileCursor, Short, Source, SourceFailed, Window};
+use krb_name::{FILE_LIMIT, FileCursor, Short, SourceFailed};
 use std::alloc::{AllocError, Global};
 
-// How many bytes the version and the size of a record have.
-const VERSION_LENGTH: usize = 2;
+/// The version of the format that is read and written. A keytab begins with it.
+pub(crate) const VERSION: [u8; 2] = [0x05, 0x02];
 
+// How many bytes the size of a record has.
 const SIZE_LENGTH: usize = 4;
 
 /// Reads the version of a file.
-pub(crate) fn read_version<S: Source>(window: &mut Window<S>) -> Result<(), KeytabFault>
-    requires reads { S.failure_count window.old.source < 2 ^ 64 - 1 }
-    requires start { window.old.given ≡ 0 }
-    ensures opens { OpensAt (S.remaining window.old.source) (S.remaining window.new.source)
-        window.old window.new result }
-    ensures failed { S.failure_count window.new.source
-        ≡ S.failure_count window.old.source + failed_reads result }
-    ensures lent { S.lender window.new.source ≡ S.lender window.old.source }
+pub(crate) fn read_version<F: Feed>(feed: &mut F) -> Result<(), KeytabFault>
+    requires reads { F.failure_count feed.old < 2 ^ 64 - 1 }
+    requires start { (F.at_hand feed.old).given ≡ 0 }
+    ensures opens { OpensAt (F.remaining feed.old) (F.remaining feed.new)
+        (F.at_hand feed.old) (F.at_hand feed.new) result }
+    ensures memory { result ≡ Err KeytabFault.OutOfMemory → F.allocates }
+    ensures failed { F.failure_count feed.new ≡ F.failure_count feed.old + failed_reads result }
+    ensures lent { F.lender feed.new ≡ F.lender feed.old }
 {
-    window.clear();
-    let whole = window.fill(VERSION_LENGTH)?;
-    if is_version(window.bytes()) {
+    let whole = feed.hold(VERSION.len())?;
+    if is_version(feed.bytes()) {
         Ok(())
     } else if whole {
-        conclude(window, Err(KeytabFault::Version))
+        conclude(feed, Err(KeytabFault::Version))
     } else {
         Err(KeytabFault::Version)
     }
 }
 
 /// Reads a keytab to its end, and returns its entries.
-pub(crate) fn read_entries<S: Source>(
-    alloc: Global,
-    window: &mut Window<S>,
-) -> Result<Vec<Entry>, KeytabFault>
-    requires reads { S.failure_count window.old.source < 2 ^ 64 - 1 }
-    requires start { window.old.given ≡ 0 }
+pub(crate) fn read_entries<F: Feed>(alloc: Global, feed: &mut F) -> Result<Vec<Entry>, KeytabFault>
+    requires reads { F.failure_count feed.old < 2 ^ 64 - 1 }
+    requires start { (F.at_hand feed.old).given ≡ 0 }
     ensures found { IfOk result (λ entries. IsFound
-        (S.remaining window.old.source) (S.remaining window.new.source) entries.items) }
-    ensures fault { IfErr result
-        (IsFaulty (S.remaining window.old.source) (S.remaining window.new.source)) }
-    ensures taken { TakesFile (S.remaining window.old.source) (S.remaining window.new.source) }
-    ensures failed { S.failure_count window.new.source
-        ≡ S.failure_count window.old.source + failed_reads result }
-    ensures lent { S.lender window.new.source ≡ S.lender window.old.source }
+        (F.remaining feed.old) (F.remaining feed.new) entries.items) }
+    ensures fault { IfErr result (IsFaulty (F.remaining feed.old) (F.remaining feed.new)) }
+    ensures taken { TakesFile (F.remaining feed.old) (F.remaining feed.new) }
+    ensures failed { F.failure_count feed.new ≡ F.failure_count feed.old + failed_reads result }
+    ensures lent { F.lender feed.new ≡ F.lender feed.old }
 {
-    read_version(window)?;
+    read_version(feed)?;
     let mut entries = Vec::new(alloc);
-    while let Some(entry) = read_entry(alloc, window)? {
+    while let Some(entry) = read_entry(alloc, feed)? {
         entries.push(entry)?;
     }
     Ok(entries)
 }
 
 /// Reads records up to the next entry and returns it, or none if the records have ended.
-pub(crate) fn read_entry<S: Source>(
-    alloc: Global,
-    window: &mut Window<S>,
-) -> Result<Option<Entry>, KeytabFault>
-    requires reads { S.failure_count window.old.source < 2 ^ 64 - 1 }
-    requires limit { window.old.given ≤ file_limit }
-    ensures meets { MeetsNext (S.remaining window.old.source) (S.remaining window.new.source)
-        window.old window.new result }
-    ensures failed { S.failure_count window.new.source
-        ≡ S.failure_count window.old.source + failed_reads result }
-    ensures lent { S.lender window.new.source ≡ S.lender window.old.source }
+pub(crate) fn read_entry<F: Feed>(alloc: Global, feed: &mut F) -> Result<Option<Entry>, KeytabFault>
+    requires reads { F.failure_count feed.old < 2 ^ 64 - 1 }
+    requires limit { (F.at_hand feed.old).given ≤ file_limit }
+    ensures meets { MeetsNext (F.remaining feed.old) (F.remaining feed.new)
+        (F.at_hand feed.old) (F.at_hand feed.new) result }
+    ensures failed { F.failure_count feed.new ≡ F.failure_count feed.old + failed_reads result }
+    ensures lent { F.lender feed.new ≡ F.lender feed.old }
 {
-    if pass_entry(window)? {
-        Ok(entry_of(alloc, window.bytes())?)
-    } else {
-        Ok(None)
-    }
+    next_entry(feed, &alloc)
 }
 
-/// Reads records up to the next entry, and returns whether there is one. Its bytes after the size
-/// of its record are then buffered. There is none if the records have ended.
-pub(crate) fn pass_entry<S: Source>(window: &mut Window<S>) -> Result<bool, KeytabFault>
-    requires reads { S.failure_count window.old.source < 2 ^ 64 - 1 }
-    requires limit { window.old.given ≤ file_limit }
-    ensures meets { MeetsPast (S.remaining window.old.source) (S.remaining window.new.source)
-        window.old window.new result }
-    ensures failed { S.failure_count window.new.source
-        ≡ S.failure_count window.old.source + failed_reads result }
-    ensures lent { S.lender window.new.source ≡ S.lender window.old.source }
+/// Reads records up to the next entry, and returns whether there is one. There is none if the
+/// records have ended.
+pub(crate) fn pass_entry<F: Feed>(feed: &mut F) -> Result<bool, KeytabFault>
+    requires reads { F.failure_count feed.old < 2 ^ 64 - 1 }
+    requires limit { (F.at_hand feed.old).given ≤ file_limit }
+    ensures meets { MeetsPast (F.remaining feed.old) (F.remaining feed.new)
+        (F.at_hand feed.old) (F.at_hand feed.new) result }
+    ensures failed { F.failure_count feed.new ≡ F.failure_count feed.old + failed_reads result }
+    ensures lent { F.lender feed.new ≡ F.lender feed.old }
+{
+    Ok(next_entry(feed, &Nothing)?.is_some())
+}
+
+// Reads records up to the next entry, and returns what is kept of it, or none if the records have
+// ended.
+fn next_entry<F: Feed, K: Keep>(feed: &mut F, keep: &K) -> Result<Option<K::Kept>, KeytabFault>
+    requires reads { F.failure_count feed.old < 2 ^ 64 - 1 }
+    requires limit { (F.at_hand feed.old).given ≤ file_limit }
+    ensures meets { MeetsKept K.kept_of (F.remaining feed.old)
+        (F.remaining feed.new) (F.at_hand feed.old) (F.at_hand feed.new) result }
+    ensures failed { F.failure_count feed.new ≡ F.failure_count feed.old + failed_reads result }
+    ensures lent { F.lender feed.new ≡ F.lender feed.old }
 {
     loop {
-        match read_record(window)? {
-            Found::End => return Ok(false),
+        match read_record(feed, keep)? {
+            Found::End => return Ok(None),
             Found::Hole => {}
-            Found::Entry(()) => return Ok(true),
+            Found::Entry(kept) => return Ok(Some(kept)),
         }
     }
 }
 
-fn read_record<S: Source>(window: &mut Window<S>) -> Result<Found<()>, KeytabFault>
-    requires reads { S.failure_count window.old.source < 2 ^ 64 - 1 }
-    requires limit { window.old.given ≤ file_limit }
-    ensures meets { MeetsOne (S.remaining window.old.source) (S.remaining window.new.source)
-        window.old window.new result }
-    ensures failed { S.failure_count window.new.source
-        ≡ S.failure_count window.old.source + failed_reads result }
-    ensures lent { S.lender window.new.source ≡ S.lender window.old.source }
+/// Reads the record that begins here, and returns what is kept of an entry.
+pub(crate) fn read_record<F: Feed, K: Keep>(
+    feed: &mut F,
+    keep: &K,
+) -> Result<Found<K::Kept>, KeytabFault>
+    requires reads { F.failure_count feed.old < 2 ^ 64 - 1 }
+    requires limit { (F.at_hand feed.old).given ≤ file_limit }
+    ensures meets { MeetsOne K.kept_of (F.remaining feed.old)
+        (F.remaining feed.new) (F.at_hand feed.old) (F.at_hand feed.new) result }
+    ensures memory { result ≡ Err KeytabFault.OutOfMemory → F.allocates ⊎ K.allocates }
+    ensures failed { F.failure_count feed.new ≡ F.failure_count feed.old + failed_reads result }
+    ensures lent { F.lender feed.new ≡ F.lender feed.old }
 {
-    let at = window.given();
-    match read_size(window)? {
+    let at = feed.given();
+    match read_size(feed)? {
         None => Ok(Found::End),
-        Some(size) if size < 0 => pass_hole(window, at, size),
-        Some(size) => read_body(window, at, size),
+        Some(size) if size < 0 => pass_hole(feed, at, size),
+        Some(size) => read_body(feed, at, size, keep),
     }
 }
 
 // Reads the size of a record; none if the records have ended.
-fn read_size<S: Source>(window: &mut Window<S>) -> Result<Option<i32>, KeytabFault>
-    requires reads { S.failure_count window.old.source < 2 ^ 64 - 1 }
-    requires limit { window.old.given ≤ file_limit }
-    ensures meets { MeetsSizeAt (S.remaining window.old.source) (S.remaining window.new.source)
-        window.old window.new result }
-    ensures failed { S.failure_count window.new.source
-        ≡ S.failure_count window.old.source + failed_reads result }
-    ensures lent { S.lender window.new.source ≡ S.lender window.old.source }
+fn read_size<F: Feed>(feed: &mut F) -> Result<Option<i32>, KeytabFault>
+    requires reads { F.failure_count feed.old < 2 ^ 64 - 1 }
+    requires limit { (F.at_hand feed.old).given ≤ file_limit }
+    ensures meets { MeetsSizeAt (F.remaining feed.old) (F.remaining feed.new)
+        (F.at_hand feed.old) (F.at_hand feed.new) result }
+    ensures memory { result ≡ Err KeytabFault.OutOfMemory → F.allocates }
+    ensures failed { F.failure_count feed.new ≡ F.failure_count feed.old + failed_reads result }
+    ensures lent { F.lender feed.new ≡ F.lender feed.old }
 {
-    let at = window.given();
-    window.clear();
-    let whole = window.fill(SIZE_LENGTH.min(FILE_LIMIT - at))?;
-    let Ok(size) = size_of(window.bytes()) else {
-        let last = last_behind(window.bytes(), at);
-        return if whole { conclude(window, last) } else { last };
+    let at = feed.given();
+    let whole = feed.hold(SIZE_LENGTH.min(FILE_LIMIT - at))?;
+    let Ok(size) = size_of(feed.bytes()) else {
+        let last = last_behind(feed.bytes(), at);
+        return if whole { conclude(feed, last) } else { last };
     };
     if size == 0 {
-        return conclude(window, Ok(None));
+        return conclude(feed, Ok(None));
     }
     Ok(Some(size))
 }
@@ -161,16 +163,13 @@ fn last_behind(few: &[u8], at: usize) -> Result<Option<i32>, KeytabFault>
     }
 }
 
-// Whether the version stands in the first two bytes.
+// Whether these are the bytes of the version.
 fn is_version(bytes: &[u8]) -> bool
     requires { length bytes.now ≤ 2 }
     ensures is { result ≡ true → bytes.now ≡ version }
     ensures other { result ≡ false → LacksVersion bytes.now }
 {
-    match FileCursor::new(bytes).read_u16() {
-        Ok(VERSION) => true,
-        _ => false,
-    }
+    bytes == VERSION.as_slice()
 }
 
 // The size in the first four bytes.
@@ -184,102 +183,89 @@ fn size_of(bytes: &[u8]) -> Result<i32, Short>
 }
 
 // Takes the bytes of a hole, after its size.
-fn pass_hole<S: Source>(
-    window: &mut Window<S>,
-    at: usize,
-    size: i32,
-) -> Result<Found<()>, KeytabFault>
-    requires reads { S.failure_count window.old.source < 2 ^ 64 - 1 }
-    requires limit { window.old.given ≤ file_limit }
-    requires at { window.old.given ≡ at + 4 }
+fn pass_hole<F: Feed, E: Drop>(feed: &mut F, at: usize, size: i32) -> Result<Found<E>, KeytabFault>
+    requires reads { F.failure_count feed.old < 2 ^ 64 - 1 }
+    requires limit { (F.at_hand feed.old).given ≤ file_limit }
+    requires at { (F.at_hand feed.old).given ≡ at + 4 }
     requires fits { FitsSigned w32 size }
     requires hole { int_lt size (pos 0) ≡ true }
-    ensures meets { MeetsBody (S.remaining window.old.source) (S.remaining window.new.source)
-        window.old window.new at size result }
-    ensures kept { window.new.bytes ≡ window.old.bytes }
-    ensures failed { S.failure_count window.new.source
-        ≡ S.failure_count window.old.source + failed_reads result }
-    ensures lent { S.lender window.new.source ≡ S.lender window.old.source }
+    ensures meets { (of_entry : KeytabEntry → E) → MeetsBody of_entry
+        (F.remaining feed.old) (F.remaining feed.new)
+        (F.at_hand feed.old) (F.at_hand feed.new) at size result }
+    ensures kept { (F.at_hand feed.new).bytes ≡ (F.at_hand feed.old).bytes }
+    ensures memory { result ≢ Err KeytabFault.OutOfMemory }
+    ensures failed { F.failure_count feed.new ≡ F.failure_count feed.old + failed_reads result }
+    ensures lent { F.lender feed.new ≡ F.lender feed.old }
 {
     let count = size.unsigned_abs() as usize;
-    if count > FILE_LIMIT - window.given() {
-        return conclude(window, Err(KeytabFault::Truncated { at }));
+    if count > FILE_LIMIT - feed.given() {
+        return conclude(feed, Err(KeytabFault::Truncated { at }));
     }
-    if !window.skip(count)? {
+    if !feed.skip(count)? {
         return Err(KeytabFault::Truncated { at });
     }
     Ok(Found::Hole)
 }
 
 // Reads the bytes of an entry, after their size.
-fn read_body<S: Source>(
-    window: &mut Window<S>,
+fn read_body<F: Feed, K: Keep>(
+    feed: &mut F,
     at: usize,
     size: i32,
-) -> Result<Found<()>, KeytabFault>
-    requires reads { S.failure_count window.old.source < 2 ^ 64 - 1 }
-    requires limit { window.old.given ≤ file_limit }
-    requires at { window.old.given ≡ at + 4 }
+    keep: &K,
+) -> Result<Found<K::Kept>, KeytabFault>
+    requires reads { F.failure_count feed.old < 2 ^ 64 - 1 }
+    requires limit { (F.at_hand feed.old).given ≤ file_limit }
+    requires at { (F.at_hand feed.old).given ≡ at + 4 }
     requires fits { FitsSigned w32 size }
     requires entry { int_lt size (pos 0) ≡ false }
     requires some { 0 < unsigned_abs size }
-    ensures meets { MeetsBody (S.remaining window.old.source) (S.remaining window.new.source)
-        window.old window.new at size result }
-    ensures failed { S.failure_count window.new.source
-        ≡ S.failure_count window.old.source + failed_reads result }
-    ensures lent { S.lender window.new.source ≡ S.lender window.old.source }
+    ensures meets { MeetsBody K.kept_of (F.remaining feed.old)
+        (F.remaining feed.new) (F.at_hand feed.old) (F.at_hand feed.new) at size result }
+    ensures memory { result ≡ Err KeytabFault.OutOfMemory → F.allocates ⊎ K.allocates }
+    ensures failed { F.failure_count feed.new ≡ F.failure_count feed.old + failed_reads result }
+    ensures lent { F.lender feed.new ≡ F.lender feed.old }
 {
     let count = size.unsigned_abs() as usize;
-    if count > FILE_LIMIT - window.given() {
-        return conclude(window, Err(KeytabFault::Truncated { at }));
+    if count > FILE_LIMIT - feed.given() {
+        return conclude(feed, Err(KeytabFault::Truncated { at }));
     }
-    window.clear();
-    if !window.fill(count)? {
+    if !feed.hold(count)? {
         return Err(KeytabFault::Truncated { at });
     }
-    match has_entry(window.bytes()) {
-        Ok(()) => Ok(Found::Entry(())),
-        Err(Short) => conclude(window, Err(KeytabFault::BadEntry { at })),
+    match keep_of(feed.bytes(), keep)? {
+        Some(kept) => Ok(Found::Entry(kept)),
+        None => conclude(feed, Err(KeytabFault::BadEntry { at })),
     }
 }
 
-// Whether an entry is at the front of the bytes of a record.
-fn has_entry(body: &[u8]) -> Result<(), Short>
+// What is kept of the entry at the front of the bytes of a record, if there is one.
+fn keep_of<K: Keep>(body: &[u8], keep: &K) -> Result<Option<K::Kept>, AllocError>
     ensures bytes { IsBytes body.now }
-    ensures found { OnOk result ((entry : KeytabEntry) × (entry_at body.now ≡ Some entry)) }
-    ensures short { OnErr result (entry_at body.now ≡ None) }
-{
-    EntryView::read(body)?;
-    Ok(())
-}
-
-// The entry at the front of the bytes of a record.
-fn entry_of(alloc: Global, body: &[u8]) -> Result<Option<Entry>, AllocError>
-    ensures { IfOk result (λ entry. entry_at body.now ≡ entry) }
+    ensures kept { IfOk result (λ kept. MatchOption kept (entry_at body.now ≡ None) (λ one.
+        (entry : KeytabEntry) × (entry_at body.now ≡ Some entry) × (one ≡ K.kept_of entry))) }
+    ensures memory { OnErr result K.allocates }
 {
     match EntryView::read(body) {
-        Ok(view) => Ok(Some(view.to_entry(alloc)?)),
+        Ok(view) => Ok(Some(keep.keep(&view)?)),
         Err(Short) => Ok(None),
     }
 }
 
 // Answers `last` once the source has run out, and otherwise that there are too many bytes.
-fn conclude<S: Source, T: Drop>(
-    window: &mut Window<S>,
-    last: Result<T, KeytabFault>,
-) -> Result<T, KeytabFault>
-    requires reads { S.failure_count window.old.source < 2 ^ 64 - 1 }
-    requires limit { window.old.given ≤ file_limit }
+fn conclude<F: Feed, T: Drop>(feed: &mut F, last: Result<T, KeytabFault>) -> Result<T, KeytabFault>
+    requires reads { F.failure_count feed.old < 2 ^ 64 - 1 }
+    requires limit { (F.at_hand feed.old).given ≤ file_limit }
     requires last { failed_reads last ≡ 0 }
-    ensures runs_out { RunsOutTo (S.remaining window.old.source) (S.remaining window.new.source)
-        window.old window.new last result }
-    ensures failed { S.failure_count window.new.source
-        ≡ S.failure_count window.old.source + failed_reads result }
-    ensures lent { S.lender window.new.source ≡ S.lender window.old.source }
+    ensures runs_out { RunsOutTo (F.remaining feed.old) (F.remaining feed.new)
+        (F.at_hand feed.old) (F.at_hand feed.new) last result }
+    ensures memory { result ≡ Err KeytabFault.OutOfMemory → last ≡ Err KeytabFault.OutOfMemory }
+    ensures failed { F.failure_count feed.new ≡ F.failure_count feed.old + failed_reads result }
+    ensures lent { F.lender feed.new ≡ F.lender feed.old }
 {
-    match window.run_out(FILE_LIMIT) {
-        Ok(true) => last,
-        Ok(false) => Err(KeytabFault::TooLong),
+    match feed.skip(FILE_LIMIT + 1 - feed.given()) {
+        Ok(false) => last,
+        Ok(true) => Err(KeytabFault::TooLong),
         Err(SourceFailed) => Err(KeytabFault::Read),
     }
 }

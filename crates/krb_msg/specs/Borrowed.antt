@@ -8,9 +8,9 @@ use Rattle.krb_msg.specs.declared.ticket.EncryptedRef.{EncryptedRef}
 use Rattle.krb_msg.specs.declared.ticket.TicketRef.{TicketRef}
 use Rattle.krb_msg.specs.declared.authenticator.AuthenticatorRef.{AuthenticatorRef}
 use Rattle.krb_msg.specs.declared.enc_ticket_ref.EncTicketRef.{EncTicketRef}
-use Rattle.krb_msg.specs.declared.request.ApReqRef.{ApReqRef}
-use Rattle.krb_msg.specs.declared.reply.ApRepRef.{ApRepRef}
-use Rattle.krb_msg.specs.declared.enc_reply.EncApRepRef.{EncApRepRef}
+use Rattle.krb_msg.specs.declared.ap_req.ApReqRef.{ApReqRef}
+use Rattle.krb_msg.specs.declared.ap_rep.ApRepRef.{ApRepRef}
+use Rattle.krb_msg.specs.declared.enc_ap_rep_part.EncApRepRef.{EncApRepRef}
 use Rattle.krb_msg.specs.declared.krb_error_ref.KrbErrorRef.{KrbErrorRef}
 use Rattle.krb_msg.specs.PartsBorrowed.{name_of, typed_of, key_of}
 pub use Rattle.krb_msg.specs.PartsBorrowed.{name_of, typed_of, key_of}

@@ -8,9 +8,9 @@ use Rattle.krb_msg.specs.declared.ticket.Encrypted.{Encrypted}
 use Rattle.krb_msg.specs.declared.ticket.Ticket.{Ticket}
 use Rattle.krb_msg.specs.declared.authenticator.Authenticator.{Authenticator}
 use Rattle.krb_msg.specs.declared.enc_ticket_part.EncTicketPart.{EncTicketPart}
-use Rattle.krb_msg.specs.declared.request.ApReq.{ApReq}
-use Rattle.krb_msg.specs.declared.reply.ApRep.{ApRep}
-use Rattle.krb_msg.specs.declared.enc_reply.EncApRepPart.{EncApRepPart}
+use Rattle.krb_msg.specs.declared.ap_req.ApReq.{ApReq}
+use Rattle.krb_msg.specs.declared.ap_rep.ApRep.{ApRep}
+use Rattle.krb_msg.specs.declared.enc_ap_rep_part.EncApRepPart.{EncApRepPart}
 use Rattle.krb_msg.specs.declared.krb_error.KrbError.{KrbError}
 use Rattle.krb_msg.specs.PartsOwned.{principal_name_of, owned_name_of, owned_typed_of, owned_list_of, owned_key_of}
 pub use Rattle.krb_msg.specs.PartsOwned.{principal_name_of, owned_name_of, owned_typed_of, owned_list_of, owned_key_of}

@@ -36,9 +36,11 @@
 //! ```
 #![tactic(auto)]
 
+mod ap_rep;
+mod ap_req;
 mod authenticator;
 mod bits;
-mod enc_reply;
+mod enc_ap_rep_part;
 mod enc_ticket_part;
 mod enc_ticket_ref;
 pub mod error_code;
@@ -50,8 +52,6 @@ pub mod message_type;
 mod moment;
 mod name;
 mod octets;
-mod reply;
-mod request;
 mod seq_number;
 pub mod tag;
 mod texts;
@@ -59,9 +59,11 @@ mod ticket;
 mod typed;
 pub mod usage;
 
+pub use ap_rep::{ApRep, ApRepRef};
+pub use ap_req::{ApReq, ApReqRef};
 pub use authenticator::{Authenticator, AuthenticatorRef};
 pub use bits::{INVALID, MUTUAL_REQUIRED, TRANSITED_POLICY_CHECKED, USE_SESSION_KEY};
-pub use enc_reply::{EncApRepPart, EncApRepRef};
+pub use enc_ap_rep_part::{EncApRepPart, EncApRepRef};
 pub use enc_ticket_part::EncTicketPart;
 pub use enc_ticket_ref::EncTicketRef;
 pub use key::{KeyRef, RawKey};
@@ -71,8 +73,6 @@ pub use krb_error_ref::KrbErrorRef;
 pub use krb_name::{Bytes, Components, Principal};
 pub use moment::Moment;
 pub use name::{Name, NameRef};
-pub use reply::{ApRep, ApRepRef};
-pub use request::{ApReq, ApReqRef};
 pub use texts::{Texts, TextsIter};
 pub use ticket::{Encrypted, EncryptedRef, Ticket, TicketRef};
 pub use typed::{Typed, TypedIter, TypedListRef, TypedRef};

@@ -36,7 +36,7 @@ impl Skew {
         })
     }
 
-    /// The span in microseconds.
+    /// Returns the span in microseconds.
     pub fn micros(self) -> i64
         ensures value { result ≡ pos self }
         ensures limit { self ≤ 86_400_000_000 }

@@ -19,16 +19,16 @@ macro_rules! with_statuses {
     ($text:literal, $refused:literal) => {
         concat!(
             $text,
-            "\n\nExit status: 0 for success, 1 ",
+            "\n\nExit status: 0 success; 1 ",
             $refused,
-            ", 2 if the command line is wrong, or memory ran out before it was read, 3 if something can't be opened, read or written, or memory ran out"
+            "; 2 the command line is wrong, or memory ran out while it was read; 3 something can't be opened, read or written, or memory ran out"
         )
     };
 }
 
 macro_rules! of_faulty_file {
     ($text:literal) => {
-        with_statuses!($text, "if the file is faulty")
+        with_statuses!($text, "the file is faulty")
     };
 }
 
@@ -150,13 +150,13 @@ static COMMANDS: [Row<'static>; 12] = [
             ),
         ],
         end: with_statuses!(
-            "Prints one line of hexadecimal digits. Use a moment (--time and --usec) at most once for each client and service. With --token gss the request is in a Kerberos token of GSS-API (RFC 4121), and with --token spnego that token is in a negotiation (RFC 4178).",
-            "if the file is faulty, or there is no request"
+            "Prints one line of hexadecimal digits. Never use a moment (--time and --usec) twice for the same client and service. With --token gss the request is in a Kerberos token of GSS-API (RFC 4121), and with --token spnego that token is in a negotiation (RFC 4178).",
+            "the file is faulty, or no request can be built"
         ),
     },
     Row {
         name: "accept",
-        about: "Answers requests: says for each line SECONDS MICROS HEX [CONFOUNDER] of standard input whether a service accepts it",
+        about: "Acts as a service: reads lines SECONDS MICROS HEX [CONFOUNDER] and says for each whether the request is accepted",
         arguments: &[
             Argument("KEYTAB", Operand, "The service's keytab"),
             Argument(
@@ -167,12 +167,12 @@ static COMMANDS: [Row<'static>; 12] = [
             Argument(
                 "started",
                 FreeNumber(253_402_300_799),
-                "When the service was started again, in seconds since 1970-01-01, rounded up. Requests are refused as JustStarted until its clock and the client's are both later than this by more than the skew. Omit it only if no service has used this name and these keys before",
+                "When the service was started again, in seconds since 1970-01-01, rounded up. Requests are refused as JustStarted until its clock and the client's are both later than this by more than the skew. Leave it out only if no service has used this name and these keys before, with this or any other software",
             ),
             Argument(
                 "service",
                 Free,
-                "The name that errors contain. It doesn't affect which requests are accepted",
+                "The service's name for the KRB-ERRORs that answer refused requests; without it, none are printed. It doesn't affect which requests are accepted (see --only)",
             ),
             Argument(
                 "only",
@@ -186,8 +186,8 @@ static COMMANDS: [Row<'static>; 12] = [
             ),
         ],
         end: with_statuses!(
-            "A line of input: the service's clock (seconds since 1970-01-01, and microseconds), the request in hexadecimal (- for no bytes), and a confounder for the reply (32 digits). Its answer:\n  accepted CLIENT ENCTYPE SECONDS MICROS plain|mutual [reply HEX]\n  refused CODE NAME [error HEX]\n  refused none OutOfMemory\n  bad token FAULT at OFFSET (with --tokens)\n  bad line\nEach run remembers only its own requests.",
-            "if the keytab is faulty, or a request, a token or a line is refused"
+            "A line of input: the service's clock (seconds since 1970-01-01, and microseconds), the request in hexadecimal (- for no bytes), and, if you want replies, a confounder (32 hexadecimal digits). Its answer:\n  accepted CLIENT ENCTYPE SECONDS MICROS plain|mutual [reply HEX]\n  refused CODE NAME [error HEX]\n  refused none OutOfMemory\n  bad token FAULT at OFFSET (with --tokens)\n  bad line\nEach run remembers only its own requests.",
+            "the keytab is faulty, a request is refused, or a token or a line is bad"
         ),
     },
     Row {
@@ -202,7 +202,7 @@ static COMMANDS: [Row<'static>; 12] = [
         ],
         end: with_statuses!(
             "The request must have been built with --mutual. Prints one line: agreed CLIENT ENCTYPE [seq N] [subkey ENCTYPE], the encryption types of the session key and of the service's key.",
-            "if the file is faulty, there is no request, or the reply is refused"
+            "the file is faulty, no request can be built, or the reply is refused"
         ),
     },
     Row {
@@ -228,7 +228,7 @@ static COMMANDS: [Row<'static>; 12] = [
         ],
         end: with_statuses!(
             "Prints the entry's line: KVNO ENCTYPE TIMESTAMP PRINCIPAL. If no entry is picked, the fault says why: NoName, NoKey or NoVersion.",
-            "if the file is faulty, or no entry is picked"
+            "the file is faulty, or no entry is picked"
         ),
     },
     Row {
@@ -249,7 +249,7 @@ static COMMANDS: [Row<'static>; 12] = [
         ],
         end: with_statuses!(
             "Prints 'wrote COUNT', the number of bytes. If there is no such entry, the fault is NoSuchEntry.",
-            "if the file is faulty, or has no such entry"
+            "the file is faulty, or has no such entry"
         ),
     },
     Row {
@@ -266,7 +266,7 @@ static COMMANDS: [Row<'static>; 12] = [
         ],
         end: with_statuses!(
             "Prints 'wrote COUNT', the number of bytes. A key of FROM is left out if KEYTAB has its name, encryption type, version number and bytes already.",
-            "if one of the files is faulty"
+            "one of the files is faulty"
         ),
     },
 ];

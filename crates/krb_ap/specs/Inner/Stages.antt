@@ -1,15 +1,19 @@
 -- The words of private contracts: what the stages of a decision say.
 use Rattle.std.specs.Prelude.{◌≡◌, ◌⊎◌, ℕ, ℤ, List, Option, Some}
+use Rattle.std.specs.Option.{option_map}
 use Rattle.krb_name.specs.declared.principal.Principal.{Principal}
 use Rattle.krb_der.specs.Kind.{Kind, ValueOf}
 use Rattle.krb_der.specs.Spells.{IsMessage}
 use Rattle.krb_enc.specs.Key.{KeyValue, UsageKeyValue, profile_of}
 use Rattle.krb_enc.specs.Opens.{Opens}
 use Rattle.krb_msg.specs.Module.{ap_req, encrypted_data, enc_ticket_part, authenticator}
-use Rattle.krb_msg.specs.Fields.{etype_of, kvno_of}
+use Rattle.krb_msg.specs.Borrowed.{key_of}
+use Rattle.krb_msg.specs.Fields.{etype_of, kvno_of, type_of, bytes_of}
+use Rattle.krb_msg.specs.declared.key.KeyRef.{KeyRef}
 use Rattle.krb_keytab.specs.Entry.{KeytabEntry}
 use Rattle.krb_keytab.specs.Pick.{chosen, no_name, no_key, no_version, IsChoice}
 use Rattle.krb_ap.specs.Setup.{Setup, Arrival, arrival}
+use Rattle.krb_ap.specs.Inner.ServiceKeys.{ServiceKeyValue, keys_of}
 use Rattle.krb_ap.specs.Opened.{entry_key, ticket_usage}
 use Rattle.krb_ap.specs.Times.{IsEarly, IsLate, IsPathTrusted, IsDataIgnorable}
 use Rattle.krb_ap.specs.Causes.{Cause}
@@ -34,10 +38,14 @@ pub record IsChosenKey (entries : List KeytabEntry) (name : Principal) (text : V
 abbrev pub ready_key : KeyValue → UsageKeyValue
 ready_key key = record { key = key; usage = ticket_usage }
 
-pub record HoldsChosen (entries : List KeytabEntry) (name : Principal) (text : ValueOf encrypted_data) (held : Option UsageKeyValue) : Type 0 where
+pub record HoldsChosen (entries : List KeytabEntry) (name : Principal) (text : ValueOf encrypted_data) (held : Option ServiceKeyValue) : Type 0 where
   pub key : KeyValue
   pub chosen : IsChosenKey entries name text key
-  pub held_is : held ≡ Some (ready_key key)
+  pub held_is : option_map keys_of held ≡ Some (ready_key key)
+
+-- a message's key
+abbrev pub key_in : KeyRef → KeyValue
+key_in key = record { etype = type_of (key_of key); bytes = bytes_of (key_of key) }
 
 -- what is wanting, as a refusal
 abbrev pub Wants : List KeytabEntry → Principal → ValueOf encrypted_data → Refusal → Type 0

@@ -67,10 +67,6 @@ name_at place = do
   components ← times_at (data_at w32) count.0 realm.1
   Some (record { realm = realm.0; name_type = name_type.0; components = components.0 }, components.1)
 
--- so many bytes, and then so many strings
-abbrev pub strings_at : ℕ → ℕ → Place → Option ((List ℕ × List (List ℕ)) × Place)
-strings_at length count = both_at (bytes_at length) (times_at (data_at w32) count)
-
 abbrev pub flag_of : ℕ → Option Bool
 flag_of number = if number == 0 then Some false else (if number == 1 then Some true else None)
 
@@ -96,9 +92,6 @@ PartsOf Mark =
 
 abbrev pub Parts : Type 0
 Parts = PartsOf Bool
-
-abbrev pub mark_of : PartsOf ℕ → ℕ
-mark_of parts = parts.1.1.1.1.1.1.1.1.1.0
 
 abbrev pub credential_of : Parts → Credential
 credential_of (client, (server, (etype, (second, (key, (authtime, (starttime, (endtime, (renew_till, (is_skey, (ticket_flags, (addresses, (authdata, (ticket, second_ticket)))))))))))))) = record {
@@ -141,10 +134,6 @@ parts_with mark_at layout =
 
 abbrev pub parts_at : Layout → Place → Option (Parts × Place)
 parts_at layout = parts_with flag_at layout
-
--- `is_skey` is any byte
-abbrev pub marked_at : Layout → Place → Option (PartsOf ℕ × Place)
-marked_at layout = parts_with (number_at w8) layout
 
 unfoldable pub credential_at : Layout → Place → Option (Credential × Place)
 credential_at layout place = made_at credential_of (parts_at layout) place

@@ -1,8 +1,8 @@
 -- How far a part of a cache reaches whose bytes come piece by piece: as far as the bytes before say.
-use Rattle.std.specs.Prelude.{◌≡◌, ℕ, ◌+◌, ◌-◌, ◌<◌, ◌≤◌, List, ◌++◌, length, take, drop, Option, Some, None, Result, Ok, Err}
-use Rattle.std.specs.Int.{Width, w8, from_be_bytes}
+use Rattle.std.specs.Prelude.{◌≡◌, ℕ, zero, suc, ◌+◌, ◌-◌, ◌<◌, ◌≤◌, Bool, true, List, ◌++◌, length, take, drop, Option, Some, None, is_some, Result, Ok, Err, if◌then◌else◌}
+use Rattle.std.specs.Int.{Width, w8, w32, from_be_bytes}
 use Rattle.std.specs.Io.KnownBytes.{IsAtEnd}
-use Rattle.krb_name.specs.Cursor.{Place, number_bytes}
+use Rattle.krb_name.specs.Cursor.{Place, ◌>>=◌, bytes_at, number_at, number_bytes}
 use Rattle.krb_name.specs.Window.{AtHand, Keeps}
 use Rattle.krb_name.specs.declared.reading.ReadFault.{ReadFault}
 use Rattle.krb_name.specs.declared.reading.ReadFault.TheVariants as source
@@ -14,7 +14,7 @@ use Rattle.krb_ccache.specs.Value.{FitsCredential}
 use Rattle.krb_name.specs.File.{file_limit}
 use Rattle.krb_ccache.specs.declared.walking.TakeFault.{TakeFault}
 use Rattle.krb_ccache.specs.declared.walking.TakeFault.TheVariants.{End, Long, Read, OutOfMemory}
-use Rattle.krb_ccache.specs.Inner.Reading.{PartsOf, mark_of, marked_at}
+use Rattle.krb_ccache.specs.Inner.Reading.{passing_at, flag_of, parts_with}
 
 -- ---- what is taken
 
@@ -48,51 +48,84 @@ bytes_within hand = Unit {0}
 abbrev pub bytes_lacks : TakeFault → Hand → ℕ → Type 0
 bytes_lacks stop hand count = (left : List ℕ) × (hand.source ≡ Some left) × (length left < count)
 
--- ---- what is read of the bytes that are taken
+-- ---- what is passed over
 
--- they are read as one thing, whatever comes after them
-abbrev pub Reads : {X : Type 0} → (Place → Option (X × Place)) → List ℕ → X → Type 0
-Reads read bytes x = (at : ℕ) (more : List ℕ) → read (record { at = at; rest = bytes ++ more }) ≡ Some (x, record { at = at + length bytes; rest = more })
+-- the place after a part; nothing, if its bytes end before
+abbrev pub Pass : Type 0
+Pass = Place → Option Place
 
--- nothing is read, unless at least so many more come
-abbrev pub NeedsMore : {X : Type 0} → (Place → Option (X × Place)) → List ℕ → ℕ → Type 0
-NeedsMore read bytes count = (at : ℕ) (more : List ℕ) → length more < count → read (record { at = at; rest = bytes ++ more }) ≡ None
+-- what is read doesn't matter
+abbrev pub passed_at : {X : Type 0} → (Place → Option (X × Place)) → Pass
+passed_at read place = read place >>= λ x. Some x.1
 
--- the bytes of a thing were taken
-pub record Walked {X : Type 0} (read : Place → Option (X × Place)) (Within : Hand → Type 0) (old new : Hand) : Type 0 where
-  pub thing : X
+abbrev pub skip_at : ℕ → Pass
+skip_at count = passed_at (bytes_at count)
+
+-- one part and another after it
+abbrev pub and_then : Pass → Pass → Pass
+and_then one other place = one place >>= other
+
+-- nothing more is passed over
+abbrev pub pass_none : Pass
+pass_none place = Some place
+
+-- nor is this, if a test has failed
+abbrev pub pass_if : Bool → Pass
+pass_if passed place = if passed then Some place else None
+
+-- a number, and what it says comes after it
+abbrev pub pass_number : Width → (ℕ → Pass) → Pass
+pass_number w others place = number_at w place >>= λ number. others number.0 number.1
+
+abbrev pub pass_times : ℕ → Pass → Pass
+pass_times zero one = pass_none
+pass_times (suc count) one = and_then one (pass_times count one)
+
+-- after a gap of so many bytes, others after their length
+abbrev pub pass_data : ℕ → Pass
+pass_data gap = and_then (skip_at gap) (pass_number w32 skip_at)
+
+-- a credential, if its `is_skey` passes a test
+abbrev pub pass_credential : Layout → (ℕ → Bool) → Pass
+pass_credential layout test = passed_at (parts_with (passing_at test (number_at w8)) layout)
+
+abbrev pub any : ℕ → Bool
+any number = true
+
+abbrev pub is_flag : ℕ → Bool
+is_flag number = is_some (flag_of number)
+
+-- bytes were taken; what was to be passed over from the first of them on is now what is to be from
+-- there on
+pub record Goes (before after : Pass) (Within : Hand → Type 0) (old new : Hand) : Type 0 where
   pub piece : List ℕ
   pub keeps : Keeps old.source new.source old new piece
   pub within : Within new
-  pub reads : Reads read piece thing
+  pub same : (at : ℕ) (rest : List ℕ) → before (record { at = at; rest = piece ++ rest }) ≡ after (record { at = at + length piece; rest = rest })
 
--- bytes were taken, and so many more, without which nothing is read, can't be
-pub record Stopped {X : Type 0} (read : Place → Option (X × Place)) (Within : Hand → Type 0) (Lacks : TakeFault → Hand → ℕ → Type 0) (old new : Hand) (stop : TakeFault) : Type 0 where
+-- bytes were taken, and so many more, without which nothing is passed over, can't be
+pub record Stops (before : Pass) (Within : Hand → Type 0) (Lacks : TakeFault → Hand → ℕ → Type 0) (old new : Hand) (stop : TakeFault) : Type 0 where
   pub piece : List ℕ
   pub keeps : Keeps old.source new.source old new piece
   pub within : Within new
   pub count : ℕ
   pub some : 0 < count
-  pub needs : NeedsMore read piece count
+  pub none : (at : ℕ) (rest : List ℕ) → length rest < count → before (record { at = at; rest = piece ++ rest }) ≡ None
   pub lacks : Lacks stop new count
 
--- the bytes of a thing were asked for
-abbrev pub IsWalk : {X T : Type 0} → (Place → Option (X × Place)) → (Hand → Type 0) → (TakeFault → Hand → ℕ → Type 0) → Hand → Hand → Result T TakeFault → Type 0
-IsWalk read Within Lacks old new (Ok _) = Walked read Within old new
-IsWalk read Within Lacks old new (Err stop) = Stopped read Within Lacks old new stop
+abbrev pub IsWalk : {T : Type 0} → Pass → (T → Pass) → (Hand → Type 0) → (TakeFault → Hand → ℕ → Type 0) → Hand → Hand → Result T TakeFault → Type 0
+IsWalk before after Within Lacks old new (Ok x) = Goes before (after x) Within old new
+IsWalk before after Within Lacks old new (Err stop) = Stops before Within Lacks old new stop
 
--- the bytes of a credential were taken, of which this is that of its `is_skey`
-pub record WalkedOne (layout : Layout) (Within : Hand → Type 0) (old new : Hand) (mark : ℕ) : Type 0 where
-  pub walked : Walked (marked_at layout) Within old new
-  pub mark_is : mark_of walked.thing ≡ mark
+-- a whole part was asked for
+abbrev pub IsWhole : {T : Type 0} → Pass → (Hand → Type 0) → (TakeFault → Hand → ℕ → Type 0) → Hand → Hand → Result T TakeFault → Type 0
+IsWhole before Within Lacks old new result = IsWalk before (λ x. pass_none) Within Lacks old new result
 
-abbrev pub IsOneWalk : Layout → (Hand → Type 0) → (TakeFault → Hand → ℕ → Type 0) → Hand → Hand → Result ℕ TakeFault → Type 0
-IsOneWalk layout Within Lacks old new (Ok mark) = WalkedOne layout Within old new mark
-IsOneWalk layout Within Lacks old new (Err stop) = Stopped (marked_at layout) Within Lacks old new stop
-
--- these bytes are those of a credential, of which this is that of its `is_skey`
+-- these bytes are those of a credential, if this number is a flag
 abbrev pub IsMarked : Layout → List ℕ → ℕ → Type 0
-IsMarked layout bytes mark = (parts : PartsOf ℕ) × Reads (marked_at layout) bytes parts × (mark_of parts ≡ mark)
+IsMarked layout bytes mark = (at : ℕ) (rest : List ℕ) → pass_credential layout is_flag (record { at = at; rest = bytes ++ rest }) ≡ pass_if (is_flag mark) (record { at = at + length bytes; rest = rest })
+
+-- ---- what is taken at once
 
 -- so many bytes were taken
 pub record Taken (Within : Hand → Type 0) (count : ℕ) (old new : Hand) : Type 0 where

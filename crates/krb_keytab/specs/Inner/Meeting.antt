@@ -7,7 +7,6 @@ use Rattle.krb_name.specs.Window.{AtHand}
 use Rattle.krb_keytab.specs.Entry.{KeytabEntry}
 use Rattle.krb_name.specs.File.{file_limit, IsGiven}
 use Rattle.krb_keytab.specs.Format.{version, KeytabRecord, record_bytes, FitsRecord, entries_of, IsReached, IsKeytab, IsFaultOf}
-use Rattle.krb_keytab.specs.Inner.Entry.{entry_at}
 use Rattle.krb_keytab.specs.Items.{LacksRecord, LacksVersion, IsPartOfRecord, HasMet, StandsTo, passed, stage_after, entries_after, GivesMore}
 use Rattle.krb_keytab.specs.declared.fault.KeytabFault.{KeytabFault}
 use Rattle.krb_keytab.specs.declared.fault.KeytabFault.TheVariants.{Version, Truncated, TooLong, Read, OutOfMemory}
@@ -93,26 +92,24 @@ MeetsLast left at piece (Some Read) = ⊤
 MeetsLast left at piece (Some OutOfMemory) = ⊤
 MeetsLast left at piece last = IsLastAt left at piece last
 
--- a record that begins there; the bytes of an entry, behind its size, are at hand, and the peak counts them
-abbrev pub Meets : Option (List ℕ) → ℕ → List ℕ → ℕ → List ℕ → Result (Found Unit) KeytabFault → Type 0
-Meets left at piece peak at_hand (Ok End) = MeetsLast left at piece None
-Meets left at piece peak at_hand (Ok Hole) = IsWhole at piece []
-Meets left at piece peak at_hand (Ok (Entry unit)) = (e : KeytabEntry) × (entry_at at_hand ≡ Some e) × (length piece ≤ 4 + peak) × IsWhole at piece (e ∷ [])
-Meets left at piece peak at_hand (Err fault) = MeetsLast left at piece (Some fault)
+-- a record that begins there, and what is kept of an entry; the peak counts its bytes, behind its size
+abbrev pub Meets : {E : Type 0} → (KeytabEntry → E) → Option (List ℕ) → ℕ → List ℕ → ℕ → Result (Found E) KeytabFault → Type 0
+Meets of_entry left at piece peak (Ok End) = MeetsLast left at piece None
+Meets of_entry left at piece peak (Ok Hole) = IsWhole at piece []
+Meets of_entry left at piece peak (Ok (Entry kept)) = (e : KeytabEntry) × (kept ≡ of_entry e) × (length piece ≤ 4 + peak) × IsWhole at piece (e ∷ [])
+Meets of_entry left at piece peak (Err fault) = MeetsLast left at piece (Some fault)
 
-pub record MeetsOne {S : Type 0} (from to : Option (List ℕ)) (old new : AtHand S) (answer : Result (Found Unit) KeytabFault) : Type 0 where
+pub record MeetsOne {S E : Type 0} (of_entry : KeytabEntry → E) (from to : Option (List ℕ)) (old new : AtHand S) (answer : Result (Found E) KeytabFault) : Type 0 where
   pub piece : List ℕ
   pub moves : Moves from to old new piece
   pub peaks : Peaks IsPartOfRecord piece old.peak new.peak
-  pub meets : Meets to old.given piece new.peak new.bytes answer
+  pub meets : Meets of_entry to old.given piece new.peak answer
 
 -- ---- its size
 
 -- what is answered where fewer bytes than a size has are left
 abbrev pub IsFewAt : ℕ → List ℕ → Result (Option ℤ) KeytabFault → Type 0
-IsFewAt at few (Ok None) = few ≡ []
-IsFewAt at few (Err (Truncated place)) = (place ≡ at) × (0 < length few)
-IsFewAt at few _ = ⊥
+IsFewAt at few last = ((last ≡ Ok None) × (few ≡ [])) ⊎ ((last ≡ Err (Truncated at)) × (0 < length few))
 
 pub record IsSizeAt (at : ℕ) (piece : List ℕ) (size : ℤ) : Type 0 where
   pub piece_is : piece ≡ signed_bytes w32 size
@@ -138,11 +135,11 @@ abbrev pub kept_of : ℤ → ℕ
 kept_of (pos n) = n
 kept_of (negsuc n) = 0
 
-pub record MeetsBody {S : Type 0} (from to : Option (List ℕ)) (old new : AtHand S) (at : ℕ) (size : ℤ) (answer : Result (Found Unit) KeytabFault) : Type 0 where
+pub record MeetsBody {S E : Type 0} (of_entry : KeytabEntry → E) (from to : Option (List ℕ)) (old new : AtHand S) (at : ℕ) (size : ℤ) (answer : Result (Found E) KeytabFault) : Type 0 where
   pub piece : List ℕ
   pub moves : Moves from to old new piece
   pub peaks : Peaks (λ part. length part ≤ kept_of size) piece old.peak new.peak
-  pub meets : Meets to at (signed_bytes w32 size ++ piece) new.peak new.bytes answer
+  pub meets : Meets of_entry to at (signed_bytes w32 size ++ piece) new.peak answer
 
 -- ---- records up to an entry
 
@@ -165,17 +162,21 @@ pub record MeetsNext {S : Type 0} (from to : Option (List ℕ)) (old new : AtHan
   pub stands : (bytes : List ℕ) (entries : List KeytabEntry) → old.given ≡ length bytes → length bytes ≤ file_limit → IsReached bytes (length bytes) entries [] → StandsTo to new.peak (stage_after answer) (bytes ++ piece) (entries_after entries answer)
   pub met : (bytes : List ℕ) (entries : List KeytabEntry) → old.given ≡ length bytes → IsReached bytes (length bytes) entries [] → HasMet bytes old.peak → HasMet (bytes ++ piece) new.peak
 
--- the bytes of the entry in an answer are at hand
-abbrev pub IsAtHand : Result (Option KeytabEntry) KeytabFault → List ℕ → Type 0
-IsAtHand (Ok (Some e)) at_hand = entry_at at_hand ≡ Some e
-IsAtHand (Ok None) at_hand = ⊤
-IsAtHand (Err fault) at_hand = ⊤
+-- an answer with what is kept of an entry in place of it
+abbrev pub keeping : {E : Type 0} → (KeytabEntry → E) → Result (Option KeytabEntry) KeytabFault → Result (Option E) KeytabFault
+keeping of_entry (Ok (Some e)) = Ok (Some (of_entry e))
+keeping of_entry (Ok None) = Ok None
+keeping of_entry (Err fault) = Err fault
+
+pub record MeetsKept {S E : Type 0} (of_entry : KeytabEntry → E) (from to : Option (List ℕ)) (old new : AtHand S) (said : Result (Option E) KeytabFault) : Type 0 where
+  pub answer : Result (Option KeytabEntry) KeytabFault
+  pub said_is : said ≡ keeping of_entry answer
+  pub meets : MeetsNext from to old new answer
 
 -- it was only said whether there is an entry
 pub record MeetsPast {S : Type 0} (from to : Option (List ℕ)) (old new : AtHand S) (said : Result Bool KeytabFault) : Type 0 where
   pub answer : Result (Option KeytabEntry) KeytabFault
   pub said_is : said ≡ passed answer
-  pub at_hand : IsAtHand answer new.bytes
   pub meets : MeetsNext from to old new answer
 
 -- ---- the version and records up to an entry

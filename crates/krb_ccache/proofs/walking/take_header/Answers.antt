@@ -7,7 +7,7 @@ use Rattle.krb_ccache.proofs.walking.take_header.Goals as goal
 pub returns-clause-walk : goal.returns-clause-walk
 returns-clause-walk g c =
     let hand = g.T.Taker.hand in
-    data_then g.T.Taker.Within g.T.Taker.Lacks w16 (hand c.args.taker.now) (hand c.take_u16.new.taker) (hand c.take.new.self) c.from.result c.take.result c.in_ok-count.ensures.taken (c.from.ensures ∙ c.in_ok-count.ensures.number) c.take.ensures.taken
+    data_then g.T.Taker.Within g.T.Taker.Lacks (hand c.args.taker.now) (hand c.take_u16.new.taker) (hand c.take.new.self) c.from.result c.take.result w16 c.in_ok-count.ensures.taken (c.from.ensures ∙ c.in_ok-count.ensures.number) c.take.ensures.taken
 
 pub returns-in_err-count-clause-walk : goal.returns-in_err-count-clause-walk
 returns-in_err-count-clause-walk g c =

@@ -17,7 +17,7 @@ returns c =
     wrote_same (signed_bytes w32 name.name_type) (ap (signed_bytes w32) (to_z-of_z w32 name.name_type fits)) (wrote c.args.out.now.items (signed_bytes w32 (to_z w32 (of_z w32 name.name_type))) c.write_i32.new.out.items c.in_ok-write_i32.ensures) in
     let count = wrote c.write_i32.new.out.items (number_bytes w32 c.len.result) c.write_u32.new.out.items c.in_ok-write_u32.ensures in
     let counted = wrote_same (number_bytes w32 (length name.components)) (ap (number_bytes w32) c.len.ensures) count in
-    let realm = wrote c.write_u32.new.out.items (data_bytes w32 name.realm) c.write_data.new.out.items c.in_ok-write_data.ensures in
-    on_ok_weaker c.write_components.result (λ e.
-    let components = wrote_same (flat_map (data_bytes w32) name.components) (ap (flat_map (data_bytes w32)) c.as_slice.ensures) (wrote c.write_data.new.out.items (flat_map (data_bytes w32) c.as_slice.result.now) c.write_components.new.out.items e) in
-    (then_wrote first (then_wrote counted (then_wrote realm components))).is) c.write_components.ensures
+    let realm = wrote c.write_u32.new.out.items (data_bytes w32 name.realm) c.write.new.out.items c.in_ok-write.ensures in
+    on_ok_weaker c.write_each.result (λ e.
+    let components = wrote_same (flat_map (data_bytes w32) name.components) (ap (flat_map (data_bytes w32)) c.as_slice.ensures) (wrote c.write.new.out.items (flat_map (data_bytes w32) c.as_slice.result.now) c.write_each.new.out.items e) in
+    (then_wrote first (then_wrote counted (then_wrote realm components))).is) c.write_each.ensures

@@ -1,5 +1,4 @@
 use Rattle.std.specs.List.{flat_map}
-use Rattle.std.proofs.Common.{arith}
 use Rattle.krb_keytab.specs.Format.{entries_of}
 use Rattle.krb_keytab.proofs.EditLaws.{no_fault}
 use Rattle.krb_keytab.proofs.MadeLaws.{made_keytab}
@@ -8,4 +7,4 @@ use Rattle.krb_keytab.proofs.adder.read_room.Goals as goal
 pub returns-in-Ok-clause-faulty : goal.returns-in-Ok-clause-faulty
 returns-in-Ok-clause-faulty c = λ fault f.
     let room = c.in-Ok.ensures.room in
-    absurd (no_fault c.args.bytes.now (flat_map entries_of room.records) fault (λ i. omega (arith, c.type_inv.bytes i)) (made_keytab room.is) f)
+    absurd (no_fault c.args.bytes.now (flat_map entries_of room.records) fault (made_keytab room.is) f)

@@ -8,7 +8,7 @@ use Rattle.krb_keytab.proofs.MeetLaws.{ran, cut_off, hole_whole, count_is, peaks
 use Rattle.krb_keytab.proofs.step.pass_hole.Goals as goal
 
 pub returns-then-count-given-clause-meets : goal.returns-then-count-given-clause-meets
-returns-then-count-given-clause-meets g c =
+returns-then-count-given-clause-meets g c = λ of_entry.
     let ran_out = c.conclude.ensures.runs_out in
     let count = count_is c.args.size _ c.requires.fits c.unsigned_abs-count.ensures.value in
     let word = signed_bytes w32 c.args.size in
@@ -17,14 +17,14 @@ returns-then-count-given-clause-meets g c =
       piece = ran_out.piece;
       moves = ran_out.moves;
       peaks = peaks_kept _ ran_out.piece _ _ (omega arith) ran_out.peak;
-      meets = ran (Meets _ at (word ++ ran_out.piece) _ _) (Err (Truncated at)) c.conclude.result _ at _ word ran_out.piece (Some (Truncated at)) ran_out.ran
+      meets = ran (Meets of_entry _ at (word ++ ran_out.piece) _) (Err (Truncated at)) c.conclude.result _ at _ word ran_out.piece (Some (Truncated at)) ran_out.ran
           (omega (arith, c.requires.at, c.requires.limit)) (omega (arith, ran_out.moves.given, c.requires.at, length-append word ran_out.piece))
           (λ more within. cut_off at c.args.size more c.requires.fits (omega (arith, within, length-append word more, c.if-count-given.true, c.given.ensures, c.requires.at, count)))
           (λ h. h) (λ h. h) tt;
     }
 
 pub returns-clause-meets : goal.returns-clause-meets
-returns-clause-meets g c =
+returns-clause-meets g c = λ of_entry.
     let passes = c.in_ok-skip.ensures.passes in
     let came = rw c.if-not-branch.false at passes.came in
     let count = count_is c.args.size _ c.requires.fits c.unsigned_abs-count.ensures.value in

@@ -12,12 +12,12 @@ returns-in_err-entry-clause-fault g c =
 
 pub loop-entries-preserved : goal.loop-entries-preserved
 loop-entries-preserved g c =
-    let from = g.S.Source.remaining c.args.window.now.source in
-    let mid = g.S.Source.remaining c.loop-entries.window.source in
-    let to = g.S.Source.remaining c.read_entry.new.window.source in
-    let meets = subst (λ (next : Option KeytabEntry). MeetsNext mid to c.loop-entries.window c.read_entry.new.window (Ok next)) c.in-Some.is c.in_ok-entry.ensures.meets in
+    let from = g.F.Feed.remaining c.args.feed.now in
+    let mid = g.F.Feed.remaining c.loop-entries.feed in
+    let to = g.F.Feed.remaining c.read_entry.new.feed in
+    let meets = subst (λ (next : Option KeytabEntry). MeetsNext mid to (g.F.Feed.at_hand c.loop-entries.feed) (g.F.Feed.at_hand c.read_entry.new.feed) (Ok next)) c.in-Some.is c.in_ok-entry.ensures.meets in
     record {
-      taken = entry_taken from mid to c.loop-entries.window c.read_entry.new.window c.loop-entries.entries.items c.push.new.self.items c.in-Some.entry c.loop-entries.invariant.taken c.loop-entries.invariant.limit meets c.in_ok-push.ensures.items;
+      taken = entry_taken from mid to (g.F.Feed.at_hand c.loop-entries.feed) (g.F.Feed.at_hand c.read_entry.new.feed) c.loop-entries.entries.items c.push.new.self.items c.in-Some.entry c.loop-entries.invariant.taken c.loop-entries.invariant.limit meets c.in_ok-push.ensures.items;
       limit = meets.within;
       failures = rw add-zero at c.in_ok-entry.ensures.failed ∙ c.loop-entries.invariant.failures;
       lent = c.in_ok-entry.ensures.lent ∙ c.loop-entries.invariant.lent;
@@ -25,11 +25,11 @@ loop-entries-preserved g c =
 
 pub returns-clause-found : goal.returns-clause-found
 returns-clause-found g c =
-    let from = g.S.Source.remaining c.args.window.now.source in
-    let mid = g.S.Source.remaining c.loop-entries.window.source in
-    let to = g.S.Source.remaining c.read_entry.new.window.source in
-    let meets = subst (λ (next : Option KeytabEntry). MeetsNext mid to c.loop-entries.window c.read_entry.new.window (Ok next)) c.in_default.is c.in_ok-entry.ensures.meets in
-    end_taken from mid to c.loop-entries.window c.read_entry.new.window c.loop-entries.entries.items c.loop-entries.invariant.taken c.loop-entries.invariant.limit meets
+    let from = g.F.Feed.remaining c.args.feed.now in
+    let mid = g.F.Feed.remaining c.loop-entries.feed in
+    let to = g.F.Feed.remaining c.read_entry.new.feed in
+    let meets = subst (λ (next : Option KeytabEntry). MeetsNext mid to (g.F.Feed.at_hand c.loop-entries.feed) (g.F.Feed.at_hand c.read_entry.new.feed) (Ok next)) c.in_default.is c.in_ok-entry.ensures.meets in
+    end_taken from mid to (g.F.Feed.at_hand c.loop-entries.feed) (g.F.Feed.at_hand c.read_entry.new.feed) c.loop-entries.entries.items c.loop-entries.invariant.taken c.loop-entries.invariant.limit meets
 
 pub returns-in_err-read_version-clause-taken : goal.returns-in_err-read_version-clause-taken
 returns-in_err-read_version-clause-taken g c = version_takes _ _ _ _ _ c.in_err-read_version.ensures.opens c.requires.start

@@ -5,11 +5,11 @@ use Rattle.krb_keytab.proofs.step.read_entries.Given as goal
 
 abbrev pub invariant-loop-entries : goal.invariant-loop-entries
 invariant-loop-entries g l = record {
-  taken : HasTaken (g.S.Source.remaining l.fn.window.source) (g.S.Source.remaining l.window.source) l.window.given l.entries.items;
-  limit : l.window.given ≤ file_limit;
-  failures : g.S.Source.failure_count l.window.source ≡ g.S.Source.failure_count l.fn.window.source;
-  lent : g.S.Source.lender l.window.source ≡ g.S.Source.lender l.fn.window.source;
+  taken : HasTaken (g.F.Feed.remaining l.fn.feed) (g.F.Feed.remaining l.feed) (g.F.Feed.at_hand l.feed).given l.entries.items;
+  limit : (g.F.Feed.at_hand l.feed).given ≤ file_limit;
+  failures : g.F.Feed.failure_count l.feed ≡ g.F.Feed.failure_count l.fn.feed;
+  lent : g.F.Feed.lender l.feed ≡ g.F.Feed.lender l.fn.feed;
 }
 
 abbrev pub decreases-loop-entries : goal.decreases-loop-entries
-decreases-loop-entries g l = file_limit - l.window.given
+decreases-loop-entries g l = file_limit - (g.F.Feed.at_hand l.feed).given

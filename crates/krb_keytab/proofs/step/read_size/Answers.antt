@@ -9,14 +9,14 @@ use Rattle.krb_keytab.proofs.step.read_size.Goals as goal
 
 pub returns-then-whole-clause-meets : goal.returns-then-whole-clause-meets
 returns-then-whole-clause-meets g c =
-    let fills = rw c.clear.ensures at c.in_ok-whole.ensures.fills in
+    let fills = c.in_ok-whole.ensures.fills in
     let came = rw c.if-whole.true at fills.came in
     let few_is = c.bytes-in_default.ensures ∙ fills.keeps.bytes in
     let few = subst (λ (n : ℕ). IsFewAt n fills.piece c.last_behind-last.result) c.given-at.ensures (subst (λ (t : List ℕ). IsFewAt c.given-at.result t c.last_behind-last.result) few_is c.last_behind-last.ensures) in
     let short : length fills.piece < 4 = omega (arith, c.in_default.ensures.short, ap length c.bytes.ensures, ap length fills.keeps.bytes) in
     let ran_out = c.conclude.ensures.runs_out in
-    let left = g.S.Source.remaining c.conclude.new.window.source in
-    let full : c.args.window.now.given + length fills.piece ≡ file_limit = omega (arith, came, short, c.min.ensures, c.given-at.ensures, c.requires.limit) in
+    let left = g.F.Feed.remaining c.conclude.new.feed in
+    let full : (g.F.Feed.at_hand c.args.feed.now).given + length fills.piece ≡ file_limit = omega (arith, came, short, c.min.ensures, c.given-at.ensures, c.requires.limit) in
     record {
       piece = fills.piece ++ ran_out.piece;
       moves = record {
@@ -24,19 +24,19 @@ returns-then-whole-clause-meets g c =
         given = omega (arith, fills.keeps.given, ran_out.moves.given, length-append fills.piece ran_out.piece);
         limit = λ l. ran_out.moves.limit (omega (arith, fills.keeps.given, full));
       };
-      peaks = peaks_at _ (fills.piece ++ ran_out.piece) fills.piece ran_out.piece _ _ c.fill.new.self.bytes refl (omega (arith, short)) fills.keeps.bytes (omega (arith, short)) (ran_out.peak ∙ fills.keeps.peak);
-      meets = few_ran left c.args.window.now.given _ fills.piece ran_out.piece c.last_behind-last.result c.conclude.result few ran_out.ran full short
+      peaks = peaks_at _ (fills.piece ++ ran_out.piece) fills.piece ran_out.piece _ _ (g.F.Feed.at_hand c.hold.new.self).bytes refl (omega (arith, short)) fills.keeps.bytes (omega (arith, short)) (ran_out.peak ∙ fills.keeps.peak);
+      meets = few_ran left (g.F.Feed.at_hand c.args.feed.now).given _ fills.piece ran_out.piece c.last_behind-last.result c.conclude.result few ran_out.ran full short
           (omega (arith, fills.keeps.given, ran_out.moves.given, length-append fills.piece ran_out.piece));
     }
 
 pub returns-then-size-eq0-clause-meets : goal.returns-then-size-eq0-clause-meets
 returns-then-size-eq0-clause-meets g c =
-    let fills = rw c.clear.ensures at c.in_ok-whole.ensures.fills in
+    let fills = c.in_ok-whole.ensures.fills in
     let bytes_are = sym fills.keeps.bytes ∙ sym c.bytes.ensures ∙ c.in-Ok.ensures.size.0 in
     let came : length fills.piece ≤ c.min.result = fills_within _ _ _ _ _ _ fills in
     let ran_out = c.conclude-then-size-eq0.ensures.runs_out in
-    let left = g.S.Source.remaining c.conclude-then-size-eq0.new.window.source in
-    let given = c.args.window.now.given in
+    let left = g.F.Feed.remaining c.conclude-then-size-eq0.new.feed in
+    let given = (g.F.Feed.at_hand c.args.feed.now).given in
     let size : length fills.piece ≡ 4 = ap length bytes_are in
     let zero : fills.piece ≡ 0 ∷ 0 ∷ 0 ∷ 0 ∷ [] = bytes_are ∙ ap (λ (n : ℕ). to_be_bytes w32 n) c.if-size-eq0.true in
     record {
@@ -46,7 +46,7 @@ returns-then-size-eq0-clause-meets g c =
         given = omega (arith, fills.keeps.given, ran_out.moves.given, length-append fills.piece ran_out.piece);
         limit = λ l. ran_out.moves.limit (omega (arith, fills.keeps.given, came, c.min.ensures, c.given-at.ensures, c.requires.limit));
       };
-      peaks = peaks_at _ (fills.piece ++ ran_out.piece) fills.piece ran_out.piece _ _ c.fill.new.self.bytes refl (omega (arith, size)) fills.keeps.bytes (omega (arith, size)) (ran_out.peak ∙ fills.keeps.peak);
+      peaks = peaks_at _ (fills.piece ++ ran_out.piece) fills.piece ran_out.piece _ _ (g.F.Feed.at_hand c.hold.new.self).bytes refl (omega (arith, size)) fills.keeps.bytes (omega (arith, size)) (ran_out.peak ∙ fills.keeps.peak);
       meets = ran (MeetsSize left given (fills.piece ++ ran_out.piece)) (Ok None) c.conclude-then-size-eq0.result left given _ fills.piece ran_out.piece None ran_out.ran
           (omega (arith, size, came, c.min.ensures, c.given-at.ensures, c.requires.limit)) (omega (arith, fills.keeps.given, ran_out.moves.given, length-append fills.piece ran_out.piece))
           (λ more within. inr (more, ap (λ (t : List ℕ). t ++ more) zero)) (λ h. h) (λ h. h) tt;

@@ -19,5 +19,5 @@ returns-clause-reads g c =
       | in-Records w ↦
           let past = w.pass_entry-answer.ensures.meets in
           rw (c.after_pass-self-inside.ensures, w.answer-is, w.self-inside-is, ← c.self.view_is)
-          (read_past _ _ _ w.pass_entry-answer.new.window _ past.answer past.said_is (read_next _ _ _ _ _ past.answer w.in-Records.is refl refl past.meets))
+          (read_past _ _ _ w.pass_entry-answer.new.feed _ past.answer past.said_is (read_next _ _ _ _ _ past.answer w.in-Records.is refl refl past.meets))
     ]

@@ -1,0 +1,28 @@
+use Rattle.std.proofs.Common.{◌∙◌, arith, refl}
+use Rattle.std.proofs.lemmas.Result.{err_from_is_err_and}
+use Rattle.krb_ccache.proofs.WalkLaws.{front_none, front_more, front_stops, front_all}
+use Rattle.krb_ccache.proofs.walking.take_many.Goals as goal
+
+pub loop-init : goal.loop-init
+loop-init g c = record {
+  front = front_none g.T.Taker.Within c.args.skip c.args.gap (g.T.Taker.hand c.args.taker.now) c.args.count (rw c.taken-taken.ensures.bytes at c.taken-taken.ensures.held) c.requires.within;
+  small = omega (arith, c.ranges.skip);
+  failures = refl;
+  lent = refl;
+}
+
+pub loop-preserved : goal.loop-preserved
+loop-preserved g c = record {
+  front = front_more g.T.Taker.Within c.args.skip c.args.gap (g.T.Taker.hand c.args.taker.now) (g.T.Taker.hand c.loop.taker) (g.T.Taker.hand c.take_u32.new.taker) c.args.count c.loop.counter c.loop.last c.loop.invariant.front c.loop-test.true c.in_ok-last.last c.in_ok-last.ensures.taken c.in_ok-last.ensures.number;
+  small = omega arith;
+  failures = omega (arith, c.in_ok-last.ensures.failed, c.loop.invariant.failures);
+  lent = c.in_ok-last.ensures.lent ∙ c.loop.invariant.lent;
+}
+
+pub returns-clause-walk : goal.returns-clause-walk
+returns-clause-walk g c = front_all g.T.Taker.Within c.args.skip c.args.gap (g.T.Taker.hand c.args.taker.now) (g.T.Taker.hand c.loop.taker) c.args.count c.loop.counter c.loop.last c.loop.invariant.front c.loop-test.false
+
+pub returns-in_err-last-clause-walk : goal.returns-in_err-last-clause-walk
+returns-in_err-last-clause-walk g c =
+    let p = err_from_is_err_and c.from_residual.result c.from_residual.ensures.1 in
+    rw (p.1, p.2) (front_stops g.T.Taker.Within c.args.skip c.args.gap (g.T.Taker.hand c.args.taker.now) (g.T.Taker.hand c.loop.taker) (g.T.Taker.hand c.take_u32.new.taker) c.args.count c.loop.counter c.loop.last c.loop.invariant.front c.loop-test.true g.T.Taker.Lacks c.in_err-last.field-0.0 c.in_err-last.ensures.taken)
