@@ -729,6 +729,9 @@ fevstunik_answer fevstunik_accepted_new(fevstunik_accepted *accepted);
  * FEVSTUNIK_OK, nothing is kept there. If threads share a service, give each an accepted handle of
  * its own: then reading what was accepted needs no lock.
  *
+ * The service keeps the ticket that it opened last, sealed and opened, with its session key, even
+ * if the request was refused: a later request with the same ticket takes less time.
+ *
  * fevstunik_error builds an error for the client from the answer's code, and needs no lock. The
  * service also keeps the cause of a refusal until the next call of fevstunik_acceptor_accept that
  * returns anything but FEVSTUNIK_EMPTY_HANDLE. fevstunik_acceptor_error builds the error from it.

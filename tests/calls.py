@@ -2,7 +2,7 @@
 
 Each call is made twice in a run, and of each run one call for memory is refused, or one and all after it, until a run meets none
 (tests/refuse.c). The answer is then out of memory and no other, what there was before is as it was, and what follows is answered as if
-the refused call had never been made. (Only a service that has no room to keep a ticket answers as if it had.) And sweeps over sizes, in which nothing is refused and each trial gives what it should.
+the refused call had never been made. And sweeps over sizes, in which nothing is refused and each trial gives what it should.
 
 Each check is a pair: its name, and what is wrong, or None.
 """
@@ -85,16 +85,15 @@ def served(refused):
 
 
 def calls():
-    """The name of each call, how many of its steps may be refused memory, what it prints where these are, and how many tickets its services
-    keep."""
+    """The name of each call, how many of its steps may be refused memory, and what it prints where these are."""
     sealed = sealing.sealed(19, KEY, 2, CONFOUNDER, PLAIN)
-    yield "seal", *twice(f"sealed {sealed.hex()}"), 0
-    yield "open", *twice(f"opened {PLAIN.hex()}"), 0
-    yield "append", 2, appended, 0
-    yield "finish", *twice(f"agreed alice@EX {KEY.hex()} 9"), 1
-    yield "serve", 8, served, 2
-    yield "accept-list", 2, accepted, 1
-    yield "accept-timed", 2, accepted, 1
+    yield "seal", *twice(f"sealed {sealed.hex()}")
+    yield "open", *twice(f"opened {PLAIN.hex()}")
+    yield "append", 2, appended
+    yield "finish", *twice(f"agreed alice@EX {KEY.hex()} 9")
+    yield "serve", 8, served
+    yield "accept-list", 2, accepted
+    yield "accept-timed", 2, accepted
 
 
 def run(room, words, **more):
@@ -115,7 +114,7 @@ def refused_steps(steps, lines_of, status, lines, lasting):
     return set() if status == 2 and lines == lines_of(set())[: len(lines)] else None
 
 
-def swept(room, preloaded, name, steps, lines_of, kept, lasting):
+def swept(room, preloaded, name, steps, lines_of, lasting):
     """What is wrong with a run in which memory is refused, or None."""
     met, passed_over = set(), 0
     for number in range(1, ALL):
@@ -127,7 +126,7 @@ def swept(room, preloaded, name, steps, lines_of, kept, lasting):
             well = status == 0 and lines == lines_of(set())
             lacking = set() if lasting else set(range(steps)) - met
             return None if well and not lacking else f"steps {lacking} are refused by no run, and with {number} calls granted: {status} {lines}"
-        if (kept or not met) and passed_over < PASSED_OVER + kept and (status, lines) == (0, lines_of(set())):
+        if not met and passed_over < PASSED_OVER and (status, lines) == (0, lines_of(set())):
             passed_over += 1
             continue
         refused = refused_steps(steps, lines_of, status, lines, lasting)
@@ -147,9 +146,9 @@ def checks(_):
             for name, wanted in SWEEPS.items():
                 found = run(room, ["sweep", name])
                 yield f"calls of many sizes: {name}", None if found == (0, wanted) else str(found)
-            for name, steps, lines_of, kept in calls():
+            for name, steps, lines_of in calls():
                 for lasting in (False, True):
                     title = f"calls refused memory: {name}{', and all after it' if lasting else ''}"
-                    yield title, swept(room, preloaded, name, steps, lines_of, kept, lasting)
+                    yield title, swept(room, preloaded, name, steps, lines_of, lasting)
         except (OSError, subprocess.SubprocessError) as error:
             yield "calls of the library", str(error)

@@ -2,7 +2,7 @@
 
 Of each command every call is refused in turn, alone and with all that come after it, until a run meets no refusal. Such a run ends by
 itself, says that there was no memory, and writes nothing that is wrong. (Only std's `collect` passes over a refusal: where room for
-all words at once is refused, it asks again as it goes. And accept answers the same if it has no room to keep a ticket.) Where accept answers a line with out of memory, its later answers are those
+all words at once is refused, it asks again as it goes.) Where accept answers a line with out of memory, its later answers are those
 of a service that never got that line; and where it has no room for a reply or an error, the answer ends without it.
 
 Each check is a pair: its name, and what is wrong, or None.
@@ -99,7 +99,7 @@ def unmet(command, ends):
 
 def swept(program, command, last, preloaded, lasting):
     """What is wrong with a run in which a call is refused, or None where each such run is right, up to the last stage."""
-    stage = passed_over = unkept = 0
+    stage = passed_over = 0
     ends = set()
     for refused in range(1, ALL):
         more = {"REFUSE_FIRST": str(refused), "REFUSE_LAST": str(ALL if lasting else refused)}
@@ -111,9 +111,6 @@ def swept(program, command, last, preloaded, lasting):
         ends.add(end_of(command, found))
         if well and not lasting and stage == 0 and passed_over < PASSED_OVER:
             passed_over += 1
-            continue
-        if well and not lasting and stage == 2 and unkept < command.stdin.count(b"\n"):
-            unkept += 1
             continue
         at = stage_of(program, command, found)
         if at is None or at < stage:

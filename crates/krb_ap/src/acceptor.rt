@@ -32,9 +32,9 @@ use std::marker::Model;
 ///
 /// It caches the keys that it derived from the service key and from the session key that it used
 /// last, and the ticket that it opened last, with its plain text. So the next request with the same
-/// ticket costs no derivation, and only its authenticator is opened. If there is no memory to cache
-/// a ticket, it is opened again. A contract sees the entries, the skew and the start, by which the
-/// service decides, and the memory. No answer depends on what is cached.
+/// ticket costs no derivation, and only its authenticator is opened. A contract sees the entries,
+/// the skew and the start, by which the service decides, and the memory. Memory aside, no answer
+/// depends on what is cached.
 #[derive(Drop)]
 pub struct Acceptor<M> {
     pub(crate) keytab: Keytab,

@@ -20,7 +20,7 @@ use std::marker::Model;
 #[derive(Drop)]
 pub(crate) struct ServiceKey {
     keys: UsageKey,
-    // The sealed ticket, unless none was opened, or there was no memory to keep it.
+    // The sealed ticket, unless none was opened.
     ticket: Option<Vec<u8>>,
     // What it opened to.
     plain: Vec<u8>,
@@ -71,9 +71,10 @@ impl ServiceKey {
         if self.has_opened(cipher) {
             return Ok(());
         }
-        self.plain = open_under(alloc, &self.keys, cipher, Refusal::TicketIntegrity)?;
-        // If there is no memory to keep the ticket, it is opened again the next time.
-        self.ticket = cipher.to_vec(alloc).ok();
+        let plain = open_under(alloc, &self.keys, cipher, Refusal::TicketIntegrity)?;
+        let ticket = cipher.to_vec(alloc)?;
+        self.plain = plain;
+        self.ticket = Some(ticket);
         Ok(())
     }
 

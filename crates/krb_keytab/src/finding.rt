@@ -11,6 +11,7 @@ use crate::fault::KeytabFault;
 use crate::feed::{Feed, Slice};
 use crate::found::{Found, Nothing};
 use crate::step::{read_record, read_version};
+use krb_name::FILE_LIMIT;
 
 /// Where a record lies in a file: the offset of its size, and the offset after its last byte.
 #[derive(Drop)]
@@ -37,6 +38,9 @@ pub(crate) fn open<'a>(bytes: &'a [u8]) -> Result<Slice<'a>, KeytabFault>
     ensures rest { IfOk result (λ slice. bytes.now ≡ version ++ slice.source) }
     ensures fault { IfErr result (λ fault. IsFaultOf bytes.now fault) }
 {
+    if bytes.len() > FILE_LIMIT {
+        return Err(KeytabFault::TooLong);
+    }
     let mut slice = Slice::new(bytes);
     read_version(&mut slice)?;
     Ok(slice)

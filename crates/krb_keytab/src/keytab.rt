@@ -79,6 +79,9 @@ impl Keytab {
         ensures offset { IfErr result (λ fault.
             IfSome (offset_of fault) (λ at. at ≤ length bytes.now)) }
     {
+        if bytes.len() > FILE_LIMIT {
+            return Err(KeytabFault::TooLong);
+        }
         match Keytab::read_from(alloc, &mut Slice::new(bytes)) {
             Ok(keytab) => Ok(keytab),
             Err(_) => Err(fault_of(bytes)),

@@ -10,39 +10,52 @@ use krb_ccache::CacheFault;
 use krb_keytab::KeytabFault;
 use krb_name::{SinkFailed, SourceFailed, TextFault};
 use std::alloc::AllocError;
+use thiserror::Error;
 
 /// Why an engine ended early.
-#[derive(Clone, Copy)]
+#[derive(Clone, Copy, Debug, PartialEq, Eq, Error)]
 pub enum EngineFault {
     /// The keytab couldn't be read, memory ran out for it, what was read isn't a keytab, or what is to
     /// be written of it would be too long.
+    #[error("{0}")]
     Keytab(KeytabFault),
     /// The keytab whose keys are added couldn't be read, or isn't one, or memory ran out for it.
+    #[error("{0}")]
     Added(KeytabFault),
     /// The credential cache couldn't be read, memory ran out for it, or what was read isn't one.
+    #[error("{0}")]
     Cache(CacheFault),
     /// No request is built with the credential cache, or memory ran out for it.
+    #[error("{0}")]
     Request(RequestFault),
     /// No entry of the keytab is picked.
+    #[error("{0}")]
     Pick(PickFault),
     /// The reply is refused, or there was no room for it.
+    #[error("{0}")]
     Finish(FinishFault),
     /// The lines of an input couldn't be read, or there were more of them than is taken.
+    #[error("the input could not be read")]
     Input,
     /// The sink couldn't be written.
+    #[error("the output could not be written")]
     Write,
     /// There was no room, other than for the keytab, the credential cache, the request or the reply.
+    #[error("out of memory")]
     OutOfMemory,
 }
 
 /// Why no entry of a keytab is picked: the first that holds.
-#[derive(Clone, Copy)]
+#[derive(Clone, Copy, Debug, PartialEq, Eq, Error)]
 pub enum PickFault {
     /// No entry has the name.
+    #[error("no entry has the name")]
     NoName,
     /// No entry of that name has the encryption type, and a key that is usable with it.
+    #[error("no entry of the name has a usable key of the encryption type")]
     NoKey,
     /// None of these entries has the version number.
+    #[error("no such key has the version number")]
     NoVersion,
 }
 

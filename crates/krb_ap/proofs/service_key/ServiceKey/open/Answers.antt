@@ -6,8 +6,8 @@ use Rattle.krb_ap.specs.Inner.Stages.{IsShut}
 use Rattle.krb_ap.specs.declared.refusal.Refusal.TheVariants.{OutOfMemory}
 use Rattle.krb_ap.proofs.service_key.ServiceKey.open.Goals as goal
 
-pub returns-in_err-self-inside-clause-nothing : goal.returns-in_err-self-inside-clause-nothing
-returns-in_err-self-inside-clause-nothing c =
+pub returns-in_err-plain-clause-nothing : goal.returns-in_err-plain-clause-nothing
+returns-in_err-plain-clause-nothing c =
     let p = err_from_is_err_and c.from_residual.result c.from_residual.ensures.1 in
-    rw (p.1, p.2) (subst (λ (k : ServiceKeyValue). c.in_err-self-inside.field-0.0 ≢ OutOfMemory → IsShut k.keys.key k.keys.usage c.args.cipher.now)
-    c.self.view_is c.in_err-self-inside.ensures.nothing)
+    rw (p.1, p.2) (subst (λ (k : ServiceKeyValue). c.in_err-plain.field-0.0 ≢ OutOfMemory → IsShut k.keys.key k.keys.usage c.args.cipher.now)
+    c.self.view_is c.in_err-plain.ensures.nothing)
