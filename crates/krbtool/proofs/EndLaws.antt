@@ -1,16 +1,16 @@
 -- How `accept` ends.
-use Rattle.std.proofs.Common.{◌≡◌, inl, inr, ℕ, ℤ, max, List, [], ◌∷◌, ◌++◌, Option, Some, None, length, ap, sym, refl, ◌∙◌, subst, append_assoc, append-nil, arith, ◌<◌}
-use Rattle.std.specs.Io.KnownBytes.{Appends, Consumes, IsAtEnd}
-use Rattle.std.proofs.KnownBytes.{Appends-nil, Appends-trans, Appends-kept}
+use Rattle.std.proofs.Common.{◌≡◌, inl, inr, ℕ, ℤ, List, [], ◌∷◌, ◌++◌, Option, Some, None, length, ap, sym, refl, ◌∙◌, subst, append_assoc, append-nil, arith, ◌<◌}
+use Rattle.std.specs.Io.KnownBytes.{Consumes, IsAtEnd}
+use Rattle.std.proofs.KnownBytes.{Appends-nil}
 use Rattle.krbtool.specs.declared.accept.AnswerOptions.{AnswerOptions}
-use Rattle.krbtool.specs.declared.answering.LineOutcome.{LineOutcome}
+use Rattle.krbtool.specs.declared.accept.Session.{Session}
 use Rattle.krb_replay.specs.Stamp.{Stamp}
 use Rattle.krb_ap.specs.Setup.{Setup, Arrival}
 use Rattle.krb_ap.specs.History.{StandsFor}
-use Rattle.krbtool.specs.Answering.{AnswersAll, AnswersBeginning, AnswersWhole, BecomeInTurn, HasLines, answer_line, answer_lines, input_limit, last_line}
-use Rattle.krbtool.specs.Inner.Going.{Answered, Begun, ReachedEnd, ReachedInput, ReachedStop, Untouched}
-use Rattle.krbtool.specs.declared.part_line.PartLine.{PartLine}
-use Rattle.krbtool.proofs.GoingLaws.{all_begun, one_begun, become_push, flat_map-push, no_lines, status_push}
+use Rattle.krb_ap.specs.Service.{Service}
+use Rattle.krbtool.specs.Answering.{AnswersAll, AnswersBeginning, AnswersWhole, BecomeInTurn, HasLines, input_limit, last_line}
+use Rattle.krbtool.specs.Inner.Going.{Answered, Begun, ReachedEnd, ReachedInput, ReachedStop, Start, Stays}
+use Rattle.krbtool.proofs.GoingLaws.{all_begun, become_on, begun_on, no_lines, printed_on, status_on}
 
 -- ---- what a source gave
 
@@ -42,66 +42,67 @@ one_last : (lines : List (List ℕ)) (rest : List ℕ) → (rest ≡ [] → ⊥)
 one_last lines [] some = absurd (some refl)
 one_last lines (byte ∷ rest) some = refl
 
-module _ (options : AnswerOptions) (from to : Option (List ℕ)) (part : PartLine) (here setup : Setup) (history : List Arrival) (status : ℕ)
-    (Old New : Option (List ℕ)) (Has : Stamp → Type 0) (latest : Option ℤ) (input : List ℕ) (tells : from ≡ Some input)
-    (ended : ReachedEnd options from to part here setup history status Old New Has latest) where
-  whole : input ≡ ended.reached.came
-  whole = all_by input ended.reached.came from to tells ended.reached.consumed ended.end
+-- the same, as it was at first
+stands_by : {here setup : Setup} {Has : Stamp → Type 0} {latest : Option ℤ} {history : List Arrival} → here ≡ setup → StandsFor here Has latest history
+    → StandsFor setup Has latest history
+stands_by {Has = Has} {latest = latest} {history = history} is stands = subst (λ (s : Setup). StandsFor s Has latest history) is stands
 
-  input_parts : HasLines input ended.reached.going.lines ended.reached.going.rest
-  input_parts = subst (λ (i : List ℕ). HasLines i ended.reached.going.lines ended.reached.going.rest) (sym whole) ended.reached.going.parts
+module _ {M : Type 0} {has : M → Stamp → Type 0} {newest : M → Option ℤ} {start : Start} {from to : Option (List ℕ)} {session : Session}
+    {service : Service M} {taken : Option (List ℕ)} {input : List ℕ} (tells : from ≡ Some input) where
+  -- ---- at the end of the source
 
-  input_below : length input < input_limit
-  input_below = omega (arith, ap (λ (i : List ℕ). length i) whole, ended.reached.counted, ended.limit)
+  module _ (ended : ReachedEnd has newest start from to session service taken) where
+    input_parts : HasLines input ended.reached.going.lines ended.reached.going.rest
+    input_parts = subst (λ (i : List ℕ). HasLines i ended.reached.going.lines ended.reached.going.rest)
+        (sym (all_by input ended.reached.came from to tells ended.reached.consumed ended.end)) ended.reached.going.parts
 
-  -- there is no last line
-  pub all_answered : ended.reached.going.rest ≡ [] → AnswersAll options setup history input status Old New Has latest
-  all_answered none = record {
-    lines = ended.reached.going.lines;
-    rest = ended.reached.going.rest;
-    outcomes = ended.reached.going.outcomes;
-    end = ended.reached.going.end;
-    parts = input_parts;
-    become = subst (λ (l : List (List ℕ)). BecomeInTurn options setup history l ended.reached.going.outcomes ended.reached.going.end)
-        (sym (no_last ended.reached.going.lines ended.reached.going.rest none)) ended.reached.going.become;
-    printed = ended.reached.going.printed;
-    status_is = ended.reached.going.status_is;
-    limit = input_below;
-    stands = ended.reached.going.stands;
-  }
+    input_below : length input < input_limit
+    input_below = omega (arith, ap (λ (i : List ℕ). length i) (all_by input ended.reached.came from to tells ended.reached.consumed ended.end), ended.reached.counted, ended.limit)
 
-  module _ (there : Setup) (Last : Option (List ℕ)) (Later : Stamp → Type 0) (later : Option ℤ) where
-    turn : (outcome : LineOutcome) (end : List Arrival) → (ended.reached.going.rest ≡ [] → ⊥)
-        → BecomeInTurn options setup history (ended.reached.going.lines ++ ended.reached.going.rest ∷ []) (ended.reached.going.outcomes ++ outcome ∷ []) end
-        → BecomeInTurn options setup history (ended.reached.going.lines ++ last_line ended.reached.going.rest) (ended.reached.going.outcomes ++ outcome ∷ []) end
-    turn outcome end some one = subst (λ (l : List (List ℕ)). BecomeInTurn options setup history l (ended.reached.going.outcomes ++ outcome ∷ []) end)
-        (sym (one_last ended.reached.going.lines ended.reached.going.rest some)) one
+    -- there is no last line
+    pub all_answered : ended.reached.going.rest ≡ [] → AnswersAll start.options start.setup start.history input session.status start.taken taken
+        (has service.memory) (newest service.memory)
+    all_answered none = record {
+      lines = ended.reached.going.lines;
+      rest = ended.reached.going.rest;
+      outcomes = ended.reached.going.outcomes;
+      end = ended.reached.going.end;
+      parts = input_parts;
+      become = subst (λ (l : List (List ℕ)). BecomeInTurn start.options start.setup start.history l ended.reached.going.outcomes ended.reached.going.end)
+          (sym (no_last ended.reached.going.lines ended.reached.going.rest none)) ended.reached.going.become;
+      printed = ended.reached.going.printed;
+      status_is = ended.reached.going.status_is;
+      limit = input_below;
+      stands = stands_by ended.reached.going.setup_is ended.reached.going.stands;
+    }
 
     -- the last line was answered
-    pub last_answered : (more : ℕ) → (ended.reached.going.rest ≡ [] → ⊥)
-        → Answered options there setup ended.reached.going.end ended.reached.going.rest more New Last Later later
-        → AnswersAll options setup history input (max status more) Old Last Later later
-    last_answered more some one = record {
+    pub last_answered : {new : Session} {next : Service M} {last : Option (List ℕ)} → (ended.reached.going.rest ≡ [] → ⊥) → Stays session new service next
+        → Answered has newest session new service next ended.reached.going.end ended.reached.going.rest taken last
+        → AnswersAll start.options start.setup start.history input new.status start.taken last (has next.memory) (newest next.memory)
+    last_answered {last = last} some stays one = record {
       lines = ended.reached.going.lines;
       rest = ended.reached.going.rest;
       outcomes = ended.reached.going.outcomes ++ one.outcome ∷ [];
       end = one.of_line.end;
       parts = input_parts;
-      become = turn one.outcome one.of_line.end some (become_push options setup history ended.reached.going.end one.of_line.end ended.reached.going.lines
-          ended.reached.going.outcomes ended.reached.going.rest one.outcome ended.reached.going.become one.of_line.becomes);
-      printed = subst (Appends Old Last) (sym (flat_map-push answer_line ended.reached.going.outcomes one.outcome))
-          (Appends-trans Old New Last (answer_lines ended.reached.going.outcomes) (answer_line one.outcome) ended.reached.going.printed one.printed);
-      status_is = omega (arith, ended.reached.going.status_is, one.status_is, status_push ended.reached.going.outcomes one.outcome);
+      become = subst (λ (l : List (List ℕ)). BecomeInTurn start.options start.setup start.history l (ended.reached.going.outcomes ++ one.outcome ∷ []) one.of_line.end)
+          (sym (one_last ended.reached.going.lines ended.reached.going.rest some))
+          (become_on ended.reached.going (ended.reached.going.rest ∷ []) (one.outcome ∷ []) one.of_line.end (one.of_line.end, (one.of_line.becomes, refl)));
+      printed = printed_on ended.reached.going last one.outcome one.printed;
+      status_is = status_on ended.reached.going one.outcome one.status_is;
       limit = input_below;
-      stands = one.of_line.stands;
+      stands = stands_by (stays.setup ∙ ended.reached.going.setup_is) one.of_line.stands;
     }
 
-    -- it was not reached
-    pub last_untouched : Untouched there setup ended.reached.going.end New Last Later later → AnswersBeginning options setup history input Old Last Later later
-    last_untouched untouched = record {
-      taken = ended.reached.going.lines;
-      outcomes = ended.reached.going.outcomes;
-      end = ended.reached.going.end;
+    -- it wasn't, or not whole
+    pub last_begun : {new : Session} {next : Service M} {last : Option (List ℕ)} → (ended.reached.going.rest ≡ [] → ⊥) → Stays session new service next
+        → Begun has newest session.options service next ended.reached.going.end ended.reached.going.rest taken last
+        → AnswersBeginning start.options start.setup start.history input start.taken last (has next.memory) (newest next.memory)
+    last_begun some stays begun = record {
+      taken = ended.reached.going.lines ++ begun.lines;
+      outcomes = ended.reached.going.outcomes ++ begun.outcomes;
+      end = begun.end;
       takes = record {
         came = input;
         left = [];
@@ -109,64 +110,43 @@ module _ (options : AnswerOptions) (from to : Option (List ℕ)) (part : PartLin
         rest = ended.reached.going.rest;
         input_is = sym (append-nil input);
         parts = input_parts;
-        taken_are = inl refl;
+        taken_are = elim begun.lines_are [
+          | inl none ↦ inl (ap (λ (l : List (List ℕ)). ended.reached.going.lines ++ l) none ∙ append-nil ended.reached.going.lines)
+          | inr one ↦ inr (refl, ap (λ (l : List (List ℕ)). ended.reached.going.lines ++ l) one ∙ sym (one_last ended.reached.going.lines ended.reached.going.rest some))
+        ];
       };
-      become = ended.reached.going.become;
-      printed = all_begun Old Last ended.reached.going.outcomes
-          (Appends-kept Old New Last (answer_lines ended.reached.going.outcomes) ended.reached.going.printed untouched.kept);
-      stands = untouched.stands;
+      become = become_on ended.reached.going begun.lines begun.outcomes begun.end begun.become;
+      printed = begun_on ended.reached.going begun.outcomes begun.printed;
+      stands = stands_by (stays.setup ∙ ended.reached.going.setup_is) begun.stands;
     }
 
-    -- its answer was begun
-    pub last_begun : (ended.reached.going.rest ≡ [] → ⊥) → Begun options there setup ended.reached.going.end ended.reached.going.rest New Last Later later
-        → AnswersBeginning options setup history input Old Last Later later
-    last_begun some one = record {
-      taken = ended.reached.going.lines ++ last_line ended.reached.going.rest;
-      outcomes = ended.reached.going.outcomes ++ one.outcome ∷ [];
-      end = one.of_line.end;
-      takes = record {
-        came = input;
-        left = [];
-        lines = ended.reached.going.lines;
-        rest = ended.reached.going.rest;
-        input_is = sym (append-nil input);
-        parts = input_parts;
-        taken_are = inr (refl, refl);
-      };
-      become = turn one.outcome one.of_line.end some (become_push options setup history ended.reached.going.end one.of_line.end ended.reached.going.lines
-          ended.reached.going.outcomes ended.reached.going.rest one.outcome ended.reached.going.become one.of_line.becomes);
-      printed = one_begun Old New Last ended.reached.going.outcomes one.outcome ended.reached.going.printed one.printed;
-      stands = one.of_line.stands;
-    }
+  -- ---- before the end
 
--- ---- before the end
+  pub whole_answered : {old_failures new_failures : ℕ} → ReachedInput has newest start from to old_failures new_failures session service taken
+      → AnswersWhole start.options start.setup start.history input to old_failures new_failures start.taken taken
+      (has service.memory) (newest service.memory)
+  whole_answered stops =
+      let rest = left_by input stops.reached.came from to tells stops.reached.consumed in
+      record {
+        came = stops.reached.came;
+        left = rest.left;
+        lines = stops.reached.going.lines;
+        rest = stops.reached.going.rest;
+        outcomes = stops.reached.going.outcomes;
+        end = stops.reached.going.end;
+        input_is = rest.input_is;
+        unread_is = rest.to_is;
+        why = elim stops.why [ inl failed ↦ inl failed | inr full ↦ inr (stops.reached.counted ∙ full) ];
+        parts = stops.reached.going.parts;
+        become = stops.reached.going.become;
+        printed = stops.reached.going.printed;
+        stands = stands_by stops.reached.going.setup_is stops.reached.going.stands;
+      }
 
-pub whole_answered : (options : AnswerOptions) (from to : Option (List ℕ)) (old_failures new_failures : ℕ) (part : PartLine) (here setup : Setup) (history : List Arrival)
-    (Old New : Option (List ℕ)) (Has : Stamp → Type 0) (latest : Option ℤ) (input : List ℕ) → from ≡ Some input
-    → ReachedInput options from to old_failures new_failures part here setup history Old New Has latest
-    → AnswersWhole options setup history input to old_failures new_failures Old New Has latest
-whole_answered options from to old_failures new_failures part here setup history Old New Has latest input tells stops =
-    let rest = left_by input stops.reached.came from to tells stops.reached.consumed in
-    record {
-      came = stops.reached.came;
-      left = rest.left;
-      lines = stops.reached.going.lines;
-      rest = stops.reached.going.rest;
-      outcomes = stops.reached.going.outcomes;
-      end = stops.reached.going.end;
-      input_is = rest.input_is;
-      unread_is = rest.to_is;
-      why = elim stops.why [ inl failed ↦ inl failed | inr full ↦ inr (stops.reached.counted ∙ full) ];
-      parts = stops.reached.going.parts;
-      become = stops.reached.going.become;
-      printed = stops.reached.going.printed;
-      stands = stops.reached.going.stands;
-    }
-
-pub stop_begun : (options : AnswerOptions) (from to : Option (List ℕ)) (here setup : Setup) (history : List Arrival)
-    (Old New : Option (List ℕ)) (Has : Stamp → Type 0) (latest : Option ℤ) (input : List ℕ) → from ≡ Some input
-    → ReachedStop options from to here setup history Old New Has latest → AnswersBeginning options setup history input Old New Has latest
-stop_begun options from to here setup history Old New Has latest input tells stops =
+pub stop_begun : {M : Type 0} {has : M → Stamp → Type 0} {newest : M → Option ℤ} {start : Start} {from to : Option (List ℕ)} {service : Service M}
+    {taken : Option (List ℕ)} {input : List ℕ} → from ≡ Some input → ReachedStop has newest start from to service taken
+    → AnswersBeginning start.options start.setup start.history input start.taken taken (has service.memory) (newest service.memory)
+stop_begun {from = from} {to = to} {input = input} tells stops =
     let rest = left_by input stops.came from to tells stops.consumed in
     record {
       taken = stops.stopped.lines;
@@ -183,7 +163,7 @@ stop_begun options from to here setup history Old New Has latest input tells sto
       };
       become = stops.stopped.become;
       printed = stops.stopped.printed;
-      stands = stops.stopped.stands;
+      stands = stands_by stops.stopped.setup_is stops.stopped.stands;
     }
 
 pub none_begun : (options : AnswerOptions) (setup : Setup) (history : List Arrival) (known : Option (List ℕ)) (Has : Stamp → Type 0) (latest : Option ℤ) (input : List ℕ)

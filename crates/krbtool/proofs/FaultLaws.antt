@@ -20,6 +20,10 @@ same_err one other e = cc
 pub no_ok : {X F : Type 0} (value : X) (fault : F) → ◌≡◌ {A = Result X F} (Ok value) (Err fault) → ⊥
 no_ok value fault e = cc
 
+-- the same fault, of another call
+pub same_fault : {X Y F : Type 0} {one other : F} → ◌≡◌ {A = Result X F} (Err one) (Err other) → ◌≡◌ {A = Result Y F} (Err one) (Err other)
+same_fault {F = F} {one = one} {other = other} e = ap (λ (fault : F). Err fault) (same_err one other e)
+
 -- it is passed on as it was met
 pub passed_on : {X Y F E : Type 0} (wrap : F → E) (memory source : F) (read : Result X F) (result : Result Y E) (met fault : F)
     → read ≡ Err met → result ≡ Err (wrap met) → IsOneOf read fault memory source

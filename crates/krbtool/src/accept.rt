@@ -5,11 +5,12 @@ ghost use Rattle.std.specs.Io.KnownBytes.{Consumes, IsAtEnd, Keeps};
 ghost use Rattle.krb_name.specs.File.{TakesAtMost};
 ghost use Rattle.krb_ap.specs.Setup.{Setup, Arrival, arrival};
 ghost use Rattle.krb_ap.specs.History.{StandsFor};
+ghost use Rattle.krb_ap.specs.Service.{Stands};
 ghost use Rattle.krbtool.specs.Answering.{AnswersAll, AnswersBeginning, AnswersWhole, Came, input_limit};
 ghost use Rattle.krbtool.specs.CallLine.{SpellsCall};
 ghost use Rattle.krbtool.specs.Engine.{failed_writes};
 ghost use Rattle.krbtool.specs.Inner.Held.{Holds};
-ghost use Rattle.krbtool.specs.Inner.Going.{Answered, BecomesOf, Begun, Going, ReachedEnd, ReachedInput, ReachedStop, Stopped, Untouched};
+ghost use Rattle.krbtool.specs.Inner.Going.{Answered, BecomesOf, Begun, Going, ReachedEnd, ReachedInput, ReachedStop, Start, Stays, Stopped};
 
 use crate::answer_end::{LineAnswer, end_of};
 use crate::answering::{LineOutcome, print_answer, status_of_outcome};
@@ -40,141 +41,6 @@ pub struct AnswerOptions<'a> {
     pub service: Option<&'a Principal>,
 }
 
-// Makes the call whose request the bytes of a line carry, if they carry one.
-fn answer_call<M: ReplayMemory>(
-    alloc: Global,
-    acceptor: &mut Acceptor<M>,
-    call: &SpelledCall,
-    options: &AnswerOptions<'_>,
-) -> LineOutcome
-    ensures becomes { (setup : Setup) (history : List Arrival) (line : List ℕ)
-        → acceptor.old.setup ≡ setup → StandsFor setup (M.has acceptor.old.memory) (M.newest acceptor.old.memory) history
-        → SpellsCall line (arrival call.entry.now.bytes.items call.entry.now.now) call.entry.now.confounder
-        → BecomesOf options.now acceptor.new.setup setup history line result (M.has acceptor.new.memory) (M.newest acceptor.new.memory) }
-    ensures setup { acceptor.new.setup ≡ acceptor.old.setup }
-{
-    match take_request(options.form, &call.bytes) {
-        Ok(carried) => {
-            let outcome = acceptor.accept(alloc, carried.request, call.now);
-            let end = end_of(
-                alloc,
-                carried.envelope,
-                &outcome,
-                call.now,
-                call.confounder,
-                options.service,
-            );
-            LineOutcome::Answered(LineAnswer { outcome, end })
-        }
-        Err(fault) => LineOutcome::BadToken(fault),
-    }
-}
-
-// Makes the call that the line spells, if any.
-fn outcome_of<M: ReplayMemory>(
-    alloc: Global,
-    acceptor: &mut Acceptor<M>,
-    part: &PartLine,
-    options: &AnswerOptions<'_>,
-) -> Result<LineOutcome, AllocError>
-    ensures ok { (setup : Setup) (history : List Arrival) (line : List ℕ)
-        → acceptor.old.setup ≡ setup → StandsFor setup (M.has acceptor.old.memory) (M.newest acceptor.old.memory) history → Holds part.now line
-        → IfOk result (λ outcome. BecomesOf options.now acceptor.new.setup setup history line outcome (M.has acceptor.new.memory) (M.newest acceptor.new.memory)) }
-    ensures err { OnErr result (acceptor.new ≡ acceptor.old) }
-    ensures setup { acceptor.new.setup ≡ acceptor.old.setup }
-{
-    match part.call(alloc)? {
-        Some(call) => Ok(answer_call(alloc, acceptor, &call, options)),
-        None => Ok(LineOutcome::BadLine),
-    }
-}
-
-// Answers a line, and answers what it makes of the exit status.
-fn answer_line<M: ReplayMemory, K: Sink>(
-    alloc: Global,
-    acceptor: &mut Acceptor<M>,
-    part: &PartLine,
-    sink: &mut K,
-    options: &AnswerOptions<'_>,
-) -> Result<u8, EngineFault>
-    requires { K.failure_count sink.old < 2 ^ 64 - 1 }
-    ensures ok { (setup : Setup) (history : List Arrival) (line : List ℕ)
-        → acceptor.old.setup ≡ setup → StandsFor setup (M.has acceptor.old.memory) (M.newest acceptor.old.memory) history → Holds part.now line
-        → IfOk result (λ status. Answered options.now acceptor.new.setup setup history line status (K.taken sink.old) (K.taken sink.new)
-        (M.has acceptor.new.memory) (M.newest acceptor.new.memory)) }
-    ensures err { (setup : Setup) (history : List Arrival) (line : List ℕ)
-        → acceptor.old.setup ≡ setup → StandsFor setup (M.has acceptor.old.memory) (M.newest acceptor.old.memory) history → Holds part.now line
-        → OnErr result (Untouched acceptor.new.setup setup history (K.taken sink.old) (K.taken sink.new) (M.has acceptor.new.memory) (M.newest acceptor.new.memory)
-        ⊎ Begun options.now acceptor.new.setup setup history line (K.taken sink.old) (K.taken sink.new) (M.has acceptor.new.memory) (M.newest acceptor.new.memory)) }
-    ensures setup { acceptor.new.setup ≡ acceptor.old.setup }
-    ensures which { IfErr result (λ e. (e ≡ EngineFault.Write) ⊎ (e ≡ EngineFault.OutOfMemory)) }
-    ensures writes { K.failure_count sink.new ≡ K.failure_count sink.old + failed_writes result }
-{
-    let outcome = outcome_of(alloc, acceptor, part, options)?;
-    print_answer(alloc, &outcome, sink)?;
-    Ok(status_of_outcome(&outcome))
-}
-
-// Answers the line that ends with these bytes, and goes on to the next one.
-fn answer_end<M: ReplayMemory, K: Sink>(
-    alloc: Global,
-    acceptor: &mut Acceptor<M>,
-    part: &mut PartLine,
-    bytes: &[u8],
-    sink: &mut K,
-    options: &AnswerOptions<'_>,
-) -> Result<u8, EngineFault>
-    requires writes { K.failure_count sink.old < 2 ^ 64 - 1 }
-    requires plain { All (λ byte. byte ≢ 10) bytes.now }
-    ensures ok { (setup : Setup) (history : List Arrival) (came : List ℕ) (status : ℕ) (start : Option (List ℕ))
-        → Going options.now part.old acceptor.old.setup setup history came status start (K.taken sink.old) (M.has acceptor.old.memory) (M.newest acceptor.old.memory)
-        → IfOk result (λ more. Going options.now part.new acceptor.new.setup setup history ((came ++ bytes.now) ++ 10 ∷ []) (max status more) start (K.taken sink.new)
-        (M.has acceptor.new.memory) (M.newest acceptor.new.memory)) }
-    ensures err { (setup : Setup) (history : List Arrival) (came : List ℕ) (status : ℕ) (start : Option (List ℕ))
-        → Going options.now part.old acceptor.old.setup setup history came status start (K.taken sink.old) (M.has acceptor.old.memory) (M.newest acceptor.old.memory)
-        → OnErr result (Stopped options.now acceptor.new.setup setup history ((came ++ bytes.now) ++ 10 ∷ []) start (K.taken sink.new) (M.has acceptor.new.memory) (M.newest acceptor.new.memory)) }
-    ensures setup { acceptor.new.setup ≡ acceptor.old.setup }
-    ensures which { IfErr result (λ e. (e ≡ EngineFault.Write) ⊎ (e ≡ EngineFault.OutOfMemory)) }
-    ensures writes { K.failure_count sink.new ≡ K.failure_count sink.old + failed_writes result }
-{
-    part.extend(bytes)?;
-    let status = answer_line(alloc, acceptor, part, sink, options)?;
-    part.clear();
-    Ok(status)
-}
-
-// Goes on by some bytes, and answers what they make of the exit status.
-fn answer_piece<M: ReplayMemory, K: Sink>(
-    alloc: Global,
-    acceptor: &mut Acceptor<M>,
-    part: &mut PartLine,
-    piece: &[u8],
-    sink: &mut K,
-    options: &AnswerOptions<'_>,
-) -> Result<u8, EngineFault>
-    requires { K.failure_count sink.old < 2 ^ 64 - 1 }
-    ensures ok { (setup : Setup) (history : List Arrival) (came : List ℕ) (status : ℕ) (start : Option (List ℕ))
-        → Going options.now part.old acceptor.old.setup setup history came status start (K.taken sink.old) (M.has acceptor.old.memory) (M.newest acceptor.old.memory)
-        → IfOk result (λ more. Going options.now part.new acceptor.new.setup setup history (came ++ piece.now) (max status more) start (K.taken sink.new)
-        (M.has acceptor.new.memory) (M.newest acceptor.new.memory)) }
-    ensures err { (setup : Setup) (history : List Arrival) (came : List ℕ) (status : ℕ) (start : Option (List ℕ))
-        → Going options.now part.old acceptor.old.setup setup history came status start (K.taken sink.old) (M.has acceptor.old.memory) (M.newest acceptor.old.memory)
-        → OnErr result (Stopped options.now acceptor.new.setup setup history (came ++ piece.now) start (K.taken sink.new) (M.has acceptor.new.memory) (M.newest acceptor.new.memory)) }
-    ensures setup { acceptor.new.setup ≡ acceptor.old.setup }
-    ensures which { IfErr result (λ e. (e ≡ EngineFault.Write) ⊎ (e ≡ EngineFault.OutOfMemory)) }
-    ensures writes { K.failure_count sink.new ≡ K.failure_count sink.old + failed_writes result }
-{
-    let mut status = 0;
-    let mut left = piece;
-    'lines: while let Some((bytes, rest)) = cut_at(LINE_END, left) {
-        let more = answer_end(alloc, acceptor, part, bytes, sink, options)?;
-        status = status.max(more);
-        left = rest;
-    }
-    part.extend(left)?;
-    Ok(status)
-}
-
 // Reads some bytes into the front of `piece`, at most so many.
 fn read_some<S: Source>(source: &mut S, piece: &mut [u8], most: usize) -> Result<usize, EngineFault>
     requires count { S.failure_count source.old < 2 ^ 64 - 1 }
@@ -192,54 +58,168 @@ fn read_some<S: Source>(source: &mut S, piece: &mut [u8], most: usize) -> Result
     Ok(count)
 }
 
-// Answers the whole lines of the source, and leaves what follows the last line end in `part`.
-fn answer_source<M: ReplayMemory, S: Source, K: Sink>(
+// How far `accept` is: how it answers, the line that is being read, and the exit status so far.
+#[derive(Drop)]
+struct Session<'a> {
     alloc: Global,
-    acceptor: &mut Acceptor<M>,
-    source: &mut S,
-    piece: &mut [u8],
-    part: &mut PartLine,
-    sink: &mut K,
-    options: &AnswerOptions<'_>,
-) -> Result<u8, EngineFault>
-    requires source { S.failure_count source.old < 2 ^ 64 - 1 }
-    requires sink { K.failure_count sink.old < 2 ^ 64 - 1 }
-    requires piece { 0 < length piece.old }
-    ensures ok { (setup : Setup) (history : List Arrival)
-        → acceptor.old.setup ≡ setup → StandsFor setup (M.has acceptor.old.memory) (M.newest acceptor.old.memory) history → Holds part.old []
-        → IfOk result (λ status. ReachedEnd options.now (S.remaining source.old) (S.remaining source.new) part.new acceptor.new.setup setup history status
-        (K.taken sink.old) (K.taken sink.new) (M.has acceptor.new.memory) (M.newest acceptor.new.memory)) }
-    ensures input { (setup : Setup) (history : List Arrival)
-        → acceptor.old.setup ≡ setup → StandsFor setup (M.has acceptor.old.memory) (M.newest acceptor.old.memory) history → Holds part.old []
-        → result ≡ Err EngineFault.Input
-        → ReachedInput options.now (S.remaining source.old) (S.remaining source.new) (S.failure_count source.old) (S.failure_count source.new)
-        part.new acceptor.new.setup setup history (K.taken sink.old) (K.taken sink.new) (M.has acceptor.new.memory) (M.newest acceptor.new.memory) }
-    ensures stop { (setup : Setup) (history : List Arrival)
-        → acceptor.old.setup ≡ setup → StandsFor setup (M.has acceptor.old.memory) (M.newest acceptor.old.memory) history → Holds part.old []
-        → (result ≡ Err EngineFault.Write) ⊎ (result ≡ Err EngineFault.OutOfMemory)
-        → ReachedStop options.now (S.remaining source.old) (S.remaining source.new) acceptor.new.setup setup history
-        (K.taken sink.old) (K.taken sink.new) (M.has acceptor.new.memory) (M.newest acceptor.new.memory) }
-    ensures setup { acceptor.new.setup ≡ acceptor.old.setup }
-    ensures which { IfErr result (λ e. (e ≡ EngineFault.Input) ⊎ ((e ≡ EngineFault.Write) ⊎ (e ≡ EngineFault.OutOfMemory))) }
-    ensures failed { result ≡ Err EngineFault.Input
-        → (S.failure_count source.new ≡ S.failure_count source.old + 1)
-        ⊎ ((S.failure_count source.new ≡ S.failure_count source.old) × Came (S.remaining source.old) (S.remaining source.new) input_limit) }
-    ensures reads { (result ≡ Err EngineFault.Input) ⊎ (S.failure_count source.new ≡ S.failure_count source.old) }
-    ensures taken { TakesAtMost (S.remaining source.old) (S.remaining source.new) input_limit }
-    ensures writes { K.failure_count sink.new ≡ K.failure_count sink.old + failed_writes result }
-{
-    let mut came = 0;
-    let mut status = 0;
-    while came < INPUT_LIMIT {
-        let count = read_some(source, piece, INPUT_LIMIT - came)?;
-        if count == 0 {
-            return Ok(status);
+    options: AnswerOptions<'a>,
+    part: PartLine,
+    status: u8,
+}
+
+impl Session<'_> {
+    // Makes the call whose request the bytes of a line carry, if they carry one.
+    fn answer_call<M: ReplayMemory>(
+        &self,
+        acceptor: &mut Acceptor<M>,
+        call: &SpelledCall,
+    ) -> LineOutcome
+        ensures becomes { (history : List Arrival) (line : List ℕ) → Stands M.has M.newest acceptor.old history
+            → SpellsCall line (arrival call.entry.now.bytes.items call.entry.now.now) call.entry.now.confounder
+            → BecomesOf M.has M.newest self.now.options acceptor.old acceptor.new history line result }
+        ensures setup { acceptor.new.setup ≡ acceptor.old.setup }
+    {
+        match take_request(self.options.form, &call.bytes) {
+            Ok(carried) => {
+                let outcome = acceptor.accept(self.alloc, carried.request, call.now);
+                let end = end_of(
+                    self.alloc,
+                    carried.envelope,
+                    &outcome,
+                    call.now,
+                    call.confounder,
+                    self.options.service,
+                );
+                LineOutcome::Answered(LineAnswer { outcome, end })
+            }
+            Err(fault) => LineOutcome::BadToken(fault),
         }
-        let more = answer_piece(alloc, acceptor, part, &piece[..count], sink, options)?;
-        status = status.max(more);
-        came += count;
     }
-    Err(EngineFault::Input)
+
+    // Makes the call that the line spells, if any.
+    fn outcome<M: ReplayMemory>(
+        &self,
+        acceptor: &mut Acceptor<M>,
+    ) -> Result<LineOutcome, AllocError>
+        ensures ok { (history : List Arrival) (line : List ℕ) → Stands M.has M.newest acceptor.old history → Holds self.now.part line
+            → IfOk result (BecomesOf M.has M.newest self.now.options acceptor.old acceptor.new history line) }
+        ensures err { OnErr result (acceptor.new ≡ acceptor.old) }
+        ensures setup { acceptor.new.setup ≡ acceptor.old.setup }
+    {
+        match self.part.call(self.alloc)? {
+            Some(call) => Ok(self.answer_call(acceptor, &call)),
+            None => Ok(LineOutcome::BadLine),
+        }
+    }
+
+    // Answers the line that was read.
+    fn answer_line<M: ReplayMemory, K: Sink>(
+        &mut self,
+        acceptor: &mut Acceptor<M>,
+        sink: &mut K,
+    ) -> Result<(), EngineFault>
+        requires { K.failure_count sink.old < 2 ^ 64 - 1 }
+        ensures ok { (history : List Arrival) (line : List ℕ) → Stands M.has M.newest acceptor.old history → Holds self.old.part line
+            → OnOk result (Answered M.has M.newest self.old self.new acceptor.old acceptor.new history line (K.taken sink.old) (K.taken sink.new)) }
+        ensures err { (history : List Arrival) (line : List ℕ) → Stands M.has M.newest acceptor.old history → Holds self.old.part line
+            → OnErr result (Begun M.has M.newest self.old.options acceptor.old acceptor.new history line (K.taken sink.old) (K.taken sink.new)) }
+        ensures stays { Stays self.old self.new acceptor.old acceptor.new }
+        ensures which { IfErr result (λ e. (e ≡ EngineFault.Write) ⊎ (e ≡ EngineFault.OutOfMemory)) }
+        ensures writes { K.failure_count sink.new ≡ K.failure_count sink.old + failed_writes result }
+    {
+        let outcome = self.outcome(acceptor)?;
+        print_answer(self.alloc, &outcome, sink)?;
+        self.status = self.status.max(status_of_outcome(&outcome));
+        Ok(())
+    }
+
+    // Answers the line that ends with these bytes, and goes on to the next one.
+    fn end_line<M: ReplayMemory, K: Sink>(
+        &mut self,
+        acceptor: &mut Acceptor<M>,
+        bytes: &[u8],
+        sink: &mut K,
+    ) -> Result<(), EngineFault>
+        requires writes { K.failure_count sink.old < 2 ^ 64 - 1 }
+        requires plain { All (λ byte. byte ≢ 10) bytes.now }
+        ensures ok { (start : Start) (came : List ℕ) → Going M.has M.newest start came self.old acceptor.old (K.taken sink.old)
+            → OnOk result (Going M.has M.newest start ((came ++ bytes.now) ++ 10 ∷ []) self.new acceptor.new (K.taken sink.new)) }
+        ensures err { (start : Start) (came : List ℕ) → Going M.has M.newest start came self.old acceptor.old (K.taken sink.old)
+            → OnErr result (Stopped M.has M.newest start ((came ++ bytes.now) ++ 10 ∷ []) acceptor.new (K.taken sink.new)) }
+        ensures stays { Stays self.old self.new acceptor.old acceptor.new }
+        ensures which { IfErr result (λ e. (e ≡ EngineFault.Write) ⊎ (e ≡ EngineFault.OutOfMemory)) }
+        ensures writes { K.failure_count sink.new ≡ K.failure_count sink.old + failed_writes result }
+    {
+        self.part.extend(bytes)?;
+        self.answer_line(acceptor, sink)?;
+        self.part.clear();
+        Ok(())
+    }
+
+    // Goes on by some bytes.
+    fn answer_piece<M: ReplayMemory, K: Sink>(
+        &mut self,
+        acceptor: &mut Acceptor<M>,
+        piece: &[u8],
+        sink: &mut K,
+    ) -> Result<(), EngineFault>
+        requires { K.failure_count sink.old < 2 ^ 64 - 1 }
+        ensures ok { (start : Start) (came : List ℕ) → Going M.has M.newest start came self.old acceptor.old (K.taken sink.old)
+            → OnOk result (Going M.has M.newest start (came ++ piece.now) self.new acceptor.new (K.taken sink.new)) }
+        ensures err { (start : Start) (came : List ℕ) → Going M.has M.newest start came self.old acceptor.old (K.taken sink.old)
+            → OnErr result (Stopped M.has M.newest start (came ++ piece.now) acceptor.new (K.taken sink.new)) }
+        ensures stays { Stays self.old self.new acceptor.old acceptor.new }
+        ensures which { IfErr result (λ e. (e ≡ EngineFault.Write) ⊎ (e ≡ EngineFault.OutOfMemory)) }
+        ensures writes { K.failure_count sink.new ≡ K.failure_count sink.old + failed_writes result }
+    {
+        let mut left = piece;
+        'lines: while let Some((bytes, rest)) = cut_at(LINE_END, left) {
+            self.end_line(acceptor, bytes, sink)?;
+            left = rest;
+        }
+        self.part.extend(left)?;
+        Ok(())
+    }
+
+    // Answers the whole lines of the source, and keeps what follows the last line end.
+    fn answer_source<M: ReplayMemory, S: Source, K: Sink>(
+        &mut self,
+        acceptor: &mut Acceptor<M>,
+        source: &mut S,
+        piece: &mut [u8],
+        sink: &mut K,
+    ) -> Result<(), EngineFault>
+        requires source { S.failure_count source.old < 2 ^ 64 - 1 }
+        requires sink { K.failure_count sink.old < 2 ^ 64 - 1 }
+        requires piece { 0 < length piece.old }
+        ensures ok { (start : Start) → Going M.has M.newest start [] self.old acceptor.old (K.taken sink.old)
+            → OnOk result (ReachedEnd M.has M.newest start (S.remaining source.old) (S.remaining source.new) self.new acceptor.new (K.taken sink.new)) }
+        ensures input { (start : Start) → Going M.has M.newest start [] self.old acceptor.old (K.taken sink.old) → result ≡ Err EngineFault.Input
+            → ReachedInput M.has M.newest start (S.remaining source.old) (S.remaining source.new) (S.failure_count source.old) (S.failure_count source.new)
+            self.new acceptor.new (K.taken sink.new) }
+        ensures stop { (start : Start) → Going M.has M.newest start [] self.old acceptor.old (K.taken sink.old)
+            → (result ≡ Err EngineFault.Write) ⊎ (result ≡ Err EngineFault.OutOfMemory)
+            → ReachedStop M.has M.newest start (S.remaining source.old) (S.remaining source.new) acceptor.new (K.taken sink.new) }
+        ensures stays { Stays self.old self.new acceptor.old acceptor.new }
+        ensures which { IfErr result (λ e. (e ≡ EngineFault.Input) ⊎ ((e ≡ EngineFault.Write) ⊎ (e ≡ EngineFault.OutOfMemory))) }
+        ensures failed { result ≡ Err EngineFault.Input
+            → (S.failure_count source.new ≡ S.failure_count source.old + 1)
+            ⊎ ((S.failure_count source.new ≡ S.failure_count source.old) × Came (S.remaining source.old) (S.remaining source.new) input_limit) }
+        ensures reads { (result ≡ Err EngineFault.Input) ⊎ (S.failure_count source.new ≡ S.failure_count source.old) }
+        ensures taken { TakesAtMost (S.remaining source.old) (S.remaining source.new) input_limit }
+        ensures writes { K.failure_count sink.new ≡ K.failure_count sink.old + failed_writes result }
+    {
+        let mut came = 0;
+        while came < INPUT_LIMIT {
+            let count = read_some(source, piece, INPUT_LIMIT - came)?;
+            if count == 0 {
+                return Ok(());
+            }
+            self.answer_piece(acceptor, &piece[..count], sink)?;
+            came += count;
+        }
+        Err(EngineFault::Input)
+    }
 }
 
 /// Answers the lines of a source, one after another, and returns the exit status.
@@ -311,14 +291,16 @@ pub fn accept_lines<M: ReplayMemory, S: Source, K: Sink>(
     ensures writes { K.failure_count sink.new ≡ K.failure_count sink.old + failed_writes result }
 {
     let mut piece = vec![in alloc; 0u8; PIECE]?;
-    let mut part = PartLine::new(alloc);
-    let status = answer_source(
-        alloc, acceptor, source, &mut piece, &mut part, sink, options,
-    )?;
-    if part.is_empty() {
-        return Ok(status);
+    let mut session = Session {
+        alloc,
+        options: *options,
+        part: PartLine::new(alloc),
+        status: 0,
+    };
+    session.answer_source(acceptor, source, &mut piece, sink)?;
+    if session.part.is_empty() {
+        return Ok(session.status);
     }
-    let last = answer_line(alloc, acceptor, &part, sink, options)?;
-    let worst = status.max(last);
-    Ok(worst)
+    session.answer_line(acceptor, sink)?;
+    Ok(session.status)
 }
