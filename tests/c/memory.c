@@ -318,6 +318,39 @@ static void first_request(void)
     is_at("first request", at, answer.code, FEVSTUNIK_OK);
 }
 
+/* The first request with a ticket: the service may keep the ticket, sealed and opened, even if memory runs out later in the call. */
+static void first_accept(void)
+{
+    long at, before;
+    fevstunik_answer answer;
+
+    for (at = 0; at < 1000; at++) {
+        is_at("service", at, making().code, FEVSTUNIK_OK);
+        before = held;
+        left = at;
+        answer = accepting();
+        if (left >= 0)
+            break;
+        is_at("first accept", at, answer.code, FEVSTUNIK_OUT_OF_MEMORY);
+        is_at("remembered", at, (long long)fevstunik_acceptor_count(&service), 0);
+        is_at("pieces held", at, held == before || held == before + 2, 1);
+        left = -1;
+        is_at("then", at, accepting().code, FEVSTUNIK_OK);
+    }
+    left = -1;
+    is_at("allocations", at, at > 0 && at < 1000, 1);
+    is_at("first accept", at, answer.code, FEVSTUNIK_OK);
+}
+
+/* The request comes too early, so it isn't remembered, but its ticket is kept. */
+static void keep_ticket(void)
+{
+    fevstunik_time early = now;
+
+    early.seconds -= 1000;
+    is_at("too early", 0, fevstunik_acceptor_accept(&service, &accepted, request.at, request.size, &early).code, FEVSTUNIK_SKEW);
+}
+
 /* No error tells of out of memory. */
 static void without_a_code(void)
 {
@@ -450,11 +483,15 @@ int main(int count, char **words)
     from_hex(&reply, words[4]);
     is_told("new", making);
     is_told("ready", getting_ready);
+    first_accept();
+    is_at("new then", 0, making().code, FEVSTUNIK_OK);
+    keep_ticket();
     is_told("accept", accepting);
     is_told("known", telling);
     is_told("ready again", getting_ready);
     is_at("a ready place", 0, telling().code, FEVSTUNIK_NOTHING_THERE);
     is_at("new again", 0, making().code, FEVSTUNIK_OK);
+    keep_ticket();
     is_told("accept again", accepting);
     is_told("stamp", stamping);
     is_told("new keytab", renewing);
@@ -463,6 +500,7 @@ int main(int count, char **words)
     is_told("error", refusing);
     is_told("error by code", refusing_by_code);
     is_told("started", starting);
+    keep_ticket();
     is_told("accept then", accepting);
     fevstunik_acceptor_free(&service);
     fevstunik_accepted_free(&accepted);
