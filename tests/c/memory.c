@@ -326,6 +326,7 @@ static void first_accept(void)
 
     for (at = 0; at < 1000; at++) {
         is_at("service", at, making().code, FEVSTUNIK_OK);
+        is_at("ready", at, getting_ready().code, FEVSTUNIK_OK);
         before = held;
         left = at;
         answer = accepting();
