@@ -352,6 +352,20 @@ static void keep_ticket(void)
     is_at("too early", 0, fevstunik_acceptor_accept(&service, &accepted, request.at, request.size, &early).code, FEVSTUNIK_SKEW);
 }
 
+/* A service that takes another keytab frees the ticket that it kept. */
+static void ticket_until_another_keytab(void)
+{
+    long before;
+
+    is_at("service for another keytab", 0, making().code, FEVSTUNIK_OK);
+    is_at("ready for another keytab", 0, getting_ready().code, FEVSTUNIK_OK);
+    before = held;
+    keep_ticket();
+    is_at("pieces held with a ticket", 0, held, before + 2);
+    is_at("another keytab", 0, renewing().code, FEVSTUNIK_OK);
+    is_at("pieces held without a ticket", 0, held, before);
+}
+
 /* No error tells of out of memory. */
 static void without_a_code(void)
 {
@@ -485,6 +499,7 @@ int main(int count, char **words)
     is_told("new", making);
     is_told("ready", getting_ready);
     first_accept();
+    ticket_until_another_keytab();
     is_at("new then", 0, making().code, FEVSTUNIK_OK);
     keep_ticket();
     is_told("accept", accepting);

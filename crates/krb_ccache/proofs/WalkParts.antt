@@ -292,7 +292,7 @@ module _ (Within : Hand → Type 0) (Lacks : TakeFault → Hand → ℕ → Type
   list_then skip old middle new count result t is h =
       walk_same Within Lacks _ _ _ old new result (list_same skip) (walk_then Within Lacks _ (from_length count) _ old middle new result (number_goes Within w32 skip from_length old middle count t is) (walk_same Within Lacks _ _ _ middle new result (λ place. sym (none_skipped (from_length count) place)) h))
 
-  -- a whole part, of which the last bytes were to come
+  -- a whole part whose last bytes were to come
   pub whole_then : {T : Type 0} (p : Pass) (old middle new : Hand) (last : ℕ) (result : Result T TakeFault) → Goes p (skip_at last) Within old middle → IsTaken Within Lacks last middle new result → IsWalk p (λ x. pass_none) Within Lacks old new result
   whole_then p old middle new last result g h = walk_then Within Lacks p (skip_at last) _ old middle new result g (bytes_walk Within Lacks last middle new result h)
 

@@ -1,4 +1,4 @@
-//! The parts of which a cache has lists: what is written of them, and how many bytes that takes.
+//! The parts that stand in lists of a cache: what is written of each, and how many bytes that takes.
 
 ghost use Rattle.std.specs.Prelude.{◌≡◌, ◌<◌, ◌^◌, ◌++◌, ℕ, List, All, OnOk, length};
 ghost use Rattle.std.specs.Int.{w32};
@@ -18,7 +18,7 @@ use std::alloc::AllocError;
 // The bytes of a credential beside names, key, lists and tickets: encryption type, four times, `is_skey` and flags.
 const FIXED: usize = 2 + 4 * 4 + 1 + 4;
 
-/// A part of which a cache has a list.
+/// A part that stands in a list of a cache.
 pub(crate) trait Part {
     /// What is written of it.
     ghost spelled: { Self → List ℕ };
