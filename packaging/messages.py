@@ -160,8 +160,8 @@ class Principal:
     field: str
     realm: str
     name: str
-    definition: str
     doc: str
+    definition: str = ""
 
 
 @dataclass(frozen=True)
@@ -234,25 +234,29 @@ def nested(items, end):
 
 
 def fields_item(rows):
-    """The same fields in definitions, as an item of an impl, on lines that aren't too long."""
-    terms = [it.definition.replace(" ", "\xa0") for it in rows]
-    text = " (".join(terms) + " ends" + ")" * (len(rows) - 1)
-    lines = textwrap.wrap(f"ghost fields = {{ {text} }};", 100, subsequent_indent="    ", break_long_words=False)
-    return "\n".join(lines).replace("\xa0", " ")
+    """The same fields in definitions, as an item of an impl."""
+    terms = [unbroken(it.definition) for it in rows]
+    return filled(f"ghost fields = {{ {' ('.join(terms)} ends{')' * (len(rows) - 1)} }};", 100)
 
 
 def view_item(argument, values):
-    """Values in nested pairs, as an item of an impl, on lines that aren't too long."""
-    return f"ghost view = {{ λ {argument}. {pairs(values, 6)} }};"
+    """A row of values, as an item of an impl."""
+    return filled(f"ghost view = {{ λ {argument}. {row_of(values)} }};", 100)
 
 
-def pairs(values, indent):
-    """Values in nested pairs, each on a line of its own until the others find room on one."""
-    whole = nested(values, "tt")
-    if len(values) == 1 or indent + len(whole) < 100:
-        return whole
-    space = " " * indent
-    return f"(\n{space}{values[0]},\n{space}{pairs(values[1:], indent + 2)},\n{space[2:]})"
+def row_of(values):
+    """A row of values in definitions. A line ends only behind one of them."""
+    return " ".join([unbroken(f"{it} ▸") for it in values] + ["tt"])
+
+
+def unbroken(term):
+    """A term that stays on one line where a text is filled."""
+    return term.replace(" ", "\xa0")
+
+
+def filled(text, width):
+    """A text on lines that aren't too long."""
+    return textwrap.fill(text, width, subsequent_indent="    ", break_long_words=False, break_on_hyphens=False).replace("\xa0", " ")
 
 
 def arm(pattern, struct, fields):
@@ -265,14 +269,14 @@ def arm(pattern, struct, fields):
 class Message:
     """A message, with the text that each of its files has of it."""
 
-    def __init__(self, name, section, kind, accessor, view, owned, fields, **more):
-        self.name, self.section, self.kind, self.accessor = name, section, kind, accessor
+    def __init__(self, name, section, kind, view, owned, fields, **more):
+        self.name, self.section, self.kind = name, section, kind
         self.view_file, self.view = view.split("::")
         self.owned_file, self.owned = owned.split("::")
         self.rows = [Field(**it) for it in fields]
         self.fields = [it for it in self.rows if it.constant is None]
         self.principals = [Principal(**it) for it in more.get("principals", [])]
-        self.application, self.record = more.get("application"), more.get("record")
+        self.application, self.record, self.accessor = more.get("application"), more.get("record"), more.get("accessor", "")
         self.parses = more.get("parses", "a message of this type")
         self.view_derive = more.get("view_derive", self.derive)
         self.doc = more.get("doc", f"{'An' if name[0] in 'AEIOU' else 'A'} `{name}` (RFC 4120, section {section}).")
@@ -321,41 +325,42 @@ class Message:
         whole = f"application {self.application} ({body})" if self.application else body
         return f"{comment('-- ', said)}\nabbrev pub {self.kind} : Kind\n{self.kind} = {whole}\n"
 
+    def accessor_of(self, field):
+        """What the definition is called that gives this field of a value, if there is one."""
+        return field.accessor or self.accessor.format(field.key)
+
     def fields_text(self):
-        """The record of its fields, its value, and each field of a value, for Fields."""
+        """The record of its fields, its value, and fields of a value, for Fields."""
         value = f"ValueOf {self.kind}"
         parts = [f"-- ---- {self.name} (section {self.section})"]
         if self.record:
             parts.append(f"pub record {self.record} : Type 0 where\n" + "".join(f"  pub {it.key} : {it.values}\n" for it in self.fields))
-        argument, at = ("f", "f.{}") if self.record else (self.fields[0].key, "{}")
-        of = self.record or self.fields[0].values
-        row = " ▸ ".join(["tt" if it.constant is not None else at.format(it.key) for it in self.rows] + ["tt"])
-        equation = f"{self.short}_value {argument} = {row}"
-        equation = equation if len(equation) <= 140 else equation.replace(" = ", " =\n    ", 1)
-        parts.append(f"abbrev pub {self.short}_value : {of} → {value}\n{equation}\n")
+        argument, at, of = ("f", "f.{}", self.record) if self.record else (self.fields[0].key, "{}", self.fields[0].values)
+        if self.record or len(self.fields) == 1:
+            row = self.row(lambda it: at.format(it.key))
+            parts.append(f"abbrev pub {self.short}_value : {of} → {value}\n{filled(f'{self.short}_value {argument} = {row}', 140)}\n")
         for place, it in enumerate(self.rows):
-            if it.constant is None:
-                name = it.accessor or self.accessor.format(it.key)
+            name = self.accessor_of(it)
+            if it.constant is None and name:
                 parts.append(f"abbrev pub {name} : {value} → {it.values}\n{name} v = v{'.1' * place}.0\n")
-        parts += [self.principal_text(it) for it in self.principals]
+        parts += [self.principal_text(it) for it in self.principals if it.definition]
         return "\n".join(parts)
 
     def principal_text(self, principal):
-        names = {it.key: it.accessor or self.accessor.format(it.key) for it in self.fields}
+        names = {it.key: self.accessor_of(it) for it in self.fields}
         of = f"principal_in ({names[principal.realm]} v) ({names[principal.name]} v)"
         return (
             f"-- the {principal.field}: {principal.realm} and {principal.name}\n"
             f"abbrev pub {principal.definition} : ValueOf {self.kind} → Principal\n{principal.definition} v = {of}\n"
         )
 
+    def row(self, value_of):
+        """The row of its values, in definitions."""
+        return row_of(["tt" if it.constant is not None else value_of(it) for it in self.rows])
+
     def value_text(self, name, struct, value_of):
         """The value of one of its structs, for Borrowed and Owned."""
-        if self.record:
-            rows = "".join(f"  {it.key} = {value_of(it)};\n" for it in self.fields)
-            argument = f"(record {{\n{rows}}})"
-        else:
-            argument = atom(value_of(self.fields[0]))
-        return f"abbrev pub {name} : {struct} → ValueOf {self.kind}\n{name} m = {self.short}_value {argument}\n"
+        return f"abbrev pub {name} : {struct} → ValueOf {self.kind}\n{filled(f'{name} m = {self.row(value_of)}', 140)}\n"
 
     def borrowed_text(self):
         return self.value_text(self.view_value, self.view, lambda it: it.value(it.of.view_value, "m"))
@@ -607,12 +612,15 @@ SAID = {
         "-- each field with its number, and whether it may be absent.",
     ],
     "Fields": [
-        "-- The values of messages by the names of their fields (RFC 4120, sections 5.2 to 5.9). For each",
-        "-- kind: the fields that vary; the value that they make, which nests them in pairs, in the order of",
-        "-- their numbers, with a tt for each constant; and each field of a value.",
+        "-- The values of messages by the names of their fields (RFC 4120, sections 5.2 to 5.9): fields of a",
+        "-- value; and where values are made, a record of the fields that vary, and the value that they make,",
+        "-- which nests them in pairs, in the order of their numbers, with a tt for each constant.",
     ],
-    "Borrowed": ["-- The values of messages that are read in place: each field by its name."],
-    "Owned": ["-- The values of owned messages: each field by its name."],
+    "Borrowed": [
+        "-- The values of messages that are read in place: their fields in the order of their numbers, with",
+        "-- a tt for each constant.",
+    ],
+    "Owned": ["-- The values of owned messages: their fields in that order, too."],
 }
 RUST = {
     "crate::key": ["KeyRef", "RawKey", "owned_key"],
@@ -650,6 +658,7 @@ def source_uses(name, text, messages):
     """The lines of `use` of a file of src/."""
     ghosts, rust = GHOST.findall(text), GHOST.sub("", re.sub(r"^\s*//.*", "", text, flags=re.M))
     specs = {
+        "Parts": ["◌▸◌"],
         "Borrowed": [it.view_value for it in messages] + PARTS["Borrowed"],
         "Module": [it.kind for it in messages] + PARTS["Module"],
         "Owned": [it.owned_value for it in messages] + PARTS["Owned"],
@@ -707,7 +716,7 @@ def definitions(messages):
     of_values = {
         "Rattle.std.specs.Option": ["option_map"],
         **of_kind,
-        "Rattle.krb_msg.specs.Fields": [f"{it.short}_value" for it in messages],
+        "Rattle.krb_msg.specs.Parts": ["◌▸◌"],
         "Rattle.krb_msg.specs.Module": kinds,
     }
     views, owned = structs((it.view_file, it.view) for it in messages), structs((it.owned_file, it.owned) for it in messages)

@@ -27,15 +27,16 @@ import time
 from xml.etree import ElementTree
 
 ROOT = pathlib.Path(__file__).resolve().parent.parent
-sys.path += [str(ROOT / "tests"), str(ROOT / "tests/vectors")]
+sys.path += [str(ROOT / "tests"), str(ROOT / "tests/vectors"), str(ROOT / "packaging")]
+import archive  # noqa: E402
 import c_cases  # noqa: E402
 import c_peers  # noqa: E402
 import c_shared  # noqa: E402
 import c_tokens  # noqa: E402
 import c_web  # noqa: E402
 from c_header import HEADER, differs, documented, header_checks, header_codes, header_functions, kerberos_codes  # noqa: E402
-import edits  # noqa: E402
 import fixture as shared  # noqa: E402
+import tally  # noqa: E402
 
 CRATE = ROOT / "crates/krb_c"
 ARCHIVE = CRATE / "out/libkrb_c.a"
@@ -57,7 +58,7 @@ def run(*words, **more):
 
 def wrong(ran):
     """What a command that ended ill said."""
-    return None if ran.returncode == 0 else f"status {ran.returncode}: {(ran.stdout + ran.stderr)[-2000:]}"
+    return None if ran.returncode == 0 else f"status {ran.returncode}: {(ran.stdout + (ran.stderr or ''))[-2000:]}"
 
 
 def toolchain():
@@ -339,26 +340,8 @@ def fuzzed_tokens(room, tokens):
         yield "tokens under valgrind", wrong(watched)
 
 
-def over_ci():
-    """Builds the archive over the libraries that `rt ci` left, which `rt lib` would prove and build anew; or None where it left none."""
-    crate = edits.crates_of(str(ROOT))[CRATE.name]
-    for name in crate.below:
-        left = ROOT / "crates" / name / "out/rlib"
-        if not (left / f"{name}.rlib").exists() or (left / "stamp").exists():
-            return None
-    words = crate.words("out/incremental")
-    words[words.index("check")] = "build"
-    words[words.index("--jobs") + 1] = str(os.cpu_count())
-    return run(*words, "--crate-type", "staticlib", "--toolchain", f"{edits.KIT}/toolchain", "--backend", "llvm", "-o", ARCHIVE, cwd=CRATE)
-
-
-def built_archive():
-    built = over_ci()
-    return built if built and built.returncode == 0 else run("rt", "lib", cwd=CRATE)
-
-
 def checks(inputs, tokens):
-    built = built_archive()
+    built = archive.build("x86-64-v2", ARCHIVE)
     yield "the archive is built", wrong(built)
     if built.returncode:
         return
@@ -383,15 +366,7 @@ def main():
     words.add_argument("--inputs", type=int, default=50_000)
     words.add_argument("--tokens", type=int, default=1_000_000)
     given = words.parse_args()
-    passed = failed = 0
-    for name, fault in checks(given.inputs, given.tokens):
-        if fault is None:
-            passed += 1
-        else:
-            failed += 1
-            print(f"{name}: {fault}", flush=True)
-    print(f"{passed} passed, {failed} failed")
-    return failed != 0
+    return tally.told(checks(given.inputs, given.tokens))
 
 
 if __name__ == "__main__":

@@ -380,30 +380,30 @@ def each_call(case, name, file, piece, failing=None):
         yield case(f"{name}, by {' and '.join(calls)}", file, piece, failing, calls)
 
 
-def keytab_case(name, file, piece=4_096):
-    """What `parse`, `read` and, of a keytab, `to_bytes` give."""
-    data, found = file.data, keytab_shown(file.data)
-    given = f"given {min(len(data), LIMIT + 1)} failures 0"
-    lines = [f"keytab parse {file.word}", f"keytab read piece:{piece} {file.word}"]
+def file_case(kind, name, file, piece, found, written):
+    """What `parse`, `read` and the writing of what was read give."""
+    given = f"given {min(len(file.data), LIMIT + 1)} failures 0"
+    lines = [f"{kind} parse {file.word}", f"{kind} read piece:{piece} {file.word}"]
     answers = [found, f"{found} {given}"]
     if found.startswith("ok"):
-        lines.append(f"keytab write {file.word}")
-        answers.append(f"ok {shown(reference.convert_keytab(data))}")
+        lines.append(f"{kind} write {file.word}")
+        answers.append(written(file.data))
     return PROGRAM, name, lines, answers
+
+
+def keytab_case(name, file, piece=4_096):
+    return file_case("keytab", name, file, piece, keytab_shown(file.data), lambda data: f"ok {shown(reference.convert_keytab(data))}")
+
+
+def written_cache(data):
+    try:
+        return f"ok {shown(reference.convert_ccache(data))}"
+    except Fault as fault:
+        return fault_shown(fault)
 
 
 def cache_case(name, file, piece=4_096):
-    data, found = file.data, cache_shown(file.data)
-    given = f"given {min(len(data), LIMIT + 1)} failures 0"
-    lines = [f"cache parse {file.word}", f"cache read piece:{piece} {file.word}"]
-    answers = [found, f"{found} {given}"]
-    if found.startswith("ok"):
-        lines.append(f"cache write {file.word}")
-        try:
-            answers.append(f"ok {shown(reference.convert_ccache(data))}")
-        except Fault as fault:
-            answers.append(fault_shown(fault))
-    return PROGRAM, name, lines, answers
+    return file_case("cache", name, file, piece, cache_shown(file.data), written_cache)
 
 
 # Keytabs.

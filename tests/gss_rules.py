@@ -6,7 +6,7 @@ writes requests and answers in their wrapping, and checksums of authenticators (
 import hashlib
 import random
 
-PROGRAM = "krb_calls_gss"
+PROGRAM = "krb_calls_wire"
 KERBEROS = bytes.fromhex("2a864886f712010202")
 MICROSOFT = bytes.fromhex("2a864882f712010202")
 SPNEGO = bytes.fromhex("2b0601050502")
@@ -333,24 +333,30 @@ def checksums(rng):
 
 
 def drawn():
+    """The cases: program, name, lines and answers."""
+    for name, lines, answers in drawn_calls():
+        yield PROGRAM, f"gss: {name}", [f"gss {it}" for it in lines], answers
+
+
+def drawn_calls():
     rng = random.Random(4178)
     for number in range(CASES):
         text = straight(rng)
         for _ in range(rng.choice((0, 0, 1, 1, 2))):
             text = bent(rng, text) or b"\0"
-        yield PROGRAM, f"gss: token {number}", [f"open {text.hex()}"], [answer(text)]
+        yield f"token {number}", [f"open {text.hex()}"], [answer(text)]
     for name, lines, answers in large():
-        yield PROGRAM, f"gss: {name}", lines, answers
+        yield name, lines, answers
     for number in range(CASES // 2):
         text = straight_answer(rng)
         for _ in range(rng.choice((0, 0, 1, 1, 2))):
             text = bent(rng, text) or b"\0"
-        yield PROGRAM, f"gss: answer {number}", [f"answered {text.hex()}"], [answered(text)]
+        yield f"answer {number}", [f"answered {text.hex()}"], [answered(text)]
     for number in range(CASES // 10):
         line, token = wrapped(rng)
         back = answer(token) if line.startswith("request") else answered(token)
-        yield PROGRAM, f"gss: wrapped {number}", [line, f"{'open' if line.startswith('request') else 'answered'} {token.hex()}"], [token.hex(), back]
+        yield f"wrapped {number}", [line, f"{'open' if line.startswith('request') else 'answered'} {token.hex()}"], [token.hex(), back]
         both = list(checksums(rng))
-        yield PROGRAM, f"gss: checksum {number}", [line for line, _ in both], [it for _, it in both]
+        yield f"checksum {number}", [line for line, _ in both], [it for _, it in both]
     for name, line, answer_is in too_long():
-        yield PROGRAM, f"gss: {name}", [line], [answer_is]
+        yield name, [line], [answer_is]

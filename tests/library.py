@@ -41,6 +41,7 @@ sys.path.insert(0, str(HERE / "vectors"))
 sys.dont_write_bytecode = True
 
 import exchange_made  # noqa: E402
+import tally  # noqa: E402
 
 # The modules with a function drawn(), which gives (program, name, lines, answers) of further cases.
 MODELS = ("aes", "stealing", "codes", "sealing", "der_rules", "msg_rules", "drawn_files", "drawn_exchange", "gss_rules")
@@ -188,15 +189,7 @@ def main():
     if sys.argv[1:] == ["--lay-out"]:
         lay_out()
         return 0
-    passed = failed = 0
-    for name, wrong in checks(*sys.argv[1:2]):
-        if wrong:
-            failed += 1
-            print(f"FAILED {name}: {wrong}")
-        else:
-            passed += 1
-    print(f"{passed} passed, {failed} failed")
-    return 1 if failed or not passed else 0
+    return tally.told(checks(*sys.argv[1:2]))
 
 
 if __name__ == "__main__":

@@ -20,6 +20,7 @@ sys.dont_write_bytecode = True
 import fixture  # noqa: E402
 import package_programs  # noqa: E402
 import package_root  # noqa: E402
+import tally  # noqa: E402
 from packing import BUILDS, LIBDIR, Installed, differs, packed, run, said, unpacked, wrong  # noqa: E402
 
 VERSION = "0.1.0"
@@ -218,15 +219,7 @@ def checks():
 
 
 def main():
-    passed = failed = 0
-    for name, fault in checks():
-        if fault is None:
-            passed += 1
-        else:
-            failed += 1
-            print(f"{name}: {fault}", flush=True)
-    print(f"{passed} passed, {failed} failed")
-    return 1 if failed or not passed else 0
+    return tally.told(checks())
 
 
 if __name__ == "__main__":

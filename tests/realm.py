@@ -2,7 +2,7 @@
 """Runs the built program beside real Kerberos: MIT krb5 and Heimdal, their KDCs, their tools and their libraries, on this machine.
 
     tests/realm.py PROGRAM [WORD]      the cases whose names hold WORD, or all
-      --sides SIDES                    the program of the crate krb_sides, where it isn't crates/krb_sides/out/krb_sides
+      --sides SIDES                    the program of the crate krb_calls_exchange, if it isn't in that crate's folder out
       --without-packages               installs nothing; where a package is missing that is one failed case
 
 It installs what it needs (tests/peers/kdc.py names the packages), starts KDCs on 127.0.0.1 with ports and a temporary folder of
@@ -22,7 +22,7 @@ import traceback
 from pathlib import Path
 
 HERE = Path(__file__).resolve().parent
-SIDES = HERE.parent / "crates/krb_sides/out/krb_sides"
+SIDES = HERE.parent / "crates/krb_calls_exchange/out/krb_calls_exchange"
 sys.dont_write_bytecode = True
 sys.path[:0] = [str(HERE), str(HERE / "peers")]
 

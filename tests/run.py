@@ -5,8 +5,8 @@
 
 Then it compares the tables of the crates' tests with the scripts that make them (tests/tables.py), holds the documents to what is there
 (tests/documents.py), runs the script krbtool (tests/script.py), refuses the program's calls for memory one after another
-(tests/refused.py), and those of further calls of the library (tests/calls.py and tests/refused_lines.py, by the programs of the crates
-krb_calls and krb_calls_exchange), runs it within less and less memory (tests/limited.py), hands the calls of files lengths and counts that
+(tests/refused.py), and those of further calls of the library (tests/calls.py and tests/refused_lines.py, by the program of the crate
+krb_calls_exchange), runs it within less and less memory (tests/limited.py), hands the calls of files lengths and counts that
 the bytes don't bear out (tests/claimed.py, by the program of the crate krb_calls_files), gives each command a file without an end and counts
 what is taken of it (tests/endless.py), lets its reads and writes fail (tests/failing.py),
 compares it with a second client and service on generated input (tests/exchange.py), starts a service again and again (tests/restarts.py),
@@ -64,6 +64,7 @@ import refused_lines  # noqa: E402
 import restarts  # noqa: E402
 import script  # noqa: E402
 import tables  # noqa: E402
+import tally  # noqa: E402
 
 WORDS = """name args files folders links umask stdin output closed status stdout stdout_begins stdout_holds stderr stderr_begins
     after modes gone"""
@@ -184,15 +185,7 @@ def read_words():
 
 def main():
     given = read_words()
-    passed = failed = 0
-    for name, wrong in results(given.program, given.word, given.jobs):
-        if wrong:
-            failed += 1
-            print(f"FAILED {name}: {wrong}")
-        else:
-            passed += 1
-    print(f"{passed} passed, {failed} failed")
-    return 1 if failed or not passed else 0
+    return tally.told(results(given.program, given.word, given.jobs))
 
 
 if __name__ == "__main__":

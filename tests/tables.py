@@ -165,20 +165,12 @@ def example():
     return same(found, [fixture.keytab(), fixture.cache(), fixture.request()])
 
 
-def sides():
-    """What the program of replies is tried on by the gate, and its answer: a mutual request."""
-    folder = TOP / "crates/krb_sides"
-    found = [(folder / "data/client.ccache").read_bytes(), (folder / "stdout").read_text()]
-    return same(found, [fixture.cache(), f"{fixture.request(0x20000000).hex()}\n"])
-
-
 TABLES = {
     "the fixture's messages": messages_of_fixture,
     "the fixture's caches": caches,
     "the fixture's requests and replies": exchange,
     "the fixture's requests in a context": contexts,
     "the example's keytab, cache and request": example,
-    "the cache and the request of the program of replies": sides,
     "the tables of the S-box on lanes": tower_tables,
     "the messages' sources and definitions": messages,
     "stored answers of the ciphers, codes and keys": stored_answers,

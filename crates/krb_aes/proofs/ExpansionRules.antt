@@ -2,11 +2,12 @@
 use Rattle.std.proofs.Common.{◌++◌, subst, ◌≡◌, ℕ, zero, suc, ◌<◌, ◌≤◌, ◌-◌, ◌+◌, ◌*◌, ◌/◌, ◌%◌, ◌&&◌, List, map, refl, arith, length, length-append, take, drop, ap, sym, ◌∙◌, inl, inr}
 use Rattle.std.proofs.lemmas.List.{get_or-take, take-take, take-append-le, take_all, drop-take}
 use Rattle.std.proofs.lemmas.Slice.{between-put_mid, take-put_mid, take-put_mid_below}
+use Rattle.std.proofs.lemmas.Bool.{cases_lt}
 use Rattle.std.specs.Prelude.{◌==◌, nat_lt}
 use borrow.Rule.Slice.PartMut.{put_mid}
-use Rattle.krb_aes.specs.Inner.Schedule.{IsSchedule, inv_round_key}
+use Rattle.krb_aes.specs.Inner.Schedule.{IsSchedule, form_of_key, form_round_key, inv_round_key}
 use Rattle.krb_aes.specs.Inner.Tower.{inv_form}
-use Rattle.krb_aes.specs.State.{inv_mix_columns}
+use Rattle.krb_aes.specs.State.{add_round_key, inv_mix_columns}
 use Rattle.krb_aes.specs.KeyExpansion.{IsKey, first_words, key_expansion, key_words, round_count, next_word, sum_of_words, changed_word, word, round_key}
 
 -- a key has whole words
@@ -98,21 +99,22 @@ round_key-take words n j within =
     let rest = drop-take (16 * j) (n - 16 * j) words in
     (rw parts at (ap (take 16) rest)) ∙ take-take 16 (n - 16 * j) (drop (16 * j) words) (omega arith)
 
-pub schedule_of : (n : ℕ) (key words inv_words : List ℕ) → length key ≡ n → IsKey key → take (length key) words ≡ key →
+pub schedule_of : (n : ℕ) (key words form_words inv_words : List ℕ) → length key ≡ n → IsKey key → take (length key) words ≡ key →
     take (4 * length key + 112) words ≡ key_expansion key →
-    ((j : ℕ) → 1 ≤ j → j < round_count key → round_key inv_words j ≡ inv_round_key words j) → IsSchedule n words inv_words
-schedule_of n key words inv_words size is front all inverse =
+    ((j : ℕ) → 1 ≤ j → j < round_count key → round_key form_words j ≡ form_round_key words j)
+    → ((j : ℕ) → 1 ≤ j → j < round_count key → round_key inv_words j ≡ inv_round_key words j) → IsSchedule n words form_words inv_words
+schedule_of n key words form_words inv_words size is front all formed inverse =
     let P : List ℕ → Type 0 = λ k. IsKey k in
-    let Q : ℕ → Type 0 = λ m. IsSchedule m words inv_words in
+    let Q : ℕ → Type 0 = λ m. IsSchedule m words form_words inv_words in
+    let same : (j : ℕ) → j < round_count key → round_key words j ≡ round_key (key_expansion (take (length key) words)) j = λ j below.
+    sym (round_key-take words (4 * length key + 112) j (omega (arith, bytes_of_words key is)))
+    ∙ ap (λ w. round_key w j) (all ∙ ap key_expansion (sym front)) in
     subst Q size record {
       key_size = ap length front;
       key = subst P (sym front) is;
       expanded = all ∙ ap key_expansion (sym front);
-      inverse = λ j some below.
-          inverse j some below
-          ∙ ap (λ k. map inv_form (inv_mix_columns k))
-          (sym (round_key-take words (4 * length key + 112) j (omega (arith, bytes_of_words key is)))
-          ∙ ap (λ w. round_key w j) (all ∙ ap key_expansion (sym front)));
+      formed = λ j some below. formed j some below ∙ ap form_of_key (same j below);
+      inverse = λ j some below. inverse j some below ∙ ap (λ k. map inv_form (inv_mix_columns k)) (same j below);
     }
 
 -- a round key put in its place, and those before it
@@ -131,6 +133,22 @@ before_round_key keys key at j room before =
     ∙ ap (λ w. round_key w j)
     (take-put_mid_below (16 * at) (16 * at + 16 - 16 * at) keys key (16 * at) (omega arith) (omega arith))
     ∙ round_key-take keys (16 * at) j (omega arith)
+
+-- the keys prepared so far, and the next one put in its place
+pub put_next : (of : ℕ → List ℕ) (keys key : List ℕ) (at : ℕ) → 16 * at + 16 ≤ length keys → key ≡ of at → length (of at) ≡ 16 →
+    ((j : ℕ) → 1 ≤ j → j < at → round_key keys j ≡ of j) → (j : ℕ) → 1 ≤ j → j < at + 1 →
+    round_key (put_mid (16 * at) (16 * at + 16 - 16 * at) keys key) j ≡ of j
+put_next of keys key at room new size before j some below = elim (cases_lt j at) [
+  | inl earlier ↦ before_round_key keys _ at j room earlier ∙ before j some earlier
+  | inr not_earlier ↦
+      let here : at ≡ j = omega arith in
+      subst (λ n. round_key (put_mid (16 * at) (16 * at + 16 - 16 * at) keys key) n ≡ of n) here
+      (put_round_key keys key at room (ap length new ∙ size) ∙ new)
+]
+
+pub length-form_round_key : (w : List ℕ) (j : ℕ) → length (form_round_key w j) ≡ 16
+unfolding add_round_key
+length-form_round_key w j = refl
 
 pub length-inv_round_key : (w : List ℕ) (j : ℕ) → length (inv_round_key w j) ≡ 16
 unfolding inv_mix_columns

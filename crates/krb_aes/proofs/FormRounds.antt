@@ -1,23 +1,23 @@
 -- The rounds of the cipher on 16 lanes, on blocks in the form that encryption keeps.
-use Rattle.std.proofs.Common.{◌≡◌, ℕ, ◌+◌, ◌*◌, ◌%◌, ◌<◌, List, length, map, replicate, refl, sym, ap, ◌∙◌, subst, lit<, bit_xor}
+use Rattle.std.proofs.Common.{◌≡◌, ℕ, ◌+◌, ◌*◌, ◌%◌, ◌<◌, List, length, map, refl, sym, ap, ◌∙◌, subst, lit<, bit_xor}
 use Rattle.std.specs.Simd.Lanes.{zip2, chunk}
 use Rattle.std.specs.Int.Bits.{xor_self, xor_zero_r}
-use Rattle.std.proofs.lemmas.Nat.{xor_of_8}
-use Rattle.std.proofs.lemmas.Simd.{zip2_splat}
+use Rattle.std.proofs.lemmas.Nat.{xor_comm, xor_of_8}
 use Rattle.krb_aes.specs.Field.{carryless, remainder, product}
 use Rattle.krb_aes.specs.SBox.{s_box}
 use Rattle.krb_aes.specs.State.{at, row_times_column, mix, sub_bytes, shift_rows, mix_columns, add_round_key}
 use Rattle.krb_aes.specs.Cipher.{IsBlock}
+use Rattle.krb_aes.specs.Inner.Schedule.{form_of_key}
 use Rattle.krb_aes.specs.Inner.Tower.{LanesBelow, read_from, substituted_of, tower_form}
 use Rattle.krb_aes.specs.declared.tower.TheConstants.{ONCE_IO, ONCE_JO, TWICE_IO, TWICE_JO}
 use Rattle.krb_aes.proofs.ByteTests.{same_below}
-use Rattle.krb_aes.proofs.Bytes.{AreBytes, byte_tests, place, row_byte, s_box_byte, same_state}
+use Rattle.krb_aes.proofs.Bytes.{AreBytes, byte_tests, place, row_byte, s_box_byte, state_of-at, same_state}
 use Rattle.krb_aes.proofs.FieldLaws.{linear-xor, xor_exchange}
 use Rattle.krb_aes.proofs.MixLaws.{row_times_column-xor}
 use Rattle.krb_aes.proofs.StateLaws.{mix_small}
 use Rattle.krb_aes.proofs.LaneRules.{map_below}
 use Rattle.krb_aes.proofs.LaneTests.{tower_columns, tower_part, tower_form_is, sub_is, once_is, twice_is}
-use Rattle.krb_aes.proofs.LaneRounds.{lanes_of_block, of_block, mixed_lane_is, shifted, shifted_turned_1, shifted_turned_2, shifted_turned_3, picked, at_16, chunk_16}
+use Rattle.krb_aes.proofs.LaneRounds.{lanes_of_block, of_block, mixed_lane_is, shifted, shifted_turned_1, shifted_turned_2, shifted_turned_3, picked, at_16}
 
 -- ---- one lane
 
@@ -36,9 +36,10 @@ unfolding carryless remainder product
 constant_stays = same_below (λ r. row_times_column mix r (λ _. 0x63)) (λ _. 0x63) 4 refl
 
 constants_vanish : (r : ℕ) (y : ℕ → ℕ) (key : ℕ) → r < 4 →
-    bit_xor (row_times_column mix r (λ j. bit_xor (y j) 0x63)) (bit_xor key 0x63) ≡ bit_xor (row_times_column mix r y) key
+    bit_xor (row_times_column mix r (λ j. bit_xor (y j) 0x63)) (bit_xor 0x63 key) ≡ bit_xor (row_times_column mix r y) key
 constants_vanish r y key small =
-    ap (λ x. bit_xor x (bit_xor key 0x63))
+    ap (bit_xor (row_times_column mix r (λ j. bit_xor (y j) 0x63))) (xor_comm 0x63 key)
+    ∙ ap (λ x. bit_xor x (bit_xor key 0x63))
     (row_times_column-xor mix r y (λ _. 0x63) ∙ ap (bit_xor (row_times_column mix r y)) (constant_stays r small))
     ∙ xor_exchange (row_times_column mix r y) 0x63 key 0x63
     ∙ ap (bit_xor (bit_xor (row_times_column mix r y) key)) (xor_self 0x63)
@@ -50,7 +51,7 @@ round_lane r y key =
     let once : ℕ → ℕ = λ j. tower_part (bit_xor (y j) 0x63) in
     let twice : ℕ → ℕ = λ j. tower_part (product 0x02 (bit_xor (y j) 0x63)) in
     bit_xor (bit_xor (twice r) (bit_xor (twice ((r + 1) % 4)) (once ((r + 1) % 4))))
-    (bit_xor (bit_xor (once ((r + 2) % 4)) (once ((r + 3) % 4))) (tower_form (bit_xor key 0x63)))
+    (bit_xor (bit_xor (once ((r + 2) % 4)) (once ((r + 3) % 4))) (tower_form (bit_xor 0x63 key)))
 
 round_lane_is : (r : ℕ) (y : ℕ → ℕ) (key : ℕ) → r < 4 → ((j : ℕ) → y j < 256) → key < 256 →
     round_lane r y key ≡ tower_form (bit_xor (row_times_column mix r y) key)
@@ -61,9 +62,9 @@ round_lane_is r y key small bytes key_byte =
     let x1 = u ((r + 1) % 4) in
     let x2 = u ((r + 2) % 4) in
     let x3 = u ((r + 3) % 4) in
-    let k = bit_xor key 0x63 in
+    let k = bit_xor 0x63 key in
     ap (λ x. bit_xor (bit_xor (tower_part a) (bit_xor (tower_part b) (tower_part x1))) (bit_xor (bit_xor (tower_part x2) (tower_part x3)) x))
-    (tower_form_is k (xor_of_8 key 0x63 key_byte (lit< tt)))
+    (tower_form_is k (xor_of_8 0x63 key (lit< tt) key_byte))
     ∙ tower_part-sum a b x1 x2 x3 k
     ∙ ap tower_part
     (mixed_lane_is r u k small (λ j. xor_of_8 (y j) 0x63 (bytes j) (lit< tt)) ∙ constants_vanish r y key small)
@@ -74,7 +75,7 @@ round_lane_is r y key small bytes key_byte =
 abbrev round_of : List ℕ → List ℕ → List ℕ → List ℕ
 round_of once doubled key_form =
     zip2 bit_xor (zip2 bit_xor (picked doubled shifted) (picked (zip2 bit_xor doubled once) shifted_turned_1))
-    (zip2 bit_xor (zip2 bit_xor (picked once shifted_turned_2) (picked once shifted_turned_3)) key_form)
+    (zip2 bit_xor (zip2 bit_xor (picked once shifted_turned_2) (picked once shifted_turned_3)) (chunk 0 16 key_form))
 
 abbrev once_lanes : List ℕ → List ℕ
 once_lanes s = map (λ x. tower_part (bit_xor (s_box x) 0x63)) s
@@ -82,30 +83,27 @@ once_lanes s = map (λ x. tower_part (bit_xor (s_box x) 0x63)) s
 abbrev twice_lanes : List ℕ → List ℕ
 twice_lanes s = map (λ x. tower_part (product 0x02 (bit_xor (s_box x) 0x63))) s
 
-abbrev key_lanes : List ℕ → List ℕ
-key_lanes key = map tower_form (zip2 bit_xor (chunk 0 16 key) (replicate 16 0x63))
-
-round_block : (block key : List ℕ) → IsBlock block → length key ≡ 16 → AreBytes key →
-    round_of (once_lanes block) (twice_lanes block) (key_lanes key)
+round_block : (block key : List ℕ) → IsBlock block → AreBytes key →
+    round_of (once_lanes block) (twice_lanes block) (form_of_key key)
     ≡ map tower_form (add_round_key (mix_columns (shift_rows (sub_bytes block))) key)
 unfolding add_round_key mix_columns shift_rows sub_bytes
-round_block block key is size bytes =
-    let P : List ℕ → List ℕ → Type 0 = λ t k.
-    round_of (once_lanes t) (twice_lanes t) (key_lanes k) ≡ map tower_form (add_round_key (mix_columns (shift_rows (sub_bytes t))) k) in
+round_block block key is bytes =
+    let P : List ℕ → Type 0 = λ t.
+    round_of (once_lanes t) (twice_lanes t) (form_of_key key) ≡ map tower_form (add_round_key (mix_columns (shift_rows (sub_bytes t))) key) in
     let column : ℕ → ℕ → ℕ = λ c j. s_box (at block j ((c + j) % 4)) in
-    at_16 P block key is.size size
+    subst P (state_of-at block is.size)
     (same_state (λ r c. round_lane r (column c) (at key r c)) (λ r c. tower_form (bit_xor (row_times_column mix r (column c)) (at key r c)))
     (λ r c small. round_lane_is r (column c) (at key r c) small
     (λ j. s_box_byte _ (place block (j + 4 * ((c + j) % 4)) is.bytes)) (place key (r + 4 * c) bytes)))
 
-pub round_lanes : (form key once doubled key_form block : List ℕ) → length key ≡ 16 → AreBytes key →
-    once ≡ map (read_from ONCE_IO ONCE_JO) form → doubled ≡ map (read_from TWICE_IO TWICE_JO) form → key_form ≡ key_lanes key →
-    IsBlock block → form ≡ map tower_form block →
-    round_of once doubled key_form ≡ map tower_form (add_round_key (mix_columns (shift_rows (sub_bytes block))) key)
-round_lanes form key once doubled key_form block size bytes once_read doubled_read key_form_is is form_is =
+pub round_lanes : (form key once doubled block round_key : List ℕ) → IsBlock block → AreBytes round_key →
+    form ≡ map tower_form block → key ≡ form_of_key round_key →
+    once ≡ map (read_from ONCE_IO ONCE_JO) form → doubled ≡ map (read_from TWICE_IO TWICE_JO) form →
+    round_of once doubled key ≡ map tower_form (add_round_key (mix_columns (shift_rows (sub_bytes block))) round_key)
+round_lanes form key once doubled block round_key is key_is form_is key_form once_read doubled_read =
     let once_lane = of_block tower_form (read_from ONCE_IO ONCE_JO) (λ x. tower_part (bit_xor (s_box x) 0x63)) once_is block form once is form_is once_read in
     let twice_lane = of_block tower_form (read_from TWICE_IO TWICE_JO) (λ x. tower_part (product 0x02 (bit_xor (s_box x) 0x63))) twice_is block form doubled is form_is doubled_read in
-    (λ i. round_of (once_lane i) (twice_lane i) (key_form_is i)) ∙ round_block block key is size bytes
+    (λ i. round_of (once_lane i) (twice_lane i) (key_form i)) ∙ round_block block round_key is key_is
 
 pub last_round_lanes : (form key once block : List ℕ) → length key ≡ 16 → once ≡ map substituted_of form →
     IsBlock block → form ≡ map tower_form block →
@@ -124,11 +122,3 @@ tower_form_byte = byte_tests tower_form refl
 pub lanes_of_tower_form : (block form : List ℕ) → IsBlock block → form ≡ map tower_form block → LanesBelow 256 form
 lanes_of_tower_form block form is form_is =
     subst (LanesBelow 256) (sym form_is) (map_below tower_form tower_form_byte block (lanes_of_block block is))
-
--- a round key with the constant added
-pub key_below : (key : List ℕ) → length key ≡ 16 → AreBytes key → LanesBelow 256 (zip2 bit_xor (chunk 0 16 key) (replicate 16 0x63))
-key_below key size bytes =
-    let is : IsBlock key = record { size = size; bytes = bytes } in
-    subst (LanesBelow 256)
-    (sym (ap (λ v. zip2 bit_xor v (replicate 16 0x63)) (chunk_16 key size) ∙ zip2_splat bit_xor key 16 0x63 size))
-    (map_below (λ x. bit_xor x 0x63) (λ x small. xor_of_8 x 0x63 small (lit< tt)) key (lanes_of_block key is))

@@ -4,6 +4,7 @@ ghost use Rattle.std.specs.Prelude.{All, ◌≡◌, ◌<◌, List, ℕ, length, 
 ghost use Rattle.krb_aes.specs.State.{sub_bytes, inv_sub_bytes, shift_rows, inv_shift_rows, mix_columns, inv_mix_columns, add_round_key};
 ghost use Rattle.krb_aes.specs.KeyExpansion.{IsKey};
 ghost use Rattle.krb_aes.specs.Cipher.{IsBlock, cipher, inv_cipher};
+ghost use Rattle.krb_aes.specs.Inner.Schedule.{form_of_key};
 ghost use Rattle.krb_aes.specs.Inner.Tower.{LanesBelow, tower_form, inv_form};
 
 use crate::KeySchedule;
@@ -47,21 +48,20 @@ fn first_round(block: &[u8; 16], key: &[u8]) -> u8x16
     formed(u8x16::from_array(*block) ^ u8x16::from_slice(key))
 }
 
-// A round of the cipher, on a block in the form that encryption keeps. The constant of SubBytes, which
-// MixColumns leaves as it is, is added with the key, whose form isn't on the way that all else waits for.
+// A round of the cipher, on a block in the form that encryption keeps, with a key of `form_key`.
 #[inline(always)]
 fn round(form: u8x16, key: &[u8]) -> u8x16
     requires form { LanesBelow 256 form }
     requires key { length key.now ≡ 16 }
-    ensures { (block : List ℕ) → IsBlock block → form ≡ map tower_form block
-        → result ≡ map tower_form (add_round_key (mix_columns (shift_rows (sub_bytes block))) key.now) }
+    ensures { (block round_key : List ℕ) → IsBlock block → All (λ byte. byte < 256) round_key
+        → form ≡ map tower_form block → key.now ≡ form_of_key round_key
+        → result ≡ map tower_form (add_round_key (mix_columns (shift_rows (sub_bytes block))) round_key) }
 {
     let (once, doubled) = products(form);
     let tripled = doubled ^ once;
-    let key_form = formed(u8x16::from_slice(key) ^ u8x16::splat(0x63));
     let first = doubled.swizzle(SHIFTED) ^ tripled.swizzle(SHIFTED_TURNED_1);
     let others = once.swizzle(SHIFTED_TURNED_2) ^ once.swizzle(SHIFTED_TURNED_3);
-    first ^ (others ^ key_form)
+    first ^ (others ^ u8x16::from_slice(key))
 }
 
 // The last round, which has no MixColumns.
@@ -126,6 +126,15 @@ fn inv_mix_columns(state: u8x16) -> u8x16
     first ^ others
 }
 
+// The key of a round as `round` takes it: with the constant of SubBytes, which MixColumns leaves as it is.
+#[inline(always)]
+pub(crate) fn form_key(key: &[u8]) -> [u8; 16]
+    requires { length key.now ≡ 16 }
+    ensures { result ≡ form_of_key key.now }
+{
+    first_round(&[0x63; 16], key).to_array()
+}
+
 // The key of a round as `inv_round` takes it.
 #[inline(always)]
 pub(crate) fn inv_key(key: &[u8]) -> [u8; 16]
@@ -143,7 +152,7 @@ pub(crate) fn encrypt_block(schedule: &KeySchedule, block: &mut [u8; 16])
     let last = schedule.rounds();
     let mut form = first_round(block, schedule.round_key(0));
     for at in 1..last {
-        let next = round(form, schedule.round_key(at));
+        let next = round(form, schedule.form_key(at));
         form = next;
     }
     *block = last_round(form, schedule.round_key(last)).to_array();

@@ -18,10 +18,10 @@
 #![tactic(auto)]
 
 mod expansion;
-mod inv_keys;
 mod lanes;
 pub mod laws;
 pub mod plain;
+mod prepared_keys;
 mod schedule;
 mod tables;
 mod tower;

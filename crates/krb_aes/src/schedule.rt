@@ -1,11 +1,11 @@
 ghost use Rattle.std.specs.Prelude.{◌≡◌, ◌+◌, ◌*◌, ◌/◌, ◌<◌, ◌≤◌, List, ℕ, length, take};
 ghost use Rattle.krb_aes.specs.KeyExpansion.{IsKey, key_expansion, round_count, round_key};
 ghost use Rattle.krb_aes.specs.Cipher.{cipher, inv_cipher};
-ghost use Rattle.krb_aes.specs.Inner.Schedule.{IsSchedule, inv_round_key};
+ghost use Rattle.krb_aes.specs.Inner.Schedule.{IsSchedule, form_round_key, inv_round_key};
 
 use crate::expansion::{EXPANDED_LEN, expand};
-use crate::inv_keys::inv_keys;
 use crate::lanes;
+use crate::prepared_keys::{PreparedKeys, prepared_keys};
 use std::marker::Model;
 
 /// A key of 128 or 256 bits with its round keys, ready to encrypt and decrypt blocks.
@@ -14,6 +14,7 @@ use std::marker::Model;
 #[derive(Drop)]
 pub struct KeySchedule {
     words: [u8; EXPANDED_LEN],
+    form_words: [u8; EXPANDED_LEN],
     inv_words: [u8; EXPANDED_LEN],
     key_len: usize,
 }
@@ -23,7 +24,7 @@ impl Model for KeySchedule {
 
     ghost view = { λ s. take s.key_len s.words };
 
-    ghost invariant = { λ s. IsSchedule s.key_len s.words s.inv_words };
+    ghost invariant = { λ s. IsSchedule s.key_len s.words s.form_words s.inv_words };
 }
 
 impl KeySchedule {
@@ -34,9 +35,14 @@ impl KeySchedule {
         ensures { result ≡ key.now }
     {
         let words = expand(key);
+        let PreparedKeys {
+            form_words,
+            inv_words,
+        } = prepared_keys(&words, 10);
         KeySchedule {
-            inv_words: inv_keys(&words, 10),
             words,
+            form_words,
+            inv_words,
             key_len: 16,
         }
     }
@@ -48,9 +54,14 @@ impl KeySchedule {
         ensures { result ≡ key.now }
     {
         let words = expand(key);
+        let PreparedKeys {
+            form_words,
+            inv_words,
+        } = prepared_keys(&words, 14);
         KeySchedule {
-            inv_words: inv_keys(&words, 14),
             words,
+            form_words,
+            inv_words,
             key_len: 32,
         }
     }
@@ -111,7 +122,19 @@ impl KeySchedule {
     {
         &self.words[16 * round..16 * round + 16]
     }
-    // The key of a round of decryption but the first and the last, as `lanes::inv_round` takes it.
+
+    // The key of a round of encryption but the first and the last, as `lanes::round` takes it.
+    pub(crate) fn form_key(&self, round: usize) -> &[u8]
+        requires key { IsKey self.now }
+        requires some { 1 ≤ round }
+        requires round { round < round_count self.now }
+        ensures value { result.now ≡ form_round_key (key_expansion self.now) round }
+        ensures len { length result.now ≡ 16 }
+    {
+        &self.form_words[16 * round..16 * round + 16]
+    }
+
+    // The same of decryption, as `lanes::inv_round` takes it.
     pub(crate) fn inv_key(&self, round: usize) -> &[u8]
         requires key { IsKey self.now }
         requires some { 1 ≤ round }

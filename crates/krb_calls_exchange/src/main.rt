@@ -37,22 +37,25 @@
 //! fault request|finish|reply FAULT      the text of a fault
 //! laws                                  calls the laws, which do nothing
 //! ```
+//!
+//! With the arguments `call CALL` it reads no line, but makes one call twice (`twice`), for the tests that refuse memory.
 #![tactic(auto)]
 
 mod causes;
 mod clients;
+mod given;
 mod memories;
 mod messages;
 mod names;
 mod services;
+mod twice;
 
 use krb_ap::Initiator;
-use krb_words::{Answer, Words};
+use krb_words::{Answer, Calls, Words, answer_lines};
 use memories::Memory;
 use messages::Messages;
 use services::Served;
 use std::alloc::Global;
-use std::io::{self, BufRead, BufReader, BufWriter, Write};
 use std::process::ExitCode;
 
 /// What earlier lines made.
@@ -64,7 +67,34 @@ struct Kept {
     memory: Option<Memory>,
 }
 
-impl Kept {
+fn main(rt: HostRuntime) -> ExitCode {
+    match call_named(&rt) {
+        Some(Some(name)) => called_twice(&rt, name.as_str()),
+        Some(None) => answer_lines::<Kept>(&rt),
+        None => ExitCode::from(2),
+    }
+}
+
+// The call that the arguments name, if there are arguments.
+fn call_named(rt: &HostRuntime) -> Option<Option<String>> {
+    let words: Vec<String> = std::env::args(rt).ok()?.collect(rt.alloc()).ok()?;
+    let Some(first) = words.get(1) else {
+        return Some(None);
+    };
+    match first.as_str() {
+        "call" => Some(Some(words.get(2)?.clone().ok()?)),
+        _ => None,
+    }
+}
+
+fn called_twice(rt: &HostRuntime, name: &str) -> ExitCode {
+    match twice::call(rt, name) {
+        Some(()) => ExitCode::from(0),
+        None => ExitCode::from(2),
+    }
+}
+
+impl Calls for Kept {
     fn new(alloc: Global) -> Kept {
         Kept {
             served: Served::new(),
@@ -73,61 +103,20 @@ impl Kept {
             memory: None,
         }
     }
-}
 
-fn main(rt: HostRuntime) -> ExitCode {
-    match run(&rt) {
-        Ok(()) => ExitCode::from(0),
-        Err(_) => ExitCode::from(2),
-    }
-}
-
-fn run(rt: &HostRuntime) -> io::Result<()> {
-    let alloc = rt.alloc();
-    let mut kept = Kept::new(alloc);
-    let mut out = BufWriter::new(alloc, io::writer(rt))?;
-    for line in BufReader::new(alloc, rt.reader())?.lines(alloc) {
-        answer_line(alloc, &mut kept, line?.as_str(), &mut out)?;
-    }
-    out.flush()
-}
-
-fn answer_line<W: Write>(
-    alloc: Global,
-    kept: &mut Kept,
-    line: &str,
-    out: &mut W,
-) -> io::Result<()> {
-    let mut answer = Answer::new(alloc);
-    let text = match answered(kept, &mut Words::new(alloc, line), &mut answer) {
-        Some(()) => answer.text(),
-        None => "bad line",
-    };
-    writeln!(out, "{text}")
-}
-
-fn answered(kept: &mut Kept, words: &mut Words, out: &mut Answer) -> Option<()> {
-    let first = words.next()?;
-    if first == "new" {
-        *kept = Kept::new(words.alloc);
-        out.word("new")?;
-    } else {
-        call(kept, first, words, out)?;
-    }
-    if words.is_at_end() { Some(()) } else { None }
-}
-
-fn call(kept: &mut Kept, first: &str, words: &mut Words, out: &mut Answer) -> Option<()> {
-    match first {
-        "service" | "accept" | "serve" | "keytab" | "stamp" | "held" | "reply" => {
-            services::answer(&mut kept.served, &mut kept.messages, first, words, out)
+    fn call(&mut self, words: &mut Words, out: &mut Answer) -> Option<()> {
+        let first = words.next()?;
+        match first {
+            "service" | "accept" | "serve" | "keytab" | "stamp" | "held" | "reply" => {
+                services::answer(&mut self.served, &mut self.messages, first, words, out)
+            }
+            "cache" | "request" | "initiate" | "finish" => {
+                clients::answer(&mut self.initiator, &mut self.messages, first, words, out)
+            }
+            "error" | "cause" | "fault" => causes::answer(first, words, out),
+            "laws" => laws(out),
+            _ => memories::answer(&mut self.memory, first, words, out),
         }
-        "cache" | "request" | "initiate" | "finish" => {
-            clients::answer(&mut kept.initiator, &mut kept.messages, first, words, out)
-        }
-        "error" | "cause" | "fault" => causes::answer(first, words, out),
-        "laws" => laws(out),
-        _ => memories::answer(&mut kept.memory, first, words, out),
     }
 }
 

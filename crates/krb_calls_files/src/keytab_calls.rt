@@ -18,6 +18,7 @@ pub(crate) fn keytab(alloc: Global, words: &[&str]) -> Option<String> {
         ["pick", file, name, etype, kvno] => picked(alloc, file, name, etype, kvno),
         ["remove", index, file] => removed(alloc, index, file),
         ["add", file, ..] => added(alloc, file, words.get(2..)?),
+        ["turned", file] => turned(alloc, file),
         _ => None,
     }
 }
@@ -113,6 +114,21 @@ fn added(alloc: Global, file: &str, words: &[&str]) -> Option<String> {
     let mut file = bytes_of(alloc, file)?;
     let answer = Keytab::add_in(&mut file, &entry);
     edited(alloc, answer, &file)
+}
+
+// Each entry is removed and added again: whether it takes the hole that it left, so that the file is as it was.
+fn turned(alloc: Global, file: &str) -> Option<String> {
+    let whole = bytes_of(alloc, file)?;
+    let mut file = whole.clone().ok()?;
+    let keytab = Keytab::parse(alloc, &whole).ok()?;
+    for (index, entry) in keytab.entries().iter().enumerate() {
+        Keytab::remove_in(&mut file, index).ok()?;
+        Keytab::add_in(&mut file, entry).ok()?;
+        if file != whole {
+            return format!(in alloc; "differs at {index}").ok();
+        }
+    }
+    word(alloc, "same")
 }
 
 // What an edit answered, and the file afterwards.

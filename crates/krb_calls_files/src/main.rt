@@ -16,6 +16,7 @@
 //! bytes from|pushed|of|clone BYTES, bytes same BYTES BYTES       how many, whether there are none, and the bytes
 //! components pushed|clone LIST, room COUNT LIST, same LIST LIST
 //! keytab parse FILE, read SOURCE FILE, write FILE, pick FILE NAME ETYPE KVNO|none, remove INDEX FILE, add FILE ENTRY
+//! keytab turned FILE                      each entry is removed and added again: `same` if the file is then as it was
 //! entry new|shown NAME TIMESTAMP KVNO ETYPE KEY
 //! cache parse FILE, read SOURCE FILE, write FILE, made|written HEADER NAME [CREDENTIAL ..], shown CREDENTIAL, list LIST
 //! ```

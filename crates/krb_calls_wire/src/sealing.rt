@@ -18,7 +18,7 @@ pub(crate) struct Kept {
 }
 
 impl Kept {
-    pub(crate) fn new(alloc: Global) -> Kept {
+    pub(crate) fn without_keys(alloc: Global) -> Kept {
         Kept {
             sha256: None,
             sha384: None,

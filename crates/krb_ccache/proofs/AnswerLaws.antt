@@ -20,11 +20,12 @@ use Rattle.krb_name.specs.File.{file_limit}
 use Rattle.krb_ccache.specs.Format.{version_of, head_bytes, FitsHead, start_bytes, written, Spelled, Spells, IsReached, IsCache, LacksVersion, LacksHeader, LacksDefault, IsFaultOf, IsAnswerOf}
 use Rattle.krb_ccache.specs.declared.fault.CacheFault.{CacheFault}
 use Rattle.krb_ccache.specs.declared.fault.CacheFault.TheVariants.{Version, Header, BadItem, TooLong, Read, OutOfMemory}
-use Rattle.krb_ccache.specs.Inner.Reading.{field_at, name_at, layout_at, spelled_at}
+use Rattle.krb_ccache.specs.Inner.Reading.{field_at, name_at, layout_at}
 use Rattle.krb_ccache.specs.Inner.Standing.{bytes_of, Lies, Reaches, IsMissing, Fills}
 use Rattle.krb_ccache.specs.Inner.Stepping.{Any}
 use Rattle.krb_ccache.specs.Reader.{HasTaken, IsFirstOf}
-use Rattle.krb_ccache.proofs.PartLaws.{FitsField, IsField-field, IsField-name, IsField-layout, IsField-spelled}
+use Rattle.krb_ccache.proofs.PartLaws.{FitsField, IsField-field, IsField-name, IsField-layout}
+use Rattle.krb_ccache.proofs.CredentialLaws.{spelled_at, IsField-spelled}
 use Rattle.krb_ccache.proofs.Repeats.{same_front, same_things, first_things, runs_out}
 use Rattle.krb_ccache.proofs.HeaderLaws.{field_some, fits_fields, filled, filled_same, header_lies, header_cut, header_wrong, no_head, opened, no_version}
 use Rattle.krb_ccache.proofs.LayoutLaws.{credential_in, read_cache, written_reached, reached_written, reached_before}

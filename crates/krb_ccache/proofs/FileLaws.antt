@@ -18,10 +18,10 @@ use Rattle.krb_name.specs.File.{file_limit}
 use Rattle.krb_ccache.specs.Format.{version_of, head_bytes, FitsHead, start_bytes, Spelled, Spells, IsReached, IsCache, IsFaultOf}
 use Rattle.krb_ccache.specs.declared.fault.CacheFault.{CacheFault}
 use Rattle.krb_ccache.specs.declared.fault.CacheFault.TheVariants.{Version, Header, BadItem, TooLong, Read, OutOfMemory}
-use Rattle.krb_ccache.specs.Inner.Reading.{name_at, credential_at, spelled_at}
-use Rattle.krb_ccache.specs.Inner.Standing.{bytes_of, Lies, Reaches, IsMissing, StopsBy}
-use Rattle.krb_ccache.specs.Inner.Stepping.{spelled_as}
-use Rattle.krb_ccache.proofs.PartLaws.{IsField-name, IsField-spelled, spelled_some, spelled_none}
+use Rattle.krb_ccache.specs.Inner.Reading.{name_at}
+use Rattle.krb_ccache.specs.Inner.Standing.{bytes_of, spelled_as, Lies, LiesOne, Reaches, IsMissing, StopsBy}
+use Rattle.krb_ccache.proofs.PartLaws.{IsField-name}
+use Rattle.krb_ccache.proofs.CredentialLaws.{spelled_at, IsField-spelled}
 use Rattle.krb_ccache.proofs.Repeats.{missing_where, reach_none, reach_more}
 use Rattle.krb_ccache.proofs.LayoutLaws.{credential_some, credential_in, all_fit, map_more, read_cache, is_reached, reached_within}
 
@@ -42,30 +42,20 @@ pub none_reached : (layout : Layout) (start place : Place) → IsBytes start.res
 none_reached layout start place fits e = rw e (reach_none (spelled_at layout) bytes_of (Spells layout) (IsField-spelled layout) start fits)
 
 -- one credential more
-pub record Goes (layout : Layout) (start place : Place) (spelled : List Spelled) (credential : Credential) (behind : Place) : Type 0 where
-  pub bytes : List ℕ
-  pub reaches : Reaches bytes_of (Spells layout) start (spelled ++ spelled_as bytes credential ∷ []) behind
+pub record Goes (layout : Layout) (start place : Place) (spelled : List Spelled) (one : Spelled) (behind : Place) : Type 0 where
+  pub reaches : Reaches bytes_of (Spells layout) start (spelled ++ one ∷ []) behind
   pub smaller : length behind.rest < length place.rest
 
-pub credential_goes : (layout : Layout) (start place : Place) (spelled : List Spelled) (credential : Credential) (behind : Place) → Reaches bytes_of (Spells layout) start spelled place
-    → credential_at layout place ≡ Some (credential, behind) → Goes layout start place spelled credential behind
-credential_goes layout start place spelled credential behind reaches e =
-    let some = spelled_some layout place credential behind e in
-    let one : Spelled = spelled_as some.0 credential in
-    let t = (IsField-spelled layout).takes place one behind reaches.takes.rest_fits some.1 in
-    record {
-      bytes = some.0;
-      reaches = reach_more (spelled_at layout) bytes_of (Spells layout) (IsField-spelled layout) start spelled place one behind reaches some.1;
-      smaller = omega (arith, spelled_bytes_some layout one t.1, ap length t.0.parts, length-append some.0 behind.rest);
-    }
-
-pub credential_missing : (layout : Layout) (place : Place) → credential_at layout place ≡ None → IsMissing bytes_of (Spells layout) place.rest
-credential_missing layout place none = missing_where (spelled_at layout) bytes_of (Spells layout) (IsField-spelled layout) place (spelled_none layout place none)
+pub credential_goes : (layout : Layout) (start place : Place) (spelled : List Spelled) (one : Spelled) (behind : Place) → Reaches bytes_of (Spells layout) start spelled place → Lies bytes_of (Spells layout) place one behind → Goes layout start place spelled one behind
+credential_goes layout start place spelled one behind reaches lies = record {
+  reaches = reach_more (spelled_at layout) bytes_of (Spells layout) (IsField-spelled layout) start spelled place one behind reaches lies;
+  smaller = omega (arith, spelled_bytes_some layout one lies.fits, ap length lies.takes.parts, length-append one.bytes behind.rest);
+}
 
 pub stops : (layout : Layout) (start place : Place) (spelled : List Spelled) (fault : CacheFault) → Reaches bytes_of (Spells layout) start spelled place → (place.rest ≡ [] → ⊥)
-    → (fault ≡ BadItem place.at) × (credential_at layout place ≡ None) → StopsBy layout start fault
+    → (fault ≡ BadItem place.at) × IsMissing bytes_of (Spells layout) place.rest → StopsBy layout start fault
 stops layout start place spelled fault reaches more h =
-    subst (StopsBy layout start) (sym h.0) (record { credentials = spelled; behind = place; reaches = reaches; at_is = refl; more = more; missing = credential_missing layout place h.1 })
+    subst (StopsBy layout start) (sym h.0) (record { credentials = spelled; behind = place; reaches = reaches; at_is = refl; more = more; missing = h.1 })
 
 -- the credentials so far, with their spellings
 pub record ReadTo (layout : Layout) (start place : Place) (credentials : List Credential) : Type 0 where
@@ -77,10 +67,10 @@ pub read_none : (layout : Layout) (start place : Place) (credentials : List Cred
 read_none layout start place credentials fits e none = record { spelled = []; reaches = none_reached layout start place fits e; are = none }
 
 pub read_more : (layout : Layout) (start place : Place) (credentials : List Credential) (credential : Credential) (behind : Place) → ReadTo layout start place credentials
-    → credential_at layout place ≡ Some (credential, behind) → ReadTo layout start behind (credentials ++ credential ∷ [])
-read_more layout start place credentials credential behind so_far e =
-    let goes = credential_goes layout start place so_far.spelled credential behind so_far.reaches e in
-    let one : Spelled = spelled_as goes.bytes credential in
+    → LiesOne layout place credential behind → ReadTo layout start behind (credentials ++ credential ∷ [])
+read_more layout start place credentials credential behind so_far lies =
+    let one : Spelled = spelled_as lies.0 credential in
+    let goes = credential_goes layout start place so_far.spelled one behind so_far.reaches lies.1 in
     record { spelled = so_far.spelled ++ one ∷ []; reaches = goes.reaches; are = ap (λ (t : List Credential). t ++ credential ∷ []) so_far.are ∙ sym (map_more so_far.spelled one) }
 
 pub read_fit : (layout : Layout) (start place : Place) (credentials : List Credential) → ReadTo layout start place credentials → All FitsCredential credentials

@@ -1,19 +1,16 @@
 -- Whether a file has room for lists of parts.
-use Rattle.std.proofs.Common.{◌≡◌, ℕ, ◌+◌, ◌<◌, ◌≤◌, ◌^◌, List, [], ◌∷◌, ◌++◌, length, get_or, take, drop, sym, ap, subst, ◌∙◌, append-nil, arith}
-use Rattle.std.specs.Prelude.{All}
+use Rattle.std.proofs.Common.{◌≡◌, ℕ, Bool, true, false, ◌+◌, ◌<◌, ◌≤◌, List, [], ◌∷◌, ◌++◌, length, get_or, take, drop, sym, ap, subst, ◌∙◌, append-nil, arith}
+use Rattle.std.specs.Prelude.{All, MatchBool}
 use Rattle.std.specs.List.{flat_map}
 use Rattle.std.specs.Int.{w16}
 use Rattle.std.proofs.lemmas.List.{length-append, take-append-drop, take_all, take_more}
 use Rattle.std.proofs.lemmas.List.Concat.{flat_map-append}
 use Rattle.std.proofs.lemmas.List.Elements.{All-more}
 use Rattle.krb_name.specs.Cursor.{number_bytes, data_bytes}
-use Rattle.krb_ccache.specs.declared.typed.TypedBytes.{TypedBytes}
 use Rattle.krb_ccache.specs.declared.credential.HeaderField.{HeaderField}
-use Rattle.krb_ccache.specs.declared.credential.Credential.{Credential}
 use Rattle.krb_ccache.specs.Spelling.{field_bytes, fields_bytes}
-use Rattle.krb_ccache.specs.Value.{HasHeaderLengths, FitsHeader, FitsName, FitsList, FitsCredential}
-use Rattle.krb_ccache.specs.Inner.Fitting.{HasDataLengths, HasNumbers}
-use Rattle.krb_ccache.proofs.PartLaws.{FitsField, FitsTyped}
+use Rattle.krb_ccache.specs.Value.{HasHeaderLengths, FitsHeader}
+use Rattle.krb_ccache.proofs.PartLaws.{FitsField}
 use Rattle.krb_ccache.proofs.HeaderLaws.{fields_fit}
 
 -- what holds of each holds of the one at a place
@@ -32,6 +29,11 @@ pub spelled_more : {X : Type 0} (spelled : X → List ℕ) (xs : List X) (i : �
 spelled_more {X = X} spelled xs i x lt e =
     ap (flat_map spelled) (take_more xs i x lt ∙ ap (λ (y : X). take i xs ++ y ∷ []) (sym e)) ∙ flat_map-append spelled (take i xs) (x ∷ []) ∙ ap (λ (t : List ℕ). flat_map spelled (take i xs) ++ t) (append-nil (spelled x))
 
+-- a test of one thing is that of another
+pub tested_as : (b : Bool) (P Q P' Q' : Type 0) → (P → P') → (Q' → Q) → MatchBool b P (¬ Q) → MatchBool b P' (¬ Q')
+tested_as true P Q P' Q' f g p = f p
+tested_as false P Q P' Q' f g lacks = λ q. lacks (g q)
+
 -- ---- the header
 
 pub field_more : (header : List HeaderField) (i : ℕ) (field : HeaderField) → i < length header → field ≡ get_or header i field → length (fields_bytes (take (i + 1) header)) ≡ length (fields_bytes (take i header)) + (4 + length field.value)
@@ -49,27 +51,3 @@ too_much header i size field lt e counted more has = omega (arith, has.whole, fr
 
 pub header_seen : (header : List HeaderField) (i : ℕ) → All FitsField (take i header) → length header ≤ i → length (fields_bytes (take i header)) ≤ 65535 → FitsHeader header
 header_seen header i all le small = fields_fit header (all_seen FitsField header i all le) (omega (arith, ap (λ (t : List HeaderField). length (fields_bytes t)) (take_all i header le)))
-
--- ---- a list, and a credential
-
-pub list_seen : (list : List TypedBytes) (i : ℕ) → All FitsTyped (take i list) → length list ≤ i → length list < 2 ^ 32 → FitsList list
-list_seen list i all le short =
-    let whole = all_seen FitsTyped list i all le in
-    record { lengths = record { count = short; each = λ k d lt. (whole k d lt).1 }; kinds = λ k d lt. (whole k d lt).0 }
-
-pub credential_seen : (c : Credential) → FitsName c.client → FitsName c.server → FitsList c.addresses → FitsList c.authdata → HasDataLengths c → HasNumbers c → FitsCredential c
-credential_seen c client server addresses authdata has numbers = record {
-  client = client;
-  server = server;
-  etype = numbers.etype;
-  key = has.key;
-  authtime = numbers.authtime;
-  starttime = numbers.starttime;
-  endtime = numbers.endtime;
-  renew_till = numbers.renew_till;
-  ticket_flags = numbers.ticket_flags;
-  addresses = addresses;
-  authdata = authdata;
-  ticket = has.ticket;
-  second_ticket = has.second_ticket;
-}

@@ -62,7 +62,7 @@ pub field_goes : (body : List ℕ) (place : Place) (fields : List HeaderField) (
 field_goes body place fields field behind reaches e =
     let t = IsField-field.takes place field behind reaches.takes.rest_fits e in
     record {
-      reaches = reach_more field_at field_bytes FitsField IsField-field (record { at = 0; rest = body }) fields place field behind reaches e;
+      reaches = reach_more field_at field_bytes FitsField IsField-field (record { at = 0; rest = body }) fields place field behind reaches (record { fits = t.1; takes = t.0 });
       smaller = omega (arith, field_some field t.1, ap length t.0.parts, length-append (field_bytes field) behind.rest);
     }
 

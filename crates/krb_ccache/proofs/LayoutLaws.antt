@@ -16,8 +16,7 @@ use Rattle.krb_ccache.specs.Spelling.{name_bytes, flag_bytes, list_bytes, keyed_
 use Rattle.krb_ccache.specs.Value.{Cache, cache_of, FitsHeader, FitsName, FitsCredential, Fits}
 use Rattle.krb_name.specs.File.{file_limit}
 use Rattle.krb_ccache.specs.Format.{FitsHead, start_bytes, written, Spelled, Spells, credential_length, IsReached, IsCache}
-use Rattle.krb_ccache.specs.Inner.Standing.{bytes_of}
-use Rattle.krb_ccache.specs.Inner.Stepping.{spelled_as}
+use Rattle.krb_ccache.specs.Inner.Standing.{bytes_of, spelled_as}
 use Rattle.krb_ccache.specs.Reader.{with_credential}
 
 -- ---- the header

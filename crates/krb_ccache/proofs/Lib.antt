@@ -7,6 +7,7 @@ pub mod AnswerLaws
 pub mod SourceLaws
 pub mod OffsetLaws
 pub mod ComputedOffset
+pub mod CredentialLaws
 pub mod FitsLaws
 pub mod WritingLaws
 pub mod RoomLaws

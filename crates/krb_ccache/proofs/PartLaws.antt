@@ -1,27 +1,25 @@
 -- Each part of a cache is read as it is spelled.
-use Rattle.std.proofs.Common.{◌≡◌, ℕ, ◌+◌, ◌<◌, ◌^◌, Bool, true, false, cond, eqb, List, ◌++◌, length, Option, Some, None, refl, sym, ap, subst, ◌∙◌, append_assoc, arith}
+use Rattle.std.proofs.Common.{◌≡◌, ℕ, ◌+◌, ◌<◌, ◌^◌, Bool, true, false, cond, eqb, List, ◌++◌, length, Some, None, refl, sym, ap, subst, ◌∙◌, append_assoc, arith}
 use Rattle.std.specs.Int.{w8, w16, w32}
-use Rattle.std.specs.Prelude.{All, FitsSigned}
+use Rattle.std.specs.Prelude.{All}
 use Rattle.std.specs.List.{flat_map}
 use Rattle.std.proofs.lemmas.Bool.{eqb-true}
 use Rattle.std.proofs.lemmas.List.{length-append}
 use Rattle.std.proofs.lemmas.List.Elements.{All-from_recursion, recursion_from_All}
 use Rattle.krb_name.specs.Cursor.{Place, ◌>>=◌, number_at, signed_at, data_at, times_at, number_bytes, signed_bytes, data_bytes}
 use Rattle.krb_name.specs.Field.{IsBytes, Takes, IsField}
-use Rattle.krb_name.proofs.CursorLaws.{bind_some, some_is, Takes-then, IsField-bytes, IsField-u8, IsField-u16, IsField-u32, IsField-i16, IsField-i32, IsField-data16, IsField-data32}
+use Rattle.krb_name.proofs.CursorLaws.{bind_some, some_is, Takes-then, IsField-u8, IsField-u16, IsField-u32, IsField-i32, IsField-data16, IsField-data32}
 use Rattle.krb_name.proofs.Repeated.{IsField-times}
 use Rattle.krb_name.specs.declared.principal.Principal.{Principal}
 use Rattle.krb_ccache.specs.declared.typed.TypedBytes.{TypedBytes}
 use Rattle.krb_ccache.specs.declared.credential.HeaderField.{HeaderField}
-use Rattle.krb_ccache.specs.declared.credential.Credential.{Credential}
 use Rattle.krb_ccache.specs.declared.layout.Layout.{Layout}
 use Rattle.krb_ccache.specs.declared.layout.Layout.TheVariants.{Version3, Version4}
-use Rattle.krb_ccache.specs.Spelling.{field_bytes, name_bytes, flag_bytes, typed_bytes, list_bytes, keyed_bytes}
-use Rattle.krb_ccache.specs.Format.{version_of, second_size, Spelled, Spells}
-use Rattle.krb_ccache.specs.Inner.Standing.{bytes_of}
-use Rattle.krb_ccache.specs.Inner.Stepping.{Any, spelled_as}
-use Rattle.krb_ccache.specs.Value.{FitsName, FitsList, FitsCredential}
-use Rattle.krb_ccache.specs.Inner.Reading.{both_at, made_at, field_of, is_field, field_at, name_at, flag_of, flag_at, typed_of, typed_at, list_at, layout_of, layout_at, Parts, credential_of, spelled_of, parts_at, credential_at, spelled_at}
+use Rattle.krb_ccache.specs.Spelling.{field_bytes, name_bytes, typed_bytes, list_bytes}
+use Rattle.krb_ccache.specs.Format.{version_of}
+use Rattle.krb_ccache.specs.Inner.Stepping.{Any}
+use Rattle.krb_ccache.specs.Value.{FitsName, FitsList}
+use Rattle.krb_ccache.specs.Inner.Reading.{both_at, made_at, field_of, is_field, field_at, name_at, is_flag, allowed, byte_at, typed_of, typed_at, list_at, layout_of, layout_at}
 use Rattle.krb_ccache.proofs.Fields.{IsField-both, IsMade, IsField-made, IsField-passing, IsField-counted}
 
 abbrev pub Below16 : ℕ → Type 0
@@ -103,38 +101,8 @@ IsField-name = record { takes = name_take; again = name_again }
 
 -- ---- a flag
 
-flag_is : (n : ℕ) (flag : Bool) → flag_of n ≡ Some flag → number_bytes w8 n ≡ flag_bytes flag
-flag_is n flag e = tested (eqb n 0) (eqb n 1) refl refl e
-  where
-    tested : (b c : Bool) → eqb n 0 ≡ b → eqb n 1 ≡ c → cond b (Some false) (cond c (Some true) None) ≡ Some flag → number_bytes w8 n ≡ flag_bytes flag
-    tested true c p q r = ap (number_bytes w8) (eqb-true n 0 p) ∙ ap flag_bytes (bool_is false flag r)
-      where
-        bool_is : (x y : Bool) → Some x ≡ Some y → x ≡ y
-        bool_is x y s = cc
-    tested false true p q r = ap (number_bytes w8) (eqb-true n 1 q) ∙ ap flag_bytes (bool_is true flag r)
-      where
-        bool_is : (x y : Bool) → Some x ≡ Some y → x ≡ y
-        bool_is x y s = cc
-    tested false false p q r = absurd (none_is flag r)
-      where
-        none_is : (y : Bool) → None ≡ Some y → ⊥
-        none_is y s = cc
-
-flag_take : (place : Place) (flag : Bool) (behind : Place) → IsBytes place.rest → flag_at place ≡ Some (flag, behind) → Takes place (flag_bytes flag) behind × Any flag
-unfolding flag_at
-flag_take place flag behind fits e =
-    let a = bind_some (number_at w8 place) (λ n. flag_of n.0 >>= λ f. Some (f, n.1)) (flag, behind) e in
-    let b = bind_some (flag_of a.0.0) (λ f. Some (f, a.0.1)) (flag, behind) a.2 in
-    let t = IsField-u8.takes place a.0.0 a.0.1 fits a.1 in
-    subst (λ (p : Bool × Place). Takes place (flag_bytes p.0) p.1 × Any p.0) (some_is (b.0, a.0.1) (flag, behind) b.2) (subst (λ (text : List ℕ). Takes place text a.0.1) (flag_is a.0.0 b.0 b.1) t.0, tt)
-
-flag_again : (at : ℕ) (flag : Bool) (rest : List ℕ) → Any flag → flag_at (record { at = at; rest = flag_bytes flag ++ rest }) ≡ Some (flag, record { at = at + length (flag_bytes flag); rest = rest })
-unfolding flag_at
-flag_again at true rest h = rw (IsField-u8.again at 1 rest (omega arith)) refl
-flag_again at false rest h = rw (IsField-u8.again at 0 rest (omega arith)) refl
-
-pub IsField-flag : IsField flag_at flag_bytes Any
-IsField-flag = record { takes = flag_take; again = flag_again }
+pub byte_field : (strict : Bool) → IsField (byte_at strict) (number_bytes w8) (λ n. (n < 2 ^ 8) × (allowed strict (is_flag n) ≡ true))
+byte_field strict = IsField-passing (λ n. allowed strict (is_flag n)) (number_at w8) (number_bytes w8) (λ n. n < 2 ^ 8) IsField-u8
 
 -- ---- addresses and authorization data
 
@@ -208,101 +176,3 @@ layout_again at Version4 rest h = rw (IsField-u16.again at 0x0504 rest (omega ar
 
 pub IsField-layout : IsField layout_at version_of Any
 IsField-layout = record { takes = layout_take; again = layout_again }
-
--- ---- a credential
-
-module _ (layout : Layout) where
-  abbrev FitsParts : Parts → Type 0
-  FitsParts p =
-      FitsName p.0 × (FitsName p.1.0 × (FitsSigned w16 p.1.1.0 × ((length p.1.1.1.0 ≡ second_size layout) × (Short32 p.1.1.1.1.0 × (Below32 p.1.1.1.1.1.0 × (Below32 p.1.1.1.1.1.1.0 × (Below32 p.1.1.1.1.1.1.1.0 × (Below32 p.1.1.1.1.1.1.1.1.0 × (Any p.1.1.1.1.1.1.1.1.1.0 × (Below32 p.1.1.1.1.1.1.1.1.1.1.0 × (FitsList p.1.1.1.1.1.1.1.1.1.1.1.0 × (FitsList p.1.1.1.1.1.1.1.1.1.1.1.1.0 × (Short32 p.1.1.1.1.1.1.1.1.1.1.1.1.1.0 × Short32 p.1.1.1.1.1.1.1.1.1.1.1.1.1.1)))))))))))))
-
-  parts_field : IsField (parts_at layout) (λ p. keyed_bytes (credential_of p) p.1.1.1.0) FitsParts
-  parts_field =
-      IsField-both _ _ _ IsField-name _ _ _ (
-      IsField-both _ _ _ IsField-name _ _ _ (
-      IsField-both _ _ _ IsField-i16 _ _ _ (
-      IsField-both _ _ _ (IsField-bytes (second_size layout)) _ _ _ (
-      IsField-both _ _ _ IsField-data32 _ _ _ (
-      IsField-both _ _ _ IsField-u32 _ _ _ (
-      IsField-both _ _ _ IsField-u32 _ _ _ (
-      IsField-both _ _ _ IsField-u32 _ _ _ (
-      IsField-both _ _ _ IsField-u32 _ _ _ (
-      IsField-both _ _ _ IsField-flag _ _ _ (
-      IsField-both _ _ _ IsField-u32 _ _ _ (
-      IsField-both _ _ _ IsField-list _ _ _ (
-      IsField-both _ _ _ IsField-list _ _ _ (
-      IsField-both _ _ _ IsField-data32 _ _ _ IsField-data32)))))))))))))
-
-  parts_of : Credential → List ℕ → Parts
-  parts_of c second = (c.client, (c.server, (c.etype, (second, (c.key, (c.authtime, (c.starttime, (c.endtime, (c.renew_till, (c.is_skey, (c.ticket_flags, (c.addresses, (c.authdata, (c.ticket, c.second_ticket))))))))))))))
-
-  fits_parts : (c : Credential) (second : List ℕ) → FitsCredential c → length second ≡ second_size layout → FitsParts (parts_of c second)
-  unfolding parts_of
-  fits_parts c second h size = (h.client, (h.server, (h.etype, (size, (h.key, (h.authtime, (h.starttime, (h.endtime, (h.renew_till, (tt, (h.ticket_flags, (h.addresses, (h.authdata, (h.ticket, h.second_ticket))))))))))))))
-
-  parts_spell : (p : Parts) → FitsParts p → Spells layout (spelled_of p)
-  parts_spell p (client, (server, (etype, (size, (key, (authtime, (starttime, (endtime, (renew_till, (is_skey, (ticket_flags, (addresses, (authdata, (ticket, second_ticket)))))))))))))) = record {
-    fits = record {
-      client = client;
-      server = server;
-      etype = etype;
-      key = key;
-      authtime = authtime;
-      starttime = starttime;
-      endtime = endtime;
-      renew_till = renew_till;
-      ticket_flags = ticket_flags;
-      addresses = addresses;
-      authdata = authdata;
-      ticket = ticket;
-      second_ticket = second_ticket;
-    };
-    second = p.1.1.1.0;
-    size = size;
-    bytes_are = refl;
-  }
-
-  spelled_take : (place : Place) (one : Spelled) (behind : Place) → IsBytes place.rest → spelled_at layout place ≡ Some (one, behind) → Takes place one.bytes behind × Spells layout one
-  unfolding spelled_at
-  spelled_take place one behind fits e =
-      let a = bind_some (parts_at layout place) (λ p. Some (spelled_of p.0, p.1)) (one, behind) e in
-      let t = parts_field.takes place a.0.0 a.0.1 fits a.1 in
-      subst (λ (p : Spelled × Place). Takes place p.0.bytes p.1 × Spells layout p.0) (some_is (spelled_of a.0.0, a.0.1) (one, behind) a.2) (t.0, parts_spell a.0.0 t.1)
-
-  spelled_again : (at : ℕ) (one : Spelled) (rest : List ℕ) → Spells layout one → spelled_at layout (record { at = at; rest = one.bytes ++ rest }) ≡ Some (one, record { at = at + length one.bytes; rest = rest })
-  unfolding spelled_at parts_of
-  spelled_again at one rest h =
-      let p : Parts = parts_of one.credential h.second in
-      let bytes : List ℕ = keyed_bytes one.credential h.second in
-      let read = parts_field.again at p rest (fits_parts one.credential h.second h.fits h.size) in
-      let made : spelled_at layout (record { at = at; rest = bytes ++ rest }) ≡ Some (spelled_of p, record { at = at + length bytes; rest = rest }) = ap (λ (o : Option (Parts × Place)). o >>= λ x. Some (spelled_of x.0, x.1)) read in
-      subst (λ (b : List ℕ). spelled_at layout (record { at = at; rest = b ++ rest }) ≡ Some (record { bytes = b; credential = one.credential }, record { at = at + length b; rest = rest })) (sym h.bytes_are) made
-
-  pub IsField-spelled : IsField (spelled_at layout) bytes_of (Spells layout)
-  IsField-spelled = record { takes = spelled_take; again = spelled_again }
-
-  -- what is read of a credential is that of its spelling
-
-  pub spelled_some : (place : Place) (credential : Credential) (behind : Place) → credential_at layout place ≡ Some (credential, behind) → (bytes : List ℕ) × (spelled_at layout place ≡ Some (spelled_as bytes credential, behind))
-  unfolding spelled_at credential_at
-  spelled_some place credential behind e =
-      let a = bind_some (parts_at layout place) (λ p. Some (credential_of p.0, p.1)) (credential, behind) e in
-      let same = some_is (credential_of a.0.0, a.0.1) (credential, behind) a.2 in
-      let bytes : List ℕ = keyed_bytes (credential_of a.0.0) a.0.0.1.1.1.0 in (
-        bytes,
-        ap (λ (o : Option (Parts × Place)). o >>= λ x. Some (spelled_of x.0, x.1)) a.1 ∙ ap (λ (x : Credential × Place). Some (spelled_as bytes x.0, x.1)) same,
-      )
-
-  abbrev only_credential : Parts × Place → Option (Credential × Place)
-  only_credential p = Some (credential_of p.0, p.1)
-
-  abbrev with_bytes : Parts × Place → Option (Spelled × Place)
-  with_bytes p = Some (spelled_of p.0, p.1)
-
-  pub spelled_none : (place : Place) → credential_at layout place ≡ None → spelled_at layout place ≡ None
-  unfolding spelled_at credential_at
-  spelled_none place none = by_parts (parts_at layout place) none
-    where
-      by_parts : (read : Option (Parts × Place)) → (read >>= only_credential) ≡ None → (read >>= with_bytes) ≡ None
-      by_parts None e = refl
-      by_parts (Some p) e = absurd cc

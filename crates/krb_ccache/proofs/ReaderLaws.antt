@@ -18,8 +18,8 @@ use Rattle.krb_ccache.specs.Format.{version_of, head_bytes, FitsHead, start_byte
 use Rattle.krb_ccache.specs.Reader.{Reading, ended_by, ended_passed, passed, HasTaken, HasRead, GaveOne, PassedOne, StaysAtEnd, GoesTo, with_credential}
 use Rattle.krb_ccache.specs.declared.fault.CacheFault.{CacheFault}
 use Rattle.krb_ccache.specs.declared.fault.CacheFault.TheVariants.{Version, Header, BadItem, TooLong, Read, OutOfMemory}
-use Rattle.krb_ccache.specs.Inner.Standing.{bytes_of, IsMissing}
-use Rattle.krb_ccache.specs.Inner.Stepping.{Any, spelled_as, Comes, Gives, Tells, Misses, MissesOne, IsStep}
+use Rattle.krb_ccache.specs.Inner.Standing.{bytes_of, IsMissing, spelled_as}
+use Rattle.krb_ccache.specs.Inner.Stepping.{Any, Comes, Gives, Tells, Misses, MissesOne, IsStep}
 use Rattle.std.proofs.lemmas.Bool.{cases_lt}
 use Rattle.std.proofs.Math.Seq.{take-append-add}
 use Rattle.krb_ccache.proofs.AnswerLaws.{same_reached}

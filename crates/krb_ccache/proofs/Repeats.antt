@@ -7,7 +7,7 @@ use Rattle.std.proofs.lemmas.List.Elements.{All-push, All-from_recursion}
 use Rattle.krb_name.specs.Cursor.{Place}
 use Rattle.krb_name.specs.Field.{IsBytes, Takes, IsField}
 use Rattle.krb_name.proofs.CursorLaws.{some_is, Takes-then}
-use Rattle.krb_ccache.specs.Inner.Standing.{IsMissing, Reaches}
+use Rattle.krb_ccache.specs.Inner.Standing.{Lies, IsMissing, Reaches}
 
 module _ {X : Type 0} (r : Place → Option (X × Place)) (s : X → List ℕ) (P : X → Type 0) (f : IsField r s P) where
   -- one thing is no beginning of another
@@ -65,13 +65,12 @@ module _ {X : Type 0} (r : Place → Option (X × Place)) (s : X → List ℕ) (
   pub reach_none : (place : Place) → IsBytes place.rest → Reaches s P place [] place
   reach_none place fits = record { fit = All-from_recursion P [] tt; takes = record { parts = refl; at = omega arith; text_fits = λ i. omega arith; rest_fits = fits } }
 
-  pub reach_more : (place : Place) (xs : List X) (middle : Place) (x : X) (behind : Place) → Reaches s P place xs middle → r middle ≡ Some (x, behind) → Reaches s P place (xs ++ x ∷ []) behind
-  reach_more place xs middle x behind so_far read =
-      let t = f.takes middle x behind so_far.takes.rest_fits read in
+  pub reach_more : (place : Place) (xs : List X) (middle : Place) (x : X) (behind : Place) → Reaches s P place xs middle → Lies s P middle x behind → Reaches s P place (xs ++ x ∷ []) behind
+  reach_more place xs middle x behind so_far lies =
       let flat : flat_map s (xs ++ x ∷ []) ≡ flat_map s xs ++ s x = flat_map-append s xs (x ∷ []) ∙ ap (λ (k : List ℕ). flat_map s xs ++ k) (append-nil (s x)) in
       record {
-        fit = All-push P xs x so_far.fit t.1;
-        takes = subst (λ (k : List ℕ). Takes place k behind) (sym flat) (Takes-then place (flat_map s xs) middle (s x) behind so_far.takes t.0);
+        fit = All-push P xs x so_far.fit lies.fits;
+        takes = subst (λ (k : List ℕ). Takes place k behind) (sym flat) (Takes-then place (flat_map s xs) middle (s x) behind so_far.takes lies.takes);
       }
 
   -- ---- reading comes to an end
@@ -89,7 +88,7 @@ module _ {X : Type 0} (r : Place → Option (X × Place)) (s : X → List ℕ) (
     step_from place xs middle so_far next (Some (x, behind)) e =
         let t = f.takes middle x behind so_far.takes.rest_fits e in
         let first : 0 < length (s x) = some x t.1 in
-        next x behind (reach_more place xs middle x behind so_far e) (omega (arith, ap length t.0.parts, length-append (s x) behind.rest))
+        next x behind (reach_more place xs middle x behind so_far (record { fits = t.1; takes = t.0 })) (omega (arith, ap length t.0.parts, length-append (s x) behind.rest))
 
     run_from : (most : ℕ) (place : Place) (xs : List X) (middle : Place) → Reaches s P place xs middle → length middle.rest ≤ most → Ended place
     run_from zero place xs middle so_far few = record { xs = xs; behind = middle; reach = so_far; end = inl (nil_from_length middle.rest (omega arith)) }

@@ -8,8 +8,7 @@ use Rattle.krb_name.specs.Cursor.{number_bytes, signed_bytes, data_bytes}
 use Rattle.krb_name.specs.declared.principal.Principal.{Principal}
 use Rattle.krb_ccache.specs.declared.typed.TypedBytes.{TypedBytes}
 use Rattle.krb_ccache.specs.declared.credential.HeaderField.{HeaderField}
-use Rattle.krb_ccache.specs.declared.credential.Credential.{Credential}
-use Rattle.krb_ccache.specs.Spelling.{field_bytes, fields_bytes, header_bytes, name_bytes, flag_bytes, typed_bytes, list_bytes, credential_bytes}
+use Rattle.krb_ccache.specs.Spelling.{field_bytes, fields_bytes, header_bytes, name_bytes, flag_bytes, typed_bytes, list_bytes}
 use Rattle.krb_ccache.proofs.FitsLaws.{spelled_more}
 
 pub length-data : (bytes : List ℕ) → length (data_bytes w32 bytes) ≡ 4 + length bytes
@@ -33,42 +32,9 @@ length-name name =
     let r : List ℕ = data_bytes w32 name.realm ++ c in
     omega (arith, length-append (signed_bytes w32 name.name_type) (number_bytes w32 (length name.components) ++ r), length-append (number_bytes w32 (length name.components)) r, length-append (data_bytes w32 name.realm) c)
 
-length-flag : (flag : Bool) → length (flag_bytes flag) ≡ 1
+pub length-flag : (flag : Bool) → length (flag_bytes flag) ≡ 1
 length-flag true = refl
 length-flag false = refl
-
-pub length-credential : (c : Credential) → length (credential_bytes c)
-    ≡ 23 + length (name_bytes c.client) + length (name_bytes c.server) + length (data_bytes w32 c.key) + length (list_bytes c.addresses) + length (list_bytes c.authdata) + length (data_bytes w32 c.ticket) + length (data_bytes w32 c.second_ticket)
-length-credential c =
-    let tickets : List ℕ = data_bytes w32 c.ticket ++ data_bytes w32 c.second_ticket in
-    let authdata : List ℕ = list_bytes c.authdata ++ tickets in
-    let addresses : List ℕ = list_bytes c.addresses ++ authdata in
-    let flags : List ℕ = number_bytes w32 c.ticket_flags ++ addresses in
-    let is_skey : List ℕ = flag_bytes c.is_skey ++ flags in
-    let renew_till : List ℕ = number_bytes w32 c.renew_till ++ is_skey in
-    let endtime : List ℕ = number_bytes w32 c.endtime ++ renew_till in
-    let starttime : List ℕ = number_bytes w32 c.starttime ++ endtime in
-    let authtime : List ℕ = number_bytes w32 c.authtime ++ starttime in
-    let key : List ℕ = data_bytes w32 c.key ++ authtime in
-    let etype : List ℕ = signed_bytes w16 c.etype ++ key in
-    let server : List ℕ = name_bytes c.server ++ etype in
-    omega (
-      arith,
-      length-append (name_bytes c.client) server,
-      length-append (name_bytes c.server) etype,
-      length-append (signed_bytes w16 c.etype) key,
-      length-append (data_bytes w32 c.key) authtime,
-      length-append (number_bytes w32 c.authtime) starttime,
-      length-append (number_bytes w32 c.starttime) endtime,
-      length-append (number_bytes w32 c.endtime) renew_till,
-      length-append (number_bytes w32 c.renew_till) is_skey,
-      length-append (flag_bytes c.is_skey) flags,
-      length-flag c.is_skey,
-      length-append (number_bytes w32 c.ticket_flags) addresses,
-      length-append (list_bytes c.addresses) authdata,
-      length-append (list_bytes c.authdata) tickets,
-      length-append (data_bytes w32 c.ticket) (data_bytes w32 c.second_ticket),
-    )
 
 -- one thing more, in a list that is walked
 pub length-more : {X : Type 0} (spelled : X → List ℕ) (xs : List X) (i : ℕ) (x : X) → i < length xs → x ≡ get_or xs i x
@@ -99,4 +65,4 @@ walked {X} spelled xs left i rest past so_far =
     let whole : length (flat_map spelled (take i xs)) ≡ length (flat_map spelled xs) = ap (λ (t : List X). length (flat_map spelled t)) (take_all i xs past) in
     (omega (arith, whole, so_far), omega (arith, whole, so_far))
 
-pub ruleset sizes = (length-data, length-header, length-field, length-typed, length-list, length-name, length-credential)
+pub ruleset sizes = (length-data, length-header, length-field, length-typed, length-list, length-name, length-flag, length-append)

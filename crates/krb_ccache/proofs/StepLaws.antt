@@ -16,15 +16,14 @@ use Rattle.krb_ccache.specs.declared.layout.Layout.{Layout}
 use Rattle.krb_ccache.specs.declared.layout.Layout.TheVariants.{Version3}
 use Rattle.krb_ccache.specs.Value.{FitsCredential}
 use Rattle.krb_ccache.specs.declared.credential.Credential.{Credential}
-use Rattle.krb_ccache.specs.Inner.Standing.{bytes_of, IsMissing}
+use Rattle.krb_ccache.specs.Inner.Standing.{bytes_of, IsMissing, spelled_as}
 use Rattle.krb_ccache.specs.Inner.Walking.{Walks, Halts, FitsKeyed, whole}
-use Rattle.krb_ccache.specs.Inner.Stepping.{item_stop, Stands, cleared, Comes, Gives, Runs, IsTold, Lacks, Misses, MissesOne, spelled_as, IsStep, IsAtHand}
+use Rattle.krb_ccache.specs.Inner.Stepping.{Any, item_stop, Stands, cleared, Comes, Gives, Runs, IsTold, Lacks, Misses, MissesOne, IsStep, IsAtHand}
 use Rattle.std.specs.Prelude.{◌≢◌}
 use Rattle.krb_ccache.specs.declared.fault.CacheFault.TheVariants.{BadItem, OutOfMemory}
-use Rattle.krb_ccache.specs.Format.{head_bytes, FitsHead, second_size, Spelled, Spells}
+use Rattle.krb_ccache.specs.Format.{version_of, head_bytes, FitsHead, second_size, Spelled, Spells}
 use Rattle.krb_ccache.specs.declared.credential.HeaderField.{HeaderField}
 use Rattle.krb_name.specs.Field.{IsBytes, IsField}
-use Rattle.krb_name.proofs.CursorLaws.{some_is}
 use Rattle.krb_ccache.proofs.Repeats.{missing_where}
 use Rattle.krb_name.proofs.FileLaws.{gives_then}
 use Rattle.krb_ccache.proofs.WalkLaws.{front_same}
@@ -140,6 +139,13 @@ module _ {X S : Type 0} (s : X → List ℕ) (P : X → Type 0) (left : S → Op
   pub misses_gives : (old new : AtHand S) (fault told : CacheFault) → Misses s P left old new fault told → GivesWithin (left old.source) (left new.source) old.given new.given
   misses_gives old new fault told m = let some = m.some.1 in record { piece = m.some.0; taken = some.consumed; given = some.given; within = λ l. some.one_past }
 
+-- a version and a header came, and then more
+pub head_gives : {S : Type 0} (left : S → Option (List ℕ)) (layout : Layout) (old first middle new : AtHand S) (header : List HeaderField) → Comes version_of Any left old first layout → Comes (head_bytes layout) (FitsHead layout) left first middle header
+    → GivesWithin (left middle.source) (left new.source) middle.given new.given → GivesWithin (left old.source) (left new.source) old.given new.given
+head_gives left layout old first middle new header p q more =
+    gives_then (left old.source) (left first.source) (left new.source) _ _ _ (comes_gives version_of Any left old first layout p)
+    (gives_then (left first.source) (left middle.source) (left new.source) _ _ _ (comes_gives (head_bytes layout) (FitsHead layout) left first middle header q) more)
+
 -- ---- no credential came
 
 module _ (layout : Layout) {S : Type 0} (left : S → Option (List ℕ)) (old middle new : AtHand S) (stop : TakeFault) (at : ℕ) (told : CacheFault) (here : at ≡ old.given) (halts : Halts bytes_of (Spells layout) left (cleared old) middle stop)
@@ -213,11 +219,6 @@ module _ {X : Type 0} (r : Place → Option (X × Place)) (s : X → List ℕ) (
   field_stands bytes place x behind e fits read =
       let t = f.takes (record { at = 0; rest = bytes }) x behind fits (subst (λ (p : Place). r p ≡ Some (x, behind)) e read) in
       record { fits = t.1; others = behind.rest; bytes_are = t.0.parts }
-
-  pub field_same : (bytes : List ℕ) (place : Place) (x y : X) (behind : Place) → place ≡ record { at = 0; rest = bytes } → Stands s P bytes x → r place ≡ Some (y, behind) → y ≡ x
-  field_same bytes place x y behind e stands read =
-      ap (λ (found : X × Place). found.0) (some_is (y, behind) (x, record { at = 0 + length (s x); rest = stands.others })
-      (sym read ∙ ap r (e ∙ ap (λ (rest : List ℕ). record { at = 0; rest = rest }) stands.bytes_are) ∙ f.again 0 x stands.others stands.fits))
 
   pub field_missing : (bytes : List ℕ) (place : Place) → place ≡ record { at = 0; rest = bytes } → r place ≡ None → IsMissing s P bytes
   field_missing bytes place e none = missing_where r s P f (record { at = 0; rest = bytes }) (subst (λ (p : Place). r p ≡ None) e none)

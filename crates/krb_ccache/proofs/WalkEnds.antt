@@ -1,18 +1,18 @@
 -- What a walk took of a source, in the words of a spelling; and what it took of bytes in memory.
-use Rattle.std.proofs.Common.{◌≡◌, ℕ, ◌+◌, ◌-◌, ◌<◌, ◌≤◌, Ok, Err, Bool, true, false, List, [], ◌++◌, length, take, drop, Option, Some, None, refl, sym, ap, subst, ◌∙◌, append_assoc, append-nil, arith, inl, inr}
-use Rattle.std.specs.Int.{w8, w16, from_be_bytes}
+use Rattle.std.proofs.Common.{◌≡◌, ℕ, ◌+◌, ◌-◌, ◌%◌, ◌^◌, ◌<◌, ◌≤◌, ◌∷◌, Ok, Err, Bool, true, false, List, [], ◌++◌, length, take, drop, Option, Some, None, refl, sym, ap, subst, ◌∙◌, append-nil, arith, inl, inr}
+use Rattle.std.specs.Int.{w8, w16}
 use Rattle.std.specs.Io.KnownBytes.{Consumes}
 use lib.Seq.{take-add}
 use Rattle.std.proofs.lemmas.Bool.{cases_lt}
-use Rattle.std.proofs.lemmas.List.{length-append, length-take, length-drop, drop-drop, take_at, take-append-drop, take-append-le}
+use Rattle.std.proofs.lemmas.List.{length-take, length-drop, drop-drop, take_at, take-append-drop, take-append-le}
 use Rattle.krb_name.specs.Window.{AtHand, Keeps, Fills}
 use Rattle.krb_name.specs.File.{file_limit}
 use Rattle.krb_name.specs.declared.reading.ReadFault.{ReadFault}
 use Rattle.krb_name.specs.declared.reading.ReadFault.TheVariants as source
 use Rattle.std.proofs.KnownBytes.{Consumes-nil}
-use Rattle.krb_name.specs.Cursor.{Place, ◌>>=◌, bytes_at, number_at, data_at, number_bytes}
-use Rattle.krb_name.specs.Field.{IsField}
-use Rattle.krb_name.proofs.CursorLaws.{some_is, IsField-bytes, IsField-i16, IsField-u32, IsField-data16, IsField-data32}
+use Rattle.krb_name.specs.Cursor.{Place, ◌>>=◌, bytes_at, data_at, number_bytes}
+use Rattle.krb_name.specs.Field.{IsBytes, IsField}
+use Rattle.krb_name.proofs.CursorLaws.{some_is, IsField-bytes, IsField-data16}
 use Rattle.krb_name.specs.declared.principal.Principal.{Principal}
 use Rattle.krb_ccache.specs.declared.credential.HeaderField.{HeaderField}
 use Rattle.krb_ccache.specs.declared.credential.Credential.{Credential}
@@ -20,15 +20,15 @@ use Rattle.krb_ccache.specs.declared.layout.Layout.{Layout}
 use Rattle.krb_ccache.specs.declared.layout.Layout.TheVariants.{Version3, Version4}
 use Rattle.krb_ccache.specs.declared.walking.TakeFault.{TakeFault}
 use Rattle.krb_ccache.specs.declared.walking.TakeFault.TheVariants as stop
-use Rattle.krb_ccache.specs.Spelling.{fields_bytes, header_bytes, name_bytes, flag_bytes, marked_bytes, keyed_bytes}
+use Rattle.krb_ccache.specs.Spelling.{fields_bytes, header_bytes, name_bytes, marked_bytes}
 use Rattle.krb_ccache.specs.Value.{FitsHeader, FitsName}
-use Rattle.krb_ccache.specs.Format.{version_of, second_size, Spelled, Spells}
-use Rattle.krb_ccache.specs.Inner.Reading.{both_at, passing_at, name_at, parts_with}
-use Rattle.krb_ccache.specs.Inner.Stepping.{Any, cleared}
-use Rattle.krb_ccache.specs.Inner.Walking.{Hand, window_hand, window_within, window_lacks, bytes_hand, bytes_within, bytes_lacks, Pass, passed_at, skip_at, and_then, pass_none, pass_if, pass_credential, any, is_flag, Goes, Stops, IsMarked, Taken, TookFewer, stop_of, Spans, Wants, Walks, Halts, Marked, FitsKeyed, whole}
-use Rattle.krb_ccache.proofs.PartLaws.{IsField-name, IsField-list}
-use Rattle.krb_ccache.proofs.WalkLaws.{numbers}
-use Rattle.krb_ccache.proofs.WalkParts.{both_passed, tested_passed}
+use Rattle.krb_ccache.specs.Format.{version_of, Spelled, Spells}
+use Rattle.krb_ccache.specs.Inner.Reading.{parts_at, name_at}
+use Rattle.krb_ccache.specs.Inner.Stepping.{Any, Stands, cleared}
+use Rattle.krb_ccache.specs.Inner.Standing.{bytes_of, IsMissing}
+use Rattle.krb_ccache.specs.Inner.Walking.{Hand, window_hand, window_within, window_lacks, bytes_hand, bytes_within, bytes_lacks, Pass, passed_at, skip_at, pass_none, pass_if, Goes, Stops, Taken, TookFewer, stop_of, Spans, Wants, Walks, Halts, Marked, FitsKeyed, whole}
+use Rattle.krb_ccache.proofs.PartLaws.{IsField-name}
+use Rattle.krb_ccache.proofs.CredentialLaws.{passed_lies, passed_missing, IsField-parts, parts_of, fits_parts, flag_byte, flag_spelled}
 
 -- ---- a spelling is passed over
 
@@ -45,63 +45,21 @@ pub name_passes : (name : Principal) → FitsName name → Passes (passed_at nam
 name_passes name fits = field_passes IsField-name name fits
 
 pub version_passes : (layout : Layout) → Any layout → Passes (skip_at 2) (version_of layout)
-version_passes Version3 any = field_passes (IsField-bytes 2) (version_of Version3) refl
-version_passes Version4 any = field_passes (IsField-bytes 2) (version_of Version4) refl
+version_passes Version3 a = field_passes (IsField-bytes 2) (version_of Version3) refl
+version_passes Version4 a = field_passes (IsField-bytes 2) (version_of Version4) refl
 
--- one spelling after another
-record Over {X : Type 0} (read : Place → Option (X × Place)) (bytes : List ℕ) : Type 0 where
-  passes : Passes (passed_at read) bytes
+pub whole_passes : (layout : Layout) (m : Marked) → FitsKeyed layout m → Passes (passed_at (parts_at false layout)) (whole m)
+whole_passes layout m fits =
+    let small : m.mark % 256 < 2 ^ 8 = omega arith in
+    let same : number_bytes w8 (m.mark % 256) ≡ number_bytes w8 m.mark = ap (λ (n : ℕ). n ∷ []) (omega arith) in
+    subst (Passes (passed_at (parts_at false layout))) (ap (marked_bytes m.credential m.second) same)
+    (field_passes (IsField-parts false layout) (parts_of false layout m.credential m.second (m.mark % 256)) (fits_parts false layout m.credential m.second (m.mark % 256) fits.0 fits.1 (small, refl)))
 
-over : {X : Type 0} {read : Place → Option (X × Place)} {s : X → List ℕ} {P : X → Type 0} → IsField read s P → (x : X) → P x → Over read (s x)
-over field x p = record { passes = field_passes field x p }
-
-then_over : {X Y : Type 0} {one : Place → Option (X × Place)} {other : Place → Option (Y × Place)} {front bytes : List ℕ} → Over one front → Over other bytes → Over (both_at one other) (front ++ bytes)
-then_over {one} {other} {front} {bytes} p q = record {
-  passes = λ at more.
-      both_passed one other _ ∙ ap (λ (t : List ℕ). and_then (passed_at one) (passed_at other) (record { at = at; rest = t })) (append_assoc front bytes more) ∙ ap (λ (o : Option Place). o >>= passed_at other) (p.passes at (bytes ++ more))
-      ∙ q.passes (at + length front) more ∙ ap (λ (n : ℕ). Some (record { at = n; rest = more })) (omega (arith, length-append front bytes));
-}
-
-any_over : (mark : ℕ) → Over (passing_at any (number_at w8)) (number_bytes w8 mark)
-any_over mark = record { passes = λ at more. tested_passed any _ ∙ numbers w8 (λ n. pass_if (any n)) (from_be_bytes w8 (number_bytes w8 mark)) at (number_bytes w8 mark) more refl refl }
-
-whole_over : (layout : Layout) (m : Marked) → FitsKeyed layout m → Over (parts_with (passing_at any (number_at w8)) layout) (whole m)
-whole_over layout m fits =
-    let c = m.credential in
-    let f = fits.0 in
-    then_over (over IsField-name c.client f.client)
-    (then_over (over IsField-name c.server f.server)
-    (then_over (over IsField-i16 c.etype f.etype)
-    (then_over (over (IsField-bytes (second_size layout)) m.second fits.1)
-    (then_over (over IsField-data32 c.key f.key)
-    (then_over (over IsField-u32 c.authtime f.authtime)
-    (then_over (over IsField-u32 c.starttime f.starttime)
-    (then_over (over IsField-u32 c.endtime f.endtime)
-    (then_over (over IsField-u32 c.renew_till f.renew_till)
-    (then_over (any_over m.mark)
-    (then_over (over IsField-u32 c.ticket_flags f.ticket_flags)
-    (then_over (over IsField-list c.addresses f.addresses)
-    (then_over (over IsField-list c.authdata f.authdata)
-    (then_over (over IsField-data32 c.ticket f.ticket) (over IsField-data32 c.second_ticket f.second_ticket))))))))))))))
-
-pub whole_passes : (layout : Layout) (m : Marked) → FitsKeyed layout m → Passes (pass_credential layout any) (whole m)
-whole_passes layout m fits = (whole_over layout m fits).passes
-
-mark_of_flag : Bool → ℕ
-mark_of_flag true = 1
-mark_of_flag false = 0
-
-mark_is : (c : Credential) (second : List ℕ) → keyed_bytes c second ≡ whole (record { credential = c; second = second; mark = mark_of_flag c.is_skey })
-unfolding mark_of_flag
-mark_is c second = ap (marked_bytes c second) (flag c.is_skey)
-  where
-    flag : (b : Bool) → flag_bytes b ≡ number_bytes w8 (mark_of_flag b)
-    flag true = refl
-    flag false = refl
-
-pub spelled_passes : (layout : Layout) (one : Spelled) → Spells layout one → Passes (pass_credential layout any) one.bytes
+pub spelled_passes : (layout : Layout) (one : Spelled) → Spells layout one → Passes (passed_at (parts_at false layout)) one.bytes
 spelled_passes layout one h =
-    subst (Passes (pass_credential layout any)) (sym (h.bytes_are ∙ mark_is one.credential h.second)) (whole_passes layout (record { credential = one.credential; second = h.second; mark = mark_of_flag one.credential.is_skey }) (h.fits, h.size))
+    let c : Credential = one.credential in
+    let same : marked_bytes c h.second (number_bytes w8 (flag_byte c.is_skey)) ≡ one.bytes = ap (marked_bytes c h.second) (flag_spelled c.is_skey) ∙ sym h.bytes_are in
+    subst (Passes (passed_at (parts_at false layout))) same (whole_passes layout (record { credential = c; second = h.second; mark = flag_byte c.is_skey }) (h.fits, h.size))
 
 -- ---- of a source
 
@@ -197,11 +155,23 @@ module _ {S : Type 0} (left : S → Option (List ℕ)) (old new : AtHand S) (cou
         unknown source.Read = tt
         unknown source.OutOfMemory = tt
 
-pub all_marked : (layout : Layout) {S : Type 0} (left : S → Option (List ℕ)) (old start new : AtHand S) (mark : ℕ) (bytes : List ℕ) → start ≡ cleared old
-    → Goes (pass_credential layout is_flag) (pass_if (is_flag mark)) window_within (window_hand left start) (window_hand left new) → bytes ≡ new.bytes → IsMarked layout bytes mark
-all_marked layout left old start new mark bytes clear g at_hand at rest =
-    let is : bytes ≡ g.piece = at_hand ∙ g.keeps.bytes ∙ ap (λ (hand : AtHand _). hand.bytes ++ g.piece) clear in
-    ap (λ (t : List ℕ). pass_credential layout is_flag (record { at = at; rest = t ++ rest })) is ∙ g.same at rest ∙ ap (λ (t : List ℕ). pass_if (is_flag mark) (record { at = at + length t; rest = rest })) (sym is)
+-- a credential whose bytes were taken, and whose flag is one or not
+module _ (layout : Layout) {S : Type 0} (left : S → Option (List ℕ)) (old start new : AtHand S) (good : Bool) (clear : start ≡ cleared old) (g : Goes (passed_at (parts_at true layout)) (pass_if good) window_within (window_hand left start) (window_hand left new)) where
+  abbrev at_hand : Place
+  at_hand = record { at = 0; rest = new.bytes }
+
+  all_passed : (b : Bool) → good ≡ b → passed_at (parts_at true layout) at_hand ≡ pass_if b (record { at = 0 + length g.piece; rest = [] })
+  all_passed b flag =
+      let is : new.bytes ≡ g.piece ++ [] = g.keeps.bytes ∙ ap (λ (hand : AtHand _). hand.bytes ++ g.piece) clear ∙ sym (append-nil g.piece) in
+      ap (λ (t : List ℕ). passed_at (parts_at true layout) (record { at = 0; rest = t })) is ∙ g.same 0 [] ∙ ap (λ (x : Bool). pass_if x (record { at = 0 + length g.piece; rest = [] })) flag
+
+  pub one_stands : good ≡ true → IsBytes new.bytes → (one : Spelled) × Stands bytes_of (Spells layout) new.bytes one
+  one_stands flag fits =
+      let one = passed_lies layout at_hand (record { at = 0 + length g.piece; rest = [] }) fits (all_passed true flag) in
+      (one.0, record { fits = one.1.fits; others = []; bytes_are = one.1.takes.parts })
+
+  pub none_stands : good ≡ false → IsMissing bytes_of (Spells layout) new.bytes
+  none_stands flag = passed_missing layout at_hand (all_passed false flag)
 
 -- ---- of bytes in memory
 

@@ -3,12 +3,12 @@ use Rattle.std.proofs.Common.{◌≡◌, ℕ, suc, ◌+◌, ◌-◌, ◌<◌, �
 use Rattle.std.specs.Int.{Width, w32, byte_len, from_be_bytes}
 use Rattle.std.proofs.lemmas.Bool.{cases_lt, lt-leb}
 use Rattle.std.proofs.KnownBytes.{Consumes-nil, Consumes-trans}
-use Rattle.std.proofs.lemmas.List.{length-append, length-take, length-drop, drop-drop, take_at, drop_at, take-append-drop}
+use Rattle.std.proofs.lemmas.List.{length-append, length-take, length-drop, drop-drop, take_all, take_at, drop_at, take-append-drop}
 use Rattle.krb_name.specs.Window.{AtHand, Keeps}
 use Rattle.krb_name.specs.Cursor.{Place, ◌>>=◌, bytes_at, number_at}
 use Rattle.krb_name.proofs.CursorLaws.{IsField-bytes}
 use Rattle.krb_ccache.specs.declared.walking.TakeFault.{TakeFault}
-use Rattle.krb_ccache.specs.Inner.Walking.{Hand, Pass, skip_at, and_then, pass_none, pass_if, pass_number, pass_times, pass_data, Goes, Stops, IsWalk, Taken, TookFewer, IsTaken, last_number}
+use Rattle.krb_ccache.specs.Inner.Walking.{Hand, Pass, Same, skip_at, and_then, pass_none, pass_if, pass_number, pass_times, pass_data, Goes, Stops, IsWalk, Taken, TookFewer, IsTaken, last_number}
 
 -- ---- lists
 
@@ -33,9 +33,6 @@ joined : (old middle new : Hand) (front bytes : List ℕ) → Keeps old.source m
 joined old middle new front bytes p q = keeps_then old.source middle.source new.source old middle new front bytes p q
 
 -- ---- two ways to pass over the same
-
-abbrev pub Same : Pass → Pass → Type 0
-Same p q = (place : Place) → p place ≡ q place
 
 pub also : (p q r : Pass) → Same p q → Same q r → Same p r
 also p q r e f place = e place ∙ f place
@@ -163,6 +160,11 @@ module _ (Within : Hand → Type 0) where
   goes_if true p old new g = g
   goes_if false p old new g = record { piece = g.piece; keeps = g.keeps; within = g.within; same = λ at rest. refl }
 
+  -- the same, if a test before it has passed
+  pub goes_guarded : (b : Bool) (p q r : Pass) (old new : Hand) → Goes (and_then p q) r Within old new → Goes (and_then (and_then (pass_if b) p) q) (and_then (pass_if b) r) Within old new
+  goes_guarded true p q r old new g = g
+  goes_guarded false p q r old new g = record { piece = g.piece; keeps = g.keeps; within = g.within; same = λ at rest. refl }
+
   pub bytes_goes : (count : ℕ) (old new : Hand) → Taken Within count old new → Goes (skip_at count) pass_none Within old new
   bytes_goes count old new t = record { piece = t.piece; keeps = t.keeps; within = t.within; same = λ at rest. skips count at t.piece rest t.length_is }
 
@@ -187,6 +189,10 @@ module _ (Within : Hand → Type 0) where
     pub stops_if : (b : Bool) (p : Pass) (old new : Hand) (stop : TakeFault) → Stops p Within Lacks old new stop → Stops (and_then (pass_if b) p) Within Lacks old new stop
     stops_if true p old new stop h = h
     stops_if false p old new stop h = record { piece = h.piece; keeps = h.keeps; within = h.within; count = h.count; some = h.some; none = λ at rest few. refl; lacks = h.lacks }
+
+    pub stops_guarded : (b : Bool) (p q : Pass) (old new : Hand) (stop : TakeFault) → Stops (and_then p q) Within Lacks old new stop → Stops (and_then (and_then (pass_if b) p) q) Within Lacks old new stop
+    stops_guarded true p q old new stop h = h
+    stops_guarded false p q old new stop h = record { piece = h.piece; keeps = h.keeps; within = h.within; count = h.count; some = h.some; none = λ at rest few. refl; lacks = h.lacks }
 
     pub walk_same : {T : Type 0} (p p' : Pass) (q : T → Pass) (old new : Hand) (result : Result T TakeFault) → Same p' p → IsWalk p q Within Lacks old new result → IsWalk p' q Within Lacks old new result
     walk_same p p' q old new (Ok x) e g = goes_same p p' (q x) (q x) old new e (λ place. refl) g
@@ -261,9 +267,9 @@ module _ (Within : Hand → Type 0) (skip : ℕ) (others : ℕ → ℕ → Pass)
             ap (λ (t : List ℕ). pass_pair (record { at = at; rest = t })) (sym (take-append-drop 4 rest)) ∙ first ∙ no_number w32 (others (from_be_bytes w32 front)) (at + length front) (drop 4 rest) (omega (arith, length-drop 4 rest, few, le))
       ]
 
-  pub pair_goes : (old new : Hand) (one other : ℕ) → Taken Within (skip + 8) old new → one ≡ from_be_bytes w32 (take 4 (drop (length old.bytes + skip) new.bytes)) → other ≡ last_number w32 (skip + 4) old.bytes new.bytes
+  pub pair_goes : (old new : Hand) (last : List ℕ) (one other : ℕ) → Taken Within (skip + 8) old new → last ≡ drop (length old.bytes + skip) new.bytes → one ≡ from_be_bytes w32 (take 4 last) → other ≡ from_be_bytes w32 (take 4 (drop 4 last))
       → Goes (and_then (skip_at skip) pass_pair) (others one other) Within old new
-  pair_goes old new one other t is also_is =
+  pair_goes old new last one other t last_is is also_is =
       let front : List ℕ = take skip t.piece in
       let back : List ℕ = drop skip t.piece in
       let a : List ℕ = take 4 back in
@@ -273,10 +279,9 @@ module _ (Within : Hand → Type 0) (skip : ℕ) (others : ℕ → ℕ → Pass)
       let first : length front ≡ skip = omega (arith, length-take skip t.piece, t.length_is) in
       let second : length a ≡ 4 = omega (arith, length-take 4 back, len) in
       let third : length b ≡ 4 = omega (arith, length-drop 4 back, len) in
-      let after : drop (length old.bytes + skip) new.bytes ≡ back = ap (drop (length old.bytes + skip)) t.keeps.bytes ∙ sym (drop-drop skip (length old.bytes) (old.bytes ++ t.piece)) ∙ ap (drop skip) (drop_at old.bytes t.piece (length old.bytes) refl) in
+      let after : last ≡ back = last_is ∙ ap (drop (length old.bytes + skip)) t.keeps.bytes ∙ sym (drop-drop skip (length old.bytes) (old.bytes ++ t.piece)) ∙ ap (drop skip) (drop_at old.bytes t.piece (length old.bytes) refl) in
       let one_is : one ≡ from_be_bytes w32 a = is ∙ ap (λ (l : List ℕ). from_be_bytes w32 (take 4 l)) after in
-      let at_end : drop (length old.bytes + (skip + 4)) new.bytes ≡ b = ap (λ (n : ℕ). drop n new.bytes) (omega arith) ∙ sym (drop-drop 4 (length old.bytes + skip) new.bytes) ∙ ap (drop 4) after in
-      let other_is : other ≡ from_be_bytes w32 b = also_is ∙ ap (from_be_bytes w32) at_end in
+      let other_is : other ≡ from_be_bytes w32 b = also_is ∙ ap (λ (l : List ℕ). from_be_bytes w32 (take 4 (drop 4 l))) after ∙ ap (from_be_bytes w32) (take_all 4 b (omega (arith, third))) in
       record {
         piece = t.piece;
         keeps = t.keeps;

@@ -1,16 +1,14 @@
 -- How a walk goes over the parts of a cache.
-use Rattle.std.proofs.Common.{◌≡◌, ℕ, zero, suc, ◌+◌, ℤ, Bool, true, false, cond, List, ◌∷◌, Option, Some, None, Result, refl, sym, ap, ◌∙◌}
-use Rattle.std.specs.Prelude.{is_some}
+use Rattle.std.proofs.Common.{◌≡◌, ℕ, zero, suc, ◌+◌, ◌≤◌, ℤ, Bool, true, false, cond, List, ◌∷◌, Option, Some, None, Result, Ok, Err, length, refl, sym, ap, ◌∙◌}
+use Rattle.std.specs.Prelude.{◌&&◌}
 use Rattle.std.specs.Int.{Width, w8, w16, w32, byte_len, from_be_bytes, cast_signed}
 use Rattle.krb_name.specs.Cursor.{Place, ◌>>=◌, bytes_at, number_at, signed_at, data_at, times_at}
 use Rattle.krb_ccache.specs.declared.walking.TakeFault.{TakeFault}
+use Rattle.krb_ccache.specs.declared.walking.Left.{Left}
 use Rattle.krb_name.specs.declared.principal.Principal.{Principal}
-use Rattle.krb_ccache.specs.declared.layout.Layout.{Layout}
-use Rattle.krb_ccache.specs.declared.credential.Credential.{Credential}
-use Rattle.krb_ccache.specs.Format.{second_size}
-use Rattle.krb_ccache.specs.Inner.Reading.{both_at, made_at, passing_at, name_at, flag_of, flag_at, typed_of, typed_at, list_at, tail_at, credential_of, parts_with, parts_at, credential_at}
-use Rattle.krb_ccache.specs.Inner.Walking.{Hand, Pass, passed_at, skip_at, and_then, pass_none, pass_if, pass_number, pass_times, pass_data, pass_credential, is_flag, Goes, Stops, IsWalk, Taken, TookFewer, IsTaken, last_number}
-use Rattle.krb_ccache.proofs.WalkLaws.{Same, also, grouped, same_both, same_then, none_skipped, skip_more, goes_same, goes_then, goes_more, goes_if, stops_same, stops_then, stops_more, stops_if, walk_same, walk_then, bytes_walk, number_goes, number_stops, pair_stops}
+use Rattle.krb_ccache.specs.Inner.Reading.{both_at, made_at, name_at, is_flag, allowed, byte_at, typed_of, typed_at, list_at}
+use Rattle.krb_ccache.specs.Inner.Walking.{Hand, Pass, passed_at, skip_at, and_then, pass_none, pass_if, pass_number, pass_times, pass_data, left_at, Same, Goes, Stops, IsWalk, Taken, TookFewer, IsTaken, last_number}
+use Rattle.krb_ccache.proofs.WalkLaws.{also, grouped, same_both, same_then, none_skipped, skip_zero, skip_both, skip_more, goes_none, goes_guarded, bytes_goes, goes_same, goes_then, goes_more, goes_if, stops_same, stops_then, stops_more, stops_if, stops_guarded, bytes_stops, walk_same, walk_then, bytes_walk, number_goes, number_stops, pair_stops}
 
 -- ---- what is passed over of what is read
 
@@ -46,14 +44,11 @@ module _ {X Y : Type 0} where
 both_as : {X Y : Type 0} (one : Place → Option (X × Place)) (p : Pass) → Same (passed_at one) p → (other : Place → Option (Y × Place)) (q : Pass) → Same (passed_at other) q → Same (passed_at (both_at one other)) (and_then p q)
 both_as one p e other q f = also _ _ _ (both_passed one other) (same_both (passed_at one) p (passed_at other) q e f)
 
-as_read : (p : Pass) → Same p p
-as_read p place = refl
-
-number_passed : (w : Width) → Same (passed_at (number_at w)) (skip_at (byte_len w))
+pub number_passed : (w : Width) → Same (passed_at (number_at w)) (skip_at (byte_len w))
 unfolding number_at
 number_passed w = made_passed (from_be_bytes w) (bytes_at (byte_len w))
 
-signed_passed : (w : Width) → Same (passed_at (signed_at w)) (skip_at (byte_len w))
+pub signed_passed : (w : Width) → Same (passed_at (signed_at w)) (skip_at (byte_len w))
 unfolding signed_at
 signed_passed w = also _ _ _ (made_passed (cast_signed w) (number_at w)) (number_passed w)
 
@@ -148,92 +143,6 @@ list_passed : Same (passed_at list_at) (pass_number w32 from_length)
 unfolding list_at
 list_passed place = bound_passed w32 (times_at typed_at) place ∙ number_same w32 _ from_length (times_passed typed_at (pass_data 2) typed_passed) place
 
-abbrev pub list_pass : Pass
-list_pass = passed_at list_at
-
-abbrev pub data_pass : Pass
-data_pass = pass_number w32 skip_at
-
-abbrev pub from_ticket : Pass
-from_ticket = and_then data_pass data_pass
-
-abbrev pub from_authdata : Pass
-from_authdata = and_then list_pass from_ticket
-
-abbrev pub from_addresses : Pass
-from_addresses = and_then list_pass from_authdata
-
-tail_passed : Same (passed_at tail_at) (and_then (skip_at 4) from_addresses)
-tail_passed =
-    both_as (number_at w32) (skip_at 4) (number_passed w32) _ _
-    (both_as list_at list_pass (as_read list_pass) _ _ (both_as list_at list_pass (as_read list_pass) _ _ (both_as (data_at w32) data_pass (data_passed w32) (data_at w32) data_pass (data_passed w32))))
-
-abbrev pub name_pass : Pass
-name_pass = passed_at name_at
-
-abbrev pub tail_pass : Pass
-tail_pass = passed_at tail_at
-
--- the key, the times, `is_skey` and all that comes after it
-abbrev pub from_key : Pass → Pass
-from_key mark = and_then data_pass (and_then (skip_at 4) (and_then (skip_at 4) (and_then (skip_at 4) (and_then (skip_at 4) (and_then mark tail_pass)))))
-
-abbrev pub from_etype : Layout → Pass → Pass
-from_etype layout mark = and_then (skip_at 2) (and_then (skip_at (second_size layout)) (from_key mark))
-
-pub parts_passed : {Mark : Type 0} (mark_at : Place → Option (Mark × Place)) (mark : Pass) → Same (passed_at mark_at) mark → (layout : Layout) → Same (passed_at (parts_with mark_at layout)) (and_then name_pass (and_then name_pass (from_etype layout mark)))
-parts_passed mark_at mark e layout =
-    both_as name_at name_pass (as_read name_pass) _ _
-    (both_as name_at name_pass (as_read name_pass) _ _
-    (both_as (signed_at w16) (skip_at 2) (signed_passed w16) _ _
-    (both_as (bytes_at (second_size layout)) (skip_at (second_size layout)) (as_read _) _ _
-    (both_as (data_at w32) data_pass (data_passed w32) _ _
-    (both_as (number_at w32) (skip_at 4) (number_passed w32) _ _
-    (both_as (number_at w32) (skip_at 4) (number_passed w32) _ _
-    (both_as (number_at w32) (skip_at 4) (number_passed w32) _ _
-    (both_as (number_at w32) (skip_at 4) (number_passed w32) _ _ (both_as mark_at mark e tail_at tail_pass (as_read tail_pass))))))))))
-
--- ---- `is_skey`
-
-abbrev pub tested : (ℕ → Bool) → Pass
-tested test = pass_number w8 (λ mark. pass_if (test mark))
-
-pub tested_passed : (test : ℕ → Bool) → Same (passed_at (passing_at test (number_at w8))) (tested test)
-tested_passed test place = from_number (number_at w8 place)
-  where
-    by_test : (n : ℕ × Place) (b : Bool) → (cond b (Some n) None >>= λ x. Some x.1) ≡ pass_if b n.1
-    by_test n true = refl
-    by_test n false = refl
-
-    from_number : (o : Option (ℕ × Place)) → ((o >>= λ n. cond (test n.0) (Some n) None) >>= λ x. Some x.1) ≡ (o >>= λ n. pass_if (test n.0) n.1)
-    from_number None = refl
-    from_number (Some n) = by_test n (test n.0)
-
-flag_passed : Same (passed_at flag_at) (tested is_flag)
-unfolding flag_at
-flag_passed place = from_number (number_at w8 place)
-  where
-    flagged : Place → Bool → Option (Bool × Place)
-    flagged next flag = Some (flag, next)
-
-    by_flag : (next : Place) (o : Option Bool) → ((o >>= flagged next) >>= behind) ≡ pass_if (is_some o) next
-    by_flag next None = refl
-    by_flag next (Some flag) = refl
-
-    from_number : (o : Option (ℕ × Place)) → ((o >>= λ n. flag_of n.0 >>= flagged n.1) >>= behind) ≡ (o >>= λ n. pass_if (is_flag n.0) n.1)
-    from_number None = refl
-    from_number (Some n) = by_flag n.1 (flag_of n.0)
-
-pub credential_passed : (layout : Layout) (test : ℕ → Bool) → Same (pass_credential layout test) (and_then name_pass (and_then name_pass (from_etype layout (tested test))))
-credential_passed layout test = parts_passed (passing_at test (number_at w8)) (tested test) (tested_passed test) layout
-
--- what is read of a credential is passed over
-credential_flagged : (layout : Layout) → Same (passed_at (credential_at layout)) (pass_credential layout is_flag)
-unfolding credential_at
-credential_flagged layout =
-    also _ _ _ (made_passed credential_of (parts_at layout))
-    (also _ _ _ (parts_passed flag_at (tested is_flag) flag_passed layout) (λ place. sym (credential_passed layout is_flag place)))
-
 pub passed_some : {X : Type 0} (o : Option (X × Place)) (behind : Place) → (o >>= λ x. Some x.1) ≡ Some behind → (x : X) × (o ≡ Some (x, behind))
 passed_some None behind e = absurd cc
 passed_some (Some (x, next)) behind e = let same : next ≡ behind = cc in (x, ap (λ (p : Place). Some (x, p)) same)
@@ -241,19 +150,6 @@ passed_some (Some (x, next)) behind e = let same : next ≡ behind = cc in (x, a
 pub passed_none : {X : Type 0} (o : Option (X × Place)) → (o >>= λ x. Some x.1) ≡ None → o ≡ None
 passed_none None e = refl
 passed_none (Some x) e = absurd cc
-
-module _ (layout : Layout) (place behind : Place) (mark : ℕ) (passed : pass_credential layout is_flag place ≡ pass_if (is_flag mark) behind) where
-  abbrev by_flag : Option Bool → Option Place
-  by_flag flag = pass_if (is_some flag) behind
-
-  pub credential_is : (flag : Bool) → flag_of mark ≡ Some flag → (credential : Credential) × (credential_at layout place ≡ Some (credential, behind))
-  credential_is flag is = passed_some (credential_at layout place) behind (credential_flagged layout place ∙ passed ∙ ap by_flag is)
-
-  pub credential_not : flag_of mark ≡ None → credential_at layout place ≡ None
-  credential_not is = passed_none (credential_at layout place) (credential_flagged layout place ∙ passed ∙ ap by_flag is)
-
-pub credential_none : (layout : Layout) (place : Place) → pass_credential layout is_flag place ≡ None → credential_at layout place ≡ None
-credential_none layout place none = passed_none (credential_at layout place) (credential_flagged layout place ∙ none)
 
 -- ---- the walks
 
@@ -267,139 +163,141 @@ module _ (Within : Hand → Type 0) (Lacks : TakeFault → Hand → ℕ → Type
   pub data_first : (w : Width) (old new : Hand) (stop : TakeFault) → TookFewer Within Lacks (0 + byte_len w) old new stop → Stops (passed_at (data_at w)) Within Lacks old new stop
   data_first w old new stop t = stops_same Within Lacks _ _ old new stop (also _ _ _ (data_passed w) (λ place. sym (none_skipped (pass_number w skip_at) place))) (number_stops Within Lacks w 0 skip_at old new stop t)
 
-  -- the bytes before a principal, and its number of components
-  abbrev name_start : ℕ → Pass
-  name_start skip = and_then (skip_at (skip + 4)) (pass_number w32 from_count)
+  -- ---- what is left of the parts before, and one part
 
-  name_same : (skip : ℕ) → Same (and_then (skip_at skip) name_pass) (name_start skip)
-  name_same skip = also _ _ _ (same_then (skip_at skip) name_pass _ name_passed) (skip_more skip 4 (pass_number w32 from_count))
+  module _ (strict : Bool) (left : Left) where
+    abbrev passes : Bool
+    passes = allowed strict left.good
 
-  pub name_first : (skip : ℕ) (old new : Hand) (stop : TakeFault) → TookFewer Within Lacks ((skip + 4) + 8) old new stop → Stops (and_then (skip_at skip) name_pass) Within Lacks old new stop
-  name_first skip old new stop t = stops_same Within Lacks _ _ old new stop (name_same skip) (pair_stops Within (skip + 4) from_realm Lacks old new stop t)
+    -- all but so many bytes of the part were taken
+    abbrev pub behind_part : ℕ → Left
+    behind_part last = record { skip = last; good = left.good }
 
-  pub name_then : (skip : ℕ) (old middle new : Hand) (count realm : ℕ) (result : Result ℕ TakeFault) → Goes (and_then (skip_at (skip + 4)) (pass_number w32 from_count)) (from_realm count realm) Within old middle
-      → IsWalk (from_realm count realm) skip_at Within Lacks middle new result → IsWalk (and_then (skip_at skip) name_pass) skip_at Within Lacks old new result
-  name_then skip old middle new count realm result g h = walk_same Within Lacks _ _ _ old new result (name_same skip) (walk_then Within Lacks _ (from_realm count realm) _ old middle new result g h)
+    module _ (p q : Pass) (e : Same p q) where
+      part_same : Same (and_then (skip_at left.skip) p) (and_then (skip_at left.skip) q)
+      part_same = same_then (skip_at left.skip) p q e
 
-  list_same : (skip : ℕ) → Same (and_then (skip_at skip) list_pass) (and_then (skip_at skip) (pass_number w32 from_length))
-  list_same skip = same_then (skip_at skip) list_pass _ list_passed
+      left_goes : (last : ℕ) (old new : Hand) → Goes (and_then (skip_at left.skip) q) (skip_at last) Within old new → Goes (and_then (left_at strict left) p) (left_at strict (behind_part last)) Within old new
+      left_goes last old new g = goes_guarded Within passes (skip_at left.skip) p (skip_at last) old new (goes_same Within _ _ _ _ old new part_same (λ place. refl) g)
 
-  pub list_first : (skip : ℕ) (old new : Hand) (stop : TakeFault) → TookFewer Within Lacks (skip + 4) old new stop → Stops (and_then (skip_at skip) list_pass) Within Lacks old new stop
-  list_first skip old new stop t = stops_same Within Lacks _ _ old new stop (list_same skip) (number_stops Within Lacks w32 skip from_length old new stop t)
+      left_stops : (old new : Hand) (stop : TakeFault) → Stops (and_then (skip_at left.skip) q) Within Lacks old new stop → Stops (and_then (left_at strict left) p) Within Lacks old new stop
+      left_stops old new stop h = stops_guarded Within Lacks passes (skip_at left.skip) p old new stop (stops_same Within Lacks _ _ old new stop part_same h)
 
-  pub list_then : (skip : ℕ) (old middle new : Hand) (count : ℕ) (result : Result ℕ TakeFault) → Taken Within (skip + 4) old middle → count ≡ last_number w32 skip old.bytes middle.bytes → IsWalk (and_then (skip_at 0) (from_length count)) skip_at Within Lacks middle new result
-      → IsWalk (and_then (skip_at skip) list_pass) skip_at Within Lacks old new result
-  list_then skip old middle new count result t is h =
-      walk_same Within Lacks _ _ _ old new result (list_same skip) (walk_then Within Lacks _ (from_length count) _ old middle new result (number_goes Within w32 skip from_length old middle count t is) (walk_same Within Lacks _ _ _ middle new result (λ place. sym (none_skipped (from_length count) place)) h))
+    -- bytes after their length
 
-  -- a whole part whose last bytes were to come
-  pub whole_then : {T : Type 0} (p : Pass) (old middle new : Hand) (last : ℕ) (result : Result T TakeFault) → Goes p (skip_at last) Within old middle → IsTaken Within Lacks last middle new result → IsWalk p (λ x. pass_none) Within Lacks old new result
-  whole_then p old middle new last result g h = walk_then Within Lacks p (skip_at last) _ old middle new result g (bytes_walk Within Lacks last middle new result h)
+    pub data_goes : (last : ℕ) (old new : Hand) → Taken Within (left.skip + 4) old new → last ≡ last_number w32 left.skip old.bytes new.bytes → Goes (and_then (left_at strict left) (passed_at (data_at w32))) (left_at strict (behind_part last)) Within old new
+    data_goes last old new t is = left_goes _ _ (data_passed w32) last old new (number_goes Within w32 left.skip skip_at old new last t is)
 
-  module _ (old middle : Hand) where
-    no_gap : Same name_pass (and_then (skip_at 0) name_pass)
-    no_gap place = sym (none_skipped name_pass place)
+    pub data_stops : (old new : Hand) (stop : TakeFault) → TookFewer Within Lacks (left.skip + 4) old new stop → Stops (and_then (left_at strict left) (passed_at (data_at w32))) Within Lacks old new stop
+    data_stops old new stop t = left_stops _ _ (data_passed w32) old new stop (number_stops Within Lacks w32 left.skip skip_at old new stop t)
 
-    pub principal_then : {T : Type 0} (new : Hand) (last : ℕ) (result : Result T TakeFault) → Goes (and_then (skip_at 0) name_pass) (skip_at last) Within old middle → IsTaken Within Lacks last middle new result → IsWalk name_pass (λ x. pass_none) Within Lacks old new result
-    principal_then new last result g h = walk_same Within Lacks _ name_pass _ old new result no_gap (whole_then (and_then (skip_at 0) name_pass) old middle new last result g h)
+    -- a list: its count, and its elements
 
-    pub principal_first : (stop : TakeFault) → Stops (and_then (skip_at 0) name_pass) Within Lacks old middle stop → Stops name_pass Within Lacks old middle stop
-    principal_first stop h = stops_same Within Lacks _ name_pass old middle stop no_gap h
+    pub list_first : (old new : Hand) (stop : TakeFault) → TookFewer Within Lacks (left.skip + 4) old new stop → Stops (and_then (left_at strict left) (passed_at list_at)) Within Lacks old new stop
+    list_first old new stop t = left_stops _ _ list_passed old new stop (number_stops Within Lacks w32 left.skip from_length old new stop t)
 
-  -- ---- one part of several, up to the bytes that are to come
+    module _ (old middle new : Hand) (count : ℕ) (t : Taken Within (left.skip + 4) old middle) (is : count ≡ last_number w32 left.skip old.bytes middle.bytes) where
+      counted : Goes (and_then (skip_at left.skip) (pass_number w32 from_length)) (and_then (skip_at 0) (from_length count)) Within old middle
+      counted = goes_same Within _ _ _ _ old middle (λ place. refl) (λ place. sym (none_skipped (from_length count) place)) (number_goes Within w32 left.skip from_length old middle count t is)
 
-  module _ (whole : Pass) (old middle new : Hand) where
-    module _ (skip : ℕ) (p q : Pass) (g : Goes whole (and_then (skip_at skip) (and_then p q)) Within old middle) where
-      abbrev parted : Goes whole (and_then (and_then (skip_at skip) p) q) Within old middle
-      parted = goes_same Within _ _ _ _ old middle (λ place. refl) (λ place. sym (grouped (skip_at skip) p q place)) g
+      pub list_goes : (last : ℕ) → Goes (and_then (skip_at 0) (from_length count)) (skip_at last) Within middle new → Goes (and_then (left_at strict left) (passed_at list_at)) (left_at strict (behind_part last)) Within old new
+      list_goes last g = left_goes _ _ list_passed last old new (goes_then Within _ _ _ old middle new counted g)
 
-      pub part_goes : (last : ℕ) → Goes (and_then (skip_at skip) p) (skip_at last) Within middle new → Goes whole (and_then (skip_at last) q) Within old new
-      part_goes last h = goes_then Within whole _ _ old middle new parted (goes_more Within (and_then (skip_at skip) p) (skip_at last) q middle new h)
+      pub list_stops : (stop : TakeFault) → Stops (and_then (skip_at 0) (from_length count)) Within Lacks middle new stop → Stops (and_then (left_at strict left) (passed_at list_at)) Within Lacks old new stop
+      list_stops stop h = left_stops _ _ list_passed old new stop (stops_then Within Lacks _ _ old middle new stop counted h)
 
-      pub part_stops : (stop : TakeFault) → Stops (and_then (skip_at skip) p) Within Lacks middle new stop → Stops whole Within Lacks old new stop
-      part_stops stop h = stops_then Within Lacks whole _ old middle new stop parted (stops_more Within Lacks (and_then (skip_at skip) p) q middle new stop h)
+    -- a principal: its type, the number of its components and the length of its realm, and what comes after
 
-    -- the length of bytes
-    module _ (skip : ℕ) (q : Pass) (g : Goes whole (and_then (skip_at skip) (and_then data_pass q)) Within old middle) where
-      pub length_goes : (last : ℕ) → Taken Within (skip + 4) middle new → last ≡ last_number w32 skip middle.bytes new.bytes → Goes whole (and_then (skip_at last) q) Within old new
-      length_goes last t is = part_goes skip data_pass q g last (number_goes Within w32 skip skip_at middle new last t is)
+    abbrev name_start : Pass
+    name_start = and_then (skip_at (left.skip + 4)) (pass_number w32 from_count)
 
-      pub length_stops : (stop : TakeFault) → TookFewer Within Lacks (skip + 4) middle new stop → Stops whole Within Lacks old new stop
-      length_stops stop t = part_stops skip data_pass q g stop (number_stops Within Lacks w32 skip skip_at middle new stop t)
+    name_same : Same (and_then (skip_at left.skip) (and_then (skip_at 4) (pass_number w32 from_count))) name_start
+    name_same = skip_more left.skip 4 (pass_number w32 from_count)
 
-    -- and the last one
-    module _ (skip : ℕ) (g : Goes whole (and_then (skip_at skip) data_pass) Within old middle) where
-      pub last_goes : (last : ℕ) → Taken Within (skip + 4) middle new → last ≡ last_number w32 skip middle.bytes new.bytes → Goes whole (skip_at last) Within old new
-      last_goes last t is = goes_then Within whole _ _ old middle new g (number_goes Within w32 skip skip_at middle new last t is)
+    pub name_first : (old new : Hand) (stop : TakeFault) → TookFewer Within Lacks ((left.skip + 4) + 8) old new stop → Stops (and_then (left_at strict left) (passed_at name_at)) Within Lacks old new stop
+    name_first old new stop t = left_stops _ _ name_passed old new stop (stops_same Within Lacks _ _ old new stop name_same (pair_stops Within (left.skip + 4) from_realm Lacks old new stop t))
 
-      pub last_stops : (stop : TakeFault) → TookFewer Within Lacks (skip + 4) middle new stop → Stops whole Within Lacks old new stop
-      last_stops stop t = stops_then Within Lacks whole _ old middle new stop g (number_stops Within Lacks w32 skip skip_at middle new stop t)
+    module _ (old middle new : Hand) (count realm : ℕ) (start : Goes name_start (from_realm count realm) Within old middle) where
+      begun : Goes (and_then (skip_at left.skip) (and_then (skip_at 4) (pass_number w32 from_count))) (from_realm count realm) Within old middle
+      begun = goes_same Within _ _ _ _ old middle name_same (λ place. refl) start
 
-  -- ---- from the flags on
+      pub name_goes : (last : ℕ) → Goes (from_realm count realm) (skip_at last) Within middle new → Goes (and_then (left_at strict left) (passed_at name_at)) (left_at strict (behind_part last)) Within old new
+      name_goes last g = left_goes _ _ name_passed last old new (goes_then Within _ _ _ old middle new begun g)
 
-  tail_parts : Same tail_pass (and_then (and_then (skip_at 4) list_pass) from_authdata)
-  tail_parts = also _ _ _ tail_passed (λ place. sym (grouped (skip_at 4) list_pass from_authdata place))
+      pub name_stops : (stop : TakeFault) → Stops (from_realm count realm) Within Lacks middle new stop → Stops (and_then (left_at strict left) (passed_at name_at)) Within Lacks old new stop
+      name_stops stop h = left_stops _ _ name_passed old new stop (stops_then Within Lacks _ _ old middle new stop begun h)
 
-  module _ (old new : Hand) where
-    pub addresses_go : (last : ℕ) → Goes (and_then (skip_at 4) list_pass) (skip_at last) Within old new → Goes tail_pass (and_then (skip_at last) from_authdata) Within old new
-    addresses_go last g = goes_same Within _ _ _ _ old new tail_parts (λ place. refl) (goes_more Within _ (skip_at last) from_authdata old new g)
+    -- the byte of a flag
 
-    pub addresses_stop : (stop : TakeFault) → Stops (and_then (skip_at 4) list_pass) Within Lacks old new stop → Stops tail_pass Within Lacks old new stop
-    addresses_stop stop h = stops_same Within Lacks _ _ old new stop tail_parts (stops_more Within Lacks _ from_authdata old new stop h)
+    abbrev tested : ℕ → Pass
+    tested byte = pass_if (allowed strict (is_flag byte))
 
-  -- ---- a credential
+    byte_passed : Same (passed_at (byte_at strict)) (pass_number w8 tested)
+    byte_passed place = from_number (number_at w8 place)
+      where
+        by_test : (n : ℕ × Place) (b : Bool) → (cond b (Some n) None >>= behind) ≡ pass_if b n.1
+        by_test n true = refl
+        by_test n false = refl
 
-  module _ (layout : Layout) (test : ℕ → Bool) where
-    abbrev whole : Pass
-    whole = pass_credential layout test
+        from_number : (o : Option (ℕ × Place)) → ((o >>= λ n. cond (allowed strict (is_flag n.0)) (Some n) None) >>= behind) ≡ (o >>= λ n. tested n.0 n.1)
+        from_number None = refl
+        from_number (Some n) = by_test n (allowed strict (is_flag n.0))
 
-    abbrev pub from_type : Pass
-    from_type = from_etype layout (tested test)
+    abbrev pub behind_flag : Bool → Left
+    behind_flag flag = record { skip = 0; good = left.good && flag }
 
-    credential_parts : Same whole (and_then (and_then (skip_at 0) name_pass) (and_then name_pass from_type))
-    credential_parts = also _ _ _ (credential_passed layout test) (same_both name_pass _ _ _ (λ place. sym (none_skipped name_pass place)) (λ place. refl))
+    both_tested : (flag : Bool) → Same (and_then (pass_if passes) (pass_if (allowed strict flag))) (left_at strict (behind_flag flag))
+    both_tested flag place = by_cases strict left.good flag
+      where
+        by_cases : (s good flag : Bool) → and_then (pass_if (allowed s good)) (pass_if (allowed s flag)) place ≡ and_then (pass_if (allowed s (good && flag))) (skip_at 0) place
+        by_cases false good flag = sym (skip_zero place)
+        by_cases true true true = sym (skip_zero place)
+        by_cases true true false = refl
+        by_cases true false flag = refl
 
-    -- what comes after the times
-    abbrev from_mark : Pass
-    from_mark = pass_number w8 (λ mark. and_then (pass_if (test mark)) tail_pass)
+    pub flag_goes : (byte : ℕ) (old new : Hand) → Taken Within (left.skip + 1) old new → byte ≡ last_number w8 left.skip old.bytes new.bytes → Goes (and_then (left_at strict left) (passed_at (byte_at strict))) (left_at strict (behind_flag (is_flag byte))) Within old new
+    flag_goes byte old new t is =
+        goes_same Within _ _ _ _ old new (same_then (left_at strict left) _ _ byte_passed) (both_tested (is_flag byte))
+        (goes_guarded Within passes (skip_at left.skip) (pass_number w8 tested) (tested byte) old new (number_goes Within w8 left.skip tested old new byte t is))
 
-    timed : (skip : ℕ) → Same (and_then (skip_at skip) (and_then (skip_at 4) (and_then (skip_at 4) (and_then (skip_at 4) (and_then (skip_at 4) (and_then (tested test) tail_pass)))))) (and_then (skip_at (skip + 16)) from_mark)
-    timed skip place =
-        let marks : Pass = and_then (tested test) tail_pass in
-        same_then (skip_at skip) _ _ (also _ _ _ (skip_more 4 4 _) (also _ _ _ (skip_more 8 4 _) (skip_more 12 4 marks))) place ∙ skip_more skip 16 marks place
-        ∙ same_then (skip_at (skip + 16)) marks from_mark (number_grouped w8 (λ mark. pass_if (test mark)) tail_pass) place
+    pub flag_stops : (old new : Hand) (stop : TakeFault) → TookFewer Within Lacks (left.skip + 1) old new stop → Stops (and_then (left_at strict left) (passed_at (byte_at strict))) Within Lacks old new stop
+    flag_stops old new stop t = left_stops _ _ byte_passed old new stop (number_stops Within Lacks w8 left.skip tested old new stop t)
 
-    typed : (skip : ℕ) → Same (and_then (skip_at skip) from_type) (and_then (skip_at ((skip + 2) + second_size layout)) (from_key (tested test)))
-    typed skip = also _ _ _ (skip_more skip 2 _) (skip_more (skip + 2) (second_size layout) (from_key (tested test)))
+    -- so many bytes, of which none is taken yet
+    pub size_goes : (size : ℕ) (old : Hand) → length old.bytes ≤ old.peak → Within old → (p : Pass) → Same p (skip_at size) → Goes (and_then (left_at strict left) p) (left_at strict (behind_part (left.skip + size))) Within old old
+    size_goes size old peak within p e =
+        goes_same Within _ _ _ _ old old
+        (λ place. grouped (pass_if passes) (skip_at left.skip) p place ∙ same_then (pass_if passes) _ (skip_at (left.skip + size)) (λ next. part_same p (skip_at size) e next ∙ sym (skip_both left.skip size next)) place) (λ place. refl)
+        (goes_none Within (left_at strict (behind_part (left.skip + size))) old peak within)
 
-    module _ (old new : Hand) where
-      pub client_goes : (last : ℕ) → Goes (and_then (skip_at 0) name_pass) (skip_at last) Within old new → Goes whole (and_then (skip_at last) (and_then name_pass from_type)) Within old new
-      client_goes last g = goes_same Within _ _ _ _ old new credential_parts (λ place. refl) (goes_more Within _ (skip_at last) _ old new g)
+    -- two fields, one after the other
+    module _ {X Y : Type 0} (one : Place → Option (X × Place)) (other : Place → Option (Y × Place)) where
+      both_same : Same (and_then (left_at strict left) (passed_at (both_at one other))) (and_then (and_then (left_at strict left) (passed_at one)) (passed_at other))
+      both_same place = same_then (left_at strict left) _ _ (both_passed one other) place ∙ sym (grouped (left_at strict left) (passed_at one) (passed_at other) place)
 
-      pub client_stops : (stop : TakeFault) → Stops (and_then (skip_at 0) name_pass) Within Lacks old new stop → Stops whole Within Lacks old new stop
-      client_stops stop h = stops_same Within Lacks _ _ old new stop credential_parts (stops_more Within Lacks _ _ old new stop h)
+      pub both_stop : (old new : Hand) (stop : TakeFault) → Stops (and_then (left_at strict left) (passed_at one)) Within Lacks old new stop → Stops (and_then (left_at strict left) (passed_at (both_at one other))) Within Lacks old new stop
+      both_stop old new stop h = stops_same Within Lacks _ _ old new stop both_same (stops_more Within Lacks _ (passed_at other) old new stop h)
 
-    module _ (old middle new : Hand) where
-      module _ (skip : ℕ) (g : Goes whole (and_then (skip_at skip) from_type) Within old middle) where
-        abbrev keyed : Goes whole (and_then (skip_at ((skip + 2) + second_size layout)) (from_key (tested test))) Within old middle
-        keyed = goes_same Within _ _ _ _ old middle (λ place. refl) (typed skip) g
+      pub both_walk : (old middle new : Hand) (next : Left) (result : Result Left TakeFault) → Goes (and_then (left_at strict left) (passed_at one)) (left_at strict next) Within old middle
+          → IsWalk (and_then (left_at strict next) (passed_at other)) (left_at strict) Within Lacks middle new result → IsWalk (and_then (left_at strict left) (passed_at (both_at one other))) (left_at strict) Within Lacks old new result
+      both_walk old middle new next result g h = walk_same Within Lacks _ _ _ old new result both_same (walk_then Within Lacks _ (and_then (left_at strict next) (passed_at other)) _ old middle new result (goes_more Within _ (left_at strict next) (passed_at other) old middle g) h)
 
-        pub key_goes : (key : ℕ) → Taken Within (((skip + 2) + second_size layout) + 4) middle new → key ≡ last_number w32 ((skip + 2) + second_size layout) middle.bytes new.bytes → Goes whole (and_then (skip_at (key + 16)) from_mark) Within old new
-        key_goes key t is = goes_same Within _ _ _ _ old new (λ place. refl) (timed key) (length_goes whole old middle new ((skip + 2) + second_size layout) _ keyed key t is)
+  -- ---- a whole part, whose last bytes were left
 
-        pub key_stops : (stop : TakeFault) → TookFewer Within Lacks (((skip + 2) + second_size layout) + 4) middle new stop → Stops whole Within Lacks old new stop
-        key_stops stop t = length_stops whole old middle new ((skip + 2) + second_size layout) _ keyed stop t
+  module _ (strict : Bool) (p : Pass) (start : Left) (is_start : start ≡ record { skip = 0; good = true }) where
+    started : Same p (and_then (left_at strict start) p)
+    started place = sym (ap (λ (left : Left). and_then (left_at strict left) p place) is_start ∙ by_case strict)
+      where
+        by_case : (s : Bool) → and_then (left_at s (record { skip = 0; good = true })) p place ≡ p place
+        by_case true = none_skipped p place
+        by_case false = none_skipped p place
 
-      module _ (skip : ℕ) (g : Goes whole (and_then (skip_at skip) from_mark) Within old middle) where
-        pub mark_goes : (mark : ℕ) → Taken Within (skip + 1) middle new → mark ≡ last_number w8 skip middle.bytes new.bytes → Goes whole (and_then (pass_if (test mark)) tail_pass) Within old new
-        mark_goes mark t is = goes_then Within whole _ _ old middle new g (number_goes Within w8 skip (λ mark. and_then (pass_if (test mark)) tail_pass) middle new mark t is)
+    pub all_stop : (old new : Hand) (stop : TakeFault) → Stops (and_then (left_at strict start) p) Within Lacks old new stop → Stops p Within Lacks old new stop
+    all_stop old new stop h = stops_same Within Lacks _ _ old new stop started h
 
-        pub mark_stops : (stop : TakeFault) → TookFewer Within Lacks (skip + 1) middle new stop → Stops whole Within Lacks old new stop
-        mark_stops stop t = stops_then Within Lacks whole _ old middle new stop g (number_stops Within Lacks w8 skip (λ mark. and_then (pass_if (test mark)) tail_pass) middle new stop t)
-
-      module _ (mark : ℕ) (g : Goes whole (and_then (pass_if (test mark)) tail_pass) Within old middle) where
-        pub tail_goes : Goes tail_pass pass_none Within middle new → Goes whole (pass_if (test mark)) Within old new
-        tail_goes h = goes_then Within whole _ _ old middle new g (goes_if Within (test mark) tail_pass middle new h)
-
-        pub tail_stops : (stop : TakeFault) → Stops tail_pass Within Lacks middle new stop → Stops whole Within Lacks old new stop
-        tail_stops stop h = stops_then Within Lacks whole _ old middle new stop g (stops_if Within Lacks (test mark) tail_pass middle new stop h)
+    module _ (old middle new : Hand) (left : Left) (g : Goes (and_then (left_at strict start) p) (left_at strict left) Within old middle) where
+      pub all_walk : {T : Type 0} (result : Result T TakeFault) → IsTaken Within Lacks left.skip middle new result → IsWalk p (λ x. pass_if (allowed strict left.good)) Within Lacks old new result
+      all_walk (Ok x) t = goes_then Within p (left_at strict left) _ old middle new (goes_same Within _ _ _ _ old middle started (λ place. refl) g) (goes_if Within (allowed strict left.good) (skip_at left.skip) middle new (bytes_goes Within left.skip middle new t))
+      all_walk (Err stop) t =
+          stops_then Within Lacks p (left_at strict left) old middle new stop (goes_same Within _ _ _ _ old middle started (λ place. refl) g)
+          (stops_if Within Lacks (allowed strict left.good) (skip_at left.skip) middle new stop (bytes_stops Within Lacks left.skip middle new stop t))

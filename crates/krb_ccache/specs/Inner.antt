@@ -1,4 +1,3 @@
-pub mod Fitting
 pub mod Reading
 pub mod Room
 pub mod Standing

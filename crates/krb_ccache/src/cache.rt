@@ -12,23 +12,21 @@ ghost use Rattle.krb_ccache.specs.Fault.{offset_of, failed_reads};
 ghost use Rattle.krb_name.specs.File.{file_limit, IsGiven, GivesWithin, ReadsFile};
 ghost use Rattle.krb_ccache.specs.Format.{written, Spelled, Spells, IsCache, IsFaultOf, IsAnswerOf};
 ghost use Rattle.krb_ccache.specs.Offset.{clock_offset};
-ghost use Rattle.krb_ccache.specs.Inner.Reading.{credential_at};
 ghost use Rattle.krb_ccache.specs.Inner.Room.{Leaves};
-ghost use Rattle.krb_ccache.specs.Inner.Standing.{bytes_of, Lies, Reaches, IsMissing, StopsBy};
+ghost use Rattle.krb_ccache.specs.Inner.Standing.{bytes_of, Lies, LiesOne, Reaches, IsMissing, StopsBy};
 
 use crate::checking::check;
 use crate::configuration::{first_offset, is_entry};
 use crate::credential::{Credential, HeaderField};
 use crate::fault::CacheFault;
-use crate::fits::{all_fit, header_fits, name_fits};
+use crate::fits::header_fits;
 use crate::header::{open, read_head};
 use crate::item_fault::ItemFault;
 use crate::items::{read_credential, read_name};
 use crate::layout::{Layout, VERSION_4};
-use crate::part::{behind_each, write_each};
-use crate::room::{behind_header, behind_name};
+use crate::part::{Part, behind_each, fits_each, write_each};
 use crate::stepping::{Start, begin, steps};
-use crate::writing::{write_header, write_name, write_u16};
+use crate::writing::{behind_header, write_header, write_u16};
 use krb_name::{FILE_LIMIT, FileCursor, Principal, Source, Window};
 use std::alloc::{AllocError, Global};
 use std::marker::Model;
@@ -77,7 +75,7 @@ impl CCache {
             (HasLengths (cache_of header.items default_principal credentials.items))
             (cache_of header.items default_principal credentials.items) }
     {
-        if !header_fits(&header) || !name_fits(&default_principal) || !all_fit(&credentials) {
+        if !header_fits(&header) || !default_principal.fits() || !fits_each(&credentials) {
             return None;
         }
         Some(CCache {
@@ -256,7 +254,7 @@ impl CCache {
         ensures { Leaves left (length (written self.now)) result }
     {
         let rest = behind_header(left.checked_sub(2)?, self.header.as_slice())?;
-        let rest = behind_name(rest, &self.default_principal)?;
+        let rest = self.default_principal.behind(rest)?;
         behind_each(rest, self.credentials.as_slice())
     }
 
@@ -267,7 +265,7 @@ impl CCache {
         let mut bytes = Vec::with_capacity(alloc, size)?;
         write_u16(&mut bytes, VERSION_4)?;
         write_header(&mut bytes, self.header.as_slice())?;
-        write_name(&mut bytes, &self.default_principal)?;
+        self.default_principal.write(&mut bytes)?;
         write_each(&mut bytes, self.credentials.as_slice())?;
         Ok(bytes)
     }
@@ -308,10 +306,10 @@ fn read_one(
     layout: Layout,
     cursor: &mut FileCursor<'_>,
 ) -> Result<Credential, CacheFault>
-    ensures read { IfOk result (λ credential.
-        credential_at layout cursor.old ≡ Some (credential, cursor.new)) }
+    requires { IsBytes cursor.old.rest }
+    ensures read { IfOk result (λ credential. LiesOne layout cursor.old credential cursor.new) }
     ensures missing { IfErr result (λ fault. fault ≢ CacheFault.OutOfMemory
-        → (fault ≡ CacheFault.BadItem cursor.old.at) × (credential_at layout cursor.old ≡ None)) }
+        → (fault ≡ CacheFault.BadItem cursor.old.at) × IsMissing bytes_of (Spells layout) cursor.old.rest) }
 {
     let at = cursor.at();
     match read_credential(alloc, layout, cursor) {

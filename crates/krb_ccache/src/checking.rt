@@ -1,22 +1,22 @@
 //! Whether the bytes of a file are a cache. Allocates no memory, so no fault is hidden by the lack
 //! of it.
 
-ghost use Rattle.std.specs.Prelude.{◌≡◌, ◌<◌, ◌^◌, List, [], None, OnOk, OnErr, IfErr, length};
+ghost use Rattle.std.specs.Prelude.{◌≡◌, ◌+◌, ◌<◌, ◌^◌, List, [], true, Some, None, OnOk, OnErr, IfErr, length};
 ghost use Rattle.krb_name.specs.Field.{IsBytes};
 ghost use Rattle.krb_ccache.specs.declared.credential.HeaderField.{HeaderField as HeaderFieldValue};
 ghost use Rattle.krb_ccache.specs.Spelling.{header_bytes};
 ghost use Rattle.krb_ccache.specs.Value.{Cache, FitsHeader};
 ghost use Rattle.krb_ccache.specs.Format.{head_bytes, FitsHead, Spelled, Spells, IsCache, IsFaultOf};
-ghost use Rattle.krb_ccache.specs.Inner.Reading.{name_at, credential_at};
-ghost use Rattle.krb_ccache.specs.Inner.Standing.{bytes_of, Lies, Reaches, IsMissing, Fills, StopsBy, IsBehind};
+ghost use Rattle.krb_ccache.specs.Inner.Standing.{bytes_of, Lies, Reaches, IsMissing, Fills, StopsBy};
+ghost use Rattle.krb_ccache.specs.Inner.Walking.{passed_at};
 
+use crate::credential::Row;
 use crate::fault::CacheFault;
+use crate::field::{Field, take_all};
 use crate::header::{open, read_field};
-use crate::items::to_flag;
 use crate::layout::Layout;
 use crate::taker::{Passing, Taker};
-use crate::walking::{take_credential, take_principal};
-use krb_name::{FileCursor, Short};
+use krb_name::{FileCursor, Principal, Short};
 
 /// Returns `Ok` if the bytes are a cache.
 ///
@@ -32,7 +32,7 @@ pub(crate) fn check(bytes: &[u8]) -> Result<(), CacheFault>
         Err(Short) => return Err(CacheFault::Header),
     }
     let at = cursor.at();
-    match skip_name(&mut cursor) {
+    match skip::<Principal>(layout, &mut cursor) {
         Ok(()) => {}
         Err(Short) => return Err(CacheFault::BadItem { at }),
     }
@@ -88,7 +88,7 @@ fn check_credentials(layout: Layout, cursor: &mut FileCursor<'_>) -> Result<(), 
 {
     while !cursor.is_at_end() {
         let at = cursor.at();
-        match skip_credential(layout, cursor) {
+        match skip::<Row>(layout, cursor) {
             Ok(()) => {}
             Err(Short) => return Err(CacheFault::BadItem { at }),
         }
@@ -96,25 +96,16 @@ fn check_credentials(layout: Layout, cursor: &mut FileCursor<'_>) -> Result<(), 
     Ok(())
 }
 
-// Each call moves past the part that begins here. If there is none, the position is unspecified.
-
-fn skip_credential(layout: Layout, cursor: &mut FileCursor<'_>) -> Result<(), Short>
-    ensures ok { OnOk result (IsBehind (credential_at layout cursor.old) cursor.new) }
-    ensures short { OnErr result (credential_at layout cursor.old ≡ None) }
+// Moves past the field that begins here. If there is none, the position is unspecified.
+fn skip<F: Field>(layout: Layout, cursor: &mut FileCursor<'_>) -> Result<(), Short>
+    requires { 2 ^ 32 + F.most < 2 ^ 64 }
+    ensures ok { OnOk result (passed_at (F.raw_at true layout) cursor.old ≡ Some cursor.new) }
+    ensures short { OnErr result (passed_at (F.raw_at true layout) cursor.old ≡ None) }
 {
     let mut passing = Passing::new(cursor.rest());
-    let mark = take_credential(layout, &mut passing)?;
-    to_flag(mark)?;
-    cursor.read_bytes(passing.taken().len())?;
-    Ok(())
-}
-
-fn skip_name(cursor: &mut FileCursor<'_>) -> Result<(), Short>
-    ensures ok { OnOk result (IsBehind (name_at cursor.old) cursor.new) }
-    ensures short { OnErr result (name_at cursor.old ≡ None) }
-{
-    let mut passing = Passing::new(cursor.rest());
-    take_principal(&mut passing)?;
+    if !take_all::<F, _>(layout, &mut passing)? {
+        return Err(Short);
+    }
     cursor.read_bytes(passing.taken().len())?;
     Ok(())
 }

@@ -1,7 +1,13 @@
 //! A credential of a cache, and a field of its header.
 
-ghost use Rattle.std.specs.Prelude.{Some};
+ghost use Rattle.std.specs.Prelude.{◌≡◌, Some};
+ghost use Rattle.krb_ccache.specs.Inner.Reading.{Parts, credential_of};
+ghost use Rattle.krb_ccache.specs.Spelling.{credential_bytes};
+ghost use Rattle.krb_ccache.specs.Value.{HasCredentialLengths, FitsCredential};
 
+use crate::field::Field;
+use crate::part::Part;
+use crate::second_type::SecondType;
 use crate::typed::TypedList;
 use krb_name::{Bytes, Principal};
 use std::fmt;
@@ -51,6 +57,67 @@ pub struct Credential {
     pub ticket: Bytes,
     /// The bytes of a second ticket, or none.
     pub second_ticket: Bytes,
+}
+
+/// The fields of a credential in the order of the file, with names, bytes and lists of these types.
+type RowOf<N, B, L> = (N, (N, KeyAnd<B, TimesAnd<FlagsAnd<(L, (L, (B, B)))>>>));
+
+// The encryption type, and the key.
+type KeyAnd<B, R> = (i16, (SecondType, (B, R)));
+
+// `authtime`, `starttime`, `endtime` and `renew_till`.
+type TimesAnd<R> = (u32, (u32, (u32, (u32, R))));
+
+// `is_skey`, and the ticket's flags.
+type FlagsAnd<R> = (bool, (u32, R));
+
+/// The fields of a credential.
+pub(crate) type Row = RowOf<Principal, Bytes, TypedList>;
+
+/// The same, by reference.
+type RowRef<'a> = RowOf<&'a Principal, &'a Bytes, &'a TypedList>;
+
+impl Credential {
+    /// Returns the fields, in the order of the file.
+    pub(crate) fn row(&self) -> RowRef<'_>
+        ensures spelled { ⟦<RowRef<'static> as Part>⟧.spelled result ≡ credential_bytes self.now }
+        ensures fits { HasCredentialLengths self.now → ⟦<RowRef<'static> as Part>⟧.Fits result }
+        ensures range { ⟦<RowRef<'static> as Part>⟧.InRange result → FitsCredential self.now }
+    {
+        let tickets = (&self.ticket, &self.second_ticket);
+        let lists = (&self.addresses, (&self.authdata, tickets));
+        let flags = (self.is_skey, (self.ticket_flags, lists));
+        let ends = (self.endtime, (self.renew_till, flags));
+        let times = (self.authtime, (self.starttime, ends));
+        let key = (self.etype, (SecondType, (&self.key, times)));
+        (&self.client, (&self.server, key))
+    }
+
+    /// Makes the credential of these fields.
+    pub(crate) fn from_row(row: Row) -> Credential
+        ensures { (parts : Parts) → row ≡ ⟦<Row as Field>⟧.value parts → result ≡ credential_of parts }
+    {
+        let (client, (server, (etype, (_, (key, times))))) = row;
+        let (authtime, (starttime, (endtime, (renew_till, flags)))) = times;
+        let (is_skey, (ticket_flags, (addresses, (authdata, tickets)))) = flags;
+        let (ticket, second_ticket) = tickets;
+        Credential {
+            client,
+            server,
+            etype,
+            key,
+            authtime,
+            starttime,
+            endtime,
+            renew_till,
+            is_skey,
+            ticket_flags,
+            addresses,
+            authdata,
+            ticket,
+            second_ticket,
+        }
+    }
 }
 
 impl fmt::Debug for Credential {

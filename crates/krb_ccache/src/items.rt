@@ -1,15 +1,19 @@
 //! Reading the parts of a cache from a cursor.
 
-ghost use Rattle.std.specs.Prelude.{◌≡◌, None, Some, IfOk, OnErr};
+ghost use Rattle.std.specs.Prelude.{◌≡◌, None, Some, IfOk};
 ghost use Rattle.std.specs.Int.{w32};
 ghost use Rattle.krb_name.specs.Cursor.{data_at, times_at};
-ghost use Rattle.krb_ccache.specs.Inner.Reading.{name_at, flag_of, flag_at, typed_at, list_at, credential_at};
+ghost use Rattle.krb_name.specs.Field.{IsBytes};
+ghost use Rattle.krb_ccache.specs.Format.{Spells};
+ghost use Rattle.krb_ccache.specs.Inner.Standing.{bytes_of, LiesOne, IsMissing};
+ghost use Rattle.krb_ccache.specs.Inner.Reading.{name_at, typed_at};
 
-use crate::credential::Credential;
+use crate::credential::{Credential, Row};
+use crate::field::Field;
 use crate::item_fault::ItemFault;
 use crate::layout::Layout;
 use crate::typed::{TypedBytes, TypedList};
-use krb_name::{Bytes, Components, FileCursor, Principal, Short};
+use krb_name::{Bytes, Components, FileCursor, Principal};
 use std::alloc::Global;
 
 // Each call reads the part that begins here, copies it and moves past it. On an error the position
@@ -56,26 +60,6 @@ fn read_components(
     Ok(components)
 }
 
-#[tactic(auto, unfolding(crate::specs::Inner::Reading::flag_at))]
-fn read_flag(cursor: &mut FileCursor<'_>) -> Result<bool, Short>
-    ensures read { IfOk result (λ flag. flag_at cursor.old ≡ Some (flag, cursor.new)) }
-    ensures short { OnErr result (flag_at cursor.old ≡ None) }
-{
-    to_flag(cursor.read_u8()?)
-}
-
-/// Returns the flag that a byte is.
-pub(crate) fn to_flag(byte: u8) -> Result<bool, Short>
-    ensures flag { IfOk result (λ flag. flag_of byte ≡ Some flag) }
-    ensures short { OnErr result (flag_of byte ≡ None) }
-{
-    match byte {
-        0 => Ok(false),
-        1 => Ok(true),
-        _ => Err(Short),
-    }
-}
-
 #[tactic(auto, unfolding(crate::specs::Inner::Reading::typed_at))]
 fn read_typed(alloc: Global, cursor: &mut FileCursor<'_>) -> Result<TypedBytes, ItemFault>
     ensures read { IfOk result (λ element. typed_at cursor.old ≡ Some (element, cursor.new)) }
@@ -86,16 +70,7 @@ fn read_typed(alloc: Global, cursor: &mut FileCursor<'_>) -> Result<TypedBytes, 
     Ok(TypedBytes { kind, bytes })
 }
 
-#[tactic(auto, unfolding(crate::specs::Inner::Reading::list_at))]
-fn read_list(alloc: Global, cursor: &mut FileCursor<'_>) -> Result<TypedList, ItemFault>
-    ensures read { IfOk result (λ list. list_at cursor.old ≡ Some (list, cursor.new)) }
-    ensures missing { result ≡ Err ItemFault.Missing → list_at cursor.old ≡ None }
-{
-    let count = cursor.read_u32()?;
-    read_elements(alloc, cursor, count)
-}
-
-fn read_elements(
+pub(crate) fn read_elements(
     alloc: Global,
     cursor: &mut FileCursor<'_>,
     count: u32,
@@ -112,34 +87,16 @@ fn read_elements(
     Ok(list)
 }
 
-#[tactic(auto, unfolding(crate::specs::Inner::Reading::credential_at))]
 pub(crate) fn read_credential(
     alloc: Global,
     layout: Layout,
     cursor: &mut FileCursor<'_>,
 ) -> Result<Credential, ItemFault>
-    ensures read { IfOk result (λ credential.
-        credential_at layout cursor.old ≡ Some (credential, cursor.new)) }
-    ensures missing { result ≡ Err ItemFault.Missing → credential_at layout cursor.old ≡ None }
+    requires { IsBytes cursor.old.rest }
+    ensures read { IfOk result (λ credential. LiesOne layout cursor.old credential cursor.new) }
+    ensures missing { result ≡ Err ItemFault.Missing
+        → IsMissing bytes_of (Spells layout) cursor.old.rest }
 {
-    let client = read_name(alloc, cursor)?;
-    let server = read_name(alloc, cursor)?;
-    let etype = cursor.read_i16()?;
-    cursor.read_bytes(layout.second_size())?;
-    Ok(Credential {
-        client,
-        server,
-        etype,
-        key: read_data(alloc, cursor)?,
-        authtime: cursor.read_u32()?,
-        starttime: cursor.read_u32()?,
-        endtime: cursor.read_u32()?,
-        renew_till: cursor.read_u32()?,
-        is_skey: read_flag(cursor)?,
-        ticket_flags: cursor.read_u32()?,
-        addresses: read_list(alloc, cursor)?,
-        authdata: read_list(alloc, cursor)?,
-        ticket: read_data(alloc, cursor)?,
-        second_ticket: read_data(alloc, cursor)?,
-    })
+    let row = Row::read(alloc, layout, cursor)?;
+    Ok(Credential::from_row(row))
 }

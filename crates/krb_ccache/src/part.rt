@@ -1,30 +1,38 @@
-//! The parts that stand in lists of a cache: what is written of each, and how many bytes that takes.
+//! The parts of a cache: whether they fit into a file, how many bytes they take, and how they are written.
 
-ghost use Rattle.std.specs.Prelude.{◌≡◌, ◌<◌, ◌^◌, ◌++◌, ℕ, List, All, OnOk, length};
+ghost use Rattle.std.specs.Prelude.{◌≡◌, ◌<◌, ◌^◌, ◌++◌, ℕ, List, All, MatchBool, OnOk, length};
 ghost use Rattle.std.specs.Int.{w32};
 ghost use Rattle.std.specs.List.{flat_map};
 ghost use Rattle.krb_name.specs.Cursor.{data_bytes};
-ghost use Rattle.krb_ccache.specs.Spelling.{field_bytes, typed_bytes, credential_bytes};
-ghost use Rattle.krb_ccache.specs.Value.{HasCredentialLengths};
+ghost use Rattle.krb_ccache.specs.Spelling.{field_bytes, name_bytes, typed_bytes, list_bytes, credential_bytes};
+ghost use Rattle.krb_ccache.specs.Value.{HasNameLengths, HasListLengths, HasCredentialLengths, FitsName, FitsList, FitsCredential};
 ghost use Rattle.krb_ccache.specs.Inner.Room.{Leaves};
 
 use crate::credential::{Credential, HeaderField};
-use crate::room::{behind_list, behind_name};
-use crate::typed::TypedBytes;
-use crate::writing::{write_flag, write_i16, write_list, write_name, write_u16, write_u32};
-use krb_name::Bytes;
+use crate::typed::{TypedBytes, TypedList};
+use crate::writing::{write_i32, write_u16, write_u32};
+use krb_name::{Bytes, Principal};
 use std::alloc::AllocError;
 
-// The bytes of a credential beside names, key, lists and tickets: encryption type, four times, `is_skey` and flags.
-const FIXED: usize = 2 + 4 * 4 + 1 + 4;
+// The greatest count or length of a field of 16 bits, and of one of 32.
+pub(crate) const MOST_16: usize = 65_535;
 
-/// A part that stands in a list of a cache.
+const MOST_32: usize = 4_294_967_295;
+
+/// A part of a cache, as version 0x0504 has it.
 pub(crate) trait Part {
     /// What is written of it.
     ghost spelled: { Self → List ℕ };
 
     /// Whether its counts and lengths fit into the format.
     ghost Fits: { Self → Type 0 };
+
+    /// Whether its numbers do too, as those of each part in memory do.
+    ghost InRange: { Self → Type 0 };
+
+    /// Returns whether it fits.
+    fn fits(&self) -> bool
+        ensures { MatchBool result (InRange self.now) (¬ Fits self.now) };
 
     /// Returns how many of `left` bytes it leaves over, or `None` if it has more bytes than that.
     fn behind(&self, left: usize) -> Option<usize>
@@ -34,6 +42,17 @@ pub(crate) trait Part {
     fn write(&self, out: &mut Vec<u8>) -> Result<(), AllocError>
         requires { Fits self.now }
         ensures { OnOk result (out.new.items ≡ out.old.items ++ spelled self.now) };
+}
+
+pub(crate) fn fits_each<T: Part>(parts: &[T]) -> bool
+    ensures { MatchBool result (All T.InRange parts.now) (¬ All T.Fits parts.now) }
+{
+    for part in parts {
+        if !part.fits() {
+            return false;
+        }
+    }
+    true
 }
 
 pub(crate) fn behind_each<T: Part>(left: usize, parts: &[T]) -> Option<usize>
@@ -61,6 +80,12 @@ impl Part for Bytes {
 
     ghost Fits = { λ bytes. length bytes < 2 ^ 32 };
 
+    ghost InRange = { λ bytes. length bytes < 2 ^ 32 };
+
+    fn fits(&self) -> bool {
+        self.len() <= MOST_32
+    }
+
     #[tactic(auto, using(crate::proofs::RoomLaws::sizes))]
     fn behind(&self, left: usize) -> Option<usize> {
         left.checked_sub(4)?.checked_sub(self.len())
@@ -72,10 +97,45 @@ impl Part for Bytes {
     }
 }
 
+impl Part for Principal {
+    ghost spelled = { name_bytes };
+
+    ghost Fits = { HasNameLengths };
+
+    ghost InRange = { FitsName };
+
+    fn fits(&self) -> bool {
+        let _name_type = self.name_type;
+        self.components.len() <= MOST_32
+            && self.realm.fits()
+            && fits_each(self.components.as_slice())
+    }
+
+    #[tactic(auto, using(crate::proofs::RoomLaws::sizes))]
+    fn behind(&self, left: usize) -> Option<usize> {
+        let rest = self.realm.behind(left.checked_sub(8)?)?;
+        behind_each(rest, self.components.as_slice())
+    }
+
+    fn write(&self, out: &mut Vec<u8>) -> Result<(), AllocError> {
+        write_i32(out, self.name_type)?;
+        write_u32(out, self.components.len() as u32)?;
+        self.realm.write(out)?;
+        write_each(out, self.components.as_slice())
+    }
+}
+
 impl Part for TypedBytes {
     ghost spelled = { typed_bytes };
 
     ghost Fits = { λ element. length element.bytes < 2 ^ 32 };
+
+    ghost InRange = { λ element. (element.kind < 2 ^ 16) × (length element.bytes < 2 ^ 32) };
+
+    fn fits(&self) -> bool {
+        let _kind = self.kind;
+        self.bytes.fits()
+    }
 
     #[tactic(auto, using(crate::proofs::RoomLaws::sizes))]
     fn behind(&self, left: usize) -> Option<usize> {
@@ -88,10 +148,39 @@ impl Part for TypedBytes {
     }
 }
 
+impl Part for TypedList {
+    ghost spelled = { list_bytes };
+
+    ghost Fits = { HasListLengths };
+
+    ghost InRange = { FitsList };
+
+    fn fits(&self) -> bool {
+        self.len() <= MOST_32 && fits_each(self.as_slice())
+    }
+
+    #[tactic(auto, using(crate::proofs::RoomLaws::sizes))]
+    fn behind(&self, left: usize) -> Option<usize> {
+        behind_each(left.checked_sub(4)?, self.as_slice())
+    }
+
+    fn write(&self, out: &mut Vec<u8>) -> Result<(), AllocError> {
+        write_u32(out, self.len() as u32)?;
+        write_each(out, self.as_slice())
+    }
+}
+
 impl Part for HeaderField {
     ghost spelled = { field_bytes };
 
     ghost Fits = { λ field. length field.value < 2 ^ 16 };
+
+    ghost InRange = { λ field. (field.tag < 2 ^ 16) × (length field.value < 2 ^ 16) };
+
+    fn fits(&self) -> bool {
+        let _tag = self.tag;
+        self.value.len() <= MOST_16
+    }
 
     #[tactic(auto, using(crate::proofs::RoomLaws::sizes))]
     fn behind(&self, left: usize) -> Option<usize> {
@@ -110,32 +199,17 @@ impl Part for Credential {
 
     ghost Fits = { HasCredentialLengths };
 
-    #[tactic(auto, using(crate::proofs::RoomLaws::sizes))]
+    ghost InRange = { FitsCredential };
+
+    fn fits(&self) -> bool {
+        self.row().fits()
+    }
+
     fn behind(&self, left: usize) -> Option<usize> {
-        let rest = left.checked_sub(FIXED)?;
-        let rest = behind_name(rest, &self.client)?;
-        let rest = behind_name(rest, &self.server)?;
-        let rest = self.key.behind(rest)?;
-        let rest = behind_list(rest, self.addresses.as_slice())?;
-        let rest = behind_list(rest, self.authdata.as_slice())?;
-        let rest = self.ticket.behind(rest)?;
-        self.second_ticket.behind(rest)
+        self.row().behind(left)
     }
 
     fn write(&self, out: &mut Vec<u8>) -> Result<(), AllocError> {
-        write_name(out, &self.client)?;
-        write_name(out, &self.server)?;
-        write_i16(out, self.etype)?;
-        self.key.write(out)?;
-        write_u32(out, self.authtime)?;
-        write_u32(out, self.starttime)?;
-        write_u32(out, self.endtime)?;
-        write_u32(out, self.renew_till)?;
-        write_flag(out, self.is_skey)?;
-        write_u32(out, self.ticket_flags)?;
-        write_list(out, self.addresses.as_slice())?;
-        write_list(out, self.authdata.as_slice())?;
-        self.ticket.write(out)?;
-        self.second_ticket.write(out)
+        self.row().write(out)
     }
 }

@@ -1,6 +1,7 @@
 //! Reading the parts of a cache from a source, one at a time.
 
 ghost use Rattle.std.specs.Prelude.{All, Option, ℕ, List, [], length, max, ◌≡◌, ◌≢◌, ◌+◌, ◌-◌, ◌≤◌, ◌<◌, ◌^◌, IfOk, IfErr, OnOk, OnErr, Result, Err};
+ghost use Rattle.krb_name.specs.Field.{IsBytes};
 ghost use Rattle.krb_ccache.specs.Fault.{failed_reads};
 ghost use Rattle.krb_name.specs.File.{file_limit, IsGiven, GivesWithin};
 ghost use Rattle.krb_ccache.specs.Format.{version_of, head_bytes, FitsHead, Spelled, Spells, IsCache, IsFaultOf};
@@ -12,17 +13,18 @@ ghost use Rattle.krb_ccache.specs.declared.credential.Credential.{Credential as 
 ghost use Rattle.krb_ccache.specs.declared.credential.HeaderField.{HeaderField as HeaderFieldValue};
 ghost use Rattle.krb_ccache.specs.declared.fault.CacheFault.TheVariants.{Version, Header, BadItem};
 ghost use Rattle.krb_ccache.specs.Inner.Standing.{bytes_of, IsMissing};
-ghost use Rattle.krb_ccache.specs.Inner.Walking.{Halts, IsMarked, stop_reads, stopped_reads};
+ghost use Rattle.krb_ccache.specs.Inner.Walking.{Halts, stop_reads, stopped_reads};
 ghost use Rattle.krb_ccache.specs.Inner.Stepping.{Stands, cleared, Any, Comes, IsTold, Misses, IsStep, IsAtHand};
 
-use crate::credential::{Credential, HeaderField};
+use crate::credential::{Credential, HeaderField, Row};
 use crate::fault::CacheFault;
+use crate::field::take_all;
 use crate::header::read_header;
 use crate::item_fault::ItemFault;
-use crate::items::{read_credential, read_name, to_flag};
+use crate::items::{read_credential, read_name};
 use crate::layout::{Layout, read_layout};
 use crate::taker::Taker;
-use crate::walking::{TakeFault, take_credential, take_header, take_principal};
+use crate::walking::{TakeFault, take_header};
 use krb_name::{FILE_LIMIT, FileCursor, Principal, Short, Source, Window};
 use std::alloc::{AllocError, Global};
 
@@ -74,17 +76,6 @@ fn name_of(alloc: Global, bytes: &[u8]) -> Result<Principal, ItemFault>
 {
     let mut cursor = FileCursor::new(bytes);
     read_name(alloc, &mut cursor)
-}
-
-// Whether the bytes of a credential are one, with this byte for `is_skey`.
-fn has_credential(layout: Layout, bytes: &[u8], mark: u8) -> Result<(), Short>
-    requires { IsMarked layout bytes.now mark }
-    ensures found { OnOk result ((one : Spelled)
-        × Stands bytes_of (Spells layout) bytes.now one) }
-    ensures missing { OnErr result (IsMissing bytes_of (Spells layout) bytes.now) }
-{
-    to_flag(mark)?;
-    Ok(())
 }
 
 // Makes the credential that is at the front of the bytes.
@@ -173,7 +164,8 @@ fn come_name<S: Source>(alloc: Global, window: &mut Window<S>) -> Result<Princip
     ensures lent { S.lender window.new.source ≡ S.lender window.old.source }
 {
     window.clear();
-    take_principal(window)?;
+    // A name is the same in both layouts, and has no flag.
+    take_all::<Principal, _>(Layout::Version4, window)?;
     match name_of(alloc, window.bytes()) {
         Ok(name) => Ok(name),
         Err(fault) => Err(TakeFault::from(fault)),
@@ -196,12 +188,15 @@ fn come_past<S: Source>(layout: Layout, window: &mut Window<S>) -> Result<(), Ta
     ensures lent { S.lender window.new.source ≡ S.lender window.old.source }
 {
     window.clear();
-    let mark = take_credential(layout, window)?;
-    match has_credential(layout, window.bytes(), mark) {
-        Ok(()) => Ok(()),
-        Err(Short) => Err(TakeFault::Long),
-    }
+    let good = take_all::<Row, _>(layout, window)?;
+    are_bytes(window.bytes());
+    if good { Ok(()) } else { Err(TakeFault::Long) }
 }
+
+// States that each byte is one, which a proof knows when it is passed them.
+fn are_bytes(bytes: &[u8])
+    ensures { IsBytes bytes.now }
+{}
 
 // Answers the fault of a part that didn't come, when the source was read out, or TooLong in its place.
 fn told<S: Source>(window: &mut Window<S>, stop: TakeFault, fault: CacheFault) -> CacheFault

@@ -1,16 +1,15 @@
-//! Writing numbers, names, lists and the header of a cache after what was written before.
+//! Writing numbers and the header of a cache after what was written before, and the header's length.
 
-ghost use Rattle.std.specs.Prelude.{◌≡◌, ◌++◌, OnOk};
+ghost use Rattle.std.specs.Prelude.{◌≡◌, ◌++◌, OnOk, length};
 ghost use Rattle.std.specs.Int.{w16, w32};
 ghost use Rattle.krb_name.specs.Cursor.{number_bytes, signed_bytes};
-ghost use Rattle.krb_ccache.specs.Spelling.{header_bytes, name_bytes, flag_bytes, list_bytes};
-ghost use Rattle.krb_ccache.specs.Value.{HasNameLengths, HasListLengths, HasHeaderLengths};
+ghost use Rattle.krb_ccache.specs.Spelling.{header_bytes};
+ghost use Rattle.krb_ccache.specs.Inner.Room.{Leaves};
+ghost use Rattle.krb_ccache.specs.Value.{HasHeaderLengths};
 
 use crate::credential::HeaderField;
-use crate::part::{Part, write_each};
-use crate::typed::TypedBytes;
+use crate::part::{behind_each, write_each};
 use byteorder::{BigEndian, ByteOrder};
-use krb_name::Principal;
 use std::alloc::AllocError;
 
 pub(crate) fn write_u16(out: &mut Vec<u8>, number: u16) -> Result<(), AllocError>
@@ -35,34 +34,10 @@ pub(crate) fn write_i16(out: &mut Vec<u8>, number: i16) -> Result<(), AllocError
     write_u16(out, number.cast_unsigned())
 }
 
-fn write_i32(out: &mut Vec<u8>, number: i32) -> Result<(), AllocError>
+pub(crate) fn write_i32(out: &mut Vec<u8>, number: i32) -> Result<(), AllocError>
     ensures { OnOk result (out.new.items ≡ out.old.items ++ signed_bytes w32 number) }
 {
     write_u32(out, number.cast_unsigned())
-}
-
-pub(crate) fn write_name(out: &mut Vec<u8>, name: &Principal) -> Result<(), AllocError>
-    requires { HasNameLengths name.now }
-    ensures { OnOk result (out.new.items ≡ out.old.items ++ name_bytes name.now) }
-{
-    write_i32(out, name.name_type)?;
-    write_u32(out, name.components.len() as u32)?;
-    name.realm.write(out)?;
-    write_each(out, name.components.as_slice())
-}
-
-pub(crate) fn write_flag(out: &mut Vec<u8>, flag: bool) -> Result<(), AllocError>
-    ensures { OnOk result (out.new.items ≡ out.old.items ++ flag_bytes flag) }
-{
-    Ok(out.push(u8::from(flag))?)
-}
-
-pub(crate) fn write_list(out: &mut Vec<u8>, list: &[TypedBytes]) -> Result<(), AllocError>
-    requires { HasListLengths list.now }
-    ensures { OnOk result (out.new.items ≡ out.old.items ++ list_bytes list.now) }
-{
-    write_u32(out, list.len() as u32)?;
-    write_each(out, list)
 }
 
 pub(crate) fn write_header(out: &mut Vec<u8>, header: &[HeaderField]) -> Result<(), AllocError>
@@ -73,4 +48,12 @@ pub(crate) fn write_header(out: &mut Vec<u8>, header: &[HeaderField]) -> Result<
     write_each(&mut fields, header)?;
     write_u16(out, fields.len() as u16)?;
     out.extend_from_slice(&fields)
+}
+
+/// Returns how many of `left` bytes the header leaves over, or `None` if it has more bytes than that.
+#[tactic(auto, using(crate::proofs::RoomLaws::sizes))]
+pub(crate) fn behind_header(left: usize, header: &[HeaderField]) -> Option<usize>
+    ensures { Leaves left (length (header_bytes header.now)) result }
+{
+    behind_each(left.checked_sub(2)?, header)
 }

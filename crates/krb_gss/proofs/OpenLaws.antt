@@ -1,134 +1,99 @@
--- Whole tokens: what opening answers.
-use Rattle.std.proofs.Common.{◌≡◌, ℕ, ◌≤◌, true, List, [], ◌∷◌, length, Result, Ok, Err, inl, inr, refl, sym, ap, ◌∙◌, subst, arith, Bor}
-use Rattle.std.specs.Prelude.{IfErr}
-use Rattle.std.proofs.lemmas.Bool.{false≢true, cases_lt}
+-- Whole tokens and answers: what opening answers.
+use Rattle.std.proofs.Common.{◌≡◌, ℕ, ◌≤◌, true, false, List, [], ◌∷◌, length, Ok, Err, refl, sym, ap, ◌∙◌, subst, arith}
+use Rattle.std.proofs.lemmas.Bool.{false≢true}
 use Rattle.std.proofs.lemmas.Bool.Decides.{nat_tests}
-use Rattle.krb_der.specs.declared.fault.Fault.{Fault}
-use Rattle.krb_der.specs.declared.fault.FaultKind.TheVariants.{TooLong}
 use Rattle.krb_der.specs.Place.{Place, begin_at, begins}
 use Rattle.krb_der.specs.Spells.{limit}
+use Rattle.krb_der.proofs.LengthLaws.{no_value}
 use Rattle.krb_gss.specs.declared.fault.TokenFault.{TokenFault}
-use Rattle.krb_gss.specs.declared.fault.TokenFault.TheVariants.{Malformed}
 use Rattle.krb_gss.specs.declared.mechanism.Mechanism.{Mechanism}
 use Rattle.krb_gss.specs.declared.mechanism.Foreign.{Foreign}
 use Rattle.krb_gss.specs.declared.mechanism.Foreign.TheVariants.{Negotiation}
 use Rattle.krb_gss.specs.declared.opening.Wrapping.{Wrapping}
 use Rattle.krb_gss.specs.declared.opening.Wrapping.TheVariants.{Bare, Negotiated}
-use Rattle.krb_gss.specs.declared.opening.Opened.{Opened}
 use Rattle.krb_gss.specs.Mechanism.{named_of}
-use Rattle.krb_gss.specs.Token.{IsFramed, IsNegotiated, IsSpnego, IsWrapped, IsToken}
-use Rattle.krb_gss.specs.Fault.{IsTokenFault, too_long, response, not_token, token_frame, token_content, token_negotiation}
-use Rattle.krb_gss.specs.Opening.{FindsToken, OpensEach, Holds}
-use Rattle.krb_gss.specs.Inner.Reading.{EntersFrame, ReadsContent, ReadsNegotiation, IsWrappedFault, wrapped_frame, wrapped_content, wrapped_negotiation, OpensWrapped, Begins}
-use Rattle.krb_gss.proofs.PartLaws.{head_begins}
+use Rattle.krb_gss.specs.Token.{IsKerberos, IsInit, IsNegotiated, IsWithin, IsWhole}
+use Rattle.krb_gss.specs.Fault.{IsWholeFault, of_wrapping, of_message, IsNoMessage}
+use Rattle.krb_gss.specs.Answer.{Message, reply, error, Stands, IsResponse, IsWrappedAnswer}
+use Rattle.krb_gss.specs.Inner.Reading.{Reads}
+use Rattle.krb_gss.proofs.Steps.{Makes}
+use Rattle.krb_gss.proofs.StepLaws.{framed_begins, chosen_begins}
 
--- a token in its wrapping is framed
-framed_of : (w : Wrapping) (m : Mechanism) (r : List ℕ) (here : Place) → IsWrapped w m r here → (oid : Place) × (inner : Place) × IsFramed here oid inner
-framed_of Bare m r here t = (t.oid, t.inner, t.framed)
-framed_of (Negotiated first) m r here t = (t.oid, t.inner, t.framed)
+abbrev pub as_negotiated : Mechanism × Mechanism × Place → Wrapping × Mechanism × Place
+as_negotiated x = (Negotiated x.0, x.1, x.2)
 
-pub wrapped-refused : (here : Place) (f : Fault) (g : TokenFault) → EntersFrame (Err f) here → g ≡ Malformed f → OpensWrapped (Err g) here
-wrapped-refused here f g h is =
-    record {
-      found = tt;
-      only = λ w m r t. let x = framed_of w m r here t in h.only x.0 x.1 x.2;
-      faulty = wrapped_frame f h.faulty is;
-    }
+abbrev pub as_bare : Mechanism × Place → Wrapping × Mechanism × Place
+as_bare x = (Bare, x.0, x.1)
 
-module _ (here oid inner : Place) (h : EntersFrame (Ok (oid, inner)) here) where
-  named-is : (o n : Place) → IsFramed here o n → named_of oid.rest ≡ named_of o.rest
-  named-is o n f = ap (λ (p : Place). named_of p.rest) (h.only o n f).0
+-- ---- in a token: after the name of its mechanism
+pub within : (oid after : Place) → named_of oid.rest ≡ Err Negotiation
+    → Makes (λ (x : Mechanism × Mechanism × Place). IsNegotiated (IsInit after) x.0 x.1 x.2) as_negotiated (λ x. IsWithin oid after x.0 x.1 x.2)
+within oid after named = record { join = λ v is. (named, is); split = λ w k. by w.0 w.1 w.2 k }
+  where
+    by : (w : Wrapping) (m : Mechanism) (inner : Place) → IsWithin oid after w m inner
+        → (x : Mechanism × Mechanism × Place) × IsNegotiated (IsInit after) x.0 x.1 x.2 × (as_negotiated x ≡ (w, m, inner))
+    by Bare m inner k = absurd (no_value {E = Foreign} Negotiation m (sym named ∙ k.0))
+    by (Negotiated first) m inner k = ((first, m, inner), k.1, refl)
 
-  rest-is : (o n : Place) → IsFramed here o n → inner.rest ≡ n.rest
-  rest-is o n f = ap (λ (p : Place). p.rest) (h.only o n f).1
+-- ---- answers
+both_begin : (bytes : List ℕ) → begins 0xa1 bytes ≡ true → begins 0x60 bytes ≡ true → ⊥
+both_begin [] e f = false≢true e
+both_begin (b ∷ bytes) e f = grind (arith, nat_tests)
 
-  module _ (ne : named_of oid.rest ≡ Err Negotiation → ⊥) where
-    pub content-refused : (f : TokenFault) → ReadsContent 0x01 (Err f) oid inner → OpensWrapped (Err f) here
-    content-refused f c = record { found = tt; only = only; faulty = wrapped_content oid inner h.found ne c.faulty }
-      where
-        only : (w : Wrapping) (m : Mechanism) (r : List ℕ) → IsWrapped w m r here → ⊥
-        only Bare m r t = c.only m r (named-is t.oid t.inner t.framed ∙ t.named) (rest-is t.oid t.inner t.framed ∙ t.is)
-        only (Negotiated w) m r t = absurd (ne (named-is t.oid t.inner t.framed ∙ t.named))
+pub bare : (here : Place) → begins 0x60 here.rest ≡ true
+    → Makes (λ (x : Mechanism × Place). IsKerberos here x.0 x.1) as_bare (λ x. IsWrappedAnswer here x.0 x.1 x.2)
+bare here b = record { join = λ v is. is; split = λ w k. by w.0 w.1 w.2 k }
+  where
+    by : (w : Wrapping) (m : Mechanism) (inner : Place) → IsWrappedAnswer here w m inner
+        → (x : Mechanism × Place) × IsKerberos here x.0 x.1 × (as_bare x ≡ (w, m, inner))
+    by Bare m inner k = ((m, inner), k, refl)
+    by (Negotiated first) m inner k = absurd (both_begin here.rest (chosen_begins 0xa1 here k.fields.fields k.fields.chosen) b)
 
-    pub content-opened : (mechanism : Mechanism) (request : Bor (List ℕ)) → ReadsContent 0x01 (Ok (mechanism, request)) oid inner
-        → OpensWrapped (Ok (record { wrapping = Bare; mechanism = mechanism; request = request })) here
-    content-opened mechanism request c =
-        record { found = record { oid = oid; inner = inner; framed = h.found; named = c.found.0; is = c.found.1 }; only = only; faulty = tt }
-      where
-        only : (w : Wrapping) (m : Mechanism) (r : List ℕ) → IsWrapped w m r here → Holds (record { wrapping = Bare; mechanism = mechanism; request = request }) w m r
-        only Bare m r t =
-            let s = c.only m r (named-is t.oid t.inner t.framed ∙ t.named) (rest-is t.oid t.inner t.framed ∙ t.is) in
-            record { wrapping_is = refl; mechanism_is = s.0; request_is = s.1 }
-        only (Negotiated w) m r t = absurd (ne (named-is t.oid t.inner t.framed ∙ t.named))
+pub negotiated : (here : Place) → begins 0x60 here.rest ≡ false
+    → Makes (λ (x : Mechanism × Mechanism × Place). IsNegotiated (IsResponse here) x.0 x.1 x.2) as_negotiated (λ x. IsWrappedAnswer here x.0 x.1 x.2)
+negotiated here nf = record { join = λ v is. is; split = λ w k. by w.0 w.1 w.2 k }
+  where
+    by : (w : Wrapping) (m : Mechanism) (inner : Place) → IsWrappedAnswer here w m inner
+        → (x : Mechanism × Mechanism × Place) × IsNegotiated (IsResponse here) x.0 x.1 x.2 × (as_negotiated x ≡ (w, m, inner))
+    by Bare m inner k = absurd (false≢true (sym nf ∙ framed_begins here k.oid inner k.framed))
+    by (Negotiated first) m inner k = ((first, m, inner), k, refl)
 
-  module _ (named : named_of oid.rest ≡ Err Negotiation) where
-    not_bare : (m : Mechanism) (r : List ℕ) → IsWrapped Bare m r here → ⊥
-    not_bare m r t = no_mechanism m (sym named ∙ named-is t.oid t.inner t.framed ∙ t.named)
-      where
-        no_mechanism : (m : Mechanism) → ◌≡◌ {A = Result Mechanism Foreign} (Err Negotiation) (Ok m) → ⊥
-        no_mechanism m e = cc
+-- ---- messages
+pub one_request : (here : Place) (a b : List ℕ) → here.rest ≡ 0x01 ∷ 0 ∷ a → here.rest ≡ 0x01 ∷ 0 ∷ b → a ≡ b
+one_request here a b h k = let e : ◌≡◌ {A = List ℕ} (0x01 ∷ 0 ∷ a) (0x01 ∷ 0 ∷ b) = sym h ∙ k in cc
 
-    negotiated-is : (w m : Mechanism) (r : List ℕ) (t : IsSpnego here w m r) → IsNegotiated inner w m r
-    negotiated-is w m r t = subst (λ (p : Place). IsNegotiated p w m r) (sym (h.only t.oid t.inner t.framed).1) t.is
-
-    pub negotiation-refused : (f : TokenFault) → ReadsNegotiation (Err f) inner → OpensWrapped (Err f) here
-    negotiation-refused f n = record { found = tt; only = only; faulty = wrapped_negotiation oid inner h.found named n.faulty }
-      where
-        only : (w : Wrapping) (m : Mechanism) (r : List ℕ) → IsWrapped w m r here → ⊥
-        only Bare m r t = not_bare m r t
-        only (Negotiated w) m r t = n.only w m r (negotiated-is w m r t)
-
-    pub negotiation-opened : (first mechanism : Mechanism) (request : Bor (List ℕ)) → ReadsNegotiation (Ok (first, mechanism, request)) inner
-        → OpensWrapped (Ok (record { wrapping = Negotiated first; mechanism = mechanism; request = request })) here
-    negotiation-opened first mechanism request n =
-        record { found = record { oid = oid; inner = inner; framed = h.found; named = named; is = n.found }; only = only; faulty = tt }
-      where
-        only : (w : Wrapping) (m : Mechanism) (r : List ℕ) → IsWrapped w m r here
-            → Holds (record { wrapping = Negotiated first; mechanism = mechanism; request = request }) w m r
-        only Bare m r t = absurd (not_bare m r t)
-        only (Negotiated w) m r t =
-            let s = n.only w m r (negotiated-is w m r t) in
-            record { wrapping_is = ap Negotiated s.0; mechanism_is = s.1; request_is = s.2 }
+pub one_answer : (here : Place) (a b : Message) → Stands here a → Stands here b → a ≡ b
+one_answer here (reply x) (reply y) h k = let e : ◌≡◌ {A = List ℕ} (2 ∷ 0 ∷ x) (2 ∷ 0 ∷ y) = sym h ∙ k in cc
+one_answer here (error x) (error y) h k = let e : ◌≡◌ {A = List ℕ} (3 ∷ 0 ∷ x) (3 ∷ 0 ∷ y) = sym h ∙ k in cc
+one_answer here (reply x) (error y) h k = let e : ◌≡◌ {A = List ℕ} (2 ∷ 0 ∷ x) (3 ∷ 0 ∷ y) = sym h ∙ k in absurd cc
+one_answer here (error x) (reply y) h k = let e : ◌≡◌ {A = List ℕ} (3 ∷ 0 ∷ x) (2 ∷ 0 ∷ y) = sym h ∙ k in absurd cc
 
 -- ---- the whole
-pub too_long-fault : (bytes : List ℕ) (f : Fault) (g : TokenFault) → (length bytes ≤ limit → ⊥) → f ≡ record { kind = TooLong; at = 0 } → g ≡ Malformed f
-    → IsTokenFault bytes g
-too_long-fault bytes f g not_within is e =
-    elim (cases_lt limit (length bytes)) [
-      | inl lt ↦ too_long lt (e ∙ ap Malformed is)
-      | inr le ↦ absurd (not_within le)
-    ]
+module _ {M : Type 0} (Holds : Place → M → Type 0) {Is : Place → Wrapping → Mechanism → Place → Type 0} {bytes : List ℕ} {here : Place} (b : (length bytes ≤ limit) × (here ≡ begin_at bytes)) where
+  pub unwrapped-only : {f : TokenFault} {IsFault : TokenFault → Type 0} → Reads {V = Wrapping × Mechanism × Place} (Err f) (λ x. Is here x.0 x.1 x.2) IsFault
+      → (w : Wrapping) (m : Mechanism) (message : M) → IsWhole Is (λ i. Holds i message) w m bytes → ⊥
+  unwrapped-only h w m message t = h.only (w, m, t.inner) (subst (λ (p : Place). Is p w m t.inner) (sym b.1) t.wrapped)
 
-pub both : (bytes : List ℕ) → begins 0xa1 bytes ≡ true → begins 0x60 bytes ≡ true → ⊥
-both [] e f = false≢true e
-both (b ∷ bytes) e f = grind (arith, nat_tests)
+  module _ {w : Wrapping} {m : Mechanism} {inner : Place} {IsFault : TokenFault → Type 0} (h : Reads {V = Wrapping × Mechanism × Place} (Ok (w, m, inner)) (λ x. Is here x.0 x.1 x.2) IsFault) where
+    same : (v : Wrapping) (n : Mechanism) (message : M) (t : IsWhole Is (λ i. Holds i message) v n bytes) → ◌≡◌ {A = Wrapping × Mechanism × Place} (w, m, inner) (v, n, t.inner)
+    same v n message t = h.only (v, n, t.inner) (subst (λ (p : Place). Is p v n t.inner) (sym b.1) t.wrapped)
 
-token_begins : (bytes : List ℕ) (w : Wrapping) (m : Mechanism) (r : List ℕ) → IsToken w m r bytes → begins 0x60 bytes ≡ true
-token_begins bytes w m r t =
-    let x = framed_of w m r (begin_at bytes) t.wrapped in
-    head_begins 0x60 (begin_at bytes) x.2.frame x.2.framed.after x.2.framed.head
+    there : (v : Wrapping) (n : Mechanism) (message : M) → IsWhole Is (λ i. Holds i message) v n bytes → Holds inner message
+    there v n message t = subst (λ (p : Place). Holds p message) (sym (ap (λ (x : Wrapping × Mechanism × Place). x.2) (same v n message t))) t.is
 
-pub begun-only : (bytes : List ℕ) (f : TokenFault) → Begins (Err f) bytes → (w : Wrapping) (m : Mechanism) (r : List ℕ) → IsToken w m r bytes → ⊥
-begun-only bytes f (inl h) w m r t = both bytes h.0 (token_begins bytes w m r t)
-begun-only bytes f (inr h) w m r t = false≢true (sym h.1 ∙ token_begins bytes w m r t)
+    pub unheld-only : {f : TokenFault} → IsNoMessage (Holds inner) inner f → (v : Wrapping) (n : Mechanism) (message : M) → IsWhole Is (λ i. Holds i message) v n bytes → ⊥
+    unheld-only un v n message t = un.none message (there v n message t)
 
-pub begun-fault : (bytes : List ℕ) (f : TokenFault) → length bytes ≤ limit → Begins (Err f) bytes → IsTokenFault bytes f
-begun-fault bytes f le (inl h) = response le h.0 h.1
-begun-fault bytes f le (inr h) = not_token le h.0 h.1 h.2
+    pub one-whole : ((here : Place) (x y : M) → Holds here x → Holds here y → x ≡ y) → (message : M) → Holds inner message
+        → (v : Wrapping) (n : Mechanism) (k : M) → IsWhole Is (λ i. Holds i k) v n bytes → (w ≡ v) × (m ≡ n) × (message ≡ k)
+    one-whole one message is v n k t =
+        let e = same v n k t in
+        (ap (λ (x : Wrapping × Mechanism × Place). x.0) e, ap (λ (x : Wrapping × Mechanism × Place). x.1) e, one inner message k is (there v n k t))
 
-module _ (bytes : List ℕ) (le : length bytes ≤ limit) where
-  pub found-token : (r : Result Opened TokenFault) → OpensWrapped r (begin_at bytes) → FindsToken r bytes
-  found-token (Ok o) h = record { within = le; wrapped = h.found }
-  found-token (Err f) h = tt
+module _ {Is : Place → Wrapping → Mechanism → Place → Type 0} {IsFault NoMessage : Place → TokenFault → Type 0} {bytes : List ℕ} {here : Place} {f : TokenFault} (b : (length bytes ≤ limit) × (here ≡ begin_at bytes)) where
+  pub unwrapped-faulty : {Holds : Wrapping × Mechanism × Place → Type 0} → Reads (Err f) Holds (IsFault here) → IsWholeFault Is IsFault NoMessage bytes f
+  unwrapped-faulty h = of_wrapping b.0 (subst (λ (p : Place). IsFault p f) b.1 h.faulty)
 
-  pub only-token : (r : Result Opened TokenFault) → OpensWrapped r (begin_at bytes) → OpensEach r bytes
-  only-token r h = λ w m q t. h.only w m q t.wrapped
-
-  pub faulty-token : (r : Result Opened TokenFault) → begins 0x60 bytes ≡ true → OpensWrapped r (begin_at bytes) → IfErr r (IsTokenFault bytes)
-  faulty-token (Ok o) b h = tt
-  faulty-token (Err f) b h = by h.faulty
-    where
-      by : IsWrappedFault (begin_at bytes) f → IsTokenFault bytes f
-      by (wrapped_frame g x is) = token_frame g le b x is
-      by (wrapped_content oid inner x ne c) = token_content oid inner le x ne c
-      by (wrapped_negotiation oid inner x named n) = token_negotiation oid inner le x named n
+  pub unheld-faulty : {w : Wrapping} {m : Mechanism} {inner : Place} {AnyFault : TokenFault → Type 0} → Reads {V = Wrapping × Mechanism × Place} (Ok (w, m, inner)) (λ x. Is here x.0 x.1 x.2) AnyFault
+      → NoMessage inner f → IsWholeFault Is IsFault NoMessage bytes f
+  unheld-faulty {w = w} {m = m} {inner = inner} h un = of_message w m inner b.0 (subst (λ (p : Place). Is p w m inner) b.1 h.found) un

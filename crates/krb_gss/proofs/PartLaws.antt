@@ -1,143 +1,56 @@
--- Elements within elements: what the steps of reading answer.
-use Rattle.std.proofs.Common.{◌≡◌, ℕ, ◌<◌, true, false, List, [], ◌∷◌, ◌++◌, length, Option, Some, None, Result, Ok, Err, inl, inr, refl, sym, ap, ◌∙◌, subst, arith, length-append}
-use Rattle.std.proofs.lemmas.Bool.{cases_Bool, eq-eqb, false≢true}
-use Rattle.krb_der.proofs.LengthLaws.{no_value}
-use Rattle.krb_der.proofs.ElementSteps.{same_ok, cons_nil}
+-- Elements within elements: what the steps read that enter them.
+use Rattle.std.proofs.Common.{◌≡◌, ℕ, ◌<◌, true, List, [], ◌++◌, length, Option, Some, None, Result, Ok, Err, inl, inr, refl, sym, ap, ◌∙◌, subst, arith, length-append}
+use Rattle.std.specs.Prelude.{◌⊎◌, ◌↔◌, ◌≤◌, IfErr, IsOk}
+use Rattle.std.proofs.lemmas.Bool.{false≢true, cases_lt}
+use Rattle.krb_der.proofs.ElementSteps.{cons_nil}
 use Rattle.krb_der.specs.declared.fault.Fault.{Fault}
-use Rattle.krb_der.specs.declared.fault.FaultKind.TheVariants.{Trailing}
-use Rattle.krb_der.specs.Place.{Place, begins}
-use Rattle.krb_der.specs.Fault.{HasHead}
-use Rattle.krb_der.specs.Reading.{Enters, MayEnter}
-use Rattle.krb_gss.specs.Token.{IsLast, MayHaveField, AreElements, none, one_more, AreOthers}
-use Rattle.krb_gss.specs.Fault.{last_head, last_more, field_head, field_within, AreFieldsFault, left_over, is_there, present, absent, AreElementsFault, element_head, element_later, mechanism_first, mechanism_others}
-use Rattle.krb_gss.specs.Inner.Reading.{EntersLast, EntersField, MayEnterField, ChecksElements, EntersMechanisms, EntersOthers}
+use Rattle.krb_der.specs.declared.fault.FaultKind.TheVariants.{Trailing, TooLong}
+use Rattle.krb_der.specs.Content.{Elementary}
+use Rattle.krb_der.specs.Place.{Place, begin_at, begins}
+use Rattle.krb_der.specs.Spells.{limit}
+use Rattle.krb_der.specs.Fault.{HasHead, IsHeadFault}
+use Rattle.krb_der.specs.Reading.{Enters}
+use Rattle.krb_gss.specs.declared.fault.TokenFault.{TokenFault}
+use Rattle.krb_gss.specs.declared.fault.TokenFault.TheVariants.{Malformed}
+use Rattle.krb_gss.specs.Token.{HasField, MayHaveField, AreElements, none, one_more}
+use Rattle.krb_gss.specs.Fault.{IsTooLong, IsLeft, IsFieldFault, IsThereFault, AreElementsFault, element_head, element_later}
+use Rattle.krb_gss.specs.Inner.Reading.{Reads, beside}
 
--- ---- the last element
-pub last-refused : (tag : ℕ) (here new : Place) (f : Fault) → Enters tag (Err f) here new → EntersLast tag (Err f) here
-last-refused tag here new f e =
-    record { found = tt; only = λ inside l. e.only inside l.after l.head; faulty = last_head e.faulty }
+same_pair : {A B : Type 0} {a c : A} {b d : B} → (a ≡ c) × (b ≡ d) → ◌≡◌ {A = A × B} (a, b) (c, d)
+same_pair e = cc
 
-pub last-not_last : (tag : ℕ) (here inside new : Place) (f : Fault) → Enters tag (Ok inside) here new → (new.rest ≡ [] → ⊥)
-    → f ≡ record { kind = Trailing; at = new.at } → EntersLast tag (Err f) here
-last-not_last tag here inside new f e ne is =
-    record {
-      found = tt;
-      only = λ x l. absurd (ne (ap (λ (p : Place). p.rest) (e.only x l.after l.head).1 ∙ l.last));
-      faulty = last_more inside new e.found ne is;
-    }
+pub entered : {tag : ℕ} {here new : Place} (r : Result Place Fault) → Enters tag r here new
+    → Reads (beside r new) (λ (x : Place × Place). HasHead tag here x.0 x.1) (IsHeadFault Elementary tag here)
+entered (Ok inside) e = record { found = e.found; only = λ x h. same_pair (e.only x.0 x.1 h); faulty = tt }
+entered (Err f) e = record { found = tt; only = λ x h. e.only x.0 x.1 h; faulty = e.faulty }
 
-pub last-entered : (tag : ℕ) (here inside new : Place) → Enters tag (Ok inside) here new → new.rest ≡ [] → EntersLast tag (Ok inside) here
-last-entered tag here inside new e nil =
-    record {
-      found = record { after = new; head = e.found; last = nil };
-      only = λ x l. (e.only x l.after l.head).0;
-      faulty = tt;
-    }
-
--- ---- fields
-pub field-entered : (outer inner : ℕ) (here field new : Place) (r : Result Place Fault) → Enters outer (Ok field) here new → EntersLast inner r field
-    → EntersField outer inner r here new
-field-entered outer inner here field new (Ok x) e l =
-    record {
-      found = record { field = field; head = e.found; only = l.found };
-      only = λ inside after h.
-          let s = e.only h.field after h.head in
-          (l.only inside (subst (λ (p : Place). IsLast inner p inside) (sym s.0) h.only), s.1);
-      faulty = tt;
-    }
-field-entered outer inner here field new (Err f) e l =
-    record {
-      found = tt;
-      only = λ inside after h.
-          let s = e.only h.field after h.head in
-          l.only inside (subst (λ (p : Place). IsLast inner p inside) (sym s.0) h.only);
-      faulty = field_within field new e.found l.faulty;
-    }
+pub ended : (here : Place) (r : Result (Unit {0}) Fault) → (IsOk r ↔ (here.rest ≡ [])) → IfErr r (λ f. f ≡ record { kind = Trailing; at = here.at })
+    → Reads r (λ u. here.rest ≡ []) (IsLeft here)
+ended here (Ok u) ok is = record { found = ok.0 refl; only = λ v nil. refl; faulty = tt }
+ended here (Err f) ok is =
+    let more : here.rest ≡ [] → ⊥ = λ nil. false≢true (ok.1 nil) in
+    record { found = tt; only = λ v nil. absurd (more nil); faulty = record { more = more; fault_is = is } }
 
 -- ---- fields that may be left out
-no_some : {A : Type 0} (x : A) → ◌≡◌ {A = Option A} (Some x) None → ⊥
-no_some x e = cc
+module _ {outer inner : ℕ} {here : Place} where
+  some-only : begins outer here.rest ≡ true → (o : Option Place) (after : Place) → MayHaveField outer inner here o after
+      → (inside : Place) × (o ≡ Some inside) × HasField outer inner here inside after
+  some-only b None after h = absurd (false≢true (sym h.0 ∙ b))
+  some-only b (Some inside) after h = (inside, refl, h)
 
-same_some : {A : Type 0} (x y : A) → ◌≡◌ {A = Option A} (Some x) (Some y) → x ≡ y
-same_some x y e = cc
+  pub may-refused : {f : Fault} → begins outer here.rest ≡ true → Reads (Err f) (λ (x : Place × Place). HasField outer inner here x.0 x.1) (IsFieldFault outer inner here)
+      → Reads (Err f) (λ (x : Option Place × Place). MayHaveField outer inner here x.0 x.1) (IsThereFault outer inner here)
+  may-refused b r =
+      record { found = tt; only = λ x h. let s = some-only b x.0 x.1 h in r.only (s.0, x.1) s.2; faulty = record { there = b; is = r.faulty } }
 
-pub head_begins : (tag : ℕ) (here inside after : Place) → HasHead tag here inside after → begins tag here.rest ≡ true
-head_begins tag here inside after h = ap (begins tag) h.whole ∙ eq-eqb tag tag refl
-
--- the field is there, and in it the element, or its fault
-pub may-entered : (outer inner : ℕ) (here field new : Place) (r : Result Place Fault) → MayEnter outer (Ok (Some field)) here new → EntersLast inner r field
-    → HasHead outer here field new → EntersField outer inner r here new
-may-entered outer inner here field new (Ok x) m l head =
-    record {
-      found = record { field = field; head = head; only = l.found };
-      only = λ inside after h.
-          let s = m.only h.field after h.head in
-          (l.only inside (subst (λ (p : Place). IsLast inner p inside) (sym (same_some field h.field s.0)) h.only), s.1);
-      faulty = tt;
-    }
-may-entered outer inner here field new (Err f) m l head =
-    record {
-      found = tt;
-      only = λ inside after h.
-          let s = m.only h.field after h.head in
-          l.only inside (subst (λ (p : Place). IsLast inner p inside) (sym (same_some field h.field s.0)) h.only);
-      faulty = field_within field new head l.faulty;
-    }
-
--- what stands where the field is entered, as it is there
-there : (outer : ℕ) (here field new : Place) → MayEnter outer (Ok (Some field)) here new → (begins outer here.rest ≡ true) × HasHead outer here field new
-there outer here field new m =
-    elim (cases_Bool (begins outer here.rest)) [
-      | inl b ↦ (b, m.found b)
-      | inr b ↦ absurd (no_some field (same_ok {E = Fault} (Some field) None (m.absent b).0))
-    ]
-
-pub may-some : (outer inner : ℕ) (here field inside new : Place) → MayEnter outer (Ok (Some field)) here new → EntersLast inner (Ok inside) field
-    → MayEnterField outer inner (Ok (Some inside)) here new
-may-some outer inner here field inside new m l =
-    let t = there outer here field new m in
-    let e = may-entered outer inner here field new (Ok inside) m l t.1 in
-    record { found = e.found; only = is_it t.0 e; there = tt; faulty = tt }
-  where
-    is_it : begins outer here.rest ≡ true → EntersField outer inner (Ok inside) here new → (o : Option Place) (after : Place)
-        → MayHaveField outer inner here o after → (◌≡◌ {A = Option Place} (Some inside) o) × (new ≡ after)
-    is_it b e None after h = absurd (false≢true (sym h.0 ∙ b))
-    is_it b e (Some x) after h = let s = e.only x after h in (ap Some s.0, s.1)
-
-pub may-fault : (outer inner : ℕ) (here field new : Place) (f : Fault) → MayEnter outer (Ok (Some field)) here new → EntersLast inner (Err f) field
-    → MayEnterField outer inner (Err f) here new
-may-fault outer inner here field new f m l =
-    let t = there outer here field new m in
-    let e = may-entered outer inner here field new (Err f) m l t.1 in
-    record { found = tt; only = is_none t.0 e; there = t.0; faulty = e.faulty }
-  where
-    is_none : begins outer here.rest ≡ true → EntersField outer inner (Err f) here new → (o : Option Place) (after : Place)
-        → MayHaveField outer inner here o after → ⊥
-    is_none b e None after h = absurd (false≢true (sym h.0 ∙ b))
-    is_none b e (Some x) after h = e.only x after h
-
-pub may-refused : (outer inner : ℕ) (here new : Place) (f : Fault) → MayEnter outer (Err f) here new → MayEnterField outer inner (Err f) here new
-may-refused outer inner here new f m =
-    elim (cases_Bool (begins outer here.rest)) [
-      | inl b ↦ record { found = tt; only = is_none b; there = b; faulty = field_head m.faulty }
-      | inr b ↦ absurd (no_value f None (m.absent b).0)
-    ]
-  where
-    is_none : begins outer here.rest ≡ true → (o : Option Place) (after : Place) → MayHaveField outer inner here o after → ⊥
-    is_none b None after h = absurd (false≢true (sym h.0 ∙ b))
-    is_none b (Some x) after h = m.only h.field after h.head
-
-pub may-none : (outer inner : ℕ) (here new : Place) → MayEnter outer (Ok None) here new → MayEnterField outer inner (Ok None) here new
-may-none outer inner here new m =
-    elim (cases_Bool (begins outer here.rest)) [
-      | inl b ↦ absurd (m.found b)
-      | inr b ↦ record { found = (b, (m.absent b).1); only = is_it b; there = tt; faulty = tt }
-    ]
-  where
-    is_it : begins outer here.rest ≡ false → (o : Option Place) (after : Place) → MayHaveField outer inner here o after
-        → (◌≡◌ {A = Option Place} None o) × (new ≡ after)
-    is_it b None after h = (refl, (m.absent b).1 ∙ sym h.1)
-    is_it b (Some x) after h = absurd (false≢true (sym b ∙ head_begins outer here h.field after h.head))
+  pub may-some : {inside after : Place} → begins outer here.rest ≡ true → Reads (Ok (inside, after)) (λ (x : Place × Place). HasField outer inner here x.0 x.1) (IsFieldFault outer inner here)
+      → Reads (Ok (Some inside, after)) (λ (x : Option Place × Place). MayHaveField outer inner here x.0 x.1) (IsThereFault outer inner here)
+  may-some {inside = inside} {after = after} b r = record { found = r.found; only = λ x h. by x (some-only b x.0 x.1 h); faulty = tt }
+    where
+      by : (x : Option Place × Place) → (i : Place) × (x.0 ≡ Some i) × HasField outer inner here i x.1 → ◌≡◌ {A = Option Place × Place} (Some inside, after) x
+      by x s =
+          let e : ◌≡◌ {A = Place × Place} (inside, after) (s.0, x.1) = r.only (s.0, x.1) s.2 in
+          same_pair (ap (λ (y : Place × Place). Some y.0) e ∙ sym s.1, ap (λ (y : Place × Place). y.1) e)
 
 -- ---- elements up to the end
 pub shorter : (tag : ℕ) (here inside after : Place) → HasHead tag here inside after → length after.rest < length here.rest
@@ -155,9 +68,10 @@ elements-back tag here inside new e (none nil) = absurd (head_some tag here insi
 elements-back tag here inside new e (one_more x after h others) = subst (AreElements tag) (sym (e.only x after h).1) others
 
 pub elements-refused : (tag : ℕ) (start here new : Place) (f : Fault) → (here.rest ≡ [] → ⊥) → Enters tag (Err f) here new
-    → (AreElements tag start → AreElements tag here) → ((g : Fault) → AreElementsFault tag here g → AreElementsFault tag start g) → ChecksElements tag (Err f) start
+    → (AreElements tag start → AreElements tag here) → ((g : Fault) → AreElementsFault tag here g → AreElementsFault tag start g)
+    → Reads {V = Unit {0}} (Err f) (λ u. AreElements tag start) (AreElementsFault tag start)
 elements-refused tag start here new f ne e back faults =
-    record { found = tt; only = λ a. absurd (is_none (back a)); faulty = faults f (element_head ne e.faulty) }
+    record { found = tt; only = λ u a. absurd (is_none (back a)); faulty = faults f (element_head ne e.faulty) }
   where
     is_none : AreElements tag here → ⊥
     is_none (none nil) = ne nil
@@ -166,88 +80,12 @@ elements-refused tag start here new f ne e back faults =
 pub elements-faulty : (tag : ℕ) (here inside new : Place) → Enters tag (Ok inside) here new → (g : Fault) → AreElementsFault tag new g → AreElementsFault tag here g
 elements-faulty tag here inside new e g h = element_later inside new e.found h
 
--- ---- mechTypes
-pub mechanisms-refused : (here new : Place) (f : Fault) → Enters 0x06 (Err f) here new → EntersMechanisms (Err f) here
-mechanisms-refused here new f e = record { found = tt; only = λ x a. e.only x a.others a.head; faulty = mechanism_first e.faulty }
-
-pub mechanisms-others : (here inside new : Place) (f : Fault) → Enters 0x06 (Ok inside) here new → ChecksElements 0x06 (Err f) new → EntersMechanisms (Err f) here
-mechanisms-others here inside new f e h =
-    record {
-      found = tt;
-      only = λ x a. absurd (false≢true (h.only (subst (AreElements 0x06) (sym (e.only x a.others a.head).1) a.are)));
-      faulty = mechanism_others inside new e.found h.faulty;
-    }
-
-pub mechanisms-entered : (here inside new : Place) → Enters 0x06 (Ok inside) here new → AreElements 0x06 new → EntersMechanisms (Ok inside) here
-mechanisms-entered here inside new e are =
-    record {
-      found = record { others = new; head = e.found; are = are };
-      only = λ x a. (e.only x a.others a.head).0;
-      faulty = tt;
-    }
-
--- ---- the fields after mechTypes
-pub passed : (outer inner : ℕ) (others : List (ℕ × ℕ)) (o : Option Place) (here after : Place) (f : Fault) → MayHaveField outer inner here o after
-    → AreFieldsFault others after f → AreFieldsFault ((outer, inner) ∷ others) here f
-passed outer inner others None here after f h fault = absent h.0 (subst (λ (p : Place). AreFieldsFault others p f) h.1 fault)
-passed outer inner others (Some x) here after f h fault = present x after h fault
-
-at : (outer inner : ℕ) (p q : Place) (o : Option Place) (after : Place) → p ≡ q → MayHaveField outer inner q o after → MayHaveField outer inner p o after
-at outer inner p q o after e h = subst (λ (x : Place). MayHaveField outer inner x o after) (sym e) h
-
-pub others-first : (here n1 : Place) (f : Fault) → MayEnterField 0xa1 0x03 (Err f) here n1 → EntersOthers (Err f) here
-others-first here n1 f m1 =
-    record { found = tt; only = λ token o. m1.only o.flags o.after_flags o.has_flags; faulty = is_there m1.there m1.faulty }
-
-module _ (here n1 : Place) (x1 : Option Place) (m1 : MayEnterField 0xa1 0x03 (Ok x1) here n1) where
-  pub others-second : (n2 : Place) (f : Fault) → MayEnterField 0xa2 0x04 (Err f) n1 n2 → EntersOthers (Err f) here
-  others-second n2 f m2 =
-      record {
-        found = tt;
-        only = λ token o.
-            m2.only token o.after_token (at 0xa2 0x04 n1 o.after_flags token o.after_token (m1.only o.flags o.after_flags o.has_flags).1 o.has_token);
-        faulty = passed 0xa1 0x03 ((0xa2, 0x04) ∷ (0xa3, 0x04) ∷ []) x1 here n1 f m1.found (is_there m2.there m2.faulty);
-      }
-
-  module _ (n2 : Place) (x2 : Option Place) (m2 : MayEnterField 0xa2 0x04 (Ok x2) n1 n2) where
-    token-is : (token : Option Place) (o : AreOthers here token) → (x2 ≡ token) × (n2 ≡ o.after_token)
-    token-is token o =
-        m2.only token o.after_token (at 0xa2 0x04 n1 o.after_flags token o.after_token (m1.only o.flags o.after_flags o.has_flags).1 o.has_token)
-
-    pub others-third : (n3 : Place) (f : Fault) → MayEnterField 0xa3 0x04 (Err f) n2 n3 → EntersOthers (Err f) here
-    others-third n3 f m3 =
-        record {
-          found = tt;
-          only = λ token o. m3.only o.mic o.after_mic (at 0xa3 0x04 n2 o.after_token o.mic o.after_mic (token-is token o).1 o.has_mic);
-          faulty = passed 0xa1 0x03 ((0xa2, 0x04) ∷ (0xa3, 0x04) ∷ []) x1 here n1 f m1.found (passed 0xa2 0x04 ((0xa3, 0x04) ∷ []) x2 n1 n2 f m2.found (is_there m3.there m3.faulty));
-        }
-
-    module _ (n3 : Place) (x3 : Option Place) (m3 : MayEnterField 0xa3 0x04 (Ok x3) n2 n3) where
-      end-is : (token : Option Place) (o : AreOthers here token) → n3 ≡ o.after_mic
-      end-is token o = (m3.only o.mic o.after_mic (at 0xa3 0x04 n2 o.after_token o.mic o.after_mic (token-is token o).1 o.has_mic)).1
-
-      pub others-left : (f : Fault) → (n3.rest ≡ [] → ⊥) → f ≡ record { kind = Trailing; at = n3.at } → EntersOthers (Err f) here
-      others-left f ne is =
-          record {
-            found = tt;
-            only = λ token o. absurd (ne (ap (λ (p : Place). p.rest) (end-is token o) ∙ o.last));
-            faulty = passed 0xa1 0x03 ((0xa2, 0x04) ∷ (0xa3, 0x04) ∷ []) x1 here n1 f m1.found (passed 0xa2 0x04 ((0xa3, 0x04) ∷ []) x2 n1 n2 f m2.found (passed 0xa3 0x04 [] x3 n2 n3 f m3.found (left_over ne is)));
-          }
-
-      pub others-entered : n3.rest ≡ [] → EntersOthers (Ok x2) here
-      others-entered nil =
-          record {
-            found = record {
-              flags = x1;
-              after_flags = n1;
-              has_flags = m1.found;
-              after_token = n2;
-              has_token = m2.found;
-              mic = x3;
-              after_mic = n3;
-              has_mic = m3.found;
-              last = nil;
-            };
-            only = λ token o. (token-is token o).0;
-            faulty = tt;
-          }
+-- ---- the whole of the bytes
+pub begin-refused : {bytes : List ℕ} {f : Fault} {g : TokenFault} → (length bytes ≤ limit → ⊥) → f ≡ record { kind = TooLong; at = 0 } → g ≡ Malformed f
+    → Reads {V = Place} (Err g) (λ x. (length bytes ≤ limit) × (x ≡ begin_at bytes)) (IsTooLong bytes)
+begin-refused {bytes = bytes} more f_is g_is =
+    record { found = tt; only = λ x h. absurd (more h.0); faulty = record { more = by (cases_lt limit (length bytes)); fault_is = g_is ∙ ap Malformed f_is } }
+  where
+    by : (limit < length bytes) ⊎ (length bytes ≤ limit) → limit < length bytes
+    by (inl lt) = lt
+    by (inr le) = absurd (more le)

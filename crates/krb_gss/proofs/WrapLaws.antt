@@ -1,18 +1,19 @@
 -- Writing tokens: what the steps append, and how long it is.
-use Rattle.std.proofs.Common.{◌≡◌, ℕ, ◌+◌, ◌<◌, ◌≤◌, ◌^◌, List, [], ◌∷◌, ◌++◌, length, take, drop, Result, Ok, Err, refl, sym, ap, subst, ◌∙◌, arith, length-append, length-take, append_assoc}
-use Rattle.std.specs.Prelude.{OnOk}
+use Rattle.std.proofs.Common.{◌≡◌, ℕ, ◌+◌, ◌<◌, ◌≤◌, ◌^◌, List, [], ◌∷◌, ◌++◌, length, take, drop, Option, Some, None, Result, Ok, Err, refl, sym, ap, subst, ◌∙◌, arith, length-append, length-take, append_assoc}
+use Rattle.std.specs.Prelude.{IfOk, OnOk}
 use Rattle.std.proofs.lemmas.Bool.Decides.{nat_tests}
 use Rattle.std.proofs.lemmas.List.{take_at, drop_at}
 use Rattle.krb_der.specs.Spells.{IsElement, IsJoined, limit}
 use Rattle.krb_der.specs.Size.{length_size, element_size}
 use Rattle.krb_der.specs.Writing.{Appends, Wraps}
+use Rattle.krb_der.proofs.WriteLaws.{element-map}
 use Rattle.krb_der.proofs.Sizes.{HasSize, element_sized, joined_sized}
 use Rattle.krb_gss.specs.declared.mechanism.Mechanism.{Mechanism}
 use Rattle.krb_gss.specs.declared.mechanism.Mechanism.TheVariants.{Kerberos, Microsoft}
 use Rattle.krb_gss.specs.Mechanism.{oid_of, spnego}
 use Rattle.krb_gss.specs.declared.opening.Wrapping.{Wrapping}
 use Rattle.krb_gss.specs.declared.opening.Wrapping.TheVariants.{Bare, Negotiated}
-use Rattle.krb_gss.specs.Wrapping.{IsOid, IsPlain, IsMechTypes, IsTokenField, WritesRequest, plain_size, token_field_size, mech_types_size, request_size}
+use Rattle.krb_gss.specs.Wrapping.{IsOid, IsPlain, IsMechTypes, IsTokenField, IsState, IsSupported, IsThree, Writes, plain_size, token_field_size, mech_types_size, written_size}
 use Rattle.krb_gss.specs.Inner.Putting.{WrapsTwice}
 
 -- ---- what stands before and after the start
@@ -40,43 +41,23 @@ appends-joined P Q old mid new a b =
       whole = b.whole ∙ ap (λ (x : List ℕ). x ++ b.bytes) a.whole ∙ append_assoc old a.bytes b.bytes;
     }
 
+-- what was written from start on, made into something else
+appends-made : (P Q : List ℕ → Type 0) (start : ℕ) (old mid new bytes : List ℕ) → start ≡ length old → Appends P old mid → Q bytes → new ≡ take start mid ++ bytes → Appends Q old new
+appends-made P Q start old mid new bytes at a is whole =
+    record { bytes = bytes; is = is; whole = whole ∙ ap (λ (x : List ℕ). x ++ bytes) (before P start old mid at a) }
+
 pub appends-wrapped : {E : Type 0} (r : Result (Unit {0}) E) (tag start : ℕ) (P : List ℕ → Type 0) (old mid new : List ℕ) → start ≡ length old → Appends P old mid
     → OnOk r (Wraps tag start mid new) → OnOk r (Appends (IsElement tag P) old new)
 appends-wrapped (Err e) tag start P old mid new at a w = tt
 appends-wrapped (Ok u) tag start P old mid new at a w =
-    record {
-      bytes = w.bytes;
-      is = record {
-        size = w.is.size;
-        content = w.is.content;
-        length_is = w.is.length_is;
-        content_is = subst P (sym (w.is.content_is ∙ after P start old mid at a)) a.is;
-        whole = w.is.whole;
-      };
-      whole = w.whole ∙ ap (λ (x : List ℕ). x ++ w.bytes) (before P start old mid at a);
-    }
+    appends-made P (IsElement tag P) start old mid new w.bytes at a (element-map tag _ P (λ c e. subst P (sym (e ∙ after P start old mid at a)) a.is) w.bytes w.is) w.whole
 
 pub appends-twice : {E : Type 0} (r : Result (Unit {0}) E) (outer inner start : ℕ) (P : List ℕ → Type 0) (old mid new : List ℕ) → start ≡ length old → Appends P old mid
     → OnOk r (WrapsTwice outer inner start mid new) → OnOk r (Appends (IsElement outer (IsElement inner P)) old new)
 appends-twice (Err e) outer inner start P old mid new at a w = tt
 appends-twice (Ok u) outer inner start P old mid new at a w =
-    record {
-      bytes = w.bytes;
-      is = record {
-        size = w.is.size;
-        content = w.is.content;
-        length_is = w.is.length_is;
-        content_is = record {
-          size = w.is.content_is.size;
-          content = w.is.content_is.content;
-          length_is = w.is.content_is.length_is;
-          content_is = subst P (sym (w.is.content_is.content_is ∙ after P start old mid at a)) a.is;
-          whole = w.is.content_is.whole;
-        };
-        whole = w.is.whole;
-      };
-      whole = w.whole ∙ ap (λ (x : List ℕ). x ++ w.bytes) (before P start old mid at a);
-    }
+    appends-made P (IsElement outer (IsElement inner P)) start old mid new w.bytes at a
+    (element-map outer _ (IsElement inner P) (element-map inner _ P (λ c e. subst P (sym (e ∙ after P start old mid at a)) a.is)) w.bytes w.is) w.whole
 
 -- what was appended to nothing
 pub from-nothing : (P : List ℕ → Type 0) (old new : List ℕ) → old ≡ [] → Appends P old new → P new
@@ -108,15 +89,10 @@ module _ (inner start : ℕ) (old mid : List ℕ) (le : start ≤ length old) (w
   pub around : {E : Type 0} (r : Result (Unit {0}) E) (outer : ℕ) (new : List ℕ) → OnOk r (Wraps outer start mid new) → OnOk r (WrapsTwice outer inner start old new)
   around (Err e) outer new v = tt
   around (Ok u) outer new v =
+      let Inner : List ℕ → Type 0 = IsElement inner (λ c. c ≡ drop start old) in
       record {
         bytes = v.bytes;
-        is = record {
-          size = v.is.size;
-          content = v.is.content;
-          length_is = v.is.length_is;
-          content_is = subst (IsElement inner (λ c. c ≡ drop start old)) (sym (v.is.content_is ∙ rest)) w.is;
-          whole = v.is.whole;
-        };
+        is = element-map outer _ Inner (λ c e. subst Inner (sym (e ∙ rest)) w.is) v.bytes v.is;
         whole = v.whole ∙ ap (λ (x : List ℕ). x ++ v.bytes) (ap (take start) w.whole ∙ take_at (take start old) w.bytes start start-is);
       }
 
@@ -148,9 +124,9 @@ field-sized id m message =
 pub types-sized : (m : Mechanism) → HasSize (IsMechTypes m) mech_types_size
 types-sized m = element_sized 0xa0 _ (element_size (element_size 9)) (element_sized 0x30 _ (element_size 9) (name-sized m))
 
-pub fields-sized : (first m : Mechanism) (message : List ℕ) → HasSize (IsJoined (IsMechTypes first) (IsTokenField 0x01 m message)) (mech_types_size + token_field_size (length message))
-fields-sized first m message =
-    joined_sized (IsMechTypes first) (IsTokenField 0x01 m message) mech_types_size (token_field_size (length message)) (types-sized first) (field-sized 0x01 m message)
+pub fields-sized : (first : Mechanism) (id : ℕ) (m : Mechanism) (message : List ℕ) → HasSize (IsJoined (IsMechTypes first) (IsTokenField id m message)) (mech_types_size + token_field_size (length message))
+fields-sized first id m message =
+    joined_sized (IsMechTypes first) (IsTokenField id m message) mech_types_size (token_field_size (length message)) (types-sized first) (field-sized id m message)
 
 pub plain-few : (n : ℕ) → plain_size n ≤ n + 19
 plain-few n = omega (arith, element_size-few (element_size 9 + (2 + n)))
@@ -159,28 +135,55 @@ pub field-few : (n : ℕ) → token_field_size n ≤ n + 31
 field-few n = omega (arith, plain-few n, element_size-few (plain_size n), element_size-few (element_size (plain_size n)))
 
 -- ---- whole parts
-pub init-fits : (first m : Mechanism) (message : List ℕ) (start : ℕ) (old mid new : List ℕ) → length message ≤ limit → start ≡ length old → Appends (IsMechTypes first) old mid
-    → Appends (IsTokenField 0x01 m message) mid new → length (drop start new) ≤ 2 ^ 31
-init-fits first m message start old mid new le at a b =
-    omega (arith, le, field-few (length message), after-size (IsJoined (IsMechTypes first) (IsTokenField 0x01 m message)) _ start old new (fields-sized first m message) at (appends-joined (IsMechTypes first) (IsTokenField 0x01 m message) old mid new a b))
+pub init-fits : (first : Mechanism) (id : ℕ) (m : Mechanism) (message : List ℕ) (start : ℕ) (old mid new : List ℕ) → length message ≤ limit → start ≡ length old → Appends (IsMechTypes first) old mid
+    → Appends (IsTokenField id m message) mid new → length (drop start new) ≤ 2 ^ 31
+init-fits first id m message start old mid new le at a b =
+    omega (arith, le, field-few (length message), after-size (IsJoined (IsMechTypes first) (IsTokenField id m message)) _ start old new (fields-sized first id m message) at (appends-joined (IsMechTypes first) (IsTokenField id m message) old mid new a b))
 
-abbrev pub Fields : Mechanism → Mechanism → List ℕ → List ℕ → Type 0
-Fields first m message = IsElement 0xa0 (IsElement 0x30 (IsJoined (IsMechTypes first) (IsTokenField 0x01 m message)))
+abbrev pub Fields : Mechanism → ℕ → Mechanism → List ℕ → List ℕ → Type 0
+Fields first id m message = IsElement 0xa0 (IsElement 0x30 (IsJoined (IsMechTypes first) (IsTokenField id m message)))
 
-pub proposal-sized : (first m : Mechanism) (message : List ℕ)
-    → HasSize (IsJoined (IsOid spnego) (Fields first m message)) (element_size 6 + element_size (element_size (mech_types_size + token_field_size (length message))))
-proposal-sized first m message =
-    joined_sized (IsOid spnego) (Fields first m message) (element_size 6) (element_size (element_size (mech_types_size + token_field_size (length message)))) (oid-sized spnego)
+pub proposal-sized : (first : Mechanism) (id : ℕ) (m : Mechanism) (message : List ℕ)
+    → HasSize (IsJoined (IsOid spnego) (Fields first id m message)) (element_size 6 + element_size (element_size (mech_types_size + token_field_size (length message))))
+proposal-sized first id m message =
+    joined_sized (IsOid spnego) (Fields first id m message) (element_size 6) (element_size (element_size (mech_types_size + token_field_size (length message)))) (oid-sized spnego)
     (element_sized 0xa0 _ (element_size (mech_types_size + token_field_size (length message)))
-    (element_sized 0x30 _ (mech_types_size + token_field_size (length message)) (fields-sized first m message)))
+    (element_sized 0x30 _ (mech_types_size + token_field_size (length message)) (fields-sized first id m message)))
 
-pub proposal-fits : (first m : Mechanism) (message : List ℕ) (start : ℕ) (old mid new : List ℕ) → length message ≤ limit → start ≡ length old → Appends (IsOid spnego) old mid
-    → Appends (Fields first m message) mid new → length (drop start new) < 2 ^ 32
-proposal-fits first m message start old mid new le at a b =
+pub proposal-fits : (first : Mechanism) (id : ℕ) (m : Mechanism) (message : List ℕ) (start : ℕ) (old mid new : List ℕ) → length message ≤ limit → start ≡ length old → Appends (IsOid spnego) old mid
+    → Appends (Fields first id m message) mid new → length (drop start new) < 2 ^ 32
+proposal-fits first id m message start old mid new le at a b =
     let n : ℕ = mech_types_size + token_field_size (length message) in
-    omega (arith, le, field-few (length message), element_size-few n, element_size-few (element_size n), after-size (IsJoined (IsOid spnego) (Fields first m message)) _ start old new (proposal-sized first m message) at (appends-joined (IsOid spnego) (Fields first m message) old mid new a b))
+    omega (arith, le, field-few (length message), element_size-few n, element_size-few (element_size n), after-size (IsJoined (IsOid spnego) (Fields first id m message)) _ start old new (proposal-sized first id m message) at (appends-joined (IsOid spnego) (Fields first id m message) old mid new a b))
 
-pub request-sized : (w : Wrapping) (m : Mechanism) (request : List ℕ) → HasSize (WritesRequest w m request) (request_size w (length request))
-request-sized Bare m request = plain-sized 0x01 m request
-request-sized (Negotiated first) m request =
-    element_sized 0x60 (IsJoined (IsOid spnego) (Fields first m request)) _ (proposal-sized first m request)
+-- ---- a response
+pub appended-response : (state : ℕ) (first : Mechanism) (id : ℕ) (m : Mechanism) (message old a b new : List ℕ) → Appends (IsState state) old a → Appends (IsSupported first) a b
+    → Appends (IsTokenField id m message) b new → Appends (IsThree state first id m message) old new
+appended-response state first id m message old a b new p q r =
+    appends-joined (IsState state) (IsJoined (IsSupported first) (IsTokenField id m message)) old a new p (appends-joined (IsSupported first) (IsTokenField id m message) a b new q r)
+
+abbrev pub response_size : ℕ → ℕ
+response_size n = element_size (element_size 1) + (element_size (element_size 9) + token_field_size n)
+
+pub response-sized : (state : ℕ) (first : Mechanism) (id : ℕ) (m : Mechanism) (message : List ℕ) → HasSize (IsThree state first id m message) (response_size (length message))
+response-sized state first id m message =
+    joined_sized (IsState state) (IsJoined (IsSupported first) (IsTokenField id m message)) (element_size (element_size 1)) (element_size (element_size 9) + token_field_size (length message))
+    (element_sized 0xa0 _ (element_size 1) (element_sized 0x0a (λ c. c ≡ state ∷ []) 1 (λ b e. ap length e)))
+    (joined_sized (IsSupported first) (IsTokenField id m message) (element_size (element_size 9)) (token_field_size (length message)) (element_sized 0xa1 _ (element_size 9) (name-sized first))
+    (field-sized id m message))
+
+pub response-fits : (state : ℕ) (first : Mechanism) (id : ℕ) (m : Mechanism) (message : List ℕ) (start : ℕ) (old new : List ℕ) → length message ≤ limit → start ≡ length old
+    → Appends (IsThree state first id m message) old new → length (drop start new) ≤ 2 ^ 31
+response-fits state first id m message start old new le at a =
+    omega (arith, le, field-few (length message), after-size (IsThree state first id m message) _ start old new (response-sized state first id m message) at a)
+
+-- ---- the whole
+pub writes-sized : (w : Wrapping) (state : Option ℕ) (id : ℕ) (m : Mechanism) (message : List ℕ) → HasSize (Writes w state id m message) (written_size w state (length message))
+writes-sized Bare state id m message = plain-sized id m message
+writes-sized (Negotiated first) None id m message = element_sized 0x60 (IsJoined (IsOid spnego) (Fields first id m message)) _ (proposal-sized first id m message)
+writes-sized (Negotiated first) (Some state) id m message =
+    element_sized 0xa1 _ (element_size (response_size (length message))) (element_sized 0x30 (IsThree state first id m message) (response_size (length message)) (response-sized state first id m message))
+
+pub ok-both : {T E : Type 0} {P Q R : T → Type 0} (r : Result T E) → ((x : T) → P x → Q x → R x) → IfOk r P → IfOk r Q → IfOk r R
+ok-both (Ok x) f p q = f x p q
+ok-both (Err e) f p q = tt

@@ -1,17 +1,14 @@
 -- The service's answer to the first token of a client: a token of Kerberos (RFC 4121, section 4.1), alone or in a NegTokenResp (RFC
 -- 4178, section 4.2.2).
-use Rattle.std.specs.Prelude.{◌≡◌, ℕ, ◌+◌, ◌≤◌, List, [], ◌∷◌, length, Option, Some, Ok}
-use Rattle.krb_der.specs.Place.{Place, begin_at}
-use Rattle.krb_der.specs.Spells.{IsElement, IsJoined, limit}
-use Rattle.krb_der.specs.Size.{element_size}
+use Rattle.std.specs.Prelude.{ℕ, List, Option, Some}
+use Rattle.krb_der.specs.Place.{Place}
 use Rattle.krb_gss.specs.declared.mechanism.Mechanism.{Mechanism}
 use Rattle.krb_gss.specs.declared.opening.Wrapping.{Wrapping}
 use Rattle.krb_gss.specs.declared.opening.Wrapping.TheVariants.{Bare, Negotiated}
 use Rattle.krb_gss.specs.declared.answering.Answer.{Answer}
 use Rattle.krb_gss.specs.declared.answering.Answer.TheVariants.{Reply, Error}
-use Rattle.krb_gss.specs.Mechanism.{oid_of, named_of}
-use Rattle.krb_gss.specs.Token.{IsLast, HasField, MayHaveField, IsKerberos}
-use Rattle.krb_gss.specs.Wrapping.{IsOid, IsPlain, IsTokenField, plain_size, token_field_size}
+use Rattle.krb_gss.specs.Token.{HasField, MayHaveField, IsMessage, IsKerberos, AreTokenAndMic, HoldsFields, IsNegotiated, IsWhole}
+use Rattle.krb_gss.specs.Wrapping.{Writes, written_size}
 
 -- a message AP-REP, or KRB-ERROR
 pub data Message : Type 0 where
@@ -36,71 +33,41 @@ abbrev pub state_of : Message → ℕ
 state_of (reply bytes) = 0
 state_of (error bytes) = 2
 
+-- the fields of NegTokenResp after negState: supportedMech, and the two that end it
+pub record AreSupported (here oid : Place) (token : Option Place) : Type 0 where
+  pub after : Place
+  pub has_oid : HasField 0xa1 0x06 here oid after
+  pub token_and_mic : AreTokenAndMic after token
+
 -- The fields of NegTokenResp: negState, supportedMech, responseToken and mechListMIC. Each but supportedMech may be left out. Where
 -- the content of supportedMech stands, and responseToken; what the others hold is not looked at.
 pub record AreResponse (here oid : Place) (token : Option Place) : Type 0 where
   pub state : Option Place
-  pub after_state : Place
-  pub has_state : MayHaveField 0xa0 0x0a here state after_state
-  pub after_oid : Place
-  pub has_oid : HasField 0xa1 0x06 after_state oid after_oid
-  pub after_token : Place
-  pub has_token : MayHaveField 0xa2 0x04 after_oid token after_token
-  pub mic : Option Place
-  pub after_mic : Place
-  pub has_mic : MayHaveField 0xa3 0x04 after_token mic after_mic
-  pub last : after_mic.rest ≡ []
+  pub after : Place
+  pub has_state : MayHaveField 0xa0 0x0a here state after
+  pub others : AreSupported after oid token
 
 -- NegotiationToken with a NegTokenResp
-pub record IsResponse (here oid : Place) (token : Option Place) : Type 0 where
-  pub choice : Place
-  pub chosen : IsLast 0xa1 here choice
-  pub fields : Place
-  pub sequence : IsLast 0x30 choice fields
-  pub are : AreResponse fields oid token
+abbrev pub IsResponse : Place → Place → Option Place → Type 0
+IsResponse = HoldsFields 0xa1 AreResponse
 
--- such a token whose supportedMech is Kerberos, by this name, and whose responseToken is this token of Kerberos
-pub record IsAccepted (here : Place) (first mechanism : Mechanism) (message : Message) : Type 0 where
-  pub oid : Place
-  pub token : Place
-  pub response : IsResponse here oid (Some token)
-  pub named : named_of oid.rest ≡ Ok first
-  pub is : IsKerberos (id_of message) token mechanism (bytes_of message)
+-- an answer in its wrapping; where its identifier stands
+abbrev pub IsWrappedAnswer : Place → Wrapping → Mechanism → Place → Type 0
+IsWrappedAnswer here Bare mechanism inner = IsKerberos here mechanism inner
+IsWrappedAnswer here (Negotiated first) mechanism inner = IsNegotiated (IsResponse here) first mechanism inner
 
--- an answer in its wrapping
-abbrev pub IsWrappedAnswer : Wrapping → Mechanism → Message → Place → Type 0
-IsWrappedAnswer Bare mechanism message here = IsKerberos (id_of message) here mechanism (bytes_of message)
-IsWrappedAnswer (Negotiated first) mechanism message here = IsAccepted here first mechanism message
+-- the message stands at its identifier
+abbrev pub Stands : Place → Message → Type 0
+Stands here message = IsMessage (id_of message) here (bytes_of message)
 
 -- the bytes are a service's answer, and hold this message
-pub record IsAnswer (wrapping : Wrapping) (mechanism : Mechanism) (message : Message) (bytes : List ℕ) : Type 0 where
-  pub within : length bytes ≤ limit
-  pub wrapped : IsWrappedAnswer wrapping mechanism message (begin_at bytes)
+abbrev pub IsAnswer : Wrapping → Mechanism → Message → List ℕ → Type 0
+IsAnswer wrapping mechanism message = IsWhole IsWrappedAnswer (λ inner. Stands inner message) wrapping mechanism
 
 -- ---- what is written
-
--- negState, of one byte
-abbrev pub IsState : ℕ → List ℕ → Type 0
-IsState state = IsElement 0xa0 (IsElement 0x0a (λ content. content ≡ state ∷ []))
-
--- supportedMech
-abbrev pub IsSupported : Mechanism → List ℕ → Type 0
-IsSupported first = IsElement 0xa1 (IsOid (oid_of first))
-
--- a NegTokenResp of negState, supportedMech and responseToken
-abbrev pub IsResponding : Mechanism → Mechanism → Message → List ℕ → Type 0
-IsResponding first mechanism message =
-    IsElement 0xa1
-    (IsElement 0x30
-    (IsJoined (IsState (state_of message)) (IsJoined (IsSupported first) (IsTokenField (id_of message) mechanism (bytes_of message)))))
-
--- the bytes that are written for an answer
 abbrev pub WritesAnswer : Wrapping → Mechanism → Message → List ℕ → Type 0
-WritesAnswer Bare mechanism message = IsPlain (id_of message) mechanism (bytes_of message)
-WritesAnswer (Negotiated first) mechanism message = IsResponding first mechanism message
+WritesAnswer wrapping mechanism message = Writes wrapping (Some (state_of message)) (id_of message) mechanism (bytes_of message)
 
--- how many bytes are written for an answer of n bytes
+-- how many bytes are written for an answer of n bytes, whatever its state
 abbrev pub answer_size : Wrapping → ℕ → ℕ
-answer_size Bare n = plain_size n
-answer_size (Negotiated first) n =
-    element_size (element_size (element_size (element_size 1) + (element_size (element_size 9) + token_field_size n)))
+answer_size wrapping n = written_size wrapping (Some 0) n

@@ -1,5 +1,5 @@
 -- The checksum of an authenticator, of type 0x8003 (RFC 4121, section 4.1.1): which bytes it is, and what is wrong with others.
-use Rattle.std.specs.Prelude.{◌≡◌, ◌≢◌, ℕ, ◌/◌, ◌%◌, ◌^◌, ◌<◌, ◌≤◌, List, [], ◌∷◌, ◌++◌, length, take, Option, Some, None}
+use Rattle.std.specs.Prelude.{◌≡◌, ◌≢◌, ℕ, ◌/◌, ◌%◌, ◌^◌, ◌<◌, ◌≤◌, List, ◌++◌, length, take, Option, Some, None}
 use Rattle.std.specs.Int.{w16, w32, to_le_bytes}
 use Rattle.std.specs.Borrow.{Bor}
 use Rattle.krb_gss.specs.declared.flags.ContextFlag.{ContextFlag}

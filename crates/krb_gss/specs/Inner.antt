@@ -1,4 +1,3 @@
 pub mod Reading
 pub mod Checked
 pub mod Putting
-pub mod Answers

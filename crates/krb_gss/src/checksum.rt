@@ -119,20 +119,13 @@ impl<'a> Checksum<'a> {
     fn check(&self) -> Result<(), ChecksumWriteFault>
         ensures { Checks result self.now.flags.0 (bytes_if self.now.delegation) }
     {
-        let delegates = self.flags.has(ContextFlag::Delegation);
-        let Some(message) = self.delegation else {
-            if delegates {
-                return Err(ChecksumWriteFault::Delegation);
-            }
-            return Ok(());
-        };
-        if !delegates {
+        if self.flags.has(ContextFlag::Delegation) != self.delegation.is_some() {
             return Err(ChecksumWriteFault::Delegation);
         }
-        if message.len() > 65_535 {
-            return Err(ChecksumWriteFault::TooLong);
+        match self.delegation {
+            Some(message) if message.len() > 65_535 => Err(ChecksumWriteFault::TooLong),
+            _ => Ok(()),
         }
-        Ok(())
     }
 }
 

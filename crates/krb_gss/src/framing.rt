@@ -1,10 +1,15 @@
 //! Tokens of a mechanism.
 
-ghost use Rattle.std.specs.Prelude.{◌≡◌};
-ghost use Rattle.krb_gss.specs.Inner.Reading.{EntersFrame, name_at, FindsMessage, ReadsContent, ReadsKerberos};
+ghost use Rattle.std.specs.Prelude.{◌≡◌, ◌≤◌, length, Ok};
+ghost use Rattle.krb_der.specs.Place.{begin_at};
+ghost use Rattle.krb_der.specs.Spells.{limit};
+ghost use Rattle.krb_gss.specs.Mechanism.{named_of};
+ghost use Rattle.krb_gss.specs.Token.{IsFramed, IsKerberos};
+ghost use Rattle.krb_gss.specs.Fault.{IsTooLong, IsFrameFault, IsOther, IsKerberosFault};
+ghost use Rattle.krb_gss.specs.Inner.Reading.{Reads};
 
 use crate::mechanism::named;
-use crate::parts::last;
+use crate::parts::{enter, last};
 use crate::{Mechanism, TokenFault};
 use krb_der::{Cursor, Fault};
 
@@ -14,18 +19,25 @@ pub const FRAME: u8 = 0x60;
 /// The tag of an OBJECT IDENTIFIER.
 pub const OID: u8 = 0x06;
 
+/// Begins to read a token.
+pub fn begin<'a>(bytes: &'a [u8]) -> Result<Cursor<'a>, TokenFault>
+    ensures { Reads result (λ x. (length bytes.entry.now ≤ limit) × (x ≡ begin_at bytes.entry.now)) (IsTooLong bytes.entry.now) }
+{
+    Ok(Cursor::new(bytes)?)
+}
+
 /// Enters an InitialContextToken: the name of its mechanism, and what is after it.
 pub fn framed<'a>(cursor: Cursor<'a>) -> Result<(Cursor<'a>, Cursor<'a>), Fault>
-    ensures { EntersFrame result cursor.entry }
+    ensures { Reads result (λ x. IsFramed cursor.entry x.0 x.1) (IsFrameFault cursor.entry) }
 {
     let mut inside = last(cursor, FRAME)?;
-    let oid = inside.enter(OID)?;
+    let oid = enter(&mut inside, OID)?;
     Ok((oid, inside))
 }
 
 /// Returns the mechanism of Kerberos that is named here.
 pub fn name(oid: &Cursor) -> Result<Mechanism, TokenFault>
-    ensures { result ≡ name_at oid.now }
+    ensures { Reads result (λ x. named_of oid.now.rest ≡ Ok x) (IsOther oid.now) }
 {
     match named(oid.rest()) {
         Ok(mechanism) => Ok(mechanism),
@@ -33,33 +45,12 @@ pub fn name(oid: &Cursor) -> Result<Mechanism, TokenFault>
     }
 }
 
-/// The message after a token's identifier.
-fn message<'a>(inner: &Cursor<'a>, id: u8) -> Result<&'a [u8], TokenFault>
-    ensures { FindsMessage id result inner.now }
-{
-    match inner.rest() {
-        [first, 0, message @ ..] if *first == id => Ok(message),
-        _ => Err(TokenFault::TokenId(inner.at())),
-    }
-}
-
-/// Reads what an InitialContextToken of Kerberos holds.
-pub fn content<'a>(
-    oid: &Cursor,
-    inner: &Cursor<'a>,
-    id: u8,
-) -> Result<(Mechanism, &'a [u8]), TokenFault>
-    ensures { ReadsContent id result oid.now inner.now }
-{
-    let mechanism = name(oid)?;
-    let message = message(inner, id)?;
-    Ok((mechanism, message))
-}
-
-/// Reads a token of Kerberos.
-pub fn kerberos<'a>(cursor: Cursor<'a>, id: u8) -> Result<(Mechanism, &'a [u8]), TokenFault>
-    ensures { ReadsKerberos id result cursor.entry }
+/// Reads a token of Kerberos up to its identifier.
+#[inline(always)]
+pub fn kerberos<'a>(cursor: Cursor<'a>) -> Result<(Mechanism, Cursor<'a>), TokenFault>
+    ensures { Reads result (λ x. IsKerberos cursor.entry x.0 x.1) (IsKerberosFault cursor.entry) }
 {
     let (oid, inner) = framed(cursor)?;
-    content(&oid, &inner, id)
+    let mechanism = name(&oid)?;
+    Ok((mechanism, inner))
 }

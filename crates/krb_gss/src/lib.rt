@@ -19,10 +19,9 @@
 //! flags, its channel bindings and the credentials that it delegates. What is after these, the extensions, stays bytes.
 //!
 //! `specs::Token` says which bytes are a token, in places of the bytes: where an element stands, where its content does, and what
-//! is after it. `specs::Fault` says which rule other bytes break, and where. `specs::Mechanism` lists the names. `specs::Wrapping` and
-//! `specs::Answer` say which bytes are written, and how many. `specs::Answer` and `specs::Answered` say which bytes are an answer, and
-//! what is wrong with others. `specs::Checksum` says which bytes are a checksum. [`laws`] states that
-//! a checksum has one meaning and one spelling.
+//! is after it. `specs::Fault` says which rule other bytes break, and where. `specs::Mechanism` lists the names. `specs::Wrapping`
+//! says which bytes are written of a request, and how many. `specs::Answer` says which bytes are an answer, and which are written of
+//! one, and `specs::Answered` what is wrong with others. `specs::Checksum` says which bytes are a checksum. [`laws`] states that it has one meaning and one spelling.
 //!
 //! Only what is written is allocated. DER is strict: lengths have their shortest form, and nothing follows the token. What the fields reqFlags,
 //! negState and mechListMIC of a negotiation hold isn't looked at. No call runs longer than linear in its bytes.

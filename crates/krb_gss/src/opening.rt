@@ -1,14 +1,17 @@
 //! Opening the first token of a client.
 
-ghost use Rattle.std.specs.Prelude.{◌≡◌, ◌↔◌, IsTrue, IfErr};
+ghost use Rattle.std.specs.Prelude.{◌≡◌, ◌↔◌, true, IsTrue, IfOk, IfErr};
+ghost use Rattle.krb_der.specs.Place.{begins as begins_with};
 ghost use Rattle.krb_gss.specs.Mechanism.{named_of};
-ghost use Rattle.krb_gss.specs.Fault.{IsTokenFault};
+ghost use Rattle.krb_gss.specs.Token.{IsMessage, IsWithin, IsWrapped};
+ghost use Rattle.krb_gss.specs.Fault.{IsNoMessage, IsBeginFault, IsWithinFault, IsWrappedFault, IsTokenFault};
 ghost use Rattle.krb_gss.specs.Opening.{FindsToken, OpensEach};
-ghost use Rattle.krb_gss.specs.Inner.Reading.{Begins, OpensWrapped};
+ghost use Rattle.krb_gss.specs.Inner.Reading.{Reads};
 
-use crate::framing::{content, framed};
+use crate::framing::{FRAME, begin, framed, name};
 use crate::mechanism::named;
-use crate::negotiation::negotiated;
+use crate::negotiation::proposed;
+use crate::parts::begins;
 use crate::{Foreign, Mechanism, TokenFault};
 use krb_der::Cursor;
 
@@ -41,48 +44,67 @@ pub fn open_token<'a>(bytes: &'a [u8]) -> Result<Opened<'a>, TokenFault>
     ensures only { OpensEach result bytes.entry.now }
     ensures faulty { IfErr result (IsTokenFault bytes.entry.now) }
 {
-    let cursor = Cursor::new(bytes)?;
-    begins(bytes)?;
-    open_at(cursor)
+    let cursor = begin(bytes)?;
+    let (wrapping, mechanism, inner) = wrapped(cursor)?;
+    let request = message(&inner)?;
+    Ok(Opened {
+        wrapping,
+        mechanism,
+        request,
+    })
 }
 
-/// Whether a token of a mechanism begins here.
-fn begins(bytes: &[u8]) -> Result<(), TokenFault>
-    ensures { Begins result bytes.now }
+/// The message after the identifier of a request.
+fn message<'a>(inner: &Cursor<'a>) -> Result<&'a [u8], TokenFault>
+    ensures found { IfOk result (λ x. IsMessage 0x01 inner.now x.now) }
+    ensures faulty { IfErr result (IsNoMessage (IsMessage 0x01 inner.now) inner.now) }
 {
-    match bytes.first() {
-        Some(0x60) => Ok(()),
-        Some(0xa1) => Err(TokenFault::Response),
-        _ => Err(TokenFault::NotToken),
+    match inner.rest() {
+        [0x01, 0, message @ ..] => Ok(message),
+        _ => Err(TokenFault::TokenId(inner.at())),
     }
+}
+
+/// Checks that a token of a mechanism begins here.
+fn is_token(bytes: &[u8]) -> Result<(), TokenFault>
+    ensures { Reads result (λ x. begins_with 0x60 bytes.now ≡ true) (IsBeginFault bytes.now) }
+{
+    if begins(bytes, FRAME) {
+        return Ok(());
+    }
+    if begins(bytes, 0xa1) {
+        return Err(TokenFault::Response);
+    }
+    Err(TokenFault::NotToken)
 }
 
 /// Whether SPNEGO is named here.
 fn is_negotiation(oid: &Cursor) -> bool
     ensures { IsTrue result ↔ (named_of oid.now.rest ≡ Err Foreign.Negotiation) }
 {
-    match named(oid.rest()) {
-        Err(Foreign::Negotiation) => true,
-        _ => false,
-    }
+    named(oid.rest()) == Err(Foreign::Negotiation)
 }
 
-fn open_at<'a>(cursor: Cursor<'a>) -> Result<Opened<'a>, TokenFault>
-    ensures { OpensWrapped result cursor.entry }
+/// Reads what is after the name of a token's mechanism, up to the identifier.
+fn within<'a>(
+    oid: Cursor,
+    after: Cursor<'a>,
+) -> Result<(Wrapping, Mechanism, Cursor<'a>), TokenFault>
+    ensures { Reads result (λ x. IsWithin oid.entry after.entry x.0 x.1 x.2) (IsWithinFault oid.entry after.entry) }
 {
-    let (oid, inner) = framed(cursor)?;
     if is_negotiation(&oid) {
-        let (first, mechanism, request) = negotiated(inner)?;
-        return Ok(Opened {
-            wrapping: Wrapping::Negotiated(first),
-            mechanism,
-            request,
-        });
+        let (first, mechanism, inner) = proposed(after)?;
+        return Ok((Wrapping::Negotiated(first), mechanism, inner));
     }
-    let (mechanism, request) = content(&oid, &inner, 0x01)?;
-    Ok(Opened {
-        wrapping: Wrapping::Bare,
-        mechanism,
-        request,
-    })
+    let mechanism = name(&oid)?;
+    Ok((Wrapping::Bare, mechanism, after))
+}
+
+/// Reads a token up to the identifier.
+fn wrapped<'a>(cursor: Cursor<'a>) -> Result<(Wrapping, Mechanism, Cursor<'a>), TokenFault>
+    ensures { Reads result (λ x. IsWrapped cursor.entry x.0 x.1 x.2) (IsWrappedFault cursor.entry) }
+{
+    is_token(cursor.rest())?;
+    let (oid, after) = framed(cursor)?;
+    within(oid, after)
 }

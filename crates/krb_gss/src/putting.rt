@@ -1,19 +1,25 @@
 //! Writing the parts of a token.
 
-ghost use Rattle.std.specs.Prelude.{◌≡◌, ◌≤◌, ◌^◌, ◌∷◌, [], length, drop, OnOk};
+ghost use Rattle.std.specs.Prelude.{◌≤◌, ◌^◌, length, drop, OnOk};
 ghost use Rattle.krb_der.specs.Spells.{IsElement, IsJoined, limit};
 ghost use Rattle.krb_der.specs.Writing.{Appends};
-ghost use Rattle.krb_gss.specs.Mechanism.{oid_of};
-ghost use Rattle.krb_gss.specs.Wrapping.{IsOid, IsPlain, IsMechTypes, IsTokenField, IsProposal, WritesRequest};
-ghost use Rattle.krb_gss.specs.Answer.{message_of, bytes_of, id_of, state_of, IsState, IsSupported, IsResponding, WritesAnswer};
-ghost use Rattle.krb_gss.specs.Inner.Putting.{WrapsTwice};
+ghost use Rattle.krb_gss.specs.Wrapping.{IsOid, IsPlain, IsMechTypes, IsTokenField, IsProposal, IsState, IsSupported, IsResponding, Writes};
+ghost use Rattle.krb_gss.specs.Inner.Putting.{WrapsTwice, of_token};
 
 use crate::framing::{FRAME, OID};
 use crate::mechanism::SPNEGO;
 use crate::negotiation::SEQUENCE;
-use crate::{Answer, Mechanism, Wrapping};
+use crate::{Mechanism, Wrapping};
 use krb_der::Writer;
 use std::alloc::AllocError;
+
+/// A token of Kerberos, which is to be written. `id` is the first byte of its identifier.
+#[derive(Clone, Copy)]
+pub struct Token<'a> {
+    pub mechanism: Mechanism,
+    pub id: u8,
+    pub message: &'a [u8],
+}
 
 /// Writes an OBJECT IDENTIFIER with this content.
 fn put_oid(out: &mut Writer, oid: &[u8]) -> Result<(), AllocError>
@@ -23,23 +29,6 @@ fn put_oid(out: &mut Writer, oid: &[u8]) -> Result<(), AllocError>
     let start = out.len();
     out.raw(oid)?;
     out.wrap(OID, start)
-}
-
-/// Writes a token of Kerberos.
-fn put_plain(
-    out: &mut Writer,
-    mechanism: Mechanism,
-    id: u8,
-    message: &[u8],
-) -> Result<(), AllocError>
-    requires { length message.now ≤ limit }
-    ensures { OnOk result (Appends (IsPlain id mechanism message.now) out.old out.new) }
-{
-    let start = out.len();
-    put_oid(out, mechanism.oid())?;
-    out.raw(&[id, 0])?;
-    out.raw(message)?;
-    out.wrap(FRAME, start)
 }
 
 /// Makes what was written from `start` on the content of an element, and that element the content
@@ -53,18 +42,25 @@ fn put_around(out: &mut Writer, start: usize, outer: u8, inner: u8) -> Result<()
     out.wrap(outer, start)
 }
 
-/// Writes the field of a negotiation that holds a token of Kerberos.
-fn put_token(
-    out: &mut Writer,
-    mechanism: Mechanism,
-    id: u8,
-    message: &[u8],
-) -> Result<(), AllocError>
-    requires { length message.now ≤ limit }
-    ensures { OnOk result (Appends (IsTokenField id mechanism message.now) out.old out.new) }
+/// Writes a token of Kerberos.
+fn put_plain(out: &mut Writer, token: Token<'_>) -> Result<(), AllocError>
+    requires { length token.message.now ≤ limit }
+    ensures { OnOk result (Appends (of_token IsPlain token.entry) out.old out.new) }
 {
     let start = out.len();
-    put_plain(out, mechanism, id, message)?;
+    put_oid(out, token.mechanism.oid())?;
+    out.raw(&[token.id, 0])?;
+    out.raw(token.message)?;
+    out.wrap(FRAME, start)
+}
+
+/// Writes the field of a negotiation that holds a token of Kerberos.
+fn put_token(out: &mut Writer, token: Token<'_>) -> Result<(), AllocError>
+    requires { length token.message.now ≤ limit }
+    ensures { OnOk result (Appends (of_token IsTokenField token.entry) out.old out.new) }
+{
+    let start = out.len();
+    put_plain(out, token)?;
     put_around(out, start, 0xa2, 0x04)
 }
 
@@ -78,52 +74,26 @@ fn put_types(out: &mut Writer, first: Mechanism) -> Result<(), AllocError>
 }
 
 /// Writes a NegTokenInit.
-fn put_init(
-    out: &mut Writer,
-    first: Mechanism,
-    mechanism: Mechanism,
-    request: &[u8],
-) -> Result<(), AllocError>
-    requires { length request.now ≤ limit }
-    ensures { OnOk result (Appends
-        (IsElement 0xa0 (IsElement 0x30 (IsJoined (IsMechTypes first) (IsTokenField 0x01 mechanism request.now)))) out.old out.new) }
+fn put_init(out: &mut Writer, first: Mechanism, token: Token<'_>) -> Result<(), AllocError>
+    requires { length token.message.now ≤ limit }
+    ensures { OnOk result
+        (Appends (IsElement 0xa0 (IsElement 0x30 (IsJoined (IsMechTypes first) (of_token IsTokenField token.entry)))) out.old out.new) }
 {
     let start = out.len();
     put_types(out, first)?;
-    put_token(out, mechanism, 0x01, request)?;
+    put_token(out, token)?;
     put_around(out, start, 0xa0, SEQUENCE)
 }
 
 /// Writes a token of SPNEGO with a NegTokenInit.
-fn put_proposal(
-    out: &mut Writer,
-    first: Mechanism,
-    mechanism: Mechanism,
-    request: &[u8],
-) -> Result<(), AllocError>
-    requires { length request.now ≤ limit }
-    ensures { OnOk result (Appends (IsProposal first mechanism request.now) out.old out.new) }
+fn put_proposal(out: &mut Writer, first: Mechanism, token: Token<'_>) -> Result<(), AllocError>
+    requires { length token.message.now ≤ limit }
+    ensures { OnOk result (Appends (of_token (IsProposal first) token.entry) out.old out.new) }
 {
     let start = out.len();
     put_oid(out, SPNEGO)?;
-    put_init(out, first, mechanism, request)?;
+    put_init(out, first, token)?;
     out.wrap(FRAME, start)
-}
-
-/// Writes a request in its wrapping.
-pub fn put_request(
-    out: &mut Writer,
-    wrapping: Wrapping,
-    mechanism: Mechanism,
-    request: &[u8],
-) -> Result<(), AllocError>
-    requires { length request.now ≤ limit }
-    ensures { OnOk result (Appends (WritesRequest wrapping mechanism request.now) out.old out.new) }
-{
-    match wrapping {
-        Wrapping::Bare => put_plain(out, mechanism, 0x01, request),
-        Wrapping::Negotiated(first) => put_proposal(out, first, mechanism, request),
-    }
 }
 
 /// Writes a negState.
@@ -144,51 +114,36 @@ fn put_supported(out: &mut Writer, first: Mechanism) -> Result<(), AllocError>
     out.wrap(0xa1, start)
 }
 
-/// What is written of an answer: its identifier, its state and its message.
-fn parts<'a>(answer: Answer<'a>) -> (u8, u8, &'a [u8])
-    ensures id { result.0 ≡ id_of (message_of answer.entry) }
-    ensures state { result.1 ≡ state_of (message_of answer.entry) }
-    ensures message { result.2.now ≡ bytes_of (message_of answer.entry) }
-{
-    match answer {
-        Answer::Reply(message) => (0x02, 0, message),
-        Answer::Error(message) => (0x03, 2, message),
-    }
-}
-
-/// Writes a NegTokenResp.
+/// Writes a NegTokenResp with this state.
 fn put_response(
     out: &mut Writer,
+    state: u8,
     first: Mechanism,
-    mechanism: Mechanism,
-    answer: Answer<'_>,
+    token: Token<'_>,
 ) -> Result<(), AllocError>
-    requires { length (bytes_of (message_of answer)) ≤ limit }
-    ensures { OnOk result (Appends (IsResponding first mechanism (message_of answer.entry)) out.old out.new) }
+    requires { length token.message.now ≤ limit }
+    ensures { OnOk result (Appends (of_token (IsResponding state first) token.entry) out.old out.new) }
 {
-    let (id, state, message) = parts(answer);
     let start = out.len();
     put_state(out, state)?;
     put_supported(out, first)?;
-    put_token(out, mechanism, id, message)?;
+    put_token(out, token)?;
     put_around(out, start, 0xa1, SEQUENCE)
 }
 
-/// Writes an answer in its wrapping.
-pub fn put_answer(
+/// Writes a token in its wrapping: as the first of a client or, with a state, as an answer.
+pub fn put(
     out: &mut Writer,
     wrapping: Wrapping,
-    mechanism: Mechanism,
-    answer: Answer<'_>,
+    state: Option<u8>,
+    token: Token<'_>,
 ) -> Result<(), AllocError>
-    requires { length (bytes_of (message_of answer)) ≤ limit }
-    ensures { OnOk result (Appends (WritesAnswer wrapping mechanism (message_of answer.entry)) out.old out.new) }
+    requires { length token.message.now ≤ limit }
+    ensures { OnOk result (Appends (of_token (Writes wrapping state) token.entry) out.old out.new) }
 {
-    match wrapping {
-        Wrapping::Bare => {
-            let (id, _, message) = parts(answer);
-            put_plain(out, mechanism, id, message)
-        }
-        Wrapping::Negotiated(first) => put_response(out, first, mechanism, answer),
+    match (wrapping, state) {
+        (Wrapping::Bare, _) => put_plain(out, token),
+        (Wrapping::Negotiated(first), None) => put_proposal(out, first, token),
+        (Wrapping::Negotiated(first), Some(state)) => put_response(out, state, first, token),
     }
 }

@@ -3,10 +3,11 @@
 ghost use Rattle.std.specs.Prelude.{◌≡◌, ◌<◌, ◌≤◌, length, IfOk, OnOk, IsErrOf};
 ghost use Rattle.krb_der.specs.Spells.{limit};
 ghost use Rattle.krb_gss.specs.Token.{IsToken};
-ghost use Rattle.krb_gss.specs.Wrapping.{WritesRequest, request_size};
-ghost use Rattle.krb_gss.specs.Answer.{message_of, bytes_of, IsAnswer, WritesAnswer, answer_size};
+ghost use Rattle.krb_gss.specs.Wrapping.{Writes, written_size, WritesRequest, request_size};
+ghost use Rattle.krb_gss.specs.Answer.{message_of, bytes_of, id_of, state_of, IsAnswer, WritesAnswer, answer_size};
+ghost use Rattle.krb_gss.specs.Inner.Putting.{of_token};
 
-use crate::putting::{put_answer, put_request};
+use crate::putting::{Token, put};
 use crate::{Answer, Mechanism, Wrapping};
 use krb_der::Writer;
 use std::alloc::{AllocError, Global};
@@ -36,6 +37,41 @@ impl From<AllocError> for WrapFault {
     }
 }
 
+/// Writes a token in its wrapping: as the first of a client or, with a state, as an answer.
+fn wrap(
+    alloc: Global,
+    wrapping: Wrapping,
+    state: Option<u8>,
+    token: Token<'_>,
+) -> Result<Vec<u8>, WrapFault>
+    ensures written { IfOk result (λ bytes. of_token (Writes wrapping state) token.entry bytes.items) }
+    ensures within { IfOk result (λ bytes. length bytes.items ≤ limit) }
+    ensures fits { OnOk result (written_size wrapping state (length token.entry.message.now) ≤ limit) }
+    ensures too_long { IsErrOf result WrapFault.TooLong → limit < written_size wrapping state (length token.entry.message.now) }
+{
+    if token.message.len() > LIMIT {
+        return Err(WrapFault::TooLong);
+    }
+    let mut out = Writer::new(alloc);
+    put(&mut out, wrapping, state, token)?;
+    if out.len() > LIMIT {
+        return Err(WrapFault::TooLong);
+    }
+    Ok(out.into_bytes())
+}
+
+/// What is written of an answer: its state, its identifier and its message.
+fn parts<'a>(answer: Answer<'a>) -> (u8, u8, &'a [u8])
+    ensures state { result.0 ≡ state_of (message_of answer.entry) }
+    ensures id { result.1 ≡ id_of (message_of answer.entry) }
+    ensures message { result.2.now ≡ bytes_of (message_of answer.entry) }
+{
+    match answer {
+        Answer::Reply(message) => (0, 0x02, message),
+        Answer::Error(message) => (2, 0x03, message),
+    }
+}
+
 /// Wraps a request in the first token of a client. The request may be any bytes.
 ///
 /// A negotiation names one mechanism, that of `wrapping`, and has no other field than its token.
@@ -54,15 +90,12 @@ pub fn wrap_request(
     ensures fits { OnOk result (request_size wrapping (length request.now) ≤ limit) }
     ensures too_long { IsErrOf result WrapFault.TooLong → limit < request_size wrapping (length request.now) }
 {
-    if request.len() > LIMIT {
-        return Err(WrapFault::TooLong);
-    }
-    let mut out = Writer::new(alloc);
-    put_request(&mut out, wrapping, mechanism, request)?;
-    if out.len() > LIMIT {
-        return Err(WrapFault::TooLong);
-    }
-    Ok(out.into_bytes())
+    let token = Token {
+        mechanism,
+        id: 0x01,
+        message: request,
+    };
+    wrap(alloc, wrapping, None, token)
 }
 
 /// Wraps the service's answer as the request was wrapped. The message may be any bytes.
@@ -85,13 +118,11 @@ pub fn wrap_answer(
     ensures too_long { IsErrOf result WrapFault.TooLong
         → limit < answer_size wrapping (length (bytes_of (message_of answer.entry))) }
 {
-    if answer.bytes().len() > LIMIT {
-        return Err(WrapFault::TooLong);
-    }
-    let mut out = Writer::new(alloc);
-    put_answer(&mut out, wrapping, mechanism, answer)?;
-    if out.len() > LIMIT {
-        return Err(WrapFault::TooLong);
-    }
-    Ok(out.into_bytes())
+    let (state, id, message) = parts(answer);
+    let token = Token {
+        mechanism,
+        id,
+        message,
+    };
+    wrap(alloc, wrapping, Some(state), token)
 }

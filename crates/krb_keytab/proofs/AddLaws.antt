@@ -8,11 +8,13 @@ use Rattle.krb_keytab.specs.Entry.{KeytabEntry, FitsEntry}
 use Rattle.krb_name.specs.File.{file_limit}
 use Rattle.krb_keytab.specs.Format.{version, KeytabRecord, hole, record_bytes, FitsRecord, entries_of, IsKeytab, IsFaultOf}
 use Rattle.krb_keytab.specs.Written.{padded_record, written_record, record_length}
-use Rattle.krb_keytab.specs.Edit.{LacksRoom, FillsHole, Appends, GainsEntry, WouldGrow, WouldPass}
-use Rattle.krb_keytab.specs.Inner.Finding.{HasRoom, HasNone}
+use Rattle.krb_keytab.specs.Edit.{IsMadeOf, LacksRoom, FillsHole, Appends, GainsEntry, WouldPass}
+use Rattle.krb_keytab.specs.Inner.Finding.{HasRoom, HasNone, IsFoundRoom}
 use Rattle.krb_keytab.specs.Inner.Putting.{Puts}
 use Rattle.krb_keytab.specs.declared.fault.KeytabFault.{KeytabFault}
 use Rattle.krb_keytab.specs.declared.finding.Extent.{Extent}
+use Rattle.krb_keytab.specs.declared.finding.Room.{Room}
+use Rattle.krb_keytab.specs.declared.finding.Room.TheVariants.{Hole, End}
 use Rattle.krb_keytab.proofs.MadeLaws.{made_keytab, padded_fits, written_fits}
 use Rattle.krb_keytab.proofs.FileLaws.{flat_push}
 use Rattle.krb_keytab.proofs.WrittenLaws.{padded_length}
@@ -21,23 +23,18 @@ use Rattle.krb_keytab.proofs.OneSplit.{same_records}
 
 -- ---- a hole is filled
 
-pub fills_hole : {old new : List ℕ} {place : Extent} (e : KeytabEntry) (size : ℕ) → size ≡ record_length e → HasRoom old size place → FitsEntry e → Puts old place.from (record_bytes (padded_record e (place.to - place.from - record_length e))) new → FillsHole old e new
-fills_hole {old} {new} {place} e size is h fits puts =
-    let there : ℕ = length (record_bytes (hole h.ignored)) in
+pub fills_hole : {old new : List ℕ} {place : Extent} (e : KeytabEntry) → HasRoom old (record_length e) place → FitsEntry e → Puts old place.from (record_bytes (padded_record e (place.to - place.from - record_length e))) new → FillsHole old e new
+fills_hole {old} {new} {place} e h fits puts =
+    let k = h.there in
+    let made : IsMadeOf old (k.before ++ hole k.ignored ∷ k.after) h.end = subst (λ (r : List KeytabRecord). IsMadeOf old r h.end) k.records_are h.is in
+    let there : ℕ = length (record_bytes (hole k.ignored)) in
     let zeros : ℕ = there - record_length e in
-    let count : place.to - place.from - record_length e ≡ zeros = omega (arith, h.lies.to) in
-    let long : length (record_bytes (padded_record e zeros)) ≡ there = omega (arith, padded_length e zeros, h.room, is) in
-    let small : length (record_bytes (padded_record e zeros)) < 2 ^ 31 = omega (arith, long, h.is.limit, within h.before (hole h.ignored) h.after h.is h.lies, h.lies.to) in
-    record {
-      before = h.before;
-      ignored = h.ignored;
-      after = h.after;
-      end = h.end;
-      first = subst (λ (n : ℕ). All (LacksRoom n) h.before) is h.first;
-      room = omega (arith, h.room, is);
-      old_is = h.is;
-      new_is = replaced h.before (hole h.ignored) (padded_record e zeros) h.after h.is h.lies (padded_fits e zeros fits small) long (subst (λ (n : ℕ). Puts old place.from (record_bytes (padded_record e n)) new) count puts);
-    }
+    let count : place.to - place.from - record_length e ≡ zeros = omega (arith, k.lies.to) in
+    let long : length (record_bytes (padded_record e zeros)) ≡ there = omega (arith, padded_length e zeros, k.room) in
+    let small : length (record_bytes (padded_record e zeros)) < 2 ^ 31 = omega (arith, long, h.is.limit, within k.before (hole k.ignored) k.after made k.lies, k.lies.to) in
+    let put : Puts old place.from (record_bytes (padded_record e zeros)) new = subst (λ (n : ℕ). Puts old place.from (record_bytes (padded_record e n)) new) count puts in
+    let filled = replaced k.before (hole k.ignored) (padded_record e zeros) k.after made k.lies (padded_fits e zeros fits small) long put in
+    record { before = k.before; ignored = k.ignored; after = k.after; end = h.end; first = k.first; room = k.room; old_is = made; new_is = filled }
 
 pub fill_gains : {old new : List ℕ} {e : KeytabEntry} → FillsHole old e new → GainsEntry old e new
 fill_gains {old} {new} {e} h = record {
@@ -52,8 +49,8 @@ fill_gains {old} {new} {e} h = record {
 front_length : (records : List KeytabRecord) → length (version ++ flat_map record_bytes records) ≡ length version + length (flat_map record_bytes records)
 front_length records = length-append version (flat_map record_bytes records)
 
-pub appends : {old new : List ℕ} (e : KeytabEntry) (size at : ℕ) → size ≡ record_length e → HasNone old size at → at + size ≤ file_limit → FitsEntry e → new ≡ take at old ++ record_bytes (written_record e) → Appends old e new
-appends {old} {new} e size at is h limit fits made =
+pub appends : {old new : List ℕ} (e : KeytabEntry) (at : ℕ) → HasNone old (record_length e) at → at + record_length e ≤ file_limit → FitsEntry e → new ≡ take at old ++ record_bytes (written_record e) → Appends old e new
+appends {old} {new} e at h limit fits made =
     let one : KeytabRecord = written_record e in
     let flat : List ℕ = flat_map record_bytes h.records in
     let front : List ℕ = version ++ flat in
@@ -61,10 +58,10 @@ appends {old} {new} e size at is h limit fits made =
     let bytes : new ≡ front ++ record_bytes one = made ∙ ap (λ (t : List ℕ). t ++ record_bytes one) kept in
     record {
       records = h.records;
-      old_is = record { end = h.end; is = h.is; no_room = subst (λ (n : ℕ). All (LacksRoom n) h.records) is h.no_room };
+      old_is = record { end = h.end; is = h.is; no_room = h.no_room };
       new_is = record {
-        limit = omega (arith, ap length bytes, length-append front (record_bytes one), front_length h.records, h.at_is, is, limit);
-        fit = All-push FitsRecord h.records one h.is.fit (written_fits e fits (omega (arith, is, limit)));
+        limit = omega (arith, ap length bytes, length-append front (record_bytes one), front_length h.records, h.at_is, limit);
+        fit = All-push FitsRecord h.records one h.is.fit (written_fits e fits (omega (arith, limit)));
         bytes_are = bytes ∙ append_assoc version flat (record_bytes one) ∙ ap (λ (t : List ℕ). version ++ t) (sym (flat_push record_bytes h.records one) ∙ sym (append-nil (flat_map record_bytes (h.records ++ one ∷ []))));
         is_end = inl refl;
       };
@@ -81,34 +78,24 @@ append_gains {old} {new} {e} h = record {
 -- ---- why an entry isn't added
 
 -- no hole has room: the file would be so long
-pub growing : {old : List ℕ} (e : KeytabEntry) (size at : ℕ) (Bound : ℕ → Type 0) → size ≡ record_length e → HasNone old size at → Bound (at + size) → WouldGrow old e Bound
-growing {old} e size at Bound is h bound =
-    let count : at + size ≡ length version + (length (flat_map record_bytes h.records) + record_length e) = omega (arith, h.at_is, is) in
-    record {
-      records = h.records;
-      old_is = record { end = h.end; is = h.is; no_room = subst (λ (n : ℕ). All (LacksRoom n) h.records) is h.no_room };
-      bound = subst Bound count bound;
-    }
-
 -- the file would pass the limit: so it is a keytab
 pub passing_no_fault : {old : List ℕ} {e : KeytabEntry} (fault : KeytabFault) → WouldPass old e → IsFaultOf old fault → ⊥
 passing_no_fault {old} {e} fault w f = no_fault old (flat_map entries_of w.records) fault (made_keytab w.old_is.is) f
 
 -- and no hole has room for the entry
-pub passing_no_room : {old : List ℕ} {e : KeytabEntry} {place : Extent} (size : ℕ) → size ≡ record_length e → WouldPass old e → HasRoom old size place → ⊥
-passing_no_room {old} {e} {place} size is w h =
-    let same : w.records ≡ h.before ++ hole h.ignored ∷ h.after = same_records w.old_is.is h.is in
-    let all : All (LacksRoom (record_length e)) (h.before ++ hole h.ignored ∷ h.after) = subst (All (LacksRoom (record_length e))) same w.old_is.no_room in
-    let short = at_one (LacksRoom (record_length e)) h.before (hole h.ignored) h.after (recursion_from_All (LacksRoom (record_length e)) (h.before ++ hole h.ignored ∷ h.after) all) in
-    omega (arith, short, h.room, is)
+pub passing_no_room : {old : List ℕ} {e : KeytabEntry} {place : Extent} → WouldPass old e → HasRoom old (record_length e) place → ⊥
+passing_no_room {old} {e} {place} w h =
+    let k = h.there in
+    let Lacks : KeytabRecord → Type 0 = LacksRoom (record_length e) in
+    let there : List KeytabRecord = k.before ++ hole k.ignored ∷ k.after in
+    let all : All Lacks there = subst (All Lacks) (same_records w.old_is.is h.is ∙ k.records_are) w.old_is.no_room in
+    omega (arith, at_one Lacks k.before (hole k.ignored) k.after (recursion_from_All Lacks there all), k.room)
 
-pub passing_is_long : {old : List ℕ} {e : KeytabEntry} (size at : ℕ) → size ≡ record_length e → WouldPass old e → HasNone old size at → at + size ≤ file_limit → ⊥
-passing_is_long {old} {e} size at is w h limit =
+pub passing_is_long : {old : List ℕ} {e : KeytabEntry} (at : ℕ) → WouldPass old e → HasNone old (record_length e) at → at + record_length e ≤ file_limit → ⊥
+passing_is_long {old} {e} at w h limit =
     let same : w.records ≡ h.records = same_records w.old_is.is h.is in
-    omega (arith, w.bound, h.at_is, is, limit, ap (λ (t : List KeytabRecord). length (flat_map record_bytes t)) same)
+    omega (arith, w.bound, h.at_is, limit, ap (λ (t : List KeytabRecord). length (flat_map record_bytes t)) same)
 
-pub room_no_fault : {old : List ℕ} {size : ℕ} {place : Extent} (fault : KeytabFault) → HasRoom old size place → IsFaultOf old fault → ⊥
-room_no_fault {old} {size} {place} fault h f = no_fault old (flat_map entries_of (h.before ++ hole h.ignored ∷ h.after)) fault (made_keytab h.is) f
-
-pub none_no_fault : {old : List ℕ} {size at : ℕ} (fault : KeytabFault) → HasNone old size at → IsFaultOf old fault → ⊥
-none_no_fault {old} {size} {at} fault h f = no_fault old (flat_map entries_of h.records) fault (made_keytab h.is) f
+pub found_no_fault : (old : List ℕ) (size : ℕ) (room : Room) (fault : KeytabFault) → IsFoundRoom old size room → IsFaultOf old fault → ⊥
+found_no_fault old size (Hole place) fault h f = no_fault old (flat_map entries_of h.records) fault (made_keytab h.is) f
+found_no_fault old size (End at) fault h f = no_fault old (flat_map entries_of h.records) fault (made_keytab h.is) f

@@ -1,5 +1,5 @@
 -- What is known of a file after an entry was added.
-use Rattle.std.proofs.Common.{◌≡◌, ℕ, ◌+◌, ◌-◌, ◌<◌, ◌≤◌, ◌^◌, List, [], ◌∷◌, ◌++◌, length, sym, ap, subst, ◌∙◌, arith}
+use Rattle.std.proofs.Common.{◌≡◌, ℕ, ◌+◌, ◌-◌, ◌<◌, ◌≤◌, ◌^◌, List, [], ◌∷◌, ◌++◌, length, Result, Ok, Err, sym, ap, subst, ◌∙◌, arith}
 use Rattle.std.specs.List.{flat_map}
 use Rattle.std.specs.Prelude.{All}
 use Rattle.std.proofs.lemmas.List.{length-append}
@@ -10,9 +10,11 @@ use Rattle.krb_keytab.specs.Written.{padded_record, written_record, record_lengt
 use Rattle.krb_keytab.specs.Edit.{Appends, IsMadeOf}
 use Rattle.krb_keytab.specs.Inner.Finding.{LiesAt, HasRoom, HasNone}
 use Rattle.krb_keytab.specs.Inner.Putting.{Puts}
-use Rattle.krb_keytab.specs.Inner.Room.{holes_of, KnowsRoom, IsTaken}
+use Rattle.krb_keytab.specs.Inner.Room.{holes_of, KnowsRoom, IsTaken, PutsIn}
 use Rattle.krb_keytab.specs.declared.adder.Hole.{Hole}
+use Rattle.krb_keytab.specs.declared.fault.KeytabFault.{KeytabFault}
 use Rattle.krb_keytab.specs.declared.finding.Extent.{Extent}
+use Rattle.krb_keytab.specs.declared.finding.Room.TheVariants as room
 use Rattle.krb_keytab.proofs.EditLaws.{replaced, within}
 use Rattle.krb_keytab.proofs.MadeLaws.{padded_fits}
 use Rattle.krb_keytab.proofs.OneSplit.{same_records}
@@ -44,14 +46,18 @@ pub has_room : {bytes : List ℕ} {holes : List Hole} {at size : ℕ} {one : Hol
 has_room {bytes} {holes} {at} {size} {one} k t =
     let s = stands k t in
     record {
-      before = s.before;
-      ignored = s.ignored;
-      after = s.after;
+      records = k.records;
       end = k.end;
-      is = there_is k t;
-      lies = there_lies k t;
-      first = none_fits size (length version) s.before t.before s.front_is t.small;
-      room = subst (λ (n : ℕ). size ≤ n) s.size t.room;
+      is = k.is;
+      there = record {
+        before = s.before;
+        ignored = s.ignored;
+        after = s.after;
+        records_are = s.records_are;
+        lies = there_lies k t;
+        first = none_fits size (length version) s.before t.before s.front_is t.small;
+        room = subst (λ (n : ℕ). size ≤ n) s.size t.room;
+      };
     }
 
 pub has_none : {bytes : List ℕ} {holes : List Hole} {at : ℕ} (size : ℕ) → KnowsRoom bytes holes at → All (λ (h : Hole). h.size < size) holes → HasNone bytes size at
@@ -66,6 +72,11 @@ has_none {bytes} {holes} size k small = record {
 whole_length : {bytes : List ℕ} {records : List KeytabRecord} {end : List ℕ} → IsMadeOf bytes records end → length bytes ≡ length version + length (flat_map record_bytes records) + length end
 whole_length {bytes} {records} {end} is =
     omega (arith, ap length is.bytes_are, length-append version (flat_map record_bytes records ++ end), length-append (flat_map record_bytes records) end)
+
+-- a hole takes an entry always
+pub filled_always : (place : Extent) (e : KeytabEntry) (old new : List ℕ) (result : Result (Unit {0}) KeytabFault) → PutsIn (room.Hole place) e old new result → PutsIn (room.Hole place) e old new (Ok tt)
+filled_always place e old new (Ok done) p = p
+filled_always place e old new (Err fault) p = absurd p
 
 -- a hole was filled
 pub knows_filled : {old new : List ℕ} {holes : List Hole} {at : ℕ} {one : Hole} {others : List Hole} (e : KeytabEntry) (size : ℕ) → size ≡ record_length e

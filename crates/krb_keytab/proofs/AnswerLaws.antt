@@ -1,8 +1,8 @@
 -- Each file is a keytab or has a fault.
 use Rattle.std.proofs.Common.{◌≡◌, ◌⊎◌, ℕ, zero, suc, ℤ, pos, negsuc, ◌+◌, ◌<◌, ◌≤◌, Bool, true, false, eqb, List, [], ◌∷◌, ◌++◌, length, take, drop, Option, Some, None, Result, Ok, Err, refl, sym, ap, subst, append_assoc, arith, inl, inr, ◌∙◌}
 use Rattle.std.specs.Int.{w32}
-use Rattle.std.specs.Prelude.{FitsSigned, int_lt}
-use Rattle.std.proofs.lemmas.Bool.{cases_lt, eqb-true, eqb-false, ltb-true}
+use Rattle.std.specs.Prelude.{FitsSigned}
+use Rattle.std.proofs.lemmas.Bool.{cases_lt, eqb-true, eqb-false}
 use Rattle.std.proofs.lemmas.List.{length-append, length-take, take-append-drop, drop_at}
 use Rattle.krb_name.specs.Cursor.{Place, signed_at, signed_bytes}
 use Rattle.krb_name.specs.Field.{IsBytes}
@@ -14,7 +14,7 @@ use Rattle.krb_keytab.specs.Inner.Entry.{entry_at}
 use Rattle.krb_keytab.specs.Inner.Meeting.{IsWhole}
 use Rattle.krb_keytab.specs.declared.fault.KeytabFault.{KeytabFault}
 use Rattle.krb_keytab.specs.declared.fault.KeytabFault.TheVariants.{Version, Truncated, BadEntry, TooLong}
-use Rattle.krb_keytab.proofs.RecordLaws.{short_size}
+use Rattle.krb_name.proofs.ShortLaws.{short_signed}
 use Rattle.krb_keytab.proofs.FileLaws.{reach_start, record_first}
 use Rattle.krb_keytab.proofs.MeetLaws.{cut_off, hole_whole, entry_whole, no_entry}
 use Rattle.krb_keytab.proofs.StandLaws.{reach_piece, reach_whole}
@@ -35,13 +35,6 @@ record Whole (at : ℕ) (rest : List ℕ) : Type 0 where
 abbrev Kind : ℕ → List ℕ → Type 0
 Kind at rest = Whole at rest ⊎ (IsEnd rest ⊎ (IsCutOff rest ⊎ HoldsNoEntry rest))
 
-not_below : (n : ℕ) → int_lt (pos n) (pos 0) ≡ false
-not_below n = tested (int_lt (pos n) (pos 0)) refl
-  where
-    tested : (b : Bool) → int_lt (pos n) (pos 0) ≡ b → b ≡ false
-    tested true e = let below = ltb-true n 0 e in absurd (omega arith)
-    tested false e = refl
-
 module _ (at : ℕ) (rest : List ℕ) (bytes : IsBytes rest) where
   split : (word : List ℕ) (n : ℕ) → word ++ rest ≡ (word ++ take n rest) ++ drop n rest
   split word n = ap (λ (t : List ℕ). word ++ t) (sym (take-append-drop n rest)) ∙ sym (append_assoc word (take n rest) (drop n rest))
@@ -49,26 +42,26 @@ module _ (at : ℕ) (rest : List ℕ) (bytes : IsBytes rest) where
   there : (size : ℤ) (n : ℕ) (entries : List KeytabEntry) → IsWhole at (signed_bytes w32 size ++ take n rest) entries → Kind at (signed_bytes w32 size ++ rest)
   there size n entries whole = inl (record { piece = signed_bytes w32 size ++ take n rest; more = drop n rest; entries = entries; parts = split (signed_bytes w32 size) n; whole = whole; fits = IsBytes-drop n rest bytes })
 
-  within : (size : ℤ) (n : ℕ) → at + length (signed_bytes w32 size ++ rest) ≤ file_limit → at + length (signed_bytes w32 size ++ take n rest) ≤ file_limit
-  within size n limit = omega (arith, limit, length-append (signed_bytes w32 size) rest, length-append (signed_bytes w32 size) (take n rest), length-take n rest)
+  room : (size : ℤ) (n : ℕ) → n ≤ length rest → at + length (signed_bytes w32 size ++ rest) ≤ file_limit → at + 4 + n ≤ file_limit
+  room size n enough limit = omega (arith, enough, limit, length-append (signed_bytes w32 size) rest)
 
-  made : (n : ℕ) → FitsSigned w32 (pos n) → 0 < n → n ≤ length rest → at + length (signed_bytes w32 (pos n) ++ rest) ≤ file_limit → (read : Option KeytabEntry) → entry_at (take n rest) ≡ read → Kind at (signed_bytes w32 (pos n) ++ rest)
-  made n fits some enough limit None e =
-      inr (inr (inr (subst HoldsNoEntry (sym (split (signed_bytes w32 (pos n)) n)) (no_entry at (pos n) (take n rest) (drop n rest) fits (not_below n) some (omega (arith, length-take n rest, enough)) e).1)))
-  made n fits some enough limit (Some one) e =
-      there (pos n) n (one ∷ []) (entry_whole at (pos n) (take n rest) one fits (not_below n) (IsBytes-take n rest bytes) (omega (arith, length-take n rest, enough)) e (within (pos n) n limit))
+  made : (n : ℕ) → 0 < n → n ≤ length rest → at + length (signed_bytes w32 (pos n) ++ rest) ≤ file_limit → (read : Option KeytabEntry) → entry_at (take n rest) ≡ read → Kind at (signed_bytes w32 (pos n) ++ rest)
+  made n some enough limit None e =
+      inr (inr (inr (subst HoldsNoEntry (sym (split (signed_bytes w32 (pos n)) n)) (no_entry at n (take n rest) (drop n rest) some (room (pos n) n enough limit) (omega (arith, length-take n rest, enough)) e).1)))
+  made n some enough limit (Some one) e =
+      there (pos n) n (one ∷ []) (entry_whole at n (take n rest) one (room (pos n) n enough limit) (IsBytes-take n rest bytes) (omega (arith, length-take n rest, enough)) e)
 
   sized : (size : ℤ) → FitsSigned w32 size → at + length (signed_bytes w32 size ++ rest) ≤ file_limit → Kind at (signed_bytes w32 size ++ rest)
   sized (pos zero) fits limit = inr (inl (inr (rest, refl)))
   sized (pos (suc n)) fits limit =
       elim (cases_lt (length rest) (suc n)) [
         | inl short ↦ inr (inr (inl (cut_off at (pos (suc n)) rest fits short).1))
-        | inr enough ↦ made (suc n) fits (omega arith) enough limit (entry_at (take (suc n) rest)) refl
+        | inr enough ↦ made (suc n) (omega arith) enough limit (entry_at (take (suc n) rest)) refl
       ]
   sized (negsuc n) fits limit =
       elim (cases_lt (length rest) (suc n)) [
         | inl short ↦ inr (inr (inl (cut_off at (negsuc n) rest fits short).1))
-        | inr enough ↦ there (negsuc n) (suc n) [] (hole_whole at (negsuc n) (take (suc n) rest) fits refl (omega (arith, length-take (suc n) rest, enough)) (within (negsuc n) (suc n) limit))
+        | inr enough ↦ there (negsuc n) (suc n) [] (hole_whole at (suc n) (take (suc n) rest) (omega arith) (room (negsuc n) (suc n) enough limit) (omega (arith, length-take (suc n) rest, enough)))
       ]
 
 few : (at : ℕ) (rest : List ℕ) → length rest < 4 → Kind at rest
@@ -79,7 +72,7 @@ kind : (at : ℕ) (rest : List ℕ) → IsBytes rest → at + length rest ≤ fi
 kind at rest bytes limit = by_size (signed_at w32 (record { at = 0; rest = rest })) refl
   where
     by_size : (read : Option (ℤ × Place)) → signed_at w32 (record { at = 0; rest = rest }) ≡ read → Kind at rest
-    by_size None e = few at rest (short_size (record { at = 0; rest = rest }) e)
+    by_size None e = few at rest (short_signed w32 (record { at = 0; rest = rest }) e)
     by_size (Some (size, after)) e =
         let t = IsField-i32.takes (record { at = 0; rest = rest }) size after bytes e in
         subst (Kind at) (sym t.0.parts) (sized at after.rest t.0.rest_fits size t.1 (omega (arith, limit, ap length t.0.parts)))

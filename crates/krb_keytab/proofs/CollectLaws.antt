@@ -8,17 +8,20 @@ use Rattle.krb_keytab.specs.Entry.{KeytabEntry}
 use Rattle.krb_name.specs.File.{file_limit, IsGiven, TakesFile}
 use Rattle.krb_keytab.specs.Format.{IsReached, IsCutOff, HoldsNoEntry, StandsAt}
 use Rattle.krb_keytab.specs.Items.{StandsTo}
-use Rattle.krb_keytab.specs.Inner.Meeting.{OpensAt, MeetsNext, HasTaken, IsFound, IsFaulty}
+use Rattle.krb_keytab.specs.Inner.Meeting.{HasReached, MeetsNext, HasTaken, IsFound, IsFaulty}
 use Rattle.krb_keytab.specs.declared.fault.KeytabFault.{KeytabFault}
 use Rattle.krb_keytab.specs.declared.fault.KeytabFault.TheVariants.{Version, Truncated, BadEntry, TooLong, NoSuchEntry, Read, OutOfMemory}
 use Rattle.krb_keytab.specs.declared.stage.Stage.TheVariants.{Failed}
-use Rattle.krb_keytab.proofs.StandLaws.{ends_reached, first_fault}
+use Rattle.krb_keytab.proofs.StandLaws.{ends_reached}
+
+behind : {from mid : Option (List ℕ)} {given : ℕ} {entries : List KeytabEntry} (t : HasTaken from mid given entries) → given ≤ file_limit → HasReached given t.bytes entries
+behind t limit = record { given_is = t.given_is; limit = omega (arith, limit, t.given_is); reached = t.reached }
 
 pub entry_taken : {S : Type 0} (from mid to : Option (List ℕ)) (old new : AtHand S) (entries more : List KeytabEntry) (e : KeytabEntry) → HasTaken from mid old.given entries → old.given ≤ file_limit → MeetsNext mid to old new (Ok (Some e)) → more ≡ entries ++ e ∷ []
     → HasTaken from to new.given more
 entry_taken from mid to old new entries more e t limit m pushed =
     let all : List ℕ = t.bytes ++ m.piece in
-    let stands = m.stands t.bytes entries t.given_is (omega (arith, limit, t.given_is)) t.reached in
+    let stands = m.stands t.bytes entries (behind t limit) in
     record {
       bytes = all;
       taken = Consumes-trans from mid to t.bytes m.piece t.taken m.moves.consumed;
@@ -28,7 +31,7 @@ entry_taken from mid to old new entries more e t limit m pushed =
 
 pub end_taken : {S : Type 0} (from mid to : Option (List ℕ)) (old new : AtHand S) (entries : List KeytabEntry) → HasTaken from mid old.given entries → old.given ≤ file_limit → MeetsNext mid to old new (Ok None) → IsFound from to entries
 end_taken from mid to old new entries t limit m =
-    let s = m.stands t.bytes entries t.given_is (omega (arith, limit, t.given_is)) t.reached in (
+    let s = m.stands t.bytes entries (behind t limit) in (
       t.bytes ++ m.piece,
       record { given = Consumes-trans from mid to t.bytes m.piece t.taken m.moves.consumed; limit = omega (arith, s.limit); end = λ within. s.all },
       record { limit = s.limit; at = s.stops.at; behind = s.stops.behind; reached = s.stops.reached; end = s.stops.lacks },
@@ -51,17 +54,11 @@ fault_of from to held bytes entries NoSuchEntry c s = absurd s.stops.lacks
 fault_of from to held bytes entries Read c s = λ memory read. absurd (read refl)
 fault_of from to held bytes entries OutOfMemory c s = λ memory read. absurd (memory refl)
 
-pub version_faulty : {S : Type 0} (from to : Option (List ℕ)) (old new : AtHand S) (fault : KeytabFault) → OpensAt from to old new (Err fault) → old.given ≡ 0 → IsFaulty from to fault
-version_faulty from to old new fault o start = let m = first_fault from to old new fault o start in fault_of from to new.peak m.piece [] fault m.moves.consumed m.stands
-
 pub next_faulty : {S : Type 0} (from mid to : Option (List ℕ)) (old new : AtHand S) (entries : List KeytabEntry) (fault : KeytabFault) → HasTaken from mid old.given entries → old.given ≤ file_limit → MeetsNext mid to old new (Err fault) → IsFaulty from to fault
 next_faulty from mid to old new entries fault t limit m =
-    fault_of from to new.peak (t.bytes ++ m.piece) entries fault (Consumes-trans from mid to t.bytes m.piece t.taken m.moves.consumed) (m.stands t.bytes entries t.given_is (omega (arith, limit, t.given_is)) t.reached)
+    fault_of from to new.peak (t.bytes ++ m.piece) entries fault (Consumes-trans from mid to t.bytes m.piece t.taken m.moves.consumed) (m.stands t.bytes entries (behind t limit))
 
 -- ---- how much the source gave
-
-pub version_takes : {S : Type 0} (from to : Option (List ℕ)) (old new : AtHand S) (answer : Result Unit KeytabFault) → OpensAt from to old new answer → old.given ≡ 0 → TakesFile from to
-version_takes from to old new answer o start = record { piece = o.piece; taken = o.moves.consumed; within = let l = o.moves.limit (omega (arith, start)) in omega (arith, l, o.moves.given, start) }
 
 pub next_takes : {S : Type 0} (from mid to : Option (List ℕ)) (old new : AtHand S) (entries : List KeytabEntry) (answer : Result (Option KeytabEntry) KeytabFault) → HasTaken from mid old.given entries → old.given ≤ file_limit → MeetsNext mid to old new answer → TakesFile from to
 next_takes from mid to old new entries answer t limit m = record {

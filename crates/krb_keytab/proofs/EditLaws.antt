@@ -81,22 +81,26 @@ zero_fits e short_kvno rest fits =
 pub zero_length : (e : KeytabEntry) (short_kvno : ℕ) (rest : List ℕ) → length (record_bytes (zero_hole (length (entry_bytes e short_kvno rest)))) ≡ length (record_bytes (entry e short_kvno rest))
 zero_length e short_kvno rest = omega (arith, length-replicate {A = ℕ} (length (entry_bytes e short_kvno rest)) 0)
 
+there_is : {bytes : List ℕ} {index : ℕ} {place : Extent} (h : HoldsIndex bytes index place) → IsMadeOf bytes (h.there.before ++ entry h.there.removed h.there.short_kvno h.there.rest ∷ h.there.after) h.end
+there_is {bytes} h = subst (λ (r : List KeytabRecord). IsMadeOf bytes r h.end) h.there.records_are h.is
+
 pub makes_hole : {old new : List ℕ} {index : ℕ} {place : Extent} (h : HoldsIndex old index place) → Puts old place.from (record_bytes (zero_hole (place.to - place.from - 4))) new → MakesHole old index new
 makes_hole {old} {new} {index} {place} h puts =
-    let one : KeytabRecord = entry h.removed h.short_kvno h.rest in
-    let count : ℕ = length (entry_bytes h.removed h.short_kvno h.rest) in
-    let size : place.to - place.from - 4 ≡ count = omega (arith, h.lies.to) in
-    let fits = fits_there h.before one h.after h.is in
+    let k = h.there in
+    let one : KeytabRecord = entry k.removed k.short_kvno k.rest in
+    let count : ℕ = length (entry_bytes k.removed k.short_kvno k.rest) in
+    let size : place.to - place.from - 4 ≡ count = omega (arith, k.lies.to) in
+    let fits = fits_there k.before one k.after (there_is h) in
     record {
-      before = h.before;
-      removed = h.removed;
-      short_kvno = h.short_kvno;
-      rest = h.rest;
-      after = h.after;
+      before = k.before;
+      removed = k.removed;
+      short_kvno = k.short_kvno;
+      rest = k.rest;
+      after = k.after;
       end = h.end;
-      index_is = h.index_is;
-      old_is = h.is;
-      new_is = replaced h.before one (zero_hole count) h.after h.is h.lies (zero_fits h.removed h.short_kvno h.rest fits) (zero_length h.removed h.short_kvno h.rest) (subst (λ (n : ℕ). Puts old place.from (record_bytes (zero_hole n)) new) size puts);
+      index_is = k.index_is;
+      old_is = there_is h;
+      new_is = replaced k.before one (zero_hole count) k.after (there_is h) k.lies (zero_fits k.removed k.short_kvno k.rest fits) (zero_length k.removed k.short_kvno k.rest) (subst (λ (n : ℕ). Puts old place.from (record_bytes (zero_hole n)) new) size puts);
     }
 
 pub loses_entry : {old new : List ℕ} {index : ℕ} → MakesHole old index new → LosesEntry old index new
@@ -132,17 +136,16 @@ same_fault bytes f g p q = fault_is f g (same_answers bytes (Err f) (Err g) p q)
 -- a file that was searched to its end has no fault
 pub searched : (bytes : List ℕ) (index : ℕ) (place : Option Extent) (fault : KeytabFault) → IsFoundEntry bytes index place → IsFaultOf bytes fault → ⊥
 searched bytes index None fault l f = no_fault bytes l.entries fault l.list f
-searched bytes index (Some place) fault h f =
-    no_fault bytes (flat_map entries_of (h.before ++ entry h.removed h.short_kvno h.rest ∷ h.after)) fault (made_keytab h.is) f
+searched bytes index (Some place) fault h f = no_fault bytes (flat_map entries_of h.records) fault (made_keytab h.is) f
 
 -- an entry of this index is there, or it isn't
 pub not_lacking : (bytes : List ℕ) (index : ℕ) (place : Extent) → HoldsIndex bytes index place → LacksEntry bytes index → ⊥
 not_lacking bytes index place h l =
-    let one : KeytabRecord = entry h.removed h.short_kvno h.rest in
-    let listed : List KeytabEntry = flat_map entries_of h.before ++ (h.removed ∷ flat_map entries_of h.after) in
-    let k : IsKeytab bytes listed = subst (IsKeytab bytes) (flat_split entries_of h.before one h.after) (made_keytab h.is) in
-    let same = list_is l.entries listed (same_answers bytes (Ok l.entries) (Ok listed) l.list k) in
-    omega (arith, ap length same, length-append (flat_map entries_of h.before) (h.removed ∷ flat_map entries_of h.after), h.index_is, l.few)
+    let k = h.there in
+    let listed : List KeytabEntry = flat_map entries_of h.records in
+    let same = list_is l.entries listed (same_answers bytes (Ok l.entries) (Ok listed) l.list (made_keytab h.is)) in
+    let parts = ap (flat_map entries_of) k.records_are ∙ flat_split entries_of k.before (entry k.removed k.short_kvno k.rest) k.after in
+    omega (arith, ap length same, ap length parts, length-append (flat_map entries_of k.before) (k.removed ∷ flat_map entries_of k.after), k.index_is, l.few)
 
 -- ---- what removing answers
 

@@ -1,5 +1,5 @@
 -- What a reader meets where whole records end, and what it has at hand then.
-use Rattle.std.proofs.Common.{◌≡◌, ℕ, ℤ, pos, negsuc, neg_ℤ, ◌+◌, ◌-◌, ◌<◌, ◌≤◌, ◌^◌, Bool, true, false, List, [], ◌∷◌, ◌++◌, length, take, Option, Some, None, Result, Ok, Err, refl, sym, ap, subst, ◌∙◌, append_assoc, append-nil, to_z, of_z, arith, inl, inr}
+use Rattle.std.proofs.Common.{◌≡◌, ℕ, ℤ, pos, negsuc, neg_ℤ, ◌+◌, ◌-◌, ◌<◌, ◌≤◌, Bool, true, false, List, [], ◌∷◌, ◌++◌, length, take, Option, Some, None, Result, Ok, Err, refl, sym, ap, subst, ◌∙◌, append_assoc, append-nil, to_z, of_z, arith, inl, inr}
 use Rattle.std.specs.Int.{w32}
 use Rattle.std.specs.Prelude.{FitsSigned, unsigned_abs, int_lt, max, IfOk, OnErr}
 use Rattle.std.specs.Io.KnownBytes.{Consumes}
@@ -20,12 +20,12 @@ use Rattle.krb_keytab.specs.Fault.{source_fault}
 use Rattle.krb_keytab.specs.Format.{hole, entry, entry_bytes}
 use Rattle.krb_keytab.specs.Items.{LacksRecord, IsPartOfRecord}
 use Rattle.krb_keytab.specs.Inner.Entry.{entry_at}
-use Rattle.krb_keytab.specs.Inner.Meeting.{Peaks, RanOut, IsWhole, IsLastAt, IsLongAt, IsFewAt, kept_of, MeetsLast, MeetsSize, MeetsSizeAt, MeetsBody, MeetsOne, Meets}
+use Rattle.krb_keytab.specs.Inner.Meeting.{Peaks, RanOut, RunsOutTo, IsWhole, IsLastAt, IsLongAt, IsFewAt, kept_of, MeetsLast, MeetsSize, MeetsSizeAt, MeetsBody, MeetsOne, Meets}
 use Rattle.krb_keytab.specs.declared.fault.KeytabFault.{KeytabFault}
 use Rattle.krb_keytab.specs.declared.fault.KeytabFault.TheVariants.{Truncated, BadEntry, TooLong, Read}
 use Rattle.krb_keytab.specs.declared.found.Found.{Found}
 use Rattle.krb_keytab.proofs.EntryLaws.{take_entry, again_entry}
-use Rattle.krb_keytab.proofs.RecordLaws.{short_size}
+use Rattle.krb_name.proofs.ShortLaws.{short_signed}
 use Rattle.krb_name.specs.declared.cursor.Short.{Short}
 
 -- ---- a source that runs out
@@ -71,48 +71,48 @@ cut_off at size more fits short = (refl, inr (record { size = size; body = more;
 pub count_is : (size : ℤ) (count : ℕ) → FitsSigned w32 size → count ≡ unsigned_abs (to_z w32 (of_z w32 size)) → count ≡ unsigned_abs size
 count_is size count fits e = e ∙ ap unsigned_abs (to_z-of_z w32 size fits)
 
-pub hole_whole : (at : ℕ) (size : ℤ) (body : List ℕ) → FitsSigned w32 size → int_lt size (pos 0) ≡ true → length body ≡ unsigned_abs size → at + length (signed_bytes w32 size ++ body) ≤ file_limit → IsWhole at (signed_bytes w32 size ++ body) []
-hole_whole at (pos n) body fits negative e limit = let below = ltb-true n 0 negative in absurd (omega arith)
-hole_whole at (negsuc n) body fits negative e limit =
-    let small : n < 2 ^ 31 = fits.sfits in
-    record {
-      one = hole body;
-      fits = (omega (arith, e), omega (arith, e));
-      piece_is = ap (λ (k : ℕ). signed_bytes w32 (neg_ℤ (pos k)) ++ body) (sym e);
-      entries_are = refl;
-      limit = limit;
-    }
+-- the size of a hole, and that of an entry
+pub hole_size : (size : ℤ) (count : ℕ) → int_lt size (pos 0) ≡ true → count ≡ unsigned_abs size → neg_ℤ (pos count) ≡ size
+hole_size (pos n) count negative e = let below = ltb-true n 0 negative in absurd (omega arith)
+hole_size (negsuc n) count negative e = ap (λ (k : ℕ). neg_ℤ (pos k)) e
 
-pub entry_whole : (at : ℕ) (size : ℤ) (body : List ℕ) (e : KeytabEntry) → FitsSigned w32 size → int_lt size (pos 0) ≡ false → IsBytes body → length body ≡ unsigned_abs size → entry_at body ≡ Some e
-    → at + length (signed_bytes w32 size ++ body) ≤ file_limit → IsWhole at (signed_bytes w32 size ++ body) (e ∷ [])
-entry_whole at (negsuc n) body e fits positive bytes l read limit = absurd cc
-entry_whole at (pos n) body e fits positive bytes l read limit =
+pub entry_size : (size : ℤ) (count : ℕ) → int_lt size (pos 0) ≡ false → count ≡ unsigned_abs size → pos count ≡ size
+entry_size (pos n) count positive e = ap (λ (k : ℕ). pos k) e
+entry_size (negsuc n) count positive e = absurd cc
+
+pub hole_whole : (at count : ℕ) (body : List ℕ) → 0 < count → at + 4 + count ≤ file_limit → length body ≡ count → IsWhole at (signed_bytes w32 (neg_ℤ (pos count)) ++ body) []
+hole_whole at count body some limit e = record {
+  one = hole body;
+  fits = (omega (arith, e, some), omega (arith, e, limit));
+  piece_is = ap (λ (k : ℕ). signed_bytes w32 (neg_ℤ (pos k)) ++ body) (sym e);
+  entries_are = refl;
+  limit = omega (arith, e, limit, length-append (signed_bytes w32 (neg_ℤ (pos count))) body);
+}
+
+pub entry_whole : (at count : ℕ) (body : List ℕ) (e : KeytabEntry) → at + 4 + count ≤ file_limit → IsBytes body → length body ≡ count → entry_at body ≡ Some e → IsWhole at (signed_bytes w32 (pos count) ++ body) (e ∷ [])
+entry_whole at count body e limit bytes l read =
     let held = take_entry body e bytes read in
-    let small : n < 2 ^ 31 = fits.sfits in
-    let size : pos n ≡ pos (length (entry_bytes e held.short_kvno held.rest)) = ap (λ (k : ℕ). pos k) (sym l ∙ ap length held.body_is) in
+    let size : pos count ≡ pos (length (entry_bytes e held.short_kvno held.rest)) = ap (λ (k : ℕ). pos k) (sym l ∙ ap length held.body_is) in
     record {
       one = entry e held.short_kvno held.rest;
-      fits = (held.is_entry, omega (arith, l, ap length held.body_is));
+      fits = (held.is_entry, omega (arith, l, limit, ap length held.body_is));
       piece_is = ap (λ (k : ℤ). signed_bytes w32 k ++ body) size ∙ ap (λ (t : List ℕ). signed_bytes w32 (pos (length (entry_bytes e held.short_kvno held.rest))) ++ t) held.body_is;
       entries_are = refl;
-      limit = limit;
+      limit = omega (arith, l, limit, length-append (signed_bytes w32 (pos count)) body);
     }
 
-pub no_entry : (at : ℕ) (size : ℤ) (body more : List ℕ) → FitsSigned w32 size → int_lt size (pos 0) ≡ false → 0 < unsigned_abs size → length body ≡ unsigned_abs size → entry_at body ≡ None
-    → LacksRecord at (Some (BadEntry at)) ((signed_bytes w32 size ++ body) ++ more)
-no_entry at (negsuc n) body more fits positive some l read = absurd cc
-no_entry at (pos n) body more fits positive some l read =
-    let small : n < 2 ^ 31 = fits.sfits in (
-      refl,
-      record {
-        body = body;
-        others = more;
-        behind_is = append_assoc (signed_bytes w32 (pos n)) body more ∙ ap (λ (k : ℕ). signed_bytes w32 (pos k) ++ (body ++ more)) (sym l);
-        size = omega (arith, l);
-        size_fits = omega (arith, l);
-        no_entry = λ made short_kvno rest is_entry same. none_and_some (entry_at body) made read (ap entry_at same ∙ again_entry made short_kvno rest is_entry);
-      },
-    )
+pub no_entry : (at count : ℕ) (body more : List ℕ) → 0 < count → at + 4 + count ≤ file_limit → length body ≡ count → entry_at body ≡ None → LacksRecord at (Some (BadEntry at)) ((signed_bytes w32 (pos count) ++ body) ++ more)
+no_entry at count body more some limit l read = (
+  refl,
+  record {
+    body = body;
+    others = more;
+    behind_is = append_assoc (signed_bytes w32 (pos count)) body more ∙ ap (λ (k : ℕ). signed_bytes w32 (pos k) ++ (body ++ more)) (sym l);
+    size = omega (arith, l, some);
+    size_fits = omega (arith, l, limit);
+    no_entry = λ made short_kvno rest is_entry same. none_and_some (entry_at body) made read (ap entry_at same ∙ again_entry made short_kvno rest is_entry);
+  },
+)
   where
     none_and_some : (read : Option KeytabEntry) (made : KeytabEntry) → read ≡ None → read ≡ Some made → ⊥
     none_and_some read made p q = cc
@@ -134,10 +134,6 @@ peaks_at IsPart piece part after old new bytes parts p e fits peak = record {
 is_part : (size : ℤ) (part : List ℕ) → FitsSigned w32 size → length part ≤ kept_of size → IsPartOfRecord (signed_bytes w32 size ++ part)
 is_part (pos n) part fits few = inr (n, fits.sfits, part, refl, few)
 is_part (negsuc n) part fits few = inl (omega (arith, few, length-append (signed_bytes w32 (negsuc n)) part))
-
-pub kept_is : (size : ℤ) → int_lt size (pos 0) ≡ false → kept_of size ≡ unsigned_abs size
-kept_is (pos n) positive = refl
-kept_is (negsuc n) positive = absurd cc
 
 pub peaks_on : (size : ℤ) (later : List ℕ) (old mid new : ℕ) → FitsSigned w32 size → Peaks (λ part. length part ≤ 4) (signed_bytes w32 size) old mid → Peaks (λ part. length part ≤ kept_of size) later mid new → Peaks IsPartOfRecord (signed_bytes w32 size ++ later) old new
 peaks_on size later old mid new fits p q = record {
@@ -178,7 +174,7 @@ size_read bytes start after (Ok size) fits few e h = size_is bytes size after fi
 
 pub size_short : (bytes : List ℕ) (start : Place) (read : Result ℤ Short) → start ≡ record { at = 0; rest = bytes } → OnErr read (signed_at w32 start ≡ None) → OnErr read (length bytes < 4)
 size_short bytes start (Ok size) e h = h
-size_short bytes start (Err short) e h = short_size (record { at = 0; rest = bytes }) (sym (ap (signed_at w32) e) ∙ h)
+size_short bytes start (Err short) e h = short_signed w32 (record { at = 0; rest = bytes }) (sym (ap (signed_at w32) e) ∙ h)
 
 came_within : {E : Type 0} (answer : Result Bool E) (count : ℕ) (piece : List ℕ) (to : Option (List ℕ)) → CameOf answer count piece to → length piece ≤ count
 came_within (Ok true) count piece to came = omega (arith, came)
@@ -194,26 +190,39 @@ lost : (left : Option (List ℕ)) (at : ℕ) (piece : List ℕ) (fault : ReadFau
 lost left at piece source.Read = tt
 lost left at piece source.OutOfMemory = tt
 
-module _ {S E : Type 0} (of_entry : KeytabEntry → E) (from to : Option (List ℕ)) (old new : AtHand S) (at count : ℕ) (size : ℤ) (fits : old.given + count ≤ file_limit) (is : count ≡ unsigned_abs size) (positive : int_lt size (pos 0) ≡ false) where
-  pub body_met : (came : Result Bool ReadFault) (f : Fills from to (record old { bytes = [] }) new count came) (answer : Result (Found E) KeytabFault) → Meets of_entry to at (signed_bytes w32 size ++ f.piece) new.peak answer → MeetsBody of_entry from to old new at size answer
+module _ {S E : Type 0} (of_entry : KeytabEntry → E) (from to : Option (List ℕ)) (old new : AtHand S) (at count : ℕ) (fits : old.given + count ≤ file_limit) where
+  pub body_met : (came : Result Bool ReadFault) (f : Fills from to (record old { bytes = [] }) new count came) (answer : Result (Found E) KeytabFault) → Meets of_entry to at (signed_bytes w32 (pos count) ++ f.piece) new.peak answer → MeetsBody of_entry from to old new at (pos count) answer
   body_met came f answer meets =
       let few = fills_within from to (record old { bytes = [] }) new count came f in
       record {
         piece = f.piece;
         moves = record { consumed = f.keeps.consumed; given = f.keeps.given; limit = λ l. omega (arith, f.keeps.given, few, fits) };
-        peaks = peaks_at _ f.piece f.piece [] _ _ new.bytes (sym (append-nil f.piece)) (omega (arith, few, is, kept_is size positive)) f.keeps.bytes (omega (arith, few, fits)) f.keeps.peak;
+        peaks = peaks_at _ f.piece f.piece [] _ _ new.bytes (sym (append-nil f.piece)) few f.keeps.bytes (omega (arith, few, fits)) f.keeps.peak;
         meets = meets;
       }
 
-  pub body_lost : (fault : ReadFault) → Fills from to (record old { bytes = [] }) new count (Err fault) → MeetsBody of_entry from to old new at size (Err (source_fault fault))
-  body_lost fault f = body_met (Err fault) f (Err (source_fault fault)) (lost to at (signed_bytes w32 size ++ f.piece) fault)
+  pub body_lost : (fault : ReadFault) → Fills from to (record old { bytes = [] }) new count (Err fault) → MeetsBody of_entry from to old new at (pos count) (Err (source_fault fault))
+  body_lost fault f = body_met (Err fault) f (Err (source_fault fault)) (lost to at (signed_bytes w32 (pos count) ++ f.piece) fault)
+
+-- a record of this size would pass the limit
+pub body_cut : {S E : Type 0} (of_entry : KeytabEntry → E) (from to : Option (List ℕ)) (old new : AtHand S) (at : ℕ) (size : ℤ) (answer : Result (Found E) KeytabFault) → FitsSigned w32 size → old.given ≡ at + 4 → old.given ≤ file_limit → file_limit - old.given < unsigned_abs size
+    → RunsOutTo from to old new (Err (Truncated at)) answer → MeetsBody of_entry from to old new at size answer
+body_cut of_entry from to old new at size answer fits here limit long r =
+    let word : List ℕ = signed_bytes w32 size in
+    record {
+      piece = r.piece;
+      moves = r.moves;
+      peaks = peaks_kept _ r.piece _ _ (omega arith) r.peak;
+      meets = ran (Meets of_entry to at (word ++ r.piece) new.peak) (Err (Truncated at)) answer to at new.given word r.piece (Some (Truncated at)) r.ran (omega (arith, here, limit)) (omega (arith, r.moves.given, here, length-append word r.piece))
+          (λ more within. cut_off at size more fits (omega (arith, within, length-append word more, long, here))) (λ h. h) (λ h. h) tt;
+    }
 
 -- ---- a record
 
-pub record_met : {S E : Type 0} (of_entry : KeytabEntry → E) (from mid to : Option (List ℕ)) (old between new : AtHand S) (at : ℕ) (size : ℤ) (answer : Result (Found E) KeytabFault) → MeetsSizeAt from mid old between (Ok (Some size)) → at ≡ old.given
-    → MeetsBody of_entry mid to between new at (to_z w32 (of_z w32 size)) answer → MeetsOne of_entry from to old new answer
-record_met of_entry from mid to old between new at size answer first is handed =
-    let behind = subst (λ (z : ℤ). MeetsBody of_entry mid to between new at z answer) (to_z-of_z w32 size first.meets.fits) handed in
+pub record_met : {S E : Type 0} (of_entry : KeytabEntry → E) (from mid to : Option (List ℕ)) (old between new : AtHand S) (at : ℕ) (size other : ℤ) (answer : Result (Found E) KeytabFault) → MeetsSizeAt from mid old between (Ok (Some size)) → at ≡ old.given → other ≡ size
+    → MeetsBody of_entry mid to between new at other answer → MeetsOne of_entry from to old new answer
+record_met of_entry from mid to old between new at size other answer first is same body =
+    let behind = subst (λ (z : ℤ). MeetsBody of_entry mid to between new at z answer) same body in
     let word : List ℕ = signed_bytes w32 size in
     let whole = Consumes-trans from mid to first.piece behind.piece first.moves.consumed behind.moves.consumed in
     record {

@@ -1,8 +1,8 @@
 -- Of any list one answer holds, also where it isn't one of bytes.
-use Rattle.std.proofs.Common.{◌≡◌, ◌⊎◌, ℕ, pos, ◌+◌, ◌<◌, ◌≤◌, List, [], ◌∷◌, ◌++◌, length, Option, Some, None, Result, Ok, Err, refl, sym, ap, subst, ◌∙◌, append_assoc, arith, inl, inr}
+use Rattle.std.proofs.Common.{◌≡◌, ◌⊎◌, ℕ, pos, ◌+◌, ◌<◌, ◌≤◌, List, ◌++◌, length, Option, Some, None, Result, Ok, Err, refl, sym, ap, subst, ◌∙◌, append_assoc, arith, inl, inr}
 use Rattle.std.specs.Int.{w32}
 use Rattle.std.specs.Prelude.{◌≢◌, IfOk, IfErr}
-use Rattle.std.specs.List.{flat_map, AllByRecursion}
+use Rattle.std.specs.List.{flat_map}
 use Rattle.std.proofs.lemmas.List.{append_cancel_left, append_cancel_right}
 use Rattle.std.proofs.lemmas.List.Elements.{recursion_from_All}
 use Rattle.krb_name.specs.Cursor.{Place, signed_bytes}
@@ -15,9 +15,8 @@ use Rattle.krb_keytab.specs.declared.found.Found.{Found}
 use Rattle.krb_keytab.specs.declared.found.Found.TheVariants.{End, Hole, Entry}
 use Rattle.krb_keytab.specs.Inner.Entry.{entry_at}
 use Rattle.krb_keytab.specs.Inner.Reading.{record_at, entry_in}
-use Rattle.krb_keytab.proofs.RecordLaws.{standing, again_record, again_end, again_cut, body_again}
-use Rattle.krb_keytab.proofs.FileLaws.{same_standing}
-use Rattle.krb_keytab.proofs.OneSplit.{behind_four, first_is, same_record}
+use Rattle.krb_keytab.proofs.RecordLaws.{again_record, again_end, again_cut, body_again}
+use Rattle.krb_keytab.proofs.OneSplit.{behind_four, none_ended, one_end}
 
 -- what is said of a file whose records end so
 abbrev pub Ends : ℕ → List ℕ → List KeytabEntry → Result (List KeytabEntry) KeytabFault → Type 0
@@ -54,21 +53,11 @@ ok_or_err x fault e = cc
 
 -- ---- no record stands where the records end
 
-end_is_no_hole : (let x : Found KeytabEntry = End in x) ≡ Hole → ⊥
-end_is_no_hole e = cc
-
 end_is_no_entry : (e : KeytabEntry) → (let x : Found KeytabEntry = End in x) ≡ Entry e → ⊥
 end_is_no_entry e q = cc
 
 hole_is_no_entry : (e : KeytabEntry) → (let x : Found KeytabEntry = Hole in x) ≡ Entry e → ⊥
 hole_is_no_entry e q = cc
-
-kind_of : (x y : Found KeytabEntry × Place) → answer_of (Ok x) ≡ answer_of (Ok y) → x.0 ≡ y.0
-kind_of x y e = let same : x ≡ y = cc in ap (λ (k : Found KeytabEntry × Place). k.0) same
-
-no_end : (one : KeytabRecord) (x : List ℕ) → FitsRecord one → IsEnd (record_bytes one ++ x) → ⊥
-no_end (hole i) x fits end = let r = again_end 0 (record_bytes (hole i) ++ x) end in end_is_no_hole (sym (kind_of (Hole, _) (End, r.0) (sym (again_record 0 (hole i) x fits) ∙ r.1)))
-no_end (entry e s t) x fits end = let r = again_end 0 (record_bytes (entry e s t) ++ x) end in end_is_no_entry e (sym (kind_of (Entry e, _) (End, r.0) (sym (again_record 0 (entry e s t) x fits) ∙ r.1)))
 
 no_cut : (one : KeytabRecord) (x : List ℕ) → FitsRecord one → IsCutOff (record_bytes one ++ x) → ⊥
 no_cut (hole i) x fits cut = ok_or_err (Hole, _) (Truncated 0) (sym (again_record 0 (hole i) x fits) ∙ again_cut 0 (record_bytes (hole i) ++ x) cut)
@@ -85,7 +74,7 @@ no_bad (entry e s t) x fits h =
     h.no_entry e s t fits.0 (sym (behind_four _ _ _ _ _ _ _ _ (entry_bytes e s t) h.body same))
 
 not_there : (at : ℕ) (one : KeytabRecord) (x behind : List ℕ) (entries : List KeytabEntry) (v : Result (List KeytabEntry) KeytabFault) → FitsRecord one → behind ≡ record_bytes one ++ x → Ends at behind entries v → ⊥
-not_there at one x behind entries (Ok all) fits e ends = no_end one x fits (subst IsEnd e ends.1)
+not_there at one x behind entries (Ok all) fits e ends = none_ended behind ends.1 one x fits e
 not_there at one x behind entries (Err (Truncated place)) fits e ends = no_cut one x fits (subst IsCutOff e ends.1)
 not_there at one x behind entries (Err (BadEntry place)) fits e ends = no_bad one x fits (subst HoldsNoEntry e ends.1)
 not_there at one x behind entries (Err Version) fits e ends = ends
@@ -130,22 +119,6 @@ both_end at behind entries (Err Read) w p q = absurd p
 both_end at behind entries (Err OutOfMemory) w p q = absurd p
 
 -- ---- one list of records
-
-one_end : (ones others : List KeytabRecord) (b c : List ℕ) → AllByRecursion FitsRecord ones → AllByRecursion FitsRecord others → flat_map record_bytes ones ++ b ≡ flat_map record_bytes others ++ c
-    → ((one : KeytabRecord) (x : List ℕ) → FitsRecord one → b ≡ record_bytes one ++ x → ⊥) → ((one : KeytabRecord) (x : List ℕ) → FitsRecord one → c ≡ record_bytes one ++ x → ⊥) → ones ≡ others
-one_end [] [] b c p q e f g = refl
-one_end [] (other ∷ others) b c p q e f g = absurd (f other (flat_map record_bytes others ++ c) q.0 (e ∙ first_is other others c))
-one_end (one ∷ ones) [] b c p q e f g = absurd (g one (flat_map record_bytes ones ++ b) p.0 (sym e ∙ first_is one ones b))
-one_end (one ∷ ones) (other ∷ others) b c p q e f g =
-    let x : List ℕ = flat_map record_bytes ones ++ b in
-    let y : List ℕ = flat_map record_bytes others ++ c in
-    let both : record_bytes one ++ x ≡ record_bytes other ++ y = sym (first_is one ones b) ∙ e ∙ first_is other others c in
-    let stands : standing one (record { at = 0 + length (record_bytes one); rest = x }) ≡ standing other (record { at = 0 + length (record_bytes other); rest = y }) =
-    sym (again_record 0 one x p.0) ∙ ap (λ (t : List ℕ). record_at (record { at = 0; rest = t })) both ∙ again_record 0 other y q.0 in
-    let s = same_standing one other _ _ stands in
-    let rest : x ≡ y = ap (λ (k : Place). k.rest) s.1 in
-    let bytes : record_bytes one ≡ record_bytes other = append_cancel_right (record_bytes one) (record_bytes other) y (ap (λ (t : List ℕ). record_bytes one ++ t) (sym rest) ∙ both) in
-    ap (λ (r : KeytabRecord). r ∷ ones) (same_record one other p.0 q.0 s.0 bytes) ∙ ap (λ (t : List KeytabRecord). other ∷ t) (one_end ones others b c p.1 q.1 rest f g)
 
 -- whole records, and what is said behind them
 record Said (bytes : List ℕ) (v : Result (List KeytabEntry) KeytabFault) : Type 0 where

@@ -2,28 +2,14 @@
 use Rattle.std.proofs.Common.{◌≡◌, ℕ, ◌+◌, List, [], ◌∷◌, ◌++◌, length, Option, Some, None, refl, sym, ap, ◌∙◌, append_assoc, append-nil, arith}
 use Rattle.std.specs.List.{flat_map, AllByRecursion}
 use Rattle.std.specs.Io.KnownBytes.{Consumes}
-use Rattle.std.proofs.lemmas.List.{length-append, append_cancel_left, append_cancel_right}
+use Rattle.std.proofs.lemmas.List.{length-append, append_cancel_left}
 use Rattle.std.proofs.lemmas.List.Concat.{flat_map-cons}
 use Rattle.std.proofs.lemmas.List.Elements.{recursion_from_All}
-use Rattle.krb_name.specs.Cursor.{Place}
 use Rattle.krb_keytab.specs.Entry.{KeytabEntry}
 use Rattle.krb_keytab.specs.Format.{version, KeytabRecord, entry, record_bytes, FitsRecord, entries_of}
 use Rattle.krb_keytab.specs.Items.{EndsWithEntry, StandsTo}
-use Rattle.krb_keytab.specs.Inner.Reading.{record_at}
 use Rattle.krb_keytab.specs.declared.stage.Stage.TheVariants.{Records}
-use Rattle.krb_keytab.proofs.RecordLaws.{standing, again_record}
-use Rattle.krb_keytab.proofs.FileLaws.{same_standing}
-use Rattle.krb_keytab.proofs.OneSplit.{first_is, same_record}
-
--- ---- one record
-
-same_first : (one other : KeytabRecord) (x y : List ℕ) → FitsRecord one → FitsRecord other → record_bytes one ++ x ≡ record_bytes other ++ y → (one ≡ other) × (x ≡ y)
-same_first one other x y p q both =
-    let stands : standing one (record { at = 0 + length (record_bytes one); rest = x }) ≡ standing other (record { at = 0 + length (record_bytes other); rest = y }) =
-    sym (again_record 0 one x p) ∙ ap (λ (t : List ℕ). record_at (record { at = 0; rest = t })) both ∙ again_record 0 other y q in
-    let s = same_standing one other _ _ stands in
-    let rest : x ≡ y = ap (λ (k : Place). k.rest) s.1 in
-    (same_record one other p q s.0 (append_cancel_right (record_bytes one) (record_bytes other) y (ap (λ (t : List ℕ). record_bytes one ++ t) (sym rest) ∙ both)), rest)
+use Rattle.krb_keytab.proofs.OneSplit.{first_is, same_first}
 
 -- ---- records up to an entry
 

@@ -66,7 +66,7 @@ same_entry e f s t rest other p q same bytes =
     let r = same_rest e s t rest other p q b in
     ap (λ (n : ℕ). entry e n rest) r.0 ∙ ap (λ (x : List ℕ). entry e t x) r.1 ∙ ap (λ (g : KeytabEntry). entry g t other) same
 
-pub same_record : (one other : KeytabRecord) → FitsRecord one → FitsRecord other → entries_of one ≡ entries_of other → record_bytes one ≡ record_bytes other → one ≡ other
+same_record : (one other : KeytabRecord) → FitsRecord one → FitsRecord other → entries_of one ≡ entries_of other → record_bytes one ≡ record_bytes other → one ≡ other
 same_record (hole x) (hole y) p q e b = ap (λ (t : List ℕ). hole t) (behind_four _ _ _ _ _ _ _ _ x y b)
 same_record (hole x) (entry f t r) p q e b = let n : list_of [] ≡ list_of (f ∷ []) = e in absurd cc
 same_record (entry d s r) (hole y) p q e b = let n : list_of (d ∷ []) ≡ list_of [] = e in absurd cc
@@ -94,46 +94,48 @@ not_end (entry d s r) p q e = entry_is_no_end d (kind_is (Entry d, p) (End, q) e
 pub first_is : (one : KeytabRecord) (ones : List KeytabRecord) (b : List ℕ) → flat_map record_bytes (one ∷ ones) ++ b ≡ record_bytes one ++ (flat_map record_bytes ones ++ b)
 first_is one ones b = ap (λ (t : List ℕ). t ++ b) (flat_map-cons record_bytes one ones) ∙ append_assoc (record_bytes one) (flat_map record_bytes ones) b
 
-not_ended : (one : KeytabRecord) (ones : List KeytabRecord) (b c : List ℕ) → FitsRecord one → b ≡ flat_map record_bytes (one ∷ ones) ++ c → IsEnd b → ⊥
-not_ended one ones b c fits e end =
-    let rest : List ℕ = flat_map record_bytes ones ++ c in
+-- no record stands where the records end
+pub none_ended : (b : List ℕ) → IsEnd b → (one : KeytabRecord) (x : List ℕ) → FitsRecord one → b ≡ record_bytes one ++ x → ⊥
+none_ended b end one x fits e =
     let read = again_end 0 b end in
-    not_end one (record { at = 0 + length (record_bytes one); rest = rest }) read.0 (sym (again_record 0 one rest fits) ∙ ap (λ (t : List ℕ). record_at (record { at = 0; rest = t })) (sym (e ∙ first_is one ones c)) ∙ read.1)
+    not_end one (record { at = 0 + length (record_bytes one); rest = x }) read.0 (sym (again_record 0 one x fits) ∙ ap (λ (t : List ℕ). record_at (record { at = 0; rest = t })) (sym e) ∙ read.1)
 
-same_list : (ones others : List KeytabRecord) (b c : List ℕ) → AllByRecursion FitsRecord ones → AllByRecursion FitsRecord others → flat_map record_bytes ones ++ b ≡ flat_map record_bytes others ++ c → IsEnd b → IsEnd c → ones ≡ others
-same_list [] [] b c p q e f g = refl
-same_list [] (other ∷ others) b c p q e f g = absurd (not_ended other others b c q.0 e f)
-same_list (one ∷ ones) [] b c p q e f g = absurd (not_ended one ones c b p.0 (sym e) g)
-same_list (one ∷ ones) (other ∷ others) b c p q e f g =
-    let x : List ℕ = flat_map record_bytes ones ++ b in
-    let y : List ℕ = flat_map record_bytes others ++ c in
-    let both : record_bytes one ++ x ≡ record_bytes other ++ y = sym (first_is one ones b) ∙ e ∙ first_is other others c in
+-- bytes begin with one record, and what follows it is the same
+pub same_first : (one other : KeytabRecord) (x y : List ℕ) → FitsRecord one → FitsRecord other → record_bytes one ++ x ≡ record_bytes other ++ y → (one ≡ other) × (x ≡ y)
+same_first one other x y p q both =
     let stands : standing one (record { at = 0 + length (record_bytes one); rest = x }) ≡ standing other (record { at = 0 + length (record_bytes other); rest = y }) =
-    sym (again_record 0 one x p.0) ∙ ap (λ (t : List ℕ). record_at (record { at = 0; rest = t })) both ∙ again_record 0 other y q.0 in
+    sym (again_record 0 one x p) ∙ ap (λ (t : List ℕ). record_at (record { at = 0; rest = t })) both ∙ again_record 0 other y q in
     let s = same_standing one other _ _ stands in
     let rest : x ≡ y = ap (λ (k : Place). k.rest) s.1 in
     let bytes : record_bytes one ≡ record_bytes other = append_cancel_right (record_bytes one) (record_bytes other) y (ap (λ (t : List ℕ). record_bytes one ++ t) (sym rest) ∙ both) in
-    ap (λ (r : KeytabRecord). r ∷ ones) (same_record one other p.0 q.0 s.0 bytes) ∙ ap (λ (t : List KeytabRecord). other ∷ t) (same_list ones others b c p.1 q.1 rest f g)
+    (same_record one other p q s.0 bytes, rest)
+
+same_firsts : (one other : KeytabRecord) (ones others : List KeytabRecord) (b c : List ℕ) → FitsRecord one → FitsRecord other → flat_map record_bytes (one ∷ ones) ++ b ≡ flat_map record_bytes (other ∷ others) ++ c
+    → (one ≡ other) × (flat_map record_bytes ones ++ b ≡ flat_map record_bytes others ++ c)
+same_firsts one other ones others b c p q e = same_first one other _ _ p q (sym (first_is one ones b) ∙ e ∙ first_is other others c)
+
+-- records behind which no record stands are one list
+pub one_end : (ones others : List KeytabRecord) (b c : List ℕ) → AllByRecursion FitsRecord ones → AllByRecursion FitsRecord others → flat_map record_bytes ones ++ b ≡ flat_map record_bytes others ++ c
+    → ((one : KeytabRecord) (x : List ℕ) → FitsRecord one → b ≡ record_bytes one ++ x → ⊥) → ((one : KeytabRecord) (x : List ℕ) → FitsRecord one → c ≡ record_bytes one ++ x → ⊥) → ones ≡ others
+one_end [] [] b c p q e f g = refl
+one_end [] (other ∷ others) b c p q e f g = absurd (f other (flat_map record_bytes others ++ c) q.0 (e ∙ first_is other others c))
+one_end (one ∷ ones) [] b c p q e f g = absurd (g one (flat_map record_bytes ones ++ b) p.0 (sym e ∙ first_is one ones b))
+one_end (one ∷ ones) (other ∷ others) b c p q e f g =
+    let s = same_firsts one other ones others b c p.0 q.0 e in
+    ap (λ (r : KeytabRecord). r ∷ ones) s.0 ∙ ap (λ (t : List KeytabRecord). other ∷ t) (one_end ones others b c p.1 q.1 s.1 f g)
 
 -- records that lie before others are the first of all, where no more follow
 pub first_records : (ones others : List KeytabRecord) (b c : List ℕ) → AllByRecursion FitsRecord ones → AllByRecursion FitsRecord others → flat_map record_bytes ones ++ b ≡ flat_map record_bytes others ++ c → IsEnd c → (more : List KeytabRecord) × (others ≡ ones ++ more)
 first_records [] others b c p q e g = (others, refl)
-first_records (one ∷ ones) [] b c p q e g = absurd (not_ended one ones c b p.0 (sym e) g)
+first_records (one ∷ ones) [] b c p q e g = absurd (none_ended c g one (flat_map record_bytes ones ++ b) p.0 (sym e ∙ first_is one ones b))
 first_records (one ∷ ones) (other ∷ others) b c p q e g =
-    let x : List ℕ = flat_map record_bytes ones ++ b in
-    let y : List ℕ = flat_map record_bytes others ++ c in
-    let both : record_bytes one ++ x ≡ record_bytes other ++ y = sym (first_is one ones b) ∙ e ∙ first_is other others c in
-    let stands : standing one (record { at = 0 + length (record_bytes one); rest = x }) ≡ standing other (record { at = 0 + length (record_bytes other); rest = y }) =
-    sym (again_record 0 one x p.0) ∙ ap (λ (t : List ℕ). record_at (record { at = 0; rest = t })) both ∙ again_record 0 other y q.0 in
-    let s = same_standing one other _ _ stands in
-    let rest : x ≡ y = ap (λ (k : Place). k.rest) s.1 in
-    let bytes : record_bytes one ≡ record_bytes other = append_cancel_right (record_bytes one) (record_bytes other) y (ap (λ (t : List ℕ). record_bytes one ++ t) (sym rest) ∙ both) in
-    let m = first_records ones others b c p.1 q.1 rest g in
-    (m.0, ap (λ (r : KeytabRecord). r ∷ others) (sym (same_record one other p.0 q.0 s.0 bytes)) ∙ ap (λ (t : List KeytabRecord). one ∷ t) m.1)
+    let s = same_firsts one other ones others b c p.0 q.0 e in
+    let m = first_records ones others b c p.1 q.1 s.1 g in
+    (m.0, ap (λ (r : KeytabRecord). r ∷ others) (sym s.0) ∙ ap (λ (t : List KeytabRecord). one ∷ t) m.1)
 
 pub same_records : {bytes : List ℕ} {ones others : List KeytabRecord} {b c : List ℕ} → IsMadeOf bytes ones b → IsMadeOf bytes others c → ones ≡ others
 same_records {bytes} {ones} {others} {b} {c} m n =
-    same_list ones others b c (recursion_from_All FitsRecord ones m.fit) (recursion_from_All FitsRecord others n.fit) (append_cancel_left version _ _ (sym m.bytes_are ∙ n.bytes_are)) m.is_end n.is_end
+    one_end ones others b c (recursion_from_All FitsRecord ones m.fit) (recursion_from_All FitsRecord others n.fit) (append_cancel_left version _ _ (sym m.bytes_are ∙ n.bytes_are)) (none_ended b m.is_end) (none_ended c n.is_end)
 
 pub same_division : {bytes : List ℕ} {ones others : List KeytabRecord} {b c : List ℕ} → IsMadeOf bytes ones b → IsMadeOf bytes others c → (ones ≡ others) × (b ≡ c)
 same_division {bytes} {ones} {others} {b} {c} m n =

@@ -1,23 +1,12 @@
 -- Texts that are put into bytes one behind the other.
 use Rattle.std.proofs.Common.{◌≡◌, ℕ, ◌+◌, ◌-◌, ◌≤◌, ◌<◌, List, [], ◌∷◌, ◌++◌, length, get_or, take, drop, sym, ap, subst, ◌∙◌, append_assoc, append-nil, arith}
-use borrow.Rule.Slice.PartMut.{put_mid, post_of}
+use borrow.Rule.Slice.PartMut.{put_mid}
 use Rattle.std.specs.List.{flat_map}
-use Rattle.std.proofs.lemmas.List.{length-append, length-take-le, length-drop, take_rest, take_more, take-append-drop, drop_all, drop-drop, take_at, drop_at, take_all}
+use Rattle.std.proofs.lemmas.List.{length-append, length-take-le, length-drop, take_more, take-append-drop, drop_all, drop-drop, take_at, drop_at, take_all}
 use Rattle.std.proofs.lemmas.List.Concat.{flat_map-append}
 use Rattle.krb_keytab.specs.Inner.Putting.{Puts}
 
 -- ---- one text
-
-pub puts_front : (old : List ℕ) (at : ℕ) (text part : List ℕ) → at + length text ≤ length old → part ≡ text ++ drop (length text) (take (length old - at) (drop at old)) → Puts old at text (put_mid at (length old - at) old part)
-puts_front old at text part room e =
-    let behind : drop (length text) (take (length old - at) (drop at old)) ≡ drop (at + length text) old = ap (drop (length text)) (take_rest old at) ∙ drop-drop (length text) at old in
-    let none : post_of at (length old - at) old ≡ [] = drop_all (length old - at) (drop at old) (omega (arith, length-drop at old)) in
-    record {
-      room = room;
-      new_is =
-          ap (λ (t : List ℕ). take at old ++ (part ++ t)) none
-          ∙ ap (λ (t : List ℕ). take at old ++ t) (append-nil part ∙ e ∙ ap (λ (t : List ℕ). text ++ t) behind);
-    }
 
 pub puts_mid : (old : List ℕ) (at k : ℕ) (text part : List ℕ) → at + length text ≤ length old → k ≡ length text → part ≡ text → Puts old at text (put_mid at k old part)
 puts_mid old at k text part room size e = record {

@@ -1,11 +1,11 @@
 -- What stands at a place is read there.
-use Rattle.std.proofs.Common.{◌≡◌, ℕ, zero, suc, ℤ, pos, negsuc, ◌+◌, ◌<◌, ◌≤◌, ◌^◌, Bool, true, false, cond, leb, List, [], ◌∷◌, ◌++◌, length, take, drop, Option, Some, None, Result, Ok, Err, refl, ap, ◌∙◌, append_assoc, arith, inl, inr, nat_abs}
-use Rattle.std.specs.Int.{w8, w16, w32, from_be_bytes, cast_signed}
+use Rattle.std.proofs.Common.{◌≡◌, ℕ, zero, suc, ℤ, pos, negsuc, ◌+◌, ◌<◌, ◌≤◌, ◌^◌, List, [], ◌∷◌, ◌++◌, length, None, Result, Ok, Err, refl, ap, ◌∙◌, append_assoc, arith, inl, inr, nat_abs}
+use Rattle.std.specs.Int.{w8, w16, w32}
 use Rattle.std.specs.Prelude.{FitsSigned}
 use Rattle.std.specs.List.{flat_map}
-use Rattle.std.proofs.lemmas.Bool.{leb-false, ne_eqb, lt-leb}
+use Rattle.std.proofs.lemmas.Bool.{ne_eqb, lt-leb}
 use Rattle.std.proofs.lemmas.List.{length-append}
-use Rattle.krb_name.specs.Cursor.{Place, ◌>>=◌, bytes_at, number_at, signed_at, number_bytes, signed_bytes, data_bytes}
+use Rattle.krb_name.specs.Cursor.{Place, bytes_at, number_at, signed_at, number_bytes, signed_bytes, data_bytes}
 use Rattle.krb_name.proofs.CursorLaws.{IsField-bytes, IsField-i32}
 use Rattle.krb_keytab.specs.Entry.{KeytabEntry}
 use Rattle.krb_keytab.specs.Format.{entry_bytes, IsEntry, KeytabRecord, hole, entry, record_bytes, FitsRecord, IsEnd, IsCutOff}
@@ -16,27 +16,6 @@ use Rattle.krb_keytab.specs.declared.found.Found.TheVariants.{End, Hole, Entry}
 use Rattle.krb_keytab.specs.Inner.Entry.{entry_at}
 use Rattle.krb_keytab.specs.Inner.Reading.{record_at, size_in, sized_at, hole_in, body_in, entry_in}
 use Rattle.krb_keytab.proofs.EntryLaws.{again_entry}
-
--- ---- fewer bytes than a size has
-
-none_bytes : {A : Type 0} (b : Bool) (x : A) → cond b (Some x) None ≡ None → b ≡ false
-none_bytes true x e = absurd cc
-none_bytes false x e = refl
-
-none_then : {A B : Type 0} (read : Option A) (f : A → B) → (read >>= λ x. Some (f x)) ≡ None → read ≡ None
-none_then None f e = refl
-none_then (Some x) f e = absurd cc
-
-short_bytes : (count : ℕ) (place : Place) → bytes_at count place ≡ None → length place.rest < count
-unfolding bytes_at
-short_bytes count place e = let f = none_bytes (leb count (length place.rest)) (take count place.rest, record { at = place.at + count; rest = drop count place.rest }) e in leb-false _ _ f
-
-pub short_size : (place : Place) → signed_at w32 place ≡ None → length place.rest < 4
-unfolding signed_at number_at
-short_size place e =
-    let f : number_at w32 place ≡ None = none_then (number_at w32 place) (λ read. (cast_signed w32 read.0, read.1)) e in
-    let g : bytes_at 4 place ≡ None = none_then (bytes_at 4 place) (λ read. (from_be_bytes w32 read.0, read.1)) f in
-    short_bytes 4 place g
 
 -- ---- what stands at a place is read
 

@@ -1,7 +1,6 @@
 -- Where a reader stands after what it met.
 use Rattle.std.proofs.Common.{◌≡◌, ℕ, pos, ◌+◌, ◌-◌, ◌≤◌, Bool, List, [], ◌∷◌, ◌++◌, length, take, Option, Some, None, Result, Ok, Err, refl, sym, ap, subst, ◌∙◌, append_assoc, append-nil, arith, inl, inr}
 use Rattle.std.specs.Int.{w32}
-use Rattle.std.specs.Option.{is_some}
 use Rattle.std.specs.List.{flat_map}
 use Rattle.std.specs.Io.KnownBytes.{Consumes}
 use Rattle.std.proofs.KnownBytes.{Consumes-nil, Consumes-trans}
@@ -14,8 +13,7 @@ use Rattle.krb_keytab.specs.Entry.{KeytabEntry}
 use Rattle.krb_name.specs.File.{file_limit}
 use Rattle.krb_keytab.specs.Format.{version, KeytabRecord, hole, entry, entry_bytes, record_bytes, FitsRecord, entries_of, IsReached}
 use Rattle.krb_keytab.specs.Items.{LacksVersion, LacksRecord, Stops, StopsSo, IsTooLong, Concludes, AreFirst, EndsWithEntry, StandsTo, IsPartOfRecord, HasMet, HasRead, EntriesRead, passed, stage_after, stage_passed, entries_after, GivesMore}
-use Rattle.krb_keytab.specs.Inner.Feed.{nothing_of}
-use Rattle.krb_keytab.specs.Inner.Meeting.{Moves, Peaks, RanOut, OpensAt, MeetsVersion, IsWhole, IsLastAt, IsLongAt, MeetsLast, MeetsOne, PassesHoles, MeetsNext, keeping, MeetsKept, MeetsPast, MeetsFirst, IsWithin}
+use Rattle.krb_keytab.specs.Inner.Meeting.{Moves, Peaks, RanOut, OpensAt, MeetsVersion, IsWhole, IsLastAt, IsLongAt, MeetsLast, MeetsOne, PassesHoles, HasReached, IsFirst, MeetsBehind, MeetsNext, keeping, MeetsKept, MeetsFirst, IsWithin}
 use Rattle.krb_keytab.specs.declared.fault.KeytabFault.{KeytabFault}
 use Rattle.krb_keytab.specs.declared.fault.KeytabFault.TheVariants.{Version, Truncated, BadEntry, TooLong, NoSuchEntry, Read, OutOfMemory}
 use Rattle.krb_keytab.specs.declared.found.Found.{Found}
@@ -222,14 +220,14 @@ next_by of_entry from mid to old between new found answer P h m meets within mor
   low = λ l. m.peaks.low (h.low l);
   within = within;
   more = more;
-  stands = λ bytes entries given limit reached.
+  stands = λ bytes entries b.
       let some : List ℕ = bytes ++ h.piece in
-      let here = come from mid old between bytes h.piece h.moves given in
+      let here = come from mid old between bytes h.piece h.moves b.given_is in
       subst (λ (t : List ℕ). StandsTo to new.peak (stage_after answer) t (entries_after entries answer)) (append_assoc bytes h.piece m.piece)
-      (ends some entries (h.reaches bytes entries given reached) (omega (arith, here, h.limit)) (subst P here meets));
-  met = λ bytes entries given reached was.
+      (ends some entries (h.reaches bytes entries b.given_is b.reached) (omega (arith, here, h.limit)) (subst P here meets));
+  met = λ bytes entries b was.
       subst (λ (t : List ℕ). HasMet t new.peak) (append_assoc bytes h.piece m.piece)
-      (met_record (bytes ++ h.piece) m.piece entries between.peak new.peak (h.reaches bytes entries given reached) m.peaks (h.met bytes entries given reached was));
+      (met_record (bytes ++ h.piece) m.piece entries between.peak new.peak (h.reaches bytes entries b.given_is b.reached) m.peaks (h.met bytes entries b.given_is b.reached was));
 }
 
 module _ {S E : Type 0} (of_entry : KeytabEntry → E) (from mid to : Option (List ℕ)) (old between new : AtHand S) (h : PassesHoles from mid old between) where
@@ -267,28 +265,7 @@ kept_whole (Ok None) = refl
 kept_whole (Err fault) = refl
 
 -- the entry itself
-pub next_read : {S : Type 0} (from to : Option (List ℕ)) (old new : AtHand S) (said : Result (Option KeytabEntry) KeytabFault) → MeetsKept (λ e. e) from to old new said → MeetsNext from to old new said
-next_read from to old new said m = subst (MeetsNext from to old new) (sym (m.said_is ∙ kept_whole m.answer)) m.meets
-
 -- that there is one
-pub next_passed : {S : Type 0} (from to : Option (List ℕ)) (old new : AtHand S) (found : Option (Unit {0})) → MeetsKept nothing_of from to old new (Ok found) → MeetsPast from to old new (Ok (is_some found))
-next_passed from to old new found m = record { answer = m.answer; said_is = same found m.answer m.said_is; meets = m.meets }
-  where
-    same : (found : Option (Unit {0})) (answer : Result (Option KeytabEntry) KeytabFault) → Ok found ≡ keeping nothing_of answer → Ok (is_some found) ≡ passed answer
-    same None (Ok None) e = refl
-    same (Some unit) (Ok (Some one)) e = refl
-    same None (Ok (Some one)) e = absurd cc
-    same (Some unit) (Ok None) e = absurd cc
-    same found (Err fault) e = absurd cc
-
-pub passed_fault : {S : Type 0} (from to : Option (List ℕ)) (old new : AtHand S) (fault : KeytabFault) → MeetsKept nothing_of from to old new (Err fault) → MeetsPast from to old new (Err fault)
-passed_fault from to old new fault m = record { answer = m.answer; said_is = same m.answer m.said_is; meets = m.meets }
-  where
-    same : (answer : Result (Option KeytabEntry) KeytabFault) → Err fault ≡ keeping nothing_of answer → Err fault ≡ passed answer
-    same (Ok (Some e)) q = absurd cc
-    same (Ok None) q = absurd cc
-    same (Err other) q = let one : other ≡ fault = cc in ap (λ (f : KeytabFault). told_of (Err f)) (sym one)
-
 -- ---- the first answer
 
 more_after : (old between new : ℕ) (answer : Result (Option KeytabEntry) KeytabFault) → old ≤ between → GivesMore answer between new → GivesMore answer old new
@@ -299,9 +276,11 @@ more_after old between new (Err fault) within more = tt
 pub first_next : {S : Type 0} (from mid to : Option (List ℕ)) (old between new : AtHand S) (opened : Unit) (answer : Result (Option KeytabEntry) KeytabFault) → OpensAt from mid old between (Ok opened) → old.given ≡ 0
     → MeetsNext mid to between new answer → MeetsFirst from to old new answer
 first_next from mid to old between new opened answer o start n =
-    let here : between.given ≡ length o.piece = omega (arith, o.moves.given, start) in
-    let few : length o.piece ≡ 2 = ap length o.meets in
-    let reached : IsReached o.piece (length o.piece) [] [] = subst (λ (t : List ℕ). IsReached t (length t) [] []) (sym o.meets) (reach_start version [] refl) in
+    let behind : HasReached between.given o.piece [] = record {
+      given_is = omega (arith, o.moves.given, start);
+      limit = omega (arith, ap length o.meets);
+      reached = subst (λ (t : List ℕ). IsReached t (length t) [] []) (sym o.meets) (reach_start version [] refl);
+    } in
     record {
       piece = o.piece ++ n.piece;
       moves = moves_on from mid to old between new o.piece n.piece o.moves n.moves;
@@ -309,8 +288,8 @@ first_next from mid to old between new opened answer o start n =
       low = λ l. n.low (o.peaks.low l);
       within = n.within;
       more = more_after old.given between.given new.given answer (omega (arith, start)) n.more;
-      stands = n.stands o.piece [] here (omega (arith, few)) reached;
-      met = λ m. n.met o.piece [] here reached (met_version o.piece old.peak between.peak o.peaks m);
+      stands = λ bytes entries none. rw (none.0, none.1) (n.stands o.piece [] behind);
+      met = λ bytes entries none was. rw none.0 (n.met o.piece [] behind (met_version o.piece old.peak between.peak o.peaks (rw none.0 at was)));
     }
 
 version_stands : (left : Option (List ℕ)) (held : ℕ) (piece : List ℕ) (fault : KeytabFault) → MeetsVersion left piece (Err fault) → StandsTo left held (stage_after (Err fault)) piece []
@@ -330,42 +309,42 @@ first_fault from to old new fault o start = record {
   low = o.peaks.low;
   within = o.moves.limit (omega (arith, start));
   more = tt;
-  stands = version_stands to new.peak o.piece fault o.meets;
-  met = λ m. met_version o.piece old.peak new.peak o.peaks m;
+  stands = λ bytes entries none. rw (none.0, none.1) (version_stands to new.peak o.piece fault o.meets);
+  met = λ bytes entries none was. rw none.0 (met_version o.piece old.peak new.peak o.peaks (rw none.0 at was));
 }
 
 -- ---- what a reader has read
 
+-- what a reader has read, once it has given the next answer
+abbrev HasReadOn : {S : Type 0} → Option (List ℕ) → Option (List ℕ) → AtHand S → Result (Option KeytabEntry) KeytabFault → List ℕ → List KeytabEntry → Type 0
+HasReadOn from to new answer bytes entries =
+    (piece : List ℕ) × Consumes from to piece × HasRead to (record { source = new.source; held = new.peak; given = new.given; stage = stage_after answer }) (bytes ++ piece) (entries_after entries answer)
+
+read_behind : {S : Type 0} (CameBefore : List ℕ → List KeytabEntry → Type 0) (from to : Option (List ℕ)) (reader : EntriesRead S) (old new : AtHand S) (answer : Result (Option KeytabEntry) KeytabFault) → reader.held ≡ old.peak → MeetsBehind CameBefore from to old new answer
+    → (bytes : List ℕ) (entries : List KeytabEntry) → CameBefore bytes entries → old.given ≡ length bytes → HasRead from reader bytes entries → HasReadOn from to new answer bytes entries
+read_behind CameBefore from to reader old new answer held m bytes entries before here r = (
+  m.piece,
+  m.moves.consumed,
+  record {
+    given = omega (arith, m.moves.given, here, length-append bytes m.piece);
+    stands = m.stands bytes entries before;
+    held = m.met bytes entries before (subst (HasMet bytes) held r.held);
+  },
+)
+
 pub read_first : {S : Type 0} (from to : Option (List ℕ)) (reader : EntriesRead S) (old new : AtHand S) (answer : Result (Option KeytabEntry) KeytabFault) → reader.stage ≡ Start → reader.held ≡ old.peak → MeetsFirst from to old new answer → old.given ≡ 0
-    → (bytes : List ℕ) (entries : List KeytabEntry) → HasRead from reader bytes entries
-    → (piece : List ℕ) × Consumes from to piece × HasRead to (record { source = new.source; held = new.peak; given = new.given; stage = stage_after answer }) (bytes ++ piece) (entries_after entries answer)
+    → (bytes : List ℕ) (entries : List KeytabEntry) → HasRead from reader bytes entries → HasReadOn from to new answer bytes entries
 read_first from to reader old new answer stage held m start bytes entries r =
     let none = subst (λ (s : Stage). StandsTo from reader.held s bytes entries) stage r.stands in
-    let empty : bytes ++ m.piece ≡ m.piece = ap (λ (t : List ℕ). t ++ m.piece) none.0 in (
-      m.piece,
-      m.moves.consumed,
-      record {
-        given = omega (arith, m.moves.given, start, ap length empty);
-        stands = subst (λ (t : List ℕ). StandsTo to new.peak (stage_after answer) t (entries_after entries answer)) (sym empty) (subst (λ (e : List KeytabEntry). StandsTo to new.peak (stage_after answer) m.piece (entries_after e answer)) (sym none.1) m.stands);
-        held = subst (λ (t : List ℕ). HasMet t new.peak) (sym empty) (m.met (subst (λ (n : ℕ). HasMet [] n) held (subst (λ (t : List ℕ). HasMet t reader.held) none.0 r.held)));
-      },
-    )
+    read_behind IsFirst from to reader old new answer held m bytes entries none (omega (arith, start, ap length none.0)) r
 
 pub read_next : {S : Type 0} (from to : Option (List ℕ)) (reader : EntriesRead S) (old new : AtHand S) (answer : Result (Option KeytabEntry) KeytabFault) → reader.stage ≡ Records → reader.held ≡ old.peak → reader.given ≡ old.given → MeetsNext from to old new answer
-    → (bytes : List ℕ) (entries : List KeytabEntry) → HasRead from reader bytes entries
-    → (piece : List ℕ) × Consumes from to piece × HasRead to (record { source = new.source; held = new.peak; given = new.given; stage = stage_after answer }) (bytes ++ piece) (entries_after entries answer)
+    → (bytes : List ℕ) (entries : List KeytabEntry) → HasRead from reader bytes entries → HasReadOn from to new answer bytes entries
 read_next from to reader old new answer stage held given m bytes entries r =
     let stands = subst (λ (s : Stage). StandsTo from reader.held s bytes entries) stage r.stands in
-    let reached : IsReached bytes (length bytes) entries [] = ends_reached reader.held bytes entries stands.0 stands.1 in
-    let here : old.given ≡ length bytes = sym given ∙ r.given in (
-      m.piece,
-      m.moves.consumed,
-      record {
-        given = omega (arith, m.moves.given, here, length-append bytes m.piece);
-        stands = m.stands bytes entries here stands.0 reached;
-        held = m.met bytes entries here reached (subst (HasMet bytes) held r.held);
-      },
-    )
+    let here : old.given ≡ length bytes = sym given ∙ r.given in
+    let behind : HasReached old.given bytes entries = record { given_is = here; limit = stands.0; reached = ends_reached reader.held bytes entries stands.0 stands.1 } in
+    read_behind (HasReached old.given) from to reader old new answer held m bytes entries behind here r
 
 -- the same answer, and no byte more
 pub read_again : {S : Type 0} (left : Option (List ℕ)) (reader : EntriesRead S) (bytes : List ℕ) (entries : List KeytabEntry) → HasRead left reader bytes entries → (piece : List ℕ) × Consumes left left piece × HasRead left reader (bytes ++ piece) entries
@@ -373,8 +352,7 @@ read_again left reader bytes entries r = ([], Consumes-nil left, subst (λ (t : 
 
 -- what is answered says only whether there is an entry
 pub read_past : {S : Type 0} (from to : Option (List ℕ)) (reader : EntriesRead S) (new : AtHand S) (said : Result Bool KeytabFault) (answer : Result (Option KeytabEntry) KeytabFault) → said ≡ passed answer
-    → ((bytes : List ℕ) (entries : List KeytabEntry) → HasRead from reader bytes entries
-    → (piece : List ℕ) × Consumes from to piece × HasRead to (record { source = new.source; held = new.peak; given = new.given; stage = stage_after answer }) (bytes ++ piece) (entries_after entries answer))
+    → ((bytes : List ℕ) (entries : List KeytabEntry) → HasRead from reader bytes entries → HasReadOn from to new answer bytes entries)
     → (bytes : List ℕ) (entries : List KeytabEntry) → HasRead from reader bytes entries
     → (as_next : Result (Option KeytabEntry) KeytabFault) × (said ≡ passed as_next) × (piece : List ℕ) × Consumes from to piece
     × HasRead to (record { source = new.source; held = new.peak; given = new.given; stage = stage_passed said }) (bytes ++ piece) (entries_after entries as_next)

@@ -3,7 +3,7 @@ use Rattle.std.specs.Prelude.{ℕ, Option, Some, None, Result, Err}
 use Rattle.krb_keytab.specs.declared.fault.KeytabFault.{KeytabFault}
 use Rattle.krb_keytab.specs.declared.fault.KeytabFault.TheVariants.{Truncated, BadEntry, Read, OutOfMemory}
 use Rattle.krb_name.specs.declared.reading.ReadFault.{ReadFault}
-use Rattle.krb_name.specs.declared.reading.ReadFault.TheVariants as source
+use Rattle.krb_name.specs.File.{fault_of_read}
 
 -- the offset of the record at fault
 abbrev pub offset_of : KeytabFault → Option ℕ
@@ -13,8 +13,7 @@ offset_of _ = None
 
 -- the same fault, for a source that was read
 abbrev pub source_fault : ReadFault → KeytabFault
-source_fault source.Read = Read
-source_fault source.OutOfMemory = OutOfMemory
+source_fault fault = fault_of_read OutOfMemory Read fault
 
 -- how many failed reads an answer reports
 abbrev pub failed_reads : {T : Type 0} → Result T KeytabFault → ℕ

@@ -9,13 +9,10 @@ ghost use Rattle.krb_keytab.specs.declared.fault.KeytabFault.{KeytabFault};
 
 use crate::entry::Entry;
 use crate::fault::KeytabFault;
-use crate::feed::Feed;
-use crate::finding::{next_record, open};
-use crate::found::Found;
+use crate::finding::{Extent, Gather, Room, read_all};
 use crate::keytab::fault_of;
-use crate::writing::{fill_in, put_record};
-use krb_name::FILE_LIMIT;
-use std::alloc::Global;
+use crate::writing::put_in;
+use std::alloc::{AllocError, Global};
 use std::marker::Model;
 
 /// The bytes of a keytab, to which entries are added one after another. A contract sees it as the
@@ -92,14 +89,12 @@ impl EntryAdder {
         let size = entry.record_length();
         match take_hole(&mut self.holes, size) {
             Some(hole) => {
-                fill_in(&mut self.file, hole.from, hole.from + hole.size, entry);
-                Ok(())
+                let to = hole.from + hole.size;
+                let from = hole.from;
+                put_in(&mut self.file, Room::Hole(Extent { from, to }), entry)
             }
             None => {
-                if FILE_LIMIT - self.end < size {
-                    return Err(KeytabFault::TooLong);
-                }
-                put_record(&mut self.file, self.end, entry)?;
+                put_in(&mut self.file, Room::End(self.end), entry)?;
                 self.end += size;
                 Ok(())
             }
@@ -133,18 +128,30 @@ fn find_holes(alloc: Global, bytes: &[u8]) -> Result<(Vec<Hole>, usize), KeytabF
     ensures fault { IfErr result (λ fault.
         fault ≢ KeytabFault.OutOfMemory → IsFaultOf bytes.now fault) }
 {
-    let mut slice = open(bytes)?;
     let mut holes = Vec::new(alloc);
-    loop {
-        let from = slice.given();
-        match next_record(&mut slice)? {
-            Found::End => return Ok((holes, from)),
-            Found::Entry(()) => {}
-            Found::Hole => {
-                let size = slice.given() - from;
-                holes.push(Hole { from, size })?;
-            }
-        }
+    let end = read_all(bytes, &mut holes)?;
+    Ok((holes, end))
+}
+
+impl Gather for Vec<Hole> {
+    ghost use Rattle.std.specs.Prelude.{⊤, length};
+    ghost use Rattle.krb_keytab.specs.Format.{version};
+    ghost use Rattle.krb_keytab.specs.Inner.Room.{holes_of};
+
+    ghost has = { λ start records now. now.items ≡ holes_of (length version) records };
+
+    ghost allocates = { ⊤ };
+
+    fn hole(&mut self, place: Extent) -> Result<(), AllocError> {
+        let size = place.to - place.from;
+        Ok(self.push(Hole {
+            from: place.from,
+            size,
+        })?)
+    }
+
+    fn entry(&mut self, _place: Extent) -> Result<(), AllocError> {
+        Ok(())
     }
 }
 

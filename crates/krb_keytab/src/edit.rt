@@ -8,10 +8,9 @@ ghost use Rattle.krb_keytab.specs.declared.fault.KeytabFault.{KeytabFault};
 
 use crate::entry::Entry;
 use crate::fault::KeytabFault;
-use crate::finding::{Room, find_entry, find_room};
+use crate::finding::{find_entry, find_room};
 use crate::keytab::Keytab;
-use crate::writing::{clear_in, fill_in, put_record};
-use krb_name::FILE_LIMIT;
+use crate::writing::{clear_in, put_in};
 
 impl Keytab {
     /// Removes the entry `index`, counted from 0 among the entries, from the bytes of a file. Its
@@ -77,19 +76,7 @@ impl Keytab {
             → WouldGrow file.old.items entry.now (λ count. vec_capacity file.old < count) }
         ensures err { OnErr result (VecUnchanged file.old file.new) }
     {
-        let size = entry.record_length();
-        match find_room(file, size)? {
-            Room::Hole(hole) => {
-                fill_in(file, hole.from, hole.to, entry);
-                Ok(())
-            }
-            Room::End(end) => {
-                if FILE_LIMIT - end < size {
-                    return Err(KeytabFault::TooLong);
-                }
-                put_record(file, end, entry)?;
-                Ok(())
-            }
-        }
+        let room = find_room(file, entry.record_length())?;
+        put_in(file, room, entry)
     }
 }

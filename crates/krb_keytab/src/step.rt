@@ -1,6 +1,6 @@
 //! Reading a keytab record by record, with one record in memory.
 
-ghost use Rattle.std.specs.Prelude.{◌≡◌, ◌≢◌, ◌⊎◌, ◌+◌, ◌-◌, ◌^◌, ◌<◌, ◌≤◌, pos, int_lt, true, false, FitsSigned, unsigned_abs, length, IfOk, IfErr, OnErr, MatchOption, None, Some, Err};
+ghost use Rattle.std.specs.Prelude.{◌≡◌, ◌≢◌, ◌⊎◌, ◌+◌, ◌-◌, ◌^◌, ◌<◌, ◌≤◌, pos, neg_ℤ, true, false, FitsSigned, unsigned_abs, length, IfOk, IfErr, OnErr, MatchOption, None, Some, Err};
 ghost use Rattle.std.specs.Int.{w32};
 ghost use Rattle.krb_name.specs.Cursor.{signed_bytes};
 ghost use Rattle.krb_name.specs.Field.{IsBytes};
@@ -123,10 +123,17 @@ pub(crate) fn read_record<F: Feed, K: Keep>(
     ensures lent { F.lender feed.new ≡ F.lender feed.old }
 {
     let at = feed.given();
-    match read_size(feed)? {
-        None => Ok(Found::End),
-        Some(size) if size < 0 => pass_hole(feed, at, size),
-        Some(size) => read_body(feed, at, size, keep),
+    let Some(size) = read_size(feed)? else {
+        return Ok(Found::End);
+    };
+    let count = size.unsigned_abs() as usize;
+    if count > FILE_LIMIT - feed.given() {
+        return conclude(feed, Err(KeytabFault::Truncated { at }));
+    }
+    if size < 0 {
+        pass_hole(feed, at, count)
+    } else {
+        read_content(feed, at, count, keep)
     }
 }
 
@@ -182,54 +189,47 @@ fn size_of(bytes: &[u8]) -> Result<i32, Short>
     FileCursor::new(bytes).read_i32()
 }
 
-// Takes the bytes of a hole, after its size.
-fn pass_hole<F: Feed, E: Drop>(feed: &mut F, at: usize, size: i32) -> Result<Found<E>, KeytabFault>
+// Takes the `count` bytes of a hole.
+fn pass_hole<F: Feed, E: Drop>(
+    feed: &mut F,
+    at: usize,
+    count: usize,
+) -> Result<Found<E>, KeytabFault>
     requires reads { F.failure_count feed.old < 2 ^ 64 - 1 }
-    requires limit { (F.at_hand feed.old).given ≤ file_limit }
     requires at { (F.at_hand feed.old).given ≡ at + 4 }
-    requires fits { FitsSigned w32 size }
-    requires hole { int_lt size (pos 0) ≡ true }
+    requires some { 0 < count }
+    requires limit { at + 4 + count ≤ file_limit }
     ensures meets { (of_entry : KeytabEntry → E) → MeetsBody of_entry
         (F.remaining feed.old) (F.remaining feed.new)
-        (F.at_hand feed.old) (F.at_hand feed.new) at size result }
+        (F.at_hand feed.old) (F.at_hand feed.new) at (neg_ℤ (pos count)) result }
     ensures kept { (F.at_hand feed.new).bytes ≡ (F.at_hand feed.old).bytes }
     ensures memory { result ≢ Err KeytabFault.OutOfMemory }
     ensures failed { F.failure_count feed.new ≡ F.failure_count feed.old + failed_reads result }
     ensures lent { F.lender feed.new ≡ F.lender feed.old }
 {
-    let count = size.unsigned_abs() as usize;
-    if count > FILE_LIMIT - feed.given() {
-        return conclude(feed, Err(KeytabFault::Truncated { at }));
-    }
     if !feed.skip(count)? {
         return Err(KeytabFault::Truncated { at });
     }
     Ok(Found::Hole)
 }
 
-// Reads the bytes of an entry, after their size.
-fn read_body<F: Feed, K: Keep>(
+// Reads the `count` bytes of an entry.
+fn read_content<F: Feed, K: Keep>(
     feed: &mut F,
     at: usize,
-    size: i32,
+    count: usize,
     keep: &K,
 ) -> Result<Found<K::Kept>, KeytabFault>
     requires reads { F.failure_count feed.old < 2 ^ 64 - 1 }
-    requires limit { (F.at_hand feed.old).given ≤ file_limit }
     requires at { (F.at_hand feed.old).given ≡ at + 4 }
-    requires fits { FitsSigned w32 size }
-    requires entry { int_lt size (pos 0) ≡ false }
-    requires some { 0 < unsigned_abs size }
-    ensures meets { MeetsBody K.kept_of (F.remaining feed.old)
-        (F.remaining feed.new) (F.at_hand feed.old) (F.at_hand feed.new) at size result }
+    requires some { 0 < count }
+    requires limit { at + 4 + count ≤ file_limit }
+    ensures meets { MeetsBody K.kept_of (F.remaining feed.old) (F.remaining feed.new)
+        (F.at_hand feed.old) (F.at_hand feed.new) at (pos count) result }
     ensures memory { result ≡ Err KeytabFault.OutOfMemory → F.allocates ⊎ K.allocates }
     ensures failed { F.failure_count feed.new ≡ F.failure_count feed.old + failed_reads result }
     ensures lent { F.lender feed.new ≡ F.lender feed.old }
 {
-    let count = size.unsigned_abs() as usize;
-    if count > FILE_LIMIT - feed.given() {
-        return conclude(feed, Err(KeytabFault::Truncated { at }));
-    }
     if !feed.hold(count)? {
         return Err(KeytabFault::Truncated { at });
     }

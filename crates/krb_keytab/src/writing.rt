@@ -1,24 +1,28 @@
 //! Writing records into existing bytes.
 
-ghost use Rattle.std.specs.Prelude.{◌≡◌, ◌+◌, ◌-◌, ◌<◌, ◌≤◌, ◌^◌, OnErr, OnOk, All, length, take, ◌++◌, vec_capacity};
-ghost use Rattle.std.specs.Int.{w8, w16, w32};
+ghost use Rattle.std.specs.Prelude.{◌≡◌, ◌+◌, ◌-◌, ◌<◌, ◌≤◌, ◌^◌, IfErr, OnErr, OnOk, Err, All, length, take, ◌++◌, vec_capacity};
+ghost use Rattle.std.specs.Int.{w16, bytes_high_first};
 ghost use Rattle.std.specs.List.{flat_map};
 ghost use Rattle.std.specs.Vec.{VecUnchanged};
-ghost use Rattle.krb_name.specs.Cursor.{number_bytes, signed_bytes, data_bytes};
+ghost use Rattle.krb_name.specs.Cursor.{data_bytes};
 ghost use Rattle.krb_keytab.specs.Entry.{LengthsFit, FitsEntry};
 ghost use Rattle.krb_keytab.specs.Format.{record_bytes};
 ghost use Rattle.krb_keytab.specs.Written.{padded_record, written_record, record_length};
-ghost use Rattle.krb_keytab.specs.Edit.{zero_hole};
+ghost use Rattle.krb_keytab.specs.Edit.{zero_hole, AddsEntry, GainsEntry, WouldGrow, WouldPass, IsUnadded};
+ghost use Rattle.krb_keytab.specs.Inner.Finding.{IsFoundRoom};
+ghost use Rattle.krb_keytab.specs.Inner.Room.{PutsIn};
 ghost use Rattle.krb_keytab.specs.Inner.Putting.{Puts, body_bytes};
 
 use crate::entry::Entry;
+use crate::fault::KeytabFault;
+use crate::finding::Room;
 use byteorder::{BigEndian, ByteOrder};
-use krb_name::Bytes;
+use krb_name::{Bytes, FILE_LIMIT};
 use std::alloc::AllocError;
 
-/// Makes the bytes between two offsets a record of `entry`: its size, the entry, and zeros to the
-/// end.
-pub(crate) fn fill_in(file: &mut Vec<u8>, from: usize, to: usize, entry: &Entry)
+// Makes the bytes between two offsets a record of `entry`: its size, the entry, and zeros to the
+// end.
+fn fill_in(file: &mut Vec<u8>, from: usize, to: usize, entry: &Entry)
     requires lengths { LengthsFit entry.now.principal entry.now.key }
     requires room { from + record_length entry.now ≤ to }
     requires within { to ≤ length file.old.items }
@@ -55,6 +59,39 @@ pub(crate) fn put_record(file: &mut Vec<u8>, at: usize, entry: &Entry) -> Result
     Ok(())
 }
 
+/// Puts the record of `entry` into the room that was found for it.
+///
+/// # Errors
+/// None if the room is a hole. After each, `file` is unchanged.
+/// - `TooLong`: the longer file would have more than 16,777,216 bytes.
+/// - `OutOfMemory`: there is no memory for the longer file.
+pub(crate) fn put_in(file: &mut Vec<u8>, room: Room, entry: &Entry) -> Result<(), KeytabFault>
+    requires { IsFoundRoom file.old.items (record_length entry.now) room }
+    ensures puts { PutsIn room entry.now file.old.items file.new.items result }
+    ensures ok { OnOk result (AddsEntry file.old.items entry.now file.new.items) }
+    ensures list { OnOk result (GainsEntry file.old.items entry.now file.new.items) }
+    ensures too_long { WouldPass file.old.items entry.now → result ≡ Err KeytabFault.TooLong }
+    ensures unadded { IfErr result (IsUnadded file.old.items entry.now) }
+    ensures memory { result ≡ Err KeytabFault.OutOfMemory
+        → WouldGrow file.old.items entry.now (λ count. vec_capacity file.old < count) }
+    ensures err { OnErr result (VecUnchanged file.old file.new) }
+{
+    let size = entry.record_length();
+    match room {
+        Room::Hole(hole) => {
+            fill_in(file, hole.from, hole.to, entry);
+            Ok(())
+        }
+        Room::End(end) => {
+            if FILE_LIMIT - end < size {
+                return Err(KeytabFault::TooLong);
+            }
+            put_record(file, end, entry)?;
+            Ok(())
+        }
+    }
+}
+
 // Makes the bytes a record of `entry`: its size, the entry, and zeros to the end.
 fn fill_record(out: &mut [u8], entry: &Entry)
     requires lengths { LengthsFit entry.now.principal entry.now.key }
@@ -64,7 +101,7 @@ fn fill_record(out: &mut [u8], entry: &Entry)
     ensures fits { FitsEntry entry.now }
 {
     let size = out.len() - 4;
-    let at = put_i32(out, 0, size as i32);
+    let at = put_number(out, 0, (size as i32).cast_unsigned(), 4);
     let behind = put_entry(out, at, entry);
     out[behind..].fill(0);
 }
@@ -76,7 +113,7 @@ fn clear_record(out: &mut [u8])
     ensures { out.new ≡ record_bytes (zero_hole (length out.old - 4)) }
 {
     let size = out.len() - 4;
-    let at = put_i32(out, 0, -(size as i32));
+    let at = put_number(out, 0, (-(size as i32)).cast_unsigned(), 4);
     out[at..].fill(0);
 }
 
@@ -89,15 +126,15 @@ fn put_entry(out: &mut [u8], at: usize, entry: &Entry) -> usize
 {
     let name = entry.principal();
     let components = name.components.as_slice();
-    let at = put_u16(out, at, components.len() as u16);
+    let at = put_number(out, at, components.len() as u32, 2);
     let at = put_data16(out, at, name.realm.as_slice());
     let at = put_components(out, at, components);
-    let at = put_i32(out, at, entry.name_type());
-    let at = put_u32(out, at, entry.timestamp());
-    let at = put_u8(out, at, (entry.kvno() % 256) as u8);
-    let at = put_i16(out, at, entry.etype());
+    let at = put_number(out, at, entry.name_type().cast_unsigned(), 4);
+    let at = put_number(out, at, entry.timestamp(), 4);
+    let at = put_number(out, at, entry.kvno() % 256, 1);
+    let at = put_number(out, at, u32::from(entry.etype().cast_unsigned()), 2);
     let at = put_data16(out, at, entry.key());
-    put_u32(out, at, entry.kvno())
+    put_number(out, at, entry.kvno(), 4)
 }
 
 fn put_components(out: &mut [u8], at: usize, components: &[Bytes]) -> usize
@@ -119,53 +156,21 @@ fn put_data16(out: &mut [u8], at: usize, bytes: &[u8]) -> usize
     ensures puts { Puts out.old at (data_bytes w16 bytes.now) out.new }
     ensures behind { result ≡ at + length (data_bytes w16 bytes.now) }
 {
-    let from = put_u16(out, at, bytes.len() as u16);
+    let from = put_number(out, at, bytes.len() as u32, 2);
     let to = from + bytes.len();
     out[from..to].copy_from_slice(bytes);
     to
 }
 
-fn put_u8(out: &mut [u8], at: usize, number: u8) -> usize
-    requires { at + 1 ≤ length out.old }
-    ensures puts { Puts out.old at (number_bytes w8 number) out.new }
-    ensures behind { result ≡ at + 1 }
+// Writes a number of so many bytes.
+fn put_number(out: &mut [u8], at: usize, number: u32, count: usize) -> usize
+    requires some { 1 ≤ count }
+    requires most { count ≤ 4 }
+    requires fits { number < 256 ^ count }
+    requires room { at + count ≤ length out.old }
+    ensures puts { Puts out.old at (bytes_high_first count number) out.new }
+    ensures behind { result ≡ at + count }
 {
-    out[at] = number;
-    at + 1
-}
-
-fn put_u16(out: &mut [u8], at: usize, number: u16) -> usize
-    requires { at + 2 ≤ length out.old }
-    ensures puts { Puts out.old at (number_bytes w16 number) out.new }
-    ensures behind { result ≡ at + 2 }
-{
-    BigEndian::write_u16(&mut out[at..], number);
-    at + 2
-}
-
-fn put_i16(out: &mut [u8], at: usize, number: i16) -> usize
-    requires { at + 2 ≤ length out.old }
-    ensures puts { Puts out.old at (signed_bytes w16 number) out.new }
-    ensures behind { result ≡ at + 2 }
-{
-    BigEndian::write_i16(&mut out[at..], number);
-    at + 2
-}
-
-fn put_u32(out: &mut [u8], at: usize, number: u32) -> usize
-    requires { at + 4 ≤ length out.old }
-    ensures puts { Puts out.old at (number_bytes w32 number) out.new }
-    ensures behind { result ≡ at + 4 }
-{
-    BigEndian::write_u32(&mut out[at..], number);
-    at + 4
-}
-
-fn put_i32(out: &mut [u8], at: usize, number: i32) -> usize
-    requires { at + 4 ≤ length out.old }
-    ensures puts { Puts out.old at (signed_bytes w32 number) out.new }
-    ensures behind { result ≡ at + 4 }
-{
-    BigEndian::write_i32(&mut out[at..], number);
-    at + 4
+    BigEndian::write_uint(&mut out[at..], u64::from(number), count);
+    at + count
 }

@@ -1,8 +1,9 @@
 -- Made from messages.toml by packaging/messages.py. Don't edit this file.
--- The values of messages that are read in place: each field by its name.
+-- The values of messages that are read in place: their fields in the order of their numbers, with
+-- a tt for each constant.
 use Rattle.std.specs.Option.{option_map}
 use Rattle.krb_der.specs.Kind.{ValueOf}
-use Rattle.krb_msg.specs.Fields.{encrypted_value, ticket_value, authenticator_value, enc_ticket_part_value, ap_req_value, ap_rep_value, enc_ap_rep_part_value, krb_error_value}
+use Rattle.krb_msg.specs.Parts.{◌▸◌}
 use Rattle.krb_msg.specs.Module.{encrypted_data, ticket, authenticator, enc_ticket_part, ap_req, ap_rep, enc_ap_rep_part, krb_error}
 use Rattle.krb_msg.specs.declared.ticket.EncryptedRef.{EncryptedRef}
 use Rattle.krb_msg.specs.declared.ticket.TicketRef.{TicketRef}
@@ -16,75 +17,28 @@ use Rattle.krb_msg.specs.PartsBorrowed.{name_of, typed_of, key_of}
 pub use Rattle.krb_msg.specs.PartsBorrowed.{name_of, typed_of, key_of}
 
 abbrev pub encrypted_of : EncryptedRef → ValueOf encrypted_data
-encrypted_of m = encrypted_value (record {
-  etype = m.etype;
-  kvno = m.kvno;
-  cipher = m.cipher.now;
-})
+encrypted_of m = m.etype ▸ m.kvno ▸ m.cipher.now ▸ tt
 
 abbrev pub ticket_of : TicketRef → ValueOf ticket
-ticket_of m = ticket_value (record {
-  realm = m.realm.now;
-  sname = name_of m.sname;
-  enc_part = encrypted_of m.enc_part;
-})
+ticket_of m = tt ▸ m.realm.now ▸ name_of m.sname ▸ encrypted_of m.enc_part ▸ tt
 
 abbrev pub authenticator_of : AuthenticatorRef → ValueOf authenticator
-authenticator_of m = authenticator_value (record {
-  crealm = m.crealm.now;
-  cname = name_of m.cname;
-  checksum = option_map typed_of m.checksum;
-  cusec = m.cusec;
-  ctime = m.ctime;
-  subkey = option_map key_of m.subkey;
-  seq_number = m.seq_number;
-  authorization = m.authorization;
-})
+authenticator_of m = tt ▸ m.crealm.now ▸ name_of m.cname ▸ option_map typed_of m.checksum ▸ m.cusec ▸ m.ctime ▸ option_map key_of m.subkey ▸
+    m.seq_number ▸ m.authorization ▸ tt
 
 abbrev pub enc_ticket_part_of : EncTicketRef → ValueOf enc_ticket_part
-enc_ticket_part_of m = enc_ticket_part_value (record {
-  flags = m.flags.0;
-  key = key_of m.key;
-  crealm = m.crealm.now;
-  cname = name_of m.cname;
-  transited = typed_of m.transited;
-  authtime = m.authtime;
-  starttime = m.starttime;
-  endtime = m.endtime;
-  renew_till = m.renew_till;
-  caddr = m.caddr;
-  authorization = m.authorization;
-})
+enc_ticket_part_of m = m.flags.0 ▸ key_of m.key ▸ m.crealm.now ▸ name_of m.cname ▸ typed_of m.transited ▸ m.authtime ▸ m.starttime ▸
+    m.endtime ▸ m.renew_till ▸ m.caddr ▸ m.authorization ▸ tt
 
 abbrev pub ap_req_of : ApReqRef → ValueOf ap_req
-ap_req_of m = ap_req_value (record {
-  options = m.options.0;
-  ticket = ticket_of m.ticket;
-  authenticator = encrypted_of m.authenticator;
-})
+ap_req_of m = tt ▸ tt ▸ m.options.0 ▸ ticket_of m.ticket ▸ encrypted_of m.authenticator ▸ tt
 
 abbrev pub ap_rep_of : ApRepRef → ValueOf ap_rep
-ap_rep_of m = ap_rep_value (encrypted_of m.enc_part)
+ap_rep_of m = tt ▸ tt ▸ encrypted_of m.enc_part ▸ tt
 
 abbrev pub enc_ap_rep_part_of : EncApRepRef → ValueOf enc_ap_rep_part
-enc_ap_rep_part_of m = enc_ap_rep_part_value (record {
-  ctime = m.ctime;
-  cusec = m.cusec;
-  subkey = option_map key_of m.subkey;
-  seq_number = m.seq_number;
-})
+enc_ap_rep_part_of m = m.ctime ▸ m.cusec ▸ option_map key_of m.subkey ▸ m.seq_number ▸ tt
 
 abbrev pub krb_error_of : KrbErrorRef → ValueOf krb_error
-krb_error_of m = krb_error_value (record {
-  ctime = m.ctime;
-  cusec = m.cusec;
-  stime = m.stime;
-  susec = m.susec;
-  error_code = m.error_code;
-  crealm = option_map (λ x. x.now) m.crealm;
-  cname = option_map name_of m.cname;
-  realm = m.realm.now;
-  sname = name_of m.sname;
-  e_text = option_map (λ x. x.now) m.e_text;
-  e_data = option_map (λ x. x.now) m.e_data;
-})
+krb_error_of m = tt ▸ tt ▸ m.ctime ▸ m.cusec ▸ m.stime ▸ m.susec ▸ m.error_code ▸ option_map (λ x. x.now) m.crealm ▸
+    option_map name_of m.cname ▸ m.realm.now ▸ name_of m.sname ▸ option_map (λ x. x.now) m.e_text ▸ option_map (λ x. x.now) m.e_data ▸ tt

@@ -1,7 +1,7 @@
 -- Made from messages.toml by packaging/messages.py. Don't edit this file.
--- The values of messages by the names of their fields (RFC 4120, sections 5.2 to 5.9). For each
--- kind: the fields that vary; the value that they make, which nests them in pairs, in the order of
--- their numbers, with a tt for each constant; and each field of a value.
+-- The values of messages by the names of their fields (RFC 4120, sections 5.2 to 5.9): fields of a
+-- value; and where values are made, a record of the fields that vary, and the value that they make,
+-- which nests them in pairs, in the order of their numbers, with a tt for each constant.
 use Rattle.std.specs.Prelude.{ℕ, ℤ, List, Option}
 use Rattle.krb_name.specs.declared.principal.Principal.{Principal}
 use Rattle.krb_der.specs.Kind.{leaf, octets, ValueOf}
@@ -28,14 +28,6 @@ abbrev pub cipher_of : ValueOf encrypted_data → List ℕ
 cipher_of v = v.1.1.0
 
 -- ---- Ticket (section 5.3)
-pub record TicketFields : Type 0 where
-  pub realm : List ℕ
-  pub sname : ValueOf principal_name
-  pub enc_part : ValueOf encrypted_data
-
-abbrev pub ticket_value : TicketFields → ValueOf ticket
-ticket_value f = tt ▸ f.realm ▸ f.sname ▸ f.enc_part ▸ tt
-
 abbrev pub realm_of : ValueOf ticket → List ℕ
 realm_of v = v.1.0
 
@@ -92,23 +84,6 @@ abbrev pub authenticator_client : ValueOf authenticator → Principal
 authenticator_client v = principal_in (authenticator_crealm v) (authenticator_cname v)
 
 -- ---- EncTicketPart (section 5.3)
-pub record PartFields : Type 0 where
-  pub flags : ℕ
-  pub key : ValueOf encryption_key
-  pub crealm : List ℕ
-  pub cname : ValueOf principal_name
-  pub transited : ValueOf transited_encoding
-  pub authtime : ℤ
-  pub starttime : Option ℤ
-  pub endtime : ℤ
-  pub renew_till : Option ℤ
-  pub caddr : Option (List (ValueOf (typed (leaf octets))))
-  pub authorization : Option (List (ValueOf (typed (leaf octets))))
-
-abbrev pub enc_ticket_part_value : PartFields → ValueOf enc_ticket_part
-enc_ticket_part_value f =
-    f.flags ▸ f.key ▸ f.crealm ▸ f.cname ▸ f.transited ▸ f.authtime ▸ f.starttime ▸ f.endtime ▸ f.renew_till ▸ f.caddr ▸ f.authorization ▸ tt
-
 abbrev pub flags_of : ValueOf enc_ticket_part → ℕ
 flags_of v = v.0
 
@@ -208,42 +183,8 @@ pub record ErrorFields : Type 0 where
   pub e_data : Option (List ℕ)
 
 abbrev pub krb_error_value : ErrorFields → ValueOf krb_error
-krb_error_value f =
-    tt ▸ tt ▸ f.ctime ▸ f.cusec ▸ f.stime ▸ f.susec ▸ f.error_code ▸ f.crealm ▸ f.cname ▸ f.realm ▸ f.sname ▸ f.e_text ▸ f.e_data ▸ tt
-
-abbrev pub error_ctime : ValueOf krb_error → Option ℤ
-error_ctime v = v.1.1.0
-
-abbrev pub error_cusec : ValueOf krb_error → Option ℕ
-error_cusec v = v.1.1.1.0
-
-abbrev pub error_stime : ValueOf krb_error → ℤ
-error_stime v = v.1.1.1.1.0
-
-abbrev pub error_susec : ValueOf krb_error → ℕ
-error_susec v = v.1.1.1.1.1.0
+krb_error_value f = tt ▸ tt ▸ f.ctime ▸ f.cusec ▸ f.stime ▸ f.susec ▸ f.error_code ▸ f.crealm ▸ f.cname ▸ f.realm ▸ f.sname ▸ f.e_text ▸
+    f.e_data ▸ tt
 
 abbrev pub error_code : ValueOf krb_error → ℤ
 error_code v = v.1.1.1.1.1.1.0
-
-abbrev pub error_crealm : ValueOf krb_error → Option (List ℕ)
-error_crealm v = v.1.1.1.1.1.1.1.0
-
-abbrev pub error_cname : ValueOf krb_error → Option (ValueOf principal_name)
-error_cname v = v.1.1.1.1.1.1.1.1.0
-
-abbrev pub error_realm : ValueOf krb_error → List ℕ
-error_realm v = v.1.1.1.1.1.1.1.1.1.0
-
-abbrev pub error_sname : ValueOf krb_error → ValueOf principal_name
-error_sname v = v.1.1.1.1.1.1.1.1.1.1.0
-
-abbrev pub error_text : ValueOf krb_error → Option (List ℕ)
-error_text v = v.1.1.1.1.1.1.1.1.1.1.1.0
-
-abbrev pub error_data : ValueOf krb_error → Option (List ℕ)
-error_data v = v.1.1.1.1.1.1.1.1.1.1.1.1.0
-
--- the service: realm and sname
-abbrev pub error_service : ValueOf krb_error → Principal
-error_service v = principal_in (error_realm v) (error_sname v)

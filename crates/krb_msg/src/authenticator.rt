@@ -6,6 +6,7 @@ ghost use Rattle.std.specs.Option.{option_map};
 ghost use Rattle.krb_der.specs.Kind.{leaf, must, may, ends, field, seq_number, microseconds, time};
 ghost use Rattle.krb_der.specs.Reading.{Parses};
 ghost use Rattle.krb_der.specs.Writing.{IsEncoded};
+ghost use Rattle.krb_msg.specs.Parts.{◌▸◌};
 ghost use Rattle.krb_msg.specs.Borrowed.{authenticator_of, typed_of, key_of};
 ghost use Rattle.krb_msg.specs.Module.{authenticator, encryption_key, checksum, authorization_data};
 ghost use Rattle.krb_msg.specs.Owned.{owned_authenticator_of};
@@ -106,10 +107,8 @@ impl<'a> Row<'a> for AuthenticatorTail<'a> {
         (must (field 5 (leaf time)) (may (field 6 encryption_key) (may (field 7 (leaf seq_number))
         (may (field 8 authorization_data) ends))))) };
 
-    ghost view = { λ t. (
-      option_map typed_of t.checksum,
-      (t.cusec, (t.ctime, (option_map key_of t.subkey, (t.seq_number, (t.authorization, tt))))),
-    ) };
+    ghost view = { λ t. option_map typed_of t.checksum ▸ t.cusec ▸ t.ctime ▸
+        option_map key_of t.subkey ▸ t.seq_number ▸ t.authorization ▸ tt };
 
     fn read_row(content: Cursor<'a>) -> Result<AuthenticatorTail<'a>, Fault> {
         let row: Result<AuthenticatorTailRow<'a>, Fault> = Row::read_row(content);

@@ -4,6 +4,7 @@
 ghost use Rattle.std.specs.Prelude.{refl, ◌≡◌, IfOk};
 ghost use Rattle.krb_der.specs.Kind.{leaf, must, may, ends, field, time};
 ghost use Rattle.krb_der.specs.Reading.{Parses};
+ghost use Rattle.krb_msg.specs.Parts.{◌▸◌};
 ghost use Rattle.krb_msg.specs.Borrowed.{enc_ticket_part_of, typed_of};
 ghost use Rattle.krb_msg.specs.Module.{enc_ticket_part, sequence_of, host_address, authorization_data, transited_encoding};
 ghost use Rattle.krb_msg.specs.Owned.{owned_enc_ticket_part_of};
@@ -119,10 +120,8 @@ impl<'a> Row<'a> for EncTicketTail<'a> {
         (may (field 6 (leaf time)) (must (field 7 (leaf time)) (may (field 8 (leaf time))
         (may (field 9 (sequence_of host_address)) (may (field 10 authorization_data) ends)))))) };
 
-    ghost view = { λ t. (
-      typed_of t.transited,
-      (t.authtime, (t.starttime, (t.endtime, (t.renew_till, (t.caddr, (t.authorization, tt)))))),
-    ) };
+    ghost view = { λ t. typed_of t.transited ▸ t.authtime ▸ t.starttime ▸ t.endtime ▸ t.renew_till ▸
+        t.caddr ▸ t.authorization ▸ tt };
 
     fn read_row(content: Cursor<'a>) -> Result<EncTicketTail<'a>, Fault> {
         let row: Result<EncTicketTailRow<'a>, Fault> = Row::read_row(content);

@@ -4,6 +4,7 @@
 ghost use Rattle.std.specs.Option.{option_map};
 ghost use Rattle.krb_der.specs.Kind.{leaf, must, may, ends, field, int32, octets, string};
 ghost use Rattle.krb_der.specs.Writing.{IsEncoded};
+ghost use Rattle.krb_msg.specs.Parts.{◌▸◌};
 ghost use Rattle.krb_msg.specs.Module.{krb_error, principal_name};
 ghost use Rattle.krb_msg.specs.Owned.{owned_krb_error_of, principal_name_of, owned_name_of};
 
@@ -52,22 +53,9 @@ impl EncodeRow for KrbErrorTail<'_> {
         (may (field 8 principal_name) (must (field 9 (leaf string)) (must (field 10 principal_name)
         (may (field 11 (leaf string)) (may (field 12 (leaf octets)) ends)))))) };
 
-    ghost view = { λ t. (
-      t.0.now.error_code,
-      (
-        t.0.now.crealm,
-        (
-          option_map owned_name_of t.0.now.cname,
-          (
-            t.0.now.service.realm,
-            (
-              principal_name_of t.0.now.service,
-              (t.0.now.e_text, (option_map (λ x. x.items) t.0.now.e_data, tt)),
-            ),
-          ),
-        ),
-      ),
-    ) };
+    ghost view = { λ t. t.0.now.error_code ▸ t.0.now.crealm ▸ option_map owned_name_of t.0.now.cname ▸
+        t.0.now.service.realm ▸ principal_name_of t.0.now.service ▸ t.0.now.e_text ▸
+        option_map (λ x. x.items) t.0.now.e_data ▸ tt };
 
     fn write_row(&self, out: &mut Writer) -> Result<(), EncodeFault> {
         let rest = (Maybe::<0xac, _>(octets_in(&self.0.e_data)), ());

@@ -5,6 +5,7 @@ ghost use Rattle.std.specs.Prelude.{refl, ◌≡◌, IfOk};
 ghost use Rattle.std.specs.Option.{option_map};
 ghost use Rattle.krb_der.specs.Kind.{leaf, must, may, ends, field, int32, octets, string};
 ghost use Rattle.krb_der.specs.Reading.{Parses};
+ghost use Rattle.krb_msg.specs.Parts.{◌▸◌};
 ghost use Rattle.krb_msg.specs.Borrowed.{krb_error_of, name_of};
 ghost use Rattle.krb_msg.specs.Module.{krb_error, principal_name};
 ghost use Rattle.krb_msg.specs.Owned.{owned_krb_error_of};
@@ -126,22 +127,9 @@ impl<'a> Row<'a> for KrbErrorTail<'a> {
         (may (field 8 principal_name) (must (field 9 (leaf string)) (must (field 10 principal_name)
         (may (field 11 (leaf string)) (may (field 12 (leaf octets)) ends)))))) };
 
-    ghost view = { λ t. (
-      t.error_code,
-      (
-        option_map (λ x. x.now) t.crealm,
-        (
-          option_map name_of t.cname,
-          (
-            t.realm.now,
-            (
-              name_of t.sname,
-              (option_map (λ x. x.now) t.e_text, (option_map (λ x. x.now) t.e_data, tt)),
-            ),
-          ),
-        ),
-      ),
-    ) };
+    ghost view = { λ t. t.error_code ▸ option_map (λ x. x.now) t.crealm ▸ option_map name_of t.cname ▸
+        t.realm.now ▸ name_of t.sname ▸ option_map (λ x. x.now) t.e_text ▸
+        option_map (λ x. x.now) t.e_data ▸ tt };
 
     fn read_row(content: Cursor<'a>) -> Result<KrbErrorTail<'a>, Fault> {
         let row: Result<KrbErrorTailRow<'a>, Fault> = Row::read_row(content);

@@ -2,6 +2,7 @@ pub mod Names
 pub mod TextLaws
 pub mod Moves
 pub mod CursorLaws
+pub mod ShortLaws
 pub mod EscapeLaws
 pub mod NameReading
 pub mod Symbols

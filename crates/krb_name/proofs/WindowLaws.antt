@@ -1,10 +1,11 @@
 -- Bytes that come piece by piece, and are at hand or passed over.
-use Rattle.std.proofs.Common.{◌≡◌, ℕ, ◌+◌, ◌≤◌, List, ◌++◌, length, take, replicate, Option, sym, ap, ◌∙◌, append_assoc, arith}
+use Rattle.std.proofs.Common.{◌≡◌, ℕ, ◌+◌, ◌-◌, ◌≤◌, List, ◌++◌, length, take, replicate, Option, Result, Ok, sym, ap, ◌∙◌, append_assoc, arith}
 use Rattle.std.specs.Prelude.{max}
 use Rattle.std.proofs.lemmas.List.{length-append, take-take, take_all, take_at, take-append-le}
 use Rattle.std.proofs.Math.Seq.{take-append-add}
 use Rattle.std.proofs.KnownBytes.{Consumes-trans}
 use Rattle.krb_name.specs.Window.{AtHand, Keeps, Skips}
+use Rattle.krb_name.specs.Inner.Window.{ComesOnce, ComesSoFar}
 
 pub skips_more : {S : Type 0} (a b c : Option (List ℕ)) (old mid new : AtHand S) (p q : List ℕ) → Skips a b old mid p → Skips b c mid new q → Skips a c old new (p ++ q)
 skips_more a b c old mid new p q f s = record {
@@ -23,6 +24,22 @@ keeps_more a b c old mid new p q f s = record {
   bytes = s.bytes ∙ ap (λ (t : List ℕ). t ++ q) f.bytes ∙ append_assoc old.bytes p q;
   peak = higher old.peak mid.peak new.peak (length mid.bytes) (length new.bytes) (omega (arith, ap length s.bytes, length-append mid.bytes q)) f.peak s.peak;
   given = omega (arith, f.given, s.given, length-append p q);
+}
+
+abbrev ok_of : (E : Type 0) → ℕ → Result ℕ E
+ok_of E came = Ok came
+
+pub one_more : {S E : Type 0} (Comes : Option (List ℕ) → Option (List ℕ) → AtHand S → AtHand S → List ℕ → Type 0)
+    → ((a b c : Option (List ℕ)) (old mid new : AtHand S) (p q : List ℕ) → Comes a b old mid p → Comes b c mid new q → Comes a c old new (p ++ q))
+    → (remaining : S → Option (List ℕ)) (failure_count lender : S → ℕ) (old mid new : AtHand S) (count left came : ℕ)
+    → ComesSoFar Comes remaining failure_count lender old mid count left → ComesOnce Comes (remaining mid.source) (remaining new.source) mid new left (ok_of E came)
+    → failure_count new.source ≡ failure_count mid.source + 0 → lender new.source ≡ lender mid.source → ComesSoFar Comes remaining failure_count lender old new count (left - came)
+one_more Comes join remaining failure_count lender old mid new count left came first second failed lent = record {
+  piece = first.piece ++ second.piece;
+  comes = join _ _ _ _ _ _ first.piece second.piece first.comes second.comes;
+  counted = omega (arith, first.counted, second.one.0, second.one.1, length-append first.piece second.piece);
+  unfailed = omega (arith, failed, first.unfailed);
+  lent = lent ∙ first.lent;
 }
 
 -- ---- one read into the room behind the bytes at hand

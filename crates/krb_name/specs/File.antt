@@ -2,10 +2,17 @@
 -- answered.
 use Rattle.std.specs.Prelude.{◌≡◌, ◌≢◌, ◌⊎◌, ℕ, ◌+◌, ◌≤◌, List, length, Option, Some, Result, Ok, Err, IfOk, IfErr, IfSome, OnOk}
 use Rattle.std.specs.Io.KnownBytes.{Consumes, IsAtEnd}
+use Rattle.krb_name.specs.declared.reading.ReadFault.{ReadFault}
+use Rattle.krb_name.specs.declared.reading.ReadFault.TheVariants.{Read, OutOfMemory}
 
 -- how many bytes a file may have
 abbrev pub file_limit : ℕ
 file_limit = 16777216
+
+-- the fault of a file whose source couldn't be read: the first if memory ran out, else the second
+abbrev pub fault_of_read : {F : Type 0} → F → F → ReadFault → F
+fault_of_read memory failed OutOfMemory = memory
+fault_of_read memory failed Read = failed
 
 -- a source gave at most so many bytes; what is left is a tail of what it still had
 pub record TakesAtMost (old new : Option (List ℕ)) (count : ℕ) : Type 0 where

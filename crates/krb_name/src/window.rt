@@ -2,8 +2,8 @@
 
 ghost use Rattle.std.specs.Prelude.{◌≡◌, ◌+◌, ◌-◌, ◌^◌, ◌<◌, ◌≤◌, [], length, is_ok, if◌then◌else◌};
 ghost use Rattle.krb_name.specs.Flow.{failed_reads};
-ghost use Rattle.krb_name.specs.Window.{Fills, Passes, RunsOut};
-ghost use Rattle.krb_name.specs.Inner.Window.{ReadsBehind, KeepsSome, SkipsSome};
+ghost use Rattle.krb_name.specs.Window.{Keeps, Skips, Fills, Passes, RunsOut};
+ghost use Rattle.krb_name.specs.Inner.Window.{ReadsBehind, ComesOnce};
 
 use crate::reading::ReadFault;
 use crate::source::{Source, SourceFailed};
@@ -191,7 +191,7 @@ impl<S: Source> Window<S> {
         requires reads { S.failure_count self.old.source < 2 ^ 64 - 1 }
         requires some { 0 < most }
         requires most { self.old.given + most < 2 ^ 64 }
-        ensures keeps { KeepsSome (S.remaining self.old.source) (S.remaining self.new.source)
+        ensures keeps { ComesOnce Keeps (S.remaining self.old.source) (S.remaining self.new.source)
             self.old self.new most result }
         ensures failed { S.failure_count self.new.source
             ≡ S.failure_count self.old.source + failed_reads result }
@@ -208,7 +208,7 @@ impl<S: Source> Window<S> {
         requires reads { S.failure_count self.old.source < 2 ^ 64 - 1 }
         requires some { 0 < most }
         requires most { self.old.given + most < 2 ^ 64 }
-        ensures skips { SkipsSome (S.remaining self.old.source) (S.remaining self.new.source)
+        ensures skips { ComesOnce Skips (S.remaining self.old.source) (S.remaining self.new.source)
             self.old self.new most result }
         ensures failed { S.failure_count self.new.source
             ≡ S.failure_count self.old.source + (if is_ok result then 0 else 1) }

@@ -36,6 +36,10 @@ passed_on {F = F} wrap memory source read result met fault is passed one =
       | inr b ↦ elim b [ inl e ↦ inr (inl (passes memory e)) | inr e ↦ inr (inr (passes source e)) ]
     ]
 
+pub fault_kept : {X Y F : Type 0} (memory source : F) (read : Result X F) (result : Result Y F) (met fault : F)
+    → read ≡ Err met → result ≡ Err met → IsOneOf read fault memory source → IsOneOf result fault memory source
+fault_kept {F = F} memory source read result met fault is kept one = passed_on (λ (f : F). f) memory source read result met fault is kept one
+
 pub none_met : {X F : Type 0} (memory source : F) (read : Result X F) (value : X) (fault : F) → read ≡ Ok value
     → IsOneOf read fault memory source → ⊥
 none_met memory source read value fault is one =

@@ -5,7 +5,7 @@ pub mod FormatLaws
 pub mod FileLaws
 pub mod CallLaws
 pub mod GoingLaws
-pub mod CountLaws
+pub mod WalkLaws
 pub mod EndLaws
 pub mod CommandLaws
 pub mod RequestLaws

@@ -1,4 +1,4 @@
-pub mod Counting
+pub mod Walk
 pub mod Moments
 pub mod Held
 pub mod Going

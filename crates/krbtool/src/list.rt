@@ -4,31 +4,35 @@ ghost use Rattle.std.specs.Prelude.{◌≡◌, ◌⊎◌, ◌+◌, ◌-◌, ◌^
 ghost use Rattle.std.specs.Io.KnownBytes.{Appends, Keeps};
 ghost use Rattle.krb_name.specs.File.{TakesFile};
 ghost use Rattle.krb_name.specs.Flow.{AppendsBeginning};
-ghost use Rattle.krbtool.specs.Lines.{keytab_line, keytab_lines, credential_line, config_line, ticket_line, times_of, names_of, head_lines, cache_lines};
+ghost use Rattle.krbtool.specs.Lines.{keytab_line, keytab_lines, credential_line, config_line, ticket_line, times_of, names_of, cache_lines};
 ghost use Rattle.krbtool.specs.Engine.{FailsBy, IsContent, IsOfFile, OfFile, failed_reads, failed_writes};
 
 use crate::fault::EngineFault;
 use crate::format::FileFormat;
-use crate::line::{Line, write_lines};
+use crate::line::Line;
+use crate::lines::{lines_of_ccache, lines_of_keytab};
 use krb_ccache::{CCache, Credential};
 use krb_keytab::{Entry, Keytab};
-use krb_name::{Principal, Sink, Source, write_all};
+use krb_name::{Sink, Source, write_all};
 use std::alloc::{AllocError, Global};
 use std::fmt::Write;
 
-/// How the value of a file is listed.
-pub trait Listing<F> {
-    // What is written of it.
+/// How a file is listed.
+pub trait Listing<F: FileFormat> {
+    // What is written of its value.
     ghost text: { Self → F → List ℕ };
 
-    /// Writes it.
-    fn write<T: Sink>(&self, alloc: Global, value: &F, sink: &mut T) -> Result<(), EngineFault>
-        requires { T.failure_count sink.old < 2 ^ 64 - 1 }
-        ensures ok { OnOk result (Appends (T.taken sink.old) (T.taken sink.new) (text self.now value.now)) }
-        ensures err { OnErr result
-            (AppendsBeginning (T.taken sink.old) (T.taken sink.new) (text self.now value.now)) }
-        ensures which { IfErr result (λ e. (e ≡ EngineFault.Write) ⊎ (e ≡ EngineFault.OutOfMemory)) }
-        ensures writes { T.failure_count sink.new ≡ T.failure_count sink.old + failed_writes result };
+    /// Reads a file to its end, or to one byte past 16,777,216, and returns what is written of it.
+    fn read_text<S: Source>(&self, alloc: Global, source: &mut S) -> Result<String, EngineFault>
+        requires { S.failure_count source.old < 2 ^ 64 - 1 }
+        ensures found { IfOk result (λ made.
+            OfFile F.is_file (S.remaining source.old) (λ value. string_bytes made ≡ text self.now value)) }
+        ensures fault { IfErr result (λ e. IsContent e → IfSome (S.remaining source.old) (λ given. F.is_fault_of given e)) }
+        ensures faulty { (given : List ℕ) (fault : EngineFault)
+            → S.remaining source.old ≡ Some given → F.is_fault_of given fault → FailsBy result fault }
+        ensures kind { IfErr result (λ e. F.is_of e × IsOfFile e) }
+        ensures reads { S.failure_count source.new ≡ S.failure_count source.old + failed_reads result }
+        ensures taken { TakesFile (S.remaining source.old) (S.remaining source.new) };
 }
 
 /// Lists a keytab or a credential cache: reads it and writes it in this way.
@@ -37,9 +41,9 @@ pub trait Listing<F> {
 /// was.
 ///
 /// # Errors
-/// - `Keytab` or `Cache`: what was read isn't such a file, or couldn't be read, or there was no room for it.
+/// - `Keytab` or `Cache`: what was read isn't such a file, or couldn't be read, or there was no room for it
+///   or for the text.
 /// - `Write`: the sink failed; it took a beginning of the text.
-/// - `OutOfMemory`: there was no room for the text; the sink took a beginning of it.
 ///
 /// Condition: fewer than 18,446,744,073,709,551,615 reads and writes have failed so far.
 pub fn list<F: FileFormat, L: Listing<F>, S: Source, T: Sink>(
@@ -64,13 +68,14 @@ pub fn list<F: FileFormat, L: Listing<F>, S: Source, T: Sink>(
     ensures begun { (result ≡ Err EngineFault.Write) ⊎ (result ≡ Err EngineFault.OutOfMemory)
         → OfFile F.is_file (S.remaining source.old) (λ value.
         AppendsBeginning (T.taken sink.old) (T.taken sink.new) (L.text listing.now value)) }
-    ensures kind { IfErr result (λ e. F.is_of e ⊎ ((e ≡ EngineFault.Write) ⊎ (e ≡ EngineFault.OutOfMemory))) }
+    ensures kind { IfErr result (λ e. F.is_of e ⊎ (e ≡ EngineFault.Write)) }
     ensures reads { S.failure_count source.new ≡ S.failure_count source.old + failed_reads result }
     ensures taken { TakesFile (S.remaining source.old) (S.remaining source.new) }
     ensures writes { T.failure_count sink.new ≡ T.failure_count sink.old + failed_writes result }
 {
-    let value = F::read_file(alloc, source)?;
-    listing.write(alloc, &value, sink)
+    let text = listing.read_text(alloc, source)?;
+    write_all(sink, text.as_bytes())?;
+    Ok(())
 }
 
 /// Lines for programs.
@@ -89,13 +94,9 @@ pub struct Lines;
 impl Listing<Keytab> for Lines {
     ghost text = { λ _ entries. keytab_lines entries };
 
-    fn write<T: Sink>(
-        &self,
-        alloc: Global,
-        value: &Keytab,
-        sink: &mut T,
-    ) -> Result<(), EngineFault> {
-        write_lines(alloc, value.entries(), sink)
+    fn read_text<S: Source>(&self, alloc: Global, source: &mut S) -> Result<String, EngineFault> {
+        let lines = lines_of_keytab(alloc, source)?;
+        Ok(lines)
     }
 }
 
@@ -115,51 +116,9 @@ impl Line for Entry {
 impl Listing<CCache> for Lines {
     ghost text = { λ _ cache. cache_lines cache };
 
-    fn write<T: Sink>(
-        &self,
-        alloc: Global,
-        value: &CCache,
-        sink: &mut T,
-    ) -> Result<(), EngineFault> {
-        write_head(alloc, value.default_principal(), value.kdc_offset(), sink)?;
-        match write_lines(alloc, value.credentials(), sink) {
-            Ok(()) => Ok(()),
-            Err(fault) => Err(fault),
-        }
-    }
-}
-
-fn write_head<T: Sink>(
-    alloc: Global,
-    name: &Principal,
-    offset: Option<(i32, i32)>,
-    sink: &mut T,
-) -> Result<(), EngineFault>
-    requires { T.failure_count sink.old < 2 ^ 64 - 1 }
-    ensures ok { OnOk result (Appends (T.taken sink.old) (T.taken sink.new) (head_lines name.now offset)) }
-    ensures err { OnErr result
-        (AppendsBeginning (T.taken sink.old) (T.taken sink.new) (head_lines name.now offset)) }
-    ensures which { IfErr result (λ e. (e ≡ EngineFault.Write) ⊎ (e ≡ EngineFault.OutOfMemory)) }
-    ensures writes { T.failure_count sink.new ≡ T.failure_count sink.old + failed_writes result }
-{
-    let lines = head_lines(alloc, name, offset)?;
-    write_all(sink, lines.as_bytes())?;
-    Ok(())
-}
-
-fn head_lines(
-    alloc: Global,
-    name: &Principal,
-    offset: Option<(i32, i32)>,
-) -> Result<String, AllocError>
-    ensures { IfOk result (λ lines. string_bytes lines ≡ head_lines name.now offset) }
-{
-    let name = name.to_text(alloc)?;
-    match offset {
-        Some((seconds, micros)) => {
-            format!(in alloc; "default {name}\noffset {seconds} {micros}\n")
-        }
-        None => format!(in alloc; "default {name}\n"),
+    fn read_text<S: Source>(&self, alloc: Global, source: &mut S) -> Result<String, EngineFault> {
+        let lines = lines_of_ccache(alloc, source)?;
+        Ok(lines)
     }
 }
 

@@ -22,6 +22,7 @@ mod finish;
 mod form;
 mod format;
 mod line;
+mod lines;
 mod list;
 mod part_line;
 mod pick;

@@ -1,16 +1,24 @@
 -- What the fields of a `KeySchedule` say: the first key_len bytes are its key, the words are those of the
--- key expansion, and the other keys are those of decryption.
-use Rattle.std.specs.Prelude.{◌≡◌, ℕ, ◌+◌, ◌*◌, ◌/◌, ◌<◌, ◌≤◌, List, length, map, take}
-use Rattle.krb_aes.specs.State.{inv_mix_columns}
+-- key expansion, and the others are the keys that the rounds of encryption and of decryption take.
+use Rattle.std.specs.Prelude.{◌≡◌, ℕ, ◌+◌, ◌*◌, ◌/◌, ◌<◌, ◌≤◌, List, length, map, replicate, take}
+use Rattle.krb_aes.specs.State.{add_round_key, inv_mix_columns}
 use Rattle.krb_aes.specs.KeyExpansion.{IsKey, key_expansion, round_key}
-use Rattle.krb_aes.specs.Inner.Tower.{inv_form}
+use Rattle.krb_aes.specs.Inner.Tower.{tower_form, inv_form}
+
+-- the constant of SubBytes and a round key, in the form that encryption keeps
+abbrev pub form_of_key : List ℕ → List ℕ
+form_of_key key = map tower_form (add_round_key (replicate 16 0x63) key)
+
+abbrev pub form_round_key : List ℕ → ℕ → List ℕ
+form_round_key w j = form_of_key (round_key w j)
 
 -- InvMixColumns of round key j of an expanded key, in the form that decryption keeps
 abbrev pub inv_round_key : List ℕ → ℕ → List ℕ
 inv_round_key w j = map inv_form (inv_mix_columns (round_key w j))
 
-pub record IsSchedule (key_len : ℕ) (words : List ℕ) (inv_words : List ℕ) : Type 0 where
+pub record IsSchedule (key_len : ℕ) (words form_words inv_words : List ℕ) : Type 0 where
   pub key_size : length (take key_len words) ≡ key_len
   pub key : IsKey (take key_len words)
   pub expanded : take (4 * key_len + 112) words ≡ key_expansion (take key_len words)
+  pub formed : (j : ℕ) → 1 ≤ j → j < key_len / 4 + 6 → round_key form_words j ≡ form_round_key (key_expansion (take key_len words)) j
   pub inverse : (j : ℕ) → 1 ≤ j → j < key_len / 4 + 6 → round_key inv_words j ≡ inv_round_key (key_expansion (take key_len words)) j

@@ -1,5 +1,5 @@
 -- What is read of the parts of a cache, and the place after it; nothing, if they aren't there.
-use Rattle.std.specs.Prelude.{ℕ, ◌==◌, ◌&&◌, not, Bool, true, false, ℤ, List, length, Option, Some, None, if◌then◌else◌}
+use Rattle.std.specs.Prelude.{ℕ, ◌==◌, ◌&&◌, not, Bool, true, ℤ, List, length, Option, Some, None, nat_le, if◌then◌else◌}
 use Rattle.std.specs.Int.{w8, w16, w32}
 use Rattle.krb_name.specs.Cursor.{Place, ◌>>=◌, bytes_at, number_at, signed_at, data_at, times_at}
 use Rattle.krb_name.specs.declared.principal.Principal.{Principal}
@@ -8,8 +8,7 @@ use Rattle.krb_ccache.specs.declared.credential.HeaderField.{HeaderField}
 use Rattle.krb_ccache.specs.declared.credential.Credential.{Credential}
 use Rattle.krb_ccache.specs.declared.layout.Layout.{Layout}
 use Rattle.krb_ccache.specs.declared.layout.Layout.TheVariants.{Version3, Version4}
-use Rattle.krb_ccache.specs.Spelling.{keyed_bytes}
-use Rattle.krb_ccache.specs.Format.{second_size, Spelled}
+use Rattle.krb_ccache.specs.Format.{second_size}
 
 -- ---- ways to join readings
 
@@ -67,14 +66,16 @@ name_at place = do
   components ← times_at (data_at w32) count.0 realm.1
   Some (record { realm = realm.0; name_type = name_type.0; components = components.0 }, components.1)
 
-abbrev pub flag_of : ℕ → Option Bool
-flag_of number = if number == 0 then Some false else (if number == 1 then Some true else None)
+-- the byte of a flag; where it is checked, it is 0 or 1
+abbrev pub is_flag : ℕ → Bool
+is_flag number = nat_le number 1
 
-unfoldable pub flag_at : Place → Option (Bool × Place)
-flag_at place = do
-  number ← number_at w8 place
-  flag ← flag_of number.0
-  Some (flag, number.1)
+-- whether it passes: what isn't checked always does
+abbrev pub allowed : Bool → Bool → Bool
+allowed strict good = if strict then good else true
+
+abbrev pub byte_at : Bool → Place → Option (ℕ × Place)
+byte_at strict = passing_at (λ number. allowed strict (is_flag number)) (number_at w8)
 
 abbrev pub typed_of : ℕ × List ℕ → TypedBytes
 typed_of parts = record { kind = parts.0; bytes = parts.1 }
@@ -85,13 +86,11 @@ typed_at place = made_at typed_of (both_at (number_at w16) (data_at w32)) place
 unfoldable pub list_at : Place → Option (List TypedBytes × Place)
 list_at place = counted_at typed_at place
 
--- a credential's fields in their order, and the bytes that come after its encryption type
-abbrev pub PartsOf : Type 0 → Type 0
-PartsOf Mark =
-    Principal × (Principal × (ℤ × (List ℕ × (List ℕ × (ℕ × (ℕ × (ℕ × (ℕ × (Mark × (ℕ × (List TypedBytes × (List TypedBytes × (List ℕ × List ℕ)))))))))))))
-
+-- a credential's fields in their order, with the bytes that come after its encryption type, and the
+-- byte of `is_skey`
 abbrev pub Parts : Type 0
-Parts = PartsOf Bool
+Parts =
+    Principal × (Principal × (ℤ × (List ℕ × (List ℕ × (ℕ × (ℕ × (ℕ × (ℕ × (ℕ × (ℕ × (List TypedBytes × (List TypedBytes × (List ℕ × List ℕ)))))))))))))
 
 abbrev pub credential_of : Parts → Credential
 credential_of (client, (server, (etype, (second, (key, (authtime, (starttime, (endtime, (renew_till, (is_skey, (ticket_flags, (addresses, (authdata, (ticket, second_ticket)))))))))))))) = record {
@@ -103,7 +102,7 @@ credential_of (client, (server, (etype, (second, (key, (authtime, (starttime, (e
   starttime = starttime;
   endtime = endtime;
   renew_till = renew_till;
-  is_skey = is_skey;
+  is_skey = is_skey == 1;
   ticket_flags = ticket_flags;
   addresses = addresses;
   authdata = authdata;
@@ -111,16 +110,8 @@ credential_of (client, (server, (etype, (second, (key, (authtime, (starttime, (e
   second_ticket = second_ticket;
 }
 
-abbrev pub spelled_of : Parts → Spelled
-spelled_of parts = record { bytes = keyed_bytes (credential_of parts) parts.1.1.1.0; credential = credential_of parts }
-
--- from the flags on
-abbrev pub tail_at : Place → Option ((ℕ × (List TypedBytes × (List TypedBytes × (List ℕ × List ℕ)))) × Place)
-tail_at = both_at (number_at w32) (both_at list_at (both_at list_at (both_at (data_at w32) (data_at w32))))
-
--- `is_skey` is read so
-abbrev pub parts_with : {Mark : Type 0} → (Place → Option (Mark × Place)) → Layout → Place → Option (PartsOf Mark × Place)
-parts_with mark_at layout =
+abbrev pub parts_at : Bool → Layout → Place → Option (Parts × Place)
+parts_at strict layout =
     both_at name_at
     (both_at name_at
     (both_at (signed_at w16)
@@ -130,14 +121,8 @@ parts_with mark_at layout =
     (both_at (number_at w32)
     (both_at (number_at w32)
     (both_at (number_at w32)
-    (both_at mark_at tail_at)))))))))
-
-abbrev pub parts_at : Layout → Place → Option (Parts × Place)
-parts_at layout = parts_with flag_at layout
-
-unfoldable pub credential_at : Layout → Place → Option (Credential × Place)
-credential_at layout place = made_at credential_of (parts_at layout) place
-
--- the same, with its bytes
-unfoldable pub spelled_at : Layout → Place → Option (Spelled × Place)
-spelled_at layout place = made_at spelled_of (parts_at layout) place
+    (both_at (byte_at strict)
+    (both_at (number_at w32)
+    (both_at list_at
+    (both_at list_at
+    (both_at (data_at w32) (data_at w32))))))))))))))

@@ -1,9 +1,10 @@
 -- What it means that parts of a cache stand at a place, or don't.
-use Rattle.std.specs.Prelude.{◌≡◌, ◌≢◌, ℕ, List, [], ◌++◌, Option, Some, All}
+use Rattle.std.specs.Prelude.{◌≡◌, ◌≢◌, ℕ, List, [], ◌++◌, All}
 use Rattle.std.specs.List.{flat_map}
 use Rattle.krb_name.specs.Cursor.{Place}
 use Rattle.krb_name.specs.Field.{Takes}
 use Rattle.krb_ccache.specs.declared.credential.HeaderField.{HeaderField}
+use Rattle.krb_ccache.specs.declared.credential.Credential.{Credential}
 use Rattle.krb_ccache.specs.declared.layout.Layout.{Layout}
 use Rattle.krb_ccache.specs.Spelling.{fields_bytes}
 use Rattle.krb_ccache.specs.Value.{FitsHeader}
@@ -21,10 +22,6 @@ pub record Reaches {X : Type 0} (spelled : X → List ℕ) (InRange : X → Type
   pub fit : All InRange xs
   pub takes : Takes place (flat_map spelled xs) behind
 
--- a place behind what was read
-abbrev pub IsBehind : {X : Type 0} → Option (X × Place) → Place → Type 0
-IsBehind {X} read place = (x : X) × (read ≡ Some (x, place))
-
 -- no thing that is in range stands at the front
 abbrev pub IsMissing : {X : Type 0} → (X → List ℕ) → (X → Type 0) → List ℕ → Type 0
 IsMissing {X} spelled InRange bytes = (x : X) (others : List ℕ) → InRange x → bytes ≢ spelled x ++ others
@@ -36,6 +33,14 @@ pub record Fills (body : List ℕ) (header : List HeaderField) : Type 0 where
 
 abbrev pub bytes_of : Spelled → List ℕ
 bytes_of one = one.bytes
+
+-- these bytes, that spell this credential
+abbrev pub spelled_as : List ℕ → Credential → Spelled
+spelled_as bytes credential = record { bytes = bytes; credential = credential }
+
+-- a credential lies between two places
+abbrev pub LiesOne : Layout → Place → Credential → Place → Type 0
+LiesOne layout place credential behind = (bytes : List ℕ) × Lies bytes_of (Spells layout) place (spelled_as bytes credential) behind
 
 -- behind whole credentials there are bytes, and no credential at their front
 pub record StopsAt (layout : Layout) (place : Place) (at : ℕ) : Type 0 where

@@ -4,7 +4,7 @@ use Rattle.std.specs.Io.KnownBytes.{Consumes, IsAtEnd}
 use Rattle.krb_name.specs.Window.{AtHand, Skips}
 use Rattle.krb_ccache.specs.declared.credential.Credential.{Credential}
 use Rattle.krb_ccache.specs.declared.layout.Layout.{Layout}
-use Rattle.krb_ccache.specs.Format.{Spelled, Spells}
+use Rattle.krb_ccache.specs.Format.{Spells}
 use Rattle.krb_name.specs.File.{file_limit}
 use Rattle.krb_ccache.specs.declared.fault.CacheFault.{CacheFault}
 use Rattle.krb_ccache.specs.declared.fault.CacheFault.TheVariants.{BadItem, TooLong, Read, OutOfMemory}
@@ -12,7 +12,7 @@ use Rattle.krb_ccache.specs.declared.item_fault.ItemFault.{ItemFault}
 use Rattle.krb_ccache.specs.declared.item_fault.ItemFault.TheVariants as item
 use Rattle.krb_ccache.specs.declared.walking.TakeFault.{TakeFault}
 use Rattle.krb_ccache.specs.declared.walking.TakeFault.TheVariants as stop
-use Rattle.krb_ccache.specs.Inner.Standing.{bytes_of}
+use Rattle.krb_ccache.specs.Inner.Standing.{bytes_of, spelled_as}
 
 abbrev pub item_stop : ItemFault → TakeFault
 item_stop item.Missing = stop.Long
@@ -80,10 +80,6 @@ pub record Misses {X S : Type 0} (spelled : X → List ℕ) (InRange : X → Typ
   pub some : (bytes : List ℕ) × Gives left old new bytes
   pub lacks : told ≢ Read → told ≢ OutOfMemory → Lacks spelled InRange left old new
   pub tells : told ≢ OutOfMemory → Tells left new fault told
-
--- these bytes, that spell this credential
-abbrev pub spelled_as : List ℕ → Credential → Spelled
-spelled_as bytes credential = record { bytes = bytes; credential = credential }
 
 -- no credential came
 abbrev pub MissesOne : {S : Type 0} → Layout → (S → Option (List ℕ)) → AtHand S → AtHand S → CacheFault → Type 0

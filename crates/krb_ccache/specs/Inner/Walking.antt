@@ -1,5 +1,5 @@
 -- How far a part of a cache reaches whose bytes come piece by piece: as far as the bytes before say.
-use Rattle.std.specs.Prelude.{◌≡◌, ℕ, zero, suc, ◌+◌, ◌-◌, ◌<◌, ◌≤◌, Bool, true, List, ◌++◌, length, take, drop, Option, Some, None, is_some, Result, Ok, Err, if◌then◌else◌}
+use Rattle.std.specs.Prelude.{◌≡◌, ℕ, zero, suc, ◌+◌, ◌-◌, ◌<◌, ◌≤◌, Bool, List, ◌++◌, length, take, drop, Option, Some, None, Result, Ok, Err, if◌then◌else◌}
 use Rattle.std.specs.Int.{Width, w8, w32, from_be_bytes}
 use Rattle.std.specs.Io.KnownBytes.{IsAtEnd}
 use Rattle.krb_name.specs.Cursor.{Place, ◌>>=◌, bytes_at, number_at, number_bytes}
@@ -12,9 +12,10 @@ use Rattle.krb_ccache.specs.Spelling.{marked_bytes}
 use Rattle.krb_ccache.specs.Format.{second_size}
 use Rattle.krb_ccache.specs.Value.{FitsCredential}
 use Rattle.krb_name.specs.File.{file_limit}
+use Rattle.krb_ccache.specs.declared.walking.Left.{Left}
 use Rattle.krb_ccache.specs.declared.walking.TakeFault.{TakeFault}
 use Rattle.krb_ccache.specs.declared.walking.TakeFault.TheVariants.{End, Long, Read, OutOfMemory}
-use Rattle.krb_ccache.specs.Inner.Reading.{passing_at, flag_of, parts_with}
+use Rattle.krb_ccache.specs.Inner.Reading.{allowed}
 
 -- ---- what is taken
 
@@ -58,6 +59,10 @@ Pass = Place → Option Place
 abbrev pub passed_at : {X : Type 0} → (Place → Option (X × Place)) → Pass
 passed_at read place = read place >>= λ x. Some x.1
 
+-- two ways to pass over the same
+abbrev pub Same : Pass → Pass → Type 0
+Same p q = (place : Place) → p place ≡ q place
+
 abbrev pub skip_at : ℕ → Pass
 skip_at count = passed_at (bytes_at count)
 
@@ -85,15 +90,9 @@ pass_times (suc count) one = and_then one (pass_times count one)
 abbrev pub pass_data : ℕ → Pass
 pass_data gap = and_then (skip_at gap) (pass_number w32 skip_at)
 
--- a credential, if its `is_skey` passes a test
-abbrev pub pass_credential : Layout → (ℕ → Bool) → Pass
-pass_credential layout test = passed_at (parts_with (passing_at test (number_at w8)) layout)
-
-abbrev pub any : ℕ → Bool
-any number = true
-
-abbrev pub is_flag : ℕ → Bool
-is_flag number = is_some (flag_of number)
+-- what is still to be passed over of the parts so far; nothing is, if a checked flag was wrong
+abbrev pub left_at : Bool → Left → Pass
+left_at strict left = and_then (pass_if (allowed strict left.good)) (skip_at left.skip)
 
 -- bytes were taken; what was to be passed over from the first of them on is now what is to be from
 -- there on
@@ -120,10 +119,6 @@ IsWalk before after Within Lacks old new (Err stop) = Stops before Within Lacks 
 -- a whole part was asked for
 abbrev pub IsWhole : {T : Type 0} → Pass → (Hand → Type 0) → (TakeFault → Hand → ℕ → Type 0) → Hand → Hand → Result T TakeFault → Type 0
 IsWhole before Within Lacks old new result = IsWalk before (λ x. pass_none) Within Lacks old new result
-
--- these bytes are those of a credential, if this number is a flag
-abbrev pub IsMarked : Layout → List ℕ → ℕ → Type 0
-IsMarked layout bytes mark = (at : ℕ) (rest : List ℕ) → pass_credential layout is_flag (record { at = at; rest = bytes ++ rest }) ≡ pass_if (is_flag mark) (record { at = at + length bytes; rest = rest })
 
 -- ---- what is taken at once
 

@@ -4,7 +4,9 @@ use Rattle.std.specs.List.{flat_map}
 use Rattle.krb_keytab.specs.Entry.{KeytabEntry}
 use Rattle.krb_keytab.specs.Format.{version, KeytabRecord, hole, entry, record_bytes, entries_of}
 use Rattle.krb_keytab.specs.Edit.{IsMadeOf, LacksEntry, LacksRoom}
+use Rattle.krb_keytab.specs.declared.finding.EntryAt.{EntryAt}
 use Rattle.krb_keytab.specs.declared.finding.Extent.{Extent}
+use Rattle.krb_keytab.specs.declared.finding.HoleFor.{HoleFor}
 use Rattle.krb_keytab.specs.declared.finding.Room.{Room}
 use Rattle.krb_keytab.specs.declared.finding.Room.TheVariants.{Hole, End}
 
@@ -13,30 +15,69 @@ pub record LiesAt (before : List KeytabRecord) (one : KeytabRecord) (place : Ext
   pub from : place.from ≡ length version + length (flat_map record_bytes before)
   pub to : place.to ≡ place.from + length (record_bytes one)
 
-pub record HoldsIndex (bytes : List ℕ) (index : ℕ) (place : Extent) : Type 0 where
+-- the records of a keytab end at an offset, and so much was gathered of them
+pub record HasGathered {G : Type 0} (Has : List KeytabRecord → G → Type 0) (bytes : List ℕ) (at : ℕ) (gathered : G) : Type 0 where
+  pub records : List KeytabRecord
+  pub end : List ℕ
+  pub is : IsMadeOf bytes records end
+  pub at_is : at ≡ length version + length (flat_map record_bytes records)
+  pub has : Has records gathered
+
+-- ---- an entry
+
+-- among these records it is that of the entry of this index, and lies there
+pub record IsEntryAt (records : List KeytabRecord) (index : ℕ) (place : Extent) : Type 0 where
   pub before : List KeytabRecord
   pub removed : KeytabEntry
   pub short_kvno : ℕ
   pub rest : List ℕ
   pub after : List KeytabRecord
-  pub end : List ℕ
-  pub is : IsMadeOf bytes (before ++ entry removed short_kvno rest ∷ after) end
+  pub records_are : records ≡ before ++ entry removed short_kvno rest ∷ after
   pub lies : LiesAt before (entry removed short_kvno rest) place
   pub index_is : index ≡ length (flat_map entries_of before)
+
+-- how many entries there are among these records, or which of them is that of the index
+abbrev pub CountsTo : List KeytabRecord → ℕ → ℕ → Option Extent → Type 0
+CountsTo records index count None = (count ≡ length (flat_map entries_of records)) × (count ≤ index)
+CountsTo records index count (Some place) = IsEntryAt records index place
+
+abbrev pub KeepsEntry : EntryAt → List KeytabRecord → EntryAt → Type 0
+KeepsEntry start records now = (now.index ≡ start.index) × CountsTo records start.index now.count now.found
+
+pub record HoldsIndex (bytes : List ℕ) (index : ℕ) (place : Extent) : Type 0 where
+  pub records : List KeytabRecord
+  pub end : List ℕ
+  pub is : IsMadeOf bytes records end
+  pub there : IsEntryAt records index place
 
 abbrev pub IsFoundEntry : List ℕ → ℕ → Option Extent → Type 0
 IsFoundEntry bytes index None = LacksEntry bytes index
 IsFoundEntry bytes index (Some place) = HoldsIndex bytes index place
 
-pub record HasRoom (bytes : List ℕ) (size : ℕ) (place : Extent) : Type 0 where
+-- ---- room
+
+-- among these records it is the first hole that has room, and lies there
+pub record IsFirstHole (records : List KeytabRecord) (size : ℕ) (place : Extent) : Type 0 where
   pub before : List KeytabRecord
   pub ignored : List ℕ
   pub after : List KeytabRecord
-  pub end : List ℕ
-  pub is : IsMadeOf bytes (before ++ hole ignored ∷ after) end
+  pub records_are : records ≡ before ++ hole ignored ∷ after
   pub lies : LiesAt before (hole ignored) place
   pub first : All (LacksRoom size) before
   pub room : size ≤ length (record_bytes (hole ignored))
+
+abbrev pub HasHole : List KeytabRecord → ℕ → Option Extent → Type 0
+HasHole records size None = All (LacksRoom size) records
+HasHole records size (Some place) = IsFirstHole records size place
+
+abbrev pub KeepsHole : HoleFor → List KeytabRecord → HoleFor → Type 0
+KeepsHole start records now = (now.size ≡ start.size) × HasHole records start.size now.found
+
+pub record HasRoom (bytes : List ℕ) (size : ℕ) (place : Extent) : Type 0 where
+  pub records : List KeytabRecord
+  pub end : List ℕ
+  pub is : IsMadeOf bytes records end
+  pub there : IsFirstHole records size place
 
 pub record HasNone (bytes : List ℕ) (size at : ℕ) : Type 0 where
   pub records : List KeytabRecord

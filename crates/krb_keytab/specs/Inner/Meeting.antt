@@ -152,15 +152,33 @@ pub record PassesHoles {S : Type 0} (from to : Option (List ℕ)) (old new : AtH
   pub reaches : (bytes : List ℕ) (entries : List KeytabEntry) → old.given ≡ length bytes → IsReached bytes (length bytes) entries [] → IsReached (bytes ++ piece) (length (bytes ++ piece)) entries []
   pub met : (bytes : List ℕ) (entries : List KeytabEntry) → old.given ≡ length bytes → IsReached bytes (length bytes) entries [] → HasMet bytes old.peak → HasMet (bytes ++ piece) new.peak
 
-pub record MeetsNext {S : Type 0} (from to : Option (List ℕ)) (old new : AtHand S) (answer : Result (Option KeytabEntry) KeytabFault) : Type 0 where
+-- whole records of these entries came before, so many bytes
+pub record HasReached (given : ℕ) (bytes : List ℕ) (entries : List KeytabEntry) : Type 0 where
+  pub given_is : given ≡ length bytes
+  pub limit : length bytes ≤ file_limit
+  pub reached : IsReached bytes (length bytes) entries []
+
+-- nothing came before
+abbrev pub IsFirst : List ℕ → List KeytabEntry → Type 0
+IsFirst bytes entries = (bytes ≡ []) × (entries ≡ [])
+
+-- an answer about the entry that comes next, and how it stands behind all that came before
+pub record MeetsBehind {S : Type 0} (CameBefore : List ℕ → List KeytabEntry → Type 0) (from to : Option (List ℕ)) (old new : AtHand S) (answer : Result (Option KeytabEntry) KeytabFault) : Type 0 where
   pub piece : List ℕ
   pub moves : Moves from to old new piece
   pub grows : old.peak ≤ new.peak
   pub low : old.peak ≤ file_limit → new.peak ≤ file_limit
   pub within : IsWithin (stage_after answer) new.given
   pub more : GivesMore answer old.given new.given
-  pub stands : (bytes : List ℕ) (entries : List KeytabEntry) → old.given ≡ length bytes → length bytes ≤ file_limit → IsReached bytes (length bytes) entries [] → StandsTo to new.peak (stage_after answer) (bytes ++ piece) (entries_after entries answer)
-  pub met : (bytes : List ℕ) (entries : List KeytabEntry) → old.given ≡ length bytes → IsReached bytes (length bytes) entries [] → HasMet bytes old.peak → HasMet (bytes ++ piece) new.peak
+  pub stands : (bytes : List ℕ) (entries : List KeytabEntry) → CameBefore bytes entries → StandsTo to new.peak (stage_after answer) (bytes ++ piece) (entries_after entries answer)
+  pub met : (bytes : List ℕ) (entries : List KeytabEntry) → CameBefore bytes entries → HasMet bytes old.peak → HasMet (bytes ++ piece) new.peak
+
+abbrev pub MeetsNext : {S : Type 0} → Option (List ℕ) → Option (List ℕ) → AtHand S → AtHand S → Result (Option KeytabEntry) KeytabFault → Type 0
+MeetsNext from to old new answer = MeetsBehind (HasReached old.given) from to old new answer
+
+-- the version is read first
+abbrev pub MeetsFirst : {S : Type 0} → Option (List ℕ) → Option (List ℕ) → AtHand S → AtHand S → Result (Option KeytabEntry) KeytabFault → Type 0
+MeetsFirst from to old new answer = MeetsBehind IsFirst from to old new answer
 
 -- an answer with what is kept of an entry in place of it
 abbrev pub keeping : {E : Type 0} → (KeytabEntry → E) → Result (Option KeytabEntry) KeytabFault → Result (Option E) KeytabFault
@@ -178,18 +196,6 @@ pub record MeetsPast {S : Type 0} (from to : Option (List ℕ)) (old new : AtHan
   pub answer : Result (Option KeytabEntry) KeytabFault
   pub said_is : said ≡ passed answer
   pub meets : MeetsNext from to old new answer
-
--- ---- the version and records up to an entry
-
-pub record MeetsFirst {S : Type 0} (from to : Option (List ℕ)) (old new : AtHand S) (answer : Result (Option KeytabEntry) KeytabFault) : Type 0 where
-  pub piece : List ℕ
-  pub moves : Moves from to old new piece
-  pub grows : old.peak ≤ new.peak
-  pub low : old.peak ≤ file_limit → new.peak ≤ file_limit
-  pub within : IsWithin (stage_after answer) new.given
-  pub more : GivesMore answer old.given new.given
-  pub stands : StandsTo to new.peak (stage_after answer) piece (entries_after [] answer)
-  pub met : HasMet [] old.peak → HasMet piece new.peak
 
 -- ---- the version and all records
 

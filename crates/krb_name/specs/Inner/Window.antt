@@ -1,7 +1,7 @@
 -- What one read, or some of them, leave at hand.
 use Rattle.std.specs.Prelude.{◌≡◌, ℕ, ◌+◌, ◌≤◌, List, [], ◌++◌, length, Option, Result, Ok, Err}
 use Rattle.std.specs.Io.KnownBytes.{Consumes, IsAtEnd}
-use Rattle.krb_name.specs.Window.{AtHand, Keeps, Skips}
+use Rattle.krb_name.specs.Window.{AtHand, Skips}
 
 -- what one read gave, none only at the end, or where it failed
 abbrev pub OneRead : {E : Type 0} → Result ℕ E → ℕ → List ℕ → Option (List ℕ) → Type 0
@@ -14,26 +14,19 @@ pub record ReadsBehind {E : Type 0} (from to : Option (List ℕ)) (old new : Lis
   pub bytes : new ≡ old ++ piece
   pub one : OneRead answer most piece to
 
-pub record KeepsSome {S E : Type 0} (from to : Option (List ℕ)) (old new : AtHand S) (most : ℕ) (answer : Result ℕ E) : Type 0 where
+-- what one read gave, and what became of what is held
+pub record ComesOnce {S E : Type 0} (Comes : Option (List ℕ) → Option (List ℕ) → AtHand S → AtHand S → List ℕ → Type 0) (from to : Option (List ℕ)) (old new : AtHand S) (most : ℕ) (answer : Result ℕ E) : Type 0 where
   pub piece : List ℕ
-  pub keeps : Keeps from to old new piece
+  pub comes : Comes from to old new piece
   pub one : OneRead answer most piece to
 
-pub record SkipsSome {S E : Type 0} (from to : Option (List ℕ)) (old new : AtHand S) (most : ℕ) (answer : Result ℕ E) : Type 0 where
+-- reads, none of which failed, gave this, and so many bytes are still to come
+pub record ComesSoFar {S : Type 0} (Comes : Option (List ℕ) → Option (List ℕ) → AtHand S → AtHand S → List ℕ → Type 0) (remaining : S → Option (List ℕ)) (failure_count lender : S → ℕ) (old new : AtHand S) (count left : ℕ) : Type 0 where
   pub piece : List ℕ
-  pub skips : Skips from to old new piece
-  pub one : OneRead answer most piece to
-
--- so many bytes are still to come
-pub record KeepsSoFar {S : Type 0} (from to : Option (List ℕ)) (old new : AtHand S) (count left : ℕ) : Type 0 where
-  pub piece : List ℕ
-  pub keeps : Keeps from to old new piece
+  pub comes : Comes (remaining old.source) (remaining new.source) old new piece
   pub counted : length piece + left ≡ count
-
-pub record SkipsSoFar {S : Type 0} (from to : Option (List ℕ)) (old new : AtHand S) (count left : ℕ) : Type 0 where
-  pub piece : List ℕ
-  pub skips : Skips from to old new piece
-  pub counted : length piece + left ≡ count
+  pub unfailed : failure_count new.source ≡ failure_count old.source
+  pub lent : lender new.source ≡ lender old.source
 
 -- at most one byte past a limit was given
 pub record SkipsWithin {S : Type 0} (from to : Option (List ℕ)) (old new : AtHand S) (limit : ℕ) : Type 0 where

@@ -1,5 +1,5 @@
 use Rattle.std.proofs.Common.{◌≡◌, ◌+◌, ◌-◌, ◌∙◌, ap, map, sym, arith}
-use Rattle.krb_aes.specs.State.{add_round_key, sub_bytes, shift_rows, mix_columns}
+use Rattle.krb_aes.specs.State.{add_round_key, sub_bytes, shift_rows}
 use Rattle.krb_aes.specs.KeyExpansion.{key_expansion, round_key}
 use Rattle.krb_aes.specs.Cipher.{IsBlock, rounds, cipher}
 use Rattle.krb_aes.specs.Inner.Tower.{tower_form}
@@ -40,8 +40,7 @@ loop-at-preserved c =
     let block = block_of_array c.args.block.now c.told-block c.fits-block in
     let is : IsBlock before = IsBlock-rounds k (at - 1) c.args.block.now (λ j. round_key_bytes key j c.rounds-last.ensures.key.bytes) block in
     let same : at + 1 - 1 ≡ at = omega arith in
-    let next = c.round-next.ensures before is c.loop-at.invariant.form
-    ∙ ap (λ t. map tower_form (add_round_key (mix_columns (shift_rows (sub_bytes before))) t)) c.round_key-in-loop-at.ensures.value
+    let next = c.round-next.ensures before (k at) is (round_key_bytes key at c.rounds-last.ensures.key.bytes) c.loop-at.invariant.form c.form_key.ensures.value
     ∙ ap (map tower_form) (sym (rounds_after k c.args.block.now at (omega arith))) in
     record { form = rw same next }
 

@@ -1,10 +1,14 @@
 use Rattle.std.proofs.Common.{refl}
 use Rattle.std.proofs.lemmas.Result.{err_from_is_err_and}
+use Rattle.krb_ccache.specs.Inner.Standing.{spelled_as}
 use Rattle.krb_ccache.proofs.FileLaws.{credential_goes, stops, read_none, read_more, read_fit}
 use Rattle.krb_ccache.proofs.cache.read_credentials.Goals as goal
 
 pub loop-alloc-init : goal.loop-alloc-init
 loop-alloc-init c = read_none c.args.layout c.args.cursor.now c.args.cursor.now c.new-credentials.result.items c.requires refl c.new-credentials.ensures.items
+
+pub read_one-requires : goal.read_one-requires
+read_one-requires c = c.loop-alloc.invariant.reaches.takes.rest_fits
 
 pub returns-in_err-read_one-clause-missing : goal.returns-in_err-read_one-clause-missing
 returns-in_err-read_one-clause-missing c =
@@ -17,7 +21,8 @@ returns-in_err-read_one-clause-missing c =
 pub loop-alloc-smaller : goal.loop-alloc-smaller
 loop-alloc-smaller c =
     let so_far = c.loop-alloc.invariant in
-    (credential_goes c.args.layout c.args.cursor.now c.loop-alloc.cursor so_far.spelled c.in_ok-read_one.field-0 c.read_one.new.cursor so_far.reaches c.in_ok-read_one.ensures.read).smaller
+    let one = c.in_ok-read_one.ensures.read in
+    (credential_goes c.args.layout c.args.cursor.now c.loop-alloc.cursor so_far.spelled (spelled_as one.0 c.in_ok-read_one.field-0) c.read_one.new.cursor so_far.reaches one.1).smaller
 
 pub loop-alloc-preserved : goal.loop-alloc-preserved
 loop-alloc-preserved c =

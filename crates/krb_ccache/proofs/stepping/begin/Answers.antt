@@ -5,7 +5,7 @@ use Rattle.krb_ccache.specs.Format.{version_of, head_bytes, FitsHead}
 use Rattle.krb_ccache.specs.declared.fault.CacheFault.TheVariants.{Version, Header, BadItem}
 use Rattle.krb_ccache.specs.Inner.Stepping.{Any}
 use Rattle.krb_name.proofs.FileLaws.{gives_then}
-use Rattle.krb_ccache.proofs.StepLaws.{comes_gives, misses_gives}
+use Rattle.krb_ccache.proofs.StepLaws.{comes_gives, misses_gives, head_gives}
 use Rattle.krb_ccache.proofs.ReaderLaws.{version_fault, header_fault, name_fault, begun, begun_peak}
 use Rattle.krb_ccache.proofs.LayoutLaws.{head_fits}
 use Rattle.krb_ccache.proofs.stepping.begin.Goals as goal
@@ -42,25 +42,13 @@ returns-in_err-header-clause-gave g c =
 
 pub returns-in_err-name-clause-gave : goal.returns-in_err-name-clause-gave
 returns-in_err-name-clause-gave g c =
-    let left = g.S.Source.remaining in
-    let old = c.args.window.now in
-    let first = c.step_version.new.window in
-    let middle = c.step_head.new.window in
-    let new = c.step_name.new.window in
-    gives_then (left old.source) (left first.source) (left new.source) _ _ _ (comes_gives version_of Any left old first c.in_ok-layout.layout c.in_ok-layout.ensures.comes)
-    (gives_then (left first.source) (left middle.source) (left new.source) _ _ _ (comes_gives (head_bytes c.in_ok-layout.layout) (FitsHead c.in_ok-layout.layout) left first middle c.in_ok-header.header.items c.in_ok-header.ensures.comes)
-    (misses_gives name_bytes FitsName left middle new (BadItem middle.given) c.in_err-name.field-0.0 c.in_err-name.ensures.misses))
+    head_gives g.S.Source.remaining c.in_ok-layout.layout c.args.window.now c.step_version.new.window c.step_head.new.window c.step_name.new.window c.in_ok-header.header.items c.in_ok-layout.ensures.comes c.in_ok-header.ensures.comes
+    (misses_gives name_bytes FitsName g.S.Source.remaining c.step_head.new.window c.step_name.new.window (BadItem c.step_head.new.window.given) c.in_err-name.field-0.0 c.in_err-name.ensures.misses)
 
 pub returns-clause-gave : goal.returns-clause-gave
 returns-clause-gave g c =
-    let left = g.S.Source.remaining in
-    let old = c.args.window.now in
-    let first = c.step_version.new.window in
-    let middle = c.step_head.new.window in
-    let new = c.step_name.new.window in
-    gives_then (left old.source) (left first.source) (left new.source) _ _ _ (comes_gives version_of Any left old first c.in_ok-layout.layout c.in_ok-layout.ensures.comes)
-    (gives_then (left first.source) (left middle.source) (left new.source) _ _ _ (comes_gives (head_bytes c.in_ok-layout.layout) (FitsHead c.in_ok-layout.layout) left first middle c.in_ok-header.header.items c.in_ok-header.ensures.comes)
-    (comes_gives name_bytes FitsName left middle new c.in_ok-name.name c.in_ok-name.ensures.comes))
+    head_gives g.S.Source.remaining c.in_ok-layout.layout c.args.window.now c.step_version.new.window c.step_head.new.window c.step_name.new.window c.in_ok-header.header.items c.in_ok-layout.ensures.comes c.in_ok-header.ensures.comes
+    (comes_gives name_bytes FitsName g.S.Source.remaining c.step_head.new.window c.step_name.new.window c.in_ok-name.name c.in_ok-name.ensures.comes)
 
 pub returns-clause-peak : goal.returns-clause-peak
 returns-clause-peak g c = begun_peak g.S.Source.remaining c.in_ok-layout.layout c.args.window.now c.step_version.new.window c.step_head.new.window c.step_name.new.window c.in_ok-header.header.items c.in_ok-name.name c.in_ok-layout.ensures.comes c.in_ok-header.ensures.comes c.in_ok-name.ensures.comes

@@ -5,7 +5,8 @@ use Rattle.std.proofs.lemmas.List.Elements.{All-push}
 use Rattle.krb_ccache.specs.declared.credential.Credential.{Credential}
 use Rattle.krb_ccache.specs.Reader.{HasTaken}
 use Rattle.krb_ccache.specs.Value.{cache_of, FitsCredential}
-use Rattle.krb_ccache.specs.Inner.Stepping.{spelled_as, IsStep}
+use Rattle.krb_ccache.specs.Inner.Stepping.{IsStep}
+use Rattle.krb_ccache.specs.Inner.Standing.{spelled_as}
 use Rattle.krb_ccache.proofs.StepLaws.{gives_step}
 use Rattle.krb_ccache.proofs.ReaderLaws.{item_taken, end_taken, item_fault}
 use Rattle.krb_ccache.proofs.stepping.steps.Goals as goal

@@ -1,4 +1,4 @@
-use Rattle.std.proofs.Common.{[], ◌∷◌, ap, arith, length, length-drop}
+use Rattle.std.proofs.Common.{[], ◌∷◌, arith}
 use Rattle.krb_gss.proofs.ChecksumLaws.{are_same, are_other, message-cut, message-other, message-cut_off, message-found}
 use Rattle.krb_gss.proofs.checksum.message.Goals as goal
 

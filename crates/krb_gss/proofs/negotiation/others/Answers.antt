@@ -1,35 +1,9 @@
-use Rattle.std.proofs.Common.{refl}
-use Rattle.std.proofs.lemmas.Bool.{false≢true}
-use Rattle.std.proofs.lemmas.Result.{err_from_is_err_and}
-use Rattle.krb_gss.proofs.PartLaws.{others-first, others-second, others-third, others-left, others-entered}
+use Rattle.krb_gss.proofs.Steps.{refused, last-step}
+use Rattle.krb_gss.proofs.StepLaws.{others}
 use Rattle.krb_gss.proofs.negotiation.others.Goals as goal
 
 pub returns-in_err-may_field : goal.returns-in_err-may_field
-returns-in_err-may_field c =
-    let p = err_from_is_err_and c.from_residual.result c.from_residual.ensures.1 in
-    rw (p.1, p.2) (others-first c.args.fields c.may_field.new.cursor c.in_err-may_field.field-0.0 c.in_err-may_field.ensures)
-
-pub returns-in_err-token : goal.returns-in_err-token
-returns-in_err-token c =
-    let p = err_from_is_err_and c.from_residual-in_err-token.result c.from_residual-in_err-token.ensures.1 in
-    rw (p.1, p.2)
-    (others-second c.args.fields c.may_field.new.cursor c.in_ok-may_field.field-0 c.in_ok-may_field.ensures c.may_field-2.new.cursor c.in_err-token.field-0.0 c.in_err-token.ensures)
-
-pub returns-in_err-may_field-2 : goal.returns-in_err-may_field-2
-returns-in_err-may_field-2 c =
-    let p = err_from_is_err_and c.from_residual-in_err-may_field-2.result c.from_residual-in_err-may_field-2.ensures.1 in
-    rw (p.1, p.2)
-    (others-third c.args.fields c.may_field.new.cursor c.in_ok-may_field.field-0 c.in_ok-may_field.ensures c.may_field-2.new.cursor c.in_ok-token.token c.in_ok-token.ensures c.may_field-3.new.cursor c.in_err-may_field-2.field-0.0
-    c.in_err-may_field-2.ensures)
-
-pub returns-in_err-finish : goal.returns-in_err-finish
-returns-in_err-finish c =
-    let p = err_from_is_err_and c.from_residual-in_err-finish.result c.from_residual-in_err-finish.ensures.1 in
-    rw (p.1, p.2)
-    (others-left c.args.fields c.may_field.new.cursor c.in_ok-may_field.field-0 c.in_ok-may_field.ensures c.may_field-2.new.cursor c.in_ok-token.token c.in_ok-token.ensures c.may_field-3.new.cursor c.in_ok-may_field-2.field-0
-    c.in_ok-may_field-2.ensures c.in_err-finish.field-0.0 (λ nil. false≢true (c.in_err-finish.ensures.ok.1 nil)) c.in_err-finish.ensures.trailing)
+returns-in_err-may_field c = refused (others c.args.fields) c.from_residual.ensures.1 c.in_err-may_field.ensures
 
 pub returns : goal.returns
-returns c =
-    others-entered c.args.fields c.may_field.new.cursor c.in_ok-may_field.field-0 c.in_ok-may_field.ensures c.may_field-2.new.cursor c.in_ok-token.token c.in_ok-token.ensures c.may_field-3.new.cursor c.in_ok-may_field-2.field-0
-    c.in_ok-may_field-2.ensures (c.in_ok-finish.ensures.ok.0 refl)
+returns c = last-step (others c.args.fields) c.in_ok-may_field.ensures c.token_and_mic.result c.token_and_mic.ensures

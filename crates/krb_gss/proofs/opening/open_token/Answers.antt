@@ -1,38 +1,24 @@
-use Rattle.std.proofs.Common.{refl}
-use Rattle.std.proofs.lemmas.Bool.{false≢true}
-use Rattle.std.proofs.lemmas.Result.{err_from_is_err_and}
-use Rattle.krb_gss.proofs.OpenLaws.{too_long-fault, begun-only, begun-fault, found-token, only-token, faulty-token}
+use Rattle.krb_gss.specs.Token.{IsMessage}
+use Rattle.krb_gss.proofs.Steps.{fault-at-exit}
+use Rattle.krb_gss.proofs.OpenLaws.{unwrapped-only, unwrapped-faulty, unheld-only, unheld-faulty, one-whole, one_request}
 use Rattle.krb_gss.proofs.opening.open_token.Goals as goal
 
-pub returns-in_err-cursor-clause-only : goal.returns-in_err-cursor-clause-only
-returns-in_err-cursor-clause-only c =
-    let p = err_from_is_err_and c.from_residual.result c.from_residual.ensures.1 in
-    rw p.1 (λ w m r t. absurd (false≢true (c.in_err-cursor.ensures.ok.1 t.within)))
+pub returns-in_err-wrapping-clause-only : goal.returns-in_err-wrapping-clause-only
+returns-in_err-wrapping-clause-only c w m message t = absurd (unwrapped-only (IsMessage 0x01) c.in_ok-cursor.ensures.found c.in_err-wrapping.ensures w m message t)
 
-pub returns-in_err-cursor-clause-faulty : goal.returns-in_err-cursor-clause-faulty
-returns-in_err-cursor-clause-faulty c =
-    let p = err_from_is_err_and c.from_residual.result c.from_residual.ensures.1 in
-    rw p.1 (too_long-fault c.args.bytes.now c.in_err-cursor.field-0.0 p.0 (λ le. false≢true (c.in_err-cursor.ensures.ok.1 le)) c.in_err-cursor.ensures.too_long p.2)
+pub returns-in_err-wrapping-clause-faulty : goal.returns-in_err-wrapping-clause-faulty
+returns-in_err-wrapping-clause-faulty c =
+    fault-at-exit _ _ c.from_residual-in_err-wrapping.ensures.1 (unwrapped-faulty c.in_ok-cursor.ensures.found c.in_err-wrapping.ensures)
 
-pub returns-in_err-begins-clause-only : goal.returns-in_err-begins-clause-only
-returns-in_err-begins-clause-only c =
-    let p = err_from_is_err_and c.from_residual-in_err-begins.result c.from_residual-in_err-begins.ensures.1 in
-    rw p.1 (begun-only c.args.bytes.now c.in_err-begins.field-0.0 c.in_err-begins.ensures)
+pub returns-in_err-request-clause-only : goal.returns-in_err-request-clause-only
+returns-in_err-request-clause-only c w m message t =
+    absurd (unheld-only (IsMessage 0x01) c.in_ok-cursor.ensures.found c.in_ok-wrapping.ensures c.in_err-request.ensures.faulty w m message t)
 
-pub returns-in_err-begins-clause-faulty : goal.returns-in_err-begins-clause-faulty
-returns-in_err-begins-clause-faulty c =
-    let p = err_from_is_err_and c.from_residual-in_err-begins.result c.from_residual-in_err-begins.ensures.1 in
-    rw (p.1, p.2) (begun-fault c.args.bytes.now c.in_err-begins.field-0.0 (c.in_ok-cursor.ensures.ok.0 refl) c.in_err-begins.ensures)
-
-pub returns-clause-found : goal.returns-clause-found
-returns-clause-found c =
-    found-token c.args.bytes.now (c.in_ok-cursor.ensures.ok.0 refl) c.open_at.result (rw c.in_ok-cursor.ensures.start at c.open_at.ensures)
+pub returns-in_err-request-clause-faulty : goal.returns-in_err-request-clause-faulty
+returns-in_err-request-clause-faulty c =
+    fault-at-exit _ _ c.from_residual-in_err-request.ensures.1 (unheld-faulty c.in_ok-cursor.ensures.found c.in_ok-wrapping.ensures c.in_err-request.ensures.faulty)
 
 pub returns-clause-only : goal.returns-clause-only
-returns-clause-only c =
-    only-token c.args.bytes.now (c.in_ok-cursor.ensures.ok.0 refl) c.open_at.result (rw c.in_ok-cursor.ensures.start at c.open_at.ensures)
-
-pub returns-clause-faulty : goal.returns-clause-faulty
-returns-clause-faulty c =
-    faulty-token c.args.bytes.now (c.in_ok-cursor.ensures.ok.0 refl) c.open_at.result c.in_ok-begins.ensures
-    (rw c.in_ok-cursor.ensures.start at c.open_at.ensures)
+returns-clause-only c w m message t =
+    let s = one-whole (IsMessage 0x01) c.in_ok-cursor.ensures.found c.in_ok-wrapping.ensures one_request c.in_ok-request.request.now c.in_ok-request.ensures.found w m message t in
+    record { wrapping_is = s.0; mechanism_is = s.1; request_is = s.2 }

@@ -22,4 +22,4 @@ returns-in_err-enter c =
     (elements-refused c.args.tag c.args.list c.loop-list.list c.enter.new.self c.in_err-enter.field-0.0 (λ nil. false≢true (c.loop-list-test.ensures.1 nil)) c.in_err-enter.ensures i.1 i.2)
 
 pub returns : goal.returns
-returns c = record { found = c.loop-list.invariant.0 (none (c.loop-list-test.ensures.0 refl)); only = λ a. refl; faulty = tt }
+returns c = record { found = c.loop-list.invariant.0 (none (c.loop-list-test.ensures.0 refl)); only = λ u a. refl; faulty = tt }

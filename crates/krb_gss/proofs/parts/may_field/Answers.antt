@@ -1,13 +1,15 @@
-use Rattle.std.proofs.lemmas.Result.{err_from_is_err_and}
-use Rattle.krb_gss.proofs.PartLaws.{may-fault, may-some}
+use Rattle.std.proofs.Common.{◌≡◌, true}
+use Rattle.krb_der.specs.Place.{begins}
+use Rattle.krb_gss.proofs.PartLaws.{may-refused, may-some}
+use Rattle.krb_gss.proofs.Steps.{exit-beside}
 use Rattle.krb_gss.proofs.parts.may_field.Goals as goal
 
-pub returns-in_err-inside-in-Some : goal.returns-in_err-inside-in-Some
-returns-in_err-inside-in-Some c =
-    let p = err_from_is_err_and c.from_residual-in_err-inside-in-Some.result c.from_residual-in_err-inside-in-Some.ensures.1 in
-    rw (p.1, p.2)
-    (may-fault c.args.outer c.args.inner c.args.cursor.now c.in-Some.field c.optional.new.self c.in_err-inside-in-Some.field-0.0 (rw c.in-Some.is at c.in_ok-field.ensures) c.in_err-inside-in-Some.ensures)
+pub returns-in_err-field : goal.returns-in_err-field
+returns-in_err-field c =
+    let b : begins c.args.outer c.args.cursor.now.rest ≡ true = cc in
+    exit-beside c.from_residual.result _ c.from_residual.ensures.1 (may-refused b c.in_err-field.ensures)
 
-pub returns-in_ok-inside-in-Some : goal.returns-in_ok-inside-in-Some
-returns-in_ok-inside-in-Some c =
-    may-some c.args.outer c.args.inner c.args.cursor.now c.in-Some.field c.in_ok-inside-in-Some.inside c.optional.new.self (rw c.in-Some.is at c.in_ok-field.ensures) c.in_ok-inside-in-Some.ensures
+pub returns-then-begins : goal.returns-then-begins
+returns-then-begins c =
+    let b : begins c.args.outer c.args.cursor.now.rest ≡ true = cc in
+    may-some b c.in_ok-field.ensures

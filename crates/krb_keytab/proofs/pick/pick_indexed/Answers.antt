@@ -9,12 +9,11 @@ pub loop-at-init : goal.loop-at-init
 loop-at-init c =
     let entries = c.args.entries.now in
     let index = c.args.index.now in
-    let count = length index.firsts.items in
     let name = c.args.name.now in
     let etype = to_z w32 (of_z w32 c.args.etype) in
-    let on = first_leads entries count name index.firsts.items index.nexts.items c.first-at.result c.requires.some c.requires.linked c.first-at.ensures in
+    let on = first_leads entries (length index.firsts.items) name index.firsts.items index.nexts.items c.first-at.result c.requires.some c.requires.linked c.first-at.ensures in
     record {
-      picked = passed_over entries name etype c.args.kvno NoName count 0 c.first-at.result on.leads (none_seen entries name etype c.args.kvno);
+      picked = passed_over entries name etype c.args.kvno NoName (length index.firsts.items) 0 c.first-at.result on.leads (none_seen entries name etype c.args.kvno);
       lands = on.lands;
     }
 
@@ -22,16 +21,15 @@ pub loop-at-preserved : goal.loop-at-preserved
 loop-at-preserved c =
     let entries = c.args.entries.now in
     let index = c.args.index.now in
-    let count = length index.firsts.items in
     let name = c.args.name.now in
     let etype = to_z w32 (of_z w32 c.args.etype) in
     let at = c.loop-at.at in
     let now = c.loop-at.invariant in
     let within : at < length entries = omega arith in
-    let on = next_leads entries count name index.firsts.items index.nexts.items at c.next-at.result within (now.lands within) c.requires.linked c.next-at.ensures in
+    let on = next_leads entries (length index.firsts.items) name index.firsts.items index.nexts.items at c.next-at.result within (now.lands within) c.requires.linked c.next-at.ensures in
     let seen = one_more entries at c.index-entries-at.result name etype c.args.kvno c.or_entry-picked.result within c.index-entries-at.is (c.or_entry-picked.ensures (take at entries) now.picked) in
     record {
-      picked = passed_over entries name etype c.args.kvno c.or_entry-picked.result count (at + 1) c.next-at.result on.leads seen;
+      picked = passed_over entries name etype c.args.kvno c.or_entry-picked.result (length index.firsts.items) (at + 1) c.next-at.result on.leads seen;
       lands = on.lands;
     }
 

@@ -2,7 +2,7 @@ use Rattle.std.proofs.Common.{◌∙◌, add-zero, Option, Ok, subst}
 use Rattle.std.proofs.lemmas.Result.{err_from_is_err_and}
 use Rattle.krb_keytab.specs.Entry.{KeytabEntry}
 use Rattle.krb_keytab.specs.Inner.Meeting.{MeetsNext}
-use Rattle.krb_keytab.proofs.CollectLaws.{entry_taken, end_taken, next_faulty, version_takes, next_takes}
+use Rattle.krb_keytab.proofs.CollectLaws.{entry_taken, end_taken, next_faulty, next_takes}
 use Rattle.krb_keytab.proofs.step.read_entries.Goals as goal
 
 pub returns-in_err-entry-clause-fault : goal.returns-in_err-entry-clause-fault
@@ -30,9 +30,6 @@ returns-clause-found g c =
     let to = g.F.Feed.remaining c.read_entry.new.feed in
     let meets = subst (λ (next : Option KeytabEntry). MeetsNext mid to (g.F.Feed.at_hand c.loop-entries.feed) (g.F.Feed.at_hand c.read_entry.new.feed) (Ok next)) c.in_default.is c.in_ok-entry.ensures.meets in
     end_taken from mid to (g.F.Feed.at_hand c.loop-entries.feed) (g.F.Feed.at_hand c.read_entry.new.feed) c.loop-entries.entries.items c.loop-entries.invariant.taken c.loop-entries.invariant.limit meets
-
-pub returns-in_err-read_version-clause-taken : goal.returns-in_err-read_version-clause-taken
-returns-in_err-read_version-clause-taken g c = version_takes _ _ _ _ _ c.in_err-read_version.ensures.opens c.requires.start
 
 pub returns-clause-taken : goal.returns-clause-taken
 returns-clause-taken g c = next_takes _ _ _ _ _ c.loop-entries.entries.items _ c.loop-entries.invariant.taken c.loop-entries.invariant.limit c.in_ok-entry.ensures.meets

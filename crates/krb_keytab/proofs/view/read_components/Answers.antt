@@ -1,9 +1,6 @@
-use Rattle.krb_keytab.proofs.ComponentLaws.{starts, goes_on, ends, is_done, first_is, none_is_not_some}
+use Rattle.krb_keytab.proofs.ComponentLaws.{goes_on, ends, is_done, first_is, none_is_not_some}
 use Rattle.krb_keytab.proofs.view.read_components.Goals as goal
 use Rattle.krb_keytab.proofs.view.read_components.Goals.{else-loop-test, then-loop-test+in_default}
-
-pub loop-init : goal.loop-init
-loop-init c = rw (c.new-cursor.ensures, c.in_ok-components.ensures) (starts _ _)
 
 pub loop-preserved : goal.loop-preserved
 loop-preserved c =

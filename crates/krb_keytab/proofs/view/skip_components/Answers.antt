@@ -1,10 +1,7 @@
 use Rattle.std.proofs.Common.{[], ◌∷◌, ◌++◌}
 use Rattle.std.proofs.lemmas.Result.{err_from_is_err_and}
-use Rattle.krb_keytab.proofs.ComponentLaws.{starts, goes_on, ends, is_done}
+use Rattle.krb_keytab.proofs.ComponentLaws.{goes_on, ends, is_done}
 use Rattle.krb_keytab.proofs.view.skip_components.Goals as goal
-
-pub loop-init : goal.loop-init
-loop-init c = ([], starts _ _)
 
 pub loop-preserved : goal.loop-preserved
 loop-preserved c = (

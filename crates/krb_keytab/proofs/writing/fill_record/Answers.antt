@@ -13,11 +13,11 @@ returns-clause-filled c =
     let zeros = length out - record_length e in
     let size = length out - 4 in
     let small : size < 2 ^ 32 = omega (arith, c.requires.most) in
-    let first = rw (of_z-to_z w32 size small) at c.put_i32-at.ensures.puts in
-    let second = rw c.put_i32-at.ensures.behind at c.put_entry-behind.ensures.puts in
-    let behind = rw c.put_i32-at.ensures.behind at c.put_entry-behind.ensures.behind in
+    let first = rw (c.cast_unsigned.ensures, of_z-to_z w32 size small) at c.put_number-at.ensures.puts in
+    let second = rw c.put_number-at.ensures.behind at c.put_entry-behind.ensures.puts in
+    let behind = rw c.put_number-at.ensures.behind at c.put_entry-behind.ensures.behind in
     let at = c.put_entry-behind.result in
-    let long : length c.put_entry-behind.new.out ≡ length out = omega (arith, Puts-length c.put_entry-behind.ensures.puts, Puts-length c.put_i32-at.ensures.puts) in
+    let long : length c.put_entry-behind.new.out ≡ length out = omega (arith, Puts-length c.put_entry-behind.ensures.puts, Puts-length c.put_number-at.ensures.puts) in
     let left : length c.put_entry-behind.new.out - at ≡ zeros = omega (arith, long, behind) in
     let count = length-replicate {A = ℕ} zeros 0 in
     let rest : length (take (length c.put_entry-behind.new.out - at) (drop at c.put_entry-behind.new.out)) ≡ zeros = ap length (take_rest c.put_entry-behind.new.out at) ∙ length-drop at c.put_entry-behind.new.out ∙ left in

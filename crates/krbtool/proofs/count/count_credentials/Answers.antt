@@ -1,7 +1,7 @@
 use Rattle.std.proofs.Common.{◌∙◌, add-zero, arith, ap, Bool, Ok}
 use Rattle.std.proofs.lemmas.Result.{err_from_is_err_and}
 use Rattle.krb_name.proofs.FileLaws.{gives_then}
-use Rattle.krbtool.proofs.CountLaws.{credential_counted, cache_told, fault_told, gave_within}
+use Rattle.krbtool.proofs.WalkLaws.{credential_counted, cache_told, fault_told, gave_within}
 use Rattle.krbtool.proofs.count.count_credentials.Goals as goal
 
 pub returns-in_err-pass-clause-fault : goal.returns-in_err-pass-clause-fault
@@ -29,8 +29,8 @@ loop-count-preserved g c =
 pub returns-clause-found : goal.returns-clause-found
 returns-clause-found g c = λ from start.
     let counted = c.loop-count.invariant.counted from start in
-    cache_told from (g.S.Source.remaining c.pass.new.self.source) c.loop-count.count counted.cache_read c.a_source_tells_its_file.ensures
-    (c.in_ok-pass.ensures.end from counted.cache_read counted.read (ap (λ (b : Bool). Ok b) c.if-branch.false)) counted.counted
+    cache_told from (g.S.Source.remaining c.pass.new.self.source) _ counted.cache_read c.a_source_tells_its_file.ensures
+    (c.in_ok-pass.ensures.end from counted.cache_read counted.read (ap (λ (b : Bool). Ok b) c.if-branch.false)) counted.holds
 
 pub returns-clause-gave : goal.returns-clause-gave
 returns-clause-gave g c = gives_then _ _ _ _ _ _ c.loop-count.invariant.gave (gave_within _ _ c.loop-count.reader c.pass.new.self c.in_ok-pass.ensures.given c.in_ok-pass.ensures.limit)

@@ -2,7 +2,7 @@ use Rattle.std.proofs.Common.{◌≡◌, ◌-◌, ◌≤◌, List, [], ℕ, Opti
 use Rattle.krb_name.specs.File.{file_limit, GivesWithin}
 use Rattle.krb_ccache.specs.Reader.{HasRead}
 use Rattle.krb_ccache.specs.Value.{cache_of}
-use Rattle.krbtool.specs.Inner.Counting.{CredentialsCounted}
+use Rattle.krbtool.specs.Inner.Walk.{CredentialsCounted}
 use Rattle.krbtool.proofs.count.count_credentials.Given as goal
 
 abbrev pub invariant-loop-count : goal.invariant-loop-count

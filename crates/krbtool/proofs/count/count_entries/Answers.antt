@@ -1,12 +1,12 @@
 use Rattle.std.proofs.Common.{◌∙◌, add-zero, arith, ap, refl, Bool, Ok}
 use Rattle.std.proofs.lemmas.Result.{err_from_is_err_and}
-use Rattle.krbtool.proofs.CountLaws.{one_counted, fault_counted, entries_taken}
+use Rattle.krbtool.proofs.WalkLaws.{one_counted, fault_given, entries_taken}
 use Rattle.krbtool.proofs.count.count_entries.Goals as goal
 
 pub returns-in_err-pass-clause-fault : goal.returns-in_err-pass-clause-fault
 returns-in_err-pass-clause-fault g c =
     let p = err_from_is_err_and c.from_residual.result c.from_residual.ensures.1 in
-    rw (p.1, p.2) (fault_counted _ _ _ c.loop-count.reader c.pass.new.self c.loop-count.count c.in_err-pass.field-0.0 c.a_reader_tells_the_file.ensures.fault c.loop-count.invariant.counted c.in_err-pass.ensures.reads c.in_err-pass.ensures.stage)
+    rw (p.1, p.2) (fault_given _ _ _ c.loop-count.reader c.pass.new.self _ c.in_err-pass.field-0.0 c.a_reader_tells_the_file.ensures.fault c.loop-count.invariant.counted c.in_err-pass.ensures.reads c.in_err-pass.ensures.stage)
 
 pub loop-count-preserved : goal.loop-count-preserved
 loop-count-preserved g c =
@@ -21,7 +21,7 @@ loop-count-preserved g c =
     }
 
 pub returns-in_err-pass-clause-taken : goal.returns-in_err-pass-clause-taken
-returns-in_err-pass-clause-taken g c = entries_taken _ _ _ c.loop-count.reader c.pass.new.self c.loop-count.count _ c.loop-count.invariant.counted c.in_err-pass.ensures.reads c.in_err-pass.ensures.limit
+returns-in_err-pass-clause-taken g c = entries_taken _ _ _ c.loop-count.reader c.pass.new.self _ _ c.loop-count.invariant.counted c.in_err-pass.ensures.reads c.in_err-pass.ensures.limit
 
 pub returns-clause-taken : goal.returns-clause-taken
-returns-clause-taken g c = entries_taken _ _ _ c.loop-count.reader c.pass.new.self c.loop-count.count _ c.loop-count.invariant.counted c.in_ok-pass.ensures.reads c.in_ok-pass.ensures.limit
+returns-clause-taken g c = entries_taken _ _ _ c.loop-count.reader c.pass.new.self _ _ c.loop-count.invariant.counted c.in_ok-pass.ensures.reads c.in_ok-pass.ensures.limit

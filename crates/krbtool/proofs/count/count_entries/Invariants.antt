@@ -1,7 +1,7 @@
-use Rattle.std.proofs.Common.{◌≡◌, ◌-◌, ◌≤◌, Option, None}
+use Rattle.std.proofs.Common.{◌≡◌, ◌-◌, ◌≤◌, None}
 use Rattle.krb_name.specs.File.{file_limit}
 use Rattle.krb_keytab.specs.Items.{last_answer}
-use Rattle.krbtool.specs.Inner.Counting.{EntriesCounted}
+use Rattle.krbtool.specs.Inner.Walk.{EntriesCounted}
 use Rattle.krbtool.proofs.count.count_entries.Given as goal
 
 abbrev pub invariant-loop-count : goal.invariant-loop-count

@@ -1,4 +1,3 @@
-use Rattle.std.proofs.Common.{Ok, Err}
 use Rattle.std.proofs.lemmas.Result.{err_from_is_err_and}
 use Rattle.krb_gss.proofs.ChecksumLaws.{not_faulty, one_value, checksum-found}
 use Rattle.krb_gss.proofs.checksum.Checksum.parse.Goals as goal

@@ -1,13 +1,7 @@
-use Rattle.std.proofs.Common.{Ok, Err}
+use Rattle.std.proofs.Common.{Err}
 use Rattle.krb_keytab.proofs.EditLaws.{no_fault}
 use Rattle.krb_keytab.proofs.OneEnd.{only_answer}
 use Rattle.krb_keytab.proofs.keytab.Keytab.parse.Goals as goal
-
-pub returns-in-Ok-clause-found : goal.returns-in-Ok-clause-found
-returns-in-Ok-clause-found c = rw c.new.ensures at c.in-Ok.ensures.reads.found
-
-pub returns-in-Ok-clause-only : goal.returns-in-Ok-clause-only
-returns-in-Ok-clause-only c = let found = rw c.new.ensures at c.in-Ok.ensures.reads.found in λ answer a. only_answer c.args.bytes.now (Ok c.in-Ok.keytab) answer found tt a
 
 pub returns-in-Ok-clause-faulty : goal.returns-in-Ok-clause-faulty
 returns-in-Ok-clause-faulty c =

@@ -1,18 +1,8 @@
-use Rattle.std.proofs.Common.{arith, ◌∙◌, ◌++◌, add-zero}
-use Rattle.std.proofs.lemmas.List.{length-append}
-use Rattle.krb_name.proofs.WindowLaws.{keeps_more}
+use Rattle.krb_name.specs.Window.{Keeps}
+use Rattle.krb_name.proofs.WindowLaws.{keeps_more, one_more}
 use Rattle.krb_name.proofs.window.Window.fill.Goals as goal
 
 pub loop-left-preserved : goal.loop-left-preserved
 loop-left-preserved g c =
-    let first = c.loop-left.invariant.keeps in
-    let second = c.in_ok-came.ensures.keeps in
-    record {
-      keeps = record {
-        piece = first.piece ++ second.piece;
-        keeps = keeps_more _ _ _ _ _ _ first.piece second.piece first.keeps second.keeps;
-        counted = omega (arith, first.counted, second.one.0, second.one.1, length-append first.piece second.piece);
-      };
-      failures = rw add-zero at c.in_ok-came.ensures.failed ∙ c.loop-left.invariant.failures;
-      lent = c.in_ok-came.ensures.lent ∙ c.loop-left.invariant.lent;
-    }
+    let one = c.in_ok-came.ensures in
+    record { comes = one_more Keeps keeps_more _ _ _ _ _ _ _ _ _ c.loop-left.invariant.comes one.keeps one.failed one.lent }

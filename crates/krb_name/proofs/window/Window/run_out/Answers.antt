@@ -9,8 +9,8 @@ loop-self-preserved g c =
     record {
       skips = record {
         piece = first.piece ++ second.piece;
-        skips = skips_more _ _ _ _ _ _ first.piece second.piece first.skips second.skips;
-        one_past = λ within. omega (arith, second.skips.given, second.one.0, second.one.1, c.loop-self-test.true, c.given.ensures, c.given-in-loop-self.ensures);
+        skips = skips_more _ _ _ _ _ _ first.piece second.piece first.skips second.comes;
+        one_past = λ within. omega (arith, second.comes.given, second.one.0, second.one.1, c.loop-self-test.true, c.given.ensures, c.given-in-loop-self.ensures);
       };
       failures = rw add-zero at c.in_ok-skip_some.ensures.failed ∙ c.loop-self.invariant.failures;
       lent = c.in_ok-skip_some.ensures.lent ∙ c.loop-self.invariant.lent;

@@ -1,0 +1,195 @@
+//! Tokens of the GSS-API.
+
+use krb_gss::{
+    Answer as ServiceAnswer, Answered, Checksum, ContextFlag, ContextFlags, Mechanism, Opened,
+    Wrapping, open_answer, open_token, wrap_answer, wrap_request,
+};
+use krb_words::{Answer, Words, bytes_of};
+use std::fmt::Display;
+
+const FLAGS: [ContextFlag; 6] = [
+    ContextFlag::Delegation,
+    ContextFlag::Mutual,
+    ContextFlag::Replay,
+    ContextFlag::Sequence,
+    ContextFlag::Confidentiality,
+    ContextFlag::Integrity,
+];
+
+/// A NAME of Kerberos is `Kerberos` or `Microsoft`. A call that fails is answered `refused` and the fault's text.
+///
+/// ```text
+/// gss open BYTES       the first token of a client: `bare NAME REQUEST`, or `negotiated NAME NAME REQUEST`, first the name in the list
+/// gss oid NAME         the name's OBJECT IDENTIFIER
+/// gss request IN NAME BYTES
+///                      the first token of a client for this request: IN is `bare`, or the NAME in the list of a negotiation
+/// gss answer IN NAME (reply|error) BYTES
+///                      the service's answer, likewise
+/// gss answered BYTES   what such an answer holds: `bare NAME` or `negotiated NAME NAME`, then `reply` or `error`, and the message
+/// gss checksum BYTES   an authenticator's checksum: `FLAGS BINDINGS DELEGATION EXTENSIONS` and the names of the flags that are set; the
+///                      delegation is `none` if there is none
+/// gss encode FLAGS BINDINGS DELEGATION EXTENSIONS
+///                      its bytes
+/// gss bindings BYTES BINDINGS
+///                      whether the checksum has these: `true` or `false`
+/// ```
+pub(crate) fn answer(words: &mut Words, out: &mut Answer) -> Option<()> {
+    match words.next()? {
+        "open" => open(words, out),
+        "oid" => out.bytes(mechanism(words)?.oid()),
+        "request" => request(words, out),
+        "answer" => answer_of_service(words, out),
+        "answered" => answered(words, out),
+        "checksum" => checksum(words, out),
+        "encode" => encode(words, out),
+        "bindings" => bindings(words, out),
+        _ => None,
+    }
+}
+
+fn mechanism(words: &mut Words) -> Option<Mechanism> {
+    mechanism_of(words.next()?)
+}
+
+fn mechanism_of(name: &str) -> Option<Mechanism> {
+    match name {
+        "Kerberos" => Some(Mechanism::Kerberos),
+        "Microsoft" => Some(Mechanism::Microsoft),
+        _ => None,
+    }
+}
+
+fn wrapping(words: &mut Words) -> Option<Wrapping> {
+    match words.next()? {
+        "bare" => Some(Wrapping::Bare),
+        name => Some(Wrapping::Negotiated(mechanism_of(name)?)),
+    }
+}
+
+fn refused<F: Display + Drop>(fault: F, out: &mut Answer) -> Option<()> {
+    out.word("refused")?;
+    out.shown(fault)
+}
+
+fn open(words: &mut Words, out: &mut Answer) -> Option<()> {
+    match open_token(&words.bytes()?) {
+        Ok(opened) => show_opened(opened, out),
+        Err(fault) => refused(fault, out),
+    }
+}
+
+fn show_opened(opened: Opened, out: &mut Answer) -> Option<()> {
+    show_wrapping(opened.wrapping, opened.mechanism, out)?;
+    out.bytes(opened.request)
+}
+
+fn show_wrapping(wrapping: Wrapping, mechanism: Mechanism, out: &mut Answer) -> Option<()> {
+    match wrapping {
+        Wrapping::Bare => out.word("bare")?,
+        Wrapping::Negotiated(first) => {
+            out.word("negotiated")?;
+            out.named(first)?;
+        }
+    }
+    out.named(mechanism)
+}
+
+fn answered(words: &mut Words, out: &mut Answer) -> Option<()> {
+    match open_answer(&words.bytes()?) {
+        Ok(opened) => show_answered(opened, out),
+        Err(fault) => refused(fault, out),
+    }
+}
+
+fn show_answered(opened: Answered, out: &mut Answer) -> Option<()> {
+    show_wrapping(opened.wrapping, opened.mechanism, out)?;
+    match opened.answer {
+        ServiceAnswer::Reply(_) => out.word("reply")?,
+        ServiceAnswer::Error(_) => out.word("error")?,
+    }
+    out.bytes(opened.answer.bytes())
+}
+
+fn request(words: &mut Words, out: &mut Answer) -> Option<()> {
+    let wrapping = wrapping(words)?;
+    let mechanism = mechanism(words)?;
+    let bytes = words.bytes()?;
+    show_token(wrap_request(words.alloc, wrapping, mechanism, &bytes), out)
+}
+
+fn answer_of_service(words: &mut Words, out: &mut Answer) -> Option<()> {
+    let wrapping = wrapping(words)?;
+    let mechanism = mechanism(words)?;
+    let kind = words.next()?;
+    let bytes = words.bytes()?;
+    let answer = service_answer(kind, &bytes)?;
+    show_token(wrap_answer(words.alloc, wrapping, mechanism, answer), out)
+}
+
+fn service_answer<'a>(kind: &str, bytes: &'a [u8]) -> Option<ServiceAnswer<'a>> {
+    match kind {
+        "reply" => Some(ServiceAnswer::Reply(bytes)),
+        "error" => Some(ServiceAnswer::Error(bytes)),
+        _ => None,
+    }
+}
+
+fn show_token<F: Display + Drop>(token: Result<Vec<u8>, F>, out: &mut Answer) -> Option<()> {
+    match token {
+        Ok(token) => out.bytes(&token),
+        Err(fault) => refused(fault, out),
+    }
+}
+
+fn checksum(words: &mut Words, out: &mut Answer) -> Option<()> {
+    match Checksum::parse(&words.bytes()?) {
+        Ok(read) => show_checksum(&read, out),
+        Err(fault) => refused(fault, out),
+    }
+}
+
+fn show_checksum(read: &Checksum, out: &mut Answer) -> Option<()> {
+    out.shown(read.flags.0)?;
+    out.bytes(&read.bindings)?;
+    match read.delegation {
+        Some(message) => out.bytes(message)?,
+        None => out.word("none")?,
+    }
+    out.bytes(read.extensions)?;
+    show_flags(read.flags, out)
+}
+
+fn show_flags(flags: ContextFlags, out: &mut Answer) -> Option<()> {
+    for flag in FLAGS {
+        if flags.has(flag) {
+            out.named(flag)?;
+        }
+    }
+    Some(())
+}
+
+fn encode(words: &mut Words, out: &mut Answer) -> Option<()> {
+    let flags = ContextFlags(words.uint32()?);
+    let bindings = words.block()?;
+    let delegation = match words.next_unless_none()? {
+        Some(word) => Some(bytes_of(words.alloc, word)?),
+        None => None,
+    };
+    let extensions = words.bytes()?;
+    let value = Checksum {
+        flags,
+        bindings,
+        delegation: delegation.as_deref(),
+        extensions: &extensions,
+    };
+    show_token(value.encode(words.alloc), out)
+}
+
+fn bindings(words: &mut Words, out: &mut Answer) -> Option<()> {
+    let bytes = words.bytes()?;
+    let wanted = words.block()?;
+    match Checksum::parse(&bytes) {
+        Ok(read) => out.truth(read.has_bindings(&wanted)),
+        Err(fault) => refused(fault, out),
+    }
+}

@@ -1,0 +1,15 @@
+use Rattle.std.proofs.Common.{ℕ, List, ap, slice_index_or}
+use Rattle.std.proofs.lemmas.Result.{err_from_is_err_and}
+use Rattle.krb_ccache.proofs.WalkParts.{flag_goes, flag_stops}
+use Rattle.krb_ccache.proofs.field.BoolField.take.Goals as goal
+
+pub returns-clause-walk : goal.returns-clause-walk
+returns-clause-walk g c = λ strict.
+    let hand = g.T.Taker.hand in
+    flag_goes g.T.Taker.Within g.T.Taker.Lacks strict c.args.left (slice_index_or c.in_ok-byte.field-0 0 0) (hand c.args.taker.now) (hand c.take_last.new.taker) c.in_ok-byte.ensures.taken (ap (λ (last : List ℕ). slice_index_or last 0 0) c.in_ok-byte.ensures.last)
+
+pub returns-in_err-byte-clause-walk : goal.returns-in_err-byte-clause-walk
+returns-in_err-byte-clause-walk g c = λ strict.
+    let hand = g.T.Taker.hand in
+    let p = err_from_is_err_and c.from_residual.result c.from_residual.ensures.1 in
+    rw (p.1, p.2) (flag_stops g.T.Taker.Within g.T.Taker.Lacks strict c.args.left (hand c.args.taker.now) (hand c.take_last.new.taker) c.in_err-byte.field-0.0 c.in_err-byte.ensures.taken)

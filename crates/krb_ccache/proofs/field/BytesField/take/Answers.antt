@@ -1,0 +1,16 @@
+use Rattle.std.proofs.Common.{ap, ◌∙◌}
+use Rattle.std.specs.Int.{w32, from_be_bytes}
+use Rattle.std.proofs.lemmas.Result.{err_from_is_err_and}
+use Rattle.krb_ccache.proofs.WalkParts.{data_goes, data_stops}
+use Rattle.krb_ccache.proofs.field.BytesField.take.Goals as goal
+
+pub returns-clause-walk : goal.returns-clause-walk
+returns-clause-walk g c = λ strict.
+    let hand = g.T.Taker.hand in
+    data_goes g.T.Taker.Within g.T.Taker.Lacks strict c.args.left c.from_be_bytes-last.result (hand c.args.taker.now) (hand c.take_last.new.taker) c.in_ok-take_last.ensures.taken (c.from_be_bytes-last.ensures ∙ ap (from_be_bytes w32) c.in_ok-take_last.ensures.last)
+
+pub returns-in_err-take_last-clause-walk : goal.returns-in_err-take_last-clause-walk
+returns-in_err-take_last-clause-walk g c = λ strict.
+    let hand = g.T.Taker.hand in
+    let p = err_from_is_err_and c.from_residual.result c.from_residual.ensures.1 in
+    rw (p.1, p.2) (data_stops g.T.Taker.Within g.T.Taker.Lacks strict c.args.left (hand c.args.taker.now) (hand c.take_last.new.taker) c.in_err-take_last.field-0.0 c.in_err-take_last.ensures.taken)

@@ -1,0 +1,231 @@
+//! Fields that stand one after another: how they are read, and how their bytes are taken.
+
+ghost use Rattle.std.specs.Prelude.{◌≡◌, ◌==◌, ◌+◌, ◌-◌, ◌≤◌, ◌<◌, ◌^◌, ℕ, ℤ, Bool, true, max, List, Option, Some, None, IfOk};
+ghost use Rattle.std.specs.Int.{w8, w16, w32};
+ghost use Rattle.krb_name.specs.declared.principal.Principal.{Principal as PrincipalValue};
+ghost use Rattle.krb_name.specs.Cursor.{Place, number_at, signed_at, data_at};
+ghost use Rattle.krb_ccache.specs.declared.layout.Layout.{Layout as LayoutValue};
+ghost use Rattle.krb_ccache.specs.declared.typed.TypedBytes.{TypedBytes as TypedBytesValue};
+ghost use Rattle.krb_ccache.specs.Inner.Reading.{both_at, made_at, name_at, list_at, allowed, byte_at};
+ghost use Rattle.krb_ccache.specs.Inner.Walking.{IsWalk, passed_at, and_then, pass_if, left_at, stopped_reads};
+
+use crate::item_fault::ItemFault;
+use crate::items::{read_data, read_elements, read_name};
+use crate::layout::Layout;
+use crate::taker::Taker;
+use crate::typed::TypedList;
+use crate::walking::{Left, TakeFault, leave, number, take_last, take_many};
+use krb_name::{Bytes, FileCursor, Principal};
+use std::alloc::Global;
+
+// How many bytes the type of a principal has.
+const NAME_TYPE: usize = 4;
+
+// How many bytes the type of an address or of authorization data has.
+const KIND: usize = 2;
+
+/// A field, or a row of fields in nested pairs.
+pub(crate) trait Field: Sized {
+    /// What its bytes say.
+    ghost Raw: { Type 0 };
+
+    /// The value that they mean.
+    ghost value: { Raw → Self };
+
+    /// How it is read, with its flags checked or not.
+    ghost raw_at: { Bool → LayoutValue → Place → Option (Raw × Place) };
+
+    /// At most so many bytes beyond those that were left, and beyond a length, are left after it.
+    ghost most: { ℕ };
+
+    /// Reads the field that begins here, copies it and moves past it. On an error the position is
+    /// unspecified.
+    fn read(alloc: Global, layout: Layout, cursor: &mut FileCursor<'_>) -> Result<Self, ItemFault>
+        ensures read { IfOk result (λ field.
+            made_at value (raw_at true layout) cursor.old ≡ Some (field, cursor.new)) }
+        ensures missing { result ≡ Err ItemFault.Missing
+            → made_at value (raw_at true layout) cursor.old ≡ None };
+
+    /// Takes what is left of the fields before it, and then this field except for its last bytes.
+    fn take<T: Taker>(layout: Layout, taker: &mut T, left: Left) -> Result<Left, TakeFault>
+        requires few { max left.skip (2 ^ 32) + most < 2 ^ 64 }
+        requires reads { T.failures taker.old < 2 ^ 64 - 1 }
+        requires within { T.Within (T.hand taker.old) }
+        ensures few { IfOk result (λ next. next.skip ≤ max left.skip (2 ^ 32) + most) }
+        ensures walk { (strict : Bool) → IsWalk (and_then (left_at strict left) (passed_at (raw_at strict layout))) (left_at strict)
+            T.Within T.Lacks (T.hand taker.old) (T.hand taker.new) result }
+        ensures failed { T.failures taker.new ≡ T.failures taker.old + stopped_reads result }
+        ensures lent { T.lender taker.new ≡ T.lender taker.old };
+}
+
+/// Takes all bytes of a field, and returns whether its flags are flags.
+pub(crate) fn take_all<F: Field, T: Taker>(layout: Layout, taker: &mut T) -> Result<bool, TakeFault>
+    requires few { 2 ^ 32 + F.most < 2 ^ 64 }
+    requires reads { T.failures taker.old < 2 ^ 64 - 1 }
+    requires within { T.Within (T.hand taker.old) }
+    ensures walk { (strict : Bool) → IsWalk (passed_at (F.raw_at strict layout)) (λ good. pass_if (allowed strict good))
+        T.Within T.Lacks (T.hand taker.old) (T.hand taker.new) result }
+    ensures failed { T.failures taker.new ≡ T.failures taker.old + stopped_reads result }
+    ensures lent { T.lender taker.new ≡ T.lender taker.old }
+{
+    let left = F::take(layout, taker, Left::none())?;
+    taker.take(left.skip)?;
+    Ok(left.good)
+}
+
+impl<A: Field + Drop, B: Field + Drop> Field for (A, B) {
+    ghost Raw = { A.Raw × B.Raw };
+
+    ghost value = { λ raw. (A.value raw.0, B.value raw.1) };
+
+    ghost raw_at = { λ strict layout. both_at (A.raw_at strict layout) (B.raw_at strict layout) };
+
+    ghost most = { A.most + B.most };
+
+    fn read(
+        alloc: Global,
+        layout: Layout,
+        cursor: &mut FileCursor<'_>,
+    ) -> Result<(A, B), ItemFault> {
+        let first = A::read(alloc, layout, cursor)?;
+        let others = B::read(alloc, layout, cursor)?;
+        Ok((first, others))
+    }
+
+    fn take<T: Taker>(layout: Layout, taker: &mut T, left: Left) -> Result<Left, TakeFault> {
+        let next = A::take(layout, taker, left)?;
+        B::take(layout, taker, next)
+    }
+}
+
+impl Field for Principal {
+    ghost Raw = { PrincipalValue };
+
+    ghost value = { λ name. name };
+
+    ghost raw_at = { λ strict layout. name_at };
+
+    ghost most = { 12 };
+
+    fn read(alloc: Global, _: Layout, cursor: &mut FileCursor<'_>) -> Result<Principal, ItemFault> {
+        read_name(alloc, cursor)
+    }
+
+    fn take<T: Taker>(_: Layout, taker: &mut T, left: Left) -> Result<Left, TakeFault> {
+        let start: [u8; 8] = take_last(taker, left.skip + NAME_TYPE)?;
+        let last = take_many(taker, number(&start[4..]), 0, number(&start[..4]))?;
+        Ok(Left {
+            skip: last as usize,
+            ..left
+        })
+    }
+}
+
+impl Field for Bytes {
+    ghost Raw = { List ℕ };
+
+    ghost value = { λ bytes. bytes };
+
+    ghost raw_at = { λ strict layout. data_at w32 };
+
+    ghost most = { 12 };
+
+    fn read(alloc: Global, _: Layout, cursor: &mut FileCursor<'_>) -> Result<Bytes, ItemFault> {
+        read_data(alloc, cursor)
+    }
+
+    fn take<T: Taker>(_: Layout, taker: &mut T, left: Left) -> Result<Left, TakeFault> {
+        let last = u32::from_be_bytes(take_last(taker, left.skip)?);
+        Ok(Left {
+            skip: last as usize,
+            ..left
+        })
+    }
+}
+
+impl Field for TypedList {
+    ghost Raw = { List TypedBytesValue };
+
+    ghost value = { λ list. list };
+
+    ghost raw_at = { λ strict layout. list_at };
+
+    ghost most = { 12 };
+
+    #[tactic(auto, unfolding(crate::specs::Inner::Reading::list_at))]
+    fn read(alloc: Global, _: Layout, cursor: &mut FileCursor<'_>) -> Result<TypedList, ItemFault> {
+        let count = cursor.read_u32()?;
+        read_elements(alloc, cursor, count)
+    }
+
+    fn take<T: Taker>(_: Layout, taker: &mut T, left: Left) -> Result<Left, TakeFault> {
+        let count = u32::from_be_bytes(take_last(taker, left.skip)?);
+        let last = take_many(taker, 0, KIND, count)?;
+        Ok(Left {
+            skip: last as usize,
+            ..left
+        })
+    }
+}
+
+impl Field for bool {
+    ghost Raw = { ℕ };
+
+    ghost value = { λ byte. byte == 1 };
+
+    ghost raw_at = { λ strict layout. byte_at strict };
+
+    ghost most = { 12 };
+
+    fn read(_: Global, _: Layout, cursor: &mut FileCursor<'_>) -> Result<bool, ItemFault> {
+        let byte = cursor.read_u8()?;
+        if byte > 1 {
+            return Err(ItemFault::Missing);
+        }
+        Ok(byte == 1)
+    }
+
+    fn take<T: Taker>(_: Layout, taker: &mut T, left: Left) -> Result<Left, TakeFault> {
+        let [byte]: [u8; 1] = take_last(taker, left.skip)?;
+        Ok(Left {
+            skip: 0,
+            good: left.good & (byte <= 1),
+        })
+    }
+}
+
+impl Field for u32 {
+    ghost Raw = { ℕ };
+
+    ghost value = { λ number. number };
+
+    ghost raw_at = { λ strict layout. number_at w32 };
+
+    ghost most = { 4 };
+
+    fn read(_: Global, _: Layout, cursor: &mut FileCursor<'_>) -> Result<u32, ItemFault> {
+        Ok(cursor.read_u32()?)
+    }
+
+    fn take<T: Taker>(_: Layout, taker: &mut T, left: Left) -> Result<Left, TakeFault> {
+        Ok(leave(taker, left, 4))
+    }
+}
+
+impl Field for i16 {
+    ghost Raw = { ℤ };
+
+    ghost value = { λ number. number };
+
+    ghost raw_at = { λ strict layout. signed_at w16 };
+
+    ghost most = { 2 };
+
+    fn read(_: Global, _: Layout, cursor: &mut FileCursor<'_>) -> Result<i16, ItemFault> {
+        Ok(cursor.read_i16()?)
+    }
+
+    fn take<T: Taker>(_: Layout, taker: &mut T, left: Left) -> Result<Left, TakeFault> {
+        Ok(leave(taker, left, 2))
+    }
+}
