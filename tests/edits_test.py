@@ -70,6 +70,27 @@ pub fn next(n: u32) -> u32
 {
     n + 1
 }
+
+pub trait Bit {
+    fn bit(&self) -> u32
+        ensures { result ≤ 1 };
+}
+
+impl Bit for bool {
+    fn bit(&self) -> u32 {
+        if *self {
+            1
+        } else {
+            0
+        }
+    }
+}
+
+impl Bit for u8 {
+    fn bit(&self) -> u32 {
+        u32::from(*self / 128)
+    }
+}
 """
 
 # the answer names the call of twice
@@ -106,6 +127,9 @@ EDITS = [
     ("three_times_the_other_way_round", "    two + n", "    n + two", "isn't refused: without the answers"),
     ("three_times_is_four_times", "    two + n", "    two + two", None),
     ("of_a_text_that_is_gone", "    n + n + n", "    0", "doesn't apply"),
+    # methods of one trait, each for a type of the language
+    ("bool_is_two", "            1\n".strip("\n"), "            2", None),
+    ("u8_is_three", "*self / 128", "*self / 64", None),
     ("next_asks_for_more", "    ensures { result ≡ n + 1 }", "    ensures { result ≡ n + 1 + }", "can't be read"),
 ]
 

@@ -4,6 +4,7 @@ import re
 TEXT_OR_COMMENT = re.compile(
     r"""//[^\n]*|/\*.*?\*/|[bc]?r(#*)".*?"\1|[bc]?"(?:[^"\\]|\\.)*"|'(?:\\[^\n']+|[^\\\n'])'""", re.S
 )
+PLAIN_TYPE = re.compile(r"\b(?:bool|char|str|[iu](?:8|16|32|64|128|size))\b")
 CLAUSE = re.compile(r"(?:\b(?:requires|ensures)\s*\*?\s*\w*|\bghost(?:\s+\w+)?\s*:?|\bdecreases(?:\s+\w+)?)\s*\Z")
 
 
@@ -117,11 +118,15 @@ def names_of(crate, path, function, known):
         owner = re.match(r"\s*(?:\w+::)*(\w*)", words)[1]
         own = {it for it in known if it.endswith(f"::{owner}::{function.name}")}
         return {f"{above}::{owner}::{function.name}"} & own or own
-    # the name of an impl is made of the names in its head
-    parts = {*re.findall(r"\b[A-Z]\w*", words)} - parameters
-    found = {}
-    for it in known:
-        inner, _, name = it[len(above) + 2 :].rpartition("::")
-        if name == function.name and it.startswith(f"{above}::") and "::" not in inner and all(p in inner for p in parts):
-            found[it] = len(inner)
-    return {it for it, length in found.items() if length == min(found.values())}
+    # the name of an impl is made of the names in its head, those of the language's own types (u8, bool) with a capital
+    named = {*re.findall(r"\b[A-Z]\w*", words)} - parameters
+    plain = {it.capitalize() for it in PLAIN_TYPE.findall(words)}
+    for parts in (named | plain, named):
+        found = {}
+        for it in known:
+            inner, _, name = it[len(above) + 2 :].rpartition("::")
+            if name == function.name and it.startswith(f"{above}::") and "::" not in inner and all(p in inner for p in parts):
+                found[it] = len(inner)
+        if found:
+            return {it for it, length in found.items() if length == min(found.values())}
+    return set()
