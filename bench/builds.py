@@ -1,17 +1,19 @@
 #!/usr/bin/env python3
-"""Times sealing and opening by the library for C as it is built for each kind of processor, and prints a table of ratios of processor time.
+"""Times sealing and opening by the library for C as it is built for each kind of processor, and prints two tables of ratios: beside the build
+for every x86-64, and beside MIT krb5's krb5_c_encrypt and krb5_c_decrypt.
 
     bench/builds.py
 
-Leaves out the builds that this processor can't run. Needs a C compiler. It proves and builds the library, which takes a while on a new clone.
-Nothing here is a test: it asserts nothing but that the program ends well. run.py prints this table too.
+Leaves out the builds that this processor can't run. Needs a C compiler and Debian's packages libkrb5-dev and pkg-config. It proves and builds
+the library, which takes a while on a new clone. Nothing here is a test: it asserts nothing but that the programs end well. run.py prints
+these tables too.
 """
 import subprocess
 import sys
 import tempfile
 from pathlib import Path
 
-from pairs import PAIRS, SHORT, of_pairs, time_of
+from pairs import PAIRS, SHORT, compared, of_pairs, time_of
 
 HERE = Path(__file__).resolve().parent
 TOP = HERE.parent
@@ -22,6 +24,9 @@ LOADER = "/lib64/ld-linux-x86-64.so.2"
 # How many bytes, and how often.
 SIZES = [(60, 5_000), (1_024, 1_000), (65_536, 20)]
 CALLS = ("fevstunik_seal", "fevstunik_open")
+# Beside MIT krb5.
+MIT_SIZES = [(1_024, 1_000), (65_536, 20), (1_048_576, 2)]
+WAYS = ("seal", "open")
 
 
 def said(*command):
@@ -77,9 +82,33 @@ def table(programs):
                 rows(programs, cpu, etype, size, count)
 
 
+def mit_row(programs, cpu, mit, at, words):
+    ours = lambda: float(said(programs[cpu], *words).split()[at])
+    it = compared(ours, lambda: float(said(mit, WAYS[at], *words)))
+    etype, size, _ = words
+    print(f"| {CALLS[at]}, type {etype}, {size:,} bytes | {cpu} | {time_of(it.ours)} | {time_of(it.theirs)} | {it.shown} |", flush=True)
+
+
+def mit_table(programs, mit):
+    print("\n| call | build | its time | MIT krb5's | MIT's time / its time |\n|---|---|---|---|---|")
+    for at in range(len(CALLS)):
+        for etype in (19, 20):
+            for size, count in MIT_SIZES:
+                for cpu in sorted(programs.keys() - {PLAIN}):
+                    mit_row(programs, cpu, mit, at, [etype, size, count])
+
+
+def tables(folder):
+    """Prints both tables; builds what they time in this folder."""
+    programs, mit = built(folder), folder / "mit_crypto"
+    said("cc", "-O2", "-o", mit, HERE / "mit_crypto.c", *said("pkg-config", "--cflags", "--libs", "krb5").split())
+    table(programs)
+    mit_table(programs, mit)
+
+
 def main():
     with tempfile.TemporaryDirectory() as name:
-        table(built(Path(name)))
+        tables(Path(name))
 
 
 if __name__ == "__main__":

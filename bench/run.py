@@ -174,7 +174,7 @@ TABLES = {
     "c": lambda folder, programs: from_c.table(folder, from_c.built(folder)),
     "process": lambda folder, programs: exchange.lines_table(folder, programs["krb_exchange"], KRBTOOL, programs["mit_exchange"]),
     "listings": lambda folder, programs: files.tables(KRBTOOL),
-    "builds": lambda folder, programs: builds.table(builds.built(folder)),
+    "builds": lambda folder, programs: builds.tables(folder),
 }
 
 
