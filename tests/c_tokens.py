@@ -60,12 +60,7 @@ def answered(text):
         raise gss_rules.Fault("no token of a mechanism")
     token = gss_rules.Reader(text, 0, len(text))
     if text[:1] == b"\xa1":
-        fields = token.last(0xA1).last(0x30)
-        fields.optional(0xA0, 0x0A)
-        oid = fields.enter(0xA1).last(0x06)
-        token = fields.optional(0xA2, 0x04)
-        fields.optional(0xA3, 0x04)
-        fields.finish()
+        oid, token = gss_rules.response_of(token)
         gss_rules.name_of(oid)
         if token is None:
             raise gss_rules.Fault(f"no token of the mechanism at {oid.at}")

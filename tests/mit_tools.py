@@ -59,11 +59,17 @@ def keytabs():
     yield "holes", generated.HOLED_KEYTAB
 
 
+def converted(program, command, folder, name, data):
+    """A file of these bytes, and what the program's command makes of it."""
+    given, made = folder / f"{name}.given", folder / f"{name}.made"
+    given.write_bytes(data)
+    ran([program, command, str(given), str(made)])
+    return given, made
+
+
 def keytab_checks(program, folder):
     for name, data in keytabs():
-        given, made = folder / f"{name}.given", folder / f"{name}.made"
-        given.write_bytes(data)
-        ran([program, "convert-keytab", str(given), str(made)])
+        _, made = converted(program, "convert-keytab", folder, name, data)
         wanted = told_by_the_rules(data)
         found = [(it[0], it[3], it[4], it[5]) for it in listed_by_klist(made)]
         yield f"klist on the converted {name}", None if found == wanted else f"it lists {found}, not {wanted}"
@@ -104,9 +110,7 @@ def caches():
 def cache_checks(program, folder):
     """A converted cache is the same to klist as the one that it was made of, and names the services that we list."""
     for name, data in caches():
-        given, made = folder / f"{name}.given", folder / f"{name}.made"
-        given.write_bytes(data)
-        ran([program, "convert-ccache", str(given), str(made)])
+        given, made = converted(program, "convert-ccache", folder, name, data)
         told = listed_caches(made)
         yield f"klist on the converted {name}", None if told == listed_caches(given) else f"it says {told}"
         ours = [line.split()[-1] for line in ran([program, "list-ccache", str(made)]).splitlines() if line.startswith("ticket ")]

@@ -7,6 +7,7 @@
 #include <stdlib.h>
 #include <string.h>
 
+#include "bytes.h"
 #include "fevstunik.h"
 
 /* Which service is wanted: each of the keytab, or the fixture's. */
@@ -39,41 +40,6 @@ static inline void is_answer(const char *what, fevstunik_answer found, unsigned 
 static inline void is_bytes(const char *what, const uint8_t *found, const void *wanted, size_t size)
 {
     is(what, memcmp(found, wanted, size), 0);
-}
-
-struct bytes {
-    uint8_t at[4096];
-    size_t size;
-};
-
-static inline int digit(char text)
-{
-    return text >= '0' && text <= '9' ? text - '0' : text >= 'a' && text <= 'f' ? text - 'a' + 10 : -1;
-}
-
-/* Reads bytes in hexadecimal digits, up to what is none; answers how many. */
-static inline size_t read_hex(uint8_t *at, size_t room, const char *text)
-{
-    size_t size = 0;
-
-    for (; size < room && digit(text[0]) >= 0 && digit(text[1]) >= 0; text += 2)
-        at[size++] = (uint8_t)(digit(text[0]) << 4 | digit(text[1]));
-    return size;
-}
-
-static inline void from_hex(struct bytes *bytes, const char *text)
-{
-    bytes->size = read_hex(bytes->at, sizeof bytes->at, text);
-}
-
-static inline void from_file(struct bytes *bytes, const char *name)
-{
-    FILE *file = fopen(name, "rb");
-
-    if (file == NULL)
-        exit(2);
-    bytes->size = fread(bytes->at, 1, sizeof bytes->at, file);
-    fclose(file);
 }
 
 static inline fevstunik_time moment(int64_t seconds, uint32_t micros)

@@ -8,53 +8,22 @@
 #include <stdlib.h>
 #include <string.h>
 
+#define ROOM 2048
+#define BYTES_ROOM ROOM
+#define GUARD 16
+
+#include "drawn.h"
 #include "fevstunik.h"
 #include "listed.h"
 
-#define ROOM 2048
-#define GUARD 16
-
-struct bytes {
-    uint8_t at[ROOM];
-    size_t size;
-};
-
 static struct bytes keytab, cache, request, reply, bent;
 static uint8_t buffer[ROOM + GUARD];
-static uint64_t state;
 static long counts[1024];
 
 static void wrong(const char *what, long at)
 {
     printf("wrong: %s at input %ld\n", what, at);
     exit(1);
-}
-
-/* xorshift64 (Marsaglia, "Xorshift RNGs") */
-static uint32_t below(uint32_t limit)
-{
-    state ^= state << 13;
-    state ^= state >> 7;
-    state ^= state << 17;
-    return (uint32_t)((state >> 32) % limit);
-}
-
-static void from_hex(struct bytes *bytes, const char *text)
-{
-    unsigned byte;
-
-    for (; bytes->size < ROOM && sscanf(text, "%2x", &byte) == 1; text += 2)
-        bytes->at[bytes->size++] = (uint8_t)byte;
-}
-
-static void from_file(struct bytes *bytes, const char *name)
-{
-    FILE *file = fopen(name, "rb");
-
-    if (file == NULL)
-        exit(2);
-    bytes->size = fread(bytes->at, 1, ROOM, file);
-    fclose(file);
 }
 
 /* Some bits turned, a piece cut out, put in twice or written over with small numbers; or nothing done. */
@@ -68,23 +37,19 @@ static void bend(const struct bytes *from)
         size = below((uint32_t)(bent.size - at) + 1);
         switch (below(5)) {
         case 0:
-            bent.at[at] ^= (uint8_t)(1u << below(8));
+            bend_at(&bent, at, size, ROOM, BIT_TURNED);
             break;
         case 1:
             bent.at[at] = (uint8_t)(below(2) ? below(256) : 0x80 + below(6));
             break;
         case 2:
-            bent.size = at;
+            bend_at(&bent, at, size, ROOM, END_CUT_OFF);
             break;
         case 3:
-            memmove(bent.at + at, bent.at + at + size, bent.size - at - size);
-            bent.size -= size;
+            bend_at(&bent, at, size, ROOM, CUT_OUT);
             break;
         default:
-            if (bent.size + size <= ROOM) {
-                memmove(bent.at + at + size, bent.at + at, bent.size - at);
-                bent.size += size;
-            }
+            bend_at(&bent, at, size, ROOM, PUT_IN_TWICE);
         }
     }
 }

@@ -11,22 +11,19 @@
 #include <string.h>
 #include <time.h>
 
-#include "fevstunik.h"
-
 /* The longest token, and one more. */
 #define MOST 1048577
 #define GUARD 16
+#define BYTES_ROOM (MOST + GUARD)
 
-struct bytes {
-    uint8_t at[MOST + GUARD];
-    size_t size;
-};
+#include "drawn.h"
+#include "fevstunik.h"
 
 /* A token is drawn from its end to its front, so that an element's length is known when its head is drawn. */
 static uint8_t drawn[2 * MOST];
 static size_t front;
 static struct bytes keytab, request, token, opened, answered;
-static uint64_t state, slowest, limit;
+static uint64_t slowest, limit;
 static long counts[1024], number;
 static int is_bent;
 
@@ -40,15 +37,6 @@ static void wrong(const char *what)
 {
     printf("wrong: %s at token %ld\n", what, number);
     exit(1);
-}
-
-/* xorshift64 (Marsaglia, "Xorshift RNGs") */
-static uint32_t below(uint32_t most)
-{
-    state ^= state << 13;
-    state ^= state >> 7;
-    state ^= state << 17;
-    return (uint32_t)((state >> 32) % most);
 }
 
 static void put(const void *bytes, size_t size)
@@ -260,23 +248,7 @@ static void bend_bytes(void)
     for (; times > 0 && token.size > 0; times--) {
         at = below(below(2) && token.size > 60 ? 60 : (uint32_t)token.size);
         size = below((uint32_t)(token.size - at < 40 ? token.size - at : 40) + 1);
-        switch (below(4)) {
-        case 0:
-            token.at[at] ^= (uint8_t)(1u << below(8));
-            break;
-        case 1:
-            token.size = at;
-            break;
-        case 2:
-            memmove(token.at + at, token.at + at + size, token.size - at - size);
-            token.size -= size;
-            break;
-        default:
-            if (token.size + size <= MOST) {
-                memmove(token.at + at + size, token.at + at, token.size - at);
-                token.size += size;
-            }
-        }
+        bend_at(&token, at, size, MOST, (enum bend)below(4));
     }
 }
 
@@ -452,16 +424,8 @@ static void as_context(void)
 
 static void read_inputs(char **words)
 {
-    FILE *file = fopen(words[1], "rb");
-    const char *text = words[2];
-    unsigned byte;
-
-    if (file == NULL)
-        exit(2);
-    keytab.size = fread(keytab.at, 1, MOST, file);
-    fclose(file);
-    for (; sscanf(text, "%2x", &byte) == 1; text += 2)
-        request.at[request.size++] = (uint8_t)byte;
+    from_file(&keytab, words[1]);
+    from_hex(&request, words[2]);
     state = strtoull(words[4], NULL, 10);
     limit = strtoull(words[5], NULL, 10);
 }

@@ -14,16 +14,26 @@
 //! `specs/Reply` and `specs/ErrorReply` say what the service sends back. `specs/Headline` says when
 //! one side accepts what the other one built, and [`laws`] states that it does.
 //!
+//! A client builds a request, and keeps what waits for the reply:
+//!
 //! ```rust
 //! let (request, pending) = make_request(alloc, &cache, &service, now, &confounder, options)?;
+//! ```
 //!
+//! A service decides, and replies:
+//!
+//! ```rust
 //! let skew = Skew::new(300).context("at most a day")?;
 //! let mut acceptor = Acceptor::new(keytab, skew, TimedMemory::new(alloc));
 //! let reply = match acceptor.accept(alloc, &request, now) {
-//!     Ok(accepted) => accepted.reply(alloc, &other_confounder, choices)?,
+//!     Ok(accepted) => accepted.reply(alloc, &confounder, choices)?,
 //!     Err(refusal) => error_reply(alloc, &refusal, now, &service)?,
 //! };
+//! ```
 //!
+//! The client reads the reply:
+//!
+//! ```rust
 //! let agreed = pending.finish(alloc, &reply)?;
 //! ```
 #![tactic(auto)]

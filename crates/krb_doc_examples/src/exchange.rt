@@ -1,7 +1,7 @@
 //! Examples of both sides of the exchange.
 
 use anyhow::{Context, Result};
-use krb_ap::{Acceptor, Agreed, ReplyOptions, RequestOptions, error_reply, make_request};
+use krb_ap::{Acceptor, Agreed, Pending, ReplyOptions, RequestOptions, error_reply, make_request};
 use krb_ccache::CCache;
 use krb_keytab::Keytab;
 use krb_msg::Moment;
@@ -19,40 +19,53 @@ pub fn remember(alloc: Global, tuple: Tuple, now: Moment, skew: Skew) -> Result<
     Ok(())
 }
 
-/// What a client and a service make of each other's messages.
-pub struct Both {
-    pub cache: CCache,
-    pub service: Principal,
-    pub now: Moment,
-    pub options: RequestOptions,
+/// Builds a client's request.
+pub fn ask(
+    alloc: Global,
+    cache: CCache,
+    service: Principal,
+    now: Moment,
+    confounder: [u8; 16],
+    options: RequestOptions,
+) -> Result<(Vec<u8>, Pending)> {
+    let (request, pending) = make_request(alloc, &cache, &service, now, &confounder, options)?;
+
+    Ok((request, pending))
+}
+
+/// What a service has when a request comes.
+pub struct Asked {
     pub keytab: Keytab,
+    pub service: Principal,
+    pub request: Vec<u8>,
+    pub now: Moment,
+    pub confounder: [u8; 16],
     pub choices: ReplyOptions,
 }
 
-/// Runs the exchange.
-pub fn agree(
-    alloc: Global,
-    both: Both,
-    confounder: [u8; 16],
-    other_confounder: [u8; 16],
-) -> Result<Agreed> {
-    let Both {
-        cache,
-        service,
-        now,
-        options,
+/// Decides a request, and returns the service's reply.
+pub fn answer(alloc: Global, asked: Asked) -> Result<Vec<u8>> {
+    let Asked {
         keytab,
+        service,
+        request,
+        now,
+        confounder,
         choices,
-    } = both;
-    let (request, pending) = make_request(alloc, &cache, &service, now, &confounder, options)?;
-
+    } = asked;
     let skew = Skew::new(300).context("at most a day")?;
     let mut acceptor = Acceptor::new(keytab, skew, TimedMemory::new(alloc));
     let reply = match acceptor.accept(alloc, &request, now) {
-        Ok(accepted) => accepted.reply(alloc, &other_confounder, choices)?,
+        Ok(accepted) => accepted.reply(alloc, &confounder, choices)?,
         Err(refusal) => error_reply(alloc, &refusal, now, &service)?,
     };
 
+    Ok(reply)
+}
+
+/// Reads the reply.
+pub fn agree(alloc: Global, pending: Pending, reply: Vec<u8>) -> Result<Agreed> {
     let agreed = pending.finish(alloc, &reply)?;
+
     Ok(agreed)
 }
