@@ -1,7 +1,7 @@
 -- The rounds of the cipher on 16 lanes, on blocks in the form that encryption keeps.
 use Rattle.std.proofs.Common.{◌≡◌, ℕ, ◌+◌, ◌*◌, ◌%◌, ◌<◌, List, length, map, refl, sym, ap, ◌∙◌, subst, lit<, bit_xor}
 use Rattle.std.specs.Simd.Lanes.{zip2, chunk}
-use Rattle.std.specs.Int.Bits.{xor_self, xor_zero_r}
+use Rattle.std.specs.Int.Bits.{xor_assoc, xor_self, xor_zero_r}
 use Rattle.std.proofs.lemmas.Nat.{xor_comm, xor_of_8}
 use Rattle.krb_aes.specs.Field.{carryless, remainder, product}
 use Rattle.krb_aes.specs.SBox.{s_box}
@@ -50,8 +50,15 @@ abbrev round_lane : ℕ → (ℕ → ℕ) → ℕ → ℕ
 round_lane r y key =
     let once : ℕ → ℕ = λ j. tower_part (bit_xor (y j) 0x63) in
     let twice : ℕ → ℕ = λ j. tower_part (product 0x02 (bit_xor (y j) 0x63)) in
-    bit_xor (bit_xor (twice r) (bit_xor (twice ((r + 1) % 4)) (once ((r + 1) % 4))))
-    (bit_xor (bit_xor (once ((r + 2) % 4)) (once ((r + 3) % 4))) (tower_form (bit_xor 0x63 key)))
+    bit_xor (bit_xor (bit_xor (bit_xor (once ((r + 2) % 4)) (tower_form (bit_xor 0x63 key))) (once ((r + 3) % 4))) (twice r))
+    (bit_xor (twice ((r + 1) % 4)) (once ((r + 1) % 4)))
+
+added_in_turn : (a b c d k : ℕ) →
+    bit_xor (bit_xor (bit_xor (bit_xor c k) d) a) b ≡ bit_xor (bit_xor a b) (bit_xor (bit_xor c d) k)
+added_in_turn a b c d k =
+    xor_assoc (bit_xor (bit_xor c k) d) a b
+    ∙ xor_comm (bit_xor (bit_xor c k) d) (bit_xor a b)
+    ∙ ap (bit_xor (bit_xor a b)) (xor_assoc c k d ∙ ap (bit_xor c) (xor_comm k d) ∙ sym (xor_assoc c d k))
 
 round_lane_is : (r : ℕ) (y : ℕ → ℕ) (key : ℕ) → r < 4 → ((j : ℕ) → y j < 256) → key < 256 →
     round_lane r y key ≡ tower_form (bit_xor (row_times_column mix r y) key)
@@ -63,7 +70,8 @@ round_lane_is r y key small bytes key_byte =
     let x2 = u ((r + 2) % 4) in
     let x3 = u ((r + 3) % 4) in
     let k = bit_xor 0x63 key in
-    ap (λ x. bit_xor (bit_xor (tower_part a) (bit_xor (tower_part b) (tower_part x1))) (bit_xor (bit_xor (tower_part x2) (tower_part x3)) x))
+    added_in_turn (tower_part a) (bit_xor (tower_part b) (tower_part x1)) (tower_part x2) (tower_part x3) (tower_form k)
+    ∙ ap (λ x. bit_xor (bit_xor (tower_part a) (bit_xor (tower_part b) (tower_part x1))) (bit_xor (bit_xor (tower_part x2) (tower_part x3)) x))
     (tower_form_is k (xor_of_8 0x63 key (lit< tt) key_byte))
     ∙ tower_part-sum a b x1 x2 x3 k
     ∙ ap tower_part
@@ -74,8 +82,11 @@ round_lane_is r y key small bytes key_byte =
 
 abbrev round_of : List ℕ → List ℕ → List ℕ → List ℕ
 round_of once doubled key_form =
-    zip2 bit_xor (zip2 bit_xor (picked doubled shifted) (picked (zip2 bit_xor doubled once) shifted_turned_1))
-    (zip2 bit_xor (zip2 bit_xor (picked once shifted_turned_2) (picked once shifted_turned_3)) (chunk 0 16 key_form))
+    zip2 bit_xor
+    (zip2 bit_xor
+        (zip2 bit_xor (zip2 bit_xor (picked once shifted_turned_2) (chunk 0 16 key_form)) (picked once shifted_turned_3))
+        (picked doubled shifted))
+    (picked (zip2 bit_xor doubled once) shifted_turned_1)
 
 abbrev once_lanes : List ℕ → List ℕ
 once_lanes s = map (λ x. tower_part (bit_xor (s_box x) 0x63)) s

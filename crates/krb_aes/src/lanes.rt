@@ -48,7 +48,8 @@ fn first_round(block: &[u8; 16], key: &[u8]) -> u8x16
     formed(u8x16::from_array(*block) ^ u8x16::from_slice(key))
 }
 
-// A round of the cipher, on a block in the form that encryption keeps, with a key of `form_key`.
+// A round of the cipher, on a block in the form that encryption keeps, with a key of `form_key`. What is known first is added first,
+// since the next round waits for the last sum.
 #[inline(always)]
 fn round(form: u8x16, key: &[u8]) -> u8x16
     requires form { LanesBelow 256 form }
@@ -59,9 +60,9 @@ fn round(form: u8x16, key: &[u8]) -> u8x16
 {
     let (once, doubled) = products(form);
     let tripled = doubled ^ once;
-    let first = doubled.swizzle(SHIFTED) ^ tripled.swizzle(SHIFTED_TURNED_1);
-    let others = once.swizzle(SHIFTED_TURNED_2) ^ once.swizzle(SHIFTED_TURNED_3);
-    first ^ (others ^ u8x16::from_slice(key))
+    let third = once.swizzle(SHIFTED_TURNED_2) ^ u8x16::from_slice(key);
+    let others = third ^ once.swizzle(SHIFTED_TURNED_3);
+    others ^ doubled.swizzle(SHIFTED) ^ tripled.swizzle(SHIFTED_TURNED_1)
 }
 
 // The last round, which has no MixColumns.
