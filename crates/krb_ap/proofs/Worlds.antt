@@ -7,7 +7,7 @@ use Rattle.krb_der.specs.Spells.{IsMessage}
 use Rattle.krb_msg.specs.Module.{ap_req, ap_rep, krb_error, ticket as ticket_kind, enc_ticket_part}
 use Rattle.krb_ccache.specs.declared.credential.Credential.{Credential}
 use Rattle.krb_ap.specs.Setup.{Setup, Arrival}
-use Rattle.krb_ap.specs.Taken.{Taken, Accept}
+use Rattle.krb_ap.specs.Taken.{Accept}
 use Rattle.krb_ap.specs.Request.{Awaited, IsBuilt, request_for}
 use Rattle.krb_ap.specs.Headline.{Agrees, HasTicket}
 use Rattle.krb_ap.specs.Reply.{IsReply, reply_part_for}
@@ -21,10 +21,37 @@ use Rattle.krb_ap.proofs.Begins.{same_tag}
 use Rattle.krb_ap.proofs.Entries.{has_ticket_by}
 use Rattle.krb_ap.proofs.Sending.{taken_agrees, reply_opens}
 
-pub of_all : {X : Type 0} (P : X → Type 0) (xs : List X) (x : X) → All P xs → IsOf xs x → P x
-of_all P [] x all o = absurd o
-of_all P (y ∷ ys) x all (inl e) = subst P e (All-head P y ys all)
-of_all P (y ∷ ys) x all (inr o) = of_all P ys x (All-tail P y ys all) o
+-- ---- lists
+
+-- each of these is so
+abbrev pub Each : {X : Type 0} → List X → (X → Type 0) → Type 0
+Each xs P = (x : _) → IsOf xs x → P x
+
+pub of_all : {X : Type 0} (P : X → Type 0) (xs : List X) → All P xs → Each xs P
+of_all P [] all x o = absurd o
+of_all P (y ∷ ys) all x (inl e) = subst P e (All-head P y ys all)
+of_all P (y ∷ ys) all x (inr o) = of_all P ys (All-tail P y ys all) x o
+
+pub each_more : {X : Type 0} (P : X → Type 0) (x : X) (xs : List X) → P x → Each xs P → Each (x ∷ xs) P
+each_more P x xs p each y (inl e) = subst P e p
+each_more P x xs p each y (inr o) = each y o
+
+-- no two of these have the same key
+abbrev pub AreApart : {X Y : Type 0} → (X → Y) → List X → Type 0
+AreApart key xs = (x y : _) → IsOf xs x → IsOf xs y → key x ≡ key y → x ≡ y
+
+pub apart_more : {X Y : Type 0} (key : X → Y) (x : X) (xs : List X) → All (λ other. key other ≢ key x) xs → AreApart key xs
+    → AreApart key (x ∷ xs)
+apart_more key x xs new apart a b (inl e) (inl f) same = sym e ∙ f
+apart_more key x xs new apart a b (inl e) (inr o) same = absurd (of_all (λ other. key other ≢ key x) xs new b o (sym same ∙ ap key (sym e)))
+apart_more key x xs new apart a b (inr o) (inl e) same = absurd (of_all (λ other. key other ≢ key x) xs new a o (same ∙ ap key (sym e)))
+apart_more key x xs new apart a b (inr o) (inr p) same = apart a b o p same
+
+-- what each event keeps holds in each world that comes about
+pub kept : (credential : Credential) (P : World → Type 0) → ((w : World) (event : Event) → P w → Can credential w event → P (happens w event))
+    → (w : World) (events : List Event) (end : World) → P w → Comes credential w events end → P end
+kept credential P keeps w [] end p c = subst P (sym c) p
+kept credential P keeps w (event ∷ events) end p c = kept credential P keeps (happens w event) events end (keeps w event p c.0) c.1
 
 -- no bytes are both a request and a reply
 abbrev pub Apart : Type 0
@@ -53,24 +80,28 @@ module _ (facts : Facts) (separate : Apart) (setup : Setup) (credential : Creden
     entries : by.entries ≡ setup.entries
     accept : Accept by history h.call h.taken
 
-  record IsReplied (w : World) (r : Replied) : Type 0 where
-    held : IsOf w.held r.held
-    sent : IsSent w r.held.call.bytes
+  record IsReplied (sent : List Sent) (held : List Held) (r : Replied) : Type 0 where
+    held_is : IsOf held r.held
+    asked : (s : Sent) × (IsOf sent s × (s.bytes ≡ r.held.call.bytes))
     reply : IsReply r.held.taken r.confounder r.options r.bytes
 
-  record IsEnd (w : World) (e : Ended) (r : Replied) : Type 0 where
-    replied : IsOf w.replied r
-    same : r.held.call.bytes ≡ e.sent.bytes
-    both : HoldSame credential e r
+  record IsEnd (sent : List Sent) (replied : List Replied) (e : Ended) : Type 0 where
+    asked : IsOf sent e.sent
+    reply : Replied
+    replied_is : IsOf replied reply
+    same : reply.held.call.bytes ≡ e.sent.bytes
+    both : HoldSame credential e reply
 
-  record Good (w : World) : Type 0 where
-    entries : w.setup.entries ≡ setup.entries
-    built : (s : Sent) → IsOf w.sent s → IsBuilt credential s.at s.confounder s.options s.bytes
-    apart : (s t : Sent) → IsOf w.sent s → IsOf w.sent t → s.at ≡ t.at → s ≡ t
-    accepted : (h : Held) → IsOf w.held h → WasAccepted h
-    replied : (r : Replied) → IsOf w.replied r → IsReplied w r
-    error : (bytes : List ℕ) → IsOf w.errors bytes → IsErrorOf bytes
-    ended : (e : Ended) → IsOf w.ended e → IsOf w.sent e.sent × ((r : Replied) × IsEnd w e r)
+  abbrev Good : World → Type 0
+  Good w = record {
+    entries : w.setup.entries ≡ setup.entries;
+    built : Each w.sent (λ s. IsBuilt credential s.at s.confounder s.options s.bytes);
+    apart : AreApart (λ (s : Sent). s.at) w.sent;
+    accepted : Each w.held WasAccepted;
+    replied : Each w.replied (IsReplied w.sent w.held);
+    error : Each w.errors IsErrorOf;
+    ended : Each w.ended (IsEnd w.sent w.replied);
+  }
 
   nothing : Good (nothing_yet setup)
   nothing = record {
@@ -91,127 +122,6 @@ module _ (facts : Facts) (separate : Apart) (setup : Setup) (credential : Creden
       taken_agrees facts was.by credential ticket part (has_ticket_by setup was.by (sym was.entries) credential ticket part has)
       s.at s.confounder s.options s.bytes (good.built s p) was.history h.call h.taken same was.accept
 
-  -- ---- a request is sent
-
-  module _ (w : World) (good : Good w) (s : Sent) (is_built : IsBuilt credential s.at s.confounder s.options s.bytes)
-      (new : All (λ other. other.at ≢ s.at) w.sent) where
-    built_after : (t : Sent) → IsOf (s ∷ w.sent) t → IsBuilt credential t.at t.confounder t.options t.bytes
-    built_after t (inl e) = subst (λ (x : Sent). IsBuilt credential x.at x.confounder x.options x.bytes) e is_built
-    built_after t (inr o) = good.built t o
-
-    apart_after : (t u : Sent) → IsOf (s ∷ w.sent) t → IsOf (s ∷ w.sent) u → t.at ≡ u.at → t ≡ u
-    apart_after t u (inl e) (inl f) same = sym e ∙ f
-    apart_after t u (inl e) (inr o) same =
-        absurd (of_all (λ (x : Sent). x.at ≢ s.at) w.sent u new o (sym same ∙ ap (λ (x : Sent). x.at) (sym e)))
-    apart_after t u (inr o) (inl e) same =
-        absurd (of_all (λ (x : Sent). x.at ≢ s.at) w.sent t new o (same ∙ ap (λ (x : Sent). x.at) (sym e)))
-    apart_after t u (inr o) (inr p) same = good.apart t u o p same
-
-    replied_sent : (r : Replied) → IsOf w.replied r → IsReplied (happens w (sends s)) r
-    replied_sent r o = (let old : IsReplied w r = good.replied r o in
-        record { held = old.held; sent = (old.sent.0, (inr old.sent.1.0, old.sent.1.1)); reply = old.reply })
-
-    after_sending : Good (happens w (sends s))
-    after_sending = record {
-      entries = good.entries;
-      built = built_after;
-      apart = apart_after;
-      accepted = good.accepted;
-      replied = replied_sent;
-      error = good.error;
-      ended = λ e o. (let old : IsOf w.sent e.sent × ((r : Replied) × IsEnd w e r) = good.ended e o in
-          (inr old.0, (old.1.0, record { replied = old.1.1.replied; same = old.1.1.same; both = old.1.1.both })));
-    }
-
-  -- ---- what ended stays so
-  abbrev Endings : World → Type 0
-  Endings w = (e : Ended) → IsOf w.ended e → IsOf w.sent e.sent × ((r : Replied) × IsEnd w e r)
-
-  -- ---- a request is accepted
-
-  module _ (w : World) (good : Good w) (call : Arrival) (taken : Taken) (accept : Accept w.setup w.history call taken) where
-    abbrev new_held : Held
-    new_held = record { call = call; taken = taken }
-
-    accepted_after : (h : Held) → IsOf (new_held ∷ w.held) h → WasAccepted h
-    accepted_after h (inl e) = subst WasAccepted e (record { by = w.setup; history = w.history; entries = good.entries; accept = accept })
-    accepted_after h (inr o) = good.accepted h o
-
-    replied_more : (r : Replied) → IsOf w.replied r → IsReplied (happens w (accepts call taken)) r
-    replied_more r o = (let old : IsReplied w r = good.replied r o in record { held = inr old.held; sent = old.sent; reply = old.reply })
-
-    ended_more : Endings (happens w (accepts call taken))
-    ended_more e o = (let old : IsOf w.sent e.sent × ((r : Replied) × IsEnd w e r) = good.ended e o in
-        (old.0, (old.1.0, record { replied = old.1.1.replied; same = old.1.1.same; both = old.1.1.both })))
-
-    after_accepting : Good (happens w (accepts call taken))
-    after_accepting = record {
-      entries = good.entries;
-      built = good.built;
-      apart = good.apart;
-      accepted = accepted_after;
-      replied = replied_more;
-      error = good.error;
-      ended = ended_more;
-    }
-
-  -- ---- what changes neither what was sent and held, nor the replies
-
-  module _ (w other : World) (good : Good w) (entries : other.setup.entries ≡ setup.entries) (sent : other.sent ≡ w.sent) (held : other.held ≡ w.held)
-      (replied : other.replied ≡ w.replied) (ended : other.ended ≡ w.ended) where
-    replied_same : (r : Replied) → IsOf other.replied r → IsReplied other r
-    replied_same r o = (let old : IsReplied w r = good.replied r (subst (λ (l : List Replied). IsOf l r) replied o) in
-        record {
-          held = subst (λ (l : List Held). IsOf l r.held) (sym held) old.held;
-          sent = (old.sent.0, (subst (λ (l : List Sent). IsOf l old.sent.0) (sym sent) old.sent.1.0, old.sent.1.1));
-          reply = old.reply;
-        })
-
-    ended_same : Endings other
-    ended_same e o = (let old : IsOf w.sent e.sent × ((r : Replied) × IsEnd w e r) = good.ended e (subst (λ (l : List Ended). IsOf l e) ended o) in (
-      subst (λ (l : List Sent). IsOf l e.sent) (sym sent) old.0,
-      (old.1.0, record { replied = subst (λ (l : List Replied). IsOf l old.1.0) (sym replied) old.1.1.replied; same = old.1.1.same; both = old.1.1.both }),
-    ))
-
-    unchanged : ((bytes : List ℕ) → IsOf other.errors bytes → IsErrorOf bytes) → Good other
-    unchanged errors = record {
-      entries = entries;
-      built = λ s o. good.built s (subst (λ (l : List Sent). IsOf l s) sent o);
-      apart = λ s t o p. good.apart s t (subst (λ (l : List Sent). IsOf l s) sent o) (subst (λ (l : List Sent). IsOf l t) sent p);
-      accepted = λ h o. good.accepted h (subst (λ (l : List Held). IsOf l h) held o);
-      replied = replied_same;
-      error = errors;
-      ended = ended_same;
-    }
-
-  errors_after : (w : World) → Good w → (refusal : Refusal) (now : ℤ) (service : Principal) (bytes : List ℕ) → IsErrorReply refusal now service bytes
-      → (b : List ℕ) → IsOf (bytes ∷ w.errors) b → IsErrorOf b
-  errors_after w good refusal now service bytes is b (inl e) = subst IsErrorOf e (record { refusal = refusal; now = now; service = service; error = is })
-  errors_after w good refusal now service bytes is b (inr o) = good.error b o
-
-  -- ---- a reply is sent
-
-  module _ (w : World) (good : Good w) (r : Replied) (of_held : IsOf w.held r.held) (of_sent : IsSent w r.held.call.bytes)
-      (is_reply : IsReply r.held.taken r.confounder r.options r.bytes) where
-    replied_after : (q : Replied) → IsOf (r ∷ w.replied) q → IsReplied (happens w (replies r)) q
-    replied_after q (inl e) = subst (IsReplied (happens w (replies r))) e (record { held = of_held; sent = of_sent; reply = is_reply })
-    replied_after q (inr o) = (let old : IsReplied w q = good.replied q o in record { held = old.held; sent = old.sent; reply = old.reply })
-
-    ended_replied : Endings (happens w (replies r))
-    ended_replied e o = (let old : IsOf w.sent e.sent × ((q : Replied) × IsEnd w e q) = good.ended e o in
-        (old.0, (old.1.0, record { replied = inr old.1.1.replied; same = old.1.1.same; both = old.1.1.both })))
-
-    after_replying : Good (happens w (replies r))
-    after_replying = record {
-      entries = good.entries;
-      built = good.built;
-      apart = good.apart;
-      accepted = good.accepted;
-      replied = replied_after;
-      error = good.error;
-      ended = ended_replied;
-    }
-
   -- ---- a client agrees
 
   module _ (w : World) (good : Good w) (e : Ended) (bytes : List ℕ) (of_sent : IsOf w.sent e.sent)
@@ -230,7 +140,7 @@ module _ (facts : Facts) (separate : Apart) (setup : Setup) (credential : Creden
 
     module _ (r : Replied) (o : IsOf w.replied r) (same : r.bytes ≡ bytes) (s : Sent) (is_sent : IsOf w.sent s) (asked : s.bytes ≡ r.held.call.bytes) where
       first_told : Agrees r.held.taken (awaited_by credential s)
-      first_told = held_agrees w good r.held s (good.replied r o).held is_sent (sym asked)
+      first_told = held_agrees w good r.held s (good.replied r o).held_is is_sent (sym asked)
 
       part_is : agreed.part ≡ reply_part_for r.held.taken r.options
       part_is = reply_opens facts awaited.key r.held.taken r.confounder r.options bytes agreed.opened.reply agreed.part first_told.key
@@ -256,68 +166,83 @@ module _ (facts : Facts) (separate : Apart) (setup : Setup) (credential : Creden
         service_seq = refl;
       })
 
-      end_of : IsEnd w e r
-      end_of = record { replied = o; same = sym asked ∙ ap (λ (x : Sent). x.bytes) sent_is; both = hold_same }
+      end_of : IsEnd w.sent w.replied e
+      end_of = record { asked = of_sent; reply = r; replied_is = o; same = sym asked ∙ ap (λ (x : Sent). x.bytes) sent_is; both = hold_same }
 
-    end_by : IsPacket w bytes → (r : Replied) × IsEnd w e r
+    end_by : IsPacket w bytes → IsEnd w.sent w.replied e
     end_by (inl p) = absurd (no_request p.0 p.1.0 p.1.1)
-    end_by (inr (inl p)) = (let s : IsSent w p.0.held.call.bytes = (good.replied p.0 p.1.0).sent in
-        (p.0, end_of p.0 p.1.0 p.1.1 s.0 s.1.0 s.1.1))
+    end_by (inr (inl p)) = (let s : IsSent w p.0.held.call.bytes = (good.replied p.0 p.1.0).asked in end_of p.0 p.1.0 p.1.1 s.0 s.1.0 s.1.1)
     end_by (inr (inr o)) = absurd (no_error (good.error bytes o))
-
-    module _ (r : Replied) (is_end : IsEnd w e r) where
-      ended_after : (f : Ended) → IsOf (e ∷ w.ended) f → IsOf w.sent f.sent × ((q : Replied) × IsEnd (happens w (ends bytes e)) f q)
-      ended_after f (inl same) = subst (λ (x : Ended). IsOf w.sent x.sent × ((q : Replied) × IsEnd (happens w (ends bytes e)) x q)) same
-          (of_sent, (r, record { replied = is_end.replied; same = is_end.same; both = is_end.both }))
-      ended_after f (inr o) = (let old : IsOf w.sent f.sent × ((q : Replied) × IsEnd w f q) = good.ended f o in
-          (old.0, (old.1.0, record { replied = old.1.1.replied; same = old.1.1.same; both = old.1.1.both })))
-
-      replied_ended : (q : Replied) → IsOf w.replied q → IsReplied (happens w (ends bytes e)) q
-      replied_ended q o = (let old : IsReplied w q = good.replied q o in record { held = old.held; sent = old.sent; reply = old.reply })
-
-      after_ending : Good (happens w (ends bytes e))
-      after_ending = record {
-        entries = good.entries;
-        built = good.built;
-        apart = good.apart;
-        accepted = good.accepted;
-        replied = replied_ended;
-        error = good.error;
-        ended = ended_after;
-      }
 
   -- ---- one event after another
 
   after_event : (w : World) (event : Event) → Good w → Can credential w event → Good (happens w event)
-  after_event w (sends s) good can = after_sending w good s can.0 can.1
-  after_event w (accepts call taken) good can = after_accepting w good call taken can
-  after_event w (refuses call refusal) good can = unchanged w (happens w (refuses call refusal)) good good.entries refl refl refl refl good.error
-  after_event w (replies r) good can = after_replying w good r can.0 can.1.0 can.1.1.1
-  after_event w (errs refusal now service bytes) good can =
-      unchanged w (happens w (errs refusal now service bytes)) good good.entries refl refl refl refl (errors_after w good refusal now service bytes can)
-  after_event w (ends bytes e) good can =
-      (let end : (r : Replied) × IsEnd w e r = end_by w good e bytes can.0 can.1.1 can.1.0 in
-      after_ending w good e bytes can.0 can.1.1 end.0 end.1)
-  after_event w (restarts start skew) good can = unchanged w (happens w (restarts start skew)) good good.entries refl refl refl refl good.error
-
-  comes : (w : World) (events : List Event) (end : World) → Good w → Comes credential w events end → Good end
-  comes w [] end good c = subst Good (sym c) good
-  comes w (event ∷ events) end good c = comes (happens w event) events end (after_event w event good c.0) c.1
+  after_event w (sends s) good can = record {
+    entries = good.entries;
+    built = each_more (λ (t : Sent). IsBuilt credential t.at t.confounder t.options t.bytes) s w.sent can.0 good.built;
+    apart = apart_more (λ (t : Sent). t.at) s w.sent can.1 good.apart;
+    accepted = good.accepted;
+    replied = λ r o. (let old : IsReplied w.sent w.held r = good.replied r o in
+        record { held_is = old.held_is; asked = (old.asked.0, (inr old.asked.1.0, old.asked.1.1)); reply = old.reply });
+    error = good.error;
+    ended = λ e o. (let old : IsEnd w.sent w.replied e = good.ended e o in
+        record { asked = inr old.asked; reply = old.reply; replied_is = old.replied_is; same = old.same; both = old.both });
+  }
+  after_event w (accepts call taken) good can = record {
+    entries = good.entries;
+    built = good.built;
+    apart = good.apart;
+    accepted = each_more WasAccepted (record { call = call; taken = taken }) w.held
+        (record { by = w.setup; history = w.history; entries = good.entries; accept = can }) good.accepted;
+    replied = λ r o. (let old : IsReplied w.sent w.held r = good.replied r o in
+        record { held_is = inr old.held_is; asked = old.asked; reply = old.reply });
+    error = good.error;
+    ended = good.ended;
+  }
+  after_event w (refuses call refusal) good can = good
+  after_event w (replies r) good can = record {
+    entries = good.entries;
+    built = good.built;
+    apart = good.apart;
+    accepted = good.accepted;
+    replied = each_more (IsReplied w.sent w.held) r w.replied
+        (record { held_is = can.0; asked = can.1.0; reply = can.1.1.1 }) good.replied;
+    error = good.error;
+    ended = λ e o. (let old : IsEnd w.sent w.replied e = good.ended e o in
+        record { asked = old.asked; reply = old.reply; replied_is = inr old.replied_is; same = old.same; both = old.both });
+  }
+  after_event w (errs refusal now service bytes) good can = record {
+    entries = good.entries;
+    built = good.built;
+    apart = good.apart;
+    accepted = good.accepted;
+    replied = good.replied;
+    error = each_more IsErrorOf bytes w.errors (record { refusal = refusal; now = now; service = service; error = can }) good.error;
+    ended = good.ended;
+  }
+  after_event w (ends bytes e) good can = record {
+    entries = good.entries;
+    built = good.built;
+    apart = good.apart;
+    accepted = good.accepted;
+    replied = good.replied;
+    error = good.error;
+    ended = each_more (IsEnd w.sent w.replied) e w.ended (end_by w good e bytes can.0 can.1.1 can.1.0) good.ended;
+  }
+  after_event w (restarts start skew) good can = good
 
   -- ---- what both hold, where what is held of a request is one
 
   module _ (w : World) (good : Good w) (once : IsHeldOnce setup w) where
-    same_reply : (e : Ended) (r : Replied) → (o : IsOf w.ended e) → IsReplyTo w e.sent r → (good.ended e o).1.0 ≡ r
-    same_reply e r o to =
-        let end : IsEnd w e (good.ended e o).1.0 = (good.ended e o).1.1 in
-        once.replied (good.ended e o).1.0 r end.replied to.replied (end.same ∙ sym to.same)
+    same_reply : (e : Ended) (r : Replied) → (o : IsOf w.ended e) → IsReplyTo w e.sent r → (good.ended e o).reply ≡ r
+    same_reply e r o to = once.replied (good.ended e o).reply r (good.ended e o).replied_is to.replied ((good.ended e o).same ∙ sym to.same)
 
     both_agree : BothAgree credential w
     both_agree = record {
-      some = λ e o. (let end : IsEnd w e (good.ended e o).1.0 = (good.ended e o).1.1 in
-          ((good.ended e o).1.0, record { replied = end.replied; held = (good.replied (good.ended e o).1.0 end.replied).held; same = end.same }));
-      all = λ e r o to. subst (λ (x : Replied). HoldSame credential e x) (same_reply e r o to) (good.ended e o).1.1.both;
-      held = λ e h o p same. held_agrees w good h e.sent p (good.ended e o).0 same;
+      some = λ e o. (let end : IsEnd w.sent w.replied e = good.ended e o in
+          (end.reply, record { replied = end.replied_is; held = (good.replied end.reply end.replied_is).held_is; same = end.same }));
+      all = λ e r o to. subst (λ (x : Replied). HoldSame credential e x) (same_reply e r o to) (good.ended e o).both;
+      held = λ e h o p same. held_agrees w good h e.sent p (good.ended e o).asked same;
     }
 
   come_more : (w : World) (events : List Event) (end : World) (event : Event) → Comes credential w events end → Can credential end event
@@ -327,7 +252,7 @@ module _ (facts : Facts) (separate : Apart) (setup : Setup) (credential : Creden
 
   module _ (once : (events : List Event) (end : World) → Comes credential (nothing_yet setup) events end → IsHeldOnce setup end) where
     pub agreement : (events : List Event) (end : World) → Comes credential (nothing_yet setup) events end → BothAgree credential end
-    agreement events end c = both_agree end (comes (nothing_yet setup) events end nothing c) (once events end c)
+    agreement events end c = both_agree end (kept credential Good after_event (nothing_yet setup) events end nothing c) (once events end c)
 
     -- as it was agreed, so it is held
     pub held_too : (events : List Event) (w : World) (sent : Sent) (bytes : List ℕ) (agreed : Agreement) → Comes credential (nothing_yet setup) events w

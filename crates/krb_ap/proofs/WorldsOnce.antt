@@ -1,6 +1,6 @@
 -- In every world that comes about no stamp is accepted twice, whatever the service's keys open.
-use Rattle.std.proofs.Common.{◌≡◌, ◌≢◌, ℕ, ℤ, ◌≤◌, List, [], ◌∷◌, ◌++◌, refl, sym, ◌∙◌, ap, subst, inl, inr, ◌⊎◌, Some}
-use Rattle.std.specs.Prelude.{◌≤ℤ◌, All}
+use Rattle.std.proofs.Common.{◌≡◌, ℕ, ℤ, ◌≤◌, List, [], ◌∷◌, ◌++◌, refl, sym, ◌∙◌, subst, inl, inr, ◌⊎◌, Some}
+use Rattle.std.specs.Prelude.{◌≤ℤ◌}
 use Rattle.krb_ccache.specs.declared.credential.Credential.{Credential}
 use Rattle.krb_replay.specs.Stamp.{Stamp}
 use Rattle.krb_ap.specs.Setup.{Setup, Arrival}
@@ -11,25 +11,29 @@ use Rattle.krb_ap.specs.Taken.{Taken, Accept}
 use Rattle.krb_ap.specs.Once.{HasStamp}
 use Rattle.krb_ap.specs.World.{Held, Replied, World, Event, sends, accepts, refuses, replies, errs, ends, restarts, IsOf, Can, Comes, happens, nothing_yet, IsHeldAmong, HoldsOnce, IsHeldOnce}
 use Rattle.krb_ap.specs.Inner.Facts.{Facts}
-use Rattle.krb_ap.specs.declared.refusal.Refusal.{Refusal}
 use Rattle.krb_ap.proofs.Behind.{IsWithin, not_past, of_back, of_front, shown_within, wider}
 use Rattle.krb_ap.proofs.Entries.{has_stamp_by, opened_by}
 use Rattle.krb_ap.proofs.Once.{one_stamp, shown_behind}
-use Rattle.krb_ap.proofs.Worlds.{of_all}
+use Rattle.krb_ap.proofs.Worlds.{Each, AreApart, apart_more, each_more, kept, of_all}
 
 module _ (facts : Facts) (setup : Setup) (credential : Credential) where
   -- what is held of a stamp was shown since the last start, or is of a time before it
   abbrev IsOld : World → Stamp → Type 0
   IsOld w stamp = IsShown w.setup w.history stamp ⊎ IsWithin w.earlier w.setup.skew stamp
 
-  record IsSingle (w : World) : Type 0 where
-    entries : w.setup.entries ≡ setup.entries
-    begun : (a : Arrival) → IsOf w.earlier a → (start : ℤ) × ((w.setup.start ≡ Some start) × (a.moment ≤ℤ start))
-    stamps : HoldsOnce setup w.held
-    stamped : (h : Held) → IsOf w.held h → (stamp : Stamp) × HasStamp setup h.call.bytes stamp
-    old : (stamp : Stamp) → IsHeldAmong setup w.held stamp → IsOld w stamp
-    replied : (r : Replied) → IsOf w.replied r → IsOf w.held r.held
-    one_reply : (q r : Replied) → IsOf w.replied q → IsOf w.replied r → q.held ≡ r.held → q ≡ r
+  abbrev IsStamped : Held → Type 0
+  IsStamped h = (stamp : Stamp) × HasStamp setup h.call.bytes stamp
+
+  abbrev IsSingle : World → Type 0
+  IsSingle w = record {
+    entries : w.setup.entries ≡ setup.entries;
+    begun : Each w.earlier (λ a. (start : ℤ) × ((w.setup.start ≡ Some start) × (a.moment ≤ℤ start)));
+    stamps : HoldsOnce setup w.held;
+    stamped : Each w.held IsStamped;
+    old : (stamp : Stamp) → IsHeldAmong setup w.held stamp → IsOld w stamp;
+    replied : Each w.replied (λ r. IsOf w.held r.held);
+    one_reply : AreApart (λ (r : Replied). r.held) w.replied;
+  }
 
   nothing : IsSingle (nothing_yet setup)
   nothing = record {
@@ -45,9 +49,6 @@ module _ (facts : Facts) (setup : Setup) (credential : Credential) where
   -- ---- a request is accepted
 
   module _ (w : World) (single : IsSingle w) (call : Arrival) (taken : Taken) (accept : Accept w.setup w.history call taken) where
-    abbrev new_held : Held
-    new_held = record { call = call; taken = taken }
-
     stamp_is : (stamp : Stamp) → HasStamp setup call.bytes stamp → stamp ≡ stamp_of accept.request accept.part accept.auth
     stamp_is stamp here = one_stamp facts w.setup w.history call taken stamp accept (has_stamp_by setup w.setup (sym single.entries) call.bytes stamp here)
 
@@ -58,8 +59,8 @@ module _ (facts : Facts) (setup : Setup) (credential : Credential) where
           (subst (λ (s : Stamp). IsPast w.setup s.time) (sym (stamp_is stamp here)) accept.settled.sent_is)
     ]
 
-    stamped_after : (h : Held) → IsOf (new_held ∷ w.held) h → (stamp : Stamp) × HasStamp setup h.call.bytes stamp
-    stamped_after h (inl e) = subst (λ (x : Held). (stamp : Stamp) × HasStamp setup x.call.bytes stamp) e (
+    is_stamped : IsStamped (record { call = call; taken = taken })
+    is_stamped = (
       stamp_of accept.request accept.part accept.auth,
       record {
         request = accept.request;
@@ -69,9 +70,8 @@ module _ (facts : Facts) (setup : Setup) (credential : Credential) where
         stamp_is = refl;
       },
     )
-    stamped_after h (inr o) = single.stamped h o
 
-    old_after : (stamp : Stamp) → IsHeldAmong setup (new_held ∷ w.held) stamp → IsOld (happens w (accepts call taken)) stamp
+    old_after : (stamp : Stamp) → IsHeldAmong setup (record { call = call; taken = taken } ∷ w.held) stamp → IsOld (happens w (accepts call taken)) stamp
     old_after stamp (inl here) = inl (inl (record {
       request = accept.request;
       part = accept.part;
@@ -82,123 +82,55 @@ module _ (facts : Facts) (setup : Setup) (credential : Credential) where
     }))
     old_after stamp (inr among) = elim (single.old stamp among) [ inl shown ↦ inl (inr shown) | inr before ↦ inr before ]
 
-    after_accepting : IsSingle (happens w (accepts call taken))
-    after_accepting = record {
-      entries = single.entries;
-      begun = single.begun;
-      stamps = (new_stamp, single.stamps);
-      stamped = stamped_after;
-      old = old_after;
-      replied = λ r o. inr (single.replied r o);
-      one_reply = single.one_reply;
-    }
-
-  -- ---- or refused
-
-  module _ (w : World) (single : IsSingle w) (call : Arrival) (refusal : Refusal) where
-    old_refused : (stamp : Stamp) → IsHeldAmong setup w.held stamp → IsOld (happens w (refuses call refusal)) stamp
-    old_refused stamp among = elim (single.old stamp among) [
-      | inl shown ↦ inl (shown_behind facts w.setup w.history call refusal stamp shown)
-      | inr before ↦ inr before
-    ]
-
-    after_refusing : IsSingle (happens w (refuses call refusal))
-    after_refusing = record {
-      entries = single.entries;
-      begun = single.begun;
-      stamps = single.stamps;
-      stamped = single.stamped;
-      old = old_refused;
-      replied = single.replied;
-      one_reply = single.one_reply;
-    }
-
-  -- ---- a reply is sent
-
-  module _ (w : World) (single : IsSingle w) (r : Replied) (of_held : IsOf w.held r.held) (new : All (λ other. other.held ≢ r.held) w.replied) where
-    replied_after : (q : Replied) → IsOf (r ∷ w.replied) q → IsOf w.held q.held
-    replied_after q (inl e) = subst (λ (x : Replied). IsOf w.held x.held) e of_held
-    replied_after q (inr o) = single.replied q o
-
-    one_after : (p q : Replied) → IsOf (r ∷ w.replied) p → IsOf (r ∷ w.replied) q → p.held ≡ q.held → p ≡ q
-    one_after p q (inl e) (inl f) same = sym e ∙ f
-    one_after p q (inl e) (inr o) same =
-        absurd (of_all (λ (x : Replied). x.held ≢ r.held) w.replied q new o (sym same ∙ ap (λ (x : Replied). x.held) (sym e)))
-    one_after p q (inr o) (inl e) same =
-        absurd (of_all (λ (x : Replied). x.held ≢ r.held) w.replied p new o (same ∙ ap (λ (x : Replied). x.held) (sym e)))
-    one_after p q (inr o) (inr f) same = single.one_reply p q o f same
-
-    after_replying : IsSingle (happens w (replies r))
-    after_replying = record {
-      entries = single.entries;
-      begun = single.begun;
-      stamps = single.stamps;
-      stamped = single.stamped;
-      old = single.old;
-      replied = replied_after;
-      one_reply = one_after;
-    }
-
-  -- ---- the service is started again
-
-  module _ (w : World) (single : IsSingle w) (start : ℤ) (skew : ℕ) (no_earlier : All (λ call. call.moment ≤ℤ start) (w.history ++ w.earlier))
-      (no_smaller : w.setup.skew ≤ skew) where
-    old_started : (stamp : Stamp) → IsHeldAmong setup w.held stamp → IsOld (happens w (restarts start skew)) stamp
-    old_started stamp among = elim (single.old stamp among) [
-      | inl shown ↦ inr (wider w.history (w.history ++ w.earlier) w.setup.skew skew stamp no_smaller (of_front w.history w.earlier)
-          (shown_within w.setup w.history stamp shown))
-      | inr before ↦ inr (wider w.earlier (w.history ++ w.earlier) w.setup.skew skew stamp no_smaller (of_back w.history w.earlier) before)
-    ]
-
-    after_starting : IsSingle (happens w (restarts start skew))
-    after_starting = record {
-      entries = single.entries;
-      begun = λ a o. (start, (refl, of_all (λ (x : Arrival). x.moment ≤ℤ start) (w.history ++ w.earlier) a no_earlier o));
-      stamps = single.stamps;
-      stamped = single.stamped;
-      old = old_started;
-      replied = single.replied;
-      one_reply = single.one_reply;
-    }
-
   -- ---- one event after another
 
   after_event : (w : World) (event : Event) → IsSingle w → Can credential w event → IsSingle (happens w event)
-  after_event w (sends s) single can = record {
+  after_event w (sends s) single can = single
+  after_event w (accepts call taken) single can = record {
+    entries = single.entries;
+    begun = single.begun;
+    stamps = (new_stamp w single call taken can, single.stamps);
+    stamped = each_more IsStamped (record { call = call; taken = taken }) w.held (is_stamped w single call taken can) single.stamped;
+    old = old_after w single call taken can;
+    replied = λ r o. inr (single.replied r o);
+    one_reply = single.one_reply;
+  }
+  after_event w (refuses call refusal) single can = record {
+    entries = single.entries;
+    begun = single.begun;
+    stamps = single.stamps;
+    stamped = single.stamped;
+    old = λ stamp among. elim (single.old stamp among) [
+      | inl shown ↦ inl (shown_behind facts w.setup w.history call refusal stamp shown)
+      | inr before ↦ inr before
+    ];
+    replied = single.replied;
+    one_reply = single.one_reply;
+  }
+  after_event w (replies r) single can = record {
     entries = single.entries;
     begun = single.begun;
     stamps = single.stamps;
     stamped = single.stamped;
     old = single.old;
-    replied = single.replied;
-    one_reply = single.one_reply;
+    replied = each_more (λ (q : Replied). IsOf w.held q.held) r w.replied can.0 single.replied;
+    one_reply = apart_more (λ (q : Replied). q.held) r w.replied can.1.1.0 single.one_reply;
   }
-  after_event w (accepts call taken) single can = after_accepting w single call taken can
-  after_event w (refuses call refusal) single can = after_refusing w single call refusal
-  after_event w (replies r) single can = after_replying w single r can.0 can.1.1.0
-  after_event w (errs refusal now service bytes) single can = record {
+  after_event w (errs refusal now service bytes) single can = single
+  after_event w (ends bytes e) single can = single
+  after_event w (restarts start skew) single can = record {
     entries = single.entries;
-    begun = single.begun;
+    begun = λ a o. (start, (refl, of_all (λ (x : Arrival). x.moment ≤ℤ start) (w.history ++ w.earlier) can.0 a o));
     stamps = single.stamps;
     stamped = single.stamped;
-    old = single.old;
+    old = λ stamp among. elim (single.old stamp among) [
+      | inl shown ↦ inr (wider w.history (w.history ++ w.earlier) w.setup.skew skew stamp can.1 (of_front w.history w.earlier)
+          (shown_within w.setup w.history stamp shown))
+      | inr before ↦ inr (wider w.earlier (w.history ++ w.earlier) w.setup.skew skew stamp can.1 (of_back w.history w.earlier) before)
+    ];
     replied = single.replied;
     one_reply = single.one_reply;
   }
-  after_event w (ends bytes e) single can = record {
-    entries = single.entries;
-    begun = single.begun;
-    stamps = single.stamps;
-    stamped = single.stamped;
-    old = single.old;
-    replied = single.replied;
-    one_reply = single.one_reply;
-  }
-  after_event w (restarts start skew) single can = after_starting w single start skew can.0 can.1
-
-  comes : (w : World) (events : List Event) (end : World) → IsSingle w → Comes credential w events end → IsSingle end
-  comes w [] end single c = subst IsSingle (sym c) single
-  comes w (event ∷ events) end single c = comes (happens w event) events end (after_event w event single c.0) c.1
 
   -- ---- what is held of a stamp, and of a request, is one
 
@@ -230,4 +162,4 @@ module _ (facts : Facts) (setup : Setup) (credential : Credential) where
     }
 
   pub in_each_world : (events : List Event) (end : World) → Comes credential (nothing_yet setup) events end → IsHeldOnce setup end
-  in_each_world events end c = held_once end (comes (nothing_yet setup) events end nothing c)
+  in_each_world events end c = held_once end (kept credential IsSingle after_event (nothing_yet setup) events end nothing c)
