@@ -6,6 +6,7 @@ pub mod Stages
 pub mod TurnedAway
 pub mod Late
 pub mod OfOpened
+pub mod AsJudged
 pub mod Standing
 pub mod Afterwards
 pub mod OneAnswer
