@@ -13,14 +13,14 @@ use Rattle.krb_ccache.specs.Value.{Cache}
 use Rattle.krb_ccache.specs.declared.credential.Credential.{Credential}
 use Rattle.krb_ap.specs.Bit.{has_bit}
 use Rattle.krb_ap.specs.Setup.{Setup, Arrival, arrival}
-use Rattle.krb_ap.specs.Opened.{OpensAs, OpenedAs, authenticator_usage, session_key, stamp_at}
+use Rattle.krb_ap.specs.Opened.{OpensAs, OpensAuthenticator, OpenedAs, authenticator_usage, stamp_at}
 use Rattle.krb_ap.specs.Times.{Near}
 use Rattle.krb_ap.specs.Quiet.{Settled}
 use Rattle.krb_ap.specs.History.{effective, IsShown}
 use Rattle.krb_ap.specs.Taken.{Taken, Accept, taken_from}
 use Rattle.krb_ap.specs.Written.{IsSealed}
 use Rattle.krb_ap.specs.Credentials.{credential_key}
-use Rattle.krb_ap.specs.Request.{Awaited, IsRequest, IsBuilt, request_for, authenticator_for, options_for}
+use Rattle.krb_ap.specs.Request.{Awaited, IsRequest, IsBuilt, awaited_for, request_for, authenticator_for, options_for}
 use Rattle.krb_ap.specs.Headline.{Agrees, HasTicket, MayBeTaken}
 use Rattle.krb_ap.specs.Inner.Facts.{Facts}
 use Rattle.krb_ap.specs.declared.request.RequestOptions.{RequestOptions}
@@ -46,6 +46,39 @@ sealed_opens key usage confounder plain text s = record {
   sealed_is = sym s.text_is;
 }
 
+module _ (credential : Credential) (at : ℤ) (confounder : List ℕ) (options : RequestOptions) (bytes : List ℕ)
+    (built : IsBuilt credential at confounder options bytes) where
+  abbrev pub told_auth : ValueOf authenticator
+  told_auth = authenticator_for credential built.text_is.told.ctime built.text_is.told.cusec options
+
+  abbrev pub told_request : ValueOf ap_req
+  told_request = request_for credential options built.ticket built.text
+
+  -- the authenticator opens under the credential's key
+  pub opens_told : OpensAs (credential_key credential) authenticator_usage built.text authenticator told_auth
+  opens_told = record {
+    plain = built.text_is.plain;
+    opens = sealed_opens (credential_key credential) authenticator_usage confounder built.text_is.plain built.text built.text_is.text_is;
+    message = built.text_is.told.plain_is.message;
+  }
+
+  -- which is the ticket's session key; and what is sent is what the client awaits
+  module _ (setup : Setup) (ticket : ValueOf ticket_kind) (part : ValueOf enc_ticket_part) (has : HasTicket setup credential ticket part) where
+    pub opens_auth : OpensAuthenticator told_request part told_auth
+    opens_auth = record {
+      same_type = ap (λ (k : KeyValue). k.etype) (sym has.key);
+      opens = subst (λ (k : KeyValue). OpensAs k authenticator_usage built.text authenticator told_auth) (sym has.key) opens_told;
+    }
+
+    pub told_agrees : Agrees (taken_from told_request part told_auth) (awaited_for credential at options)
+    told_agrees = record {
+      client = record { realm = has.client.realm; components = has.client.components };
+      key = has.key;
+      at = sym built.text_is.told.at_is;
+      subkey = refl;
+      seq = refl;
+    }
+
 -- the type of a key that was chosen is known
 chosen_known : (entry : KeytabEntry) (etype : ℤ) → IsKnown entry.etype → entry.etype ≡ etype → IsKnown etype
 chosen_known entry etype known e = subst IsKnown e known
@@ -64,17 +97,10 @@ module _ (facts : Facts) (setup : Setup) (history : List Arrival) (moment : ℤ)
   built = request.built
 
   abbrev auth : ValueOf authenticator
-  auth = authenticator_for credential built.text_is.told.ctime built.text_is.told.cusec options
+  auth = told_auth credential at confounder options bytes built
 
   abbrev message : ValueOf ap_req
-  message = request_for credential options built.ticket built.text
-
-  opens_part : HasTicket setup credential built.ticket part → OpensAs (session_key part) authenticator_usage built.text authenticator auth
-  opens_part has = subst (λ (k : KeyValue). OpensAs k authenticator_usage built.text authenticator auth) (sym has.key) (record {
-    plain = built.text_is.plain;
-    opens = sealed_opens (credential_key credential) authenticator_usage confounder built.text_is.plain built.text built.text_is.text_is;
-    message = built.text_is.told.plain_is.message;
-  })
+  message = told_request credential at confounder options bytes built
 
   opened : HasTicket setup credential built.ticket part → OpenedAs setup bytes message part auth
   opened has = record {
@@ -92,7 +118,7 @@ module _ (facts : Facts) (setup : Setup) (history : List Arrival) (moment : ℤ)
         opens = has.opens;
       };
       usable = subst IsUsable (sym has.key) request.used.fit.usable_for.usable;
-      opens = record { same_type = ap (λ (k : KeyValue). k.etype) (sym has.key); opens = opens_part has };
+      opens = opens_auth credential at confounder options bytes built setup built.ticket part has;
     };
     same_client = record { realm = has.client.realm; components = has.client.components };
   }
@@ -116,13 +142,8 @@ module _ (facts : Facts) (setup : Setup) (history : List Arrival) (moment : ℤ)
   }
 
   agrees : HasTicket setup credential built.ticket part → Agrees taken awaited
-  agrees has = subst (λ (a : Awaited). Agrees taken a) (sym request.awaited_is) (record {
-    client = record { realm = has.client.realm; components = has.client.components };
-    key = has.key;
-    at = sym built.text_is.told.at_is;
-    subkey = refl;
-    seq = refl;
-  })
+  agrees has = subst (λ (a : Awaited). Agrees taken a) (sym request.awaited_is)
+      (told_agrees credential at confounder options bytes built setup built.ticket part has)
 
   -- with the ticket that was built in
   pub accepted : HasTicket setup credential built.ticket part → MayBeTaken setup history moment at built.ticket part

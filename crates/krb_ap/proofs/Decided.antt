@@ -27,6 +27,14 @@ none_of P (inr none) = inl none
 tri : (m n : ℕ) → (m < n) ⊎ ((m ≡ n) ⊎ (n < m))
 tri m n = grind arith
 
+-- in a table, the first that holds has one place
+pub one_first : {X : Type 0} (place : X → ℕ) (Holds : X → Type 0) (r s : X) → Holds r → ((other : X) → place other < place r → ¬ Holds other)
+    → Holds s → ((other : X) → place other < place s → ¬ Holds other) → place r ≡ place s
+one_first place Holds r s one none other nor = elim (tri (place r) (place s)) [
+  | inl before ↦ absurd (nor r before one)
+  | inr rest ↦ elim rest [ inl same ↦ same | inr after ↦ absurd (none s after other) ]
+]
+
 less_is_other : (m n : ℕ) → m < n → m ≡ n → ⊥
 less_is_other m n h e = omega arith
 

@@ -1,7 +1,5 @@
 -- What was shown isn't accepted again.
-use Rattle.std.proofs.Common.{◌≡◌, List, [], ◌∷◌, sym, ◌∙◌, ap, subst, inl, inr, Ok, Err, Result}
-use Rattle.krb_der.specs.Kind.{ValueOf}
-use Rattle.krb_msg.specs.Module.{ap_req, enc_ticket_part, authenticator}
+use Rattle.std.proofs.Common.{◌≡◌, List, [], ◌∷◌, sym, ◌∙◌, subst, inl, inr, Ok, Err, Result}
 use Rattle.krb_replay.specs.Stamp.{Stamp}
 use Rattle.krb_ap.specs.Setup.{Setup, Arrival}
 use Rattle.krb_ap.specs.Opened.{stamp_of}
@@ -11,15 +9,9 @@ use Rattle.krb_ap.specs.Answer.{Answers, Run, after, after_refusal, taken_of}
 use Rattle.krb_ap.specs.Once.{HasStamp, Takes, TakesAmong, TakesOnce}
 use Rattle.krb_ap.specs.Inner.Facts.{Facts}
 use Rattle.krb_ap.proofs.Afterwards.{memory_or_not, after_named}
-use Rattle.krb_ap.proofs.OneOpening.{one_authenticated, SameOpening}
+use Rattle.krb_ap.proofs.OneOpening.{one_authenticated, same_stamp}
 use Rattle.krb_ap.specs.declared.accepted.Accepted.{Accepted}
 use Rattle.krb_ap.specs.declared.refusal.Refusal.{Refusal}
-
-same_stamp : (r s : ValueOf ap_req) (p q : ValueOf enc_ticket_part) (a b : ValueOf authenticator) → SameOpening r s p q a b
-    → stamp_of s q b ≡ stamp_of r p a
-same_stamp r s p q a b same =
-    ap (λ (x : ValueOf ap_req). stamp_of x q b) same.request
-    ∙ (ap (λ (x : ValueOf enc_ticket_part). stamp_of r x b) same.part ∙ ap (λ (x : ValueOf authenticator). stamp_of r p x) same.auth)
 
 module _ (facts : Facts) (setup : Setup) where
   -- what is accepted has one stamp

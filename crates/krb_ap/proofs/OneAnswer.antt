@@ -1,14 +1,13 @@
 -- A call has one answer: accepted with what is then known, or one cause.
-use Rattle.std.proofs.Common.{◌≡◌, ◌≢◌, ℕ, ◌<◌, List, sym, subst, ◌∙◌, ap, inl, inr, ◌⊎◌, arith, Ok, Err, Result}
+use Rattle.std.proofs.Common.{◌≡◌, ◌≢◌, ◌<◌, List, sym, subst, ◌∙◌, inl, inr, ◌⊎◌, arith, Ok, Err, Result}
 use Rattle.std.specs.Prelude.{MatchResult, IsErrAnd}
-use Rattle.krb_der.specs.Kind.{ValueOf}
-use Rattle.krb_msg.specs.Module.{ap_req, enc_ticket_part}
 use Rattle.krb_ap.specs.Setup.{Setup, Arrival}
 use Rattle.krb_ap.specs.Taken.{Taken, taken_from, Accept}
 use Rattle.krb_ap.specs.Causes.{Holds, place, Cause}
 use Rattle.krb_ap.specs.Answer.{Answers, taken_of}
 use Rattle.krb_ap.specs.Inner.Facts.{Facts}
-use Rattle.krb_ap.proofs.OneOpening.{one_authenticated, SameOpening}
+use Rattle.krb_ap.proofs.OneOpening.{of_same, one_authenticated, SameOpening}
+use Rattle.krb_ap.proofs.Decided.{one_first}
 use Rattle.krb_ap.proofs.OfOpened.{accepted_is_clear}
 use Rattle.krb_ap.proofs.Afterwards.{memory_or_not}
 use Rattle.krb_ap.specs.declared.accepted.Accepted.{Accepted}
@@ -29,25 +28,13 @@ module _ (facts : Facts) (setup : Setup) (history : List Arrival) (call : Arriva
   -- what is known of it is one
   pub one_taken : (one other : Taken) → Accept setup history call one → Accept setup history call other → other ≡ one
   one_taken one other a b =
-      let s : SameOpening a.request b.request a.part b.part a.auth b.auth =
+      let same : SameOpening a.request b.request a.part b.part a.auth b.auth =
       one_authenticated facts setup call.bytes a.request b.request a.part b.part a.auth b.auth a.opened.authenticated b.opened.authenticated in
-      let e : taken_from b.request b.part b.auth ≡ taken_from a.request a.part a.auth =
-      ap (λ (r : ValueOf ap_req). taken_from r b.part b.auth) s.request
-      ∙ (ap (λ (p : ValueOf enc_ticket_part). taken_from a.request p b.auth) s.part ∙ ap (taken_from a.request a.part) s.auth) in
-      b.taken_is ∙ (e ∙ sym a.taken_is)
+      of_same a.request b.request a.part b.part a.auth b.auth (λ r p x. other ≡ taken_from r p x) same b.taken_is ∙ sym a.taken_is
 
   -- and its cause has one place
-  tri : (m n : ℕ) → (m < n) ⊎ ((m ≡ n) ⊎ (n < m))
-  tri m n = grind arith
-
   pub one_place : (r s : Refusal) → Cause setup history call r → Cause setup history call s → place r ≡ place s
-  one_place r s one other = elim (tri (place r) (place s)) [
-    | inl before ↦ absurd (other.first r before one.holds)
-    | inr rest ↦ elim rest [
-      | inl same ↦ same
-      | inr after ↦ absurd (one.first s after other.holds)
-    ]
-  ]
+  one_place r s one other = one_first place (Holds setup history call) r s one.holds one.first other.holds other.first
 
   pub taken_by : (answer : Result Accepted Refusal) (taken : Taken) → Answers setup history call answer → Accept setup history call taken
       → MatchResult answer (λ x. taken_of x ≡ taken) (λ r. r ≡ OutOfMemory)

@@ -1,5 +1,5 @@
 -- A request is opened in one way only: the stages have one value each.
-use Rattle.std.proofs.Common.{◌≡◌, ℕ, List, sym, subst}
+use Rattle.std.proofs.Common.{◌≡◌, ℕ, List, refl, sym, subst}
 use Rattle.krb_der.specs.Kind.{Kind, ValueOf}
 use Rattle.krb_der.specs.Spells.{IsMessage}
 use Rattle.krb_enc.specs.Key.{KeyValue}
@@ -8,7 +8,7 @@ use Rattle.krb_msg.specs.Fields.{cipher_of, authenticator_of_request}
 use Rattle.krb_keytab.specs.Entry.{KeytabEntry}
 use Rattle.krb_keytab.specs.Pick.{chosen}
 use Rattle.krb_ap.specs.Setup.{Setup}
-use Rattle.krb_ap.specs.Opened.{OpensAs, Asks, Keyed, Ticketed, OpensAuthenticator, Authenticated, OpenedAs, sealed_ticket, session_key, entry_key, ticket_usage, authenticator_usage}
+use Rattle.krb_ap.specs.Opened.{OpensAs, Asks, Keyed, Ticketed, OpensAuthenticator, Authenticated, OpenedAs, sealed_ticket, session_key, entry_key, ticket_usage, authenticator_usage, stamp_of}
 use Rattle.krb_ap.specs.Causes.{OfRequest, OfAsked, OfTicket, OfAuthenticator, OfOpened, IsTicketShut}
 use Rattle.krb_ap.specs.Inner.Facts.{Facts}
 
@@ -80,6 +80,16 @@ pub record SameOpening (r s : ValueOf ap_req) (p q : ValueOf enc_ticket_part) (a
   pub part : q ≡ p
   pub auth : b ≡ a
 
+-- what holds of an opening holds of the same
+pub of_same : (r s : ValueOf ap_req) (p q : ValueOf enc_ticket_part) (a b : ValueOf authenticator)
+    (P : ValueOf ap_req → ValueOf enc_ticket_part → ValueOf authenticator → Type 0) → SameOpening r s p q a b → P s q b → P r p a
+of_same r s p q a b P same holds = subst (λ (x : ValueOf ap_req). P x p a) same.request
+    (subst (λ (x : ValueOf enc_ticket_part). P s x a) same.part (subst (λ (x : ValueOf authenticator). P s q x) same.auth holds))
+
+pub same_stamp : (r s : ValueOf ap_req) (p q : ValueOf enc_ticket_part) (a b : ValueOf authenticator) → SameOpening r s p q a b
+    → stamp_of s q b ≡ stamp_of r p a
+same_stamp r s p q a b same = of_same r s p q a b (λ x y z. stamp_of s q b ≡ stamp_of x y z) same refl
+
 pub one_authenticated : Facts → (setup : Setup) (bytes : List ℕ) (r s : ValueOf ap_req) (p q : ValueOf enc_ticket_part) (a b : ValueOf authenticator)
     → Authenticated setup bytes r p a → Authenticated setup bytes s q b → SameOpening r s p q a b
 one_authenticated facts setup bytes r s p q a b one other =
@@ -92,13 +102,11 @@ pub of_authenticator : Facts → (setup : Setup) (bytes : List ℕ) (r : ValueOf
     (P : ValueOf enc_ticket_part → ValueOf authenticator → Type 0) → Authenticated setup bytes r p a → OfAuthenticator setup bytes P → P p a
 of_authenticator facts setup bytes r p a P authenticated o =
     let same : SameOpening r o.request p o.part a o.auth = one_authenticated facts setup bytes r o.request p o.part a o.auth authenticated o.authenticated in
-    subst (λ (x : ValueOf enc_ticket_part). P x a) same.part (subst (λ (x : ValueOf authenticator). P o.part x) same.auth o.holds)
+    of_same r o.request p o.part a o.auth (λ x y z. P y z) same o.holds
 
 pub of_opened : Facts → (setup : Setup) (bytes : List ℕ) (r : ValueOf ap_req) (p : ValueOf enc_ticket_part) (a : ValueOf authenticator)
     (P : ValueOf ap_req → ValueOf enc_ticket_part → ValueOf authenticator → Type 0) → OpenedAs setup bytes r p a → OfOpened setup bytes P → P r p a
 of_opened facts setup bytes r p a P opened o =
     let same : SameOpening r o.request p o.part a o.auth =
     one_authenticated facts setup bytes r o.request p o.part a o.auth opened.authenticated o.opened.authenticated in
-    subst (λ (x : ValueOf ap_req). P x p a) same.request
-    (subst (λ (x : ValueOf enc_ticket_part). P o.request x a) same.part
-    (subst (λ (x : ValueOf authenticator). P o.request o.part x) same.auth o.holds))
+    of_same r o.request p o.part a o.auth P same o.holds

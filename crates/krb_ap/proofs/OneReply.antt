@@ -1,5 +1,5 @@
 -- A reply has one answer: what is agreed, or one cause.
-use Rattle.std.proofs.Common.{◌≡◌, ℕ, ◌<◌, List, refl, inl, inr, ◌⊎◌, arith}
+use Rattle.std.proofs.Common.{◌≡◌, ℕ, List, refl, inl, inr, ◌⊎◌}
 use Rattle.krb_der.specs.Kind.{ValueOf}
 use Rattle.krb_der.specs.Fault.{IsFault}
 use Rattle.krb_der.specs.Spells.{IsMessage}
@@ -9,10 +9,10 @@ use Rattle.krb_msg.specs.Fields.{cipher_of, etype_of, reply_enc_part}
 use Rattle.krb_ap.specs.Causes.{BeginsOtherwise}
 use Rattle.krb_ap.specs.Request.{Awaited}
 use Rattle.krb_ap.specs.Reply.{reply_usage}
-use Rattle.krb_ap.specs.Finish.{Agreement, IsAgreed, IsOpenedReply, FinishCause, agreement_for, finish_place, repeated_at}
+use Rattle.krb_ap.specs.Finish.{Agreement, IsAgreed, IsOpenedReply, FinishCause, FinishHolds, agreement_for, finish_place, repeated_at}
 use Rattle.krb_ap.specs.Inner.Facts.{Facts}
 use Rattle.krb_ap.specs.Inner.Decisions.{Decisions}
-use Rattle.krb_ap.proofs.Decided.{integers}
+use Rattle.krb_ap.proofs.Decided.{integers, one_first}
 use Rattle.krb_ap.proofs.Answered.{begins, opens_as}
 use Rattle.krb_ap.proofs.Finishing.{other_type, malformed, reply_shut, of_another}
 use Rattle.krb_ap.specs.declared.finish_fault.FinishFault.{FinishFault}
@@ -50,15 +50,6 @@ module _ (facts : Facts) (d : Decisions) (awaited : Awaited) (bytes : List ℕ) 
     | inr so ↦ by_message so
   ]
 
-tri : (m n : ℕ) → (m < n) ⊎ ((m ≡ n) ⊎ (n < m))
-tri m n = grind arith
-
 pub one_cause : (awaited : Awaited) (bytes : List ℕ) (one other : FinishFault) → FinishCause awaited bytes one → FinishCause awaited bytes other
     → finish_place one ≡ finish_place other
-one_cause awaited bytes one other a b = elim (tri (finish_place one) (finish_place other)) [
-  | inl before ↦ absurd (b.first one before a.holds)
-  | inr rest ↦ elim rest [
-    | inl same ↦ same
-    | inr after ↦ absurd (a.first other after b.holds)
-  ]
-]
+one_cause awaited bytes one other a b = one_first finish_place (FinishHolds awaited bytes) one other a.holds a.first b.holds b.first

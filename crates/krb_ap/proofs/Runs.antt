@@ -1,16 +1,14 @@
 -- Runs of calls.
 use Rattle.std.proofs.Common.{◌≡◌, ℕ, ◌<◌, ◌+◌, List, [], ◌∷◌, ◌++◌, ap, sym, ◌∙◌, subst, Result, length, map, take, get_or, Option, ℤ, Bool, Ok, Err, inl, inr}
-use Rattle.std.specs.Prelude.{IsTrue, IsErrOf, IfErr}
+use Rattle.std.specs.Prelude.{◌↔◌, IsTrue, IsErrOf}
 use Rattle.std.proofs.lemmas.List.{take_more, map-append}
 use Rattle.krb_replay.specs.Stamp.{Stamp}
 use Rattle.krb_replay.specs.Memory.{SameStamps}
-use Rattle.krb_ap.specs.Opened.{IsOrdinary}
 use Rattle.krb_ap.specs.History.{IsShown, IsShownLately, StandsFor}
 use Rattle.krb_ap.proofs.Afterwards.{memory_or_not, refusal_of}
 use Rattle.krb_ap.specs.declared.refusal.Refusal.TheVariants.{OutOfMemory}
 use Rattle.krb_ap.specs.Setup.{Setup, Arrival}
-use Rattle.krb_ap.specs.Answer.{Answers, MemoryWantedByRequests, Run, Served, TellsPlacesWithin, after, after_refusal, arrival_of}
-use Rattle.krb_ap.specs.Causes.{TellsPlaceWithin}
+use Rattle.krb_ap.specs.Answer.{Answers, Run, Served, after, after_refusal, arrival_of}
 use Rattle.krb_ap.specs.declared.call.Call.{Call}
 use Rattle.krb_ap.specs.declared.accepted.Accepted.{Accepted}
 use Rattle.krb_ap.specs.declared.refusal.Refusal.{Refusal}
@@ -30,37 +28,22 @@ mapped calls i call below is =
     ap (λ (x : Call). map arrival_of (take i calls) ++ arrival_of x ∷ []) is
     ∙ sym (ap (map arrival_of) (take_more calls i call below) ∙ map-append arrival_of (take i calls) (get_or calls i call ∷ []))
 
--- if memory ran out, and one call more
-pub memory_push : (calls : List Arrival) (answers : List (Result Accepted Refusal)) (call : Arrival) (answer : Result Accepted Refusal)
-    → MemoryWantedByRequests calls answers → (IsErrOf answer OutOfMemory → IsOrdinary call.bytes)
-    → MemoryWantedByRequests (calls ++ call ∷ []) (answers ++ answer ∷ [])
-memory_push [] [] call answer h one = (one, tt)
-memory_push (c ∷ cs) (a ∷ rest) call answer h one = (h.0, memory_push cs rest call answer h.1 one)
-memory_push [] (a ∷ rest) call answer h one = absurd h
-memory_push (c ∷ cs) [] call answer h one = absurd h
+-- what is so of each call and its answer, and of one call more
+module _ (P : Arrival → Result Accepted Refusal → Type 0) (Each : List Arrival → List (Result Accepted Refusal) → Type 0) (none : Each [] [])
+    (one : (c : Arrival) (a : Result Accepted Refusal) (cs : List Arrival) (rest : List (Result Accepted Refusal)) → Each (c ∷ cs) (a ∷ rest) ↔ (P c a × Each cs rest))
+    (short : (a : Result Accepted Refusal) (rest : List (Result Accepted Refusal)) → ¬ Each [] (a ∷ rest)) (long : (c : Arrival) (cs : List Arrival) → ¬ Each (c ∷ cs) []) where
+  push : (calls : List Arrival) (answers : List (Result Accepted Refusal)) (call : Arrival) (answer : Result Accepted Refusal)
+      → Each calls answers → P call answer → Each (calls ++ call ∷ []) (answers ++ answer ∷ [])
+  push [] [] call answer each p = (one call answer [] []).1 (p, none)
+  push (c ∷ cs) (a ∷ rest) call answer each p = (one c a (cs ++ call ∷ []) (rest ++ answer ∷ [])).1
+      (((one c a cs rest).0 each).0, push cs rest call answer ((one c a cs rest).0 each).1 p)
+  push [] (a ∷ rest) call answer each p = absurd (short a rest each)
+  push (c ∷ cs) [] call answer each p = absurd (long c cs each)
 
-pub memory_more : (calls : List Arrival) (answers all : List (Result Accepted Refusal)) (whole : List Arrival) (call : Arrival) (answer : Result Accepted Refusal)
-    → calls ++ call ∷ [] ≡ whole → all ≡ answers ++ answer ∷ [] → MemoryWantedByRequests calls answers
-    → (IsErrOf answer OutOfMemory → IsOrdinary call.bytes) → MemoryWantedByRequests whole all
-memory_more calls answers all whole call answer e f h one =
-    subst (λ (l : List (Result Accepted Refusal)). MemoryWantedByRequests whole l) (sym f)
-    (subst (λ (l : List Arrival). MemoryWantedByRequests l (answers ++ answer ∷ [])) e (memory_push calls answers call answer h one))
-
--- which places were told, and one call more
-places_push : (calls : List Arrival) (answers : List (Result Accepted Refusal)) (call : Arrival) (answer : Result Accepted Refusal)
-    → TellsPlacesWithin calls answers → IfErr answer (TellsPlaceWithin call.bytes)
-    → TellsPlacesWithin (calls ++ call ∷ []) (answers ++ answer ∷ [])
-places_push [] [] call answer h one = (one, tt)
-places_push (c ∷ cs) (a ∷ rest) call answer h one = (h.0, places_push cs rest call answer h.1 one)
-places_push [] (a ∷ rest) call answer h one = absurd h
-places_push (c ∷ cs) [] call answer h one = absurd h
-
-pub places_more : (calls : List Arrival) (answers all : List (Result Accepted Refusal)) (whole : List Arrival) (call : Arrival) (answer : Result Accepted Refusal)
-    → calls ++ call ∷ [] ≡ whole → all ≡ answers ++ answer ∷ [] → TellsPlacesWithin calls answers
-    → IfErr answer (TellsPlaceWithin call.bytes) → TellsPlacesWithin whole all
-places_more calls answers all whole call answer e f h one =
-    subst (λ (l : List (Result Accepted Refusal)). TellsPlacesWithin whole l) (sym f)
-    (subst (λ (l : List Arrival). TellsPlacesWithin l (answers ++ answer ∷ [])) e (places_push calls answers call answer h one))
+  pub each_more : (calls : List Arrival) (answers all : List (Result Accepted Refusal)) (whole : List Arrival) (call : Arrival) (answer : Result Accepted Refusal)
+      → calls ++ call ∷ [] ≡ whole → all ≡ answers ++ answer ∷ [] → Each calls answers → P call answer → Each whole all
+  each_more calls answers all whole call answer e f each p = subst (Each whole) (sym f) (subst (λ (l : List Arrival). Each l (answers ++ answer ∷ [])) e
+      (push calls answers call answer each p))
 
 -- what a memory that forgets has after a call, also after one that was answered for memory
 lately_after : (setup : Setup) (mid : List Arrival) (call : Arrival) (answer : Result Accepted Refusal) (Mid New : Stamp → Type 0)

@@ -11,31 +11,15 @@ use Rattle.krb_ap.specs.Setup.{Setup, Arrival}
 use Rattle.krb_ap.specs.Opened.{OpensAs, Asks, Ticketed, OpensAuthenticator, OpenedAs, authenticator_usage, stamp_at, stamp_of}
 use Rattle.krb_ap.specs.Taken.{Taken, Accept, taken_from}
 use Rattle.krb_ap.specs.Credentials.{credential_key}
-use Rattle.krb_ap.specs.Request.{IsBuilt, request_for, authenticator_for, awaited_for}
+use Rattle.krb_ap.specs.Request.{IsBuilt, awaited_for}
 use Rattle.krb_ap.specs.Headline.{Agrees, HasTicket}
 use Rattle.krb_ap.specs.Reply.{IsReply, reply_for, reply_part_for, reply_usage}
 use Rattle.krb_ap.specs.Finish.{OpensReply}
 use Rattle.krb_ap.specs.Inner.Facts.{Facts}
 use Rattle.krb_ap.specs.declared.request.RequestOptions.{RequestOptions}
 use Rattle.krb_ap.specs.declared.reply.ReplyOptions.{ReplyOptions}
-use Rattle.krb_ap.proofs.BuiltAccepted.{sealed_opens}
-use Rattle.krb_ap.proofs.OneOpening.{one_message, one_request, one_part, one_auth, SameOpening}
-
-module _ (credential : Credential) (at : ℤ) (confounder : List ℕ) (options : RequestOptions) (bytes : List ℕ)
-    (built : IsBuilt credential at confounder options bytes) where
-  abbrev pub told_auth : ValueOf authenticator
-  told_auth = authenticator_for credential built.text_is.told.ctime built.text_is.told.cusec options
-
-  abbrev pub told_request : ValueOf ap_req
-  told_request = request_for credential options built.ticket built.text
-
-  -- the authenticator opens under the credential's key
-  pub opens_told : OpensAs (credential_key credential) authenticator_usage built.text authenticator told_auth
-  opens_told = record {
-    plain = built.text_is.plain;
-    opens = sealed_opens (credential_key credential) authenticator_usage confounder built.text_is.plain built.text built.text_is.text_is;
-    message = built.text_is.told.plain_is.message;
-  }
+use Rattle.krb_ap.proofs.BuiltAccepted.{opens_auth, opens_told, sealed_opens, told_agrees, told_auth, told_request}
+use Rattle.krb_ap.proofs.OneOpening.{of_same, one_message, one_request, one_part, one_auth, same_stamp, SameOpening}
 
 -- ---- the same bytes are a request of the same moment
 
@@ -76,12 +60,8 @@ module _ (facts : Facts) (setup : Setup) (credential : Credential) (ticket : Val
   ticketed : Asks bytes message → Ticketed setup bytes message part
   ticketed asks = record { entry = has_built.entry; keyed = record { asks = asks; chosen_is = has_built.chosen_is }; opens = has_built.opens }
 
-  opens_auth : OpensAuthenticator message part auth
-  opens_auth = record {
-    same_type = ap (λ (k : KeyValue). k.etype) (sym has.key);
-    opens = subst (λ (k : KeyValue). OpensAs k authenticator_usage built.text authenticator auth) (sym has.key)
-        (opens_told credential at confounder options bytes built);
-  }
+  auth_opens : OpensAuthenticator message part auth
+  auth_opens = opens_auth credential at confounder options bytes built setup ticket part has
 
   -- it is opened as what was built
   opened_as : (r : ValueOf ap_req) (p : ValueOf enc_ticket_part) (a : ValueOf authenticator) → OpenedAs setup bytes r p a → SameOpening message r part p auth a
@@ -91,19 +71,11 @@ module _ (facts : Facts) (setup : Setup) (credential : Credential) (ticket : Val
       let same : p ≡ part = one_part facts setup bytes message part p (ticketed moved.keyed.asks) moved in
       let first : OpensAuthenticator message p a = subst (λ (x : ValueOf ap_req). OpensAuthenticator x p a) request opened.authenticated.opens in
       let second : OpensAuthenticator message part a = subst (λ (x : ValueOf enc_ticket_part). OpensAuthenticator message x a) same first in
-      record { request = request; part = same; auth = one_auth facts message part auth a opens_auth second }
+      record { request = request; part = same; auth = one_auth facts message part auth a auth_opens second }
 
   taken_told : (r : ValueOf ap_req) (p : ValueOf enc_ticket_part) (a : ValueOf authenticator) → SameOpening message r part p auth a
       → taken_from r p a ≡ taken_from message part auth
-  taken_told r p a same =
-      ap (λ (x : ValueOf ap_req). taken_from x p a) same.request
-      ∙ (ap (λ (x : ValueOf enc_ticket_part). taken_from message x a) same.part ∙ ap (λ (x : ValueOf authenticator). taken_from message part x) same.auth)
-
-  stamp_told : (r : ValueOf ap_req) (p : ValueOf enc_ticket_part) (a : ValueOf authenticator) → SameOpening message r part p auth a
-      → stamp_of r p a ≡ stamp_of message part auth
-  stamp_told r p a same =
-      ap (λ (x : ValueOf ap_req). stamp_of x p a) same.request
-      ∙ (ap (λ (x : ValueOf enc_ticket_part). stamp_of message x a) same.part ∙ ap (λ (x : ValueOf authenticator). stamp_of message part x) same.auth)
+  taken_told r p a same = of_same message r part p auth a (λ x y z. taken_from r p a ≡ taken_from x y z) same refl
 
   -- the service knows what the client awaits
   pub taken_agrees : (history : List Arrival) (call : Arrival) (taken : Taken) → call.bytes ≡ bytes → Accept setup history call taken
@@ -112,13 +84,7 @@ module _ (facts : Facts) (setup : Setup) (credential : Credential) (ticket : Val
       let opened : OpenedAs setup bytes a.request a.part a.auth = subst (λ (b : List ℕ). OpenedAs setup b a.request a.part a.auth) e a.opened in
       subst (λ (t : Taken). Agrees t (awaited_for credential at options))
       (sym (a.taken_is ∙ taken_told a.request a.part a.auth (opened_as a.request a.part a.auth opened)))
-      (record {
-        client = record { realm = has.client.realm; components = has.client.components };
-        key = has.key;
-        at = sym built.text_is.told.at_is;
-        subkey = refl;
-        seq = refl;
-      })
+      (told_agrees credential at confounder options bytes built setup ticket part has)
 
   -- and remembers it by the ticket's names and the client's moment
   pub stamp_taken : (history : List Arrival) (call : Arrival) (taken : Taken) → call.bytes ≡ bytes → (a : Accept setup history call taken)
@@ -127,7 +93,7 @@ module _ (facts : Facts) (setup : Setup) (credential : Credential) (ticket : Val
       let opened : OpenedAs setup bytes a.request a.part a.auth = subst (λ (b : List ℕ). OpenedAs setup b a.request a.part a.auth) e a.opened in
       ap (λ (t : ValueOf ticket_kind). stamp_at (ticket_service t) (part_client part) at) same_ticket
       ∙ (ap (λ (m : ℤ). stamp_at (ticket_service built.ticket) (part_client part) m) built.text_is.told.at_is
-      ∙ sym (stamp_told a.request a.part a.auth (opened_as a.request a.part a.auth opened)))
+      ∙ sym (same_stamp message a.request part a.part auth a.auth (opened_as a.request a.part a.auth opened)))
 
 -- ---- what is opened of a reply
 

@@ -1,12 +1,13 @@
 -- What a memory stands for after a call.
 use Rattle.std.proofs.Common.{◌≡◌, ℕ, ℤ, pos, List, ◌∷◌, refl, sym, ◌∙◌, subst, ap, inl, inr, ◌⊎◌, arith, Option, Some, None}
-use Rattle.std.specs.Prelude.{◌≤ℤ◌, ◌-ℤ◌, IfSome}
+use Rattle.std.specs.Prelude.{◌≤ℤ◌, ◌-ℤ◌, Bool, IfSome, IsTrue}
 use Rattle.std.proofs.lemmas.Int.{ints}
 use Rattle.krb_replay.specs.Stamp.{Stamp}
 use Rattle.krb_replay.specs.Memory.{later_of, IsRecent, SameStamps}
 use Rattle.krb_ap.specs.Setup.{Setup, Arrival, arrival}
 use Rattle.krb_ap.specs.History.{greatest, effective, Shows, IsShown, IsStillRecent, StandsFor}
 use Rattle.krb_ap.specs.Inner.Facts.{Facts}
+use Rattle.krb_ap.specs.Inner.GoingOn.{GoesOn}
 use Rattle.krb_ap.proofs.TurnedAway.{shown_stamp}
 
 -- the moment that counts is its own
@@ -73,38 +74,27 @@ one_stamp facts setup history bytes moment now one other shows also =
     shown_stamp facts setup history bytes moment (λ s. ⊥) shows.request shows.part shows.auth shows.opened now other also ∙ sym shows.stamp_is
 
 -- after a memory was given what is shown, and was told the moment that counts
-pub after_advance : (setup other : Setup) (history : List Arrival) (bytes : List ℕ) (moment now : ℤ) (Old Mid New : Stamp → Type 0) (latest mid next : Option ℤ)
+pub after_advance : (keeping forgetting : Bool) (setup other : Setup) (history later : List Arrival) (bytes : List ℕ) (moment now : ℤ)
+    (Old Mid New : Stamp → Type 0) (latest mid next : Option ℤ) (IsMemory : Type 0) → arrival bytes moment ∷ history ≡ later
     → StandsFor setup Old latest history → now ≡ later_of latest moment → mid ≡ latest → next ≡ Some (later_of mid now) → other ≡ setup
     → ((stamp : Stamp) → Mid stamp → Old stamp ⊎ Shows setup (effective history moment) bytes stamp)
     → ((stamp : Stamp) → Old stamp ⊎ Shows setup (effective history moment) bytes stamp → Mid stamp)
     → ((stamp : Stamp) → New stamp → Mid stamp)
     → ((stamp : Stamp) → Mid stamp → IsRecent (later_of mid now) setup.skew stamp → New stamp)
-    → StandsFor other New next (arrival bytes moment ∷ history)
-after_advance setup other history bytes moment now Old Mid New latest mid next stands is_now is_mid is_next same added held none_added kept =
+    → (IsTrue keeping → SameStamps Mid New)
+    → (IsTrue forgetting → (stamp : Stamp) → New stamp → IsRecent (later_of mid now) setup.skew stamp)
+    → GoesOn keeping forgetting setup other history later Old New next IsMemory
+after_advance keeping forgetting setup other history later bytes moment now Old Mid New latest mid next IsMemory is_later stands is_now is_mid is_next same added held none_added kept keeps forgets =
     let count : later_of mid now ≡ effective history moment =
     ap (λ (l : Option ℤ). later_of l now) is_mid ∙ (ap (later_of latest) is_now ∙ (counts_once latest moment ∙ ap (λ (l : Option ℤ). later_of l moment) stands.latest_is)) in
-    subst (λ (s : Setup). StandsFor s New next (arrival bytes moment ∷ history)) (sym same)
-    (stands_on setup history bytes moment Old New latest next stands (is_next ∙ ap Some count)
-    (λ stamp new. added stamp (none_added stamp new))
-    (λ stamp had recent. kept stamp (held stamp had) (subst (λ (n : ℤ). IsRecent n setup.skew stamp) (sym count) recent)))
-
--- a memory that kept all has exactly what is shown then
-pub after_exactly : (setup : Setup) (history : List Arrival) (bytes : List ℕ) (moment : ℤ) (Old Mid New : Stamp → Type 0)
-    → SameStamps (IsShown setup history) Old
-    → ((stamp : Stamp) → Mid stamp → Old stamp ⊎ Shows setup (effective history moment) bytes stamp)
-    → ((stamp : Stamp) → Old stamp ⊎ Shows setup (effective history moment) bytes stamp → Mid stamp)
-    → SameStamps Mid New → SameStamps (IsShown setup (arrival bytes moment ∷ history)) New
-after_exactly setup history bytes moment Old Mid New exact added held same = λ stamp. (
-  λ new. elim (added stamp ((same stamp).0 new)) [ inl old ↦ inr ((exact stamp).0 old) | inr shows ↦ inl shows ],
-  λ shown. (same stamp).1 (held stamp (elim shown [ inl shows ↦ inr shows | inr before ↦ inl ((exact stamp).1 before) ])),
-)
-
--- and one that forgot has what is recent
-pub after_forgetting : (setup : Setup) (history : List Arrival) (moment now : ℤ) (latest mid : Option ℤ) (New : Stamp → Type 0)
-    → latest ≡ greatest history → now ≡ later_of latest moment → mid ≡ latest
-    → ((stamp : Stamp) → New stamp → IsRecent (later_of mid now) setup.skew stamp)
-    → (stamp : Stamp) → New stamp → IsRecent (effective history moment) setup.skew stamp
-after_forgetting setup history moment now latest mid New is_latest is_now is_mid recent stamp new =
-    let count : later_of mid now ≡ effective history moment =
-    ap (λ (l : Option ℤ). later_of l now) is_mid ∙ (ap (later_of latest) is_now ∙ (counts_once latest moment ∙ ap (λ (l : Option ℤ). later_of l moment) is_latest)) in
-    subst (λ (n : ℤ). IsRecent n setup.skew stamp) count (recent stamp new)
+    subst (λ (h : List Arrival). GoesOn keeping forgetting setup other history h Old New next IsMemory) is_later (record {
+      stands = subst (λ (s : Setup). StandsFor s New next (arrival bytes moment ∷ history)) (sym same)
+          (stands_on setup history bytes moment Old New latest next stands (is_next ∙ ap Some count)
+          (λ stamp new. added stamp (none_added stamp new))
+          (λ stamp had recent. kept stamp (held stamp had) (subst (λ (n : ℤ). IsRecent n setup.skew stamp) (sym count) recent)));
+      keeps = λ keeping exact stamp. (
+        λ new. elim (added stamp ((keeps keeping stamp).0 new)) [ inl old ↦ inr ((exact stamp).0 old) | inr shows ↦ inl shows ],
+        λ shown. (keeps keeping stamp).1 (held stamp (elim shown [ inl shows ↦ inr shows | inr before ↦ inl ((exact stamp).1 before) ])),
+      );
+      forgets = λ forgetting named stamp new. subst (λ (n : ℤ). IsRecent n setup.skew stamp) count (forgets forgetting stamp new);
+    })

@@ -12,7 +12,7 @@ use Rattle.krb_ap.specs.Inner.Judging.{IsJudged, IsTurnedAway}
 use Rattle.krb_ap.specs.declared.refusal.Refusal.{Refusal}
 use Rattle.krb_ap.proofs.Truth.{is_so, is_not}
 use Rattle.krb_ap.proofs.Afterwards.{after_named, after_answer, not_memory, refusal_of}
-use Rattle.krb_ap.proofs.Standing.{after_advance, after_exactly, after_forgetting, moved_on, one_stamp, stands_still}
+use Rattle.krb_ap.proofs.Standing.{after_advance, moved_on, one_stamp, stands_still}
 use Rattle.krb_ap.proofs.acceptor.Acceptor.decide.Goals as goal
 
 pub returns-then-is_memory-clause-goes_on : goal.returns-then-is_memory-clause-goes_on
@@ -34,23 +34,12 @@ returns-in-Err-clause-goes_on g c = λ history stands.
     → g.M.ReplayMemory.has c.args.self.now.memory stamp ⊎ Shows c.args.self.now.setup (effective history c.args.now) c.args.bytes.now stamp = λ stamp had. inl had in
     let held : (stamp : Stamp) → g.M.ReplayMemory.has c.args.self.now.memory stamp ⊎ Shows c.args.self.now.setup (effective history c.args.now) c.args.bytes.now stamp
     → g.M.ReplayMemory.has c.args.self.now.memory stamp = λ stamp either. elim either [ inl had ↦ had | inr shows ↦ turned.had stamp shows ] in
-    subst (λ (h : List Arrival). GoesOn g.M.ReplayMemory.KEEPS g.M.ReplayMemory.FORGETS c.args.self.now.setup c.advance.new.self.setup history h
-    (g.M.ReplayMemory.has c.args.self.now.memory) (g.M.ReplayMemory.has c.advance.new.self.memory) (g.M.ReplayMemory.newest c.advance.new.self.memory)
-    (IsErrOf {T = Accepted} {E = Refusal} (Err c.in-Err.refusal) OutOfMemory))
-    (after_named history (arrival c.args.bytes.now c.args.now) c.in-Err.refusal named)
-    (record {
-      stands = after_advance c.args.self.now.setup c.advance.new.self.setup history c.args.bytes.now c.args.now c.effective-now.result
-          (g.M.ReplayMemory.has c.args.self.now.memory) (g.M.ReplayMemory.has c.args.self.now.memory) (g.M.ReplayMemory.has c.advance.new.self.memory)
-          (g.M.ReplayMemory.newest c.args.self.now.memory) (g.M.ReplayMemory.newest c.args.self.now.memory) (g.M.ReplayMemory.newest c.advance.new.self.memory)
-          stands c.effective-now.ensures refl (rw c.judge.ensures.same at c.advance.ensures.newest) (rw c.judge.ensures.same at c.advance.ensures.setup) added held
-          (rw c.judge.ensures.same at c.advance.ensures.none_added) (rw c.judge.ensures.same at c.advance.ensures.kept);
-      keeps = λ keeping exact. after_exactly c.args.self.now.setup history c.args.bytes.now c.args.now
-          (g.M.ReplayMemory.has c.args.self.now.memory) (g.M.ReplayMemory.has c.args.self.now.memory) (g.M.ReplayMemory.has c.advance.new.self.memory)
-          exact added held (rw c.judge.ensures.same at c.advance.ensures.keeps keeping);
-      forgets = λ forgetting memory. after_forgetting c.args.self.now.setup history c.args.now c.effective-now.result
-          (g.M.ReplayMemory.newest c.args.self.now.memory) (g.M.ReplayMemory.newest c.args.self.now.memory) (g.M.ReplayMemory.has c.advance.new.self.memory)
-          stands.latest_is c.effective-now.ensures refl (rw c.judge.ensures.same at c.advance.ensures.forgets forgetting);
-    })
+    after_advance _ _ c.args.self.now.setup c.advance.new.self.setup history _ c.args.bytes.now c.args.now c.effective-now.result
+    (g.M.ReplayMemory.has c.args.self.now.memory) (g.M.ReplayMemory.has c.args.self.now.memory) (g.M.ReplayMemory.has c.advance.new.self.memory)
+    (g.M.ReplayMemory.newest c.args.self.now.memory) (g.M.ReplayMemory.newest c.args.self.now.memory) (g.M.ReplayMemory.newest c.advance.new.self.memory) _
+    (after_named history (arrival c.args.bytes.now c.args.now) c.in-Err.refusal named) stands c.effective-now.ensures refl (rw c.judge.ensures.same at c.advance.ensures.newest) (rw c.judge.ensures.same at c.advance.ensures.setup) added held
+    (rw c.judge.ensures.same at c.advance.ensures.none_added) (rw c.judge.ensures.same at c.advance.ensures.kept)
+    (rw c.judge.ensures.same at c.advance.ensures.keeps) (rw c.judge.ensures.same at c.advance.ensures.forgets)
 
 pub returns-in-Err-clause-unchanged : goal.returns-in-Err-clause-unchanged
 returns-in-Err-clause-unchanged g c = λ memory. absurd (is_not _ _ c.is_memory.ensures c.if-is_memory.false (refusal_of _ _ memory))
@@ -83,32 +72,15 @@ returns-in-Ok-remember-clause-goes_on g c = λ history stands.
       | inl had ↦ inr had
       | inr shows ↦ inl (one_stamp c.facts.ensures c.args.self.now.setup history c.args.bytes.now c.args.now (effective history c.args.now) c.in-Ok.judged.tuple stamp judged.shows shows)
     ]) in
-    let recent : (stamp : Stamp) → IsRecent (later_of (g.M.ReplayMemory.newest c.remember.new.self.memory) c.effective-now.result) c.args.self.now.setup.skew stamp
-    → IsRecent (later_of (g.M.ReplayMemory.newest c.remember.new.self.memory) c.effective-now.result) c.remember.new.self.setup.skew stamp =
-    λ stamp. subst (λ (s : Setup). IsRecent (later_of (g.M.ReplayMemory.newest c.remember.new.self.memory) c.effective-now.result) s.skew stamp) (sym (rw c.judge.ensures.same at c.in-Ok-remember.ensures.setup)) in
-    let lately : (stamp : Stamp) → IsRecent (later_of (g.M.ReplayMemory.newest c.remember.new.self.memory) c.effective-now.result) c.remember.new.self.setup.skew stamp
-    → IsRecent (later_of (g.M.ReplayMemory.newest c.remember.new.self.memory) c.effective-now.result) c.args.self.now.setup.skew stamp =
-    λ stamp. subst (λ (s : Setup). IsRecent (later_of (g.M.ReplayMemory.newest c.remember.new.self.memory) c.effective-now.result) s.skew stamp) (rw c.judge.ensures.same at c.in-Ok-remember.ensures.setup) in
-    subst (λ (h : List Arrival). GoesOn g.M.ReplayMemory.KEEPS g.M.ReplayMemory.FORGETS c.args.self.now.setup c.advance-in-Ok-remember.new.self.setup history h
-    (g.M.ReplayMemory.has c.args.self.now.memory) (g.M.ReplayMemory.has c.advance-in-Ok-remember.new.self.memory) (g.M.ReplayMemory.newest c.advance-in-Ok-remember.new.self.memory)
-    (IsErrOf c.in-Ok.judged.answer OutOfMemory))
-    (after_answer history (arrival c.args.bytes.now c.args.now) c.in-Ok.judged.answer c.in-Ok.ensures.named)
-    (record {
-      stands = after_advance c.args.self.now.setup c.advance-in-Ok-remember.new.self.setup history c.args.bytes.now c.args.now c.effective-now.result
-          (g.M.ReplayMemory.has c.args.self.now.memory) (g.M.ReplayMemory.has c.remember.new.self.memory) (g.M.ReplayMemory.has c.advance-in-Ok-remember.new.self.memory)
-          (g.M.ReplayMemory.newest c.args.self.now.memory) (g.M.ReplayMemory.newest c.remember.new.self.memory) (g.M.ReplayMemory.newest c.advance-in-Ok-remember.new.self.memory)
-          stands c.effective-now.ensures (rw c.judge.ensures.same at c.in-Ok-remember.ensures.newest) c.advance-in-Ok-remember.ensures.newest
-          (c.advance-in-Ok-remember.ensures.setup ∙ (rw c.judge.ensures.same at c.in-Ok-remember.ensures.setup)) added held
-          c.advance-in-Ok-remember.ensures.none_added
-          (λ stamp had r. c.advance-in-Ok-remember.ensures.kept stamp had (recent stamp r));
-      keeps = λ keeping exact. after_exactly c.args.self.now.setup history c.args.bytes.now c.args.now
-          (g.M.ReplayMemory.has c.args.self.now.memory) (g.M.ReplayMemory.has c.remember.new.self.memory) (g.M.ReplayMemory.has c.advance-in-Ok-remember.new.self.memory)
-          exact added held (c.advance-in-Ok-remember.ensures.keeps keeping);
-      forgets = λ forgetting memory. after_forgetting c.args.self.now.setup history c.args.now c.effective-now.result
-          (g.M.ReplayMemory.newest c.args.self.now.memory) (g.M.ReplayMemory.newest c.remember.new.self.memory) (g.M.ReplayMemory.has c.advance-in-Ok-remember.new.self.memory)
-          stands.latest_is c.effective-now.ensures (rw c.judge.ensures.same at c.in-Ok-remember.ensures.newest)
-          (λ stamp new. lately stamp (c.advance-in-Ok-remember.ensures.forgets forgetting stamp new));
-    })
+    let same : c.remember.new.self.setup ≡ c.args.self.now.setup = rw c.judge.ensures.same at c.in-Ok-remember.ensures.setup in
+    let IsRecentBy : Stamp → Setup → Type 0 = λ stamp s. IsRecent (later_of (g.M.ReplayMemory.newest c.remember.new.self.memory) c.effective-now.result) s.skew stamp in
+    after_advance _ _ c.args.self.now.setup c.advance-in-Ok-remember.new.self.setup history _ c.args.bytes.now c.args.now c.effective-now.result
+    (g.M.ReplayMemory.has c.args.self.now.memory) (g.M.ReplayMemory.has c.remember.new.self.memory) (g.M.ReplayMemory.has c.advance-in-Ok-remember.new.self.memory)
+    (g.M.ReplayMemory.newest c.args.self.now.memory) (g.M.ReplayMemory.newest c.remember.new.self.memory) (g.M.ReplayMemory.newest c.advance-in-Ok-remember.new.self.memory) _
+    (after_answer history (arrival c.args.bytes.now c.args.now) c.in-Ok.judged.answer c.in-Ok.ensures.named) stands c.effective-now.ensures (rw c.judge.ensures.same at c.in-Ok-remember.ensures.newest) c.advance-in-Ok-remember.ensures.newest
+    (c.advance-in-Ok-remember.ensures.setup ∙ same) added held c.advance-in-Ok-remember.ensures.none_added
+    (λ stamp had r. c.advance-in-Ok-remember.ensures.kept stamp had (subst (IsRecentBy stamp) (sym same) r)) c.advance-in-Ok-remember.ensures.keeps
+    (λ forgetting stamp new. subst (IsRecentBy stamp) same (c.advance-in-Ok-remember.ensures.forgets forgetting stamp new))
 
 pub returns-in-Ok-remember-clause-memory : goal.returns-in-Ok-remember-clause-memory
 returns-in-Ok-remember-clause-memory g c = λ memory. c.in-Ok.ensures.asks

@@ -7,13 +7,30 @@ use Rattle.krb_msg.specs.Module.{enc_ap_rep_part}
 use Rattle.krb_msg.specs.Fields.{etype_of, reply_enc_part}
 use Rattle.krb_msg.specs.Owned.{owned_key_of}
 use Rattle.krb_ap.specs.Request.{Awaited}
-use Rattle.krb_ap.specs.Finish.{FinishCause, OpensReply}
+use Rattle.krb_ap.specs.Finish.{FinishCause, IsOpenedReply, IsReplyOfType, OpensReply}
 use Rattle.krb_ap.specs.declared.finish_fault.FinishFault.{FinishFault}
 use Rattle.krb_ap.specs.declared.finish_fault.FinishFault.TheVariants.{OutOfMemory}
 use Rattle.krb_ap.proofs.Truth.{is_so, is_not}
 use Rattle.krb_ap.proofs.Finishing.{fault_of, reply_shut, of_another, opens_reply, opens_to_other, copied_agreement}
 use Rattle.krb_ap.proofs.Offsets.{finish_within, shut_within}
 use Rattle.krb_ap.proofs.pending.Pending.finish.Goals as goal
+use Rattle.krb_ap.proofs.pending.Pending.finish.Goals.{In-Ok, In_ok-plain}
+
+of_type : (c : In_ok-plain) → IsReplyOfType c.args.self.now c.args.reply.now
+of_type c = record {
+  reply = ap_rep_of c.in_ok-message.message;
+  message = c.in_ok-message.ensures.read;
+  same_type = subst (λ (a : Awaited). etype_of (reply_enc_part (ap_rep_of c.in_ok-message.message)) ≡ a.key.etype) c.self.view_is c.in_ok-plain.ensures.same_type;
+}
+
+opened : (c : In-Ok) → IsOpenedReply c.args.self.now c.args.reply.now (enc_ap_rep_part_of c.in-Ok.part)
+opened c = record {
+  reply = ap_rep_of c.in_ok-message.message;
+  message = c.in_ok-message.ensures.read;
+  opens = subst (λ (a : Awaited). OpensReply a.key (ap_rep_of c.in_ok-message.message) (enc_ap_rep_part_of c.in-Ok.part)) c.self.view_is
+      (opens_reply c.self.inside.key (ap_rep_of c.in_ok-message.message) _ _ (enc_ap_rep_part_of c.in-Ok.part)
+      c.in_ok-plain.ensures.same_type c.as_slice.ensures.value c.in_ok-plain.ensures.opened c.in-Ok.ensures.found);
+}
 
 pub returns-in_err-message-clause-fault : goal.returns-in_err-message-clause-fault
 returns-in_err-message-clause-fault c =
@@ -48,25 +65,13 @@ returns-in-Err-clause-fault c = λ named.
 pub returns-then-not-is_at-clause-fault : goal.returns-then-not-is_at-clause-fault
 returns-then-not-is_at-clause-fault c = λ named.
     of_another c.facts.ensures c.args.self.now c.args.reply.now (enc_ap_rep_part_of c.in-Ok.part)
-    (record {
-      reply = ap_rep_of c.in_ok-message.message;
-      message = c.in_ok-message.ensures.read;
-      opens = subst (λ (a : Awaited). OpensReply a.key (ap_rep_of c.in_ok-message.message) (enc_ap_rep_part_of c.in-Ok.part)) c.self.view_is
-          (opens_reply c.self.inside.key (ap_rep_of c.in_ok-message.message) _ _ (enc_ap_rep_part_of c.in-Ok.part)
-          c.in_ok-plain.ensures.same_type c.as_slice.ensures.value c.in_ok-plain.ensures.opened c.in-Ok.ensures.found);
-    })
+    (opened (goal.at.returns-then-not-is_at-clause-fault c).In-Ok)
     (λ same. is_not _ _ c.is_at.ensures c.if-not-is_at.true (same ∙ sym (ap (λ (a : Awaited). a.at) c.self.view_is)))
 
 pub returns-clause-agreed : goal.returns-clause-agreed
 returns-clause-agreed c = record {
   part = enc_ap_rep_part_of c.in-Ok.part;
-  opened = record {
-    reply = ap_rep_of c.in_ok-message.message;
-    message = c.in_ok-message.ensures.read;
-    opens = subst (λ (a : Awaited). OpensReply a.key (ap_rep_of c.in_ok-message.message) (enc_ap_rep_part_of c.in-Ok.part)) c.self.view_is
-        (opens_reply c.self.inside.key (ap_rep_of c.in_ok-message.message) _ _ (enc_ap_rep_part_of c.in-Ok.part)
-        c.in_ok-plain.ensures.same_type c.as_slice.ensures.value c.in_ok-plain.ensures.opened c.in-Ok.ensures.found);
-  };
+  opened = opened (goal.at.returns-clause-agreed c).In-Ok;
   same = is_so _ _ c.is_at.ensures c.if-not-is_at.false ∙ ap (λ (a : Awaited). a.at) c.self.view_is;
   agreement_is = copied_agreement c.args.self.now (enc_ap_rep_part_of c.in-Ok.part) c.in_ok-clone.field-0 c.copy.result c.own_key.result c.self.inside.seq
       (option_map owned_key_of c.in_ok-owned_key.field-0)
@@ -98,15 +103,7 @@ returns-in_err-plain-clause-memory c =
     })
 
 pub returns-in_err-clone-clause-memory : goal.returns-in_err-clone-clause-memory
-returns-in_err-clone-clause-memory c = λ memory. record {
-  reply = ap_rep_of c.in_ok-message.message;
-  message = c.in_ok-message.ensures.read;
-  same_type = subst (λ (a : Awaited). etype_of (reply_enc_part (ap_rep_of c.in_ok-message.message)) ≡ a.key.etype) c.self.view_is c.in_ok-plain.ensures.same_type;
-}
+returns-in_err-clone-clause-memory c = λ memory. of_type (goal.at.returns-in_err-clone-clause-memory c).In_ok-plain
 
 pub returns-in_err-owned_key-clause-memory : goal.returns-in_err-owned_key-clause-memory
-returns-in_err-owned_key-clause-memory c = λ memory. record {
-  reply = ap_rep_of c.in_ok-message.message;
-  message = c.in_ok-message.ensures.read;
-  same_type = subst (λ (a : Awaited). etype_of (reply_enc_part (ap_rep_of c.in_ok-message.message)) ≡ a.key.etype) c.self.view_is c.in_ok-plain.ensures.same_type;
-}
+returns-in_err-owned_key-clause-memory c = λ memory. of_type (goal.at.returns-in_err-owned_key-clause-memory c).In_ok-plain
