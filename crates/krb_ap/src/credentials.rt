@@ -1,7 +1,7 @@
 //! The choice of a credential of a cache. It allocates no memory.
 
-ghost use Rattle.std.specs.Prelude.{◌↔◌, All, IsTrue, IfOk, IfErr, IfSome, IfNone};
-ghost use Rattle.krb_ap.specs.Credentials.{IsFor, IsUsableFor, IsFit, IsUsed, IsWanting, HasCredential};
+ghost use Rattle.std.specs.Prelude.{◌↔◌, All, Any, IsTrue, IfOk, IfErr, IfSome, IfNone};
+ghost use Rattle.krb_ap.specs.Credentials.{IsFor, IsUsableFor, IsFit, IsUsed, IsWanting};
 
 use crate::request_fault::RequestFault;
 use krb_ccache::{CCache, Credential};
@@ -42,27 +42,17 @@ fn first_fit<'a>(cache: &'a CCache, service: &Principal, at: Moment) -> Option<&
 }
 
 fn has_usable(cache: &CCache, service: &Principal) -> bool
-    ensures some { IsTrue result → HasCredential (IsUsableFor cache.now service.now) cache.now.credentials }
-    ensures none { (IsTrue result → ⊥) → All (λ one. ¬ IsUsableFor cache.now service.now one) cache.now.credentials }
+    ensures { IsTrue result ↔ Any (IsUsableFor cache.now service.now) cache.now.credentials }
 {
-    for credential in cache.credentials() {
-        if is_usable_for(cache, service, credential) {
-            return true;
-        }
-    }
-    false
+    let mut credentials = cache.credentials().iter();
+    credentials.any(|credential| is_usable_for(cache, service, credential))
 }
 
 fn has_any(cache: &CCache, service: &Principal) -> bool
-    ensures some { IsTrue result → HasCredential (IsFor cache.now service.now) cache.now.credentials }
-    ensures none { (IsTrue result → ⊥) → All (λ one. ¬ IsFor cache.now service.now one) cache.now.credentials }
+    ensures { IsTrue result ↔ Any (IsFor cache.now service.now) cache.now.credentials }
 {
-    for credential in cache.credentials() {
-        if is_for(cache, service, credential) {
-            return true;
-        }
-    }
-    false
+    let mut credentials = cache.credentials().iter();
+    credentials.any(|credential| is_for(cache, service, credential))
 }
 
 fn is_fit(cache: &CCache, service: &Principal, at: Moment, credential: &Credential) -> bool
