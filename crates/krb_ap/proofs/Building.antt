@@ -6,7 +6,7 @@ use Rattle.krb_name.specs.declared.principal.Principal.{Principal}
 use Rattle.krb_der.specs.Kind.{Kind, ValueOf}
 use Rattle.krb_der.specs.Spells.{IsMessage, limit}
 use Rattle.krb_der.specs.Size.{size_of}
-use Rattle.krb_enc.specs.Key.{KeyValue, profile_of}
+use Rattle.krb_enc.specs.Key.{KeyValue, UsageKeyValue, profile_of}
 use Rattle.krb_enc.specs.Sealed.{sealed}
 use Rattle.krb_msg.specs.Module.{ap_req, authenticator, checksum, encrypted_data, encryption_key, ticket as ticket_kind, is_ticket}
 use Rattle.krb_msg.specs.Fields.{authenticator_value, ap_req_value, encrypted_value}
@@ -41,37 +41,7 @@ pub copied : (client : Principal) (credential : Credential) (ctime : ℤ) (cusec
       seq_number = options.seq;
       authorization = None;
     }) ≡ authenticator_for credential ctime cusec options
-copied client credential ctime cusec sum subkey options e d f =
-    ap (λ (p : Principal). authenticator_value (record {
-      crealm = p.realm;
-      cname = principal_name_of p;
-      checksum = sum;
-      cusec = cusec;
-      ctime = ctime;
-      subkey = subkey;
-      seq_number = options.seq;
-      authorization = None;
-    })) e
-    ∙ (ap (λ (s : Option (ValueOf checksum)). authenticator_value (record {
-      crealm = credential.client.realm;
-      cname = principal_name_of credential.client;
-      checksum = s;
-      cusec = cusec;
-      ctime = ctime;
-      subkey = subkey;
-      seq_number = options.seq;
-      authorization = None;
-    })) d
-    ∙ ap (λ (k : Option (ValueOf encryption_key)). authenticator_value (record {
-      crealm = credential.client.realm;
-      cname = principal_name_of credential.client;
-      checksum = option_map (context_checksum options.mutual) options.context;
-      cusec = cusec;
-      ctime = ctime;
-      subkey = k;
-      seq_number = options.seq;
-      authorization = None;
-    })) f)
+copied client credential ctime cusec sum subkey options e d f = rw (e, d, f)
 
 too_big : (n m : ℕ) → n ≡ m → n ≤ limit → limit < m → ⊥
 too_big n m e h g = omega arith
@@ -82,8 +52,7 @@ unwritten w k v bytes long written = too_big (length bytes) (size_of k v) (w.siz
 
 same_told : (credential : Credential) (options : RequestOptions) (s t : ℤ) (m n : ℕ) → s ≡ t → m ≡ n
     → authenticator_for credential s m options ≡ authenticator_for credential t n options
-same_told credential options s t m n e f =
-    ap (λ (x : ℤ). authenticator_for credential x m options) e ∙ ap (λ (x : ℕ). authenticator_for credential t x options) f
+same_told credential options s t m n e f = rw (e, f)
 
 module _ (w : WritingFacts) (credential : Credential) (at : ℤ) (options : RequestOptions) where
   -- no bytes are an authenticator that is too long
@@ -133,17 +102,14 @@ module _ (w : WritingFacts) (credential : Credential) (at : ℤ) (options : Requ
 pub told_type : (credential : Credential) (key : KeyValue) (text : List ℕ) → key ≡ credential_key credential
     → encrypted_value (record { etype = key.etype; kvno = None; cipher = text })
     ≡ encrypted_value (record { etype = credential.etype; kvno = None; cipher = text })
-told_type credential key text e = ap (λ (k : KeyValue). encrypted_value (record { etype = k.etype; kvno = None; cipher = text })) e
+told_type credential key text e = rw e
 
 -- the value of a request whose parts are copies
 pub copied_request : (credential : Credential) (options : RequestOptions) (ticket : ValueOf ticket_kind) (text : List ℕ) (bits : ℕ) (copy : ValueOf ticket_kind)
     (told : ValueOf encrypted_data) → bits ≡ options_for options.mutual → copy ≡ ticket
     → told ≡ encrypted_value (record { etype = credential.etype; kvno = None; cipher = text })
     → ap_req_value (record { options = bits; ticket = copy; authenticator = told }) ≡ request_for credential options ticket text
-copied_request credential options ticket text bits copy told e f g =
-    ap (λ (b : ℕ). ap_req_value (record { options = b; ticket = copy; authenticator = told })) e
-    ∙ (ap (λ (t : ValueOf ticket_kind). ap_req_value (record { options = options_for options.mutual; ticket = t; authenticator = told })) f
-    ∙ ap (λ (a : ValueOf encrypted_data). ap_req_value (record { options = options_for options.mutual; ticket = ticket; authenticator = a })) g)
+copied_request credential options ticket text bits copy told e f g = rw (e, f, g)
 
 abbrev pub awaited_of : Principal → KeyValue → ℤ → RequestOptions → Awaited
 awaited_of client key at options = record { client = client; key = key; at = at; subkey = options.subkey; seq = options.seq }
@@ -152,11 +118,11 @@ awaited_of client key at options = record { client = client; key = key; at = at;
 pub copied_awaited : (credential : Credential) (at : ℤ) (options : RequestOptions) (client : Principal) (key : KeyValue) → client ≡ credential.client
     → key ≡ credential_key credential
     → awaited_of client key at options ≡ awaited_for credential at options
-copied_awaited credential at options client key e f =
-    ap (λ (p : Principal). awaited_of p key at options) e ∙ ap (λ (k : KeyValue). awaited_of credential.client k at options) f
+copied_awaited credential at options client key e f = rw (e, f)
 
--- what is sealed with the same key and plain text
-pub sealed_by : (one key : KeyValue) (usage : ℕ) (confounder lent plain text : List ℕ) → one ≡ key → lent ≡ plain
-    → IsSealed one usage confounder lent text → IsSealed key usage confounder plain text
-sealed_by one key usage confounder lent plain text e f s =
-    subst (λ (k : KeyValue). IsSealed k usage confounder plain text) e (subst (λ (p : List ℕ). IsSealed one usage confounder p text) f s)
+-- what is sealed with the keys of a copy, and a copy of the plain text
+pub sealed_by : (keys : UsageKeyValue) (copy key : KeyValue) (usage : ℕ) (confounder lent plain text : List ℕ) → keys ≡ record { key = copy; usage = usage }
+    → copy ≡ key → lent ≡ plain → IsSealed keys.key keys.usage confounder lent text → IsSealed key usage confounder plain text
+sealed_by keys copy key usage confounder lent plain text d e f s =
+    subst (λ (k : KeyValue). IsSealed k usage confounder plain text) e
+    (subst (λ (k : UsageKeyValue). IsSealed k.key k.usage confounder plain text) d (rw f at s))

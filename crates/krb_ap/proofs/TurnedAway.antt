@@ -1,5 +1,5 @@
 -- Why a request is turned away, or how it is judged, at each stage.
-use Rattle.std.proofs.Common.{◌≡◌, ℕ, ◌<◌, ℤ, pos, ◌+ℤ◌, List, refl, sym, subst, arith, inl, inr, lit<, Some, None, Option}
+use Rattle.std.proofs.Common.{◌≡◌, ℕ, ◌<◌, ℤ, pos, ◌+ℤ◌, List, sym, ◌∙◌, subst, arith, inl, inr, lit<, Some, None, Option}
 use Rattle.std.specs.Prelude.{◌≤ℤ◌, ◌-ℤ◌, IfSome}
 use Rattle.std.proofs.lemmas.Int.{ints}
 use Rattle.krb_name.specs.declared.principal.Principal.{Principal}
@@ -8,9 +8,9 @@ use Rattle.krb_der.specs.Spells.{IsMessage}
 use Rattle.krb_enc.specs.Key.{KeyValue, IsUsable, profile_of}
 use Rattle.krb_enc.specs.Opens.{Opens}
 use Rattle.krb_msg.specs.Module.{ap_req, enc_ticket_part, authenticator}
-use Rattle.krb_msg.specs.Fields.{etype_of, kvno_of, cipher_of}
+use Rattle.krb_msg.specs.Fields.{cipher_of}
 use Rattle.krb_keytab.specs.Entry.{KeytabEntry}
-use Rattle.krb_keytab.specs.Pick.{chosen, no_key, no_version, IsChoice}
+use Rattle.krb_keytab.specs.Pick.{no_key, no_version}
 use Rattle.krb_replay.specs.Stamp.{Stamp}
 use Rattle.krb_replay.specs.Memory.{later_of, IsRecent}
 use Rattle.krb_ap.specs.Setup.{Setup, Arrival, arrival}
@@ -19,9 +19,9 @@ use Rattle.krb_ap.specs.Times.{Near}
 use Rattle.krb_ap.specs.History.{greatest, effective, Shows, IsStillRecent}
 use Rattle.krb_ap.specs.Causes.{place, Cause}
 use Rattle.krb_ap.specs.Inner.Facts.{Facts}
-use Rattle.krb_ap.specs.Inner.Stages.{IsChosenKey, Wants, IsShut, IsNone}
+use Rattle.krb_ap.specs.Inner.Stages.{Wants, IsShut, IsNone}
 use Rattle.krb_ap.specs.Inner.Judging.{IsTurnedAway}
-use Rattle.krb_ap.proofs.OneOpening.{one_authenticated, SameOpening}
+use Rattle.krb_ap.proofs.OneOpening.{one_authenticated, same_stamp, SameOpening}
 use Rattle.krb_ap.proofs.Stages.{asked, named, with_key, keyed, ticketed, usable, authenticated, opened}
 use Rattle.krb_ap.specs.declared.refusal.Refusal.{Refusal}
 use Rattle.krb_ap.specs.declared.refusal.Refusal.TheVariants.{NotUs, NoKey, BadKeyVersion, TicketIntegrity, SessionKey, AuthenticatorIntegrity, BadMatch, Skew}
@@ -35,39 +35,12 @@ opens_to_none facts key usage cipher plain k opens none v o =
 pub opens_nothing : (key : KeyValue) (usage : ℕ) (cipher : List ℕ) (k : Kind) → IsShut key usage cipher → (v : ValueOf k) → ¬ OpensAs key usage cipher k v
 opens_nothing key usage cipher k shut v o = shut o.plain o.opens
 
--- ---- by the key that a keytab's choice gives
-
-pub keyed_by : (setup : Setup) (bytes : List ℕ) (request : ValueOf ap_req) (entries : List KeytabEntry) (server : Principal) (key : KeyValue)
-    → entries ≡ setup.entries → server ≡ service_of request → Asks bytes request
-    → (k : IsChosenKey entries server (sealed_ticket request) key) → Keyed setup bytes request k.entry
-keyed_by setup bytes request entries server key e s asks k = record {
-  asks = asks;
-  chosen_is = subst (λ (n : Principal). IsChoice setup.entries n (etype_of (sealed_ticket request)) (kvno_of (sealed_ticket request)) (chosen k.entry)) s
-      (subst (λ (l : List KeytabEntry). IsChoice l server (etype_of (sealed_ticket request)) (kvno_of (sealed_ticket request)) (chosen k.entry)) e k.chosen_is);
-}
-
 pub wants_by : (setup : Setup) (request : ValueOf ap_req) (entries : List KeytabEntry) (server : Principal) (r : Refusal)
     → entries ≡ setup.entries → server ≡ service_of request → Wants entries server (sealed_ticket request) r
     → Wants setup.entries (service_of request) (sealed_ticket request) r
 wants_by setup request entries server r e s w =
     subst (λ (n : Principal). Wants setup.entries n (sealed_ticket request) r) s
     (subst (λ (l : List KeytabEntry). Wants l server (sealed_ticket request) r) e w)
-
-pub shut_by : (key : KeyValue) (other : KeyValue) (usage : ℕ) (cipher : List ℕ) (k : Kind) → key ≡ other → IsShut key usage cipher
-    → (v : ValueOf k) → ¬ OpensAs other usage cipher k v
-shut_by key other usage cipher k e shut = subst (λ (x : KeyValue). (v : ValueOf k) → ¬ OpensAs x usage cipher k v) e (opens_nothing key usage cipher k shut)
-
-pub none_by : Facts → (key : KeyValue) (other : KeyValue) (usage : ℕ) (cipher plain lent : List ℕ) (k : Kind) → key ≡ other → lent ≡ plain
-    → Opens (profile_of key) key.bytes usage cipher plain → IsNone k lent → (v : ValueOf k) → ¬ OpensAs other usage cipher k v
-none_by facts key other usage cipher plain lent k e f opens none =
-    subst (λ (x : KeyValue). (v : ValueOf k) → ¬ OpensAs x usage cipher k v) e
-    (opens_to_none facts key usage cipher plain k opens (subst (λ (x : List ℕ). IsNone k x) f none))
-
-pub opens_by : (key : KeyValue) (other : KeyValue) (usage : ℕ) (cipher plain lent : List ℕ) (k : Kind) (v : ValueOf k) → key ≡ other → lent ≡ plain
-    → Opens (profile_of key) key.bytes usage cipher plain → IsMessage k v lent → OpensAs other usage cipher k v
-opens_by key other usage cipher plain lent k v e f opens message =
-    subst (λ (x : KeyValue). OpensAs x usage cipher k v) e
-    (record { plain = plain; opens = opens; message = subst (λ (x : List ℕ). IsMessage k v x) f message })
 
 pub near_by : (a b n m : ℤ) (s t : ℕ) → a ≡ b → n ≡ m → s ≡ t → Near b m t → Near a n s
 near_by a b n m s t e f h near =
@@ -148,13 +121,7 @@ module _ (facts : Facts) (setup : Setup) (history : List Arrival) (bytes : List 
     shown_near now stamp shows = subst (λ (a : ValueOf authenticator). Near (sent_at a) now setup.skew) (same now stamp shows).auth shows.near
 
     pub shown_stamp : (now : ℤ) (stamp : Stamp) → Shows setup now bytes stamp → stamp ≡ stamp_of request part auth
-    shown_stamp now stamp shows =
-        let s : SameOpening request shows.request part shows.part auth shows.auth = same now stamp shows in
-        let e : stamp_of shows.request shows.part shows.auth ≡ stamp_of request part auth =
-        subst (λ (r : ValueOf ap_req). stamp_of shows.request shows.part shows.auth ≡ stamp_of r part auth) s.request
-        (subst (λ (p : ValueOf enc_ticket_part). stamp_of shows.request shows.part shows.auth ≡ stamp_of shows.request p auth) s.part
-        (subst (λ (a : ValueOf authenticator). stamp_of shows.request shows.part shows.auth ≡ stamp_of shows.request shows.part a) s.auth refl)) in
-        subst (λ (x : Stamp). stamp ≡ x) e shows.stamp_is
+    shown_stamp now stamp shows = shows.stamp_is ∙ same_stamp request shows.request part shows.part auth shows.auth (same now stamp shows)
 
 -- ---- a memory that stands for a history has what was shown and is near
 

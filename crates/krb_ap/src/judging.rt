@@ -3,13 +3,15 @@
 ghost use Rattle.std.specs.Prelude.{◌≡◌, ◌↔◌, ℕ, List, IfOk, IsErrOf, IsTrue};
 ghost use Rattle.std.specs.Option.{option_map};
 ghost use Rattle.krb_enc.specs.Key.{IsUsable};
+ghost use Rattle.krb_keytab.specs.Entry.{KeytabEntry};
 ghost use Rattle.krb_msg.specs.Borrowed.{ap_req_of, authenticator_of, enc_ticket_part_of, typed_of};
 ghost use Rattle.krb_msg.specs.Owned.{owned_list_of, owned_typed_of};
-ghost use Rattle.krb_ap.specs.Opened.{Asks, AsksFor, IsOrdinary, OpenedAs, Ticketed, session_key as key_of_part, service_of};
+ghost use Rattle.krb_ap.specs.Opened.{AsksFor, IsOrdinary, Keyed, OpenedAs, Ticketed, entry_key, session_key as key_of_part, service_of};
 ghost use Rattle.krb_ap.specs.Quiet.{Settled};
 ghost use Rattle.krb_ap.specs.Taken.{taken_from};
 ghost use Rattle.krb_ap.specs.Answer.{taken_of};
 ghost use Rattle.krb_ap.specs.Inner.Judging.{IsFor, IsNamed, IsPlacedWithin, IsPlaceless, JudgedBy};
+ghost use Rattle.krb_ap.specs.Inner.Stages.{ready_key};
 ghost use Rattle.krb_ap.specs.declared.refusal.Refusal.TheVariants.{OutOfMemory};
 
 use crate::accepted::Accepted;
@@ -23,8 +25,8 @@ use crate::opening::{
 use crate::ready_key::ReadyKey;
 use crate::refusal::Refusal;
 use crate::service_key::ServiceKey;
-use crate::session_keys::make_session_ready;
-use crate::ticket_keys::{make_ready, open_ticket, opened_ticket};
+use crate::session_keys::session_key;
+use crate::ticket_keys::{chosen_entry, keys_of};
 use crate::times::{is_near, is_past, refusal_of_times};
 use krb_enc::Key;
 use krb_msg::{
@@ -61,37 +63,22 @@ impl<M: ReplayMemory> Acceptor<M> {
         facts();
         krb_der::laws::within();
         let request = read_request(bytes)?;
-        match service(alloc, &request.ticket) {
-            Ok(server) => self.judge_request(alloc, server, &request, now),
-            Err(_) => Err(Refusal::OutOfMemory),
-        }
-    }
-
-    fn judge_request(
-        &mut self,
-        alloc: Global,
-        server: Principal,
-        request: &ApReqRef,
-        now: Moment,
-    ) -> Result<Judged, Refusal>
-        ensures same { self.new ≡ self.old }
-        ensures named { IsNamed result }
-        ensures placeless { IsPlaceless result }
-        ensures service { IsFor (service_of (ap_req_of request.now)) result }
-        ensures judged { (bytes : List ℕ) → Asks bytes (ap_req_of request.now) → server ≡ service_of (ap_req_of request.now)
-            → JudgedBy M.has M.newest self.old bytes now result }
-    {
+        let server = match service(alloc, &request.ticket) {
+            Ok(server) => server,
+            Err(_) => return Err(Refusal::OutOfMemory),
+        };
+        let entry = chosen_entry(&self.keytab, &server, &request.ticket.enc_part)?;
         // The opened ticket is borrowed from the cached service key, so that is taken out meanwhile.
-        let mut ready = self.ready.take();
-        let judged = self.judge_sealed(alloc, &mut ready, server, request, now);
-        self.ready = ready;
+        let mut ready = keys_of(alloc, self.ready.take(), entry);
+        let judged = self.judge_sealed(alloc, &mut ready, server, &request, now);
+        self.ready = Some(ready);
         judged
     }
 
     fn judge_sealed(
         &mut self,
         alloc: Global,
-        ready: &mut Option<ServiceKey>,
+        ready: &mut ServiceKey,
         server: Principal,
         request: &ApReqRef,
         now: Moment,
@@ -100,19 +87,17 @@ impl<M: ReplayMemory> Acceptor<M> {
         ensures named { IsNamed result }
         ensures placeless { IsPlaceless result }
         ensures service { IsFor (service_of (ap_req_of request.now)) result }
-        ensures judged { (bytes : List ℕ) → Asks bytes (ap_req_of request.now) → server ≡ service_of (ap_req_of request.now)
+        ensures judged { (bytes : List ℕ) (entry : KeytabEntry) → Keyed self.old.setup bytes (ap_req_of request.now) entry
+            → ready.old.keys ≡ ready_key (entry_key entry) → server ≡ service_of (ap_req_of request.now)
             → JudgedBy M.has M.newest self.old bytes now result }
     {
         facts();
-        let sealed = &request.ticket.enc_part;
-        make_ready(alloc, ready, &self.keytab, &server, sealed)?;
-        open_ticket(alloc, ready, sealed.cipher)?;
-        let part = read_part(opened_ticket(ready))?;
-        make_session_ready(&mut self.session, &part.key)?;
-        match &self.session {
-            Some(key) => self.judge_ticket(alloc, server, key, request, &part, now),
-            None => unreachable!(),
-        }
+        ready.open(alloc, request.ticket.enc_part.cipher)?;
+        let part = read_part(ready.plain())?;
+        let key = session_key(&mut self.session, &part.key)?;
+        let judged = self.judge_ticket(alloc, server, &key, request, &part, now);
+        self.session = Some(key);
+        judged
     }
 
     fn judge_ticket(

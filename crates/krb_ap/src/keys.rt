@@ -8,7 +8,7 @@ ghost use Rattle.krb_msg.specs.Fields.{encrypted_value};
 ghost use Rattle.krb_msg.specs.Owned.{owned_encrypted_of, owned_key_of};
 ghost use Rattle.krb_ap.specs.Written.{IsSealed, key_value};
 
-use krb_enc::Key;
+use krb_enc::{Key, UsageKey};
 use krb_msg::{Encrypted, KeyRef, RawKey};
 use std::alloc::{AllocError, Global};
 
@@ -46,20 +46,30 @@ pub(crate) fn own_key(key: &Option<Key>) -> Option<Key>
     }
 }
 
+/// The key of this type and these bytes. It allocates no memory.
+pub(crate) fn usable_key(etype: i32, bytes: &[u8]) -> Key
+    requires { IsUsable (record { etype = etype; bytes = bytes.now }) }
+    ensures { result ≡ record { etype = etype; bytes = bytes.now } }
+{
+    match Key::new(etype, bytes) {
+        Ok(key) => key,
+        Err(_) => unreachable!(),
+    }
+}
+
 /// Seals a plain text.
 pub(crate) fn seal(
     alloc: Global,
-    key: &Key,
-    usage: u32,
+    keys: &UsageKey,
     confounder: &[u8; 16],
     plain: &[u8],
 ) -> Result<Vec<u8>, AllocError>
-    ensures sealed { IfOk result (λ text. IsSealed key.now usage confounder.now plain.now text.items) }
+    ensures sealed { IfOk result (λ text. IsSealed keys.now.key keys.now.usage confounder.now plain.now text.items) }
     ensures length { IfOk result (λ text. length text.items ≤ 40 + length plain.now) }
 {
     krb_enc::laws::each_profile_is_known();
     krb_enc::laws::sealed_lengths();
-    Ok(key.seal(alloc, usage, confounder, plain)?)
+    Ok(keys.seal(alloc, confounder, plain)?)
 }
 
 /// The sealed text for a key: with the key's type, and without a version number.

@@ -1,15 +1,14 @@
 //! Session keys with the keys that are derived from them.
 
-ghost use Rattle.std.specs.Prelude.{◌≡◌, ◌↔◌, ◌≤◌, ◌+◌, IfOk, IsTrue, length};
+ghost use Rattle.std.specs.Prelude.{◌≡◌, ◌↔◌, IsTrue};
 ghost use Rattle.krb_enc.specs.Key.{IsUsable};
 ghost use Rattle.krb_ap.specs.Credentials.{credential_key};
 ghost use Rattle.krb_ap.specs.Opened.{authenticator_usage};
-ghost use Rattle.krb_ap.specs.Written.{IsSealed};
 
+use crate::keys::usable_key;
 use krb_ccache::Credential;
 use krb_enc::{Key, UsageKey};
 use krb_msg::usage;
-use std::alloc::{AllocError, Global};
 use std::marker::Model;
 
 /// A session key, and the keys that seal and open authenticators under it.
@@ -45,7 +44,7 @@ impl ReadyKey {
         requires { IsUsable (credential_key credential.now) }
         ensures { result ≡ credential_key credential.now }
     {
-        ReadyKey::new(session_key(credential))
+        ReadyKey::new(usable_key(i32::from(credential.etype), credential.key.as_slice()))
     }
 
     /// Returns whether this is the credential's session key.
@@ -75,30 +74,5 @@ impl ReadyKey {
         ensures { result.now ≡ record { key = self.now; usage = authenticator_usage } }
     {
         &self.keys
-    }
-
-    /// Seals an authenticator.
-    pub(crate) fn seal(
-        &self,
-        alloc: Global,
-        confounder: &[u8; 16],
-        plain: &[u8],
-    ) -> Result<Vec<u8>, AllocError>
-        ensures sealed { IfOk result (λ text. IsSealed self.now authenticator_usage confounder.now plain.now text.items) }
-        ensures length { IfOk result (λ text. length text.items ≤ 40 + length plain.now) }
-    {
-        krb_enc::laws::each_profile_is_known();
-        krb_enc::laws::sealed_lengths();
-        Ok(self.keys.seal(alloc, confounder, plain)?)
-    }
-}
-
-fn session_key(credential: &Credential) -> Key
-    requires { IsUsable (credential_key credential.now) }
-    ensures { result ≡ credential_key credential.now }
-{
-    match Key::new(i32::from(credential.etype), credential.key.as_slice()) {
-        Ok(key) => key,
-        Err(_) => unreachable!(),
     }
 }

@@ -13,7 +13,7 @@ ghost use Rattle.krb_ap.specs.declared.request_fault.RequestFault.TheVariants.{T
 
 use crate::credentials::used;
 use crate::inner_laws::{facts, writing};
-use crate::keys::{encrypted, raw_key};
+use crate::keys::{encrypted, raw_key, seal};
 use crate::pending::Pending;
 use crate::ready_key::ReadyKey;
 use crate::request_fault::RequestFault;
@@ -137,7 +137,7 @@ fn build(
     facts();
     writing();
     let plain = authenticator(alloc, credential, at, options)?;
-    let cipher = key.seal(alloc, confounder, &plain)?;
+    let cipher = seal(alloc, key.keys(), confounder, &plain)?;
     let request = ApReq {
         options: flags(options.mutual),
         ticket: ticket.to_owned(alloc)?,

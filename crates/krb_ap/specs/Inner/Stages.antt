@@ -1,6 +1,5 @@
 -- The words of private contracts: what the stages of a decision say.
-use Rattle.std.specs.Prelude.{◌≡◌, ◌⊎◌, ℕ, ℤ, List, Option, Some}
-use Rattle.std.specs.Option.{option_map}
+use Rattle.std.specs.Prelude.{◌≡◌, ◌⊎◌, ℕ, ℤ, List}
 use Rattle.krb_name.specs.declared.principal.Principal.{Principal}
 use Rattle.krb_der.specs.Kind.{Kind, ValueOf}
 use Rattle.krb_der.specs.Spells.{IsMessage}
@@ -11,10 +10,9 @@ use Rattle.krb_msg.specs.Borrowed.{key_of}
 use Rattle.krb_msg.specs.Fields.{etype_of, kvno_of, type_of, bytes_of}
 use Rattle.krb_msg.specs.declared.key.KeyRef.{KeyRef}
 use Rattle.krb_keytab.specs.Entry.{KeytabEntry}
-use Rattle.krb_keytab.specs.Pick.{chosen, no_name, no_key, no_version, IsChoice}
+use Rattle.krb_keytab.specs.Pick.{no_name, no_key, no_version, IsChoice}
 use Rattle.krb_ap.specs.Setup.{Setup, Arrival, arrival}
-use Rattle.krb_ap.specs.Inner.ServiceKeys.{ServiceKeyValue, keys_of}
-use Rattle.krb_ap.specs.Opened.{entry_key, ticket_usage}
+use Rattle.krb_ap.specs.Opened.{ticket_usage}
 use Rattle.krb_ap.specs.Times.{IsEarly, IsLate, IsPathTrusted, IsDataIgnorable}
 use Rattle.krb_ap.specs.Causes.{Cause}
 use Rattle.krb_ap.specs.declared.refusal.Refusal.{Refusal}
@@ -28,20 +26,9 @@ IsCauseOfBytes bytes refusal = (setup : Setup) (history : List Arrival) (moment 
 abbrev pub IsNone : Kind → List ℕ → Type 0
 IsNone k bytes = (value : ValueOf k) → ¬ IsMessage k value bytes
 
--- the key of the entry that is chosen
-pub record IsChosenKey (entries : List KeytabEntry) (name : Principal) (text : ValueOf encrypted_data) (key : KeyValue) : Type 0 where
-  pub entry : KeytabEntry
-  pub chosen_is : IsChoice entries name (etype_of text) (kvno_of text) (chosen entry)
-  pub key_is : key ≡ entry_key entry
-
--- the keys for tickets of such a key, and that they are held
+-- a service key's keys for tickets
 abbrev pub ready_key : KeyValue → UsageKeyValue
 ready_key key = record { key = key; usage = ticket_usage }
-
-pub record HoldsChosen (entries : List KeytabEntry) (name : Principal) (text : ValueOf encrypted_data) (held : Option ServiceKeyValue) : Type 0 where
-  pub key : KeyValue
-  pub chosen : IsChosenKey entries name text key
-  pub held_is : option_map keys_of held ≡ Some (ready_key key)
 
 -- a message's key
 abbrev pub key_in : KeyRef → KeyValue

@@ -8,8 +8,17 @@ use Rattle.krb_msg.specs.Module.{ap_req}
 use Rattle.krb_ap.specs.Opened.{authenticator_usage}
 use Rattle.krb_ap.specs.Written.{IsWritten}
 use Rattle.krb_ap.specs.Credentials.{credential_key}
+use Rattle.krb_ap.specs.Request.{IsAuthenticator}
 use Rattle.krb_ap.proofs.Building.{copied_request, sealed_by, told_type, too_long_to_build}
 use Rattle.krb_ap.proofs.request.build.Goals as goal
+use Rattle.krb_ap.proofs.request.build.Goals.{In_ok-cipher}
+
+told : (c : In_ok-cipher) → IsAuthenticator c.args.credential.now c.args.at c.args.confounder.now c.args.options.now c.in_ok-cipher.cipher.items
+told c = record {
+  plain = c.in_ok-plain.plain.items;
+  told = c.in_ok-plain.ensures.told;
+  text_is = sealed_by _ _ (credential_key c.args.credential.now) authenticator_usage _ _ _ _ c.keys.ensures c.requires.key c.deref.ensures.value c.in_ok-cipher.ensures.sealed;
+}
 
 pub returns-in_err-plain-clause-fault : goal.returns-in_err-plain-clause-fault
 returns-in_err-plain-clause-fault c =
@@ -21,11 +30,7 @@ returns-in-Ok-clause-built c = record {
   ticket = ticket_of c.args.ticket.now;
   ticket_is = c.requires.ticket;
   text = c.in_ok-cipher.cipher.items;
-  text_is = record {
-    plain = c.in_ok-plain.plain.items;
-    told = c.in_ok-plain.ensures.told;
-    text_is = sealed_by _ (credential_key c.args.credential.now) authenticator_usage _ _ _ _ c.requires.key c.deref.ensures.value c.in_ok-cipher.ensures.sealed;
-  };
+  text_is = told (goal.at.returns-in-Ok-clause-built c).In_ok-cipher;
   bytes_are = subst (λ (v : ValueOf ap_req). IsWritten ap_req v c.in-Ok.bytes.items)
       (copied_request c.args.credential.now c.args.options.now (ticket_of c.args.ticket.now) c.in_ok-cipher.cipher.items _ _ _
       c.flags.ensures c.in_ok-to_owned.ensures (c.encrypted.ensures ∙ told_type c.args.credential.now c.key.result.now c.in_ok-cipher.cipher.items (c.key.ensures ∙ c.requires.key)))
@@ -37,11 +42,7 @@ returns-in-Err-TooLong-clause-fault c = λ named. (
   refl,
   too_long_to_build c.writing.ensures c.args.credential.now c.args.at c.args.options.now c.facts.ensures c.args.confounder.now c.in_ok-cipher.cipher.items
       (ticket_of c.args.ticket.now) c.requires.ticket
-      (record {
-        plain = c.in_ok-plain.plain.items;
-        told = c.in_ok-plain.ensures.told;
-        text_is = sealed_by _ (credential_key c.args.credential.now) authenticator_usage _ _ _ _ c.requires.key c.deref.ensures.value c.in_ok-cipher.ensures.sealed;
-      })
+      (told (goal.at.returns-in-Err-TooLong-clause-fault c).In_ok-cipher)
       (subst (λ (v : ValueOf ap_req). limit < size_of ap_req v)
       (copied_request c.args.credential.now c.args.options.now (ticket_of c.args.ticket.now) c.in_ok-cipher.cipher.items _ _ _
       c.flags.ensures c.in_ok-to_owned.ensures (c.encrypted.ensures ∙ told_type c.args.credential.now c.key.result.now c.in_ok-cipher.cipher.items (c.key.ensures ∙ c.requires.key)))

@@ -1,83 +1,72 @@
-use Rattle.std.proofs.Common.{◌≡◌, ap, refl, sym, subst}
+use Rattle.std.proofs.Common.{◌≡◌, sym, subst}
 use Rattle.std.proofs.lemmas.Result.{err_from_is_err_and}
+use Rattle.krb_enc.specs.Key.{UsageKeyValue, profile_of}
+use Rattle.krb_enc.specs.Opens.{Opens}
+use Rattle.krb_keytab.specs.Entry.{KeytabEntry}
 use Rattle.krb_msg.specs.Borrowed.{ap_req_of, enc_ticket_part_of}
 use Rattle.krb_msg.specs.Module.{enc_ticket_part}
 use Rattle.krb_ap.specs.Setup.{arrival}
-use Rattle.krb_ap.specs.Opened.{ticket_usage}
-use Rattle.krb_enc.specs.Key.{UsageKeyValue}
+use Rattle.krb_ap.specs.Opened.{Keyed, OpensAs, entry_key, ticket_usage}
 use Rattle.krb_ap.specs.Service.{Service}
-use Rattle.krb_ap.specs.Inner.ServiceKeys.{HoldsOpened}
 use Rattle.krb_ap.specs.Inner.Stages.{IsShut, ready_key}
 use Rattle.krb_ap.specs.Inner.Judging.{IsTurnedAway, JudgedBy}
 use Rattle.krb_ap.specs.declared.refusal.Refusal.{Refusal}
-use Rattle.krb_ap.proofs.Held.{is_held, is_opened, of_held, opened_plain}
-use Rattle.krb_ap.proofs.TurnedAway.{wanted, wants_by, keyed_by, key_unusable, shut_by, none_by, opens_by, ticket_shut}
+use Rattle.krb_ap.proofs.TurnedAway.{key_unusable, opens_nothing, opens_to_none, ticket_shut}
+use Rattle.krb_ap.proofs.acceptor.Acceptor.judge_sealed.Given.{Over}
 use Rattle.krb_ap.proofs.acceptor.Acceptor.judge_sealed.Goals as goal
+use Rattle.krb_ap.proofs.acceptor.Acceptor.judge_sealed.Goals.{In_ok-part}
 
-pub returns-in_err-make_ready-clause-judged : goal.returns-in_err-make_ready-clause-judged
-returns-in_err-make_ready-clause-judged g c =
+-- the ticket opens under the key of the entry that the keys are of
+opens : (g : Over) (c : In_ok-part g) (entry : KeytabEntry) → c.args.ready.now.keys ≡ ready_key (entry_key entry)
+    → OpensAs (entry_key entry) ticket_usage c.args.request.now.ticket.enc_part.cipher.now enc_ticket_part (enc_ticket_part_of c.in_ok-part.part)
+opens g c entry keys = record {
+  plain = c.open.new.self.plain;
+  opens = subst (λ (k : UsageKeyValue). Opens (profile_of k.key) k.key.bytes k.usage c.args.request.now.ticket.enc_part.cipher.now c.open.new.self.plain) keys
+      c.in_ok-open.ensures.opened;
+  message = rw c.plain.ensures at c.in_ok-part.ensures.read;
+}
+
+pub returns-in_err-open-clause-judged : goal.returns-in_err-open-clause-judged
+returns-in_err-open-clause-judged g c =
     let p = err_from_is_err_and c.from_residual.result c.from_residual.ensures.1 in
-    rw (p.1, p.2) (λ bytes asks server history moment stands eff named.
-    let entries : c.self.inside.keytab ≡ c.args.self.now.setup.entries = ap (λ s. s.setup.entries) c.self.view_is in
-    wanted c.facts.ensures c.args.self.now.setup history bytes moment _ (ap_req_of c.args.request.now) asks c.in_err-make_ready.field-0.0
-    (wants_by c.args.self.now.setup (ap_req_of c.args.request.now) _ _ _ entries server c.in_err-make_ready.ensures.wanting))
-
-pub returns-in_err-open_ticket-clause-judged : goal.returns-in_err-open_ticket-clause-judged
-returns-in_err-open_ticket-clause-judged g c =
-    let p = err_from_is_err_and c.from_residual-in_err-open_ticket.result c.from_residual-in_err-open_ticket.ensures.1 in
-    rw (p.1, p.2) (λ bytes asks server history moment stands eff named.
-    let entries : c.self.inside.keytab ≡ c.args.self.now.setup.entries = ap (λ s. s.setup.entries) c.self.view_is in
+    rw (p.1, p.2) (λ bytes entry keyed keys server history moment stands eff named.
     subst (λ (r : Refusal). IsTurnedAway c.args.self.now.setup history (arrival bytes moment) (g.M.ReplayMemory.has c.args.self.now.memory) r)
-    (sym (c.in_err-open_ticket.ensures.refused named))
-    (ticket_shut c.facts.ensures c.args.self.now.setup history bytes moment _ (ap_req_of c.args.request.now) c.in_ok-make_ready.ensures.chosen.chosen.entry
-    (keyed_by c.args.self.now.setup bytes (ap_req_of c.args.request.now) _ _ _ entries server asks c.in_ok-make_ready.ensures.chosen.chosen)
-    (shut_by _ _ ticket_usage _ enc_ticket_part c.in_ok-make_ready.ensures.chosen.chosen.key_is (of_held _ _ (λ (k : UsageKeyValue). IsShut k.key k.usage c.args.request.now.ticket.enc_part.cipher.now) c.in_ok-make_ready.ensures.chosen.held_is (c.in_err-open_ticket.ensures.nothing named)))))
+    (sym (c.in_err-open.ensures.refused named))
+    (ticket_shut c.facts.ensures c.args.self.now.setup history bytes moment _ (ap_req_of c.args.request.now) entry keyed
+    (opens_nothing (entry_key entry) ticket_usage _ enc_ticket_part
+    (subst (λ (k : UsageKeyValue). IsShut k.key k.usage c.args.request.now.ticket.enc_part.cipher.now) keys (c.in_err-open.ensures.nothing named)))))
 
 pub returns-in_err-part-clause-judged : goal.returns-in_err-part-clause-judged
 returns-in_err-part-clause-judged g c =
     let p = err_from_is_err_and c.from_residual-in_err-part.result c.from_residual-in_err-part.ensures.1 in
-    rw (p.1, p.2) (λ bytes asks server history moment stands eff named.
-    let entries : c.self.inside.keytab ≡ c.args.self.now.setup.entries = ap (λ s. s.setup.entries) c.self.view_is in
-    let opened : HoldsOpened (ready_key c.in_ok-make_ready.ensures.chosen.key) c.args.request.now.ticket.enc_part.cipher.now c.open_ticket.new.ready =
-    of_held _ _ (λ (k : UsageKeyValue). HoldsOpened k c.args.request.now.ticket.enc_part.cipher.now c.open_ticket.new.ready) c.in_ok-make_ready.ensures.chosen.held_is c.in_ok-open_ticket.ensures.opened in
+    rw (p.1, p.2) (λ bytes entry keyed keys server history moment stands eff named.
     subst (λ (r : Refusal). IsTurnedAway c.args.self.now.setup history (arrival bytes moment) (g.M.ReplayMemory.has c.args.self.now.memory) r)
     (sym c.in_err-part.ensures.refused)
-    (ticket_shut c.facts.ensures c.args.self.now.setup history bytes moment _ (ap_req_of c.args.request.now) c.in_ok-make_ready.ensures.chosen.chosen.entry
-    (keyed_by c.args.self.now.setup bytes (ap_req_of c.args.request.now) _ _ _ entries server asks c.in_ok-make_ready.ensures.chosen.chosen)
-    (none_by c.facts.ensures _ _ ticket_usage _ _ _ enc_ticket_part c.in_ok-make_ready.ensures.chosen.chosen.key_is (opened_plain _ _ _ _ opened c.opened_ticket.ensures) opened.opens c.in_err-part.ensures.nothing)))
+    (ticket_shut c.facts.ensures c.args.self.now.setup history bytes moment _ (ap_req_of c.args.request.now) entry keyed
+    (opens_to_none c.facts.ensures (entry_key entry) ticket_usage _ _ enc_ticket_part
+    (subst (λ (k : UsageKeyValue). Opens (profile_of k.key) k.key.bytes k.usage c.args.request.now.ticket.enc_part.cipher.now c.open.new.self.plain) keys
+    c.in_ok-open.ensures.opened) (rw c.plain.ensures at c.in_err-part.ensures.nothing))))
 
-pub returns-in_err-make_session_ready-clause-judged : goal.returns-in_err-make_session_ready-clause-judged
-returns-in_err-make_session_ready-clause-judged g c =
-    let p = err_from_is_err_and c.from_residual-in_err-make_session_ready.result c.from_residual-in_err-make_session_ready.ensures.1 in
-    rw (p.1, p.2) (λ bytes asks server history moment stands eff named.
-    let entries : c.self.inside.keytab ≡ c.args.self.now.setup.entries = ap (λ s. s.setup.entries) c.self.view_is in
-    let opened : HoldsOpened (ready_key c.in_ok-make_ready.ensures.chosen.key) c.args.request.now.ticket.enc_part.cipher.now c.open_ticket.new.ready =
-    of_held _ _ (λ (k : UsageKeyValue). HoldsOpened k c.args.request.now.ticket.enc_part.cipher.now c.open_ticket.new.ready) c.in_ok-make_ready.ensures.chosen.held_is c.in_ok-open_ticket.ensures.opened in
+pub returns-in_err-key-clause-judged : goal.returns-in_err-key-clause-judged
+returns-in_err-key-clause-judged g c =
+    let p = err_from_is_err_and c.from_residual-in_err-key.result c.from_residual-in_err-key.ensures.1 in
+    rw (p.1, p.2) (λ bytes entry keyed keys server history moment stands eff named.
     subst (λ (r : Refusal). IsTurnedAway c.args.self.now.setup history (arrival bytes moment) (g.M.ReplayMemory.has c.args.self.now.memory) r)
-    (sym c.in_err-make_session_ready.ensures.refused.0)
+    (sym c.in_err-key.ensures.refused.0)
     (key_unusable c.facts.ensures c.args.self.now.setup history bytes moment _ (ap_req_of c.args.request.now) (enc_ticket_part_of c.in_ok-part.part)
     (record {
-      entry = c.in_ok-make_ready.ensures.chosen.chosen.entry;
-      keyed = keyed_by c.args.self.now.setup bytes (ap_req_of c.args.request.now) _ _ _ entries server asks c.in_ok-make_ready.ensures.chosen.chosen;
-      opens = opens_by _ _ ticket_usage _ _ _ enc_ticket_part _ c.in_ok-make_ready.ensures.chosen.chosen.key_is (opened_plain _ _ _ _ opened c.opened_ticket.ensures) opened.opens c.in_ok-part.ensures.read;
+      entry = entry;
+      keyed = keyed;
+      opens = opens g (goal.at.returns-in_err-key-clause-judged g c).In_ok-part entry keys;
     })
-    c.in_err-make_session_ready.ensures.refused.1))
+    c.in_err-key.ensures.refused.1))
 
 pub returns-clause-judged : goal.returns-clause-judged
-returns-clause-judged g c = λ bytes asks server.
-    let opened : HoldsOpened (ready_key c.in_ok-make_ready.ensures.chosen.key) c.args.request.now.ticket.enc_part.cipher.now c.open_ticket.new.ready =
-    of_held _ _ (λ (k : UsageKeyValue). HoldsOpened k c.args.request.now.ticket.enc_part.cipher.now c.open_ticket.new.ready) c.in_ok-make_ready.ensures.chosen.held_is c.in_ok-open_ticket.ensures.opened in
-    subst (λ (s : Service g.row.M.Denot). JudgedBy g.M.ReplayMemory.has g.M.ReplayMemory.newest s bytes c.args.now c.judge_ticket.result)
+returns-clause-judged g c = λ bytes entry keyed keys server.
+    subst (λ (s : Service g.row.M.Denot). JudgedBy g.M.ReplayMemory.has g.M.ReplayMemory.newest s bytes c.args.now c.judge_ticket-judged.result)
     c.self.view_is
-    (c.judge_ticket.ensures.judged bytes (record {
-      entry = c.in_ok-make_ready.ensures.chosen.chosen.entry;
-      keyed = keyed_by _ bytes (ap_req_of c.args.request.now) _ _ _ refl server asks c.in_ok-make_ready.ensures.chosen.chosen;
-      opens = opens_by _ _ ticket_usage _ _ _ enc_ticket_part _ c.in_ok-make_ready.ensures.chosen.chosen.key_is (opened_plain _ _ _ _ opened c.opened_ticket.ensures) opened.opens c.in_ok-part.ensures.read;
-    }) server (cc (c.in-Some.is, c.in_ok-make_session_ready.ensures.made)) c.in_ok-make_session_ready.ensures.usable)
-
-pub open_ticket-requires : goal.open_ticket-requires
-open_ticket-requires g c = is_held _ _ c.in_ok-make_ready.ensures.chosen.held_is
-
-pub opened_ticket-requires : goal.opened_ticket-requires
-opened_ticket-requires g c = is_opened _ _ _
-    (of_held _ _ (λ (k : UsageKeyValue). HoldsOpened k c.args.request.now.ticket.enc_part.cipher.now c.open_ticket.new.ready) c.in_ok-make_ready.ensures.chosen.held_is c.in_ok-open_ticket.ensures.opened)
+    (c.judge_ticket-judged.ensures.judged bytes (record {
+      entry = entry;
+      keyed = subst (λ (s : Service g.row.M.Denot). Keyed s.setup bytes (ap_req_of c.args.request.now) entry) (sym c.self.view_is) keyed;
+      opens = opens g (goal.at.returns-clause-judged g c).In_ok-part entry keys;
+    }) server c.in_ok-key.ensures.made c.in_ok-key.ensures.usable)

@@ -3,11 +3,11 @@ use Rattle.std.proofs.lemmas.Result.{err_from_is_err_and}
 use Rattle.krb_msg.specs.Borrowed.{ap_req_of, enc_ticket_part_of, authenticator_of}
 use Rattle.krb_msg.specs.Module.{authenticator}
 use Rattle.krb_ap.specs.Setup.{arrival}
-use Rattle.krb_ap.specs.Opened.{authenticator_usage, session_key}
+use Rattle.krb_ap.specs.Opened.{authenticator_usage}
 use Rattle.krb_ap.specs.Inner.Judging.{IsTurnedAway}
 use Rattle.krb_ap.specs.declared.refusal.Refusal.{Refusal}
 use Rattle.krb_ap.proofs.Truth.{is_so, is_not}
-use Rattle.krb_ap.proofs.TurnedAway.{authenticator_shut, other_client, shut_by, none_by, opens_by}
+use Rattle.krb_ap.proofs.TurnedAway.{authenticator_shut, opens_nothing, opens_to_none, other_client}
 use Rattle.krb_ap.proofs.acceptor.Acceptor.judge_ticket.Goals as goal
 
 pub returns-then-not-is_of_type-clause-judged : goal.returns-then-not-is_of_type-clause-judged
@@ -24,7 +24,7 @@ returns-in_err-plain-clause-judged g c =
     (sym (c.in_err-plain.ensures.refused named))
     (authenticator_shut c.facts.ensures c.args.self.now.setup history bytes moment _ (ap_req_of c.args.request.now) (enc_ticket_part_of c.args.part.now)
     ticketed usable
-    (λ auth opens. shut_by _ (session_key (enc_ticket_part_of c.args.part.now)) authenticator_usage _ authenticator key (c.in_err-plain.ensures.nothing named) auth opens.opens)))
+    (λ auth opens. opens_nothing _ authenticator_usage _ authenticator (rw key at (c.in_err-plain.ensures.nothing named)) auth opens.opens)))
 
 pub returns-in_err-auth-clause-judged : goal.returns-in_err-auth-clause-judged
 returns-in_err-auth-clause-judged g c =
@@ -34,8 +34,8 @@ returns-in_err-auth-clause-judged g c =
     (sym c.in_err-auth.ensures.refused)
     (authenticator_shut c.facts.ensures c.args.self.now.setup history bytes moment _ (ap_req_of c.args.request.now) (enc_ticket_part_of c.args.part.now)
     ticketed usable
-    (λ auth opens. none_by c.facts.ensures _ (session_key (enc_ticket_part_of c.args.part.now)) authenticator_usage _ _ _ authenticator key c.as_slice.ensures.value
-    c.in_ok-plain.ensures.opened c.in_err-auth.ensures.nothing auth opens.opens)))
+    (λ auth opens. opens_to_none c.facts.ensures _ authenticator_usage _ _ authenticator (rw key at c.in_ok-plain.ensures.opened)
+    (rw c.as_slice.ensures.value at c.in_err-auth.ensures.nothing) auth opens.opens)))
 
 pub returns-then-not-is_same_client-clause-judged : goal.returns-then-not-is_same_client-clause-judged
 returns-then-not-is_same_client-clause-judged g c = λ bytes ticketed server key usable history moment stands eff named.
@@ -46,7 +46,7 @@ returns-then-not-is_same_client-clause-judged g c = λ bytes ticketed server key
       usable = usable;
       opens = record {
         same_type = is_so _ _ c.is_of_type.ensures c.if-not-is_of_type.false;
-        opens = opens_by _ (session_key (enc_ticket_part_of c.args.part.now)) authenticator_usage _ _ _ authenticator _ key c.as_slice.ensures.value c.in_ok-plain.ensures.opened c.in_ok-auth.ensures.read;
+        opens = record { plain = _; opens = rw key at c.in_ok-plain.ensures.opened; message = rw c.as_slice.ensures.value at c.in_ok-auth.ensures.read };
       };
     })
     (is_not _ _ c.is_same_client.ensures c.if-not-is_same_client.true)
@@ -59,7 +59,7 @@ returns-clause-judged g c = λ bytes ticketed server key usable.
         usable = usable;
         opens = record {
           same_type = is_so _ _ c.is_of_type.ensures c.if-not-is_of_type.false;
-          opens = opens_by _ (session_key (enc_ticket_part_of c.args.part.now)) authenticator_usage _ _ _ authenticator _ key c.as_slice.ensures.value c.in_ok-plain.ensures.opened c.in_ok-auth.ensures.read;
+          opens = record { plain = _; opens = rw key at c.in_ok-plain.ensures.opened; message = rw c.as_slice.ensures.value at c.in_ok-auth.ensures.read };
         };
       };
       same_client = is_so _ _ c.is_same_client.ensures c.if-not-is_same_client.false;
