@@ -14,10 +14,7 @@ use krb_msg::KeyRef;
 
 /// A ticket's session key, if that is usable. If it is cached, it is taken from there, and nothing
 /// is derived. It allocates no memory.
-pub(crate) fn session_key(
-    cached: &mut Option<ReadyKey>,
-    key: &KeyRef,
-) -> Result<ReadyKey, Refusal>
+pub(crate) fn session_key(cached: &mut Option<ReadyKey>, key: &KeyRef) -> Result<ReadyKey, Refusal>
     ensures made { IfOk result (λ made. made ≡ key_in key.now) }
     ensures usable { OnOk result (IsUsable (key_in key.now)) }
     ensures refused { IfErr result (λ refusal. (refusal ≡ SessionKey) × ¬ IsUsable (key_in key.now)) }

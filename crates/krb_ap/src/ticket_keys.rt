@@ -44,6 +44,9 @@ pub(crate) fn keys_of(alloc: Global, cached: Option<ServiceKey>, entry: &Entry) 
     let etype = i32::from(entry.etype());
     match cached {
         Some(keys) if keys.is_for(etype, entry.key()) => keys,
-        _ => ServiceKey::new(alloc, usable_key(etype, entry.key()).for_usage(usage::TICKET)),
+        _ => {
+            let keys = usable_key(etype, entry.key()).for_usage(usage::TICKET);
+            ServiceKey::new(alloc, keys)
+        }
     }
 }
