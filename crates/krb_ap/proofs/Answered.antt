@@ -16,7 +16,7 @@ use Rattle.krb_ap.specs.Taken.{Taken, Accept}
 use Rattle.krb_ap.specs.Causes.{BeginsOtherwise, place, Cause}
 use Rattle.krb_ap.specs.Inner.Facts.{Facts}
 use Rattle.krb_ap.specs.Inner.Decisions.{Decisions}
-use Rattle.krb_ap.proofs.Decided.{Decided, both, one_of, numbers, integers, same_name, stamps}
+use Rattle.krb_ap.proofs.Decided.{Decided, both, head_of, one_of, numbers, integers, same_name, stamps}
 use Rattle.krb_ap.proofs.TurnedAway.{wanted, ticket_shut, key_unusable, authenticator_shut, other_client, opens_nothing, opens_to_none, shown_near, shown_stamp}
 use Rattle.krb_ap.proofs.OfOpened.{near, answered as of_opened_answered}
 use Rattle.krb_ap.proofs.Table.{none_before}
@@ -30,17 +30,11 @@ pub data Outcome (setup : Setup) (bytes : List ℕ) : Type 0 where
   taken : (request : ValueOf ap_req) (part : ValueOf enc_ticket_part) (auth : ValueOf authenticator) → OpenedAs setup bytes request part auth → Outcome setup bytes
 
 pub begins : (tag : ℕ) (bytes : List ℕ) → Decided (BeginsOtherwise tag bytes)
-begins tag [] = inr (λ b. let e : [] ≡ b.first ∷ b.rest = b.bytes_are in absurd (none e))
-  where
-    none : {x : ℕ} {xs : List ℕ} → [] ≡ x ∷ xs → ⊥
-    none e = cc
+begins tag [] = inr (λ b. let e : [] ≡ b.first ∷ b.rest = b.bytes_are in absurd cc)
 begins tag (x ∷ xs) = elim (numbers x tag) [
-  | inl same ↦ inr (λ b. b.other (head b.first x b.rest xs (sym b.bytes_are) ∙ same))
+  | inl same ↦ inr (λ b. b.other (head_of b.first x b.rest xs (sym b.bytes_are) ∙ same))
   | inr other ↦ inl (record { first = x; rest = xs; bytes_are = refl; other = other })
 ]
-  where
-    head : (a b : ℕ) (left right : List ℕ) → a ∷ left ≡ b ∷ right → a ≡ b
-    head a b left right e = cc
 
 known : (etype : ℤ) → Decided (IsKnown etype)
 known etype = one_of (etype ≡ pos 19) (etype ≡ pos 20) (integers etype (pos 19)) (integers etype (pos 20))

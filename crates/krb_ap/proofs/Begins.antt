@@ -1,11 +1,9 @@
 -- How a message begins.
-use Rattle.std.proofs.Common.{◌≡◌, ℕ, List, ◌∷◌, sym, ◌∙◌}
+use Rattle.std.proofs.Common.{◌≡◌, ℕ, List, sym, ◌∙◌}
 use Rattle.krb_der.specs.Kind.{Kind, ValueOf, tag_of}
 use Rattle.krb_der.specs.Spells.{IsMessage}
 use Rattle.krb_ap.specs.Causes.{BeginsOtherwise}
-
-head_of : (a b : ℕ) (x y : List ℕ) → a ∷ x ≡ b ∷ y → a ≡ b
-head_of a b x y h = cc
+use Rattle.krb_ap.proofs.Decided.{head_of}
 
 -- with the tag of its kind
 pub begins_so : (k : Kind) (value : ValueOf k) (bytes : List ℕ) → IsMessage k value bytes → ¬ BeginsOtherwise (tag_of k) bytes

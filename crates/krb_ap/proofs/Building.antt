@@ -50,28 +50,21 @@ too_big n m e h g = omega arith
 pub unwritten : WritingFacts → (k : Kind) (v : ValueOf k) (bytes : List ℕ) → limit < size_of k v → ¬ IsWritten k v bytes
 unwritten w k v bytes long written = too_big (length bytes) (size_of k v) (w.size k v bytes written.written) written.message.within long
 
-same_told : (credential : Credential) (options : RequestOptions) (s t : ℤ) (m n : ℕ) → s ≡ t → m ≡ n
+same_told : (credential : Credential) (options : RequestOptions) (s t : ℤ) (m n : ℕ) → m < 1_000_000 → n < 1_000_000 → micros_of s m ≡ micros_of t n
     → authenticator_for credential s m options ≡ authenticator_for credential t n options
-same_told credential options s t m n e f = rw (e, f)
+same_told credential options s t m n h g e = rw (seconds_of s t m n h g e, micros_in s t m n h g e)
 
 module _ (w : WritingFacts) (credential : Credential) (at : ℤ) (options : RequestOptions) where
   -- no bytes are an authenticator that is too long
   pub untold : (ctime : ℤ) (cusec : ℕ) → at ≡ micros_of ctime cusec → cusec < 1_000_000
       → limit < size_of authenticator (authenticator_for credential ctime cusec options) → (plain : List ℕ) → ¬ IsPlain credential at options plain
-  untold ctime cusec is micros long plain p =
-      let e : micros_of ctime cusec ≡ micros_of p.ctime p.cusec = sym is ∙ p.at_is in
-      unwritten w authenticator (authenticator_for credential p.ctime p.cusec options) plain
-      (subst (λ v. limit < size_of authenticator v) (same_told credential options ctime p.ctime cusec p.cusec
-      (seconds_of ctime p.ctime cusec p.cusec micros p.micros e) (micros_in ctime p.ctime cusec p.cusec micros p.micros e)) long)
-      p.plain_is
+  untold ctime cusec is micros long plain p = unwritten w authenticator (authenticator_for credential p.ctime p.cusec options) plain
+      (subst (λ v. limit < size_of authenticator v) (same_told credential options ctime p.ctime cusec p.cusec micros p.micros (sym is ∙ p.at_is)) long) p.plain_is
 
   -- and an authenticator is one
   one_told : (a b : List ℕ) → IsPlain credential at options a → IsPlain credential at options b → a ≡ b
-  one_told a b p q =
-      let e : micros_of p.ctime p.cusec ≡ micros_of q.ctime q.cusec = sym p.at_is ∙ q.at_is in
-      w.one authenticator (authenticator_for credential q.ctime q.cusec options) a b
-      (subst (λ v. IsWritten authenticator v a) (same_told credential options p.ctime q.ctime p.cusec q.cusec
-      (seconds_of p.ctime q.ctime p.cusec q.cusec p.micros q.micros e) (micros_in p.ctime q.ctime p.cusec q.cusec p.micros q.micros e)) p.plain_is).written
+  one_told a b p q = w.one authenticator (authenticator_for credential q.ctime q.cusec options) a b
+      (subst (λ v. IsWritten authenticator v a) (same_told credential options p.ctime q.ctime p.cusec q.cusec p.micros q.micros (sym p.at_is ∙ q.at_is)) p.plain_is).written
       q.plain_is.written
 
   one_text : (confounder a b : List ℕ) → IsAuthenticator credential at confounder options a → IsAuthenticator credential at confounder options b → a ≡ b

@@ -1,6 +1,6 @@
 -- What a reply is refused for first, and what is agreed.
 use Rattle.krb_name.specs.declared.principal.Principal.{Principal}
-use Rattle.std.proofs.Common.{Option, Err, IsErrOf, ◌≡◌, ℕ, ◌<◌, ◌≤◌, List, sym, ◌∙◌, subst, ap, arith, lit≤, lit<}
+use Rattle.std.proofs.Common.{Option, Err, IsErrOf, ◌≡◌, ℕ, ◌<◌, List, sym, ◌∙◌, subst, ap, arith, lit<}
 use Rattle.krb_der.specs.Kind.{ValueOf, leaf, octets}
 use Rattle.krb_der.specs.Fault.{IsFault}
 use Rattle.krb_der.specs.Spells.{IsMessage}
@@ -18,23 +18,13 @@ use Rattle.krb_ap.specs.declared.finish_fault.FinishFault.{FinishFault}
 use Rattle.krb_ap.specs.declared.finish_fault.FinishFault.TheVariants.{MessageType, Malformed, Integrity, Mismatch, OutOfMemory}
 use Rattle.krb_der.specs.declared.fault.Fault.{Fault}
 
-from_one : (f : FinishFault) → 1 ≤ finish_place f
-from_one MessageType = lit≤ tt
-from_one (Malformed fault) = lit≤ tt
-from_one Integrity = lit≤ tt
-from_one Mismatch = lit≤ tt
-from_one OutOfMemory = lit≤ tt
-
 none_below : (f : FinishFault) → finish_place f < 1 → ⊥
-none_below f h = (let e : 1 ≤ finish_place f = from_one f in omega arith)
+none_below f h = grind arith
 
 module _ (awaited : Awaited) (bytes : List ℕ) where
   begun : ¬ BeginsOtherwise 0x6f bytes → (other : FinishFault) → finish_place other < 2 → ¬ FinishHolds awaited bytes other
   begun so MessageType h x = so x
-  begun so (Malformed fault) h x = absurd (omega (arith, h))
-  begun so Integrity h x = absurd (omega (arith, h))
-  begun so Mismatch h x = absurd (omega (arith, h))
-  begun so OutOfMemory h x = x
+  begun so _ h x = absurd (omega (arith, h))
 
   pub other_type : BeginsOtherwise 0x6f bytes → FinishCause awaited bytes MessageType
   other_type b = record { holds = b; first = λ other h x. none_below other h }
@@ -49,9 +39,7 @@ module _ (facts : Facts) (awaited : Awaited) (bytes : List ℕ) where
   read : (reply : ValueOf ap_rep) → IsMessage ap_rep reply bytes → (other : FinishFault) → finish_place other < 3 → ¬ FinishHolds awaited bytes other
   read reply message MessageType h x = begins_so ap_rep reply bytes message x
   read reply message (Malformed fault) h x = x.0 reply message
-  read reply message Integrity h x = absurd (omega (arith, h))
-  read reply message Mismatch h x = absurd (omega (arith, h))
-  read reply message OutOfMemory h x = x
+  read reply message _ h x = absurd (omega (arith, h))
 
   not_shut : (part : ValueOf enc_ap_rep_part) → IsOpenedReply awaited bytes part → ¬ FinishHolds awaited bytes Integrity
   not_shut part o x = x.shut part (subst (λ (r : ValueOf ap_rep). OpensReply awaited.key r part)
@@ -62,8 +50,7 @@ module _ (facts : Facts) (awaited : Awaited) (bytes : List ℕ) where
   opened part o MessageType h x = begins_so ap_rep o.reply bytes o.message x
   opened part o (Malformed fault) h x = x.0 o.reply o.message
   opened part o Integrity h x = not_shut part o x
-  opened part o Mismatch h x = absurd (omega (arith, h))
-  opened part o OutOfMemory h x = x
+  opened part o _ h x = absurd (omega (arith, h))
 
   -- ---- the causes
 

@@ -1,7 +1,6 @@
 -- A near and new request: what is asked of its ticket.
-use Rattle.std.proofs.Common.{◌≡◌, ◌≢◌, ℕ, ℤ, pos, ◌+ℤ◌, inl, inr, ◌⊎◌, arith}
-use Rattle.std.specs.Prelude.{◌≤ℤ◌, ◌<ℤ◌}
-use Rattle.std.proofs.lemmas.Int.{ints}
+use Rattle.std.proofs.Common.{◌≡◌, ◌≢◌, ℕ, ℤ, pos, ◌+ℤ◌, inl, inr}
+use Rattle.std.specs.Prelude.{◌≤ℤ◌}
 use Rattle.krb_name.specs.declared.principal.Principal.{Principal}
 use Rattle.krb_der.specs.Kind.{ValueOf}
 use Rattle.krb_msg.specs.Module.{ap_req, enc_ticket_part, authenticator}
@@ -10,21 +9,13 @@ use Rattle.krb_replay.specs.Stamp.{Stamp}
 use Rattle.krb_ap.specs.Opened.{stamp_at}
 use Rattle.krb_ap.specs.Times.{Alive, IsEarly, IsLate, second_at, start_of}
 use Rattle.krb_ap.specs.Inner.Stages.{TimesRefuse}
+use Rattle.krb_ap.proofs.Decided.{order}
 use Rattle.krb_ap.specs.declared.refusal.Refusal.{Refusal}
 use Rattle.krb_ap.specs.declared.refusal.Refusal.TheVariants.{OutOfMemory}
 
-either : (a b : ℤ) → (a ≤ℤ b) ⊎ (b <ℤ a)
-either a b = grind (arith, ints)
-
-both : (a b : ℤ) → a ≤ℤ b → b <ℤ a → ⊥
-both a b h g = omega (arith, ints)
-
 -- what isn't refuted holds, of an order of whole numbers
-pub stable : (a b : ℤ) → ¬ (¬ (a ≤ℤ b)) → a ≤ℤ b
-stable a b h = elim (either a b) [
-  | inl le ↦ le
-  | inr lt ↦ absurd (h (λ le. both a b le lt))
-]
+stable : (a b : ℤ) → ¬ (¬ (a ≤ℤ b)) → a ≤ℤ b
+stable a b h = elim (order a b) [ inl le ↦ le | inr none ↦ absurd (h none) ]
 
 pub alive : (part : ValueOf enc_ticket_part) (now : ℤ) (skew : ℕ) → ¬ IsEarly part now skew → ¬ IsLate part now skew → Alive part now skew
 alive part now skew early late = record {

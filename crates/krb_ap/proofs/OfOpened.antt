@@ -1,5 +1,5 @@
 -- An opened request: which row answers it, or that it is accepted.
-use Rattle.std.proofs.Common.{◌≡◌, ◌≢◌, ℕ, ℤ, pos, ◌+ℤ◌, ◌<◌, List, refl, sym, subst, inl, inr, ◌⊎◌, arith, lit<, Option, Some, None}
+use Rattle.std.proofs.Common.{◌≡◌, ◌≢◌, ℕ, ℤ, pos, ◌+ℤ◌, ◌<◌, List, refl, sym, subst, inl, inr, ◌⊎◌, arith, Option, Some, None}
 use Rattle.std.specs.Prelude.{◌<ℤ◌, IfSome}
 use Rattle.krb_der.specs.Kind.{ValueOf}
 use Rattle.krb_msg.specs.Bits.{invalid, transited_policy_checked}
@@ -237,9 +237,11 @@ accepted_is_clear facts setup history call taken a =
 
 -- ---- which refusals remember a request
 
-late_of_these : (r : Refusal) → IsRemembered r
-    → (r ≡ JustStarted) ⊎ ((r ≡ NotYetValid) ⊎ ((r ≡ Expired) ⊎ ((r ≡ Transited) ⊎ (r ≡ Authorization))))
-late_of_these r kept = grind arith
+behind_skew : (r : Refusal) → IsRemembered r → place Skew < place r
+behind_skew r kept = grind arith
+
+behind_repeat : (r : Refusal) → IsRemembered r → r ≢ JustStarted → place Repeat < place r
+behind_repeat r kept other = grind arith
 
 early_of_these : (r : Refusal) → ¬ IsRemembered r → (place r < place Skew) ⊎ ((r ≡ Skew) ⊎ ((r ≡ Repeat) ⊎ (r ≡ OutOfMemory)))
 early_of_these r kept = grind arith
@@ -249,54 +251,29 @@ module _ (facts : Facts) (setup : Setup) (history : List Arrival) (call : Arriva
   abbrev ShowsOne : (Stamp → Type 0) → Type 0
   ShowsOne P = (stamp : Stamp) × (Shows setup (effective history call.moment) call.bytes stamp × P stamp)
 
-  -- where the clocks' row doesn't hold
-  shown_by : (P : ValueOf ap_req → ValueOf enc_ticket_part → ValueOf authenticator → Type 0) → (x : OfOpened setup call.bytes P)
-      → ¬ Holds setup history call Skew → Shows setup (effective history call.moment) call.bytes (stamp_of x.request x.part x.auth)
-  shown_by P x not_skew = elim (near (sent_at x.auth) (effective history call.moment) setup.skew) [
-    | inl is_near ↦ record { request = x.request; part = x.part; auth = x.auth; opened = x.opened; near = is_near; stamp_is = refl }
-    | inr far ↦ absurd (not_skew (record { request = x.request; part = x.part; auth = x.auth; opened = x.opened; holds = far }))
-  ]
+  -- such a refusal is of an opened request
+  opened_of : (r : Refusal) → IsRemembered r → Holds setup history call r → OfOpened setup call.bytes (λ request part auth. Unit {0})
+  opened_of JustStarted kept h = record { request = h.request; part = h.part; auth = h.auth; opened = h.opened; holds = tt }
+  opened_of NotYetValid kept h = record { request = h.request; part = h.part; auth = h.auth; opened = h.opened; holds = tt }
+  opened_of Expired kept h = record { request = h.request; part = h.part; auth = h.auth; opened = h.opened; holds = tt }
+  opened_of Transited kept h = record { request = h.request; part = h.part; auth = h.auth; opened = h.opened; holds = tt }
+  opened_of Authorization kept h = record { request = h.request; part = h.part; auth = h.auth; opened = h.opened; holds = tt }
+  opened_of _ kept h = absurd cc
 
-  -- and where that of repeats doesn't either, it wasn't shown before
-  newly : (P : ValueOf ap_req → ValueOf enc_ticket_part → ValueOf authenticator → Type 0) (r : Refusal) → OfOpened setup call.bytes P
-      → ¬ Holds setup history call Skew → ¬ Holds setup history call Repeat → ShowsOne (λ stamp. r ≢ JustStarted → ¬ IsShown setup history stamp)
-  newly P r x not_skew not_repeat = (
-    stamp_of x.request x.part x.auth,
-    (
-      shown_by P x not_skew,
-      λ other shown. not_repeat (record { request = x.request; part = x.part; auth = x.auth; opened = x.opened; holds = shown }),
-    ),
-  )
-
+  -- near, since the clocks' row doesn't hold; and new, unless it was just started, since that of repeats doesn't
   pub remembers : (r : Refusal) → IsRemembered r → Cause setup history call r → ShowsOne (λ stamp. r ≢ JustStarted → ¬ IsShown setup history stamp)
-  remembers r kept cause = elim (late_of_these r kept) [
-    | inl is ↦ by_start is (subst (λ (x : Refusal). Cause setup history call x) is cause)
-    | inr those ↦ elim those [
-      | inl is ↦ by (subst (λ (x : Refusal). Cause setup history call x) is cause)
-      | inr rest ↦ elim rest [
-        | inl is ↦ by_expired (subst (λ (x : Refusal). Cause setup history call x) is cause)
-        | inr others ↦ elim others [
-          | inl is ↦ by_transited (subst (λ (x : Refusal). Cause setup history call x) is cause)
-          | inr is ↦ by_authorization (subst (λ (x : Refusal). Cause setup history call x) is cause)
-        ]
-      ]
-    ]
-  ]
-    where
-      by_start : r ≡ JustStarted → Cause setup history call JustStarted → ShowsOne (λ stamp. r ≢ JustStarted → ¬ IsShown setup history stamp)
-      by_start is c = (stamp_of c.holds.request c.holds.part c.holds.auth, (shown_by _ c.holds (c.first Skew (lit< tt)), λ other. absurd (other is)))
-
-      by : Cause setup history call NotYetValid → ShowsOne (λ stamp. r ≢ JustStarted → ¬ IsShown setup history stamp)
-      by c = newly _ r c.holds (c.first Skew (lit< tt)) (c.first Repeat (lit< tt))
-
-      by_expired : Cause setup history call Expired → ShowsOne (λ stamp. r ≢ JustStarted → ¬ IsShown setup history stamp)
-      by_expired c = newly _ r c.holds (c.first Skew (lit< tt)) (c.first Repeat (lit< tt))
-
-      by_transited : Cause setup history call Transited → ShowsOne (λ stamp. r ≢ JustStarted → ¬ IsShown setup history stamp)
-      by_transited c = newly _ r c.holds (c.first Skew (lit< tt)) (c.first Repeat (lit< tt))
-
-      by_authorization : Cause setup history call Authorization → ShowsOne (λ stamp. r ≢ JustStarted → ¬ IsShown setup history stamp)
-      by_authorization c = newly _ r c.holds (c.first Skew (lit< tt)) (c.first Repeat (lit< tt))
+  remembers r kept cause =
+      let o : OfOpened setup call.bytes (λ request part auth. Unit {0}) = opened_of r kept cause.holds in (
+        stamp_of o.request o.part o.auth,
+        (
+          elim (near (sent_at o.auth) (effective history call.moment) setup.skew) [
+            | inl is_near ↦ record { request = o.request; part = o.part; auth = o.auth; opened = o.opened; near = is_near; stamp_is = refl }
+            | inr far ↦ absurd (cause.first Skew (behind_skew r kept) (record { request = o.request; part = o.part; auth = o.auth; opened = o.opened; holds = far }))
+          ],
+          λ other shown. cause.first Repeat (behind_repeat r kept other)
+              (record { request = o.request; part = o.part; auth = o.auth; opened = o.opened; holds = shown }),
+        ),
+      )
 
   pub adds_nothing : (r : Refusal) → ¬ IsRemembered r → Cause setup history call r → (stamp : Stamp)
       → Shows setup (effective history call.moment) call.bytes stamp → IsShown setup history stamp

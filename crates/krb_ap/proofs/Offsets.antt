@@ -36,18 +36,9 @@ cause_within within setup history call r cause = elim (placeless r) [
 
 pub finish_within : Within → (awaited : Awaited) (bytes : List ℕ) (f : FinishFault) → FinishCause awaited bytes f
     → IfSome (finish_offset_of f) (λ at. at ≤ length bytes)
-finish_within within awaited bytes finish.MessageType cause = tt
 finish_within within awaited bytes (finish.Malformed fault) cause = within ap_rep bytes fault cause.holds.1
-finish_within within awaited bytes finish.Integrity cause = tt
-finish_within within awaited bytes finish.Mismatch cause = tt
-finish_within within awaited bytes finish.OutOfMemory cause = tt
-
-malformed_is_other : (fault : Fault) → finish.Malformed fault ≡ finish.Integrity → ⊥
-malformed_is_other fault e = cc
+finish_within within awaited bytes _ cause = tt
 
 pub shut_within : (bytes : List ℕ) (f : FinishFault) → (f ≢ finish.OutOfMemory → f ≡ finish.Integrity) → IfSome (finish_offset_of f) (λ at. at ≤ length bytes)
-shut_within bytes finish.MessageType is = tt
-shut_within bytes (finish.Malformed fault) is = absurd (malformed_is_other fault (is (λ e. cc)))
-shut_within bytes finish.Integrity is = tt
-shut_within bytes finish.Mismatch is = tt
-shut_within bytes finish.OutOfMemory is = tt
+shut_within bytes (finish.Malformed fault) is = (let e : finish.Malformed fault ≡ finish.Integrity = is (λ e. cc) in absurd cc)
+shut_within bytes _ is = tt

@@ -11,13 +11,8 @@ use Rattle.krb_ap.specs.Credentials.{IsFor, IsUsableFor, IsFit, IsUsed, HasCrede
 use Rattle.krb_ap.specs.Request.{Awaited, IsBuilt, IsRequest, Prevents}
 use Rattle.krb_ap.specs.declared.request.RequestOptions.{RequestOptions}
 use Rattle.krb_ap.specs.declared.request_fault.RequestFault.{RequestFault}
+use Rattle.krb_ap.proofs.Decided.{head_of, tail_of}
 use Rattle.krb_ap.specs.declared.request_fault.RequestFault.TheVariants.{NoCredential, NoUsableKey, Expired, BadTicket, TooLong, OutOfMemory}
-
-head_of : {X : Type 0} (x y : X) (xs ys : List X) → x ∷ xs ≡ y ∷ ys → x ≡ y
-head_of x y xs ys e = cc
-
-tail_of : {X : Type 0} (x y : X) (xs ys : List X) → x ∷ xs ≡ y ∷ ys → xs ≡ ys
-tail_of x y xs ys e = cc
 
 -- what holds of all holds of an element
 pub holds_at : {X : Type 0} (P : X → Type 0) (before : List X) (x : X) (after : List X) → All P (before ++ x ∷ after) → P x
@@ -54,42 +49,33 @@ module _ (cache : Cache) (service : Principal) (at : ℤ) where
   module _ (confounder : List ℕ) (options : RequestOptions) where
     pub one_fault : (one other : RequestFault) → Prevents cache service at confounder options one → Prevents cache service at confounder options other
         → one ≡ other
+    one_fault OutOfMemory _ p q = absurd p
+    one_fault _ OutOfMemory p q = absurd q
     one_fault NoCredential NoCredential p q = refl
     one_fault NoCredential NoUsableKey p q = absurd (none_has (IsFor cache service) cache.credentials p q.0)
     one_fault NoCredential Expired p q = absurd (none_has (IsFor cache service) cache.credentials p (for_some q.0))
     one_fault NoCredential BadTicket p q = absurd (none_used q.credential (IsFor cache service) q.used p q.used.fit.usable_for.is_for)
     one_fault NoCredential TooLong p q = absurd (none_used q.credential (IsFor cache service) q.used p q.used.fit.usable_for.is_for)
-    one_fault NoCredential OutOfMemory p q = absurd q
     one_fault NoUsableKey NoCredential p q = absurd (none_has (IsFor cache service) cache.credentials q p.0)
     one_fault NoUsableKey NoUsableKey p q = refl
     one_fault NoUsableKey Expired p q = absurd (none_has (IsUsableFor cache service) cache.credentials p.1 q.0)
     one_fault NoUsableKey BadTicket p q = absurd (none_used q.credential (IsUsableFor cache service) q.used p.1 q.used.fit.usable_for)
     one_fault NoUsableKey TooLong p q = absurd (none_used q.credential (IsUsableFor cache service) q.used p.1 q.used.fit.usable_for)
-    one_fault NoUsableKey OutOfMemory p q = absurd q
     one_fault Expired NoCredential p q = absurd (none_has (IsFor cache service) cache.credentials q (for_some p.0))
     one_fault Expired NoUsableKey p q = absurd (none_has (IsUsableFor cache service) cache.credentials q.1 p.0)
     one_fault Expired Expired p q = refl
     one_fault Expired BadTicket p q = absurd (none_used q.credential (IsFit cache service at) q.used p.1 q.used.fit)
     one_fault Expired TooLong p q = absurd (none_used q.credential (IsFit cache service at) q.used p.1 q.used.fit)
-    one_fault Expired OutOfMemory p q = absurd q
     one_fault BadTicket NoCredential p q = absurd (none_used p.credential (IsFor cache service) p.used q p.used.fit.usable_for.is_for)
     one_fault BadTicket NoUsableKey p q = absurd (none_used p.credential (IsUsableFor cache service) p.used q.1 p.used.fit.usable_for)
     one_fault BadTicket Expired p q = absurd (none_used p.credential (IsFit cache service at) p.used q.1 p.used.fit)
     one_fault BadTicket BadTicket p q = refl
     one_fault BadTicket TooLong p q = absurd (p.bad q.ticket (subst (λ (c : Credential). IsMessage ticket_kind q.ticket c.ticket) (one_used q.credential p.credential q.used p.used) q.ticket_is))
-    one_fault BadTicket OutOfMemory p q = absurd q
     one_fault TooLong NoCredential p q = absurd (none_used p.credential (IsFor cache service) p.used q p.used.fit.usable_for.is_for)
     one_fault TooLong NoUsableKey p q = absurd (none_used p.credential (IsUsableFor cache service) p.used q.1 p.used.fit.usable_for)
     one_fault TooLong Expired p q = absurd (none_used p.credential (IsFit cache service at) p.used q.1 p.used.fit)
     one_fault TooLong BadTicket p q = absurd (q.bad p.ticket (subst (λ (c : Credential). IsMessage ticket_kind p.ticket c.ticket) (one_used p.credential q.credential p.used q.used) p.ticket_is))
     one_fault TooLong TooLong p q = refl
-    one_fault TooLong OutOfMemory p q = absurd q
-    one_fault OutOfMemory NoCredential p q = absurd p
-    one_fault OutOfMemory NoUsableKey p q = absurd p
-    one_fault OutOfMemory Expired p q = absurd p
-    one_fault OutOfMemory BadTicket p q = absurd p
-    one_fault OutOfMemory TooLong p q = absurd p
-    one_fault OutOfMemory OutOfMemory p q = refl
 
   module _ (confounder : List ℕ) (options : RequestOptions) (bytes : List ℕ) (awaited : Awaited) where
     pub built_or_prevented : (fault : RequestFault) → IsRequest cache service at confounder options bytes awaited

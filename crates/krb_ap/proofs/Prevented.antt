@@ -9,7 +9,7 @@ use Rattle.krb_ap.specs.Inner.Requests.{HasTicket, IsUnbuilt}
 use Rattle.krb_ap.specs.Request.{Awaited, HasGoodTicket, IsBuilt, IsRequest, Prevents, awaited_for}
 use Rattle.krb_ap.specs.declared.request.RequestOptions.{RequestOptions}
 use Rattle.krb_ap.specs.declared.request_fault.RequestFault.{RequestFault}
-use Rattle.krb_ap.specs.declared.request_fault.RequestFault.TheVariants.{NoCredential, NoUsableKey, Expired, BadTicket, TooLong, OutOfMemory}
+use Rattle.krb_ap.specs.declared.request_fault.RequestFault.TheVariants.{BadTicket, TooLong}
 
 -- what two facts of a value say together
 pub if_ok_both : {T E : Type 0} (r : Result T E) {P Q R : T → Type 0} → ((x : T) → P x → Q x → R x) → IfOk r P → IfOk r Q → IfOk r R
@@ -24,10 +24,7 @@ module _ (cache : Cache) (service : Principal) (at : ℤ) (credential : Credenti
     pub prevented : (fault : RequestFault) → IsUnbuilt credential at confounder options fault → Prevents cache service at confounder options fault
     prevented BadTicket u = record { credential = credential; used = used; bad = λ ticket message. u (ticket, message) }
     prevented TooLong u = record { credential = credential; used = used; ticket = u.0.0; ticket_is = u.0.1; unwritten = u.1 }
-    prevented NoCredential u = absurd u
-    prevented NoUsableKey u = absurd u
-    prevented Expired u = absurd u
-    prevented OutOfMemory u = absurd u
+    prevented _ u = absurd u
 
     pub requested : (bytes : List ℕ) (awaited : Awaited) → IsBuilt credential at confounder options bytes → awaited ≡ awaited_for credential at options
         → IsRequest cache service at confounder options bytes awaited

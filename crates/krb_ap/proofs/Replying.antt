@@ -69,8 +69,7 @@ sealed_size lengths known key usage confounder plain text s =
 
 pub copied_part : (taken : Taken) (options : ReplyOptions) (subkey : Option (ValueOf encryption_key)) → subkey ≡ option_map key_value options.subkey
     → enc_ap_rep_part_value (record { ctime = taken.ctime; cusec = taken.cusec; subkey = subkey; seq_number = options.seq }) ≡ reply_part_for taken options
-copied_part taken options subkey e =
-    ap (λ (k : Option (ValueOf encryption_key)). enc_ap_rep_part_value (record { ctime = taken.ctime; cusec = taken.cusec; subkey = k; seq_number = options.seq })) e
+copied_part taken options subkey e = rw e
 
 pub copied_reply : (key : KeyValue) (text : List ℕ) (told : ValueOf encrypted_data) → told ≡ reply_enc_part (reply_for key text)
     → ap_rep_value told ≡ reply_for key text
@@ -78,14 +77,13 @@ copied_reply key text told e = ap ap_rep_value e
 
 -- ---- an error that is too long
 
-same_error : (code : ℤ) (service : Principal) (s t : ℤ) (m n : ℕ) → s ≡ t → m ≡ n → error_for s m code service ≡ error_for t n code service
-same_error code service s t m n e f = ap (λ (x : ℤ). error_for x m code service) e ∙ ap (λ (x : ℕ). error_for t x code service) f
+same_error : (code : ℤ) (service : Principal) (s t : ℤ) (m n : ℕ) → m < 1_000_000 → n < 1_000_000 → micros_of s m ≡ micros_of t n
+    → error_for s m code service ≡ error_for t n code service
+same_error code service s t m n h g e = rw (seconds_of s t m n h g e, micros_in s t m n h g e)
 
 pub untold_error : WritingFacts → (code now : ℤ) (service : Principal) (stime : ℤ) (susec : ℕ) → now ≡ micros_of stime susec → susec < 1_000_000
     → limit < size_of krb_error (error_for stime susec code service) → (bytes : List ℕ) → ¬ IsError code now service bytes
-untold_error w code now service stime susec is micros long bytes b =
-    let e : micros_of stime susec ≡ micros_of b.stime b.susec = sym is ∙ b.now_is in
-    unwritten w krb_error (error_for b.stime b.susec code service) bytes
-    (subst (λ (v : ValueOf krb_error). limit < size_of krb_error v) (same_error code service stime b.stime susec b.susec
-    (seconds_of stime b.stime susec b.susec micros b.micros e) (micros_in stime b.stime susec b.susec micros b.micros e)) long)
+untold_error w code now service stime susec is micros long bytes b = unwritten w krb_error (error_for b.stime b.susec code service) bytes
+    (subst (λ (v : ValueOf krb_error). limit < size_of krb_error v)
+    (same_error code service stime b.stime susec b.susec micros b.micros (sym is ∙ b.now_is)) long)
     b.bytes_are

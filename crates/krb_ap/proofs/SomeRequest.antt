@@ -16,19 +16,16 @@ use Rattle.krb_ap.specs.declared.request.RequestOptions.{RequestOptions}
 use Rattle.krb_ap.specs.declared.request_fault.RequestFault.{RequestFault}
 use Rattle.krb_ap.specs.declared.request_fault.RequestFault.TheVariants.{NoCredential, NoUsableKey, Expired, BadTicket, TooLong}
 use Rattle.krb_ap.proofs.Building.{one_built}
-use Rattle.krb_ap.proofs.Decided.{Decided, both, later, none_of, same_name, texts}
+use Rattle.krb_ap.proofs.Decided.{Decided, both, head_of, later, none_of, same_name, texts}
 use Rattle.krb_ap.proofs.OneRequest.{one_used}
 
 -- ---- which credentials fit is decided
-
-first_is : (a b : List ℕ) (xs ys : List (List ℕ)) → a ∷ xs ≡ b ∷ ys → a ≡ b
-first_is a b xs ys e = cc
 
 begins : (components : List (List ℕ)) (first : List ℕ) → Decided (BeginsWith components first)
 begins [] first = inr (λ h. cc)
 begins (c ∷ others) first = elim (texts c first) [
   | inl same ↦ inl (others, ap (λ (x : List ℕ). x ∷ others) same)
-  | inr other ↦ inr (λ h. other (first_is c first others h.0 h.1))
+  | inr other ↦ inr (λ h. other (head_of c first others h.0 h.1))
 ]
 
 configures : (c : Credential) → Decided (IsConfiguration c)

@@ -8,7 +8,7 @@ use Rattle.krb_ap.specs.Setup.{Setup, Arrival, arrival}
 use Rattle.krb_ap.specs.History.{greatest, effective, Shows, IsShown, IsStillRecent, StandsFor}
 use Rattle.krb_ap.specs.Inner.Facts.{Facts}
 use Rattle.krb_ap.specs.Inner.GoingOn.{GoesOn}
-use Rattle.krb_ap.proofs.TurnedAway.{shown_stamp}
+use Rattle.krb_ap.proofs.TurnedAway.{later_is_later, shown_stamp}
 
 -- the moment that counts is its own
 pub counts_once : (latest : Option ℤ) (moment : ℤ) → later_of latest (later_of latest moment) ≡ later_of latest moment
@@ -24,9 +24,6 @@ moved_on latest mid next moment now is_now is_mid is_next =
 still : (latest now time : ℤ) (skew : ℕ) → latest ≤ℤ now → (now -ℤ pos skew) ≤ℤ time → (latest -ℤ pos skew) ≤ℤ time
 still latest now time skew h g = omega (arith, ints)
 
-later_than : (latest moment : ℤ) → latest ≤ℤ later_of (Some latest) moment
-later_than latest moment = grind (arith, ints)
-
 -- what is recent later was recent before
 pub recent_before : (setup : Setup) (history : List Arrival) (moment : ℤ) (stamp : Stamp)
     → IsRecent (effective history moment) setup.skew stamp → IsStillRecent setup history stamp
@@ -34,7 +31,7 @@ recent_before setup history moment stamp h = at (greatest history) h
   where
     at : (latest : Option ℤ) → IsRecent (later_of latest moment) setup.skew stamp → IfSome latest (λ now. IsRecent now setup.skew stamp)
     at None h = tt
-    at (Some latest) h = still latest (later_of (Some latest) moment) stamp.time setup.skew (later_than latest moment) h
+    at (Some latest) h = still latest (later_of (Some latest) moment) stamp.time setup.skew (later_is_later latest moment) h
 
 -- after a call the memory has what it had and what was shown, as far as it is recent
 pub stands_on : (setup : Setup) (history : List Arrival) (bytes : List ℕ) (moment : ℤ) (Old New : Stamp → Type 0) (latest next : Option ℤ)

@@ -125,7 +125,7 @@ module _ (facts : Facts) (setup : Setup) (history : List Arrival) (bytes : List 
 
 -- ---- a memory that stands for a history has what was shown and is near
 
-later_is_later : (latest moment : ℤ) → latest ≤ℤ later_of (Some latest) moment
+pub later_is_later : (latest moment : ℤ) → latest ≤ℤ later_of (Some latest) moment
 later_is_later latest moment = grind (arith, ints)
 
 recent : (latest now sent : ℤ) (skew : ℕ) → latest ≤ℤ now → now ≤ℤ (sent +ℤ pos skew) → (latest -ℤ pos skew) ≤ℤ sent

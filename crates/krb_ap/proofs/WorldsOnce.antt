@@ -1,5 +1,5 @@
 -- In every world that comes about no stamp is accepted twice, whatever the service's keys open.
-use Rattle.std.proofs.Common.{◌≡◌, ℕ, ℤ, ◌≤◌, List, [], ◌∷◌, ◌++◌, refl, sym, ◌∙◌, subst, inl, inr, ◌⊎◌, Some}
+use Rattle.std.proofs.Common.{◌≡◌, ℕ, ℤ, List, [], ◌∷◌, ◌++◌, refl, sym, ◌∙◌, subst, inl, inr, ◌⊎◌, Some}
 use Rattle.std.specs.Prelude.{◌≤ℤ◌}
 use Rattle.krb_ccache.specs.declared.credential.Credential.{Credential}
 use Rattle.krb_replay.specs.Stamp.{Stamp}
