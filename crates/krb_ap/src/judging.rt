@@ -10,7 +10,7 @@ ghost use Rattle.krb_ap.specs.Opened.{AsksFor, IsOrdinary, Keyed, OpenedAs, Tick
 ghost use Rattle.krb_ap.specs.Quiet.{Settled};
 ghost use Rattle.krb_ap.specs.Taken.{taken_from};
 ghost use Rattle.krb_ap.specs.Answer.{taken_of};
-ghost use Rattle.krb_ap.specs.Inner.Judging.{IsFor, IsNamed, IsPlacedWithin, IsPlaceless, JudgedBy};
+ghost use Rattle.krb_ap.specs.Inner.Judging.{IsNamed, IsPlacedWithin, IsSoundFor, JudgedBy};
 ghost use Rattle.krb_ap.specs.Inner.Stages.{ready_key};
 ghost use Rattle.krb_ap.specs.declared.refusal.Refusal.TheVariants.{OutOfMemory};
 
@@ -84,9 +84,7 @@ impl<M: ReplayMemory> Acceptor<M> {
         now: Moment,
     ) -> Result<Judged, Refusal>
         ensures same { self.new ≡ self.old }
-        ensures named { IsNamed result }
-        ensures placeless { IsPlaceless result }
-        ensures service { IsFor (service_of (ap_req_of request.now)) result }
+        ensures sound { IsSoundFor (service_of (ap_req_of request.now)) result }
         ensures judged { (bytes : List ℕ) (entry : KeytabEntry) → Keyed self.old.setup bytes (ap_req_of request.now) entry
             → ready.old.keys ≡ ready_key (entry_key entry) → server ≡ service_of (ap_req_of request.now)
             → JudgedBy M.has M.newest self.old bytes now result }
@@ -109,9 +107,7 @@ impl<M: ReplayMemory> Acceptor<M> {
         part: &EncTicketRef,
         now: Moment,
     ) -> Result<Judged, Refusal>
-        ensures named { IsNamed result }
-        ensures placeless { IsPlaceless result }
-        ensures service { IsFor (service_of (ap_req_of request.now)) result }
+        ensures sound { IsSoundFor (service_of (ap_req_of request.now)) result }
         ensures judged { (bytes : List ℕ) → Ticketed self.now.setup bytes (ap_req_of request.now) (enc_ticket_part_of part.now)
             → server ≡ service_of (ap_req_of request.now) → key.now ≡ key_of_part (enc_ticket_part_of part.now)
             → IsUsable (key_of_part (enc_ticket_part_of part.now))
@@ -140,9 +136,7 @@ impl<M: ReplayMemory> Acceptor<M> {
         auth: &AuthenticatorRef,
         now: Moment,
     ) -> Result<Judged, Refusal>
-        ensures named { IsNamed result }
-        ensures placeless { IsPlaceless result }
-        ensures service { IsFor (service_of (ap_req_of request.now)) result }
+        ensures sound { IsSoundFor (service_of (ap_req_of request.now)) result }
         ensures judged { (bytes : List ℕ)
             → OpenedAs self.now.setup bytes (ap_req_of request.now) (enc_ticket_part_of part.now) (authenticator_of auth.now)
             → server ≡ service_of (ap_req_of request.now) → session_key ≡ key_of_part (enc_ticket_part_of part.now)

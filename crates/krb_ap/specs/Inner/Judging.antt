@@ -40,7 +40,11 @@ abbrev pub IsPlaceless : Result Judged Refusal → Type 0
 IsPlaceless (Ok judged) = IfErr judged.answer (λ refusal. offset_of refusal ≡ None)
 IsPlaceless (Err refusal) = offset_of refusal ≡ None
 
--- or one within them
+-- so all three
+abbrev pub IsSoundFor : Principal → Result Judged Refusal → Type 0
+IsSoundFor service result = IsNamed result × (IsFor service result × IsPlaceless result)
+
+-- it names a place within the bytes, if any
 abbrev pub IsPlacedWithin : List ℕ → Result Judged Refusal → Type 0
 IsPlacedWithin bytes (Ok judged) = IfErr judged.answer (TellsPlaceWithin bytes)
 IsPlacedWithin bytes (Err refusal) = TellsPlaceWithin bytes refusal

@@ -36,9 +36,9 @@ returns-clause-judged g c =
 
 pub returns-clause-asks : goal.returns-clause-asks
 returns-clause-asks g c = IfOk-weaker c.judge_sealed-judged.result _ (λ _. IsOrdinary c.args.bytes.now)
-    (λ judged named. (ap_req_of c.in_ok-request.request, c.in_ok-request.ensures.read)) c.judge_sealed-judged.ensures.named
+    (λ judged named. (ap_req_of c.in_ok-request.request, c.in_ok-request.ensures.read)) c.judge_sealed-judged.ensures.sound.0
 
 pub returns-clause-service : goal.returns-clause-service
 returns-clause-service g c = IfOk-weaker c.judge_sealed-judged.result _ (λ judged. IfOk judged.answer (λ accepted. AsksFor c.args.bytes.now accepted.service))
     (λ judged. IfOk-weaker judged.answer _ (λ accepted. AsksFor c.args.bytes.now accepted.service)
-    (λ accepted same. (ap_req_of c.in_ok-request.request, (c.in_ok-request.ensures.read, same)))) c.judge_sealed-judged.ensures.service
+    (λ accepted same. (ap_req_of c.in_ok-request.request, (c.in_ok-request.ensures.read, same)))) c.judge_sealed-judged.ensures.sound.1.0

@@ -1,4 +1,4 @@
-use Rattle.std.proofs.Common.{◌≡◌, ap}
+use Rattle.std.proofs.Common.{◌≡◌, ap, arith}
 use Rattle.krb_msg.specs.Borrowed.{ap_req_of, enc_ticket_part_of, authenticator_of}
 use Rattle.krb_msg.specs.Fields.{components_of, part_client}
 use Rattle.krb_ap.specs.Opened.{service_of, stamp_of}
@@ -53,5 +53,8 @@ returns-in-Ok-accepted-clause-judged g c = λ bytes opened server session.
     (is_so _ _ c.is_settled.ensures c.if-not-is_settled.false) (is_not _ _ c.contains.ensures c.if-contains.false)
     c.in-Ok-accepted.accepted (c.in-Ok-accepted.ensures.known session) c.in-None.ensures
 
-pub returns-in-Some-clause-named : goal.returns-in-Some-clause-named
-returns-in-Some-clause-named g c = times_named c.self.inside.skew c.args.now (ap_req_of c.args.request.now) (enc_ticket_part_of c.args.part.now) (authenticator_of c.args.auth.now) c.in-Some.refusal c.in-Some.ensures
+pub returns-in-Some-clause-sound : goal.returns-in-Some-clause-sound
+returns-in-Some-clause-sound g c = (
+  times_named c.self.inside.skew c.args.now (ap_req_of c.args.request.now) (enc_ticket_part_of c.args.part.now) (authenticator_of c.args.auth.now) c.in-Some.refusal c.in-Some.ensures,
+  (tt, grind arith),
+)
