@@ -145,17 +145,16 @@ module _ (facts : Facts) (setup : Setup) (history : List Arrival) (moment : ℤ)
   agrees has = subst (λ (a : Awaited). Agrees taken a) (sym request.awaited_is)
       (told_agrees credential at confounder options bytes built setup built.ticket part has)
 
-  -- with the ticket that was built in
-  pub accepted : HasTicket setup credential built.ticket part → MayBeTaken setup history moment at built.ticket part
-      → (t : Taken) × Accept setup history (arrival bytes moment) t × (t.client ≡ part_client part) × (t.service ≡ ticket_service built.ticket)
-      × (t.wants_reply ≡ options.mutual) × Agrees t awaited
-  accepted has may = (taken, accept has may, refl, refl, asked options.mutual, agrees has)
-
   pub accepted_by : (ticket : ValueOf ticket_kind) → HasTicket setup credential ticket part → MayBeTaken setup history moment at ticket part
       → (t : Taken) × Accept setup history (arrival bytes moment) t × (t.client ≡ part_client part) × (t.service ≡ ticket_service ticket)
       × (t.wants_reply ≡ options.mutual) × Agrees t awaited
   accepted_by ticket has may =
       let same : ticket ≡ built.ticket = facts.one_value ticket_kind is_ticket ticket built.ticket credential.ticket has.ticket_is built.ticket_is in
-      subst (λ (n : ValueOf ticket_kind). (t : Taken) × Accept setup history (arrival bytes moment) t × (t.client ≡ part_client part)
-      × (t.service ≡ ticket_service n) × (t.wants_reply ≡ options.mutual) × Agrees t awaited) (sym same) (accepted (subst (λ (t : ValueOf ticket_kind). HasTicket setup credential t part) same has)
-      (subst (λ (t : ValueOf ticket_kind). MayBeTaken setup history moment at t part) same may))
+      let built_in : HasTicket setup credential built.ticket part = subst (λ (t : ValueOf ticket_kind). HasTicket setup credential t part) same has in (
+        taken,
+        accept built_in (subst (λ (t : ValueOf ticket_kind). MayBeTaken setup history moment at t part) same may),
+        refl,
+        ap ticket_service (sym same),
+        asked options.mutual,
+        agrees built_in,
+      )

@@ -19,8 +19,7 @@ use crate::acceptor::Acceptor;
 use crate::inner_laws::facts;
 use crate::keys::owned_key;
 use crate::opening::{
-    is_of_type, is_same_client, open_authenticator, read_authenticator, read_part, read_request,
-    service,
+    is_of_type, is_same_client, open_under, read_authenticator, read_part, read_request, service,
 };
 use crate::ready_key::ReadyKey;
 use crate::refusal::Refusal;
@@ -118,7 +117,8 @@ impl<M: ReplayMemory> Acceptor<M> {
         if !is_of_type(sealed, &part.key) {
             return Err(Refusal::AuthenticatorIntegrity);
         }
-        let plain = open_authenticator(alloc, key, sealed.cipher)?;
+        let shut = Refusal::AuthenticatorIntegrity;
+        let plain = open_under(alloc, key.keys(), sealed.cipher, shut)?;
         let auth = read_authenticator(plain.as_slice())?;
         if !is_same_client(part, &auth) {
             return Err(Refusal::BadMatch);

@@ -10,12 +10,11 @@ ghost use Rattle.krb_msg.specs.Fields.{ticket_service, principal_in};
 ghost use Rattle.krb_msg.specs.Borrowed.{ticket_of};
 ghost use Rattle.krb_msg.specs.Module.{ap_req, authenticator, enc_ticket_part};
 ghost use Rattle.krb_ap.specs.Causes.{BeginsOtherwise, place};
-ghost use Rattle.krb_ap.specs.Opened.{Asks, SameClient, authenticator_usage};
+ghost use Rattle.krb_ap.specs.Opened.{Asks, SameClient};
 ghost use Rattle.krb_ap.specs.Inner.Stages.{IsCauseOfBytes, IsNone, IsShut};
 ghost use Rattle.krb_ap.specs.declared.refusal.Refusal.TheVariants.{OutOfMemory, TicketIntegrity, AuthenticatorIntegrity, Skew};
 
 use crate::inner_laws::facts;
-use crate::ready_key::ReadyKey;
 use crate::refusal::Refusal;
 use krb_enc::{OpenFault, UsageKey, etype};
 use krb_msg::{
@@ -90,20 +89,6 @@ pub(crate) fn open_under(
         Err(OpenFault::Short) => Err(shut),
         Err(OpenFault::Integrity) => Err(shut),
     }
-}
-
-/// Opens an authenticator under a ticket's session key.
-pub(crate) fn open_authenticator(
-    alloc: Global,
-    key: &ReadyKey,
-    cipher: &[u8],
-) -> Result<Vec<u8>, Refusal>
-    ensures opened { IfOk result (λ plain.
-        Opens (profile_of key.now) key.now.bytes authenticator_usage cipher.now plain.items) }
-    ensures refused { IfErr result (λ refusal. refusal ≢ OutOfMemory → refusal ≡ AuthenticatorIntegrity) }
-    ensures nothing { IfErr result (λ refusal. refusal ≢ OutOfMemory → IsShut key.now authenticator_usage cipher.now) }
-{
-    open_under(alloc, key.keys(), cipher, Refusal::AuthenticatorIntegrity)
 }
 
 /// Reads the opened ticket. It allocates no memory.

@@ -24,7 +24,7 @@ returns-in_err-plain-clause-judged g c =
     (sym (c.in_err-plain.ensures.refused named))
     (authenticator_shut c.facts.ensures c.args.self.now.setup history bytes moment _ (ap_req_of c.args.request.now) (enc_ticket_part_of c.args.part.now)
     ticketed usable
-    (λ auth opens. opens_nothing _ authenticator_usage _ authenticator (rw key at (c.in_err-plain.ensures.nothing named)) auth opens.opens)))
+    (λ auth opens. opens_nothing _ authenticator_usage _ authenticator (rw key at (rw c.keys.ensures at (c.in_err-plain.ensures.nothing named))) auth opens.opens)))
 
 pub returns-in_err-auth-clause-judged : goal.returns-in_err-auth-clause-judged
 returns-in_err-auth-clause-judged g c =
@@ -34,7 +34,7 @@ returns-in_err-auth-clause-judged g c =
     (sym c.in_err-auth.ensures.refused)
     (authenticator_shut c.facts.ensures c.args.self.now.setup history bytes moment _ (ap_req_of c.args.request.now) (enc_ticket_part_of c.args.part.now)
     ticketed usable
-    (λ auth opens. opens_to_none c.facts.ensures _ authenticator_usage _ _ authenticator (rw key at c.in_ok-plain.ensures.opened)
+    (λ auth opens. opens_to_none c.facts.ensures _ authenticator_usage _ _ authenticator (rw key at (rw c.keys.ensures at c.in_ok-plain.ensures.opened))
     (rw c.as_slice.ensures.value at c.in_err-auth.ensures.nothing) auth opens.opens)))
 
 pub returns-then-not-is_same_client-clause-judged : goal.returns-then-not-is_same_client-clause-judged
@@ -46,7 +46,7 @@ returns-then-not-is_same_client-clause-judged g c = λ bytes ticketed server key
       usable = usable;
       opens = record {
         same_type = is_so _ _ c.is_of_type.ensures c.if-not-is_of_type.false;
-        opens = record { plain = _; opens = rw key at c.in_ok-plain.ensures.opened; message = rw c.as_slice.ensures.value at c.in_ok-auth.ensures.read };
+        opens = record { plain = _; opens = rw key at (rw c.keys.ensures at c.in_ok-plain.ensures.opened); message = rw c.as_slice.ensures.value at c.in_ok-auth.ensures.read };
       };
     })
     (is_not _ _ c.is_same_client.ensures c.if-not-is_same_client.true)
@@ -59,7 +59,7 @@ returns-clause-judged g c = λ bytes ticketed server key usable.
         usable = usable;
         opens = record {
           same_type = is_so _ _ c.is_of_type.ensures c.if-not-is_of_type.false;
-          opens = record { plain = _; opens = rw key at c.in_ok-plain.ensures.opened; message = rw c.as_slice.ensures.value at c.in_ok-auth.ensures.read };
+          opens = record { plain = _; opens = rw key at (rw c.keys.ensures at c.in_ok-plain.ensures.opened); message = rw c.as_slice.ensures.value at c.in_ok-auth.ensures.read };
         };
       };
       same_client = is_so _ _ c.is_same_client.ensures c.if-not-is_same_client.false;
