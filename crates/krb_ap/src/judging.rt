@@ -18,9 +18,7 @@ use crate::accepted::Accepted;
 use crate::acceptor::Acceptor;
 use crate::inner_laws::facts;
 use crate::keys::owned_key;
-use crate::opening::{
-    is_of_type, is_same_client, open_under, read_authenticator, read_part, read_request, service,
-};
+use crate::opening::{is_of_type, is_same_client, open_under, read_request, service};
 use crate::ready_key::ReadyKey;
 use crate::refusal::Refusal;
 use crate::service_key::ServiceKey;
@@ -90,7 +88,10 @@ impl<M: ReplayMemory> Acceptor<M> {
     {
         facts();
         ready.open(alloc, request.ticket.enc_part.cipher)?;
-        let part = read_part(ready.plain())?;
+        let part = match EncTicketRef::parse(ready.plain()) {
+            Ok(part) => part,
+            Err(_) => return Err(Refusal::TicketIntegrity),
+        };
         let key = session_key(&mut self.session, &part.key)?;
         let judged = self.judge_ticket(alloc, server, &key, request, &part, now);
         self.session = Some(key);
@@ -119,7 +120,10 @@ impl<M: ReplayMemory> Acceptor<M> {
         }
         let shut = Refusal::AuthenticatorIntegrity;
         let plain = open_under(alloc, key.keys(), sealed.cipher, shut)?;
-        let auth = read_authenticator(plain.as_slice())?;
+        let auth = match AuthenticatorRef::parse(plain.as_slice()) {
+            Ok(auth) => auth,
+            Err(_) => return Err(Refusal::AuthenticatorIntegrity),
+        };
         if !is_same_client(part, &auth) {
             return Err(Refusal::BadMatch);
         }

@@ -4,15 +4,14 @@
 ghost use Rattle.std.specs.Prelude.{◌≡◌, ◌≢◌, ◌<◌, ◌↔◌, ℕ, ℤ, IfOk, IfErr, IsTrue};
 ghost use Rattle.krb_enc.specs.Key.{IsKnown, profile_of};
 ghost use Rattle.krb_enc.specs.Opens.{Opens};
-ghost use Rattle.krb_der.specs.Spells.{IsMessage};
 ghost use Rattle.krb_msg.specs.Borrowed.{ap_req_of, authenticator_of, enc_ticket_part_of, name_of};
 ghost use Rattle.krb_msg.specs.Fields.{ticket_service, principal_in};
 ghost use Rattle.krb_msg.specs.Borrowed.{ticket_of};
-ghost use Rattle.krb_msg.specs.Module.{ap_req, authenticator, enc_ticket_part};
+ghost use Rattle.krb_msg.specs.Module.{ap_req};
 ghost use Rattle.krb_ap.specs.Causes.{BeginsOtherwise, place};
 ghost use Rattle.krb_ap.specs.Opened.{Asks, SameClient};
-ghost use Rattle.krb_ap.specs.Inner.Stages.{IsCauseOfBytes, IsNone, IsShut};
-ghost use Rattle.krb_ap.specs.declared.refusal.Refusal.TheVariants.{OutOfMemory, TicketIntegrity, AuthenticatorIntegrity, Skew};
+ghost use Rattle.krb_ap.specs.Inner.Stages.{IsCauseOfBytes, IsShut};
+ghost use Rattle.krb_ap.specs.declared.refusal.Refusal.TheVariants.{OutOfMemory, Skew};
 
 use crate::inner_laws::facts;
 use crate::refusal::Refusal;
@@ -88,30 +87,6 @@ pub(crate) fn open_under(
         Err(OpenFault::OutOfMemory) => Err(Refusal::OutOfMemory),
         Err(OpenFault::Short) => Err(shut),
         Err(OpenFault::Integrity) => Err(shut),
-    }
-}
-
-/// Reads the opened ticket. It allocates no memory.
-pub(crate) fn read_part<'a>(plain: &'a [u8]) -> Result<EncTicketRef<'a>, Refusal>
-    ensures read { IfOk result (λ part. IsMessage enc_ticket_part (enc_ticket_part_of part) plain.entry.now) }
-    ensures refused { IfErr result (λ refusal. refusal ≡ TicketIntegrity) }
-    ensures nothing { IfErr result (λ _. IsNone enc_ticket_part plain.entry.now) }
-{
-    match EncTicketRef::parse(plain) {
-        Ok(part) => Ok(part),
-        Err(_) => Err(Refusal::TicketIntegrity),
-    }
-}
-
-/// Reads the opened authenticator. It allocates no memory.
-pub(crate) fn read_authenticator<'a>(plain: &'a [u8]) -> Result<AuthenticatorRef<'a>, Refusal>
-    ensures read { IfOk result (λ auth. IsMessage authenticator (authenticator_of auth) plain.entry.now) }
-    ensures refused { IfErr result (λ refusal. refusal ≡ AuthenticatorIntegrity) }
-    ensures nothing { IfErr result (λ _. IsNone authenticator plain.entry.now) }
-{
-    match AuthenticatorRef::parse(plain) {
-        Ok(auth) => Ok(auth),
-        Err(_) => Err(Refusal::AuthenticatorIntegrity),
     }
 }
 

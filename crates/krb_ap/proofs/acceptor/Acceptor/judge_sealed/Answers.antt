@@ -14,16 +14,16 @@ use Rattle.krb_ap.specs.declared.refusal.Refusal.{Refusal}
 use Rattle.krb_ap.proofs.TurnedAway.{key_unusable, opens_nothing, opens_to_none, ticket_shut}
 use Rattle.krb_ap.proofs.acceptor.Acceptor.judge_sealed.Given.{Over}
 use Rattle.krb_ap.proofs.acceptor.Acceptor.judge_sealed.Goals as goal
-use Rattle.krb_ap.proofs.acceptor.Acceptor.judge_sealed.Goals.{In_ok-part}
+use Rattle.krb_ap.proofs.acceptor.Acceptor.judge_sealed.Goals.{In-Ok}
 
 -- the ticket opens under the key of the entry that the keys are of
-opens : (g : Over) (c : In_ok-part g) (entry : KeytabEntry) → c.args.ready.now.keys ≡ ready_key (entry_key entry)
-    → OpensAs (entry_key entry) ticket_usage c.args.request.now.ticket.enc_part.cipher.now enc_ticket_part (enc_ticket_part_of c.in_ok-part.part)
+opens : (g : Over) (c : In-Ok g) (entry : KeytabEntry) → c.args.ready.now.keys ≡ ready_key (entry_key entry)
+    → OpensAs (entry_key entry) ticket_usage c.args.request.now.ticket.enc_part.cipher.now enc_ticket_part (enc_ticket_part_of c.in-Ok.part)
 opens g c entry keys = record {
   plain = c.open.new.self.plain;
   opens = subst (λ (k : UsageKeyValue). Opens (profile_of k.key) k.key.bytes k.usage c.args.request.now.ticket.enc_part.cipher.now c.open.new.self.plain) keys
       c.in_ok-open.ensures.opened;
-  message = rw c.plain.ensures at c.in_ok-part.ensures.read;
+  message = rw c.plain.ensures at c.in-Ok.ensures.found;
 }
 
 pub returns-in_err-open-clause-judged : goal.returns-in_err-open-clause-judged
@@ -36,16 +36,12 @@ returns-in_err-open-clause-judged g c =
     (opens_nothing (entry_key entry) ticket_usage _ enc_ticket_part
     (subst (λ (k : UsageKeyValue). IsShut k.key k.usage c.args.request.now.ticket.enc_part.cipher.now) keys (c.in_err-open.ensures.nothing named)))))
 
-pub returns-in_err-part-clause-judged : goal.returns-in_err-part-clause-judged
-returns-in_err-part-clause-judged g c =
-    let p = err_from_is_err_and c.from_residual-in_err-part.result c.from_residual-in_err-part.ensures.1 in
-    rw (p.1, p.2) (λ bytes entry keyed keys server history moment stands eff named.
-    subst (λ (r : Refusal). IsTurnedAway c.args.self.now.setup history (arrival bytes moment) (g.M.ReplayMemory.has c.args.self.now.memory) r)
-    (sym c.in_err-part.ensures.refused)
-    (ticket_shut c.facts.ensures c.args.self.now.setup history bytes moment _ (ap_req_of c.args.request.now) entry keyed
+pub returns-in-Err-clause-judged : goal.returns-in-Err-clause-judged
+returns-in-Err-clause-judged g c = λ bytes entry keyed keys server history moment stands eff named.
+    ticket_shut c.facts.ensures c.args.self.now.setup history bytes moment _ (ap_req_of c.args.request.now) entry keyed
     (opens_to_none c.facts.ensures (entry_key entry) ticket_usage _ _ enc_ticket_part
     (subst (λ (k : UsageKeyValue). Opens (profile_of k.key) k.key.bytes k.usage c.args.request.now.ticket.enc_part.cipher.now c.open.new.self.plain) keys
-    c.in_ok-open.ensures.opened) (rw c.plain.ensures at c.in_err-part.ensures.nothing))))
+    c.in_ok-open.ensures.opened) (rw c.plain.ensures at c.in-Err.ensures.only))
 
 pub returns-in_err-key-clause-judged : goal.returns-in_err-key-clause-judged
 returns-in_err-key-clause-judged g c =
@@ -53,11 +49,11 @@ returns-in_err-key-clause-judged g c =
     rw (p.1, p.2) (λ bytes entry keyed keys server history moment stands eff named.
     subst (λ (r : Refusal). IsTurnedAway c.args.self.now.setup history (arrival bytes moment) (g.M.ReplayMemory.has c.args.self.now.memory) r)
     (sym c.in_err-key.ensures.refused.0)
-    (key_unusable c.facts.ensures c.args.self.now.setup history bytes moment _ (ap_req_of c.args.request.now) (enc_ticket_part_of c.in_ok-part.part)
+    (key_unusable c.facts.ensures c.args.self.now.setup history bytes moment _ (ap_req_of c.args.request.now) (enc_ticket_part_of c.in-Ok.part)
     (record {
       entry = entry;
       keyed = keyed;
-      opens = opens g (goal.at.returns-in_err-key-clause-judged g c).In_ok-part entry keys;
+      opens = opens g (goal.at.returns-in_err-key-clause-judged g c).In-Ok entry keys;
     })
     c.in_err-key.ensures.refused.1))
 
@@ -68,5 +64,5 @@ returns-clause-judged g c = λ bytes entry keyed keys server.
     (c.judge_ticket-judged.ensures.judged bytes (record {
       entry = entry;
       keyed = subst (λ (s : Service g.row.M.Denot). Keyed s.setup bytes (ap_req_of c.args.request.now) entry) (sym c.self.view_is) keyed;
-      opens = opens g (goal.at.returns-clause-judged g c).In_ok-part entry keys;
+      opens = opens g (goal.at.returns-clause-judged g c).In-Ok entry keys;
     }) server c.in_ok-key.ensures.made c.in_ok-key.ensures.usable)
