@@ -1,4 +1,4 @@
-use Rattle.std.proofs.Common.{◌≡◌, List, ap, sym, ◌∙◌, subst, refl, inl, inr, ◌⊎◌, Err}
+use Rattle.std.proofs.Common.{◌≡◌, List, ap, sym, ◌∙◌, subst, refl, inl, inr, Err}
 use Rattle.std.specs.Prelude.{IsErrOf}
 use Rattle.krb_replay.specs.Memory.{later_of, IsRecent}
 use Rattle.krb_replay.specs.Stamp.{Stamp}
@@ -30,14 +30,11 @@ returns-in-Err-clause-goes_on g c = λ history stands.
     let eff : c.effective-now.result ≡ effective history c.args.now = c.effective-now.ensures ∙ ap (λ l. later_of l c.args.now) stands.latest_is in
     let turned : IsTurnedAway c.args.self.now.setup history (arrival c.args.bytes.now c.args.now) (g.M.ReplayMemory.has c.args.self.now.memory) c.in-Err.refusal =
     c.in-Err.ensures.judged history c.args.now stands eff named in
-    let added : (stamp : Stamp) → g.M.ReplayMemory.has c.args.self.now.memory stamp
-    → g.M.ReplayMemory.has c.args.self.now.memory stamp ⊎ Shows c.args.self.now.setup (effective history c.args.now) c.args.bytes.now stamp = λ stamp had. inl had in
-    let held : (stamp : Stamp) → g.M.ReplayMemory.has c.args.self.now.memory stamp ⊎ Shows c.args.self.now.setup (effective history c.args.now) c.args.bytes.now stamp
-    → g.M.ReplayMemory.has c.args.self.now.memory stamp = λ stamp either. elim either [ inl had ↦ had | inr shows ↦ turned.had stamp shows ] in
     after_advance _ _ c.args.self.now.setup c.advance.new.self.setup history _ c.args.bytes.now c.args.now c.effective-now.result
     (g.M.ReplayMemory.has c.args.self.now.memory) (g.M.ReplayMemory.has c.args.self.now.memory) (g.M.ReplayMemory.has c.advance.new.self.memory)
     (g.M.ReplayMemory.newest c.args.self.now.memory) (g.M.ReplayMemory.newest c.args.self.now.memory) (g.M.ReplayMemory.newest c.advance.new.self.memory) _
-    (after_named history (arrival c.args.bytes.now c.args.now) c.in-Err.refusal named) stands c.effective-now.ensures refl (rw c.judge.ensures.same at c.advance.ensures.newest) (rw c.judge.ensures.same at c.advance.ensures.setup) added held
+    (after_named history (arrival c.args.bytes.now c.args.now) c.in-Err.refusal named) stands c.effective-now.ensures refl (rw c.judge.ensures.same at c.advance.ensures.newest) (rw c.judge.ensures.same at c.advance.ensures.setup)
+    (λ stamp had. inl had) (λ stamp either. elim either [ inl had ↦ had | inr shows ↦ turned.had stamp shows ])
     (rw c.judge.ensures.same at c.advance.ensures.none_added) (rw c.judge.ensures.same at c.advance.ensures.kept)
     (rw c.judge.ensures.same at c.advance.ensures.keeps) (rw c.judge.ensures.same at c.advance.ensures.forgets)
 
@@ -60,25 +57,22 @@ returns-in-Ok-remember-clause-goes_on g c = λ history stands.
     let eff : c.effective-now.result ≡ effective history c.args.now = c.effective-now.ensures ∙ ap (λ l. later_of l c.args.now) stands.latest_is in
     let judged : IsJudged c.args.self.now.setup history (arrival c.args.bytes.now c.args.now) c.in-Ok.judged.tuple c.in-Ok.judged.answer =
     c.in-Ok.ensures.judged history c.args.now stands eff in
-    let added : (stamp : Stamp) → g.M.ReplayMemory.has c.remember.new.self.memory stamp
-    → g.M.ReplayMemory.has c.args.self.now.memory stamp ⊎ Shows c.args.self.now.setup (effective history c.args.now) c.args.bytes.now stamp =
-    λ stamp had. elim (((rw c.judge.ensures.same at c.in-Ok-remember.ensures.ok) stamp).0 had) [
-      | inl same ↦ inr (subst (λ (s : Stamp). Shows c.args.self.now.setup (effective history c.args.now) c.args.bytes.now s) (sym same) judged.shows)
-      | inr had ↦ inl had
-    ] in
-    let held : (stamp : Stamp) → g.M.ReplayMemory.has c.args.self.now.memory stamp ⊎ Shows c.args.self.now.setup (effective history c.args.now) c.args.bytes.now stamp
-    → g.M.ReplayMemory.has c.remember.new.self.memory stamp =
-    λ stamp either. ((rw c.judge.ensures.same at c.in-Ok-remember.ensures.ok) stamp).1 (elim either [
-      | inl had ↦ inr had
-      | inr shows ↦ inl (one_stamp c.facts.ensures c.args.self.now.setup history c.args.bytes.now c.args.now (effective history c.args.now) c.in-Ok.judged.tuple stamp judged.shows shows)
-    ]) in
     let same : c.remember.new.self.setup ≡ c.args.self.now.setup = rw c.judge.ensures.same at c.in-Ok-remember.ensures.setup in
     let IsRecentBy : Stamp → Setup → Type 0 = λ stamp s. IsRecent (later_of (g.M.ReplayMemory.newest c.remember.new.self.memory) c.effective-now.result) s.skew stamp in
     after_advance _ _ c.args.self.now.setup c.advance-in-Ok-remember.new.self.setup history _ c.args.bytes.now c.args.now c.effective-now.result
     (g.M.ReplayMemory.has c.args.self.now.memory) (g.M.ReplayMemory.has c.remember.new.self.memory) (g.M.ReplayMemory.has c.advance-in-Ok-remember.new.self.memory)
     (g.M.ReplayMemory.newest c.args.self.now.memory) (g.M.ReplayMemory.newest c.remember.new.self.memory) (g.M.ReplayMemory.newest c.advance-in-Ok-remember.new.self.memory) _
     (after_answer history (arrival c.args.bytes.now c.args.now) c.in-Ok.judged.answer c.in-Ok.ensures.named) stands c.effective-now.ensures (rw c.judge.ensures.same at c.in-Ok-remember.ensures.newest) c.advance-in-Ok-remember.ensures.newest
-    (c.advance-in-Ok-remember.ensures.setup ∙ same) added held c.advance-in-Ok-remember.ensures.none_added
+    (c.advance-in-Ok-remember.ensures.setup ∙ same)
+    (λ stamp had. elim (((rw c.judge.ensures.same at c.in-Ok-remember.ensures.ok) stamp).0 had) [
+      | inl made ↦ inr (subst (λ (s : Stamp). Shows c.args.self.now.setup (effective history c.args.now) c.args.bytes.now s) (sym made) judged.shows)
+      | inr had ↦ inl had
+    ])
+    (λ stamp either. ((rw c.judge.ensures.same at c.in-Ok-remember.ensures.ok) stamp).1 (elim either [
+      | inl had ↦ inr had
+      | inr shows ↦ inl (one_stamp c.facts.ensures c.args.self.now.setup history c.args.bytes.now c.args.now (effective history c.args.now) c.in-Ok.judged.tuple stamp judged.shows shows)
+    ]))
+    c.advance-in-Ok-remember.ensures.none_added
     (λ stamp had r. c.advance-in-Ok-remember.ensures.kept stamp had (subst (IsRecentBy stamp) (sym same) r)) c.advance-in-Ok-remember.ensures.keeps
     (λ forgetting stamp new. subst (IsRecentBy stamp) same (c.advance-in-Ok-remember.ensures.forgets forgetting stamp new))
 

@@ -5,12 +5,10 @@ use Rattle.krb_enc.specs.Opens.{Opens}
 use Rattle.krb_keytab.specs.Entry.{KeytabEntry}
 use Rattle.krb_msg.specs.Borrowed.{ap_req_of, enc_ticket_part_of}
 use Rattle.krb_msg.specs.Module.{enc_ticket_part}
-use Rattle.krb_ap.specs.Setup.{arrival}
 use Rattle.krb_ap.specs.Opened.{Keyed, OpensAs, entry_key, ticket_usage}
 use Rattle.krb_ap.specs.Service.{Service}
 use Rattle.krb_ap.specs.Inner.Stages.{IsShut, ready_key}
-use Rattle.krb_ap.specs.Inner.Judging.{IsTurnedAway, JudgedBy}
-use Rattle.krb_ap.specs.declared.refusal.Refusal.{Refusal}
+use Rattle.krb_ap.specs.Inner.Judging.{JudgedBy}
 use Rattle.krb_ap.proofs.TurnedAway.{key_unusable, opens_nothing, opens_to_none, ticket_shut}
 use Rattle.krb_ap.proofs.acceptor.Acceptor.judge_sealed.Given.{Over}
 use Rattle.krb_ap.proofs.acceptor.Acceptor.judge_sealed.Goals as goal
@@ -30,9 +28,7 @@ pub returns-in_err-open-clause-judged : goal.returns-in_err-open-clause-judged
 returns-in_err-open-clause-judged g c =
     let p = err_from_is_err_and c.from_residual.result c.from_residual.ensures.1 in
     rw (p.1, p.2) (λ bytes entry keyed keys server history moment stands eff named.
-    subst (λ (r : Refusal). IsTurnedAway c.args.self.now.setup history (arrival bytes moment) (g.M.ReplayMemory.has c.args.self.now.memory) r)
-    (sym (c.in_err-open.ensures.refused named))
-    (ticket_shut c.facts.ensures c.args.self.now.setup history bytes moment _ (ap_req_of c.args.request.now) entry keyed
+    rw (c.in_err-open.ensures.refused named) (ticket_shut c.facts.ensures c.args.self.now.setup history bytes moment _ (ap_req_of c.args.request.now) entry keyed
     (opens_nothing (entry_key entry) ticket_usage _ enc_ticket_part
     (subst (λ (k : UsageKeyValue). IsShut k.key k.usage c.args.request.now.ticket.enc_part.cipher.now) keys (c.in_err-open.ensures.nothing named)))))
 
@@ -47,9 +43,7 @@ pub returns-in_err-key-clause-judged : goal.returns-in_err-key-clause-judged
 returns-in_err-key-clause-judged g c =
     let p = err_from_is_err_and c.from_residual-in_err-key.result c.from_residual-in_err-key.ensures.1 in
     rw (p.1, p.2) (λ bytes entry keyed keys server history moment stands eff named.
-    subst (λ (r : Refusal). IsTurnedAway c.args.self.now.setup history (arrival bytes moment) (g.M.ReplayMemory.has c.args.self.now.memory) r)
-    (sym c.in_err-key.ensures.refused.0)
-    (key_unusable c.facts.ensures c.args.self.now.setup history bytes moment _ (ap_req_of c.args.request.now) (enc_ticket_part_of c.in-Ok.part)
+    rw c.in_err-key.ensures.refused.0 (key_unusable c.facts.ensures c.args.self.now.setup history bytes moment _ (ap_req_of c.args.request.now) (enc_ticket_part_of c.in-Ok.part)
     (record {
       entry = entry;
       keyed = keyed;

@@ -1,12 +1,9 @@
-use Rattle.std.proofs.Common.{◌≡◌, ℕ, List, ◌∙◌, sym, subst}
+use Rattle.std.proofs.Common.{◌≡◌, ℕ, List, ◌∙◌}
 use Rattle.std.proofs.lemmas.Result.{err_from_is_err_and}
 use Rattle.krb_enc.specs.Key.{IsUsable}
 use Rattle.krb_msg.specs.Borrowed.{ap_req_of, enc_ticket_part_of, authenticator_of}
 use Rattle.krb_msg.specs.Module.{authenticator}
-use Rattle.krb_ap.specs.Setup.{arrival}
 use Rattle.krb_ap.specs.Opened.{Authenticated, Ticketed, authenticator_usage, session_key}
-use Rattle.krb_ap.specs.Inner.Judging.{IsTurnedAway}
-use Rattle.krb_ap.specs.declared.refusal.Refusal.{Refusal}
 use Rattle.krb_ap.proofs.Truth.{is_so, is_not}
 use Rattle.krb_ap.proofs.TurnedAway.{authenticator_shut, opens_nothing, opens_to_none, other_client}
 use Rattle.krb_ap.proofs.acceptor.Acceptor.judge_ticket.Given.{Over}
@@ -35,9 +32,7 @@ pub returns-in_err-plain-clause-judged : goal.returns-in_err-plain-clause-judged
 returns-in_err-plain-clause-judged g c =
     let p = err_from_is_err_and c.from_residual.result c.from_residual.ensures.1 in
     rw (p.1, p.2) (λ bytes ticketed server key usable history moment stands eff named.
-    subst (λ (r : Refusal). IsTurnedAway c.args.self.now.setup history (arrival bytes moment) (g.M.ReplayMemory.has c.args.self.now.memory) r)
-    (sym (c.in_err-plain.ensures.refused named))
-    (authenticator_shut c.facts.ensures c.args.self.now.setup history bytes moment _ (ap_req_of c.args.request.now) (enc_ticket_part_of c.args.part.now)
+    rw (c.in_err-plain.ensures.refused named) (authenticator_shut c.facts.ensures c.args.self.now.setup history bytes moment _ (ap_req_of c.args.request.now) (enc_ticket_part_of c.args.part.now)
     ticketed usable
     (λ auth opens. opens_nothing _ authenticator_usage _ authenticator (rw key at (rw c.keys.ensures at (c.in_err-plain.ensures.nothing named))) auth opens.opens)))
 
