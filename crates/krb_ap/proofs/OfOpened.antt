@@ -21,32 +21,10 @@ use Rattle.krb_ap.proofs.Decided.{Decided, both, one_of, none_of, integers, text
 use Rattle.krb_ap.proofs.Late.{alive}
 use Rattle.krb_ap.proofs.OneOpening.{of_opened}
 use Rattle.krb_ap.proofs.Stages.{opened}
-use Rattle.krb_ap.proofs.Table.{Clear, Next, pass}
+use Rattle.krb_ap.proofs.Table.{Clear, pass}
 use Rattle.krb_ap.proofs.TurnedAway.{shown_near, shown_stamp, turned_away}
 use Rattle.krb_ap.specs.declared.refusal.Refusal.{Refusal}
 use Rattle.krb_ap.specs.declared.refusal.Refusal.TheVariants.{Skew, JustStarted, Repeat, NotYetValid, Expired, Transited, Authorization, OutOfMemory}
-
--- which row comes right after which
-after_skew : Next Skew JustStarted
-after_skew other below = grind arith
-
-after_just_started : Next JustStarted Repeat
-after_just_started other below = grind arith
-
-after_repeat : Next Repeat NotYetValid
-after_repeat other below = grind arith
-
-after_not_yet_valid : Next NotYetValid Expired
-after_not_yet_valid other below = grind arith
-
-after_expired : Next Expired Transited
-after_expired other below = grind arith
-
-after_transited : Next Transited Authorization
-after_transited other below = grind arith
-
-after_authorization : Next Authorization OutOfMemory
-after_authorization other below = grind arith
 
 pub near : (a now : ℤ) (skew : ℕ) → Decided (Near a now skew)
 near a now skew = elim (both _ _ (order a (now +ℤ pos skew)) (order now (a +ℤ pos skew))) [
@@ -86,7 +64,7 @@ module _ (facts : Facts) (setup : Setup) (history : List Arrival) (bytes : List 
 
   module _ (is_near : Near (sent_at auth) (effective history moment) setup.skew) where
     past_skew : Clear setup history (arrival bytes moment) (place JustStarted)
-    past_skew = pass setup history (arrival bytes moment) Skew JustStarted after_skew
+    past_skew = pass setup history (arrival bytes moment) Skew
         (opened facts setup history (arrival bytes moment) request part auth o)
         (not_so (λ r p a. ¬ Near (sent_at a) (effective history moment) setup.skew) (λ far. far is_near))
 
@@ -100,7 +78,7 @@ module _ (facts : Facts) (setup : Setup) (history : List Arrival) (bytes : List 
 
     module _ (is_settled : Settled setup (effective history moment) (sent_at auth)) where
       past_start : Clear setup history (arrival bytes moment) (place Repeat)
-      past_start = pass setup history (arrival bytes moment) JustStarted Repeat after_just_started past_skew
+      past_start = pass setup history (arrival bytes moment) JustStarted past_skew
           (not_so (λ r p a. ¬ Settled setup (effective history moment) (sent_at a)) (λ quiet. quiet is_settled))
 
       -- ---- shown before, or new
@@ -114,27 +92,27 @@ module _ (facts : Facts) (setup : Setup) (history : List Arrival) (bytes : List 
 
       module _ (unshown : ¬ IsShown setup history (stamp_of request part auth)) where
         past_repeat : Clear setup history (arrival bytes moment) (place NotYetValid)
-        past_repeat = pass setup history (arrival bytes moment) Repeat NotYetValid after_repeat past_start
+        past_repeat = pass setup history (arrival bytes moment) Repeat past_start
             (not_so (λ r p a. IsShown setup history (stamp_of r p a)) unshown)
 
         -- ---- what is asked of the ticket
 
         past_early : ¬ IsEarly part (effective history moment) setup.skew → Clear setup history (arrival bytes moment) (place Expired)
-        past_early early = pass setup history (arrival bytes moment) NotYetValid Expired after_not_yet_valid past_repeat
+        past_early early = pass setup history (arrival bytes moment) NotYetValid past_repeat
             (not_so (λ r p a. IsEarly p (effective history moment) setup.skew) early)
 
         past_late : ¬ IsEarly part (effective history moment) setup.skew → ¬ IsLate part (effective history moment) setup.skew
             → Clear setup history (arrival bytes moment) (place Transited)
-        past_late early late = pass setup history (arrival bytes moment) Expired Transited after_expired (past_early early)
+        past_late early late = pass setup history (arrival bytes moment) Expired (past_early early)
             (not_so (λ r p a. IsLate p (effective history moment) setup.skew) late)
 
         past_path : ¬ IsEarly part (effective history moment) setup.skew → ¬ IsLate part (effective history moment) setup.skew → IsPathTrusted request part
             → Clear setup history (arrival bytes moment) (place Authorization)
-        past_path early late trusted = pass setup history (arrival bytes moment) Transited Authorization after_transited (past_late early late)
+        past_path early late trusted = pass setup history (arrival bytes moment) Transited (past_late early late)
             (not_so (λ r p a. ¬ IsPathTrusted r p) (λ untrusted. untrusted trusted))
 
         pub past_all : IsOfTimes setup.skew (effective history moment) request part auth → Clear setup history (arrival bytes moment) (place OutOfMemory)
-        past_all h = pass setup history (arrival bytes moment) Authorization OutOfMemory after_authorization (past_path h.early h.late h.trusted)
+        past_all h = pass setup history (arrival bytes moment) Authorization (past_path h.early h.late h.trusted)
             (not_so (λ r p a. ¬ IsDataIgnorable p a) (λ known. known h.ignorable))
 
         -- the first cause of those that are left
