@@ -14,8 +14,8 @@ use Rattle.krb_ccache.specs.declared.layout.Layout.TheVariants.{Version3, Versio
 use Rattle.krb_ccache.specs.Spelling.{name_bytes}
 use Rattle.krb_ccache.specs.Value.{Cache, cache_of, FitsName}
 use Rattle.krb_name.specs.File.{file_limit, IsGiven}
-use Rattle.krb_ccache.specs.Format.{version_of, head_bytes, FitsHead, start_bytes, credential_length, Spelled, Spells, IsReached, IsCache, IsFaultOf}
-use Rattle.krb_ccache.specs.Reader.{Reading, ended_by, ended_passed, passed, HasTaken, HasRead, GaveOne, PassedOne, StaysAtEnd, GoesTo, with_credential}
+use Rattle.krb_ccache.specs.Format.{version_of, head_bytes, FitsHead, start_bytes, credential_length, Spelled, Spells, IsReached, IsFaultOf}
+use Rattle.krb_ccache.specs.Reader.{Reading, ended_by, ended_passed, passed, HasTaken, HasRead, GaveOne, PassedOne, StaysAtEnd, GoesTo, GaveCache, GaveFault, with_credential}
 use Rattle.krb_ccache.specs.declared.fault.CacheFault.{CacheFault}
 use Rattle.krb_ccache.specs.declared.fault.CacheFault.TheVariants.{Version, Header, BadItem, TooLong, Read, OutOfMemory}
 use Rattle.krb_ccache.specs.Inner.Standing.{bytes_of, IsMissing, spelled_as}
@@ -113,23 +113,21 @@ module _ {S : Type 0} (left : S → Option (List ℕ)) where
 
   -- ---- the start of a file
 
-  pub version_fault : (old new : AtHand S) (told : CacheFault) → old.given ≡ 0 → Misses version_of Any left old new Version told → told ≢ OutOfMemory → told ≢ Read
-      → (bytes : List ℕ) × IsGiven (left old.source) (left new.source) bytes × IsFaultOf bytes told
+  pub version_fault : (old new : AtHand S) (told : CacheFault) → old.given ≡ 0 → Misses version_of Any left old new Version told → GaveFault (left old.source) (left new.source) told
   version_fault old new told start m memory read =
       faulty version_of Any (left old.source) old new [] Version told (Consumes-nil (left old.source)) start m memory read
       (λ bytes within total is missing. subst (IsFaultOf bytes) (sym is) (record { limit = within; missing = λ layout others e. missing layout others tt e }))
 
   module _ (layout : Layout) where
     -- behind the version
-    pub header_fault : (old middle new : AtHand S) (told : CacheFault) → old.given ≡ 0 → Comes version_of Any left old middle layout → Misses (head_bytes layout) (FitsHead layout) left middle new Header told → told ≢ OutOfMemory → told ≢ Read
-        → (bytes : List ℕ) × IsGiven (left old.source) (left new.source) bytes × IsFaultOf bytes told
+    pub header_fault : (old middle new : AtHand S) (told : CacheFault) → old.given ≡ 0 → Comes version_of Any left old middle layout → Misses (head_bytes layout) (FitsHead layout) left middle new Header told → GaveFault (left old.source) (left new.source) told
     header_fault old middle new told start v m memory read =
         faulty (head_bytes layout) (FitsHead layout) (left old.source) middle new (version_of layout) Header told v.consumed (omega (arith, start, v.given)) m memory read
         (λ bytes within total is missing. subst (IsFaultOf (version_of layout ++ bytes)) (sym is) (record { limit = within; layout = layout; behind = bytes; bytes_are = refl; missing = λ header others p e. missing header others p e }))
 
     -- behind the header
     pub name_fault : (old first middle new : AtHand S) (header : List HeaderField) (told : CacheFault) → old.given ≡ 0 → Comes version_of Any left old first layout → Comes (head_bytes layout) (FitsHead layout) left first middle header
-        → Misses name_bytes FitsName left middle new (BadItem middle.given) told → told ≢ OutOfMemory → told ≢ Read → (bytes : List ℕ) × IsGiven (left old.source) (left new.source) bytes × IsFaultOf bytes told
+        → Misses name_bytes FitsName left middle new (BadItem middle.given) told → GaveFault (left old.source) (left new.source) told
     name_fault old first middle new header told start v h m memory read =
         let s : List ℕ = start_bytes layout header in
         let at : middle.given ≡ length s = omega (arith, start, v.given, h.given, length-append (version_of layout) (head_bytes layout header)) in
@@ -179,8 +177,7 @@ module _ {S : Type 0} (left : S → Option (List ℕ)) where
     bad_long : (at : ℕ) → BadItem at ≡ TooLong → ⊥
     bad_long at e = cc
 
-    pub end_taken : (from : Option (List ℕ)) (old new : AtHand S) (cache : Cache) → HasTaken layout from (left old.source) old.given cache → MissesOne layout left old new (BadItem old.given) → new.given ≡ old.given
-        → (bytes : List ℕ) × IsGiven from (left new.source) bytes × IsCache bytes cache
+    pub end_taken : (from : Option (List ℕ)) (old new : AtHand S) (cache : Cache) → HasTaken layout from (left old.source) old.given cache → MissesOne layout left old new (BadItem old.given) → new.given ≡ old.given → GaveCache from (left new.source) cache
     end_taken from old new cache h m same =
         let l = m.lacks (bad_read old.given) (bad_item old.given) in
         let none : l.bytes ≡ [] = nil_from_length l.bytes (omega (arith, l.gives.given, same)) in
@@ -198,7 +195,7 @@ module _ {S : Type 0} (left : S → Option (List ℕ)) where
         ]
 
     pub item_fault : (from : Option (List ℕ)) (old new : AtHand S) (cache : Cache) (told : CacheFault) → HasTaken layout from (left old.source) old.given cache → MissesOne layout left old new told
-        → (told ≡ BadItem old.given → new.given ≢ old.given) → told ≢ OutOfMemory → told ≢ Read → (bytes : List ℕ) × IsGiven from (left new.source) bytes × IsFaultOf bytes told
+        → (told ≡ BadItem old.given → new.given ≢ old.given) → GaveFault from (left new.source) told
     item_fault from old new cache told h m more memory read =
         let at : old.given ≡ length h.bytes = reached_end layout h.bytes old.given cache h.reached in
         faulty bytes_of (Spells layout) from old new h.bytes (BadItem old.given) told h.taken at m memory read
@@ -279,8 +276,7 @@ module _ {S : Type 0} (left : S → Option (List ℕ)) where
           },
         )
 
-    pub next_end : (from : Option (List ℕ)) (old new : AtHand S) (cache : Cache) (result : Result (Option Credential) CacheFault) → IsStep layout left old new result → HasTaken layout from (left old.source) old.given cache → result ≡ Ok None
-        → (bytes : List ℕ) × IsGiven from (left new.source) bytes × IsCache bytes cache
+    pub next_end : (from : Option (List ℕ)) (old new : AtHand S) (cache : Cache) (result : Result (Option Credential) CacheFault) → IsStep layout left old new result → HasTaken layout from (left old.source) old.given cache → result ≡ Ok None → GaveCache from (left new.source) cache
     next_end from old new cache (Ok None) step h e = end_taken from old new cache h step.0 step.1
     next_end from old new cache (Ok (Some credential)) step h e = absurd cc
     next_end from old new cache (Err fault) step h e = absurd cc
@@ -307,7 +303,7 @@ module _ {S : Type 0} (left : S → Option (List ℕ)) where
             ]
 
     pub next_fault : (from : Option (List ℕ)) (old new : AtHand S) (cache : Cache) (result : Result (Option Credential) CacheFault) → IsStep layout left old new result → HasTaken layout from (left old.source) old.given cache
-        → IfErr result (λ fault. fault ≢ OutOfMemory → fault ≢ Read → (bytes : List ℕ) × IsGiven from (left new.source) bytes × IsFaultOf bytes fault)
+        → IfErr result (GaveFault from (left new.source))
     next_fault from old new cache (Ok (Some credential)) step h = tt
     next_fault from old new cache (Ok None) step h = tt
     next_fault from old new cache (Err fault) step h = λ memory read. item_fault from old new cache fault h step.0 step.1 memory read

@@ -6,6 +6,7 @@ use Rattle.std.proofs.lemmas.List.{length-append}
 use Rattle.krb_ccache.specs.Value.{Cache}
 use Rattle.krb_name.specs.File.{file_limit, IsGiven, TakesFile, ReadsFile}
 use Rattle.krb_ccache.specs.Format.{IsCache, IsAnswerOf, IsFaultOf}
+use Rattle.krb_ccache.specs.Reader.{GaveCache, GaveFault}
 use Rattle.std.specs.Io.KnownBytes.{IsAtEnd}
 use Rattle.krb_ccache.proofs.AnswerLaws.{one_answer}
 use Rattle.krb_ccache.specs.declared.fault.CacheFault.{CacheFault}
@@ -52,26 +53,20 @@ pub answer_known : (from to : Option (List ℕ)) (bytes : List ℕ) (answer : Re
 answer_known None to bytes answer g a = tt
 answer_known (Some whole) to bytes answer g a = answer_of_whole whole bytes to answer g a
 
-abbrev pub Found : Option (List ℕ) → Option (List ℕ) → Cache → Type 0
-Found from to cache = (bytes : List ℕ) × IsGiven from to bytes × IsCache bytes cache
-
-abbrev pub Faulty : Option (List ℕ) → Option (List ℕ) → CacheFault → Type 0
-Faulty from to fault = fault ≢ OutOfMemory → fault ≢ Read → (bytes : List ℕ) × IsGiven from to bytes × IsFaultOf bytes fault
-
-pub found_whole : (from to : Option (List ℕ)) (cache : Cache) → Found from to cache → IfSome from (λ whole. IsCache whole cache)
+pub found_whole : (from to : Option (List ℕ)) (cache : Cache) → GaveCache from to cache → IfSome from (λ whole. IsCache whole cache)
 found_whole from to cache f = answer_known from to f.0 (Ok cache) f.1 f.2
 
-pub found_end : (from to : Option (List ℕ)) (cache : Cache) → Found from to cache → IsAtEnd to
+pub found_end : (from to : Option (List ℕ)) (cache : Cache) → GaveCache from to cache → IsAtEnd to
 found_end from to cache f = f.1.end f.2.limit
 
-pub fault_whole : (from to : Option (List ℕ)) (fault : CacheFault) → Faulty from to fault → fault ≢ OutOfMemory → fault ≢ Read → IfSome from (λ whole. IsFaultOf whole fault)
+pub fault_whole : (from to : Option (List ℕ)) (fault : CacheFault) → GaveFault from to fault → fault ≢ OutOfMemory → fault ≢ Read → IfSome from (λ whole. IsFaultOf whole fault)
 fault_whole from to fault f memory read = let g = f memory read in answer_known from to g.0 (Err fault) g.1 g.2
 
 -- the one answer for all the bytes
 only_given : (to : Option (List ℕ)) (bytes whole : List ℕ) (result answer : Result Cache CacheFault) → IsGiven (Some whole) to bytes → IsAnswerOf bytes result → IsAnswerOf whole answer → result ≡ answer
 only_given to bytes whole result answer g r a = one_answer bytes result answer r (answer_of_given whole bytes to answer g a)
 
-pub only_whole : (from to : Option (List ℕ)) (result : Result Cache CacheFault) → IfOk result (Found from to) → IfErr result (Faulty from to) → (whole : List ℕ) (answer : Result Cache CacheFault) → from ≡ Some whole → IsAnswerOf whole answer
+pub only_whole : (from to : Option (List ℕ)) (result : Result Cache CacheFault) → IfOk result (GaveCache from to) → IfErr result (GaveFault from to) → (whole : List ℕ) (answer : Result Cache CacheFault) → from ≡ Some whole → IsAnswerOf whole answer
     → (result ≡ answer) ⊎ ((result ≡ Err OutOfMemory) ⊎ (result ≡ Err Read))
 only_whole from to (Ok cache) f e whole answer known a = inl (only_given to f.0 whole (Ok cache) answer (subst (λ (o : Option (List ℕ)). IsGiven o to f.0) known f.1) f.2 a)
 only_whole from to (Err OutOfMemory) f e whole answer known a = inr (inl refl)
@@ -86,6 +81,6 @@ only_whole from to (Err (BadItem at)) f e whole answer known a = let g = e (λ x
 abbrev err_of : CacheFault → Result Cache CacheFault
 err_of fault = Err fault
 
-pub reads_whole : (from to : Option (List ℕ)) (result : Result Cache CacheFault) → IfOk result (Found from to) → IfErr result (Faulty from to) → TakesFile from to → ReadsFile IsAnswerOf OutOfMemory Read from to result
+pub reads_whole : (from to : Option (List ℕ)) (result : Result Cache CacheFault) → IfOk result (GaveCache from to) → IfErr result (GaveFault from to) → TakesFile from to → ReadsFile IsAnswerOf OutOfMemory Read from to result
 reads_whole from to (Ok cache) f e taken = record { found = found_whole from to cache f; end = found_end from to cache f; fault = tt; only = only_whole from to (Ok cache) f e; given = λ memory read. f; taken = taken }
 reads_whole from to (Err fault) f e taken = record { found = tt; end = tt; fault = λ memory read. fault_whole from to fault e memory read; only = only_whole from to (Err fault) f e; given = λ memory read. e (λ is. memory (ap (λ (x : CacheFault). err_of x) is)) (λ is. read (ap (λ (x : CacheFault). err_of x) is)); taken = taken }

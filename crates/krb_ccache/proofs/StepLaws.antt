@@ -7,8 +7,6 @@ use Rattle.krb_name.specs.Cursor.{Place}
 use Rattle.krb_name.specs.Window.{AtHand, Keeps}
 use Rattle.krb_name.specs.File.{file_limit, GivesWithin}
 use Rattle.krb_ccache.specs.declared.fault.CacheFault.{CacheFault}
-use Rattle.krb_ccache.specs.declared.item_fault.ItemFault.{ItemFault}
-use Rattle.krb_ccache.specs.declared.item_fault.ItemFault.TheVariants as item
 use Rattle.krb_ccache.specs.declared.walking.TakeFault.{TakeFault}
 use Rattle.krb_ccache.specs.declared.walking.TakeFault.TheVariants as stop
 use Rattle.krb_ccache.specs.Reader.{HeldPart, passed}
@@ -18,7 +16,7 @@ use Rattle.krb_ccache.specs.Value.{FitsCredential}
 use Rattle.krb_ccache.specs.declared.credential.Credential.{Credential}
 use Rattle.krb_ccache.specs.Inner.Standing.{bytes_of, IsMissing, spelled_as}
 use Rattle.krb_ccache.specs.Inner.Walking.{Walks, Halts, FitsKeyed, whole}
-use Rattle.krb_ccache.specs.Inner.Stepping.{Any, item_stop, Stands, cleared, Comes, Gives, Runs, IsTold, Lacks, Misses, MissesOne, IsStep, IsAtHand}
+use Rattle.krb_ccache.specs.Inner.Stepping.{Any, Stands, cleared, Comes, Gives, Runs, IsTold, Lacks, Misses, MissesOne, IsStep, IsAtHand}
 use Rattle.std.specs.Prelude.{◌≢◌}
 use Rattle.krb_ccache.specs.declared.fault.CacheFault.TheVariants.{BadItem, OutOfMemory}
 use Rattle.krb_ccache.specs.Format.{version_of, head_bytes, FitsHead, second_size, Spelled, Spells}
@@ -49,26 +47,22 @@ module _ {X S : Type 0} (s : X → List ℕ) (P : X → Type 0) (left : S → Op
       }
 
   -- what was taken is no such thing
-  missed : (old new : AtHand S) → Walks s P left (cleared old) new → IsMissing s P new.bytes → Halts s P left (cleared old) new stop.Long
-  missed old new w missing = record {
-    piece = w.piece;
-    keeps = w.keeps;
-    within = w.within;
-    count = file_limit + 1;
-    wants = λ x more others p e.
-        let same = front_same w.piece (s x) more others (sym (w.spans x more others p e)) e in
-        absurd (missing x [] p (w.keeps.bytes ∙ same.0 ∙ sym (append-nil (s x))));
-    cant_come = omega arith;
-  }
+  pub missed : (old start new : AtHand S) → Walks s P left start new → start ≡ cleared old → IsMissing s P new.bytes → Halts s P left (cleared old) new stop.Long
+  missed old start new walks e missing =
+      let w = started old start new walks e in
+      record {
+        piece = w.piece;
+        keeps = w.keeps;
+        within = w.within;
+        count = file_limit + 1;
+        wants = λ x more others p same.
+            let front = front_same w.piece (s x) more others (sym (w.spans x more others p same)) same in
+            absurd (missing x [] p (w.keeps.bytes ∙ front.0 ∙ sym (append-nil (s x))));
+        cant_come = omega arith;
+      }
 
-  -- what was taken was not read
-  pub not_read : (old start new : AtHand S) (fault : ItemFault) (stop : TakeFault) → Walks s P left start new → start ≡ cleared old → stop ≡ item_stop fault → (fault ≡ item.Missing → IsMissing s P new.bytes) → Halts s P left (cleared old) new stop
-  not_read old start new fault stop w e is missing = subst (Halts s P left (cleared old) new) (sym is) (by_fault fault missing)
-    where
-      by_fault : (f : ItemFault) → (f ≡ item.Missing → IsMissing s P new.bytes) → Halts s P left (cleared old) new (item_stop f)
-      by_fault item.Missing m = missed old new (started old start new w e) (m refl)
-      by_fault item.OutOfMemory m = let walks = started old start new w e in
-          record { piece = walks.piece; keeps = walks.keeps; within = walks.within; count = 0; wants = λ x more others p same. omega (arith, walks.spans x more others p same); cant_come = tt }
+  pub halts_cleared : (old start new : AtHand S) (stop : TakeFault) → Halts s P left start new stop → start ≡ cleared old → Halts s P left (cleared old) new stop
+  halts_cleared old start new stop h e = subst (λ (t : AtHand S). Halts s P left t new stop) e h
 
   some_given : (old new : AtHand S) (piece : List ℕ) → Keeps (left old.source) (left new.source) (cleared old) new piece → new.given ≤ file_limit → Gives left old new piece
   some_given old new piece k within = record {
@@ -225,8 +219,13 @@ module _ {X : Type 0} (r : Place → Option (X × Place)) (s : X → List ℕ) (
 
 -- ---- no header
 
-pub no_head_comes : {S : Type 0} (left : S → Option (List ℕ)) (old : AtHand S) (header : List HeaderField) → header ≡ [] → old.given ≤ file_limit → Comes (head_bytes Version3) (FitsHead Version3) left old old header
-no_head_comes left old header none within = record { fits = none; consumed = Consumes-nil (left old.source); given = omega arith; within = within; peak = omega arith }
+pub no_head_walks : {S : Type 0} (left : S → Option (List ℕ)) (old : AtHand S) → length old.bytes ≤ old.peak → old.given ≤ file_limit → Walks (head_bytes Version3) (FitsHead Version3) left old old
+no_head_walks left old held within = record {
+  piece = [];
+  keeps = record { consumed = Consumes-nil (left old.source); bytes = sym (append-nil old.bytes); peak = omega (arith, held); given = omega arith };
+  within = within;
+  spans = λ x more others p e. refl;
+}
 
 -- ---- how much of a credential was at hand
 

@@ -1,6 +1,7 @@
 -- What a walk took of a source, in the words of a spelling; and what it took of bytes in memory.
-use Rattle.std.proofs.Common.{◌≡◌, ℕ, ◌+◌, ◌-◌, ◌%◌, ◌^◌, ◌<◌, ◌≤◌, ◌∷◌, Ok, Err, Bool, true, false, List, [], ◌++◌, length, take, drop, Option, Some, None, refl, sym, ap, subst, ◌∙◌, append-nil, arith, inl, inr}
+use Rattle.std.proofs.Common.{◌≡◌, ℕ, ◌+◌, ◌-◌, ◌%◌, ◌^◌, ◌<◌, ◌≤◌, ◌∷◌, Result, Ok, Err, Bool, true, false, List, [], ◌++◌, length, take, drop, Option, Some, None, refl, sym, ap, subst, ◌∙◌, append-nil, arith, inl, inr}
 use Rattle.std.specs.Int.{w8, w16}
+use Rattle.std.specs.Prelude.{IfErr, OnOk}
 use Rattle.std.specs.Io.KnownBytes.{Consumes}
 use lib.Seq.{take-add}
 use Rattle.std.proofs.lemmas.Bool.{cases_lt}
@@ -26,7 +27,7 @@ use Rattle.krb_ccache.specs.Format.{version_of, Spelled, Spells}
 use Rattle.krb_ccache.specs.Inner.Reading.{parts_at, name_at}
 use Rattle.krb_ccache.specs.Inner.Stepping.{Any, Stands, cleared}
 use Rattle.krb_ccache.specs.Inner.Standing.{bytes_of, IsMissing}
-use Rattle.krb_ccache.specs.Inner.Walking.{Hand, window_hand, window_within, window_lacks, bytes_hand, bytes_within, bytes_lacks, Pass, passed_at, skip_at, pass_none, pass_if, Goes, Stops, Taken, TookFewer, stop_of, Spans, Wants, Walks, Halts, Marked, FitsKeyed, whole}
+use Rattle.krb_ccache.specs.Inner.Walking.{Hand, window_hand, window_within, window_lacks, bytes_hand, bytes_within, bytes_lacks, Pass, passed_at, skip_at, pass_none, pass_if, Goes, Stops, IsWhole, Taken, TookFewer, stop_of, Spans, Wants, Walks, Halts, Marked, FitsKeyed, whole}
 use Rattle.krb_ccache.proofs.PartLaws.{IsField-name}
 use Rattle.krb_ccache.proofs.CredentialLaws.{passed_lies, passed_missing, IsField-parts, parts_of, fits_parts, flag_byte, flag_spelled}
 
@@ -114,6 +115,14 @@ module _ {Y : Type 0} (pass : Pass) (s : Y → List ℕ) (P : Y → Type 0) (pas
       wants = wants_of h.piece h.count h.some h.none;
       cant_come = h.lacks;
     }
+
+    pub ok_walks : (result : Result (Unit {0}) TakeFault) → IsWhole pass window_within window_lacks (window_hand left old) (window_hand left new) result → OnOk result (Walks s P left old new)
+    ok_walks (Ok x) w = walks_of w
+    ok_walks (Err stop) w = tt
+
+    pub err_halts : (result : Result (Unit {0}) TakeFault) → IsWhole pass window_within window_lacks (window_hand left old) (window_hand left new) result → IfErr result (Halts s P left old new)
+    err_halts (Ok x) w = tt
+    err_halts (Err stop) w = halts_of stop w
 
 -- what was asked of a source
 module _ {S : Type 0} (left : S → Option (List ℕ)) (old new : AtHand S) (count : ℕ) where

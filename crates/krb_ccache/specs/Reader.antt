@@ -1,6 +1,6 @@
 -- Reading a cache one credential at a time: what a reader has read from its source, and how it
 -- ended.
-use Rattle.std.specs.Prelude.{◌≡◌, ◌≢◌, ℕ, ◌+◌, ◌<◌, ◌≤◌, max, Bool, true, false, List, [], ◌∷◌, ◌++◌, length, Option, Some, None, Result, Ok, Err}
+use Rattle.std.specs.Prelude.{◌≡◌, ◌≢◌, ℕ, ◌+◌, ◌<◌, ◌≤◌, max, Bool, true, false, List, [], ◌∷◌, ◌++◌, length, Option, Some, None, Result, Ok, Err, IfErr, IfSome}
 use Rattle.std.specs.Int.{w8}
 use Rattle.std.specs.Io.KnownBytes.{Consumes, IsAtEnd}
 use Rattle.krb_name.specs.Cursor.{number_bytes}
@@ -10,9 +10,10 @@ use Rattle.krb_ccache.specs.declared.credential.Credential.{Credential}
 use Rattle.krb_ccache.specs.declared.layout.Layout.{Layout}
 use Rattle.krb_ccache.specs.Spelling.{marked_bytes}
 use Rattle.krb_ccache.specs.Value.{Cache, cache_of, FitsCredential}
-use Rattle.krb_name.specs.File.{file_limit}
-use Rattle.krb_ccache.specs.Format.{second_size, Spelled, Spells, credential_length, IsReached}
+use Rattle.krb_name.specs.File.{file_limit, IsGiven}
+use Rattle.krb_ccache.specs.Format.{second_size, Spelled, Spells, credential_length, IsReached, IsCache, IsFaultOf}
 use Rattle.krb_ccache.specs.declared.fault.CacheFault.{CacheFault}
+use Rattle.krb_ccache.specs.declared.fault.CacheFault.TheVariants.{Read, OutOfMemory}
 
 -- a reader: its source; the layout, the header and the default principal; how many bytes the source
 -- has given; how many were held at once at most; and the last answer, once it was given: the end or
@@ -114,3 +115,25 @@ pub record IsFirstOf (one all : Cache) : Type 0 where
   pub default_principal : one.default_principal ≡ all.default_principal
   pub others : List Credential
   pub credentials : all.credentials ≡ one.credentials ++ others
+
+-- ---- the answers that speak of the whole file
+
+-- the source gave all bytes of a file, and they are this cache
+abbrev pub GaveCache : Option (List ℕ) → Option (List ℕ) → Cache → Type 0
+GaveCache from to cache = (bytes : List ℕ) × IsGiven from to bytes × IsCache bytes cache
+
+-- or they have this fault, unless it is one that says nothing about bytes
+abbrev pub GaveFault : Option (List ℕ) → Option (List ℕ) → CacheFault → Type 0
+GaveFault from to fault = fault ≢ OutOfMemory → fault ≢ Read → (bytes : List ℕ) × IsGiven from to bytes × IsFaultOf bytes fault
+
+-- if the call of a reader found the end, then what the reader has read is the file's cache
+abbrev pub EndsFile : {S : Type 0} → (S → Option (List ℕ)) → Reading S → Reading S → Type 0 → Type 0
+EndsFile left old new End = (from : Option (List ℕ)) (cache : Cache) → HasRead left from old cache → End → GaveCache from (left new.source) cache
+
+-- if it returned a fault, then that is the file's
+abbrev pub HasFileFault : {S T : Type 0} → (S → Option (List ℕ)) → Reading S → Reading S → Result T CacheFault → Type 0
+HasFileFault left old new result = (from : Option (List ℕ)) (cache : Cache) → HasRead left from old cache → IfErr result (GaveFault from (left new.source))
+
+-- and no whole credential within the limit comes next
+abbrev pub StopsInFile : {S T : Type 0} → (S → Option (List ℕ)) → Reading S → Result T CacheFault → Type 0
+StopsInFile left old result = (from : Option (List ℕ)) (cache : Cache) → HasRead left from old cache → IfErr result (λ fault. fault ≢ OutOfMemory → fault ≢ Read → IfSome from (λ bytes. GoesTo bytes cache))

@@ -1,17 +1,16 @@
 //! A credential cache.
 
-ghost use Rattle.std.specs.Prelude.{◌≡◌, ◌≢◌, ◌⊎◌, ◌≤◌, ◌<◌, ◌^◌, ◌-◌, ◌+◌, ◌++◌, ℕ, ℤ, List, [], All, IsTrue, ◌↔◌, IfOk, IfErr, IfSome, IfNone, OnOk, OnErr, Some, Ok, Err, Result, SomeIff, None, length, map};
-ghost use Rattle.std.specs.List.{flat_map};
-ghost use Rattle.std.specs.Io.KnownBytes.{IsAtEnd};
+ghost use Rattle.std.specs.Prelude.{◌≡◌, ◌≢◌, ◌⊎◌, ◌≤◌, ◌<◌, ◌^◌, ◌-◌, ◌+◌, List, [], All, IsTrue, ◌↔◌, IfOk, IfErr, IfSome, IfNone, OnOk, OnErr, Some, Ok, Err, Result, SomeIff, None, length, map};
 ghost use Rattle.krb_name.specs.Field.{IsBytes};
 ghost use Rattle.krb_ccache.specs.Spelling.{name_bytes};
 ghost use Rattle.krb_ccache.specs.Value.{Cache, cache_of, HasLengths, Fits, FitsName, FitsCredential};
 ghost use Rattle.krb_ccache.specs.declared.fault.CacheFault.{CacheFault as CacheFaultValue};
 ghost use Rattle.krb_ccache.specs.Configuration.{HoldsOffset, IsConfiguration};
 ghost use Rattle.krb_ccache.specs.Fault.{offset_of, failed_reads};
-ghost use Rattle.krb_name.specs.File.{file_limit, IsGiven, GivesWithin, ReadsFile};
+ghost use Rattle.krb_name.specs.File.{file_limit, GivesWithin, ReadsFile};
 ghost use Rattle.krb_ccache.specs.Format.{written, Spelled, Spells, IsCache, IsFaultOf, IsAnswerOf};
 ghost use Rattle.krb_ccache.specs.Offset.{clock_offset};
+ghost use Rattle.krb_ccache.specs.Reader.{GaveCache, GaveFault};
 ghost use Rattle.krb_ccache.specs.Inner.Room.{Leaves};
 ghost use Rattle.krb_ccache.specs.Inner.Standing.{bytes_of, Lies, LiesOne, Reaches, IsMissing, StopsBy};
 
@@ -159,13 +158,9 @@ impl CCache {
     fn read_parts<S: Source>(alloc: Global, window: &mut Window<S>) -> Result<CCache, CacheFault>
         requires reads { S.failure_count window.old.source < 2 ^ 64 - 1 }
         requires start { window.old.given ≡ 0 }
-        ensures found { IfOk result (λ cache. (bytes : List ℕ)
-            × IsGiven (S.remaining window.old.source) (S.remaining window.new.source) bytes
-            × IsCache bytes cache) }
-        ensures fault { IfErr result (λ fault.
-            fault ≢ CacheFault.OutOfMemory → fault ≢ CacheFault.Read → (bytes : List ℕ)
-            × IsGiven (S.remaining window.old.source) (S.remaining window.new.source) bytes
-            × IsFaultOf bytes fault) }
+        ensures found { IfOk result (λ cache.
+            GaveCache (S.remaining window.old.source) (S.remaining window.new.source) cache) }
+        ensures fault { IfErr result (GaveFault (S.remaining window.old.source) (S.remaining window.new.source)) }
         ensures gave { GivesWithin (S.remaining window.old.source) (S.remaining window.new.source)
             window.old.given window.new.given }
         ensures failed { S.failure_count window.new.source

@@ -1,7 +1,7 @@
 //! Fields that stand one after another: how they are read, and how their bytes are taken.
 
 ghost use Rattle.std.specs.Prelude.{◌≡◌, ◌==◌, ◌+◌, ◌-◌, ◌≤◌, ◌<◌, ◌^◌, ℕ, ℤ, Bool, true, max, List, Option, Some, None, IfOk};
-ghost use Rattle.std.specs.Int.{w8, w16, w32};
+ghost use Rattle.std.specs.Int.{w16, w32};
 ghost use Rattle.krb_name.specs.declared.principal.Principal.{Principal as PrincipalValue};
 ghost use Rattle.krb_name.specs.Cursor.{Place, number_at, signed_at, data_at};
 ghost use Rattle.krb_ccache.specs.declared.layout.Layout.{Layout as LayoutValue};
@@ -128,7 +128,7 @@ impl Field for Bytes {
 
     ghost raw_at = { λ strict layout. data_at w32 };
 
-    ghost most = { 12 };
+    ghost most = { 4 };
 
     fn read(alloc: Global, _: Layout, cursor: &mut FileCursor<'_>) -> Result<Bytes, ItemFault> {
         read_data(alloc, cursor)
@@ -150,7 +150,7 @@ impl Field for TypedList {
 
     ghost raw_at = { λ strict layout. list_at };
 
-    ghost most = { 12 };
+    ghost most = { 4 };
 
     #[tactic(auto, unfolding(crate::specs::Inner::Reading::list_at))]
     fn read(alloc: Global, _: Layout, cursor: &mut FileCursor<'_>) -> Result<TypedList, ItemFault> {
@@ -175,7 +175,7 @@ impl Field for bool {
 
     ghost raw_at = { λ strict layout. byte_at strict };
 
-    ghost most = { 12 };
+    ghost most = { 1 };
 
     fn read(_: Global, _: Layout, cursor: &mut FileCursor<'_>) -> Result<bool, ItemFault> {
         let byte = cursor.read_u8()?;

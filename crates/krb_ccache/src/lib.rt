@@ -32,6 +32,7 @@ mod item_fault;
 mod items;
 pub mod laws;
 mod layout;
+mod leading;
 mod part;
 mod reader;
 mod row;

@@ -3,10 +3,10 @@
 ghost use Rattle.std.specs.Prelude.{◌≡◌, ◌≢◌, ◌+◌, ◌-◌, ◌^◌, ◌<◌, ◌≤◌, ◌↔◌, ℕ, true, false, List, [], max, length, All, IsTrue, IfOk, IfErr, IfSome, IfNone, MatchResult, OnErr, Option, Ok, Err, None};
 ghost use Rattle.krb_ccache.specs.Configuration.{HoldsOffset, IsConfiguration};
 ghost use Rattle.krb_ccache.specs.Fault.{failed_reads};
-ghost use Rattle.krb_name.specs.File.{file_limit, IsGiven, TakesFile, GivesWithin};
-ghost use Rattle.krb_ccache.specs.Format.{head_bytes, credential_length, IsCache, IsFaultOf};
+ghost use Rattle.krb_name.specs.File.{file_limit, TakesFile, GivesWithin};
+ghost use Rattle.krb_ccache.specs.Format.{head_bytes, credential_length};
 ghost use Rattle.krb_ccache.specs.Offset.{clock_offset};
-ghost use Rattle.krb_ccache.specs.Reader.{ended_by as ended_by_answer, ended_passed, passed, last_answer, with_credential, HasRead, Gave, GaveOne, PassedOne, HeldPart, StaysAtEnd, GoesTo};
+ghost use Rattle.krb_ccache.specs.Reader.{ended_by as ended_by_answer, ended_passed, passed, last_answer, with_credential, HasRead, Gave, GaveOne, PassedOne, HeldPart, StaysAtEnd, GaveFault, EndsFile, HasFileFault, StopsInFile};
 ghost use Rattle.krb_ccache.specs.Spelling.{name_bytes};
 ghost use Rattle.krb_ccache.specs.Value.{Cache, cache_of};
 ghost use Rattle.krb_ccache.specs.declared.credential.Credential.{Credential as CredentialValue};
@@ -76,10 +76,7 @@ impl<S: Source> CredentialReader<S> {
             (cache_of reader.header reader.default_principal [])) }
         ensures held { IfOk result (λ reader. reader.held
             ≡ max (length (head_bytes reader.layout reader.header)) (length (name_bytes reader.default_principal))) }
-        ensures fault { IfErr result (λ back.
-            back.1 ≢ CacheFault.OutOfMemory → back.1 ≢ CacheFault.Read
-            → (bytes : List ℕ) × IsGiven (S.remaining source) (S.remaining back.0) bytes
-            × IsFaultOf bytes back.1) }
+        ensures fault { IfErr result (λ back. GaveFault (S.remaining source) (S.remaining back.0) back.1) }
 
         // Whatever the answer is, the source gave at most one byte past the limit.
         ensures gave { MatchResult result
@@ -137,22 +134,13 @@ impl<S: Source> CredentialReader<S> {
             → HasRead S.remaining from self.old cache
             → IfOk result (λ next. IfSome next (λ credential.
             HasRead S.remaining from self.new (with_credential cache credential))) }
-        ensures end { (from : Option (List ℕ)) (cache : Cache)
-            → HasRead S.remaining from self.old cache → result ≡ Ok None
-            → (bytes : List ℕ) × IsGiven from (S.remaining self.new.source) bytes × IsCache bytes cache }
+        ensures end { EndsFile S.remaining self.old self.new (result ≡ Ok None) }
         ensures stays { self.old.ended ≡ None → result ≡ Ok None
             → StaysAtEnd (S.remaining self.new.source) self.old self.new }
-        ensures fault { (from : Option (List ℕ)) (cache : Cache)
-            → HasRead S.remaining from self.old cache
-            → IfErr result (λ fault. fault ≢ CacheFault.OutOfMemory → fault ≢ CacheFault.Read
-            → (bytes : List ℕ) × IsGiven from (S.remaining self.new.source) bytes
-            × IsFaultOf bytes fault) }
+        ensures fault { HasFileFault S.remaining self.old self.new result }
 
         // No whole credential within the limit is passed over.
-        ensures stops { (from : Option (List ℕ)) (cache : Cache)
-            → HasRead S.remaining from self.old cache
-            → IfErr result (λ fault. fault ≢ CacheFault.OutOfMemory → fault ≢ CacheFault.Read
-            → IfSome from (λ bytes. GoesTo bytes cache)) }
+        ensures stops { StopsInFile S.remaining self.old result }
 
         ensures given { Gave (S.remaining self.old.source) (S.remaining self.new.source) self.old self.new }
         ensures limit { self.new.given ≤ file_limit + 1 }
@@ -200,20 +188,11 @@ impl<S: Source> CredentialReader<S> {
         // Each other clause is one of `next`, except that the credential isn't returned.
         ensures item { self.old.ended ≡ None → result ≡ Ok true → (credential : CredentialValue)
             × PassedOne S.remaining self.old self.new credential }
-        ensures end { (from : Option (List ℕ)) (cache : Cache)
-            → HasRead S.remaining from self.old cache → result ≡ Ok false
-            → (bytes : List ℕ) × IsGiven from (S.remaining self.new.source) bytes × IsCache bytes cache }
+        ensures end { EndsFile S.remaining self.old self.new (result ≡ Ok false) }
         ensures stays { self.old.ended ≡ None → result ≡ Ok false
             → StaysAtEnd (S.remaining self.new.source) self.old self.new }
-        ensures fault { (from : Option (List ℕ)) (cache : Cache)
-            → HasRead S.remaining from self.old cache
-            → IfErr result (λ fault. fault ≢ CacheFault.OutOfMemory → fault ≢ CacheFault.Read
-            → (bytes : List ℕ) × IsGiven from (S.remaining self.new.source) bytes
-            × IsFaultOf bytes fault) }
-        ensures stops { (from : Option (List ℕ)) (cache : Cache)
-            → HasRead S.remaining from self.old cache
-            → IfErr result (λ fault. fault ≢ CacheFault.OutOfMemory → fault ≢ CacheFault.Read
-            → IfSome from (λ bytes. GoesTo bytes cache)) }
+        ensures fault { HasFileFault S.remaining self.old self.new result }
+        ensures stops { StopsInFile S.remaining self.old result }
         ensures given { Gave (S.remaining self.old.source) (S.remaining self.new.source) self.old self.new }
         ensures limit { self.new.given ≤ file_limit + 1 }
         ensures layout { self.new.layout ≡ self.old.layout }

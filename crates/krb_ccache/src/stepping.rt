@@ -3,29 +3,28 @@
 ghost use Rattle.std.specs.Prelude.{All, Option, ℕ, List, [], length, max, ◌≡◌, ◌≢◌, ◌+◌, ◌-◌, ◌≤◌, ◌<◌, ◌^◌, IfOk, IfErr, OnOk, OnErr, Result, Err};
 ghost use Rattle.krb_name.specs.Field.{IsBytes};
 ghost use Rattle.krb_ccache.specs.Fault.{failed_reads};
-ghost use Rattle.krb_name.specs.File.{file_limit, IsGiven, GivesWithin};
-ghost use Rattle.krb_ccache.specs.Format.{version_of, head_bytes, FitsHead, Spelled, Spells, IsCache, IsFaultOf};
-ghost use Rattle.krb_ccache.specs.Reader.{HasTaken, HeldPart, passed};
-ghost use Rattle.krb_ccache.specs.Spelling.{header_bytes, name_bytes};
+ghost use Rattle.krb_name.specs.File.{file_limit, GivesWithin};
+ghost use Rattle.krb_ccache.specs.Format.{head_bytes, Spelled, Spells};
+ghost use Rattle.krb_ccache.specs.Reader.{HasTaken, HeldPart, GaveCache, GaveFault, passed};
+ghost use Rattle.krb_ccache.specs.Spelling.{name_bytes};
 ghost use Rattle.krb_ccache.specs.Value.{cache_of, FitsHeader, FitsName, FitsCredential};
 ghost use Rattle.krb_name.specs.declared.principal.Principal.{Principal as PrincipalValue};
 ghost use Rattle.krb_ccache.specs.declared.credential.Credential.{Credential as CredentialValue};
 ghost use Rattle.krb_ccache.specs.declared.credential.HeaderField.{HeaderField as HeaderFieldValue};
-ghost use Rattle.krb_ccache.specs.declared.fault.CacheFault.TheVariants.{Version, Header, BadItem};
-ghost use Rattle.krb_ccache.specs.Inner.Standing.{bytes_of, IsMissing};
+ghost use Rattle.krb_ccache.specs.declared.fault.CacheFault.TheVariants.{BadItem};
+ghost use Rattle.krb_ccache.specs.Inner.Standing.{bytes_of};
 ghost use Rattle.krb_ccache.specs.Inner.Walking.{Halts, stop_reads, stopped_reads};
-ghost use Rattle.krb_ccache.specs.Inner.Stepping.{Stands, cleared, Any, Comes, IsTold, Misses, IsStep, IsAtHand};
+ghost use Rattle.krb_ccache.specs.Inner.Stepping.{Stands, cleared, Comes, IsTold, Misses, IsStep, IsAtHand};
 
 use crate::credential::{Credential, HeaderField, Row};
 use crate::fault::CacheFault;
 use crate::field::take_all;
-use crate::header::read_header;
 use crate::item_fault::ItemFault;
-use crate::items::{read_credential, read_name};
-use crate::layout::{Layout, read_layout};
-use crate::taker::Taker;
-use crate::walking::{TakeFault, take_header};
-use krb_name::{FILE_LIMIT, FileCursor, Principal, Short, Source, Window};
+use crate::items::read_credential;
+use crate::layout::Layout;
+use crate::leading::Leading;
+use crate::walking::TakeFault;
+use krb_name::{FILE_LIMIT, FileCursor, Principal, Source, Window};
 use std::alloc::{AllocError, Global};
 
 /// What comes before the credentials of a file.
@@ -36,46 +35,6 @@ pub(crate) struct Start {
     pub(crate) header: Vec<HeaderField>,
     /// Its default principal.
     pub(crate) default_principal: Principal,
-}
-
-impl From<ItemFault> for TakeFault {
-    ghost use Rattle.krb_ccache.specs.Inner.Stepping.{item_stop};
-
-    ghost from_gives = { λ fault stop. stop ≡ item_stop fault };
-
-    fn from(fault: ItemFault) -> TakeFault {
-        match fault {
-            ItemFault::Missing => TakeFault::Long,
-            ItemFault::OutOfMemory => TakeFault::OutOfMemory,
-        }
-    }
-}
-
-// Each call reads the part at the front of the bytes.
-
-fn layout_of(bytes: &[u8]) -> Result<Layout, Short>
-    ensures read { IfOk result (Stands version_of Any bytes.now) }
-    ensures missing { OnErr result (IsMissing version_of Any bytes.now) }
-{
-    let mut cursor = FileCursor::new(bytes);
-    read_layout(&mut cursor)
-}
-
-fn header_of(alloc: Global, bytes: &[u8]) -> Result<Vec<HeaderField>, ItemFault>
-    ensures read { IfOk result (λ header. Stands header_bytes FitsHeader bytes.now header.items) }
-    ensures missing { result ≡ Err ItemFault.Missing
-        → IsMissing header_bytes FitsHeader bytes.now }
-{
-    let mut cursor = FileCursor::new(bytes);
-    read_header(alloc, &mut cursor)
-}
-
-fn name_of(alloc: Global, bytes: &[u8]) -> Result<Principal, ItemFault>
-    ensures read { IfOk result (Stands name_bytes FitsName bytes.now) }
-    ensures missing { result ≡ Err ItemFault.Missing → IsMissing name_bytes FitsName bytes.now }
-{
-    let mut cursor = FileCursor::new(bytes);
-    read_name(alloc, &mut cursor)
 }
 
 // Makes the credential that is at the front of the bytes.
@@ -89,86 +48,6 @@ fn credential_of(alloc: Global, layout: Layout, bytes: &[u8]) -> Result<Credenti
         Ok(credential) => Ok(credential),
         Err(ItemFault::Missing) => unreachable!(),
         Err(ItemFault::OutOfMemory) => Err(AllocError),
-    }
-}
-
-// Each call takes the bytes of a part, and no more, and reads it off them.
-
-fn come_version<S: Source>(window: &mut Window<S>) -> Result<Layout, TakeFault>
-    requires reads { S.failure_count window.old.source < 2 ^ 64 - 1 }
-    requires within { window.old.given ≤ file_limit }
-    ensures comes { IfOk result (Comes version_of Any S.remaining window.old window.new) }
-    ensures halts { IfErr result (Halts version_of Any S.remaining (cleared window.old) window.new) }
-    ensures failed { S.failure_count window.new.source
-        ≡ S.failure_count window.old.source + stopped_reads result }
-    ensures lent { S.lender window.new.source ≡ S.lender window.old.source }
-{
-    window.clear();
-    window.take(2)?;
-    match layout_of(window.bytes()) {
-        Ok(layout) => Ok(layout),
-        Err(Short) => Err(TakeFault::Long),
-    }
-}
-
-// Takes nothing if the layout has no header.
-fn come_head<S: Source>(
-    alloc: Global,
-    layout: Layout,
-    window: &mut Window<S>,
-) -> Result<Vec<HeaderField>, TakeFault>
-    requires reads { S.failure_count window.old.source < 2 ^ 64 - 1 }
-    requires within { window.old.given ≤ file_limit }
-    ensures comes { IfOk result (λ header.
-        Comes (head_bytes layout) (FitsHead layout) S.remaining window.old window.new header.items) }
-    ensures halts { IfErr result
-        (Halts (head_bytes layout) (FitsHead layout) S.remaining (cleared window.old) window.new) }
-    ensures failed { S.failure_count window.new.source
-        ≡ S.failure_count window.old.source + stopped_reads result }
-    ensures lent { S.lender window.new.source ≡ S.lender window.old.source }
-{
-    match layout {
-        Layout::Version3 => Ok(Vec::new(alloc)),
-        Layout::Version4 => come_header(alloc, window),
-    }
-}
-
-fn come_header<S: Source>(
-    alloc: Global,
-    window: &mut Window<S>,
-) -> Result<Vec<HeaderField>, TakeFault>
-    requires reads { S.failure_count window.old.source < 2 ^ 64 - 1 }
-    requires within { window.old.given ≤ file_limit }
-    ensures comes { IfOk result (λ header.
-        Comes header_bytes FitsHeader S.remaining window.old window.new header.items) }
-    ensures halts { IfErr result (Halts header_bytes FitsHeader S.remaining (cleared window.old) window.new) }
-    ensures failed { S.failure_count window.new.source
-        ≡ S.failure_count window.old.source + stopped_reads result }
-    ensures lent { S.lender window.new.source ≡ S.lender window.old.source }
-{
-    window.clear();
-    take_header(window)?;
-    match header_of(alloc, window.bytes()) {
-        Ok(header) => Ok(header),
-        Err(fault) => Err(TakeFault::from(fault)),
-    }
-}
-
-fn come_name<S: Source>(alloc: Global, window: &mut Window<S>) -> Result<Principal, TakeFault>
-    requires reads { S.failure_count window.old.source < 2 ^ 64 - 1 }
-    requires within { window.old.given ≤ file_limit }
-    ensures comes { IfOk result (Comes name_bytes FitsName S.remaining window.old window.new) }
-    ensures halts { IfErr result (Halts name_bytes FitsName S.remaining (cleared window.old) window.new) }
-    ensures failed { S.failure_count window.new.source
-        ≡ S.failure_count window.old.source + stopped_reads result }
-    ensures lent { S.lender window.new.source ≡ S.lender window.old.source }
-{
-    window.clear();
-    // A name is the same in both layouts, and has no flag.
-    take_all::<Principal, _>(Layout::Version4, window)?;
-    match name_of(alloc, window.bytes()) {
-        Ok(name) => Ok(name),
-        Err(fault) => Err(TakeFault::from(fault)),
     }
 }
 
@@ -220,59 +99,31 @@ fn told<S: Source>(window: &mut Window<S>, stop: TakeFault, fault: CacheFault) -
     }
 }
 
-// Each call takes a part, or reads the source to its end and returns why there is none.
-
-fn step_version<S: Source>(window: &mut Window<S>) -> Result<Layout, CacheFault>
-    requires reads { S.failure_count window.old.source < 2 ^ 64 - 1 }
-    requires within { window.old.given ≤ file_limit }
-    ensures comes { IfOk result (Comes version_of Any S.remaining window.old window.new) }
-    ensures misses { IfErr result
-        (Misses version_of Any S.remaining window.old window.new Version) }
-    ensures failed { S.failure_count window.new.source
-        ≡ S.failure_count window.old.source + failed_reads result }
-    ensures lent { S.lender window.new.source ≡ S.lender window.old.source }
-{
-    match come_version(window) {
-        Ok(layout) => Ok(layout),
-        Err(stop) => Err(told(window, stop, CacheFault::Version)),
-    }
-}
-
-fn step_head<S: Source>(
+// Takes the bytes of a part, and no more, and reads it off them; or reads the source to its end and
+// returns why there is none: the fault, or TooLong in its place.
+fn come<L: Leading, S: Source>(
     alloc: Global,
     layout: Layout,
     window: &mut Window<S>,
-) -> Result<Vec<HeaderField>, CacheFault>
+    fault: CacheFault,
+) -> Result<L, CacheFault>
     requires reads { S.failure_count window.old.source < 2 ^ 64 - 1 }
     requires within { window.old.given ≤ file_limit }
-    ensures comes { IfOk result (λ header.
-        Comes (head_bytes layout) (FitsHead layout) S.remaining window.old window.new header.items) }
-    ensures misses { IfErr result
-        (Misses (head_bytes layout) (FitsHead layout) S.remaining window.old window.new Header) }
+    requires content { failed_reads {T = Unit {0}} (Err fault) ≡ 0 }
+    ensures comes { IfOk result (λ part. Comes (L.spelled layout) (L.InRange layout) S.remaining window.old window.new (L.raw part)) }
+    ensures misses { IfErr result (Misses (L.spelled layout) (L.InRange layout) S.remaining window.old window.new fault) }
     ensures failed { S.failure_count window.new.source
         ≡ S.failure_count window.old.source + failed_reads result }
     ensures lent { S.lender window.new.source ≡ S.lender window.old.source }
 {
-    match come_head(alloc, layout, window) {
-        Ok(header) => Ok(header),
-        Err(stop) => Err(told(window, stop, CacheFault::Header)),
-    }
-}
-
-fn step_name<S: Source>(alloc: Global, window: &mut Window<S>) -> Result<Principal, CacheFault>
-    requires reads { S.failure_count window.old.source < 2 ^ 64 - 1 }
-    requires within { window.old.given ≤ file_limit }
-    ensures comes { IfOk result (Comes name_bytes FitsName S.remaining window.old window.new) }
-    ensures misses { IfErr result
-        (Misses name_bytes FitsName S.remaining window.old window.new (BadItem window.old.given)) }
-    ensures failed { S.failure_count window.new.source
-        ≡ S.failure_count window.old.source + failed_reads result }
-    ensures lent { S.lender window.new.source ≡ S.lender window.old.source }
-{
-    let at = window.given();
-    match come_name(alloc, window) {
-        Ok(name) => Ok(name),
-        Err(stop) => Err(told(window, stop, CacheFault::BadItem { at })),
+    window.clear();
+    match L::take(layout, window) {
+        Ok(()) => match L::read(alloc, layout, window.bytes()) {
+            Ok(part) => Ok(part),
+            Err(ItemFault::Missing) => Err(told(window, TakeFault::Long, fault)),
+            Err(ItemFault::OutOfMemory) => Err(CacheFault::OutOfMemory),
+        },
+        Err(stop) => Err(told(window, stop, fault)),
     }
 }
 
@@ -288,23 +139,22 @@ pub(crate) fn begin<S: Source>(alloc: Global, window: &mut Window<S>) -> Result<
     ensures fits { IfOk result (λ begun.
         FitsHeader begun.header.items × FitsName begun.default_principal) }
     ensures limit { OnOk result (window.old.peak ≤ file_limit → window.new.peak ≤ file_limit) }
-    ensures fault { IfErr result (λ fault.
-        fault ≢ CacheFault.OutOfMemory → fault ≢ CacheFault.Read
-        → (bytes : List ℕ) × IsGiven (S.remaining window.old.source) (S.remaining window.new.source) bytes
-        × IsFaultOf bytes fault) }
+    ensures fault { IfErr result (GaveFault (S.remaining window.old.source) (S.remaining window.new.source)) }
     ensures gave { GivesWithin (S.remaining window.old.source) (S.remaining window.new.source)
         window.old.given window.new.given }
     ensures failed { S.failure_count window.new.source
         ≡ S.failure_count window.old.source + failed_reads result }
     ensures lent { S.lender window.new.source ≡ S.lender window.old.source }
 {
-    let layout = step_version(window)?;
-    let header = step_head(alloc, layout, window)?;
-    let name = step_name(alloc, window)?;
+    // The version tells the layout, and is spelled alike in each.
+    let layout = come(alloc, Layout::Version4, window, CacheFault::Version)?;
+    let header = come(alloc, layout, window, CacheFault::Header)?;
+    let at = window.given();
+    let default_principal = come(alloc, layout, window, CacheFault::BadItem { at })?;
     Ok(Start {
         layout,
         header,
-        default_principal: name,
+        default_principal,
     })
 }
 
@@ -380,15 +230,12 @@ pub(crate) fn steps<S: Source>(
     ensures end { IfOk result (λ credentials.
         (from : Option (List ℕ)) (header : List HeaderFieldValue) (name : PrincipalValue)
         → HasTaken layout from (S.remaining window.old.source) window.old.given (cache_of header name [])
-        → (bytes : List ℕ) × IsGiven from (S.remaining window.new.source) bytes
-        × IsCache bytes (cache_of header name credentials.items)) }
+        → GaveCache from (S.remaining window.new.source) (cache_of header name credentials.items)) }
     ensures fits { IfOk result (λ credentials. All FitsCredential credentials.items) }
     ensures fault { IfErr result (λ fault.
-        fault ≢ CacheFault.OutOfMemory → fault ≢ CacheFault.Read
-        → (from : Option (List ℕ)) (header : List HeaderFieldValue) (name : PrincipalValue)
+        (from : Option (List ℕ)) (header : List HeaderFieldValue) (name : PrincipalValue)
         → HasTaken layout from (S.remaining window.old.source) window.old.given (cache_of header name [])
-        → (bytes : List ℕ) × IsGiven from (S.remaining window.new.source) bytes
-        × IsFaultOf bytes fault) }
+        → GaveFault from (S.remaining window.new.source) fault) }
     ensures gave { GivesWithin (S.remaining window.old.source) (S.remaining window.new.source)
         window.old.given window.new.given }
     ensures failed { S.failure_count window.new.source

@@ -8,15 +8,9 @@ use Rattle.krb_ccache.specs.Format.{Spells}
 use Rattle.krb_name.specs.File.{file_limit}
 use Rattle.krb_ccache.specs.declared.fault.CacheFault.{CacheFault}
 use Rattle.krb_ccache.specs.declared.fault.CacheFault.TheVariants.{BadItem, TooLong, Read, OutOfMemory}
-use Rattle.krb_ccache.specs.declared.item_fault.ItemFault.{ItemFault}
-use Rattle.krb_ccache.specs.declared.item_fault.ItemFault.TheVariants as item
 use Rattle.krb_ccache.specs.declared.walking.TakeFault.{TakeFault}
 use Rattle.krb_ccache.specs.declared.walking.TakeFault.TheVariants as stop
 use Rattle.krb_ccache.specs.Inner.Standing.{bytes_of, spelled_as}
-
-abbrev pub item_stop : ItemFault → TakeFault
-item_stop item.Missing = stop.Long
-item_stop item.OutOfMemory = stop.OutOfMemory
 
 -- a thing that is in range is spelled at the front
 pub record Stands {X : Type 0} (spelled : X → List ℕ) (InRange : X → Type 0) (bytes : List ℕ) (x : X) : Type 0 where

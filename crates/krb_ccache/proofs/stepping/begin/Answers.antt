@@ -1,9 +1,10 @@
+use Rattle.std.proofs.Common.{ℕ, subst}
 use Rattle.std.proofs.lemmas.Result.{err_from_is_err_and}
 use Rattle.krb_ccache.specs.Spelling.{name_bytes}
 use Rattle.krb_ccache.specs.Value.{FitsName}
 use Rattle.krb_ccache.specs.Format.{version_of, head_bytes, FitsHead}
 use Rattle.krb_ccache.specs.declared.fault.CacheFault.TheVariants.{Version, Header, BadItem}
-use Rattle.krb_ccache.specs.Inner.Stepping.{Any}
+use Rattle.krb_ccache.specs.Inner.Stepping.{Any, Misses}
 use Rattle.krb_name.proofs.FileLaws.{gives_then}
 use Rattle.krb_ccache.proofs.StepLaws.{comes_gives, misses_gives, head_gives}
 use Rattle.krb_ccache.proofs.ReaderLaws.{version_fault, header_fault, name_fault, begun, begun_peak}
@@ -13,45 +14,46 @@ use Rattle.krb_ccache.proofs.stepping.begin.Goals as goal
 pub returns-in_err-layout-clause-fault : goal.returns-in_err-layout-clause-fault
 returns-in_err-layout-clause-fault g c =
     let p = err_from_is_err_and c.from_residual.result c.from_residual.ensures.1 in
-    rw (p.1, p.2) (version_fault g.S.Source.remaining c.args.window.now c.step_version.new.window c.in_err-layout.field-0.0 c.requires.start c.in_err-layout.ensures.misses)
+    rw (p.1, p.2) (version_fault g.S.Source.remaining c.args.window.now c.come.new.window c.in_err-layout.field-0.0 c.requires.start c.in_err-layout.ensures.misses)
 
 pub returns-in_err-header-clause-fault : goal.returns-in_err-header-clause-fault
 returns-in_err-header-clause-fault g c =
     let p = err_from_is_err_and c.from_residual-in_err-header.result c.from_residual-in_err-header.ensures.1 in
-    rw (p.1, p.2) (header_fault g.S.Source.remaining c.in_ok-layout.layout c.args.window.now c.step_version.new.window c.step_head.new.window c.in_err-header.field-0.0 c.requires.start c.in_ok-layout.ensures.comes c.in_err-header.ensures.misses)
+    rw (p.1, p.2) (header_fault g.S.Source.remaining c.in_ok-layout.layout c.args.window.now c.come.new.window c.come-2.new.window c.in_err-header.field-0.0 c.requires.start c.in_ok-layout.ensures.comes c.in_err-header.ensures.misses)
 
-pub returns-in_err-name-clause-fault : goal.returns-in_err-name-clause-fault
-returns-in_err-name-clause-fault g c =
-    let p = err_from_is_err_and c.from_residual-in_err-name.result c.from_residual-in_err-name.ensures.1 in
-    rw (p.1, p.2) (name_fault g.S.Source.remaining c.in_ok-layout.layout c.args.window.now c.step_version.new.window c.step_head.new.window c.step_name.new.window c.in_ok-header.header.items c.in_err-name.field-0.0 c.requires.start c.in_ok-layout.ensures.comes c.in_ok-header.ensures.comes c.in_err-name.ensures.misses)
+pub returns-in_err-default_principal-clause-fault : goal.returns-in_err-default_principal-clause-fault
+returns-in_err-default_principal-clause-fault g c =
+    let p = err_from_is_err_and c.from_residual-in_err-default_principal.result c.from_residual-in_err-default_principal.ensures.1 in
+    rw (p.1, p.2) (name_fault g.S.Source.remaining c.in_ok-layout.layout c.args.window.now c.come.new.window c.come-2.new.window c.come-3.new.window c.in_ok-header.header.items c.in_err-default_principal.field-0.0 c.requires.start c.in_ok-layout.ensures.comes c.in_ok-header.ensures.comes
+    (subst (λ (at : ℕ). Misses name_bytes FitsName g.S.Source.remaining c.come-2.new.window c.come-3.new.window (BadItem at) c.in_err-default_principal.field-0.0) c.given-at.ensures c.in_err-default_principal.ensures.misses))
 
 pub returns-clause-taken : goal.returns-clause-taken
-returns-clause-taken g c = begun g.S.Source.remaining c.in_ok-layout.layout c.args.window.now c.step_version.new.window c.step_head.new.window c.step_name.new.window c.in_ok-header.header.items c.in_ok-name.name c.requires.start c.in_ok-layout.ensures.comes c.in_ok-header.ensures.comes c.in_ok-name.ensures.comes
+returns-clause-taken g c = begun g.S.Source.remaining c.in_ok-layout.layout c.args.window.now c.come.new.window c.come-2.new.window c.come-3.new.window c.in_ok-header.header.items c.in_ok-default_principal.default_principal c.requires.start c.in_ok-layout.ensures.comes c.in_ok-header.ensures.comes c.in_ok-default_principal.ensures.comes
 
 pub returns-in_err-layout-clause-gave : goal.returns-in_err-layout-clause-gave
-returns-in_err-layout-clause-gave g c = misses_gives version_of Any g.S.Source.remaining c.args.window.now c.step_version.new.window Version c.in_err-layout.field-0.0 c.in_err-layout.ensures.misses
+returns-in_err-layout-clause-gave g c = misses_gives version_of Any g.S.Source.remaining c.args.window.now c.come.new.window Version c.in_err-layout.field-0.0 c.in_err-layout.ensures.misses
 
 pub returns-in_err-header-clause-gave : goal.returns-in_err-header-clause-gave
 returns-in_err-header-clause-gave g c =
     let left = g.S.Source.remaining in
     let old = c.args.window.now in
-    let first = c.step_version.new.window in
-    let new = c.step_head.new.window in
+    let first = c.come.new.window in
+    let new = c.come-2.new.window in
     gives_then (left old.source) (left first.source) (left new.source) _ _ _ (comes_gives version_of Any left old first c.in_ok-layout.layout c.in_ok-layout.ensures.comes)
     (misses_gives (head_bytes c.in_ok-layout.layout) (FitsHead c.in_ok-layout.layout) left first new Header c.in_err-header.field-0.0 c.in_err-header.ensures.misses)
 
-pub returns-in_err-name-clause-gave : goal.returns-in_err-name-clause-gave
-returns-in_err-name-clause-gave g c =
-    head_gives g.S.Source.remaining c.in_ok-layout.layout c.args.window.now c.step_version.new.window c.step_head.new.window c.step_name.new.window c.in_ok-header.header.items c.in_ok-layout.ensures.comes c.in_ok-header.ensures.comes
-    (misses_gives name_bytes FitsName g.S.Source.remaining c.step_head.new.window c.step_name.new.window (BadItem c.step_head.new.window.given) c.in_err-name.field-0.0 c.in_err-name.ensures.misses)
+pub returns-in_err-default_principal-clause-gave : goal.returns-in_err-default_principal-clause-gave
+returns-in_err-default_principal-clause-gave g c =
+    head_gives g.S.Source.remaining c.in_ok-layout.layout c.args.window.now c.come.new.window c.come-2.new.window c.come-3.new.window c.in_ok-header.header.items c.in_ok-layout.ensures.comes c.in_ok-header.ensures.comes
+    (misses_gives name_bytes FitsName g.S.Source.remaining c.come-2.new.window c.come-3.new.window (BadItem c.given-at.result) c.in_err-default_principal.field-0.0 c.in_err-default_principal.ensures.misses)
 
 pub returns-clause-gave : goal.returns-clause-gave
 returns-clause-gave g c =
-    head_gives g.S.Source.remaining c.in_ok-layout.layout c.args.window.now c.step_version.new.window c.step_head.new.window c.step_name.new.window c.in_ok-header.header.items c.in_ok-layout.ensures.comes c.in_ok-header.ensures.comes
-    (comes_gives name_bytes FitsName g.S.Source.remaining c.step_head.new.window c.step_name.new.window c.in_ok-name.name c.in_ok-name.ensures.comes)
+    head_gives g.S.Source.remaining c.in_ok-layout.layout c.args.window.now c.come.new.window c.come-2.new.window c.come-3.new.window c.in_ok-header.header.items c.in_ok-layout.ensures.comes c.in_ok-header.ensures.comes
+    (comes_gives name_bytes FitsName g.S.Source.remaining c.come-2.new.window c.come-3.new.window c.in_ok-default_principal.default_principal c.in_ok-default_principal.ensures.comes)
 
 pub returns-clause-peak : goal.returns-clause-peak
-returns-clause-peak g c = begun_peak g.S.Source.remaining c.in_ok-layout.layout c.args.window.now c.step_version.new.window c.step_head.new.window c.step_name.new.window c.in_ok-header.header.items c.in_ok-name.name c.in_ok-layout.ensures.comes c.in_ok-header.ensures.comes c.in_ok-name.ensures.comes
+returns-clause-peak g c = begun_peak g.S.Source.remaining c.in_ok-layout.layout c.args.window.now c.come.new.window c.come-2.new.window c.come-3.new.window c.in_ok-header.header.items c.in_ok-default_principal.default_principal c.in_ok-layout.ensures.comes c.in_ok-header.ensures.comes c.in_ok-default_principal.ensures.comes
 
 pub returns-clause-fits : goal.returns-clause-fits
-returns-clause-fits g c = (head_fits c.in_ok-layout.layout c.in_ok-header.header.items c.in_ok-header.ensures.comes.fits, c.in_ok-name.ensures.comes.fits)
+returns-clause-fits g c = (head_fits c.in_ok-layout.layout c.in_ok-header.header.items c.in_ok-header.ensures.comes.fits, c.in_ok-default_principal.ensures.comes.fits)

@@ -5,9 +5,7 @@ use Rattle.krb_ccache.specs.Format.{Spells}
 use Rattle.krb_ccache.specs.Inner.Reading.{parts_at}
 use Rattle.krb_ccache.specs.Inner.Standing.{bytes_of}
 use Rattle.krb_ccache.specs.Inner.Walking.{FitsKeyed, whole, passed_at}
-use Rattle.krb_ccache.specs.declared.item_fault.ItemFault.TheVariants as item
-use Rattle.krb_ccache.specs.declared.walking.TakeFault.TheVariants as stop
-use Rattle.krb_ccache.proofs.StepLaws.{came, not_read, part_walked, part_halted}
+use Rattle.krb_ccache.proofs.StepLaws.{came, missed, part_walked, part_halted}
 use Rattle.krb_ccache.proofs.WalkEnds.{spelled_passes, whole_passes, walks_of, halts_of, one_stands, none_stands}
 use Rattle.krb_ccache.proofs.stepping.come_past.Goals as goal
 
@@ -22,8 +20,8 @@ pub returns-else-good-clause-halts : goal.returns-else-good-clause-halts
 returns-else-good-clause-halts g c =
     let left = g.S.Source.remaining in
     let walk = c.in_ok-good.ensures.walk in
-    not_read bytes_of (Spells c.args.layout) left c.args.window.now c.clear.new.self c.take_all.new.taker item.Missing stop.Long (walks_of (passed_at (parts_at false c.args.layout)) bytes_of (Spells c.args.layout) (spelled_passes c.args.layout) left c.clear.new.self c.take_all.new.taker (walk false)) c.clear.ensures refl
-    (λ m. none_stands c.args.layout left c.args.window.now c.clear.new.self c.take_all.new.taker c.in_ok-good.good c.clear.ensures (walk true) c.if-good.false)
+    missed bytes_of (Spells c.args.layout) left c.args.window.now c.clear.new.self c.take_all.new.taker (walks_of (passed_at (parts_at false c.args.layout)) bytes_of (Spells c.args.layout) (spelled_passes c.args.layout) left c.clear.new.self c.take_all.new.taker (walk false)) c.clear.ensures
+    (none_stands c.args.layout left c.args.window.now c.clear.new.self c.take_all.new.taker c.in_ok-good.good c.clear.ensures (walk true) c.if-good.false)
 
 pub returns-then-good-clause-part : goal.returns-then-good-clause-part
 returns-then-good-clause-part g c = part_walked c.args.layout g.S.Source.remaining c.args.window.now c.clear.new.self c.take_all.new.taker (walks_of (passed_at (parts_at false c.args.layout)) whole (FitsKeyed c.args.layout) (whole_passes c.args.layout) g.S.Source.remaining c.clear.new.self c.take_all.new.taker (c.in_ok-good.ensures.walk false)) c.clear.ensures

@@ -14,7 +14,7 @@ use Rattle.krb_ccache.proofs.stepping.steps.Goals as goal
 pub returns-in_err-credential-clause-fault : goal.returns-in_err-credential-clause-fault
 returns-in_err-credential-clause-fault g c =
     let p = err_from_is_err_and c.from_residual.result c.from_residual.ensures.1 in
-    rw (p.1, p.2) (λ memory read from header name start.
+    rw (p.1, p.2) (λ from header name start memory read.
     item_fault g.S.Source.remaining c.args.layout from c.loop-credentials.window c.step.new.window (cache_of header name c.loop-credentials.credentials.items) c.in_err-credential.field-0.0 (c.loop-credentials.invariant.taken from header name start)
     c.in_err-credential.ensures.step.0 c.in_err-credential.ensures.step.1 memory read)
 
@@ -40,7 +40,7 @@ returns-clause-end g c = λ from header name start.
 pub returns-in_err-push-clause-fault : goal.returns-in_err-push-clause-fault
 returns-in_err-push-clause-fault g c =
     let p = err_from_is_err_and c.from_residual-in_err-push.result c.from_residual-in_err-push.ensures.1 in
-    rw p.1 (λ memory read. absurd (memory p.2))
+    rw p.1 (λ from header name start memory read. absurd (memory p.2))
 
 pub returns-clause-gave : goal.returns-clause-gave
 returns-clause-gave g c =

@@ -5,7 +5,7 @@ use Rattle.krb_ccache.proofs.cache.CCache.read_parts.Goals as goal
 pub returns-in_err-credentials-clause-fault : goal.returns-in_err-credentials-clause-fault
 returns-in_err-credentials-clause-fault g c =
     let p = err_from_is_err_and c.from_residual-in_err-credentials.result c.from_residual-in_err-credentials.ensures.1 in
-    rw (p.1, p.2) (λ memory read. c.in_err-credentials.ensures.fault memory read (g.S.Source.remaining c.args.window.now.source) c.in_ok-layout.field-0.header.items c.in_ok-layout.field-0.default_principal c.in_ok-layout.ensures.taken)
+    rw (p.1, p.2) (c.in_err-credentials.ensures.fault (g.S.Source.remaining c.args.window.now.source) c.in_ok-layout.field-0.header.items c.in_ok-layout.field-0.default_principal c.in_ok-layout.ensures.taken)
 
 pub returns-in_err-credentials-clause-gave : goal.returns-in_err-credentials-clause-gave
 returns-in_err-credentials-clause-gave g c =

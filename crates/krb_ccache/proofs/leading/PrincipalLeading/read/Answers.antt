@@ -5,7 +5,7 @@ use Rattle.krb_ccache.specs.Value.{FitsName}
 use Rattle.krb_ccache.specs.Inner.Reading.{name_at}
 use Rattle.krb_ccache.proofs.PartLaws.{IsField-name}
 use Rattle.krb_ccache.proofs.StepLaws.{field_stands, field_missing}
-use Rattle.krb_ccache.proofs.stepping.name_of.Goals as goal
+use Rattle.krb_ccache.proofs.leading.PrincipalLeading.read.Goals as goal
 
 pub returns-clause-read : goal.returns-clause-read
 returns-clause-read c =

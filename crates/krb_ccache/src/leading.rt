@@ -1,0 +1,119 @@
+//! What comes before the credentials of a file: how the bytes of each part are taken from a source,
+//! and what they are.
+
+ghost use Rattle.std.specs.Prelude.{◌≡◌, ◌+◌, ◌-◌, ◌≤◌, ◌<◌, ◌^◌, ℕ, List, IfOk, IfErr, OnOk, Err};
+ghost use Rattle.krb_name.specs.File.{file_limit};
+ghost use Rattle.krb_name.specs.declared.principal.Principal.{Principal as PrincipalValue};
+ghost use Rattle.krb_ccache.specs.declared.credential.HeaderField.{HeaderField as HeaderFieldValue};
+ghost use Rattle.krb_ccache.specs.declared.layout.Layout.{Layout as LayoutValue};
+ghost use Rattle.krb_ccache.specs.Format.{version_of, head_bytes, FitsHead};
+ghost use Rattle.krb_ccache.specs.Spelling.{name_bytes};
+ghost use Rattle.krb_ccache.specs.Value.{FitsName};
+ghost use Rattle.krb_ccache.specs.Inner.Standing.{IsMissing};
+ghost use Rattle.krb_ccache.specs.Inner.Stepping.{Stands, Any};
+ghost use Rattle.krb_ccache.specs.Inner.Walking.{Walks, Halts, stopped_reads};
+
+use crate::credential::HeaderField;
+use crate::field::take_all;
+use crate::header::read_head;
+use crate::item_fault::ItemFault;
+use crate::items::read_name;
+use crate::layout::{Layout, read_layout};
+use crate::taker::Taker;
+use crate::walking::{TakeFault, take_header};
+use krb_name::{FileCursor, Principal, Source, Window};
+use std::alloc::Global;
+
+/// A part of a file that comes before its credentials.
+pub(crate) trait Leading: Sized {
+    /// The value that it has in a contract.
+    ghost Raw: { Type 0 };
+
+    /// That of a part in memory.
+    ghost raw: { Self → Raw };
+
+    /// How it is spelled.
+    ghost spelled: { LayoutValue → Raw → List ℕ };
+
+    /// Whether it can be spelled.
+    ghost InRange: { LayoutValue → Raw → Type 0 };
+
+    /// Takes its bytes.
+    fn take<S: Source>(layout: Layout, window: &mut Window<S>) -> Result<(), TakeFault>
+        requires reads { S.failure_count window.old.source < 2 ^ 64 - 1 }
+        requires within { window.old.given ≤ file_limit }
+        ensures walks { OnOk result (Walks (spelled layout) (InRange layout) S.remaining window.old window.new) }
+        ensures halts { IfErr result (Halts (spelled layout) (InRange layout) S.remaining window.old window.new) }
+        ensures failed { S.failure_count window.new.source
+            ≡ S.failure_count window.old.source + stopped_reads result }
+        ensures lent { S.lender window.new.source ≡ S.lender window.old.source };
+
+    /// Reads the part at the front of the bytes.
+    fn read(alloc: Global, layout: Layout, bytes: &[u8]) -> Result<Self, ItemFault>
+        ensures read { IfOk result (λ part. Stands (spelled layout) (InRange layout) bytes.now (raw part)) }
+        ensures missing { result ≡ Err ItemFault.Missing
+            → IsMissing (spelled layout) (InRange layout) bytes.now };
+}
+
+impl Leading for Layout {
+    ghost Raw = { LayoutValue };
+
+    ghost raw = { λ version. version };
+
+    ghost spelled = { λ _. version_of };
+
+    ghost InRange = { λ _. Any };
+
+    fn take<S: Source>(_: Layout, window: &mut Window<S>) -> Result<(), TakeFault> {
+        window.take(2)?;
+        Ok(())
+    }
+
+    fn read(_: Global, _: Layout, bytes: &[u8]) -> Result<Layout, ItemFault> {
+        let mut cursor = FileCursor::new(bytes);
+        Ok(read_layout(&mut cursor)?)
+    }
+}
+
+impl Leading for Vec<HeaderField> {
+    ghost Raw = { List HeaderFieldValue };
+
+    ghost raw = { λ header. header.items };
+
+    ghost spelled = { head_bytes };
+
+    ghost InRange = { FitsHead };
+
+    fn take<S: Source>(layout: Layout, window: &mut Window<S>) -> Result<(), TakeFault> {
+        let _held = window.held();
+        match layout {
+            Layout::Version3 => Ok(()),
+            Layout::Version4 => take_header(window),
+        }
+    }
+
+    fn read(alloc: Global, layout: Layout, bytes: &[u8]) -> Result<Vec<HeaderField>, ItemFault> {
+        let mut cursor = FileCursor::new(bytes);
+        read_head(alloc, layout, &mut cursor)
+    }
+}
+
+impl Leading for Principal {
+    ghost Raw = { PrincipalValue };
+
+    ghost raw = { λ name. name };
+
+    ghost spelled = { λ _. name_bytes };
+
+    ghost InRange = { λ _. FitsName };
+
+    fn take<S: Source>(layout: Layout, window: &mut Window<S>) -> Result<(), TakeFault> {
+        take_all::<Principal, _>(layout, window)?;
+        Ok(())
+    }
+
+    fn read(alloc: Global, _: Layout, bytes: &[u8]) -> Result<Principal, ItemFault> {
+        let mut cursor = FileCursor::new(bytes);
+        read_name(alloc, &mut cursor)
+    }
+}
