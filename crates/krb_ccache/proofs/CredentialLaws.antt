@@ -1,7 +1,6 @@
 -- A credential is read as it is spelled: its fields one after another.
 use Rattle.std.proofs.Common.{◌≡◌, ℕ, zero, suc, ◌+◌, ◌<◌, ◌≤◌, ◌^◌, Bool, true, false, eqb, List, ◌++◌, length, Option, Some, None, refl, sym, ap, subst, ◌∙◌, arith}
-use Rattle.std.specs.Int.{w8, w16}
-use Rattle.std.specs.Prelude.{FitsSigned}
+use Rattle.std.specs.Int.{w8}
 use Rattle.std.proofs.lemmas.Bool.{leb-true}
 use Rattle.krb_name.specs.Cursor.{Place, ◌>>=◌, number_bytes}
 use Rattle.krb_name.specs.Field.{IsBytes, Takes, IsField}
@@ -10,12 +9,12 @@ use Rattle.krb_ccache.specs.declared.credential.Credential.{Credential}
 use Rattle.krb_ccache.specs.declared.layout.Layout.{Layout}
 use Rattle.krb_ccache.specs.Spelling.{flag_bytes, marked_bytes}
 use Rattle.krb_ccache.specs.Format.{second_size, Spelled, Spells}
-use Rattle.krb_ccache.specs.Value.{FitsName, FitsList, FitsCredential}
-use Rattle.krb_ccache.specs.Inner.Reading.{made_at, is_flag, allowed, Parts, credential_of, parts_at}
+use Rattle.krb_ccache.specs.Value.{FitsCredential}
+use Rattle.krb_ccache.specs.Inner.Reading.{made_at, is_flag, allowed, Parts, credential_of}
 use Rattle.krb_ccache.specs.Inner.Standing.{bytes_of, spelled_as, Lies, LiesOne, IsMissing}
 use Rattle.krb_ccache.specs.Inner.Walking.{passed_at}
-use Rattle.krb_ccache.proofs.Fields.{IsField-both}
-use Rattle.krb_ccache.proofs.PartLaws.{Below32, Short32, IsField-name, IsField-list, byte_field}
+use Rattle.krb_ccache.proofs.Fields.{Reads, reads, both}
+use Rattle.krb_ccache.proofs.PartLaws.{IsField-name, IsField-list, byte_field}
 use Rattle.krb_ccache.proofs.Repeats.{missing_where}
 use Rattle.krb_ccache.proofs.WalkParts.{passed_some, passed_none}
 
@@ -25,10 +24,6 @@ parts_bytes parts = marked_bytes (credential_of parts) parts.1.1.1.0 (number_byt
 
 abbrev pub spelled_of : Parts → Spelled
 spelled_of parts = record { bytes = parts_bytes parts; credential = credential_of parts }
-
--- a credential, with its bytes
-abbrev pub spelled_at : Layout → Place → Option (Spelled × Place)
-spelled_at layout place = made_at spelled_of (parts_at true layout) place
 
 -- ---- its flag
 
@@ -56,26 +51,32 @@ flag_is_back false = refl
 -- ---- a credential
 
 module _ (strict : Bool) (layout : Layout) where
-  abbrev pub FitsParts : Parts → Type 0
-  FitsParts p =
-      FitsName p.0 × (FitsName p.1.0 × (FitsSigned w16 p.1.1.0 × ((length p.1.1.1.0 ≡ second_size layout) × (Short32 p.1.1.1.1.0 × (Below32 p.1.1.1.1.1.0 × (Below32 p.1.1.1.1.1.1.0 × (Below32 p.1.1.1.1.1.1.1.0 × (Below32 p.1.1.1.1.1.1.1.1.0 × (((p.1.1.1.1.1.1.1.1.1.0 < 2 ^ 8) × (allowed strict (is_flag p.1.1.1.1.1.1.1.1.1.0) ≡ true)) × (Below32 p.1.1.1.1.1.1.1.1.1.1.0 × (FitsList p.1.1.1.1.1.1.1.1.1.1.1.0 × (FitsList p.1.1.1.1.1.1.1.1.1.1.1.1.0 × (Short32 p.1.1.1.1.1.1.1.1.1.1.1.1.1.0 × Short32 p.1.1.1.1.1.1.1.1.1.1.1.1.1.1)))))))))))))
+  -- its fields, in their order
+  abbrev pub fields : Reads Parts
+  fields =
+      both (reads IsField-name) (
+      both (reads IsField-name) (
+      both (reads IsField-i16) (
+      both (reads (IsField-bytes (second_size layout))) (
+      both (reads IsField-data32) (
+      both (reads IsField-u32) (
+      both (reads IsField-u32) (
+      both (reads IsField-u32) (
+      both (reads IsField-u32) (
+      both (reads (byte_field strict)) (
+      both (reads IsField-u32) (
+      both (reads IsField-list) (
+      both (reads IsField-list) (
+      both (reads IsField-data32) (reads IsField-data32))))))))))))))
 
-  pub IsField-parts : IsField (parts_at strict layout) parts_bytes FitsParts
-  IsField-parts =
-      IsField-both _ _ _ IsField-name _ _ _ (
-      IsField-both _ _ _ IsField-name _ _ _ (
-      IsField-both _ _ _ IsField-i16 _ _ _ (
-      IsField-both _ _ _ (IsField-bytes (second_size layout)) _ _ _ (
-      IsField-both _ _ _ IsField-data32 _ _ _ (
-      IsField-both _ _ _ IsField-u32 _ _ _ (
-      IsField-both _ _ _ IsField-u32 _ _ _ (
-      IsField-both _ _ _ IsField-u32 _ _ _ (
-      IsField-both _ _ _ IsField-u32 _ _ _ (
-      IsField-both _ _ _ (byte_field strict) _ _ _ (
-      IsField-both _ _ _ IsField-u32 _ _ _ (
-      IsField-both _ _ _ IsField-list _ _ _ (
-      IsField-both _ _ _ IsField-list _ _ _ (
-      IsField-both _ _ _ IsField-data32 _ _ _ IsField-data32)))))))))))))
+  abbrev pub parts_at : Place → Option (Parts × Place)
+  parts_at place = fields.read place
+
+  abbrev pub FitsParts : Parts → Type 0
+  FitsParts parts = fields.InRange parts
+
+  pub IsField-parts : IsField parts_at parts_bytes FitsParts
+  IsField-parts = fields.field
 
   -- the parts of a credential
   abbrev pub parts_of : Credential → List ℕ → ℕ → Parts
@@ -83,6 +84,10 @@ module _ (strict : Bool) (layout : Layout) where
 
   pub fits_parts : (c : Credential) (second : List ℕ) (mark : ℕ) → FitsCredential c → length second ≡ second_size layout → (mark < 2 ^ 8) × (allowed strict (is_flag mark) ≡ true) → FitsParts (parts_of c second mark)
   fits_parts c second mark h size is_skey = (h.client, (h.server, (h.etype, (size, (h.key, (h.authtime, (h.starttime, (h.endtime, (h.renew_till, (is_skey, (h.ticket_flags, (h.addresses, (h.authdata, (h.ticket, h.second_ticket))))))))))))))
+
+-- a credential, with its bytes
+abbrev pub spelled_at : Layout → Place → Option (Spelled × Place)
+spelled_at layout place = made_at spelled_of (parts_at true layout) place
 
 module _ (layout : Layout) where
   parts_spell : (p : Parts) → FitsParts true layout p → Spells layout (spelled_of p)

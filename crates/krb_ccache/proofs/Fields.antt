@@ -36,6 +36,24 @@ module _ {X Y : Type 0} (read_one : Place → Option (X × Place)) (bytes_one : 
   pub IsField-both : IsField (both_at read_one read_other) (λ x. bytes_one x.0 ++ bytes_other x.1) (λ x. IsOne x.0 × IsOther x.1)
   IsField-both = record { takes = both_take; again = both_again }
 
+-- a way to read things, with how they are spelled and which are in range
+pub record Reads (X : Type 0) : Type 1 where
+  pub read : Place → Option (X × Place)
+  pub bytes : X → List ℕ
+  pub InRange : X → Type 0
+  pub field : IsField read bytes InRange
+
+abbrev pub reads : {X : Type 0} {read : Place → Option (X × Place)} {bytes : X → List ℕ} {InRange : X → Type 0} → IsField read bytes InRange → Reads X
+reads {read = read} {bytes = bytes} {InRange = InRange} field = record { read = read; bytes = bytes; InRange = InRange; field = field }
+
+abbrev pub both : {X Y : Type 0} → Reads X → Reads Y → Reads (X × Y)
+both one other = record {
+  read = both_at one.read other.read;
+  bytes = λ x. one.bytes x.0 ++ other.bytes x.1;
+  InRange = λ x. one.InRange x.0 × other.InRange x.1;
+  field = IsField-both one.read one.bytes one.InRange one.field other.read other.bytes other.InRange other.field;
+}
+
 -- ---- what is made of another
 
 -- a value is made of its parts, and spelled and in range as they are

@@ -24,12 +24,12 @@ use Rattle.krb_ccache.specs.declared.walking.TakeFault.TheVariants as stop
 use Rattle.krb_ccache.specs.Spelling.{fields_bytes, header_bytes, name_bytes, marked_bytes}
 use Rattle.krb_ccache.specs.Value.{FitsHeader, FitsName}
 use Rattle.krb_ccache.specs.Format.{version_of, Spelled, Spells}
-use Rattle.krb_ccache.specs.Inner.Reading.{parts_at, name_at}
+use Rattle.krb_ccache.specs.Inner.Reading.{name_at}
 use Rattle.krb_ccache.specs.Inner.Stepping.{Any, Stands, cleared}
 use Rattle.krb_ccache.specs.Inner.Standing.{bytes_of, IsMissing}
 use Rattle.krb_ccache.specs.Inner.Walking.{Hand, window_hand, window_within, window_lacks, bytes_hand, bytes_within, bytes_lacks, Pass, passed_at, skip_at, pass_none, pass_if, Goes, Stops, IsWhole, Taken, TookFewer, stop_of, Spans, Wants, Walks, Halts, Marked, FitsKeyed, whole}
 use Rattle.krb_ccache.proofs.PartLaws.{IsField-name}
-use Rattle.krb_ccache.proofs.CredentialLaws.{passed_lies, passed_missing, IsField-parts, parts_of, fits_parts, flag_byte, flag_spelled}
+use Rattle.krb_ccache.proofs.CredentialLaws.{passed_lies, passed_missing, parts_at, IsField-parts, parts_of, fits_parts, flag_byte, flag_spelled}
 
 -- ---- a spelling is passed over
 

@@ -142,20 +142,20 @@ impl<S: Source> CredentialReader<S> {
         // No whole credential within the limit is passed over.
         ensures stops { StopsInFile S.remaining self.old result }
 
+        ensures more { self.old.ended ≡ None → IfOk result (λ next. IfSome next (λ credential.
+            GaveOne self.old.layout self.old.given self.new.given credential)) }
         ensures given { Gave (S.remaining self.old.source) (S.remaining self.new.source) self.old self.new }
         ensures limit { self.new.given ≤ file_limit + 1 }
         ensures layout { self.new.layout ≡ self.old.layout }
         ensures header { self.new.header ≡ self.old.header }
         ensures default { self.new.default_principal ≡ self.old.default_principal }
-        ensures more { self.old.ended ≡ None → IfOk result (λ next. IfSome next (λ credential.
-            GaveOne self.old.layout self.old.given self.new.given credential)) }
+        ensures lent { S.lender self.new.source ≡ S.lender self.old.source }
         ensures held { self.old.ended ≡ None → IfOk result (λ next. IfSome next (λ credential.
             self.new.held ≡ max self.old.held (credential_length self.old.layout credential))) }
         ensures part { self.old.ended ≡ None → OnErr result (HeldPart self.old.layout (S.remaining self.old.source)
             (S.remaining self.new.source) self.old.held self.new.held) }
         ensures failed { self.old.ended ≡ None → S.failure_count self.new.source
             ≡ S.failure_count self.old.source + failed_reads result }
-        ensures lent { S.lender self.new.source ≡ S.lender self.old.source }
     {
         if let Some(ended) = self.ended {
             return ended.map(|()| None);
@@ -198,11 +198,11 @@ impl<S: Source> CredentialReader<S> {
         ensures layout { self.new.layout ≡ self.old.layout }
         ensures header { self.new.header ≡ self.old.header }
         ensures default { self.new.default_principal ≡ self.old.default_principal }
+        ensures lent { S.lender self.new.source ≡ S.lender self.old.source }
         ensures part { self.old.ended ≡ None → OnErr result (HeldPart self.old.layout (S.remaining self.old.source)
             (S.remaining self.new.source) self.old.held self.new.held) }
         ensures failed { self.old.ended ≡ None → S.failure_count self.new.source
             ≡ S.failure_count self.old.source + failed_reads result }
-        ensures lent { S.lender self.new.source ≡ S.lender self.old.source }
     {
         if let Some(ended) = self.ended {
             return ended.map(|()| false);

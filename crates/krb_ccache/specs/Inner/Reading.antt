@@ -1,14 +1,13 @@
 -- What is read of the parts of a cache, and the place after it; nothing, if they aren't there.
 use Rattle.std.specs.Prelude.{ℕ, ◌==◌, ◌&&◌, not, Bool, true, ℤ, List, length, Option, Some, None, nat_le, if◌then◌else◌}
 use Rattle.std.specs.Int.{w8, w16, w32}
-use Rattle.krb_name.specs.Cursor.{Place, ◌>>=◌, bytes_at, number_at, signed_at, data_at, times_at}
+use Rattle.krb_name.specs.Cursor.{Place, ◌>>=◌, number_at, signed_at, data_at, times_at}
 use Rattle.krb_name.specs.declared.principal.Principal.{Principal}
 use Rattle.krb_ccache.specs.declared.typed.TypedBytes.{TypedBytes}
 use Rattle.krb_ccache.specs.declared.credential.HeaderField.{HeaderField}
 use Rattle.krb_ccache.specs.declared.credential.Credential.{Credential}
 use Rattle.krb_ccache.specs.declared.layout.Layout.{Layout}
 use Rattle.krb_ccache.specs.declared.layout.Layout.TheVariants.{Version3, Version4}
-use Rattle.krb_ccache.specs.Format.{second_size}
 
 -- ---- ways to join readings
 
@@ -109,20 +108,3 @@ credential_of (client, (server, (etype, (second, (key, (authtime, (starttime, (e
   ticket = ticket;
   second_ticket = second_ticket;
 }
-
-abbrev pub parts_at : Bool → Layout → Place → Option (Parts × Place)
-parts_at strict layout =
-    both_at name_at
-    (both_at name_at
-    (both_at (signed_at w16)
-    (both_at (bytes_at (second_size layout))
-    (both_at (data_at w32)
-    (both_at (number_at w32)
-    (both_at (number_at w32)
-    (both_at (number_at w32)
-    (both_at (number_at w32)
-    (both_at (byte_at strict)
-    (both_at (number_at w32)
-    (both_at list_at
-    (both_at list_at
-    (both_at (data_at w32) (data_at w32))))))))))))))

@@ -2,7 +2,7 @@ use Rattle.std.proofs.Common.{true, false, refl, subst}
 use Rattle.std.proofs.lemmas.Result.{err_from_is_err_and}
 use Rattle.krb_name.specs.Field.{IsBytes}
 use Rattle.krb_ccache.specs.Format.{Spells}
-use Rattle.krb_ccache.specs.Inner.Reading.{parts_at}
+use Rattle.krb_ccache.proofs.CredentialLaws.{parts_at}
 use Rattle.krb_ccache.specs.Inner.Standing.{bytes_of}
 use Rattle.krb_ccache.specs.Inner.Walking.{FitsKeyed, whole, passed_at}
 use Rattle.krb_ccache.proofs.StepLaws.{came, missed, part_walked, part_halted}
