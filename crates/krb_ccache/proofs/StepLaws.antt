@@ -1,5 +1,5 @@
 -- What one step of a reader takes of its source.
-use Rattle.std.proofs.Common.{◌≡◌, ℕ, ◌+◌, ◌≤◌, true, List, [], ◌++◌, length, Option, Some, None, Result, Ok, Err, refl, sym, ap, subst, ◌∙◌, append_assoc, append-nil, arith, inl, inr}
+use Rattle.std.proofs.Common.{◌≡◌, ℕ, ◌+◌, ◌≤◌, Bool, true, List, [], ◌++◌, length, Option, Some, None, Result, Ok, Err, refl, sym, ap, subst, ◌∙◌, append_assoc, append-nil, arith, inl, inr}
 use Rattle.std.specs.Io.KnownBytes.{Consumes}
 use Rattle.std.proofs.KnownBytes.{Consumes-trans, Consumes-nil}
 use Rattle.std.proofs.lemmas.List.{length-append, nil_from_length}
@@ -16,7 +16,7 @@ use Rattle.krb_ccache.specs.Value.{FitsCredential}
 use Rattle.krb_ccache.specs.declared.credential.Credential.{Credential}
 use Rattle.krb_ccache.specs.Inner.Standing.{bytes_of, IsMissing, spelled_as}
 use Rattle.krb_ccache.specs.Inner.Walking.{Walks, Halts, FitsKeyed, whole}
-use Rattle.krb_ccache.specs.Inner.Stepping.{Any, Stands, cleared, Comes, Gives, Runs, IsTold, Lacks, Misses, MissesOne, IsStep, IsAtHand}
+use Rattle.krb_ccache.specs.Inner.Stepping.{Any, Stands, cleared, Comes, Gives, Runs, IsTold, Lacks, Misses, MissesOne, IsStep, IsAtHand, IsNone}
 use Rattle.std.specs.Prelude.{◌≢◌}
 use Rattle.krb_ccache.specs.declared.fault.CacheFault.TheVariants.{BadItem, OutOfMemory}
 use Rattle.krb_ccache.specs.Format.{version_of, head_bytes, FitsHead, second_size, Spelled, Spells}
@@ -147,11 +147,14 @@ module _ (layout : Layout) {S : Type 0} (left : S → Option (List ℕ)) (old mi
   none_came : MissesOne layout left old new told
   none_came = subst (λ (f : CacheFault). Misses bytes_of (Spells layout) left old new f told) (ap BadItem here) (misses bytes_of (Spells layout) left old middle new stop (BadItem at) told halts is_told)
 
-  pub fault_step : (told ≡ BadItem at → new.given ≢ at) → IsStep layout left old new (Err told)
-  fault_step more = (none_came, subst (λ (n : ℕ). told ≡ BadItem n → new.given ≢ n) here more)
-
-  pub end_step : told ≡ BadItem at → new.given ≡ at → IsStep layout left old new (Ok None)
-  end_step is same = (subst (MissesOne layout left old new) (is ∙ ap BadItem here) none_came, same ∙ here)
+  pub none_step : (result : Result Bool CacheFault) → IsNone at new.given told result → (answer : Result (Option Credential) CacheFault) × (result ≡ passed answer) × IsStep layout left old new answer × IsAtHand layout new.bytes answer
+  none_step (Ok there) none = (Ok None, ap (λ (b : Bool). Ok b) none.0, (subst (MissesOne layout left old new) (none.1.0 ∙ ap BadItem here) none_came, none.1.1 ∙ here), tt)
+  none_step (Err fault) none = (
+    Err told,
+    ap (λ (f : CacheFault). Err f) none.0,
+    (none_came, subst (λ (n : ℕ). told ≡ BadItem n → new.given ≢ n) here none.1),
+    tt,
+  )
 
 -- ---- what a step leaves
 

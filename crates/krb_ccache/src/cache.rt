@@ -1,21 +1,21 @@
 //! A credential cache.
 
-ghost use Rattle.std.specs.Prelude.{◌≡◌, ◌≢◌, ◌⊎◌, ◌≤◌, ◌<◌, ◌^◌, ◌-◌, ◌+◌, List, [], All, IsTrue, ◌↔◌, IfOk, IfErr, IfSome, IfNone, OnOk, OnErr, Some, Ok, Err, Result, SomeIff, None, length, map};
+ghost use Rattle.std.specs.Prelude.{◌≡◌, ◌≢◌, ◌⊎◌, ◌≤◌, ◌<◌, ◌^◌, ◌-◌, ◌+◌, List, [], All, IsTrue, ◌↔◌, IfOk, IfErr, IfSome, OnOk, OnErr, Some, Ok, Err, Result, SomeIff, None, length, map};
 ghost use Rattle.krb_name.specs.Field.{IsBytes};
 ghost use Rattle.krb_ccache.specs.Spelling.{name_bytes};
 ghost use Rattle.krb_ccache.specs.Value.{Cache, cache_of, HasLengths, Fits, FitsName, FitsCredential};
 ghost use Rattle.krb_ccache.specs.declared.fault.CacheFault.{CacheFault as CacheFaultValue};
-ghost use Rattle.krb_ccache.specs.Configuration.{HoldsOffset, IsConfiguration};
+ghost use Rattle.krb_ccache.specs.Configuration.{IsConfiguration};
 ghost use Rattle.krb_ccache.specs.Fault.{offset_of, failed_reads};
 ghost use Rattle.krb_name.specs.File.{file_limit, GivesWithin, ReadsFile};
 ghost use Rattle.krb_ccache.specs.Format.{written, Spelled, Spells, IsCache, IsFaultOf, IsAnswerOf};
-ghost use Rattle.krb_ccache.specs.Offset.{clock_offset};
+ghost use Rattle.krb_ccache.specs.Offset.{IsOffsetOf};
 ghost use Rattle.krb_ccache.specs.Reader.{GaveCache, GaveFault};
 ghost use Rattle.krb_ccache.specs.Inner.Room.{Leaves};
 ghost use Rattle.krb_ccache.specs.Inner.Standing.{bytes_of, Lies, LiesOne, Reaches, IsMissing, StopsBy};
 
 use crate::checking::check;
-use crate::configuration::{first_offset, is_entry};
+use crate::configuration::{is_entry, offset_in};
 use crate::credential::{Credential, HeaderField};
 use crate::fault::CacheFault;
 use crate::fits::header_fits;
@@ -203,11 +203,9 @@ impl CCache {
     /// Returns the KDC's clock offset, in seconds and microseconds: that of the header's first
     /// field of tag 1. Returns `None` if there is no such field.
     pub fn kdc_offset(&self) -> Option<(i32, i32)>
-        ensures some { IfSome result (λ offset. HoldsOffset self.now.header offset.0 offset.1) }
-        ensures none { IfNone result (All (λ field. field.tag ≢ 1) self.now.header) }
-        ensures computed { result ≡ clock_offset self.now.header }
+        ensures { IsOffsetOf self.now.header result }
     {
-        first_offset(self.header.as_slice())
+        offset_in(self.header.as_slice())
     }
 
     /// Returns whether `credential` is a configuration entry: its server's realm is `X-CACHECONF:`

@@ -2,6 +2,7 @@
 
 ghost use Rattle.std.specs.Prelude.{◌≡◌, ◌≢◌, ◌↔◌, All, IsTrue, IfNone, IfSome, codes, length};
 ghost use Rattle.krb_ccache.specs.Configuration.{IsOffset, HoldsOffset, BeginsWith, IsConfiguration};
+ghost use Rattle.krb_ccache.specs.Offset.{IsOffsetOf};
 
 use crate::credential::{Credential, HeaderField};
 use crate::header::OFFSET_TAG;
@@ -13,7 +14,14 @@ const CONFIGURATION_REALM: &[u8] = b"X-CACHECONF:";
 const CONFIGURATION_NAME: &[u8] = b"krb5_ccache_conf_data";
 
 /// Returns the clock offset that the first field of tag 1 holds.
-pub(crate) fn first_offset(header: &[HeaderField]) -> Option<(i32, i32)>
+pub(crate) fn offset_in(header: &[HeaderField]) -> Option<(i32, i32)>
+    requires { All (λ field. field.tag ≡ 1 → length field.value ≡ 8) header.now }
+    ensures { IsOffsetOf header.now result }
+{
+    first_offset(header)
+}
+
+fn first_offset(header: &[HeaderField]) -> Option<(i32, i32)>
     requires { All (λ field. field.tag ≡ 1 → length field.value ≡ 8) header.now }
     ensures some { IfSome result (λ offset. HoldsOffset header.now offset.0 offset.1) }
     ensures none { IfNone result (All (λ field. field.tag ≢ 1) header.now) }

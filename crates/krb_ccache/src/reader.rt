@@ -1,17 +1,17 @@
 //! A reader that returns the credentials of a cache one at a time.
 
-ghost use Rattle.std.specs.Prelude.{◌≡◌, ◌≢◌, ◌+◌, ◌-◌, ◌^◌, ◌<◌, ◌≤◌, ◌↔◌, ℕ, true, false, List, [], max, length, All, IsTrue, IfOk, IfErr, IfSome, IfNone, MatchResult, OnErr, Option, Ok, Err, None};
-ghost use Rattle.krb_ccache.specs.Configuration.{HoldsOffset, IsConfiguration};
+ghost use Rattle.std.specs.Prelude.{◌≡◌, ◌+◌, ◌-◌, ◌^◌, ◌<◌, ◌≤◌, ◌↔◌, ℕ, true, false, List, [], max, length, IsTrue, IfOk, IfErr, IfSome, MatchResult, OnErr, Option, Ok, Err, None};
+ghost use Rattle.krb_ccache.specs.Configuration.{IsConfiguration};
 ghost use Rattle.krb_ccache.specs.Fault.{failed_reads};
 ghost use Rattle.krb_name.specs.File.{file_limit, TakesFile, GivesWithin};
 ghost use Rattle.krb_ccache.specs.Format.{head_bytes, credential_length};
-ghost use Rattle.krb_ccache.specs.Offset.{clock_offset};
+ghost use Rattle.krb_ccache.specs.Offset.{IsOffsetOf};
 ghost use Rattle.krb_ccache.specs.Reader.{ended_by as ended_by_answer, ended_passed, passed, last_answer, with_credential, HasRead, Gave, GaveOne, PassedOne, HeldPart, StaysAtEnd, GaveFault, EndsFile, HasFileFault, StopsInFile};
 ghost use Rattle.krb_ccache.specs.Spelling.{name_bytes};
 ghost use Rattle.krb_ccache.specs.Value.{Cache, cache_of};
 ghost use Rattle.krb_ccache.specs.declared.credential.Credential.{Credential as CredentialValue};
 
-use crate::configuration::{first_offset, is_entry};
+use crate::configuration::{is_entry, offset_in};
 use crate::credential::{Credential, HeaderField};
 use crate::fault::CacheFault;
 use crate::layout::Layout;
@@ -253,11 +253,9 @@ impl<S: Source> CredentialReader<S> {
 
     /// Returns the KDC's clock offset, as `CCache::kdc_offset` does.
     pub fn kdc_offset(&self) -> Option<(i32, i32)>
-        ensures some { IfSome result (λ offset. HoldsOffset self.now.header offset.0 offset.1) }
-        ensures none { IfNone result (All (λ field. field.tag ≢ 1) self.now.header) }
-        ensures computed { result ≡ clock_offset self.now.header }
+        ensures { IsOffsetOf self.now.header result }
     {
-        first_offset(self.header.as_slice())
+        offset_in(self.header.as_slice())
     }
 
     /// Returns whether `credential` is a configuration entry, as `CCache::is_configuration` does.

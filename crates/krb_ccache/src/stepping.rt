@@ -1,6 +1,6 @@
 //! Reading the parts of a cache from a source, one at a time.
 
-ghost use Rattle.std.specs.Prelude.{All, Option, ℕ, List, [], length, max, ◌≡◌, ◌≢◌, ◌+◌, ◌-◌, ◌≤◌, ◌<◌, ◌^◌, IfOk, IfErr, OnOk, OnErr, Result, Err};
+ghost use Rattle.std.specs.Prelude.{All, Option, ℕ, List, [], length, max, ◌≡◌, ◌+◌, ◌-◌, ◌≤◌, ◌<◌, ◌^◌, IfOk, IfErr, OnOk, OnErr, Result, Err};
 ghost use Rattle.krb_name.specs.Field.{IsBytes};
 ghost use Rattle.krb_ccache.specs.Fault.{failed_reads};
 ghost use Rattle.krb_name.specs.File.{file_limit, GivesWithin};
@@ -11,10 +11,11 @@ ghost use Rattle.krb_ccache.specs.Value.{cache_of, FitsHeader, FitsName, FitsCre
 ghost use Rattle.krb_name.specs.declared.principal.Principal.{Principal as PrincipalValue};
 ghost use Rattle.krb_ccache.specs.declared.credential.Credential.{Credential as CredentialValue};
 ghost use Rattle.krb_ccache.specs.declared.credential.HeaderField.{HeaderField as HeaderFieldValue};
+ghost use Rattle.krb_ccache.specs.declared.fault.CacheFault.{CacheFault as CacheFaultValue};
 ghost use Rattle.krb_ccache.specs.declared.fault.CacheFault.TheVariants.{BadItem};
 ghost use Rattle.krb_ccache.specs.Inner.Standing.{bytes_of};
-ghost use Rattle.krb_ccache.specs.Inner.Walking.{Halts, stop_reads, stopped_reads};
-ghost use Rattle.krb_ccache.specs.Inner.Stepping.{Stands, cleared, Comes, IsTold, Misses, IsStep, IsAtHand};
+ghost use Rattle.krb_ccache.specs.Inner.Walking.{stop_reads};
+ghost use Rattle.krb_ccache.specs.Inner.Stepping.{Stands, Comes, IsTold, IsNone, Misses, IsStep, IsAtHand};
 
 use crate::credential::{Credential, HeaderField, Row};
 use crate::fault::CacheFault;
@@ -49,27 +50,6 @@ fn credential_of(alloc: Global, layout: Layout, bytes: &[u8]) -> Result<Credenti
         Err(ItemFault::Missing) => unreachable!(),
         Err(ItemFault::OutOfMemory) => Err(AllocError),
     }
-}
-
-// Takes the bytes of a credential, and no more, and answers only whether they are one.
-fn come_past<S: Source>(layout: Layout, window: &mut Window<S>) -> Result<(), TakeFault>
-    requires reads { S.failure_count window.old.source < 2 ^ 64 - 1 }
-    requires within { window.old.given ≤ file_limit }
-    ensures comes { OnOk result ((one : Spelled)
-        × Comes bytes_of (Spells layout) S.remaining window.old window.new one
-        × Stands bytes_of (Spells layout) window.new.bytes one) }
-    ensures halts { IfErr result
-        (Halts bytes_of (Spells layout) S.remaining (cleared window.old) window.new) }
-    ensures part { HeldPart layout (S.remaining window.old.source) (S.remaining window.new.source)
-        window.old.peak window.new.peak }
-    ensures failed { S.failure_count window.new.source
-        ≡ S.failure_count window.old.source + stopped_reads result }
-    ensures lent { S.lender window.new.source ≡ S.lender window.old.source }
-{
-    window.clear();
-    let good = take_all::<Row, _>(layout, window)?;
-    are_bytes(window.bytes());
-    if good { Ok(()) } else { Err(TakeFault::Long) }
 }
 
 // States that each byte is one, which a proof knows when it is passed them.
@@ -197,23 +177,38 @@ pub(crate) fn step_past<S: Source>(
     ensures lent { S.lender window.new.source ≡ S.lender window.old.source }
 {
     let at = window.given();
-    match come_past(layout, window) {
-        Ok(()) => Ok(true),
-        Err(stop) => {
-            let fault = told(window, stop, CacheFault::BadItem { at });
-            end_or(fault, at, window.given())?;
-            Ok(false)
+    window.clear();
+    match take_all::<Row, _>(layout, window) {
+        Ok(good) => {
+            are_bytes(window.bytes());
+            if good {
+                Ok(true)
+            } else {
+                none_past(window, TakeFault::Long, at)
+            }
         }
+        Err(stop) => none_past(window, stop, at),
     }
 }
 
-// Whether the credentials have ended, if none came at an offset: no byte is there. Else a fault.
-fn end_or(fault: CacheFault, at: usize, given: usize) -> Result<(), CacheFault>
-    ensures end { OnOk result ((fault ≡ BadItem at) × (given ≡ at)) }
-    ensures fault { IfErr result (λ answer. (answer ≡ fault) × (fault ≡ BadItem at → given ≢ at)) }
+// Answers that no credential came at an offset: the credentials have ended if no byte is there. Else
+// a fault.
+fn none_past<S: Source>(
+    window: &mut Window<S>,
+    stop: TakeFault,
+    at: usize,
+) -> Result<bool, CacheFault>
+    requires reads { stop ≡ TakeFault.Long → S.failure_count window.old.source < 2 ^ 64 - 1 }
+    requires within { window.old.given ≤ file_limit }
+    ensures none { (told : CacheFaultValue) × IsTold S.remaining window.old window.new stop (BadItem at) told
+        × IsNone at window.new.given told result }
+    ensures failed { S.failure_count window.new.source + stop_reads stop
+        ≡ S.failure_count window.old.source + failed_reads result }
+    ensures lent { S.lender window.new.source ≡ S.lender window.old.source }
 {
-    if fault == (CacheFault::BadItem { at }) && given == at {
-        Ok(())
+    let fault = told(window, stop, CacheFault::BadItem { at });
+    if fault == (CacheFault::BadItem { at }) && window.given() == at {
+        Ok(false)
     } else {
         Err(fault)
     }

@@ -1,5 +1,5 @@
 -- What one step of a reader takes of a source and leaves at hand.
-use Rattle.std.specs.Prelude.{◌≡◌, ◌≢◌, ◌⊎◌, ℕ, ◌+◌, ◌<◌, ◌≤◌, max, List, [], ◌++◌, length, Option, Some, None, Result, Ok, Err}
+use Rattle.std.specs.Prelude.{◌≡◌, ◌≢◌, ◌⊎◌, ℕ, ◌+◌, ◌<◌, ◌≤◌, max, Bool, false, List, [], ◌++◌, length, Option, Some, None, Result, Ok, Err}
 use Rattle.std.specs.Io.KnownBytes.{Consumes, IsAtEnd}
 use Rattle.krb_name.specs.Window.{AtHand, Skips}
 use Rattle.krb_ccache.specs.declared.credential.Credential.{Credential}
@@ -89,3 +89,8 @@ IsStep layout left old new (Err fault) = MissesOne layout left old new fault × 
 abbrev pub IsAtHand : Layout → List ℕ → Result (Option Credential) CacheFault → Type 0
 IsAtHand layout bytes (Ok (Some credential)) = (front : List ℕ) × Stands bytes_of (Spells layout) bytes (spelled_as front credential)
 IsAtHand layout bytes _ = Unit {0}
+
+-- what is answered where no credential came: that there is none, if no byte is there; else a fault
+abbrev pub IsNone : ℕ → ℕ → CacheFault → Result Bool CacheFault → Type 0
+IsNone at given told (Ok there) = (there ≡ false) × ((told ≡ BadItem at) × (given ≡ at))
+IsNone at given told (Err fault) = (fault ≡ told) × (told ≡ BadItem at → given ≢ at)
