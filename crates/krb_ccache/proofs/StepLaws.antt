@@ -1,7 +1,7 @@
 -- What one step of a reader takes of its source.
 use Rattle.std.proofs.Common.{◌≡◌, ℕ, ◌+◌, ◌≤◌, Bool, true, List, [], ◌++◌, length, Option, Some, None, Result, Ok, Err, refl, sym, ap, subst, ◌∙◌, append_assoc, append-nil, arith, inl, inr}
 use Rattle.std.specs.Io.KnownBytes.{Consumes}
-use Rattle.std.proofs.KnownBytes.{Consumes-trans, Consumes-nil}
+use Rattle.std.proofs.KnownBytes.{Consumes-trans}
 use Rattle.std.proofs.lemmas.List.{length-append, nil_from_length}
 use Rattle.krb_name.specs.Cursor.{Place}
 use Rattle.krb_name.specs.Window.{AtHand, Keeps}
@@ -11,7 +11,6 @@ use Rattle.krb_ccache.specs.declared.walking.TakeFault.{TakeFault}
 use Rattle.krb_ccache.specs.declared.walking.TakeFault.TheVariants as stop
 use Rattle.krb_ccache.specs.Reader.{HeldPart, passed}
 use Rattle.krb_ccache.specs.declared.layout.Layout.{Layout}
-use Rattle.krb_ccache.specs.declared.layout.Layout.TheVariants.{Version3}
 use Rattle.krb_ccache.specs.Value.{FitsCredential}
 use Rattle.krb_ccache.specs.declared.credential.Credential.{Credential}
 use Rattle.krb_ccache.specs.Inner.Standing.{bytes_of, IsMissing, spelled_as}
@@ -219,16 +218,6 @@ module _ {X : Type 0} (r : Place → Option (X × Place)) (s : X → List ℕ) (
 
   pub field_missing : (bytes : List ℕ) (place : Place) → place ≡ record { at = 0; rest = bytes } → r place ≡ None → IsMissing s P bytes
   field_missing bytes place e none = missing_where r s P f (record { at = 0; rest = bytes }) (subst (λ (p : Place). r p ≡ None) e none)
-
--- ---- no header
-
-pub no_head_walks : {S : Type 0} (left : S → Option (List ℕ)) (old : AtHand S) → length old.bytes ≤ old.peak → old.given ≤ file_limit → Walks (head_bytes Version3) (FitsHead Version3) left old old
-no_head_walks left old held within = record {
-  piece = [];
-  keeps = record { consumed = Consumes-nil (left old.source); bytes = sym (append-nil old.bytes); peak = omega (arith, held); given = omega arith };
-  within = within;
-  spans = λ x more others p e. refl;
-}
 
 -- ---- how much of a credential was at hand
 

@@ -23,12 +23,13 @@ use Rattle.krb_ccache.specs.declared.walking.TakeFault.{TakeFault}
 use Rattle.krb_ccache.specs.declared.walking.TakeFault.TheVariants as stop
 use Rattle.krb_ccache.specs.Spelling.{fields_bytes, header_bytes, name_bytes, marked_bytes}
 use Rattle.krb_ccache.specs.Value.{FitsHeader, FitsName}
-use Rattle.krb_ccache.specs.Format.{version_of, Spelled, Spells}
+use Rattle.krb_ccache.specs.Format.{version_of, head_bytes, FitsHead, Spelled, Spells}
 use Rattle.krb_ccache.specs.Inner.Reading.{name_at}
 use Rattle.krb_ccache.specs.Inner.Stepping.{Any, Stands, cleared}
 use Rattle.krb_ccache.specs.Inner.Standing.{bytes_of, IsMissing}
-use Rattle.krb_ccache.specs.Inner.Walking.{Hand, window_hand, window_within, window_lacks, bytes_hand, bytes_within, bytes_lacks, Pass, passed_at, skip_at, pass_none, pass_if, Goes, Stops, IsWhole, Taken, TookFewer, stop_of, Spans, Wants, Walks, Halts, Marked, FitsKeyed, whole}
+use Rattle.krb_ccache.specs.Inner.Walking.{Hand, window_hand, window_within, window_lacks, bytes_hand, bytes_within, bytes_lacks, Pass, passed_at, skip_at, pass_none, pass_if, Goes, Stops, IsWhole, IsTaken, Taken, TookFewer, stop_of, Spans, Wants, Walks, Halts, Marked, FitsKeyed, whole}
 use Rattle.krb_ccache.proofs.PartLaws.{IsField-name}
+use Rattle.krb_ccache.proofs.WalkLaws.{bytes_goes, bytes_stops}
 use Rattle.krb_ccache.proofs.CredentialLaws.{passed_lies, passed_missing, parts_at, IsField-parts, parts_of, fits_parts, flag_byte, flag_spelled}
 
 -- ---- a spelling is passed over
@@ -116,13 +117,31 @@ module _ {Y : Type 0} (pass : Pass) (s : Y → List ℕ) (P : Y → Type 0) (pas
       cant_come = h.lacks;
     }
 
-    pub ok_walks : (result : Result (Unit {0}) TakeFault) → IsWhole pass window_within window_lacks (window_hand left old) (window_hand left new) result → OnOk result (Walks s P left old new)
-    ok_walks (Ok x) w = walks_of w
-    ok_walks (Err stop) w = tt
+-- what comes before the default principal
+module _ {S : Type 0} (left : S → Option (List ℕ)) (old new : AtHand S) where
+  pub version_walks : (result : Result (Unit {0}) TakeFault) → IsTaken window_within window_lacks 2 (window_hand left old) (window_hand left new) result → OnOk result (Walks version_of Any left old new)
+  version_walks (Ok x) t = walks_of (skip_at 2) version_of Any version_passes left old new (bytes_goes _ 2 _ _ t)
+  version_walks (Err stop) t = tt
 
-    pub err_halts : (result : Result (Unit {0}) TakeFault) → IsWhole pass window_within window_lacks (window_hand left old) (window_hand left new) result → IfErr result (Halts s P left old new)
-    err_halts (Ok x) w = tt
-    err_halts (Err stop) w = halts_of stop w
+  pub version_halts : (result : Result (Unit {0}) TakeFault) → IsTaken window_within window_lacks 2 (window_hand left old) (window_hand left new) result → IfErr result (Halts version_of Any left old new)
+  version_halts (Ok x) t = tt
+  version_halts (Err stop) t = halts_of (skip_at 2) version_of Any version_passes left old new stop (bytes_stops _ _ 2 _ _ stop t)
+
+  pub header_walks : (result : Result (Unit {0}) TakeFault) → IsWhole (passed_at (data_at w16)) window_within window_lacks (window_hand left old) (window_hand left new) result → OnOk result (Walks (head_bytes Version4) (FitsHead Version4) left old new)
+  header_walks (Ok x) w = walks_of (passed_at (data_at w16)) header_bytes FitsHeader header_passes left old new w
+  header_walks (Err stop) w = tt
+
+  pub header_halts : (result : Result (Unit {0}) TakeFault) → IsWhole (passed_at (data_at w16)) window_within window_lacks (window_hand left old) (window_hand left new) result → IfErr result (Halts (head_bytes Version4) (FitsHead Version4) left old new)
+  header_halts (Ok x) w = tt
+  header_halts (Err stop) w = halts_of (passed_at (data_at w16)) header_bytes FitsHeader header_passes left old new stop w
+
+  pub no_header_walks : length old.bytes ≤ old.peak → old.given ≤ file_limit → Walks (head_bytes Version3) (FitsHead Version3) left old old
+  no_header_walks held within = record {
+    piece = [];
+    keeps = record { consumed = Consumes-nil (left old.source); bytes = sym (append-nil old.bytes); peak = omega (arith, held); given = omega arith };
+    within = within;
+    spans = λ x more others p e. refl;
+  }
 
 -- what was asked of a source
 module _ {S : Type 0} (left : S → Option (List ℕ)) (old new : AtHand S) (count : ℕ) where

@@ -64,9 +64,9 @@ impl Leading for Layout {
 
     ghost InRange = { λ _. Any };
 
+    #[tactic(auto, using(crate::proofs::WalkEnds::version_walks, crate::proofs::WalkEnds::version_halts))]
     fn take<S: Source>(_: Layout, window: &mut Window<S>) -> Result<(), TakeFault> {
-        window.take(2)?;
-        Ok(())
+        window.take(2)
     }
 
     fn read(_: Global, _: Layout, bytes: &[u8]) -> Result<Layout, ItemFault> {
@@ -84,6 +84,7 @@ impl Leading for Vec<HeaderField> {
 
     ghost InRange = { FitsHead };
 
+    #[tactic(auto, using(crate::proofs::WalkEnds::header_walks, crate::proofs::WalkEnds::header_halts, crate::proofs::WalkEnds::no_header_walks))]
     fn take<S: Source>(layout: Layout, window: &mut Window<S>) -> Result<(), TakeFault> {
         let _held = window.held();
         match layout {
