@@ -126,14 +126,14 @@ module _ {S : Type 0} (left : S → Option (List ℕ)) where
         (λ bytes within total is missing. subst (IsFaultOf (version_of layout ++ bytes)) (sym is) (record { limit = within; layout = layout; behind = bytes; bytes_are = refl; missing = λ header others p e. missing header others p e }))
 
     -- behind the header
-    pub name_fault : (old first middle new : AtHand S) (header : List HeaderField) (told : CacheFault) → old.given ≡ 0 → Comes version_of Any left old first layout → Comes (head_bytes layout) (FitsHead layout) left first middle header
-        → Misses name_bytes FitsName left middle new (BadItem middle.given) told → GaveFault (left old.source) (left new.source) told
-    name_fault old first middle new header told start v h m memory read =
+    pub name_fault : (old first middle new : AtHand S) (header : List HeaderField) (fault told : CacheFault) → old.given ≡ 0 → Comes version_of Any left old first layout → Comes (head_bytes layout) (FitsHead layout) left first middle header
+        → Misses name_bytes FitsName left middle new fault told → fault ≡ BadItem middle.given → GaveFault (left old.source) (left new.source) told
+    name_fault old first middle new header fault told start v h m place memory read =
         let s : List ℕ = start_bytes layout header in
         let at : middle.given ≡ length s = omega (arith, start, v.given, h.given, length-append (version_of layout) (head_bytes layout header)) in
-        faulty name_bytes FitsName (left old.source) middle new s (BadItem middle.given) told
+        faulty name_bytes FitsName (left old.source) middle new s fault told
         (Consumes-trans (left old.source) (left first.source) (left middle.source) (version_of layout) (head_bytes layout header) v.consumed h.consumed) at m memory read
-        (λ bytes within total is missing. subst (IsFaultOf (s ++ bytes)) (sym is)
+        (λ bytes within total is missing. subst (IsFaultOf (s ++ bytes)) (sym (is ∙ place))
         (inl (record { limit = within; layout = layout; header = header; behind = bytes; header_fits = h.fits; bytes_are = refl; at_is = at; missing = λ name others p e. missing name others p e })))
 
     -- ---- a start and whole credentials

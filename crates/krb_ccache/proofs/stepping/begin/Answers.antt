@@ -1,10 +1,10 @@
-use Rattle.std.proofs.Common.{ℕ, subst}
+use Rattle.std.proofs.Common.{rules}
 use Rattle.std.proofs.lemmas.Result.{err_from_is_err_and}
 use Rattle.krb_ccache.specs.Spelling.{name_bytes}
 use Rattle.krb_ccache.specs.Value.{FitsName}
 use Rattle.krb_ccache.specs.Format.{version_of, head_bytes, FitsHead}
-use Rattle.krb_ccache.specs.declared.fault.CacheFault.TheVariants.{Version, Header, BadItem}
-use Rattle.krb_ccache.specs.Inner.Stepping.{Any, Misses}
+use Rattle.krb_ccache.specs.declared.fault.CacheFault.TheVariants.{Version, Header}
+use Rattle.krb_ccache.specs.Inner.Stepping.{Any}
 use Rattle.krb_name.proofs.FileLaws.{gives_then}
 use Rattle.krb_ccache.proofs.StepLaws.{comes_gives, misses_gives, head_gives}
 use Rattle.krb_ccache.proofs.ReaderLaws.{version_fault, header_fault, name_fault, begun, begun_peak}
@@ -24,8 +24,7 @@ returns-in_err-header-clause-fault g c =
 pub returns-in_err-default_principal-clause-fault : goal.returns-in_err-default_principal-clause-fault
 returns-in_err-default_principal-clause-fault g c =
     let p = err_from_is_err_and c.from_residual-in_err-default_principal.result c.from_residual-in_err-default_principal.ensures.1 in
-    rw (p.1, p.2) (name_fault g.S.Source.remaining c.in_ok-layout.layout c.args.window.now c.come.new.window c.come-2.new.window c.come-3.new.window c.in_ok-header.header.items c.in_err-default_principal.field-0.0 c.requires.start c.in_ok-layout.ensures.comes c.in_ok-header.ensures.comes
-    (subst (λ (at : ℕ). Misses name_bytes FitsName g.S.Source.remaining c.come-2.new.window c.come-3.new.window (BadItem at) c.in_err-default_principal.field-0.0) c.given-at.ensures c.in_err-default_principal.ensures.misses))
+    rw (p.1, p.2) (name_fault g.S.Source.remaining c.in_ok-layout.layout c.args.window.now c.come.new.window c.come-2.new.window c.come-3.new.window c.in_ok-header.header.items _ c.in_err-default_principal.field-0.0 c.requires.start c.in_ok-layout.ensures.comes c.in_ok-header.ensures.comes c.in_err-default_principal.ensures.misses (search rules))
 
 pub returns-clause-taken : goal.returns-clause-taken
 returns-clause-taken g c = begun g.S.Source.remaining c.in_ok-layout.layout c.args.window.now c.come.new.window c.come-2.new.window c.come-3.new.window c.in_ok-header.header.items c.in_ok-default_principal.default_principal c.requires.start c.in_ok-layout.ensures.comes c.in_ok-header.ensures.comes c.in_ok-default_principal.ensures.comes
@@ -45,7 +44,7 @@ returns-in_err-header-clause-gave g c =
 pub returns-in_err-default_principal-clause-gave : goal.returns-in_err-default_principal-clause-gave
 returns-in_err-default_principal-clause-gave g c =
     head_gives g.S.Source.remaining c.in_ok-layout.layout c.args.window.now c.come.new.window c.come-2.new.window c.come-3.new.window c.in_ok-header.header.items c.in_ok-layout.ensures.comes c.in_ok-header.ensures.comes
-    (misses_gives name_bytes FitsName g.S.Source.remaining c.come-2.new.window c.come-3.new.window (BadItem c.given-at.result) c.in_err-default_principal.field-0.0 c.in_err-default_principal.ensures.misses)
+    (misses_gives name_bytes FitsName g.S.Source.remaining c.come-2.new.window c.come-3.new.window _ c.in_err-default_principal.field-0.0 c.in_err-default_principal.ensures.misses)
 
 pub returns-clause-gave : goal.returns-clause-gave
 returns-clause-gave g c =
