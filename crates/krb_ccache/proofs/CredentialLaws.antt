@@ -91,25 +91,11 @@ spelled_at layout place = made_at spelled_of (parts_at true layout) place
 
 module _ (layout : Layout) where
   parts_spell : (p : Parts) → FitsParts true layout p → Spells layout (spelled_of p)
-  parts_spell p (client, (server, (etype, (size, (key, (authtime, (starttime, (endtime, (renew_till, (is_skey, (ticket_flags, (addresses, (authdata, (ticket, second_ticket)))))))))))))) = record {
-    fits = record {
-      client = client;
-      server = server;
-      etype = etype;
-      key = key;
-      authtime = authtime;
-      starttime = starttime;
-      endtime = endtime;
-      renew_till = renew_till;
-      ticket_flags = ticket_flags;
-      addresses = addresses;
-      authdata = authdata;
-      ticket = ticket;
-      second_ticket = second_ticket;
-    };
+  parts_spell p h = record {
+    fits = assumption;
     second = p.1.1.1.0;
-    size = size;
-    bytes_are = ap (marked_bytes (credential_of p) p.1.1.1.0) (flag_is p.1.1.1.1.1.1.1.1.1.0 is_skey.1);
+    size = h.1.1.1.0;
+    bytes_are = ap (marked_bytes (credential_of p) p.1.1.1.0) (flag_is p.1.1.1.1.1.1.1.1.1.0 h.1.1.1.1.1.1.1.1.1.0.1);
   }
 
   spelled_take : (place : Place) (one : Spelled) (behind : Place) → IsBytes place.rest → spelled_at layout place ≡ Some (one, behind) → Takes place one.bytes behind × Spells layout one

@@ -143,6 +143,14 @@ module _ {S : Type 0} (left : S → Option (List ℕ)) (old new : AtHand S) wher
     spans = λ x more others p e. refl;
   }
 
+-- a credential: its bytes, and those of one with any byte for its flag
+module _ (layout : Layout) {S : Type 0} (left : S → Option (List ℕ)) (old new : AtHand S) where
+  pub one_walks : Goes (passed_at (parts_at false layout)) pass_none window_within (window_hand left old) (window_hand left new) → Walks bytes_of (Spells layout) left old new × Walks whole (FitsKeyed layout) left old new
+  one_walks w = (walks_of (passed_at (parts_at false layout)) bytes_of (Spells layout) (spelled_passes layout) left old new w, walks_of (passed_at (parts_at false layout)) whole (FitsKeyed layout) (whole_passes layout) left old new w)
+
+  pub one_halts : (stop : TakeFault) → Stops (passed_at (parts_at false layout)) window_within window_lacks (window_hand left old) (window_hand left new) stop → Halts bytes_of (Spells layout) left old new stop × Halts whole (FitsKeyed layout) left old new stop
+  one_halts stop h = (halts_of (passed_at (parts_at false layout)) bytes_of (Spells layout) (spelled_passes layout) left old new stop h, halts_of (passed_at (parts_at false layout)) whole (FitsKeyed layout) (whole_passes layout) left old new stop h)
+
 -- what was asked of a source
 module _ {S : Type 0} (left : S → Option (List ℕ)) (old new : AtHand S) (count : ℕ) where
   keeps_hand : (piece : List ℕ) → Keeps (left old.source) (left new.source) old new piece → Keeps (left old.source) (left new.source) (window_hand left old) (window_hand left new) piece

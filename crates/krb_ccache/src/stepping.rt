@@ -220,8 +220,8 @@ pub(crate) fn steps<S: Source>(
     layout: Layout,
     window: &mut Window<S>,
 ) -> Result<Vec<Credential>, CacheFault>
-    requires reads { S.failure_count window.old.source < 2 ^ 64 - 1 }
     requires within { window.old.given ≤ file_limit }
+    requires reads { S.failure_count window.old.source < 2 ^ 64 - 1 }
     ensures end { IfOk result (λ credentials.
         (from : Option (List ℕ)) (header : List HeaderFieldValue) (name : PrincipalValue)
         → HasTaken layout from (S.remaining window.old.source) window.old.given (cache_of header name [])
