@@ -1,5 +1,5 @@
 -- How a walk goes over the parts of a cache.
-use Rattle.std.proofs.Common.{◌≡◌, ℕ, zero, suc, ◌+◌, ◌≤◌, ℤ, Bool, true, false, cond, List, ◌∷◌, Option, Some, None, Result, Ok, Err, length, refl, sym, ap, ◌∙◌}
+use Rattle.std.proofs.Common.{◌≡◌, ℕ, zero, suc, ◌+◌, ◌≤◌, ℤ, Bool, true, false, cond, List, ◌∷◌, Option, Some, None, Result, Ok, Err, IfOk, length, refl, sym, ap, subst, ◌∙◌}
 use Rattle.std.specs.Prelude.{◌&&◌}
 use Rattle.std.specs.Int.{Width, w8, w16, w32, byte_len, from_be_bytes, cast_signed}
 use Rattle.krb_name.specs.Cursor.{Place, ◌>>=◌, bytes_at, number_at, signed_at, data_at, times_at}
@@ -183,6 +183,10 @@ module _ (Within : Hand → Type 0) (Lacks : TakeFault → Hand → ℕ → Type
       left_stops : (old new : Hand) (stop : TakeFault) → Stops (and_then (skip_at left.skip) q) Within Lacks old new stop → Stops (and_then (left_at strict left) p) Within Lacks old new stop
       left_stops old new stop h = stops_guarded Within Lacks passes (skip_at left.skip) p old new stop (stops_same Within Lacks _ _ old new stop part_same h)
 
+      left_walk : (old new : Hand) (result : Result Left TakeFault) → IfOk result (λ next. next.good ≡ left.good) → IsWalk (and_then (skip_at left.skip) q) (λ next. skip_at next.skip) Within Lacks old new result → IsWalk (and_then (left_at strict left) p) (left_at strict) Within Lacks old new result
+      left_walk old new (Ok next) good g = subst (λ (b : Bool). Goes (and_then (left_at strict left) p) (left_at strict (record { skip = next.skip; good = b })) Within old new) (sym good) (left_goes next.skip old new g)
+      left_walk old new (Err stop) good h = left_stops old new stop h
+
     -- bytes after their length
 
     pub data_goes : (last : ℕ) (old new : Hand) → Taken Within (left.skip + 4) old new → last ≡ last_number w32 left.skip old.bytes new.bytes → Goes (and_then (left_at strict left) (passed_at (data_at w32))) (left_at strict (behind_part last)) Within old new
@@ -200,11 +204,9 @@ module _ (Within : Hand → Type 0) (Lacks : TakeFault → Hand → ℕ → Type
       counted : Goes (and_then (skip_at left.skip) (pass_number w32 from_length)) (and_then (skip_at 0) (from_length count)) Within old middle
       counted = goes_same Within _ _ _ _ old middle (λ place. refl) (λ place. sym (none_skipped (from_length count) place)) (number_goes Within w32 left.skip from_length old middle count t is)
 
-      pub list_goes : (last : ℕ) → Goes (and_then (skip_at 0) (from_length count)) (skip_at last) Within middle new → Goes (and_then (left_at strict left) (passed_at list_at)) (left_at strict (behind_part last)) Within old new
-      list_goes last g = left_goes _ _ list_passed last old new (goes_then Within _ _ _ old middle new counted g)
-
-      pub list_stops : (stop : TakeFault) → Stops (and_then (skip_at 0) (from_length count)) Within Lacks middle new stop → Stops (and_then (left_at strict left) (passed_at list_at)) Within Lacks old new stop
-      list_stops stop h = left_stops _ _ list_passed old new stop (stops_then Within Lacks _ _ old middle new stop counted h)
+      pub list_walk : (result : Result Left TakeFault) → IfOk result (λ next. next.good ≡ left.good) → IsWalk (and_then (skip_at 0) (from_length count)) (λ next. skip_at next.skip) Within Lacks middle new result
+          → IsWalk (and_then (left_at strict left) (passed_at list_at)) (left_at strict) Within Lacks old new result
+      list_walk result good h = left_walk _ _ list_passed old new result good (walk_then Within Lacks _ _ _ old middle new result counted h)
 
     -- a principal: its type, the number of its components and the length of its realm, and what comes after
 
@@ -221,11 +223,8 @@ module _ (Within : Hand → Type 0) (Lacks : TakeFault → Hand → ℕ → Type
       begun : Goes (and_then (skip_at left.skip) (and_then (skip_at 4) (pass_number w32 from_count))) (from_realm count realm) Within old middle
       begun = goes_same Within _ _ _ _ old middle name_same (λ place. refl) start
 
-      pub name_goes : (last : ℕ) → Goes (from_realm count realm) (skip_at last) Within middle new → Goes (and_then (left_at strict left) (passed_at name_at)) (left_at strict (behind_part last)) Within old new
-      name_goes last g = left_goes _ _ name_passed last old new (goes_then Within _ _ _ old middle new begun g)
-
-      pub name_stops : (stop : TakeFault) → Stops (from_realm count realm) Within Lacks middle new stop → Stops (and_then (left_at strict left) (passed_at name_at)) Within Lacks old new stop
-      name_stops stop h = left_stops _ _ name_passed old new stop (stops_then Within Lacks _ _ old middle new stop begun h)
+      pub name_walk : (result : Result Left TakeFault) → IfOk result (λ next. next.good ≡ left.good) → IsWalk (from_realm count realm) (λ next. skip_at next.skip) Within Lacks middle new result → IsWalk (and_then (left_at strict left) (passed_at name_at)) (left_at strict) Within Lacks old new result
+      name_walk result good h = left_walk _ _ name_passed old new result good (walk_then Within Lacks _ _ _ old middle new result begun h)
 
     -- the byte of a flag
 

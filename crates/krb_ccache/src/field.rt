@@ -113,11 +113,9 @@ impl Field for Principal {
 
     fn take<T: Taker>(_: Layout, taker: &mut T, left: Left) -> Result<Left, TakeFault> {
         let start: [u8; 8] = take_last(taker, left.skip + NAME_TYPE)?;
-        let last = take_many(taker, number(&start[4..]), 0, number(&start[..4]))?;
-        Ok(Left {
-            skip: last as usize,
-            ..left
-        })
+        let realm = number(&start[4..]);
+        let count = number(&start[..4]);
+        take_many(taker, realm, 0, count, left.good)
     }
 }
 
@@ -160,11 +158,7 @@ impl Field for TypedList {
 
     fn take<T: Taker>(_: Layout, taker: &mut T, left: Left) -> Result<Left, TakeFault> {
         let count = u32::from_be_bytes(take_last(taker, left.skip)?);
-        let last = take_many(taker, 0, KIND, count)?;
-        Ok(Left {
-            skip: last as usize,
-            ..left
-        })
+        take_many(taker, 0, KIND, count, left.good)
     }
 }
 

@@ -93,17 +93,20 @@ pub(crate) fn take_last<const N: usize, T: Taker>(
 }
 
 /// Takes `skip` bytes, and then `count` times a gap of bytes, and bytes after their length. The last
-/// bytes aren't taken: their number is returned.
+/// bytes are left.
 pub(crate) fn take_many<T: Taker>(
     taker: &mut T,
     skip: u32,
     gap: usize,
     count: u32,
-) -> Result<u32, TakeFault>
+    good: bool,
+) -> Result<Left, TakeFault>
     requires few { gap < 2 ^ 32 }
     requires reads { T.failures taker.old < 2 ^ 64 - 1 }
     requires within { T.Within (T.hand taker.old) }
-    ensures walk { IsWalk (and_then (skip_at skip) (pass_times count (pass_data gap))) skip_at
+    ensures few { IfOk result (λ left. left.skip < 2 ^ 32) }
+    ensures good { IfOk result (λ left. left.good ≡ good) }
+    ensures walk { IsWalk (and_then (skip_at skip) (pass_times count (pass_data gap))) (λ left. skip_at left.skip)
         T.Within T.Lacks (T.hand taker.old) (T.hand taker.new) result }
     ensures failed { T.failures taker.new ≡ T.failures taker.old + stopped_reads result }
     ensures lent { T.lender taker.new ≡ T.lender taker.old }
@@ -113,7 +116,10 @@ pub(crate) fn take_many<T: Taker>(
     for _ in 0..count {
         last = u32::from_be_bytes(take_last(taker, last as usize + gap)?);
     }
-    Ok(last)
+    Ok(Left {
+        skip: last as usize,
+        good,
+    })
 }
 
 /// Leaves a part of `size` bytes, to be taken together with what comes after it.

@@ -1,22 +1,16 @@
 use Rattle.std.proofs.Common.{ap, ◌∙◌}
 use Rattle.std.specs.Int.{w32, from_be_bytes}
 use Rattle.std.proofs.lemmas.Result.{err_from_is_err_and}
-use Rattle.krb_ccache.proofs.WalkParts.{list_first, list_goes, list_stops}
+use Rattle.krb_ccache.proofs.WalkParts.{list_first, list_walk}
 use Rattle.krb_ccache.proofs.field.TypedListField.take.Goals as goal
 
 pub returns-clause-walk : goal.returns-clause-walk
 returns-clause-walk g c = λ strict.
     let hand = g.T.Taker.hand in
-    list_goes g.T.Taker.Within g.T.Taker.Lacks strict c.args.left (hand c.args.taker.now) (hand c.take_last.new.taker) (hand c.take_many.new.taker) c.from_be_bytes-count.result c.in_ok-take_last.ensures.taken (c.from_be_bytes-count.ensures ∙ ap (from_be_bytes w32) c.in_ok-take_last.ensures.last) c.in_ok-last.last c.in_ok-last.ensures.walk
+    list_walk g.T.Taker.Within g.T.Taker.Lacks strict c.args.left (hand c.args.taker.now) (hand c.take_last.new.taker) (hand c.take_many.new.taker) c.from_be_bytes-count.result c.in_ok-take_last.ensures.taken (c.from_be_bytes-count.ensures ∙ ap (from_be_bytes w32) c.in_ok-take_last.ensures.last) c.take_many.result c.take_many.ensures.good c.take_many.ensures.walk
 
 pub returns-in_err-take_last-clause-walk : goal.returns-in_err-take_last-clause-walk
 returns-in_err-take_last-clause-walk g c = λ strict.
     let hand = g.T.Taker.hand in
     let p = err_from_is_err_and c.from_residual.result c.from_residual.ensures.1 in
     rw (p.1, p.2) (list_first g.T.Taker.Within g.T.Taker.Lacks strict c.args.left (hand c.args.taker.now) (hand c.take_last.new.taker) c.in_err-take_last.field-0.0 c.in_err-take_last.ensures.taken)
-
-pub returns-in_err-last-clause-walk : goal.returns-in_err-last-clause-walk
-returns-in_err-last-clause-walk g c = λ strict.
-    let hand = g.T.Taker.hand in
-    let p = err_from_is_err_and c.from_residual-in_err-last.result c.from_residual-in_err-last.ensures.1 in
-    rw (p.1, p.2) (list_stops g.T.Taker.Within g.T.Taker.Lacks strict c.args.left (hand c.args.taker.now) (hand c.take_last.new.taker) (hand c.take_many.new.taker) c.from_be_bytes-count.result c.in_ok-take_last.ensures.taken (c.from_be_bytes-count.ensures ∙ ap (from_be_bytes w32) c.in_ok-take_last.ensures.last) c.in_err-last.field-0.0 c.in_err-last.ensures.walk)
