@@ -12,7 +12,7 @@ ghost use Rattle.krb_ccache.specs.Format.{written, Spelled, Spells, IsCache, IsF
 ghost use Rattle.krb_ccache.specs.Offset.{IsOffsetOf};
 ghost use Rattle.krb_ccache.specs.Reader.{GaveCache, GaveFault};
 ghost use Rattle.krb_ccache.specs.Inner.Room.{Leaves};
-ghost use Rattle.krb_ccache.specs.Inner.Standing.{bytes_of, Lies, LiesOne, Reaches, IsMissing, StopsBy};
+ghost use Rattle.krb_ccache.specs.Inner.Standing.{bytes_of, Lies, Reaches, IsMissing, StopsBy};
 
 use crate::checking::check;
 use crate::configuration::{is_entry, offset_in};
@@ -293,25 +293,6 @@ fn read_default(alloc: Global, cursor: &mut FileCursor<'_>) -> Result<Principal,
     }
 }
 
-// Reads the credential that begins here, and moves past it.
-fn read_one(
-    alloc: Global,
-    layout: Layout,
-    cursor: &mut FileCursor<'_>,
-) -> Result<Credential, CacheFault>
-    requires { IsBytes cursor.old.rest }
-    ensures read { IfOk result (λ credential. LiesOne layout cursor.old credential cursor.new) }
-    ensures missing { IfErr result (λ fault. fault ≢ CacheFault.OutOfMemory
-        → (fault ≡ CacheFault.BadItem cursor.old.at) × IsMissing bytes_of (Spells layout) cursor.old.rest) }
-{
-    let at = cursor.at();
-    match read_credential(alloc, layout, cursor) {
-        Ok(credential) => Ok(credential),
-        Err(ItemFault::Missing) => Err(CacheFault::BadItem { at }),
-        Err(ItemFault::OutOfMemory) => Err(CacheFault::OutOfMemory),
-    }
-}
-
 // Reads the credentials from here to the end.
 fn read_credentials(
     alloc: Global,
@@ -329,7 +310,12 @@ fn read_credentials(
 {
     let mut credentials = Vec::new(alloc);
     while !cursor.is_at_end() {
-        credentials.push(read_one(alloc, layout, cursor)?)?;
+        let at = cursor.at();
+        match read_credential(alloc, layout, cursor) {
+            Ok(credential) => credentials.push(credential)?,
+            Err(ItemFault::Missing) => return Err(CacheFault::BadItem { at }),
+            Err(ItemFault::OutOfMemory) => return Err(CacheFault::OutOfMemory),
+        }
     }
     Ok(credentials)
 }
