@@ -310,10 +310,10 @@ fn read_credentials(
 {
     let mut credentials = Vec::new(alloc);
     while !cursor.is_at_end() {
-        let at = cursor.at();
+        let start = cursor.at();
         match read_credential(alloc, layout, cursor) {
             Ok(credential) => credentials.push(credential)?,
-            Err(ItemFault::Missing) => return Err(CacheFault::BadItem { at }),
+            Err(ItemFault::Missing) => return Err(CacheFault::BadItem { at: start }),
             Err(ItemFault::OutOfMemory) => return Err(CacheFault::OutOfMemory),
         }
     }

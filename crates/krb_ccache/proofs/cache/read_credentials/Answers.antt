@@ -15,8 +15,8 @@ pub returns-in-Err-Missing-clause-missing : goal.returns-in-Err-Missing-clause-m
 returns-in-Err-Missing-clause-missing c = λ other.
     let so_far = c.loop-alloc.invariant in
     let none = c.in-Err-Missing.ensures.missing (ap (λ (f : ItemFault). Err f) c.in-Err-Missing.field-0-is) in
-    stops c.args.layout c.args.cursor.now c.loop-alloc.cursor so_far.spelled (BadItem c.at-at.result) so_far.reaches
-    (λ end. let at_end = rw end at c.is_at_end.ensures in cc (at_end, c.loop-alloc-test.true)) (ap BadItem c.at-at.ensures, none)
+    stops c.args.layout c.args.cursor.now c.loop-alloc.cursor so_far.spelled (BadItem c.at-start.result) so_far.reaches
+    (λ end. let at_end = rw end at c.is_at_end.ensures in cc (at_end, c.loop-alloc-test.true)) (ap BadItem c.at-start.ensures, none)
 
 pub loop-alloc-smaller : goal.loop-alloc-smaller
 loop-alloc-smaller c =
