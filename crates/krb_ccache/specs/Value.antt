@@ -47,11 +47,6 @@ pub record HasCredentialLengths (credential : Credential) : Type 0 where
   pub ticket : length credential.ticket < 2 ^ 32
   pub second_ticket : length credential.second_ticket < 2 ^ 32
 
-pub record HasLengths (cache : Cache) : Type 0 where
-  pub header : HasHeaderLengths cache.header
-  pub default_principal : HasNameLengths cache.default_principal
-  pub credentials : All HasCredentialLengths cache.credentials
-
 -- ---- and each number is in the range of its field
 
 pub record FitsHeader (header : List HeaderField) : Type 0 where
@@ -80,6 +75,13 @@ pub record FitsCredential (credential : Credential) : Type 0 where
   pub authdata : FitsList credential.authdata
   pub ticket : length credential.ticket < 2 ^ 32
   pub second_ticket : length credential.second_ticket < 2 ^ 32
+
+-- ---- so it is with a whole cache: its lengths, and its numbers too
+
+pub record HasLengths (cache : Cache) : Type 0 where
+  pub header : HasHeaderLengths cache.header
+  pub default_principal : HasNameLengths cache.default_principal
+  pub credentials : All HasCredentialLengths cache.credentials
 
 pub record Fits (cache : Cache) : Type 0 where
   pub header : FitsHeader cache.header
