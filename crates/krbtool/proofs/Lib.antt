@@ -5,6 +5,7 @@ pub mod FormatLaws
 pub mod FileLaws
 pub mod CallLaws
 pub mod GoingLaws
+pub mod ReadingLaws
 pub mod WalkLaws
 pub mod EndLaws
 pub mod CommandLaws

@@ -1,6 +1,6 @@
 -- What holds of the items that a reader gives, one at a time, holds of the file.
-use Rattle.std.proofs.Common.{◌≡◌, ◌⊎◌, ℕ, ◌+◌, ◌≤◌, Bool, true, false, List, [], ◌∷◌, ◌++◌, length, Option, Some, None, Result, Ok, Err, refl, sym, ap, subst, ◌∙◌, arith, inl, inr}
-use Rattle.std.specs.Prelude.{◌≢◌, IfOk, IfErr, IfSome}
+use Rattle.std.proofs.Common.{◌≡◌, ℕ, ◌+◌, ◌≤◌, Bool, true, false, List, [], ◌∷◌, ◌++◌, length, Option, Some, None, Result, Ok, Err, refl, sym, ap, subst, ◌∙◌, arith}
+use Rattle.std.specs.Prelude.{◌≢◌, IfSome}
 use Rattle.std.specs.Io.KnownBytes.{Consumes}
 use Rattle.std.proofs.KnownBytes.{Consumes-trans, Consumes-nil}
 use Rattle.std.proofs.lemmas.List.{length-append, flat_map_more}
@@ -16,59 +16,15 @@ use Rattle.krb_ccache.specs.Format as cache
 use Rattle.krb_ccache.specs.Offset.{clock_offset}
 use Rattle.krb_ccache.specs.Reader as reads
 use Rattle.krb_name.specs.File.{file_limit, IsGiven, TakesFile, GivesWithin}
-use Rattle.krb_ccache.specs.Value.{Cache}
+use Rattle.krb_ccache.specs.Value.{Cache, cache_of}
 use Rattle.krb_ccache.specs.declared.credential.Credential.{Credential}
 use Rattle.krb_ccache.specs.declared.fault.CacheFault.{CacheFault}
-use Rattle.krb_ccache.specs.declared.fault.CacheFault.TheVariants as of_cache
 use Rattle.krbtool.specs.Engine.{OfFile}
-use Rattle.krbtool.specs.Lines.{keytab_line, keytab_lines, credential_line, head_lines}
-use Rattle.krbtool.specs.Inner.Walk.{EntriesGiven, EntriesCounted, EntriesListed, CredentialsCounted, CredentialsListed}
-use Rattle.krbtool.proofs.FaultLaws.{IsOneOf}
-
--- ---- a file with one fault
-
--- a fault is one of memory, or of the source, or of the content
-abbrev pub Kind : {F : Type 0} → F → F → F → Type 0
-Kind memory source fault = ((fault ≢ memory) × (fault ≢ source)) ⊎ ((fault ≡ memory) ⊎ (fault ≡ source))
-
-module _ {V F : Type 0} (IsFile : List ℕ → V → Type 0) (IsFault : List ℕ → F → Type 0) (memory source : F) (kind : (fault : F) → Kind memory source fault) (Is : List ℕ → Result V F → Type 0) (file : (bytes : List ℕ) (value : V) → IsFile bytes value → Is bytes (Ok value)) (faulty : (bytes : List ℕ) (fault : F) → IsFault bytes fault → Is bytes (Err fault)) (one : (bytes : List ℕ) (answer other : Result V F) → Is bytes answer → Is bytes other → answer ≡ other) where
-  no_value : (value : V) (fault : F) → ◌≡◌ {A = Result V F} (Ok value) (Err fault) → ⊥
-  no_value value fault e = cc
-
-  one_fault : (fault other : F) → ◌≡◌ {A = Result V F} (Err fault) (Err other) → fault ≡ other
-  one_fault fault other e = cc
-
-  -- it is the one that is answered
-  pub fault_alone : {X : Type 0} (from : Option (List ℕ)) (Holds : X → V → Type 0) (result : Result X F) → IfOk result (λ made. OfFile IsFile from (Holds made)) → IfErr result (λ fault. fault ≢ memory → fault ≢ source → IfSome from (λ bytes. IsFault bytes fault))
-      → (bytes : List ℕ) (fault : F) → from ≡ Some bytes → IsFault bytes fault → IsOneOf result fault memory source
-  fault_alone from Holds (Ok made) found failed bytes fault tells is =
-      let v = subst (λ (o : Option (List ℕ)). OfFile IsFile o (Holds made)) tells found in
-      absurd (no_value v.0 fault (one bytes (Ok v.0) (Err fault) (file bytes v.0 v.1.0) (faulty bytes fault is)))
-  fault_alone from Holds (Err met) found failed bytes fault tells is =
-      elim (kind met) [
-        | inl content ↦
-            let there = subst (λ (o : Option (List ℕ)). IfSome o (λ bytes. IsFault bytes met)) tells (failed content.0 content.1) in
-            inl (ap (λ (f : F). Err f) (one_fault met fault (one bytes (Err met) (Err fault) (faulty bytes met there) (faulty bytes fault is))))
-        | inr other ↦ elim other [ inl m ↦ inr (inl (ap (λ (f : F). Err f) m)) | inr s ↦ inr (inr (ap (λ (f : F). Err f) s)) ]
-      ]
+use Rattle.krbtool.specs.Lines.{keytab_line, keytab_lines, credential_line, head_lines, cache_lines}
+use Rattle.krbtool.specs.Inner.Walk.{EntriesGiven, EntriesCounted, EntriesListed, CredentialsGiven, CredentialsCounted, CredentialsListed}
+use Rattle.krb_name.proofs.FileLaws.{gives_then, takes_file}
 
 -- ---- a keytab
-
-keytab_kind : (fault : KeytabFault) → Kind of_keytab.OutOfMemory of_keytab.Read fault
-keytab_kind of_keytab.OutOfMemory = inr (inl refl)
-keytab_kind of_keytab.Read = inr (inr refl)
-keytab_kind of_keytab.Version = inl (λ e. cc, λ e. cc)
-keytab_kind (of_keytab.Truncated at) = inl (λ e. cc, λ e. cc)
-keytab_kind (of_keytab.BadEntry at) = inl (λ e. cc, λ e. cc)
-keytab_kind of_keytab.TooLong = inl (λ e. cc, λ e. cc)
-keytab_kind of_keytab.NoSuchEntry = inl (λ e. cc, λ e. cc)
-
-pub keytab_fault_alone : ((bytes : List ℕ) (answer other : Result (List KeytabEntry) KeytabFault) → keytab.IsAnswerOf bytes answer → keytab.IsAnswerOf bytes other → answer ≡ other)
-    → {X : Type 0} (from : Option (List ℕ)) (Holds : X → List KeytabEntry → Type 0) (result : Result X KeytabFault) → IfOk result (λ made. OfFile IsKeytab from (Holds made))
-    → IfErr result (λ fault. fault ≢ of_keytab.OutOfMemory → fault ≢ of_keytab.Read → IfSome from (λ bytes. keytab.IsFaultOf bytes fault))
-    → (bytes : List ℕ) (fault : KeytabFault) → from ≡ Some bytes → keytab.IsFaultOf bytes fault → IsOneOf result fault of_keytab.OutOfMemory of_keytab.Read
-keytab_fault_alone one from Holds result found failed =
-    fault_alone IsKeytab keytab.IsFaultOf of_keytab.OutOfMemory of_keytab.Read keytab_kind keytab.IsAnswerOf (λ bytes value is. is) (λ bytes fault is. is) one from Holds result found failed
 
 -- what a reader answers that passes the entries
 abbrev pub Reads : {S : Type 0} → Option (List ℕ) → Option (List ℕ) → EntriesRead S → EntriesRead S → Result Bool KeytabFault → Type 0
@@ -102,9 +58,6 @@ Gives mid to old new answer = (bytes : List ℕ) (entries : List KeytabEntry) �
 module _ {S : Type 0} where
   pub gives_reads : (mid to : Option (List ℕ)) (old new : EntriesRead S) (answer : Result (Option KeytabEntry) KeytabFault) → Gives mid to old new answer → Reads mid to old new (passed answer)
   gives_reads mid to old new answer gives = λ bytes entries read. let r = gives bytes entries read in (answer, refl, r.0, r.1, r.2)
-
-  pub none_given : (from : Option (List ℕ)) (reader : EntriesRead S) (Holds : List KeytabEntry → Type 0) → HasRead from reader [] [] → Holds [] → EntriesGiven from from reader Holds
-  none_given from reader Holds read holds = record { bytes = []; entries = []; taken = Consumes-nil from; read = read; holds = holds }
 
   one_more : (from mid to : Option (List ℕ)) (old new : EntriesRead S) (Holds Also : List KeytabEntry → Type 0) (entry : KeytabEntry) (c : EntriesGiven from mid old Holds)
       → (piece : List ℕ) × Consumes mid to piece × HasRead to new (c.bytes ++ piece) (c.entries ++ entry ∷ []) → Also (c.entries ++ entry ∷ []) → EntriesGiven from to new Also
@@ -157,22 +110,14 @@ module _ {S : Type 0} where
       let last = none_more (Some whole) mid to old new Holds (Err fault) c reads (λ e. cc) in
       law whole last.bytes to new.held last.entries fault read memory last.taken (subst (λ (s : Stage). StandsTo to new.held s last.bytes last.entries) stage last.read.stands)
 
+  -- how much the source gave
+  pub entries_taken : (from mid to : Option (List ℕ)) (old new : EntriesRead S) (Holds : List KeytabEntry → Type 0) (result : Result Bool KeytabFault) → EntriesGiven from mid old Holds → Reads mid to old new result → new.given ≤ file_limit + 1 → TakesFile from to
+  entries_taken from mid to old new Holds result c reads limit =
+      let r = reads c.bytes c.entries c.read in
+      let read = r.4 in
+      record { piece = c.bytes ++ r.2; taken = Consumes-trans from mid to c.bytes r.2 c.taken r.3; within = omega (arith, limit, read.given) }
+
 -- ---- a cache
-
-cache_kind : (fault : CacheFault) → Kind of_cache.OutOfMemory of_cache.Read fault
-cache_kind of_cache.OutOfMemory = inr (inl refl)
-cache_kind of_cache.Read = inr (inr refl)
-cache_kind of_cache.Version = inl (λ e. cc, λ e. cc)
-cache_kind of_cache.Header = inl (λ e. cc, λ e. cc)
-cache_kind (of_cache.BadItem at) = inl (λ e. cc, λ e. cc)
-cache_kind of_cache.TooLong = inl (λ e. cc, λ e. cc)
-
-pub cache_fault_alone : ((bytes : List ℕ) (answer other : Result Cache CacheFault) → cache.IsAnswerOf bytes answer → cache.IsAnswerOf bytes other → answer ≡ other)
-    → {X : Type 0} (from : Option (List ℕ)) (Holds : X → Cache → Type 0) (result : Result X CacheFault) → IfOk result (λ made. OfFile cache.IsCache from (Holds made))
-    → IfErr result (λ fault. fault ≢ of_cache.OutOfMemory → fault ≢ of_cache.Read → IfSome from (λ bytes. cache.IsFaultOf bytes fault))
-    → (bytes : List ℕ) (fault : CacheFault) → from ≡ Some bytes → cache.IsFaultOf bytes fault → IsOneOf result fault of_cache.OutOfMemory of_cache.Read
-cache_fault_alone one from Holds result found failed =
-    fault_alone cache.IsCache cache.IsFaultOf of_cache.OutOfMemory of_cache.Read cache_kind cache.IsAnswerOf (λ bytes value is. is) (λ bytes fault is. is) one from Holds result found failed
 
 -- what is told of the bytes that a source gave holds of all that were to come
 abbrev pub SourceTells : Type 0
@@ -187,48 +132,33 @@ pub fault_told : (from to : Option (List ℕ)) (fault : CacheFault) → SourceTe
 fault_told None to fault law given = tt
 fault_told (Some whole) to fault law given = law whole given.0 to (Err fault) given.1 given.2
 
-module _ {S : Type 0} (left : S → Option (List ℕ)) where
-  pub credential_counted : (from : Option (List ℕ)) (old new : reads.Reading S) (count : ℕ) (credential : Credential) → CredentialsCounted left from old count
-      → ((value : Cache) → reads.HasRead left from old value → reads.HasRead left from new (reads.with_credential value credential)) → CredentialsCounted left from new (count + 1)
-  credential_counted from old new count credential c item = record {
-    cache_read = reads.with_credential c.cache_read credential;
-    read = item c.cache_read c.read;
-    holds = omega (arith, c.holds, length-append c.cache_read.credentials (credential ∷ []));
-  }
-
-  pub credential_listed : (from : Option (List ℕ)) (old new : reads.Reading S) (lines more : List ℕ) (credential : Credential) → CredentialsListed left from old lines
-      → ((value : Cache) → reads.HasRead left from old value → reads.HasRead left from new (reads.with_credential value credential)) → more ≡ lines ++ credential_line credential → CredentialsListed left from new more
-  credential_listed from old new lines more credential c item is =
-      let head = head_lines c.cache_read.default_principal (clock_offset c.cache_read.header) in
-      record {
-        cache_read = reads.with_credential c.cache_read credential;
-        read = item c.cache_read c.read;
-        holds = is ∙ ap (λ (l : List ℕ). l ++ credential_line credential) c.holds ∙ flat_map_more credential_line head c.cache_read.credentials credential;
-      }
-
--- what holds wherever a reader began holds of the source that it was opened on
-pub found_from : {X : Type 0} (Begun : Option (List ℕ) → Type 0) (from : Option (List ℕ)) (Holds : X → Cache → Type 0) (result : Result X CacheFault) → Begun from
-    → IfOk result (λ made. (begun : Option (List ℕ)) → Begun begun → OfFile cache.IsCache begun (Holds made))
-    → IfOk result (λ made. OfFile cache.IsCache from (Holds made))
-found_from Begun from Holds (Ok made) begun found = found from begun
-found_from Begun from Holds (Err fault) begun found = tt
-
-pub fault_from : {X : Type 0} (Begun : Option (List ℕ) → Type 0) (from : Option (List ℕ)) (result : Result X CacheFault) → Begun from
-    → IfErr result (λ fault. fault ≢ of_cache.OutOfMemory → fault ≢ of_cache.Read → (begun : Option (List ℕ)) → Begun begun → IfSome begun (λ bytes. cache.IsFaultOf bytes fault))
-    → IfErr result (λ fault. fault ≢ of_cache.OutOfMemory → fault ≢ of_cache.Read → IfSome from (λ bytes. cache.IsFaultOf bytes fault))
-fault_from Begun from (Ok made) begun fault = tt
-fault_from Begun from (Err f) begun fault = λ memory read. fault memory read from begun
-
--- ---- how much a source gave
-
-pub gave_within : {S : Type 0} (from to : Option (List ℕ)) (old new : reads.Reading S) → reads.Gave from to old new → new.given ≤ file_limit + 1 → GivesWithin from to old.given new.given
+gave_within : {S : Type 0} (from to : Option (List ℕ)) (old new : reads.Reading S) → reads.Gave from to old new → new.given ≤ file_limit + 1 → GivesWithin from to old.given new.given
 gave_within from to old new g limit = record { piece = g.bytes; taken = g.taken; given = g.given; within = λ l. limit }
 
-pub entries_taken : {S : Type 0} (from middle to : Option (List ℕ)) (old new : EntriesRead S) (Holds : List KeytabEntry → Type 0) (result : Result Bool KeytabFault) → EntriesGiven from middle old Holds
-    → ((bytes : List ℕ) (entries : List KeytabEntry) → HasRead middle old bytes entries
-    → (answer : Result (Option KeytabEntry) KeytabFault) × (result ≡ passed answer) × (piece : List ℕ) × Consumes middle to piece × HasRead to new (bytes ++ piece) (entries_after entries answer))
-    → new.given ≤ file_limit + 1 → TakesFile from to
-entries_taken from middle to old new Holds result t reads limit =
-    let r = reads t.bytes t.entries t.read in
-    let read = r.4 in
-    record { piece = t.bytes ++ r.2; taken = Consumes-trans from middle to t.bytes r.2 t.taken r.3; within = omega (arith, limit, read.given) }
+module _ {S : Type 0} (left : S → Option (List ℕ)) where
+  one_more_read : (from : Option (List ℕ)) (old new : reads.Reading S) (Holds Also : Cache → Type 0) (credential : Credential) (c : CredentialsGiven left from old Holds) → reads.Gave (left old.source) (left new.source) old new → new.given ≤ file_limit + 1
+      → ((value : Cache) → reads.HasRead left from old value → reads.HasRead left from new (reads.with_credential value credential)) → Also (reads.with_credential c.cache_read credential) → CredentialsGiven left from new Also
+  one_more_read from old new Holds Also credential c gave limit item also = record {
+    cache_read = reads.with_credential c.cache_read credential;
+    read = item c.cache_read c.read;
+    gave = gives_then from (left old.source) (left new.source) 0 old.given new.given c.gave (gave_within (left old.source) (left new.source) old new gave limit);
+    holds = also;
+  }
+
+  pub credential_counted : (from : Option (List ℕ)) (old new : reads.Reading S) (count : ℕ) (credential : Credential) → CredentialsCounted left from old count → reads.Gave (left old.source) (left new.source) old new → new.given ≤ file_limit + 1
+      → ((value : Cache) → reads.HasRead left from old value → reads.HasRead left from new (reads.with_credential value credential)) → CredentialsCounted left from new (count + 1)
+  credential_counted from old new count credential c gave limit item =
+      one_more_read from old new (λ value. count ≡ length value.credentials) (λ value. count + 1 ≡ length value.credentials) credential c gave limit item
+      (omega (arith, c.holds, length-append c.cache_read.credentials (credential ∷ [])))
+
+  pub credential_listed : (from : Option (List ℕ)) (old new : reads.Reading S) (lines more : List ℕ) (credential : Credential) → CredentialsListed left from old lines → reads.Gave (left old.source) (left new.source) old new → new.given ≤ file_limit + 1
+      → ((value : Cache) → reads.HasRead left from old value → reads.HasRead left from new (reads.with_credential value credential)) → more ≡ lines ++ credential_line credential → CredentialsListed left from new more
+  credential_listed from old new lines more credential c gave limit item is =
+      let head = head_lines c.cache_read.default_principal (clock_offset c.cache_read.header) in
+      one_more_read from old new (λ value. lines ≡ cache_lines value) (λ value. more ≡ cache_lines value) credential c gave limit item
+      (is ∙ ap (λ (l : List ℕ). l ++ credential_line credential) c.holds ∙ flat_map_more credential_line head c.cache_read.credentials credential)
+
+  -- how much the source gave
+  pub credentials_taken : (from : Option (List ℕ)) (old new : reads.Reading S) (Holds : Cache → Type 0) → CredentialsGiven left from old Holds → reads.Gave (left old.source) (left new.source) old new → new.given ≤ file_limit + 1 → TakesFile from (left new.source)
+  credentials_taken from old new Holds c gave limit =
+      takes_file from (left new.source) 0 new.given refl (gives_then from (left old.source) (left new.source) 0 old.given new.given c.gave (gave_within (left old.source) (left new.source) old new gave limit))

@@ -1,3 +1,4 @@
+pub mod Reading
 pub mod Walk
 pub mod Moments
 pub mod Held

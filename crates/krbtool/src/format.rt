@@ -11,8 +11,8 @@ ghost use Rattle.krbtool.specs.declared.fault.EngineFault.{EngineFault};
 ghost use Rattle.krbtool.specs.declared.fault.EngineFault.TheVariants.{Keytab as OfTheKeytab, Cache as OfTheCache};
 ghost use Rattle.krbtool.specs.Engine.{FailsBy, HasCacheFault, HasKeytabFault, IsContent, IsOfFile, OfCache, OfFile, OfKeytab, ReadsTo, failed_reads};
 
-use crate::count::{count_ccache, count_keytab};
 use crate::fault::EngineFault;
+use crate::walk::{walk_ccache, walk_keytab};
 use krb_ccache::CCache;
 use krb_keytab::Keytab;
 use krb_name::Source;
@@ -88,7 +88,7 @@ impl FileFormat for Keytab {
     }
 
     fn count_file<S: Source>(alloc: Global, source: &mut S) -> Result<usize, EngineFault> {
-        let count = count_keytab(alloc, source)?;
+        let count = walk_keytab::<usize, S>(alloc, source)?;
         Ok(count)
     }
 
@@ -117,7 +117,7 @@ impl FileFormat for CCache {
     }
 
     fn count_file<S: Source>(alloc: Global, source: &mut S) -> Result<usize, EngineFault> {
-        let count = count_ccache(alloc, source)?;
+        let count = walk_ccache::<usize, S>(alloc, source)?;
         Ok(count)
     }
 

@@ -10,7 +10,7 @@ ghost use Rattle.krbtool.specs.Engine.{FailsBy, IsContent, IsOfFile, OfFile, fai
 use crate::fault::EngineFault;
 use crate::format::FileFormat;
 use crate::line::Line;
-use crate::lines::{lines_of_ccache, lines_of_keytab};
+use crate::walk::{walk_ccache, walk_keytab};
 use krb_ccache::{CCache, Credential};
 use krb_keytab::{Entry, Keytab};
 use krb_name::{Sink, Source, write_all};
@@ -95,7 +95,7 @@ impl Listing<Keytab> for Lines {
     ghost text = { λ _ entries. keytab_lines entries };
 
     fn read_text<S: Source>(&self, alloc: Global, source: &mut S) -> Result<String, EngineFault> {
-        let lines = lines_of_keytab(alloc, source)?;
+        let lines = walk_keytab::<String, S>(alloc, source)?;
         Ok(lines)
     }
 }
@@ -117,7 +117,7 @@ impl Listing<CCache> for Lines {
     ghost text = { λ _ cache. cache_lines cache };
 
     fn read_text<S: Source>(&self, alloc: Global, source: &mut S) -> Result<String, EngineFault> {
-        let lines = lines_of_ccache(alloc, source)?;
+        let lines = walk_ccache::<String, S>(alloc, source)?;
         Ok(lines)
     }
 }

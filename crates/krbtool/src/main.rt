@@ -37,6 +37,7 @@ mod run_rewrite;
 mod streams;
 mod table;
 mod token_fault;
+mod walk;
 mod whole;
 mod words;
 

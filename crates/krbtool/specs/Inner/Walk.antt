@@ -1,10 +1,11 @@
 -- The items of a file, as a reader gives them one at a time, and what holds of those that it has given.
-use Rattle.std.specs.Prelude.{◌≡◌, ℕ, List, length, Option}
+use Rattle.std.specs.Prelude.{◌≡◌, ℕ, List, [], length, Option}
 use Rattle.std.specs.Io.KnownBytes.{Consumes}
 use Rattle.krb_ccache.specs.Reader as cache
-use Rattle.krb_ccache.specs.Value.{Cache}
+use Rattle.krb_ccache.specs.Value.{Cache, cache_of}
 use Rattle.krb_keytab.specs.Entry.{KeytabEntry}
 use Rattle.krb_keytab.specs.Items.{EntriesRead, HasRead}
+use Rattle.krb_name.specs.File.{GivesWithin}
 use Rattle.krbtool.specs.Lines.{keytab_lines, cache_lines}
 
 -- a reader of a keytab has given entries of which this holds
@@ -27,6 +28,7 @@ EntriesListed from to reader lines = EntriesGiven from to reader (λ entries. li
 pub record CredentialsGiven {S : Type 0} (left : S → Option (List ℕ)) (from : Option (List ℕ)) (reader : cache.Reading S) (Holds : Cache → Type 0) : Type 0 where
   pub cache_read : Cache
   pub read : cache.HasRead left from reader cache_read
+  pub gave : GivesWithin from (left reader.source) 0 reader.given
   pub holds : Holds cache_read
 
 abbrev pub CredentialsCounted : {S : Type 0} → (S → Option (List ℕ)) → Option (List ℕ) → cache.Reading S → ℕ → Type 0
@@ -34,3 +36,8 @@ CredentialsCounted left from reader count = CredentialsGiven left from reader (�
 
 abbrev pub CredentialsListed : {S : Type 0} → (S → Option (List ℕ)) → Option (List ℕ) → cache.Reading S → List ℕ → Type 0
 CredentialsListed left from reader lines = CredentialsGiven left from reader (λ value. lines ≡ cache_lines value)
+
+-- a reader was opened on a source that had these bytes to come, and has given no credential
+pub record IsOpened {S : Type 0} (left : S → Option (List ℕ)) (from : Option (List ℕ)) (reader : cache.Reading S) : Type 0 where
+  pub read : cache.HasRead left from reader (cache_of reader.header reader.default_principal [])
+  pub gave : GivesWithin from (left reader.source) 0 reader.given

@@ -1,13 +1,19 @@
-use Rattle.std.proofs.Common.{◌∙◌, ap, Err}
+use Rattle.std.proofs.Common.{rules}
 use Rattle.std.proofs.lemmas.Result.{err_from_is_err_and}
-use Rattle.krbtool.proofs.FaultLaws.{none_met, fault_kept}
+use Rattle.krb_keytab.specs.Format.{IsAnswerOf}
+use Rattle.krb_keytab.specs.declared.fault.KeytabFault.TheVariants.{OutOfMemory, Read}
+use Rattle.krbtool.proofs.ReadingLaws.{made, refused, unmade}
 use Rattle.krbtool.proofs.table.table_of_keytab.Goals as goal
 
-pub returns-in_err-keytab-clause-only : goal.returns-in_err-keytab-clause-only
-returns-in_err-keytab-clause-only g c = λ bytes fault tells is.
+pub returns-in_err-keytab : goal.returns-in_err-keytab
+returns-in_err-keytab g c =
     let p = err_from_is_err_and c.from_residual.result c.from_residual.ensures.1 in
-    fault_kept _ _ c.read.result c.from_residual.result c.in_err-keytab.field-0.0 fault c.in_err-keytab.was (p.1 ∙ ap (λ e. Err e) p.2) (c.read.ensures.reads.only bytes (Err fault) tells is)
+    rw (p.1, p.2) (refused IsAnswerOf OutOfMemory Read _ _ _ _ _ _ c.read.result c.in_err-keytab.field-0.0 c.read.ensures.reads c.in_err-keytab.was (search rules))
 
-pub returns-clause-only : goal.returns-clause-only
-returns-clause-only g c = λ bytes fault tells is.
-    absurd (none_met _ _ c.read.result c.in_ok-keytab.keytab fault c.in_ok-keytab.was (c.read.ensures.reads.only bytes (Err fault) tells is))
+pub returns-in_err-table : goal.returns-in_err-table
+returns-in_err-table g c =
+    let p = err_from_is_err_and c.from_residual-in_err-table.result c.from_residual-in_err-table.ensures.1 in
+    rw (p.1, p.2) (unmade IsAnswerOf OutOfMemory Read _ _ _ _ _ _ c.read.ensures.reads.taken (search rules))
+
+pub returns : goal.returns
+returns g c = made IsAnswerOf OutOfMemory Read _ _ _ _ _ _ c.read.result c.in_ok-keytab.keytab c.in_ok-table.table c.read.ensures.reads c.in_ok-keytab.was c.in_ok-table.ensures (search rules)

@@ -6,9 +6,9 @@ use Rattle.krbtool.proofs.format.KeytabFileFormat.count_file.Goals as goal
 pub returns-in_err-count-clause-faulty : goal.returns-in_err-count-clause-faulty
 returns-in_err-count-clause-faulty g c = λ bytes fault tells has.
     let p = err_from_is_err_and c.from_residual.result c.from_residual.ensures.1 in
-    keytab_fails c.count_keytab.result c.from_residual.result c.in_err-count.field-0.0 bytes fault c.in_err-count.was (p.1 ∙ ap (λ e. Err e) p.2) has
-    (λ it is. c.count_keytab.ensures.only bytes it tells is)
+    keytab_fails c.walk_keytab.result c.from_residual.result c.in_err-count.field-0.0 bytes fault c.in_err-count.was (p.1 ∙ ap (λ e. Err e) p.2) has
+    (λ it is. c.walk_keytab.ensures.only bytes it tells is)
 
 pub returns-clause-faulty : goal.returns-clause-faulty
 returns-clause-faulty g c = λ bytes fault tells has.
-    absurd (no_keytab_fails c.count_keytab.result c.in_ok-count.count bytes fault c.in_ok-count.was has (λ it is. c.count_keytab.ensures.only bytes it tells is))
+    absurd (no_keytab_fails c.walk_keytab.result c.in_ok-count.count bytes fault c.in_ok-count.was has (λ it is. c.walk_keytab.ensures.only bytes it tells is))

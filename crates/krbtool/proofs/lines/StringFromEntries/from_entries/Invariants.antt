@@ -2,7 +2,7 @@ use Rattle.std.proofs.Common.{◌≡◌, ◌-◌, None, string_bytes}
 use Rattle.krb_name.specs.File.{file_limit}
 use Rattle.krb_keytab.specs.Items.{last_answer}
 use Rattle.krbtool.specs.Inner.Walk.{EntriesListed}
-use Rattle.krbtool.proofs.lines.entry_lines.Given as goal
+use Rattle.krbtool.proofs.lines.StringFromEntries.from_entries.Given as goal
 
 abbrev pub invariant-loop-lines : goal.invariant-loop-lines
 invariant-loop-lines g l = record {

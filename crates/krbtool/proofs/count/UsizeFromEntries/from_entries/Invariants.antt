@@ -2,7 +2,7 @@ use Rattle.std.proofs.Common.{◌≡◌, ◌-◌, ◌≤◌, None}
 use Rattle.krb_name.specs.File.{file_limit}
 use Rattle.krb_keytab.specs.Items.{last_answer}
 use Rattle.krbtool.specs.Inner.Walk.{EntriesCounted}
-use Rattle.krbtool.proofs.count.count_entries.Given as goal
+use Rattle.krbtool.proofs.count.UsizeFromEntries.from_entries.Given as goal
 
 abbrev pub invariant-loop-count : goal.invariant-loop-count
 invariant-loop-count g l = record {
