@@ -1,49 +1,114 @@
--- The faults of a file of either format, as they are passed on.
-use Rattle.std.proofs.Common.{◌≡◌, ◌⊎◌, ◌∙◌, Result, Ok, Err, List, ℕ, ap, inl, inr, sym}
+-- What was read of a file of either format, as an engine passes it on.
+use Rattle.std.proofs.Common.{◌≡◌, ◌⊎◌, ◌∙◌, ◌+◌, ℕ, List, Option, Some, Result, Ok, Err, ap, refl, sym, subst, inl, inr}
+use Rattle.std.specs.Prelude.{IfSome}
+use Rattle.krb_keytab.specs.Entry.{KeytabEntry}
+use Rattle.krb_keytab.specs.Fault as keytab_fault
+use Rattle.krb_keytab.specs.Format.{IsKeytab, IsFaultOf as IsKeytabFaultOf}
 use Rattle.krb_keytab.specs.declared.fault.KeytabFault.{KeytabFault}
 use Rattle.krb_keytab.specs.declared.fault.KeytabFault.TheVariants as keytab
-use Rattle.krb_keytab.specs.Format.{IsFaultOf as IsKeytabFaultOf}
+use Rattle.krb_ccache.specs.Fault as cache_fault
+use Rattle.krb_ccache.specs.Format.{IsCache, IsFaultOf as IsCacheFaultOf}
+use Rattle.krb_ccache.specs.Value.{Cache as CacheValue}
 use Rattle.krb_ccache.specs.declared.fault.CacheFault.{CacheFault}
 use Rattle.krb_ccache.specs.declared.fault.CacheFault.TheVariants as cache
-use Rattle.krb_ccache.specs.Format.{IsFaultOf as IsCacheFaultOf}
+use Rattle.krbtool.specs.Inner.Reading.{ReadsAs, ReadsCache, ReadsKeytab}
 use Rattle.krbtool.specs.declared.fault.EngineFault.{EngineFault}
 use Rattle.krbtool.specs.declared.fault.EngineFault.TheVariants.{Keytab, Cache}
-use Rattle.krbtool.specs.Engine.{FailsBy, HasCacheFault, HasKeytabFault, IsUnread, ReadsTo}
-use Rattle.krbtool.proofs.FaultLaws.{IsOneOf, no_ok, none_met, passed_on, same_err, value_met}
+use Rattle.krbtool.specs.Engine.{FailsBy, HasCacheFault, HasKeytabFault, IsOfFile, IsUnread, OfCache, OfKeytab, ReadsOrFails, ReadsTo, failed_reads}
+use Rattle.krbtool.proofs.FaultLaws.{IsOneOf, if_some_map, no_ok, none_met, passed_on, same_err, value_met}
 
 -- one of three: the fault, or one of two that say that the file couldn't be had
-fails_by : {X : Type 0} (result : Result X EngineFault) (fault memory source : EngineFault) → IsUnread memory → IsUnread source
-    → IsOneOf result fault memory source → FailsBy result fault
-fails_by result fault memory source one other which = elim which [
+fails_by : {X : Type 0} (result : Result X EngineFault) (fault memory unread : EngineFault) → IsUnread memory → IsUnread unread
+    → IsOneOf result fault memory unread → FailsBy result fault
+fails_by result fault memory unread one other which = elim which [
   | inl e ↦ inl e
-  | inr b ↦ elim b [ inl e ↦ inr (memory, (e, one)) | inr e ↦ inr (source, (e, other)) ]
+  | inr b ↦ elim b [ inl e ↦ inr (memory, (e, one)) | inr e ↦ inr (unread, (e, other)) ]
 ]
 
-pub keytab_fails : {X Y : Type 0} (read : Result X KeytabFault) (result : Result Y EngineFault) (met : KeytabFault) (bytes : List ℕ) (fault : EngineFault)
-    → read ≡ Err met → result ≡ Err (Keytab met) → HasKeytabFault bytes fault
-    → ((it : KeytabFault) → IsKeytabFaultOf bytes it → IsOneOf read it keytab.OutOfMemory keytab.Read) → FailsBy result fault
-keytab_fails read result met bytes (Keytab it) is passed has only =
-    fails_by result (Keytab it) (Keytab keytab.OutOfMemory) (Keytab keytab.Read) tt tt
-    (passed_on Keytab keytab.OutOfMemory keytab.Read read result met it is passed (only it has))
-keytab_fails read result met bytes other is passed has only = absurd has
+-- a format's fault is passed on as this one of the engine
+module _ {V F : Type 0} (IsFile : List ℕ → V → Type 0) (IsFaultOf : List ℕ → F → Type 0) (memory unread : F) (wrap : F → EngineFault) (HasFault : List ℕ → EngineFault → Type 0) (IsOf : EngineFault → Type 0)
+    (no_memory : IsUnread (wrap memory)) (no_read : IsUnread (wrap unread)) (kind : (fault : F) → IsOf (wrap fault) × IsOfFile (wrap fault))
+    (has : (bytes : List ℕ) (fault : F) → IsFaultOf bytes fault → HasFault bytes (wrap fault)) (had : (bytes : List ℕ) (e : EngineFault) → HasFault bytes e → (fault : F) × (e ≡ wrap fault) × IsFaultOf bytes fault) where
+  value_passed : {X : Type 0} (from to : Option (List ℕ)) (before after failed : ℕ) (Holds : X → V → Type 0) (read : Result X F) (value : X) → ReadsAs IsFile IsFaultOf memory unread from to before after failed Holds read → read ≡ Ok value → after ≡ before + 0
+      → ReadsOrFails IsFile HasFault IsOf from to before after Holds (Ok value)
+  value_passed from to before after failed Holds read value r is failures = record {
+    found = rw is at r.found;
+    fault = tt;
+    faulty = λ bytes e tells its. let it = had bytes e its in absurd (none_met memory unread read value it.0 is (r.only bytes it.0 tells it.2));
+    kind = tt;
+    reads = failures;
+    taken = r.taken;
+  }
 
-pub no_keytab_fails : {X : Type 0} (read : Result X KeytabFault) (value : X) (bytes : List ℕ) (fault : EngineFault) → read ≡ Ok value → HasKeytabFault bytes fault
-    → ((it : KeytabFault) → IsKeytabFaultOf bytes it → IsOneOf read it keytab.OutOfMemory keytab.Read) → ⊥
-no_keytab_fails read value bytes (Keytab it) is has only = none_met keytab.OutOfMemory keytab.Read read value it is (only it has)
-no_keytab_fails read value bytes other is has only = absurd has
+  fault_passed : {X : Type 0} (from to : Option (List ℕ)) (before after failed : ℕ) (Holds : X → V → Type 0) (read : Result X F) (met : F) → ReadsAs IsFile IsFaultOf memory unread from to before after failed Holds read → read ≡ Err met
+      → after ≡ before + failed_reads {X = X} (Err (wrap met)) → ReadsOrFails IsFile HasFault IsOf from to before after Holds (Err (wrap met))
+  fault_passed from to before after failed Holds read met r is failures =
+      let fault = rw is at r.fault in
+      record {
+        found = tt;
+        fault = λ content. if_some_map from (λ bytes its. has bytes met its)
+            (fault (λ e. content.1 (subst (λ (f : F). IsUnread (wrap f)) (sym e) no_memory)) (λ e. content.1 (subst (λ (f : F). IsUnread (wrap f)) (sym e) no_read)));
+        faulty = λ bytes e tells its. let it = had bytes e its in
+            rw it.1 (fails_by (Err (wrap met)) (wrap it.0) (wrap memory) (wrap unread) no_memory no_read (passed_on wrap memory unread read (Err (wrap met)) met it.0 is refl (r.only bytes it.0 tells it.2)));
+        kind = kind met;
+        reads = failures;
+        taken = r.taken;
+      }
 
-pub cache_fails : {X Y : Type 0} (read : Result X CacheFault) (result : Result Y EngineFault) (met : CacheFault) (bytes : List ℕ) (fault : EngineFault)
-    → read ≡ Err met → result ≡ Err (Cache met) → HasCacheFault bytes fault
-    → ((it : CacheFault) → IsCacheFaultOf bytes it → IsOneOf read it cache.OutOfMemory cache.Read) → FailsBy result fault
-cache_fails read result met bytes (Cache it) is passed has only =
-    fails_by result (Cache it) (Cache cache.OutOfMemory) (Cache cache.Read) tt tt
-    (passed_on Cache cache.OutOfMemory cache.Read read result met it is passed (only it has))
-cache_fails read result met bytes other is passed has only = absurd has
+-- ---- a keytab
 
-pub no_cache_fails : {X : Type 0} (read : Result X CacheFault) (value : X) (bytes : List ℕ) (fault : EngineFault) → read ≡ Ok value → HasCacheFault bytes fault
-    → ((it : CacheFault) → IsCacheFaultOf bytes it → IsOneOf read it cache.OutOfMemory cache.Read) → ⊥
-no_cache_fails read value bytes (Cache it) is has only = none_met cache.OutOfMemory cache.Read read value it is (only it has)
-no_cache_fails read value bytes other is has only = absurd has
+keytab_had : (bytes : List ℕ) (e : EngineFault) → HasKeytabFault bytes e → (fault : KeytabFault) × (e ≡ Keytab fault) × IsKeytabFaultOf bytes fault
+keytab_had bytes (Keytab fault) its = (fault, refl, its)
+keytab_had bytes e its = absurd its
+
+keytab_counted : (X Y : Type 0) (fault : KeytabFault) → keytab_fault.failed_reads {T = X} (Err fault) ≡ failed_reads {X = Y} (Err (Keytab fault))
+keytab_counted X Y keytab.Read = refl
+keytab_counted X Y keytab.OutOfMemory = refl
+keytab_counted X Y keytab.Version = refl
+keytab_counted X Y (keytab.Truncated at) = refl
+keytab_counted X Y (keytab.BadEntry at) = refl
+keytab_counted X Y keytab.TooLong = refl
+keytab_counted X Y keytab.NoSuchEntry = refl
+
+pub keytab_passed : {X : Type 0} (from to : Option (List ℕ)) (before after : ℕ) (Holds : X → List KeytabEntry → Type 0) (read : Result X KeytabFault) (value : X) → ReadsKeytab from to before after Holds read → read ≡ Ok value
+    → ReadsOrFails IsKeytab HasKeytabFault OfKeytab from to before after Holds (Ok value)
+keytab_passed from to before after Holds read value r is =
+    value_passed IsKeytab IsKeytabFaultOf keytab.OutOfMemory keytab.Read Keytab HasKeytabFault OfKeytab tt tt (λ fault. (tt, tt)) (λ bytes fault its. its) keytab_had from to before after (keytab_fault.failed_reads read) Holds read value r is
+    (rw is at r.failures)
+
+pub keytab_fault_passed : {X : Type 0} (from to : Option (List ℕ)) (before after : ℕ) (Holds : X → List KeytabEntry → Type 0) (read : Result X KeytabFault) (met : KeytabFault) → ReadsKeytab from to before after Holds read → read ≡ Err met
+    → ReadsOrFails IsKeytab HasKeytabFault OfKeytab from to before after Holds (Err (Keytab met))
+keytab_fault_passed {X} from to before after Holds read met r is =
+    fault_passed IsKeytab IsKeytabFaultOf keytab.OutOfMemory keytab.Read Keytab HasKeytabFault OfKeytab tt tt (λ fault. (tt, tt)) (λ bytes fault its. its) keytab_had from to before after (keytab_fault.failed_reads read) Holds read met r is
+    (rw is at r.failures ∙ ap (λ n. before + n) (keytab_counted X X met))
+
+-- ---- a cache
+
+cache_had : (bytes : List ℕ) (e : EngineFault) → HasCacheFault bytes e → (fault : CacheFault) × (e ≡ Cache fault) × IsCacheFaultOf bytes fault
+cache_had bytes (Cache fault) its = (fault, refl, its)
+cache_had bytes e its = absurd its
+
+cache_counted : (X Y : Type 0) (fault : CacheFault) → cache_fault.failed_reads {T = X} (Err fault) ≡ failed_reads {X = Y} (Err (Cache fault))
+cache_counted X Y cache.Read = refl
+cache_counted X Y cache.OutOfMemory = refl
+cache_counted X Y cache.Version = refl
+cache_counted X Y cache.Header = refl
+cache_counted X Y (cache.BadItem at) = refl
+cache_counted X Y cache.TooLong = refl
+
+pub cache_passed : {X : Type 0} (from to : Option (List ℕ)) (before after : ℕ) (Holds : X → CacheValue → Type 0) (read : Result X CacheFault) (value : X) → ReadsCache from to before after Holds read → read ≡ Ok value
+    → ReadsOrFails IsCache HasCacheFault OfCache from to before after Holds (Ok value)
+cache_passed from to before after Holds read value r is =
+    value_passed IsCache IsCacheFaultOf cache.OutOfMemory cache.Read Cache HasCacheFault OfCache tt tt (λ fault. (tt, tt)) (λ bytes fault its. its) cache_had from to before after (cache_fault.failed_reads read) Holds read value r is
+    (rw is at r.failures)
+
+pub cache_fault_passed : {X : Type 0} (from to : Option (List ℕ)) (before after : ℕ) (Holds : X → CacheValue → Type 0) (read : Result X CacheFault) (met : CacheFault) → ReadsCache from to before after Holds read → read ≡ Err met
+    → ReadsOrFails IsCache HasCacheFault OfCache from to before after Holds (Err (Cache met))
+cache_fault_passed {X} from to before after Holds read met r is =
+    fault_passed IsCache IsCacheFaultOf cache.OutOfMemory cache.Read Cache HasCacheFault OfCache tt tt (λ fault. (tt, tt)) (λ bytes fault its. its) cache_had from to before after (cache_fault.failed_reads read) Holds read met r is
+    (rw is at r.failures ∙ ap (λ n. before + n) (cache_counted X X met))
+
+-- ---- the one value
 
 -- a fault was met in place of a value: the file couldn't be had
 missed : {X Y F : Type 0} (wrap : F → EngineFault) (memory source : F) (read : Result X F) (result : Result Y EngineFault) (met : F) (value : X)

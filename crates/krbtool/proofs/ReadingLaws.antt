@@ -14,7 +14,7 @@ use Rattle.krb_ccache.specs.declared.fault.CacheFault.{CacheFault}
 use Rattle.krb_ccache.specs.declared.fault.CacheFault.TheVariants as of_cache
 use Rattle.krbtool.specs.Engine.{OfFile}
 use Rattle.krbtool.specs.Inner.Reading.{ReadsAs, ReadsCache, ReadsKeytab}
-use Rattle.krbtool.proofs.FaultLaws.{IsOneOf, fault_kept, no_ok, none_met, same_err}
+use Rattle.krbtool.proofs.FaultLaws.{IsOneOf, fault_kept, if_ok_map, no_ok, none_met, same_err}
 use Rattle.krbtool.proofs.FileLaws.{of_file}
 
 -- a fault is one of memory, or of the source, or of the content
@@ -51,7 +51,17 @@ module _ {V F : Type 0} (Is : List ℕ → Result V F → Type 0) (memory unread
     failures = failures;
   }
 
-  -- a whole file was read at once, and something was made of its value
+  -- a whole file was read at once
+  pub whole : (from to : Option (List ℕ)) (before after failed : ℕ) (read : Result V F) → ReadsFile Is memory unread from to read → after ≡ before + failed → Reads from to before after failed (λ made value. made ≡ value) read
+  whole from to before after failed read reads failures = record {
+    found = if_ok_map read (λ value holds. of_file (λ bytes value. Is bytes (Ok value)) from value (λ other. value ≡ other) holds refl) reads.found;
+    fault = reads.fault;
+    only = λ bytes fault. reads.only bytes (Err fault);
+    taken = reads.taken;
+    failures = failures;
+  }
+
+  -- and something was made of its value
   pub made : {X : Type 0} (from to : Option (List ℕ)) (before after failed : ℕ) (Holds : X → V → Type 0) (read : Result V F) (value : V) (it : X) → ReadsFile Is memory unread from to read → read ≡ Ok value → Holds it value → after ≡ before + failed
       → Reads from to before after failed Holds (Ok it)
   made from to before after failed Holds read value it reads is holds failures = record {
@@ -73,15 +83,19 @@ module _ {V F : Type 0} (Is : List ℕ → Result V F → Type 0) (memory unread
     failures = failures;
   }
 
-  -- or there was no memory
-  pub unmade : {X : Type 0} (from to : Option (List ℕ)) (before after failed : ℕ) (Holds : X → V → Type 0) → TakesFile from to → after ≡ before + failed → Reads from to before after failed Holds (Err memory)
-  unmade from to before after failed Holds taken failures = record {
+  -- or it couldn't be had
+  pub missed : {X : Type 0} (from to : Option (List ℕ)) (before after failed : ℕ) (Holds : X → V → Type 0) (met : F) → (met ≡ memory) ⊎ (met ≡ unread) → TakesFile from to → after ≡ before + failed → Reads from to before after failed Holds (Err met)
+  missed from to before after failed Holds met which taken failures = record {
     found = tt;
-    fault = λ apart other. absurd (apart refl);
-    only = λ bytes fault tells has. inr (inl refl);
+    fault = λ apart other. elim which [ inl m ↦ absurd (apart m) | inr s ↦ absurd (other s) ];
+    only = λ bytes fault tells has. elim which [ inl m ↦ inr (inl (ap (λ (f : F). Err f) m)) | inr s ↦ inr (inr (ap (λ (f : F). Err f) s)) ];
     taken = taken;
     failures = failures;
   }
+
+  -- or there was no memory for what is made
+  pub unmade : {X : Type 0} (from to : Option (List ℕ)) (before after failed : ℕ) (Holds : X → V → Type 0) → TakesFile from to → after ≡ before + failed → Reads from to before after failed Holds (Err memory)
+  unmade from to before after failed Holds taken failures = missed from to before after failed Holds memory (inl refl) taken failures
 
 -- ---- a keytab
 

@@ -1,11 +1,12 @@
 -- What an engine's answer says of its source and of its sink.
-use Rattle.std.specs.Prelude.{◌≡◌, ◌⊎◌, ℕ, List, Option, Some, None, Result, Ok, Err, IfSome}
+use Rattle.std.specs.Prelude.{◌≡◌, ◌⊎◌, ◌+◌, ℕ, List, Option, Some, None, Result, Ok, Err, IfOk, IfErr, IfSome}
 use Rattle.krb_keytab.specs.declared.fault.KeytabFault.{KeytabFault}
 use Rattle.krb_keytab.specs.declared.fault.KeytabFault.TheVariants as keytab
 use Rattle.krb_ccache.specs.declared.fault.CacheFault.{CacheFault}
 use Rattle.krb_ccache.specs.declared.fault.CacheFault.TheVariants as cache
 use Rattle.krb_keytab.specs.Format.{IsFaultOf as IsKeytabFaultOf}
 use Rattle.krb_ccache.specs.Format.{IsFaultOf as IsCacheFaultOf}
+use Rattle.krb_name.specs.File.{TakesFile}
 use Rattle.krb_ap.specs.declared.request_fault.RequestFault.{RequestFault}
 use Rattle.krb_ap.specs.declared.request_fault.RequestFault.TheVariants as request
 use Rattle.krb_ap.specs.declared.finish_fault.FinishFault.{FinishFault}
@@ -158,3 +159,15 @@ failed_added_reads _ = 0
 abbrev pub failed_writes : {X : Type 0} → Result X EngineFault → ℕ
 failed_writes (Err Write) = 1
 failed_writes _ = 0
+
+-- The bytes that were to come are a file, and this holds of what was made and of the file's value; or it fails. A fault of the content is
+-- the file's own, and is answered wherever the file has it. Each is a fault of such a file. So many reads failed, and the source gave at
+-- most one byte past the limit.
+pub record ReadsOrFails {X V : Type 0} (IsFile : List ℕ → V → Type 0) (IsFaultOf : List ℕ → EngineFault → Type 0) (IsOf : EngineFault → Type 0)
+    (from to : Option (List ℕ)) (before after : ℕ) (Holds : X → V → Type 0) (result : Result X EngineFault) : Type 0 where
+  pub found : IfOk result (λ made. OfFile IsFile from (Holds made))
+  pub fault : IfErr result (λ e. IsContent e → IfSome from (λ bytes. IsFaultOf bytes e))
+  pub faulty : (bytes : List ℕ) (fault : EngineFault) → from ≡ Some bytes → IsFaultOf bytes fault → FailsBy result fault
+  pub kind : IfErr result (λ e. IsOf e × IsOfFile e)
+  pub reads : after ≡ before + failed_reads result
+  pub taken : TakesFile from to

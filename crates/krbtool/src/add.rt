@@ -4,7 +4,6 @@ ghost use Rattle.std.specs.Prelude.{◌≡◌, ◌≢◌, ◌⊎◌, ◌++◌, �
 ghost use Rattle.std.specs.Io.KnownBytes.{Appends, Keeps};
 ghost use Rattle.krb_keytab.specs.Edit.{WouldPass};
 ghost use Rattle.krb_keytab.specs.Entry.{KeytabEntry};
-ghost use Rattle.krb_keytab.specs.Fault as of_keytab;
 ghost use Rattle.krb_keytab.specs.Format.{IsAnswerOf, IsFaultOf, IsKeytab};
 ghost use Rattle.krb_keytab.specs.SameKey.{HasKeyOf};
 ghost use Rattle.krb_keytab.specs.declared.fault.KeytabFault.{KeytabFault};
@@ -13,6 +12,7 @@ ghost use Rattle.krb_name.specs.Flow.{AppendsBeginning};
 ghost use Rattle.krbtool.specs.Adding.{IsExtended, PassesLimit};
 ghost use Rattle.krbtool.specs.Engine.{added_fault, failed_added_reads, failed_reads, failed_writes, FailsWith, IsOfAdding, keytab_fault, OfFile};
 ghost use Rattle.krbtool.specs.Inner.Adding.{TakesEntry};
+ghost use Rattle.krbtool.specs.Inner.Reading.{ReadsKeytab};
 
 use crate::fault::EngineFault;
 use crate::whole::{read_bytes, write_bytes};
@@ -122,15 +122,8 @@ fn read_held<S: Source>(alloc: Global, source: &mut S) -> Result<(Vec<u8>, Keyta
     requires { S.failure_count source.old < 2 ^ 64 - 1 }
     ensures found { IfOk result (λ read. IsKeytab read.0.items read.1) }
     ensures whole { IfOk result (λ read. IfSome (S.remaining source.old) (λ bytes. bytes ≡ read.0.items)) }
-    ensures fault { IfErr result (λ fault.
-        fault ≢ KeytabFault.OutOfMemory → fault ≢ KeytabFault.Read
-        → IfSome (S.remaining source.old) (λ bytes. IsFaultOf bytes fault)) }
-    ensures only { (bytes : List ℕ) (fault : KeytabFault)
-        → S.remaining source.old ≡ Some bytes → IsFaultOf bytes fault
-        → (result ≡ Err fault) ⊎ ((result ≡ Err KeytabFault.OutOfMemory) ⊎ (result ≡ Err KeytabFault.Read)) }
-    ensures taken { TakesFile (S.remaining source.old) (S.remaining source.new) }
-    ensures failed { S.failure_count source.new
-        ≡ S.failure_count source.old + of_keytab.failed_reads result }
+    ensures reads { ReadsKeytab (S.remaining source.old) (S.remaining source.new)
+        (S.failure_count source.old) (S.failure_count source.new) (λ read entries. read.1 ≡ entries) result }
 {
     let file = read_bytes(alloc, source)?;
     let held = Keytab::parse(alloc, &file)?;

@@ -1,7 +1,7 @@
 //! The formats of the files that commands read.
 
-ghost use Rattle.std.specs.Prelude.{◌≡◌, ◌+◌, ◌-◌, ◌^◌, ◌<◌, ℕ, List, Some, IfOk, IfErr, IfSome, length};
-ghost use Rattle.krb_name.specs.File.{TakesFile, file_limit};
+ghost use Rattle.std.specs.Prelude.{◌≡◌, ◌-◌, ◌^◌, ◌<◌, ℕ, List, Some, IfOk, IfErr, length};
+ghost use Rattle.krb_name.specs.File.{file_limit};
 ghost use Rattle.krb_ccache.specs.Format as in_cache;
 ghost use Rattle.krb_keytab.specs.Format.{IsKeytab};
 ghost use Rattle.krb_keytab.specs.Written.{written};
@@ -9,7 +9,7 @@ ghost use Rattle.krb_keytab.specs.declared.fault.KeytabFault.TheVariants.{TooLon
 ghost use Rattle.krb_ccache.specs.declared.fault.CacheFault.TheVariants.{TooLong as LongCache};
 ghost use Rattle.krbtool.specs.declared.fault.EngineFault.{EngineFault};
 ghost use Rattle.krbtool.specs.declared.fault.EngineFault.TheVariants.{Keytab as OfTheKeytab, Cache as OfTheCache};
-ghost use Rattle.krbtool.specs.Engine.{FailsBy, HasCacheFault, HasKeytabFault, IsContent, IsOfFile, OfCache, OfFile, OfKeytab, ReadsTo, failed_reads};
+ghost use Rattle.krbtool.specs.Engine.{FailsBy, HasCacheFault, HasKeytabFault, IsContent, IsOfFile, OfCache, OfKeytab, ReadsOrFails, ReadsTo, failed_reads};
 
 use crate::fault::EngineFault;
 use crate::walk::{walk_ccache, walk_keytab};
@@ -40,25 +40,15 @@ pub trait FileFormat: Sized + Drop {
     /// Reads a file to its end, or to one byte past 16,777,216.
     fn read_file<S: Source>(alloc: Global, source: &mut S) -> Result<Self, EngineFault>
         requires { S.failure_count source.old < 2 ^ 64 - 1 }
-        ensures found { IfOk result (λ value. IfSome (S.remaining source.old) (λ given. is_file given value)) }
-        ensures only { (given : List ℕ) (value : Self) → S.remaining source.old ≡ Some given → is_file given value → ReadsTo result value }
-        ensures fault { IfErr result (λ e. IsContent e → IfSome (S.remaining source.old) (λ given. is_fault_of given e)) }
-        ensures faulty { (given : List ℕ) (fault : EngineFault)
-            → S.remaining source.old ≡ Some given → is_fault_of given fault → FailsBy result fault }
-        ensures kind { IfErr result (λ e. is_of e × IsOfFile e) }
-        ensures reads { S.failure_count source.new ≡ S.failure_count source.old + failed_reads result }
-        ensures taken { TakesFile (S.remaining source.old) (S.remaining source.new) };
+        ensures reads { ReadsOrFails is_file is_fault_of is_of (S.remaining source.old) (S.remaining source.new)
+            (S.failure_count source.old) (S.failure_count source.new) (λ read value. read ≡ value) result }
+        ensures only { (given : List ℕ) (value : Self) → S.remaining source.old ≡ Some given → is_file given value → ReadsTo result value };
 
     /// Reads a file as `read_file` does, with one entry or credential at hand at a time, and returns how many it has.
     fn count_file<S: Source>(alloc: Global, source: &mut S) -> Result<usize, EngineFault>
         requires { S.failure_count source.old < 2 ^ 64 - 1 }
-        ensures found { IfOk result (λ count. OfFile is_file (S.remaining source.old) (λ value. count ≡ size value)) }
-        ensures fault { IfErr result (λ e. IsContent e → IfSome (S.remaining source.old) (λ given. is_fault_of given e)) }
-        ensures faulty { (given : List ℕ) (fault : EngineFault)
-            → S.remaining source.old ≡ Some given → is_fault_of given fault → FailsBy result fault }
-        ensures kind { IfErr result (λ e. is_of e × IsOfFile e) }
-        ensures reads { S.failure_count source.new ≡ S.failure_count source.old + failed_reads result }
-        ensures taken { TakesFile (S.remaining source.old) (S.remaining source.new) };
+        ensures { ReadsOrFails is_file is_fault_of is_of (S.remaining source.old) (S.remaining source.new)
+            (S.failure_count source.old) (S.failure_count source.new) (λ count value. count ≡ size value) result };
 
     /// Returns the bytes of a file with this value.
     fn file_bytes(&self, alloc: Global) -> Result<Vec<u8>, EngineFault>

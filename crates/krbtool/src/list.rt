@@ -5,7 +5,7 @@ ghost use Rattle.std.specs.Io.KnownBytes.{Appends, Keeps};
 ghost use Rattle.krb_name.specs.File.{TakesFile};
 ghost use Rattle.krb_name.specs.Flow.{AppendsBeginning};
 ghost use Rattle.krbtool.specs.Lines.{keytab_line, keytab_lines, credential_line, config_line, ticket_line, times_of, names_of, cache_lines};
-ghost use Rattle.krbtool.specs.Engine.{FailsBy, IsContent, IsOfFile, OfFile, failed_reads, failed_writes};
+ghost use Rattle.krbtool.specs.Engine.{FailsBy, IsContent, IsOfFile, OfFile, ReadsOrFails, failed_reads, failed_writes};
 
 use crate::fault::EngineFault;
 use crate::format::FileFormat;
@@ -25,14 +25,9 @@ pub trait Listing<F: FileFormat> {
     /// Reads a file to its end, or to one byte past 16,777,216, and returns what is written of it.
     fn read_text<S: Source>(&self, alloc: Global, source: &mut S) -> Result<String, EngineFault>
         requires { S.failure_count source.old < 2 ^ 64 - 1 }
-        ensures found { IfOk result (λ made.
-            OfFile F.is_file (S.remaining source.old) (λ value. string_bytes made ≡ text self.now value)) }
-        ensures fault { IfErr result (λ e. IsContent e → IfSome (S.remaining source.old) (λ given. F.is_fault_of given e)) }
-        ensures faulty { (given : List ℕ) (fault : EngineFault)
-            → S.remaining source.old ≡ Some given → F.is_fault_of given fault → FailsBy result fault }
-        ensures kind { IfErr result (λ e. F.is_of e × IsOfFile e) }
-        ensures reads { S.failure_count source.new ≡ S.failure_count source.old + failed_reads result }
-        ensures taken { TakesFile (S.remaining source.old) (S.remaining source.new) };
+        ensures { ReadsOrFails F.is_file F.is_fault_of F.is_of (S.remaining source.old) (S.remaining source.new)
+            (S.failure_count source.old) (S.failure_count source.new)
+            (λ made value. string_bytes made ≡ text self.now value) result };
 }
 
 /// Lists a keytab or a credential cache: reads it and writes it in this way.

@@ -1,14 +1,11 @@
-use Rattle.std.proofs.Common.{◌∙◌, ap, Err}
 use Rattle.std.proofs.lemmas.Result.{err_from_is_err_and}
-use Rattle.krbtool.proofs.FormatLaws.{cache_fails, no_cache_fails}
+use Rattle.krbtool.proofs.FormatLaws.{cache_fault_passed, cache_passed}
 use Rattle.krbtool.proofs.table.CacheTableListingCCache.read_text.Goals as goal
 
-pub returns-in_err-table-clause-faulty : goal.returns-in_err-table-clause-faulty
-returns-in_err-table-clause-faulty g c = λ bytes fault tells has.
+pub returns-in_err-table : goal.returns-in_err-table
+returns-in_err-table g c =
     let p = err_from_is_err_and c.from_residual.result c.from_residual.ensures.1 in
-    cache_fails c.table_of_ccache.result c.from_residual.result c.in_err-table.field-0.0 bytes fault c.in_err-table.was (p.1 ∙ ap (λ e. Err e) p.2) has
-    (λ it is. c.table_of_ccache.ensures.only bytes it tells is)
+    rw (p.1, p.2) (cache_fault_passed _ _ _ _ _ c.table_of_ccache.result c.in_err-table.field-0.0 c.table_of_ccache.ensures c.in_err-table.was)
 
-pub returns-clause-faulty : goal.returns-clause-faulty
-returns-clause-faulty g c = λ bytes fault tells has.
-    absurd (no_cache_fails c.table_of_ccache.result c.in_ok-table.table bytes fault c.in_ok-table.was has (λ it is. c.table_of_ccache.ensures.only bytes it tells is))
+pub returns : goal.returns
+returns g c = cache_passed _ _ _ _ _ c.table_of_ccache.result c.in_ok-table.table c.table_of_ccache.ensures c.in_ok-table.was
