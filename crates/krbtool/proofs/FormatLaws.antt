@@ -1,6 +1,7 @@
 -- What was read of a file of either format, as an engine passes it on.
 use Rattle.std.proofs.Common.{◌≡◌, ◌⊎◌, ◌∙◌, ◌+◌, ℕ, List, Option, Some, Result, Ok, Err, ap, refl, sym, subst, inl, inr}
 use Rattle.std.specs.Prelude.{IfSome}
+use Rattle.krb_name.specs.File.{ReadsFile}
 use Rattle.krb_keytab.specs.Entry.{KeytabEntry}
 use Rattle.krb_keytab.specs.Fault as keytab_fault
 use Rattle.krb_keytab.specs.Format.{IsKeytab, IsFaultOf as IsKeytabFaultOf}
@@ -110,25 +111,18 @@ cache_fault_passed {X} from to before after Holds read met r is =
 
 -- ---- the one value
 
--- a fault was met in place of a value: the file couldn't be had
-missed : {X Y F : Type 0} (wrap : F → EngineFault) (memory source : F) (read : Result X F) (result : Result Y EngineFault) (met : F) (value : X)
-    → IsUnread (wrap memory) → IsUnread (wrap source) → read ≡ Err met → result ≡ Err (wrap met) → (read ≡ Ok value) ⊎ ((read ≡ Err memory) ⊎ (read ≡ Err source))
-    → (e : EngineFault) × ((result ≡ Err e) × IsUnread e)
-missed {F = F} wrap memory source read result met value one other is passed which =
-    let passes : (f : F) → read ≡ Err f → result ≡ Err (wrap f) = λ f e. passed ∙ ap (λ (g : F). Err (wrap g)) (same_err met f (sym is ∙ e)) in
-    elim which [
-      | inl e ↦ absurd (no_ok value met (sym e ∙ is))
-      | inr b ↦ elim b [ inl e ↦ (wrap memory, (passes memory e, one)) | inr e ↦ (wrap source, (passes source e, other)) ]
-    ]
+module _ {V F : Type 0} (Is : List ℕ → Result V F → Type 0) (memory unread : F) (from to : Option (List ℕ)) (read : Result V F) where
+  -- the value that was met is the file's
+  pub value_told : (met : V) → ReadsFile Is memory unread from to read → read ≡ Ok met → (bytes : List ℕ) (value : V) → from ≡ Some bytes → Is bytes (Ok value) → ReadsTo (Ok met) value
+  value_told met r is bytes value tells its = inl (ap (λ (v : V). Ok v) (value_met memory unread read met value is (r.only bytes (Ok value) tells its)))
 
-pub keytab_missed : {X Y : Type 0} (read : Result X KeytabFault) (result : Result Y EngineFault) (met : KeytabFault) (value : X) → read ≡ Err met → result ≡ Err (Keytab met)
-    → (read ≡ Ok value) ⊎ ((read ≡ Err keytab.OutOfMemory) ⊎ (read ≡ Err keytab.Read)) → (e : EngineFault) × ((result ≡ Err e) × IsUnread e)
-keytab_missed read result met value is passed which = missed Keytab keytab.OutOfMemory keytab.Read read result met value tt tt is passed which
-
-pub cache_missed : {X Y : Type 0} (read : Result X CacheFault) (result : Result Y EngineFault) (met : CacheFault) (value : X) → read ≡ Err met → result ≡ Err (Cache met)
-    → (read ≡ Ok value) ⊎ ((read ≡ Err cache.OutOfMemory) ⊎ (read ≡ Err cache.Read)) → (e : EngineFault) × ((result ≡ Err e) × IsUnread e)
-cache_missed read result met value is passed which = missed Cache cache.OutOfMemory cache.Read read result met value tt tt is passed which
-
-pub reads_met : {X F : Type 0} (memory source : F) (read : Result X F) (met value : X) → read ≡ Ok met
-    → (read ≡ Ok value) ⊎ ((read ≡ Err memory) ⊎ (read ≡ Err source)) → ReadsTo (Ok met) value
-reads_met memory source read met value is which = inl (ap (λ v. Ok v) (value_met memory source read met value is which))
+  -- a fault was met in place of a value: the file couldn't be had
+  pub fault_told : (wrap : F → EngineFault) (met : F) → IsUnread (wrap memory) → IsUnread (wrap unread) → ReadsFile Is memory unread from to read → read ≡ Err met
+      → (bytes : List ℕ) (value : V) → from ≡ Some bytes → Is bytes (Ok value) → ReadsTo (Err (wrap met)) value
+  fault_told wrap met one other r is bytes value tells its = elim (r.only bytes (Ok value) tells its) [
+    | inl e ↦ absurd (no_ok value met (sym e ∙ is))
+    | inr b ↦ elim b [
+        | inl e ↦ inr (wrap memory, (ap (λ (f : F). Err (wrap f)) (same_err met memory (sym is ∙ e)), one))
+        | inr e ↦ inr (wrap unread, (ap (λ (f : F). Err (wrap f)) (same_err met unread (sym is ∙ e)), other))
+      ]
+  ]

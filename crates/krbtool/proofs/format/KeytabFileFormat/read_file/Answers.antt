@@ -1,25 +1,24 @@
-use Rattle.std.proofs.Common.{◌∙◌, ap, inr, rules, Err, Ok}
 use Rattle.std.proofs.lemmas.Result.{err_from_is_err_and}
 use Rattle.krb_keytab.specs.Format.{IsAnswerOf}
 use Rattle.krb_keytab.specs.declared.fault.KeytabFault.TheVariants.{OutOfMemory, Read}
-use Rattle.krbtool.proofs.FormatLaws.{keytab_fault_passed, keytab_missed, keytab_passed, reads_met}
+use Rattle.krbtool.specs.declared.fault.EngineFault.TheVariants.{Keytab}
+use Rattle.krbtool.proofs.FormatLaws.{keytab_fault_passed, keytab_passed, fault_told, value_told}
 use Rattle.krbtool.proofs.ReadingLaws.{whole}
 use Rattle.krbtool.proofs.format.KeytabFileFormat.read_file.Goals as goal
 
-pub returns-in_err-keytab-clause-reads : goal.returns-in_err-keytab-clause-reads
-returns-in_err-keytab-clause-reads g c =
+pub returns-in_err-keytab : goal.returns-in_err-keytab
+returns-in_err-keytab g c =
     let p = err_from_is_err_and c.from_residual.result c.from_residual.ensures.1 in
-    rw (p.1, p.2) (keytab_fault_passed _ _ _ _ _ c.read.result c.in_err-keytab.field-0.0 (whole IsAnswerOf OutOfMemory Read _ _ _ _ _ c.read.result c.read.ensures.reads c.read.ensures.failed) c.in_err-keytab.was)
+    let read = c.read.ensures in
+    rw (p.1, p.2) (record {
+      reads = keytab_fault_passed _ _ _ _ _ c.read.result c.in_err-keytab.field-0.0 (whole IsAnswerOf OutOfMemory Read _ _ _ _ _ c.read.result read.reads read.failed) c.in_err-keytab.was;
+      only = fault_told IsAnswerOf OutOfMemory Read _ _ c.read.result Keytab c.in_err-keytab.field-0.0 tt tt read.reads c.in_err-keytab.was;
+    })
 
-pub returns-in_err-keytab-clause-only : goal.returns-in_err-keytab-clause-only
-returns-in_err-keytab-clause-only g c = λ bytes value tells is.
-    let p = err_from_is_err_and c.from_residual.result c.from_residual.ensures.1 in
-    inr (keytab_missed c.read.result c.from_residual.result c.in_err-keytab.field-0.0 value c.in_err-keytab.was (p.1 ∙ ap (λ e. Err e) p.2)
-    (c.read.ensures.reads.only bytes (Ok value) tells is))
-
-pub returns-clause-reads : goal.returns-clause-reads
-returns-clause-reads g c = keytab_passed _ _ _ _ _ c.read.result c.in_ok-keytab.keytab (whole IsAnswerOf OutOfMemory Read _ _ _ _ _ c.read.result c.read.ensures.reads c.read.ensures.failed) c.in_ok-keytab.was
-
-pub returns-clause-only : goal.returns-clause-only
-returns-clause-only g c = λ bytes value tells is.
-    reads_met _ _ c.read.result c.in_ok-keytab.keytab value c.in_ok-keytab.was (c.read.ensures.reads.only bytes (Ok value) tells is)
+pub returns : goal.returns
+returns g c =
+    let read = c.read.ensures in
+    record {
+      reads = keytab_passed _ _ _ _ _ c.read.result c.in_ok-keytab.keytab (whole IsAnswerOf OutOfMemory Read _ _ _ _ _ c.read.result read.reads read.failed) c.in_ok-keytab.was;
+      only = value_told IsAnswerOf OutOfMemory Read _ _ c.read.result c.in_ok-keytab.keytab read.reads c.in_ok-keytab.was;
+    }
