@@ -1,16 +1,15 @@
 //! The engine of `add-keys`.
 
-ghost use Rattle.std.specs.Prelude.{◌≡◌, ◌≢◌, ◌⊎◌, ◌++◌, ◌+◌, ◌-◌, ◌^◌, ◌<◌, ◌≤◌, ◌↔◌, ℕ, List, Some, Err, IsTrue, IfOk, IfErr, IfSome, OnOk, length, take};
+ghost use Rattle.std.specs.Prelude.{◌≡◌, ◌⊎◌, ◌++◌, ◌+◌, ◌-◌, ◌^◌, ◌<◌, ◌≤◌, ◌↔◌, List, Err, IsTrue, IfOk, IfErr, IfSome, OnOk, length, take};
 ghost use Rattle.std.specs.Io.KnownBytes.{Appends, Keeps};
 ghost use Rattle.krb_keytab.specs.Edit.{WouldPass};
 ghost use Rattle.krb_keytab.specs.Entry.{KeytabEntry};
-ghost use Rattle.krb_keytab.specs.Format.{IsAnswerOf, IsFaultOf, IsKeytab};
+ghost use Rattle.krb_keytab.specs.Format.{IsKeytab};
 ghost use Rattle.krb_keytab.specs.SameKey.{HasKeyOf};
 ghost use Rattle.krb_keytab.specs.declared.fault.KeytabFault.{KeytabFault};
-ghost use Rattle.krb_name.specs.File.{TakesFile, ReadsFile};
 ghost use Rattle.krb_name.specs.Flow.{AppendsBeginning};
-ghost use Rattle.krbtool.specs.Adding.{IsExtended, PassesLimit};
-ghost use Rattle.krbtool.specs.Engine.{added_fault, failed_added_reads, failed_reads, failed_writes, FailsWith, IsOfAdding, keytab_fault, OfFile};
+ghost use Rattle.krbtool.specs.Adding.{IsExtended, PassesLimit, ReadsHeld, ReadsOthers};
+ghost use Rattle.krbtool.specs.Engine.{failed_writes, IsOfAdding, OfFile};
 ghost use Rattle.krbtool.specs.Inner.Adding.{TakesEntry};
 ghost use Rattle.krbtool.specs.Inner.Reading.{ReadsKeytab};
 
@@ -51,17 +50,12 @@ pub fn add_keys<S: Source, F: Source, T: Sink>(
         Appends (T.taken sink.old) (T.taken sink.new) new × (count ≡ length new))))) }
 
     // A fault of the keytab is its own, and goes first; or it would be too long.
-    ensures fault { IfErr result (λ e. IfSome (keytab_fault e) (λ fault. IfSome (S.remaining source.old) (λ bytes.
-        IsFaultOf bytes fault ⊎ ((fault ≡ KeytabFault.TooLong)
-        × OfFile IsKeytab (F.remaining others.old) (PassesLimit bytes))))) }
-    ensures faulty { (bytes : List ℕ) (fault : KeytabFault)
-        → S.remaining source.old ≡ Some bytes → IsFaultOf bytes fault → FailsWith result fault }
+    ensures held { ReadsHeld (S.remaining source.old) (S.remaining source.new)
+        (S.failure_count source.old) (S.failure_count source.new) (F.remaining others.old) result }
 
     // A fault of the other keytab is its own; and nothing is added if it has one.
-    ensures other_fault { IfErr result (λ e. IfSome (added_fault e) (λ fault.
-        IfSome (F.remaining others.old) (λ bytes. IsFaultOf bytes fault))) }
-    ensures other_faulty { (bytes : List ℕ) (fault : KeytabFault)
-        → F.remaining others.old ≡ Some bytes → IsFaultOf bytes fault → OnOk result ⊥ }
+    ensures others { ReadsOthers (F.remaining others.old) (F.remaining others.new)
+        (F.failure_count others.old) (F.failure_count others.new) result }
 
     // If nothing is added, the sink is unchanged; if it fails, it took a beginning.
     ensures unread { (fault : KeytabFault)
@@ -72,11 +66,6 @@ pub fn add_keys<S: Source, F: Source, T: Sink>(
         AppendsBeginning (T.taken sink.old) (T.taken sink.new) new))) }
     ensures memory { result ≡ Err EngineFault.OutOfMemory → ⊥ }
     ensures kind { IfErr result IsOfAdding }
-    ensures reads { S.failure_count source.new ≡ S.failure_count source.old + failed_reads result }
-    ensures other_reads { F.failure_count others.new
-        ≡ F.failure_count others.old + failed_added_reads result }
-    ensures taken { TakesFile (S.remaining source.old) (S.remaining source.new) }
-    ensures other_taken { TakesFile (F.remaining others.old) (F.remaining others.new) }
     ensures writes { T.failure_count sink.new ≡ T.failure_count sink.old + failed_writes result }
 {
     let file = extended(alloc, source, others)?;
@@ -94,23 +83,13 @@ fn extended<S: Source, F: Source>(
     ensures added { IfOk result (λ new. IfSome (S.remaining source.old) (λ bytes.
         OfFile IsKeytab (F.remaining others.old) (λ entries.
         IsExtended bytes entries (λ whole. new.items ≡ whole)))) }
-    ensures fault { IfErr result (λ e. IfSome (keytab_fault e) (λ fault. IfSome (S.remaining source.old) (λ bytes.
-        IsFaultOf bytes fault ⊎ ((fault ≡ KeytabFault.TooLong)
-        × OfFile IsKeytab (F.remaining others.old) (PassesLimit bytes))))) }
-    ensures faulty { (bytes : List ℕ) (fault : KeytabFault)
-        → S.remaining source.old ≡ Some bytes → IsFaultOf bytes fault → FailsWith result fault }
-    ensures other_fault { IfErr result (λ e. IfSome (added_fault e) (λ fault.
-        IfSome (F.remaining others.old) (λ bytes. IsFaultOf bytes fault))) }
-    ensures other_faulty { (bytes : List ℕ) (fault : KeytabFault)
-        → F.remaining others.old ≡ Some bytes → IsFaultOf bytes fault → OnOk result ⊥ }
+    ensures held { ReadsHeld (S.remaining source.old) (S.remaining source.new)
+        (S.failure_count source.old) (S.failure_count source.new) (F.remaining others.old) result }
+    ensures others { ReadsOthers (F.remaining others.old) (F.remaining others.new)
+        (F.failure_count others.old) (F.failure_count others.new) result }
     ensures memory { result ≡ Err EngineFault.OutOfMemory → ⊥ }
     ensures write { result ≡ Err EngineFault.Write → ⊥ }
     ensures kind { IfErr result IsOfAdding }
-    ensures reads { S.failure_count source.new ≡ S.failure_count source.old + failed_reads result }
-    ensures other_reads { F.failure_count others.new
-        ≡ F.failure_count others.old + failed_added_reads result }
-    ensures taken { TakesFile (S.remaining source.old) (S.remaining source.new) }
-    ensures other_taken { TakesFile (F.remaining others.old) (F.remaining others.new) }
 {
     let (file, held) = read_held(alloc, source)?;
     let others = read_others(alloc, others)?;
@@ -135,14 +114,9 @@ fn read_others<F: Source>(alloc: Global, others: &mut F) -> Result<Keytab, Engin
     requires { F.failure_count others.old < 2 ^ 64 - 1 }
     ensures found { IfOk result (λ keytab.
         IfSome (F.remaining others.old) (λ bytes. IsKeytab bytes keytab)) }
-    ensures fault { IfErr result (λ e. IfSome (added_fault e) (λ fault.
-        IfSome (F.remaining others.old) (λ bytes. IsFaultOf bytes fault))) }
-    ensures faulty { (bytes : List ℕ) (fault : KeytabFault)
-        → F.remaining others.old ≡ Some bytes → IsFaultOf bytes fault → OnOk result ⊥ }
+    ensures others { ReadsOthers (F.remaining others.old) (F.remaining others.new)
+        (F.failure_count others.old) (F.failure_count others.new) result }
     ensures kind { IfErr result (λ e. (fault : KeytabFault) × (e ≡ EngineFault.Added fault)) }
-    ensures reads { F.failure_count others.new
-        ≡ F.failure_count others.old + failed_added_reads result }
-    ensures taken { TakesFile (F.remaining others.old) (F.remaining others.new) }
 {
     match Keytab::read(alloc, others) {
         Ok(keytab) => Ok(keytab),

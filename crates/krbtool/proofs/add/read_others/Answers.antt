@@ -1,8 +1,12 @@
-use Rattle.std.proofs.Common.{Err}
+use Rattle.std.proofs.Common.{rules, Err}
 use Rattle.krb_keytab.specs.declared.fault.KeytabFault.TheVariants.{OutOfMemory, Read}
 use Rattle.krbtool.proofs.FaultLaws.{none_met}
 use Rattle.krbtool.proofs.add.read_others.Goals as goal
 
-pub returns-in-Ok-clause-faulty : goal.returns-in-Ok-clause-faulty
-returns-in-Ok-clause-faulty g c = λ bytes fault tells is.
-    none_met OutOfMemory Read c.read.result c.in-Ok.keytab fault c.in-Ok.is (c.read.ensures.reads.only bytes (Err fault) tells is)
+pub returns-in-Ok-clause-others : goal.returns-in-Ok-clause-others
+returns-in-Ok-clause-others g c = record {
+  fault = tt;
+  faulty = λ bytes fault tells is. none_met OutOfMemory Read c.read.result c.in-Ok.keytab fault c.in-Ok.is (c.read.ensures.reads.only bytes (Err fault) tells is);
+  reads = search rules;
+  taken = search rules;
+}
