@@ -1,6 +1,5 @@
 -- What was read of a file of either format, as an engine passes it on.
-use Rattle.std.proofs.Common.{◌≡◌, ◌⊎◌, ◌∙◌, ◌+◌, ℕ, List, Option, Some, Result, Ok, Err, ap, refl, sym, subst, inl, inr}
-use Rattle.std.specs.Prelude.{IfSome}
+use Rattle.std.proofs.Common.{◌≡◌, ◌∙◌, ◌+◌, ℕ, List, Option, Some, Result, Ok, Err, ap, refl, sym, subst, inl, inr}
 use Rattle.krb_name.specs.File.{ReadsFile}
 use Rattle.krb_keytab.specs.Entry.{KeytabEntry}
 use Rattle.krb_keytab.specs.Fault as keytab_fault
@@ -122,7 +121,7 @@ module _ {V F : Type 0} (Is : List ℕ → Result V F → Type 0) (memory unread
   fault_told wrap met one other r is bytes value tells its = elim (r.only bytes (Ok value) tells its) [
     | inl e ↦ absurd (no_ok value met (sym e ∙ is))
     | inr b ↦ elim b [
-        | inl e ↦ inr (wrap memory, (ap (λ (f : F). Err (wrap f)) (same_err met memory (sym is ∙ e)), one))
-        | inr e ↦ inr (wrap unread, (ap (λ (f : F). Err (wrap f)) (same_err met unread (sym is ∙ e)), other))
-      ]
+      | inl e ↦ inr (wrap memory, (ap (λ (f : F). Err (wrap f)) (same_err met memory (sym is ∙ e)), one))
+      | inr e ↦ inr (wrap unread, (ap (λ (f : F). Err (wrap f)) (same_err met unread (sym is ∙ e)), other))
+    ]
   ]

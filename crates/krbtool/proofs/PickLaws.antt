@@ -1,7 +1,7 @@
 -- What is wanting where no entry is picked is no entry.
 use Rattle.std.proofs.Common.{◌≡◌}
 use Rattle.krb_keytab.specs.Entry.{KeytabEntry}
-use Rattle.krb_keytab.specs.Pick.{Choice, chosen}
+use Rattle.krb_keytab.specs.Pick.{chosen}
 use Rattle.krbtool.specs.Picking.{want_of}
 use Rattle.krbtool.specs.declared.fault.PickFault.{PickFault}
 use Rattle.krbtool.specs.declared.fault.PickFault.TheVariants.{NoName, NoKey, NoVersion}

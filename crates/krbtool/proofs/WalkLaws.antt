@@ -2,7 +2,7 @@
 use Rattle.std.proofs.Common.{◌≡◌, ℕ, ◌+◌, ◌≤◌, Bool, true, false, List, [], ◌∷◌, ◌++◌, length, Option, Some, None, Result, Ok, Err, refl, sym, ap, subst, ◌∙◌, arith}
 use Rattle.std.specs.Prelude.{◌≢◌, IfSome}
 use Rattle.std.specs.Io.KnownBytes.{Consumes}
-use Rattle.std.proofs.KnownBytes.{Consumes-trans, Consumes-nil}
+use Rattle.std.proofs.KnownBytes.{Consumes-trans}
 use Rattle.std.proofs.lemmas.List.{length-append, flat_map_more}
 use Rattle.krb_keytab.specs.Entry.{KeytabEntry}
 use Rattle.krb_keytab.specs.Format.{IsKeytab}
@@ -16,7 +16,7 @@ use Rattle.krb_ccache.specs.Format as cache
 use Rattle.krb_ccache.specs.Offset.{clock_offset}
 use Rattle.krb_ccache.specs.Reader as reads
 use Rattle.krb_name.specs.File.{file_limit, IsGiven, TakesFile, GivesWithin}
-use Rattle.krb_ccache.specs.Value.{Cache, cache_of}
+use Rattle.krb_ccache.specs.Value.{Cache}
 use Rattle.krb_ccache.specs.declared.credential.Credential.{Credential}
 use Rattle.krb_ccache.specs.declared.fault.CacheFault.{CacheFault}
 use Rattle.krbtool.specs.Engine.{OfFile}

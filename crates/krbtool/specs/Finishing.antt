@@ -1,5 +1,5 @@
 -- What `finish` prints: what a client and its service agree on by the reply to a request of `request`, or why there is nothing.
-use Rattle.std.specs.Prelude.{◌≡◌, ℕ, ℤ, true, List, [], ◌∷◌, ◌++◌, Option, Some, None, codes, replicate}
+use Rattle.std.specs.Prelude.{ℕ, ℤ, true, List, [], ◌∷◌, ◌++◌, Option, Some, None, codes, replicate}
 use Rattle.std.specs.Fmt.{decimal, signed_decimal}
 use Rattle.krb_name.specs.Text.{text_of}
 use Rattle.krb_name.specs.declared.principal.Principal.{Principal}

@@ -1,7 +1,6 @@
 -- What `request` prints: a request, or a token of GSS-API that holds it.
-use Rattle.std.specs.Prelude.{◌≡◌, ◌<◌, ℕ, ℤ, Bool, List, [], ◌∷◌, ◌++◌, Option, Some, None, codes, length, replicate}
+use Rattle.std.specs.Prelude.{◌≡◌, ◌<◌, ℕ, Bool, List, [], ◌∷◌, ◌++◌, Option, Some, None, codes, length, replicate}
 use Rattle.hex.specs.Hex.{encode_lower}
-use Rattle.krb_name.specs.declared.principal.Principal.{Principal}
 use Rattle.krb_ccache.specs.Value.{Cache}
 use Rattle.krb_der.specs.Spells.{limit}
 use Rattle.krb_gss.specs.Token.{IsToken}

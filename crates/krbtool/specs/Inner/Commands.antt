@@ -1,5 +1,5 @@
 -- What clap's definition makes of the rows of src/commands.rt.
-use Rattle.std.specs.Prelude.{List, map}
+use Rattle.std.specs.Prelude.{map}
 use Rattle.clap.specs.Words.{App, Rule, Text}
 use Rattle.krbtool.specs.CommandLine.{command, flag, free_number, free_option, needed_number, needed_option, needing_another, number_operand, number_option, operand}
 use Rattle.krbtool.specs.declared.arguments.Argument.{Argument}

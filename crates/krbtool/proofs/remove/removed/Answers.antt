@@ -1,4 +1,4 @@
-use Rattle.std.proofs.Common.{◌∙◌, ap, sym, arith, inl, Err}
+use Rattle.std.proofs.Common.{◌∙◌, ap, sym, inl, Err}
 use Rattle.std.proofs.lemmas.Result.{err_from_is_err_and}
 use Rattle.krbtool.proofs.RemoveLaws.{answer_means, no_failed_read, of_whole, unremoved_known}
 use Rattle.krbtool.proofs.WholeLaws.{taken_of}

@@ -1,4 +1,4 @@
-use Rattle.std.proofs.Common.{List, ℕ, subst, sym}
+use Rattle.std.proofs.Common.{List, ℕ, subst}
 use Rattle.krbtool.proofs.FaultLaws.{if_err_map, if_ok_map}
 use Rattle.krbtool.proofs.RequestLaws.{longer_token, request_asked, token_asked}
 use Rattle.krbtool.specs.Requesting.{IsTokenOf}
