@@ -29,10 +29,10 @@ fails_by result fault memory unread one other which = elim which [
 module _ {V F : Type 0} (IsFile : List ℕ → V → Type 0) (IsFaultOf : List ℕ → F → Type 0) (memory unread : F) (wrap : F → EngineFault) (HasFault : List ℕ → EngineFault → Type 0) (IsOf : EngineFault → Type 0)
     (no_memory : IsUnread (wrap memory)) (no_read : IsUnread (wrap unread)) (kind : (fault : F) → IsOf (wrap fault) × IsOfFile (wrap fault))
     (has : (bytes : List ℕ) (fault : F) → IsFaultOf bytes fault → HasFault bytes (wrap fault)) (had : (bytes : List ℕ) (e : EngineFault) → HasFault bytes e → (fault : F) × (e ≡ wrap fault) × IsFaultOf bytes fault) where
-  value_passed : {X : Type 0} (from to : Option (List ℕ)) (before after failed : ℕ) (Holds : X → V → Type 0) (read : Result X F) (value : X) → ReadsAs IsFile IsFaultOf memory unread from to before after failed Holds read → read ≡ Ok value → after ≡ before + 0
-      → ReadsOrFails IsFile HasFault IsOf from to before after Holds (Ok value)
-  value_passed from to before after failed Holds read value r is failures = record {
-    found = rw is at r.found;
+  value_passed : {X Y : Type 0} (from to : Option (List ℕ)) (before after failed : ℕ) (Holds : X → V → Type 0) (Also : Y → V → Type 0) (read : Result X F) (value : X) (made : Y) → ReadsAs IsFile IsFaultOf memory unread from to before after failed Holds read
+      → read ≡ Ok value → after ≡ before + 0 → ((v : V) → Holds value v → Also made v) → ReadsOrFails IsFile HasFault IsOf from to before after Also (Ok made)
+  value_passed from to before after failed Holds Also read value made r is failures also = record {
+    found = if_some_map from (λ bytes file. (file.0, (file.1.0, also file.0 file.1.1))) (rw is at r.found);
     fault = tt;
     faulty = λ bytes e tells its. let it = had bytes e its in absurd (none_met memory unread read value it.0 is (r.only bytes it.0 tells it.2));
     kind = tt;
@@ -70,11 +70,12 @@ keytab_counted X Y (keytab.BadEntry at) = refl
 keytab_counted X Y keytab.TooLong = refl
 keytab_counted X Y keytab.NoSuchEntry = refl
 
-pub keytab_passed : {X : Type 0} (from to : Option (List ℕ)) (before after : ℕ) (Holds : X → List KeytabEntry → Type 0) (read : Result X KeytabFault) (value : X) → ReadsKeytab from to before after Holds read → read ≡ Ok value
-    → ReadsOrFails IsKeytab HasKeytabFault OfKeytab from to before after Holds (Ok value)
-keytab_passed from to before after Holds read value r is =
-    value_passed IsKeytab IsKeytabFaultOf keytab.OutOfMemory keytab.Read Keytab HasKeytabFault OfKeytab tt tt (λ fault. (tt, tt)) (λ bytes fault its. its) keytab_had from to before after (keytab_fault.failed_reads read) Holds read value r is
-    (rw is at r.failures)
+pub keytab_passed : {X Y : Type 0} (from to : Option (List ℕ)) (before after : ℕ) (Holds : X → List KeytabEntry → Type 0) (Also : Y → List KeytabEntry → Type 0) (read : Result X KeytabFault) (value : X) (made : Y) → ReadsKeytab from to before after Holds read → read ≡ Ok value
+    → ((v : List KeytabEntry) → Holds value v → Also made v)
+    → ReadsOrFails IsKeytab HasKeytabFault OfKeytab from to before after Also (Ok made)
+keytab_passed from to before after Holds Also read value made r is also =
+    value_passed IsKeytab IsKeytabFaultOf keytab.OutOfMemory keytab.Read Keytab HasKeytabFault OfKeytab tt tt (λ fault. (tt, tt)) (λ bytes fault its. its) keytab_had from to before after (keytab_fault.failed_reads read) Holds Also read value made r is
+    (rw is at r.failures) also
 
 pub keytab_fault_passed : {X : Type 0} (from to : Option (List ℕ)) (before after : ℕ) (Holds : X → List KeytabEntry → Type 0) (read : Result X KeytabFault) (met : KeytabFault) → ReadsKeytab from to before after Holds read → read ≡ Err met
     → ReadsOrFails IsKeytab HasKeytabFault OfKeytab from to before after Holds (Err (Keytab met))
@@ -96,11 +97,12 @@ cache_counted X Y cache.Header = refl
 cache_counted X Y (cache.BadItem at) = refl
 cache_counted X Y cache.TooLong = refl
 
-pub cache_passed : {X : Type 0} (from to : Option (List ℕ)) (before after : ℕ) (Holds : X → CacheValue → Type 0) (read : Result X CacheFault) (value : X) → ReadsCache from to before after Holds read → read ≡ Ok value
-    → ReadsOrFails IsCache HasCacheFault OfCache from to before after Holds (Ok value)
-cache_passed from to before after Holds read value r is =
-    value_passed IsCache IsCacheFaultOf cache.OutOfMemory cache.Read Cache HasCacheFault OfCache tt tt (λ fault. (tt, tt)) (λ bytes fault its. its) cache_had from to before after (cache_fault.failed_reads read) Holds read value r is
-    (rw is at r.failures)
+pub cache_passed : {X Y : Type 0} (from to : Option (List ℕ)) (before after : ℕ) (Holds : X → CacheValue → Type 0) (Also : Y → CacheValue → Type 0) (read : Result X CacheFault) (value : X) (made : Y) → ReadsCache from to before after Holds read → read ≡ Ok value
+    → ((v : CacheValue) → Holds value v → Also made v)
+    → ReadsOrFails IsCache HasCacheFault OfCache from to before after Also (Ok made)
+cache_passed from to before after Holds Also read value made r is also =
+    value_passed IsCache IsCacheFaultOf cache.OutOfMemory cache.Read Cache HasCacheFault OfCache tt tt (λ fault. (tt, tt)) (λ bytes fault its. its) cache_had from to before after (cache_fault.failed_reads read) Holds Also read value made r is
+    (rw is at r.failures) also
 
 pub cache_fault_passed : {X : Type 0} (from to : Option (List ℕ)) (before after : ℕ) (Holds : X → CacheValue → Type 0) (read : Result X CacheFault) (met : CacheFault) → ReadsCache from to before after Holds read → read ≡ Err met
     → ReadsOrFails IsCache HasCacheFault OfCache from to before after Holds (Err (Cache met))

@@ -1,3 +1,4 @@
+use Rattle.std.proofs.Common.{rules}
 use Rattle.std.proofs.lemmas.Result.{err_from_is_err_and}
 use Rattle.krbtool.proofs.FormatLaws.{cache_fault_passed, cache_passed}
 use Rattle.krbtool.proofs.list.LinesListingCCache.read_text.Goals as goal
@@ -8,4 +9,4 @@ returns-in_err-lines g c =
     rw (p.1, p.2) (cache_fault_passed _ _ _ _ _ c.walk_ccache.result c.in_err-lines.field-0.0 c.walk_ccache.ensures c.in_err-lines.was)
 
 pub returns : goal.returns
-returns g c = cache_passed _ _ _ _ _ c.walk_ccache.result c.in_ok-lines.lines c.walk_ccache.ensures c.in_ok-lines.was
+returns g c = cache_passed _ _ _ _ _ _ c.walk_ccache.result c.in_ok-lines.lines _ c.walk_ccache.ensures c.in_ok-lines.was (λ v holds. search rules)
