@@ -122,9 +122,9 @@ def large_ticket():
 def cache_with(credentials):
     """A cache of so many credentials. The last is for the fixture's service, with a large ticket."""
     client, server = client_and_server()
-    times = (1_700_000_000, 0, 1_700_036_000, 0)
+    times, ticket_bytes = (1_700_000_000, 0, 1_700_036_000, 0), der.ticket()
     others = [
-        der.credential(client, der.principal(3, b"EX", b"host", b"n%04d" % number), 19, der.SESSION_KEY, times, der.ticket())
+        der.credential(client, der.principal(3, b"EX", b"host", b"n%04d" % number), 19, der.SESSION_KEY, times, ticket_bytes)
         for number in range(credentials - 1)
     ]
     return b"\x05\x04\x00\x00" + client + b"".join(others) + der.credential(client, server, 19, der.SESSION_KEY, times, large_ticket())

@@ -48,7 +48,11 @@ WATCHED = 5_000
 # How many microseconds of processor time a call may take that opens a token.
 SLOW = 10_000
 # Of a large keytab and a large cache.
-ITEMS = 3_000
+ITEMS = 30_000
+# Looks for errors and for leaks; its status is 9 then.
+VALGRIND = ["valgrind", "-q", "--error-exitcode=9", "--leak-check=full", "--show-leak-kinds=all", "--errors-for-leak-kinds=all"]
+# If there is none, the inputs under valgrind are said to fail.
+UNDER_VALGRIND = VALGRIND if shutil.which("valgrind") else []
 STRICT = ["-Wall", "-Wextra", "-Werror", "-pedantic"]
 
 
@@ -134,7 +138,7 @@ def counted(what, answered, program, *words, **more):
     for line in lines[:-1]:
         yield line, f"in {what}"
     last = re.fullmatch(r"(\d+) passed, \d+ failed", lines[-1]) if lines else None
-    yield f"{what} ends", None if last and ran.returncode in (0, 1) else f"status {ran.returncode}: {ran.stdout[-500:]}"
+    yield f"{what} ends", None if last and ran.returncode in (0, 1) else wrong(ran)
     for _ in range(int(last[1]) if last else 0):
         yield f"in {what}", None
 
@@ -149,6 +153,15 @@ def watched(room, name, *words):
     return program, linked(program, "-include", room / "watch.h", ROOT / f"tests/c/{name}.c", *words)
 
 
+def watched_for_leaks(room, *words):
+    """The same program, but linked to the system's C library, whose allocations valgrind sees."""
+    program = room / "library_shared"
+    built = linked(program, ROOT / "tests/c/library.c")
+    yield "the C program is linked for valgrind", wrong(built)
+    if built.returncode == 0:
+        yield "the C program under valgrind", wrong(run(*VALGRIND, program, *words)) if UNDER_VALGRIND else "there is no valgrind"
+
+
 def from_c(room, answered):
     files = [ROOT / "examples/service.keytab", ROOT / "examples/client.ccache"]
     watch(room)
@@ -160,15 +173,16 @@ def from_c(room, answered):
                     shared.request(number=-1).hex(), shared.reply(number=-2**31).hex(), c_cases.with_start().hex(),
                     c_cases.at_the_end().hex()]
         yield from counted("the C program", answered, program, *files, *messages)
+        yield from watched_for_leaks(room, *files, *messages)
     program, built = watched(room, "faults")
     yield "the program of faults is linked", wrong(built)
     if built.returncode == 0:
-        yield from counted("the program of faults", answered, program, *files, fixture("reply"),
+        yield from counted("the program of faults", answered, *UNDER_VALGRIND, program, *files, fixture("reply"),
                            input=c_cases.lines(header_codes(), kerberos_codes()))
     program, built = watched(room, "tokens")
     yield "the program of tokens is linked", wrong(built)
     if built.returncode == 0:
-        yield from counted("the program of tokens", answered, program, input="".join(f"{it}\n" for it in c_tokens.lines(header_codes())))
+        yield from counted("the program of tokens", answered, *UNDER_VALGRIND, program, input="".join(f"{it}\n" for it in c_tokens.lines(header_codes())))
     # each allocation of each call fails in turn
     program, built = watched(room, "memory", "-Wl,--wrap=malloc", "-Wl,--wrap=realloc", "-Wl,--wrap=free")
     yield "the program without memory is linked", wrong(built)
@@ -321,8 +335,7 @@ def fuzzed(room, inputs):
     if shutil.which("valgrind") is None:
         yield "inputs under valgrind", "there is no valgrind"
         return
-    watched = run("valgrind", "-q", "--error-exitcode=9", "--leak-check=full", "--show-leak-kinds=all", "--errors-for-leak-kinds=all",
-                  program, *files, WATCHED, SEED)
+    watched = run(*VALGRIND, program, *files, WATCHED, SEED)
     yield "inputs under valgrind", wrong(watched)
 
 
@@ -336,7 +349,7 @@ def fuzzed_tokens(room, tokens):
         return
     yield f"{tokens} tokens", wrong(run(program, *given, tokens, SEED, SLOW))
     if shutil.which("valgrind"):
-        watched = run("valgrind", "-q", "--error-exitcode=9", "--leak-check=full", "--errors-for-leak-kinds=all", program, *given, WATCHED, SEED, 500 * SLOW)
+        watched = run(*VALGRIND, program, *given, WATCHED, SEED, 500 * SLOW)
         yield "tokens under valgrind", wrong(watched)
 
 

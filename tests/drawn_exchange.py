@@ -11,6 +11,7 @@ import exchange_made
 import model
 import msg_rules
 from exchange_made import CONFOUNDER, REPLY_CONFOUNDER, Made, Replied, items_word, name_word, or_none, word_of
+from library import shown as told_bytes
 from model import der
 
 PROGRAM = "krb_calls_exchange"
@@ -354,26 +355,53 @@ def schedules(draw):
         yield f"schedules of any order, {memory}", lines, answers
 
 
-# How many tuples are remembered at most.
-TUPLES = 50_000
+# How many tuples are remembered at most. A list is gone through for each.
+TUPLES = {"timed": 200_000, "list": 4_000}
 WEB, ALICE = "3/4558/686f7374,776562", "1/4558/616c696365"
 
 
 def many_tuples():
     """Many tuples, in an order that jumps to and fro in time: none is dropped or doubled."""
-    lines, answers = ["memory timed"], ["memory"]
-    for number in range(TUPLES):
-        lines.append(f"remember {WEB} {ALICE} {7919 * number % TUPLES} 5")
-        answers.append("ok")
-    lines, answers = [*lines, "len"], [*answers, str(TUPLES)]
-    for number in range(TUPLES):
-        lines.append(f"contains {WEB} {ALICE} {number} 5")
-        answers.append("true")
-    lines, answers = [*lines, "advance 10300 5 300", "len"], [*answers, "ok", str(TUPLES - 10_000)]
-    for number in range(TUPLES):
-        lines.append(f"contains {WEB} {ALICE} {number} 5")
-        answers.append("true" if number >= 10_000 else "false")
-    yield "many tuples", lines, answers
+    for memory, count in TUPLES.items():
+        lines, answers = [f"memory {memory}"], ["memory"]
+        for number in range(count):
+            lines.append(f"remember {WEB} {ALICE} {7919 * number % count} 5")
+            answers.append("ok")
+        lines, answers = [*lines, "len"], [*answers, str(count)]
+        for number in range(count):
+            lines.append(f"contains {WEB} {ALICE} {number} 5")
+            answers.append("true")
+        forgotten = 0 if memory == "list" else 10_000
+        lines, answers = [*lines, "advance 10300 5 300", "len"], [*answers, "ok", str(count - forgotten)]
+        for number in range(count):
+            lines.append(f"contains {WEB} {ALICE} {number} 5")
+            answers.append("true" if number >= forgotten else "false")
+        yield f"many tuples, {memory}", lines, answers
+
+
+def many_calls():
+    """One call after another is answered, of very many at once."""
+    request, answer = exchange_made.request(FIXTURE).hex(), exchange_made.accepted(FIXTURE)
+    call, count = f"1700000100 5 {request}", 3_000
+    for memory in MEMORIES:
+        service = f"service {memory} 300 {exchange_made.keytab(exchange_made.BOTH).hex()}"
+        yield f"{count} calls at once, {memory}", [service, " ".join(["serve", *[call] * count])], [
+            "service", " | ".join([str(count), answer, *["refused Repeat"] * (count - 1)])]
+
+
+def long_messages():
+    """A reply with a long subkey is taken, errors with long names are built, and of long names there are the bytes of a tuple."""
+    lines, answers = asking(FIXTURE)
+    subkey = f"18/{bytes(60_000).hex()}"
+    lines.append(f"finish 0 {exchange_made.reply(Replied(subkey=subkey)).hex()}")
+    answers.append(f"agreed {name_word(2, b'EX', [b'alice'])} 19/{der.SESSION_KEY.hex()} none none 18/{told_bytes(bytes(60_000))} none")
+    for realm, components in ((b"E" * 1_000_000, [b"host", b"web"]), (b"EX", [b"h" * 1_000_000, b"web"]), (b"EX", [b"host"] * 100_000)):
+        name = name_word(3, realm, components)
+        lines.append(f"error Repeat 1700000100 7 {name}")
+        answers.append(told_bytes(model.error(model.CODES["Repeat"], MICROS * 1_700_000_100 + 7, realm, components)))
+        lines.append(f"tuple bytes {name} {ALICE} 1700000100 5")
+        answers.append(told_bytes(exchange_made.stamp_bytes((realm, components), (b"EX", [b"alice"]), 1_700_000_100, 5)))
+    yield "long messages and names", lines, answers
 
 
 def memory_calls(draw, memory):
@@ -410,6 +438,7 @@ def drawn():
     draw = random.Random(SEED)
     served = often_enough("services", SERVICE_ANSWERS, services(draw))
     asked = often_enough("clients", CLIENT_ANSWERS, clients(draw))
-    for cases in (served, asked, beginnings(), each_byte(), schedules(draw), many_tuples(), memories(draw)):
+    rest = (each_byte(), schedules(draw), many_tuples(), many_calls(), long_messages(), memories(draw))
+    for cases in (served, asked, beginnings(), *rest):
         for name, lines, answers in cases:
             yield PROGRAM, f"exchange: {name}", lines, answers

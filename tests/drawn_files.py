@@ -800,6 +800,26 @@ def most_of_a_cache():
         yield credential_case(f"{short}, off a reader", file, 65_536)
 
 
+def as_many(item, start):
+    """So many times an item of a file, that there is no room for one more; how many they are, and the file."""
+    count = (LIMIT - len(start.data)) // len(item.data)
+    return count, start + Spelled(item.data).times(count)
+
+
+def full_files():
+    """As many entries and credentials as there is room for: each is shown as it is alone."""
+    one, start = record(Spelled(b"EX"), 2, b"host", Spelled(KEY)), Spelled(b"\5\2")
+    count, file = as_many(one, start)
+    shown_one = entry_shown(reference.keytab(start.data + one.data)[0])
+    found = f"ok {count} {list_shown([shown_one] * count, ' ')}"
+    yield file_case("keytab", f"a keytab of {count} entries", file, 65_536, found, lambda data: f"ok {shown(data)}")
+    one, start = credential_of(), cache_of()
+    count, file = as_many(one, start)
+    _, default, credentials = reference.cache(start.data + one.data)
+    found = f"ok {name_shown(default)} none {count} {list_shown([kind_shown(credentials[0])] * count, ' ')}"
+    yield file_case("cache", f"a cache of {count} credentials", file, 65_536, found, lambda data: f"ok {shown(data)}")
+
+
 def wide_records():
     """Entries and credentials of 1 MiB, with very many components."""
     file = Spelled(b"\5\2") + record(Spelled(), 65_535, b"\7" * 14, Spelled())
@@ -823,7 +843,7 @@ def sizes():
     for name, file in large_caches():
         yield cache_case(f"a cache with {name}", file)
         yield from each_call(credential_case, f"a cache with {name}, off a reader", file, 4_096)
-    for part in (edits_of_large_files, most_of_a_keytab, most_of_a_cache, wide_records, long_words):
+    for part in (edits_of_large_files, most_of_a_keytab, most_of_a_cache, full_files, wide_records, long_words):
         yield from part()
 
 
@@ -840,7 +860,7 @@ def long_words():
         answers.append(f"1000 false {items}")
     elements = list_shown(["2/7f000001"] * 1_000)
     yield PROGRAM, "long strings and lists", [*lines, "cache list 2/7f000001^1000"], [*answers, f"1000 false {elements}"]
-    for realm, components in ((b"a" * 60_000, [b"b"]), (b"EX", [b"a" * 60_000]), (b"EX", [b"host"] * 1_000)):
+    for realm, components in ((b"a" * 1_000_000, [b"b"]), (b"EX", [b"a" * 1_000_000]), (b"EX", [b"host"] * 200_000)):
         text = reference.principal_text(realm, components)
         name = {"name_type": 3, "realm": realm, "components": components}
         word = f"3/{realm.hex()}/{','.join(it.hex() for it in components)}"

@@ -1,5 +1,5 @@
 """Cases that are made and not stored: each beginning of a file, each file with one byte changed, files at the limit, each way of closing
-the standard streams, and a service that was started long ago.
+the standard streams, a service that was started long ago, and files of as many items, and with as long names, as there may be.
 
 What is expected comes from tests/reference.py and tests/readable.py. A case is made when it is asked for.
 """
@@ -11,6 +11,7 @@ from pathlib import Path
 
 import generated_edits
 import generated_exchange
+import generated_full
 import generated_tokens
 import readable
 import reference
@@ -233,5 +234,6 @@ def cases():
     yield from generated_edits.cases()
     yield from generated_exchange.cases()
     yield from generated_tokens.cases()
+    yield from generated_full.cases()
     yield from stream_cases()
     yield from mode_cases()

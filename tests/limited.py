@@ -75,6 +75,8 @@ def stepped(program, room, command, first):
     """What is wrong with a run in one of the steps, or None."""
     (room / "f").write_bytes(command.file)
     wanted = run(program, room, command, resource.RLIM_INFINITY)
+    if wanted.status != command.status:
+        return f"with ample memory it gives {wanted.status} {wanted.said!r}"
     command = Command(command.words, command.file, command.stdin, wanted.wrote, wanted.out, wanted.status)
     named, limit = 0, first
     while (found := run(program, room, command, limit)) != wanted:

@@ -278,8 +278,12 @@ def filled(kind, part, size):
     return parts
 
 
+# Of so many components and elements, a message with two lists or two names still has room.
+MOST = 10_000
+
+
 def many():
-    for count in range(301):
+    for count in (*range(301), MOST):
         for kind in TYPES:
             yield f"{kind} with {count} components and elements", *written(kind, message(kind, count, [0] * 6))
 
@@ -300,24 +304,23 @@ def of_negative_numbers():
 
 
 def long():
-    tried = 0
-    for kind in TYPES:
-        for part in range(6):
-            parts = filled(kind, part, 100_000)
-            if parts:
-                data = message(kind, 2, parts)
-                expect(len(data), 100_000, data[:100])
-                yield f"{kind} of 100000 bytes, most of them in its part {part}", *written(kind, data)
-                tried += 1
-    expect(tried, 26, b"")
+    """Messages of 100,000 bytes, and of as many as there may be, most of them in one part."""
+    for size in (100_000, LIMIT):
+        tried = 0
+        for kind in TYPES:
+            for part in range(6):
+                parts = filled(kind, part, size)
+                if parts:
+                    data = message(kind, 2, parts)
+                    expect(len(data), size, data[:100])
+                    yield f"{kind} of {size} bytes, most of them in its part {part}", *written(kind, data)
+                    tried += 1
+        expect(tried, 26, b"")
 
 
-def at_the_limit():
+def above_the_limit():
     for kind in TYPES:
         parts = filled(kind, 2, LIMIT)
-        data = message(kind, 2, parts)
-        expect(len(data), LIMIT, data[:100])
-        yield f"{kind} of {LIMIT} bytes", *written(kind, data)
         sizes = [parts[2] + more for more in (1, 1_000_000)]
         yield f"{kind} of more bytes", *zip(*(too_long(kind, [*parts[:2], it, *parts[3:]]) for it in sizes))
 
@@ -342,5 +345,5 @@ def drawn():
     for title, word, data in VALUES:
         for it in of_value(title, word, data):
             yield PROGRAM, it[0], list(it[1]), list(it[2])
-    for it in (*many(), *of_negative_numbers(), *long(), *at_the_limit(), *with_elements_too_many()):
+    for it in (*many(), *of_negative_numbers(), *long(), *above_the_limit(), *with_elements_too_many()):
         yield PROGRAM, it[0], list(it[1]), list(it[2])

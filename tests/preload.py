@@ -147,6 +147,11 @@ def calls_with_tails(program):
     return with_answer(program, called([mutual, b"1700000100 7 -\n", b"hello\n", mutual], *TAILS))
 
 
+def calls_for_another(program):
+    """A service of another name than the request's, which refuses it."""
+    return with_answer(program, called([f"1700000100 5 {fixture.request().hex()}\n".encode()], "--only", "host/other@EX"))
+
+
 def calls_with_tokens(program):
     """The same service, which gets tokens: a request for a reply, no request, another form, bytes that aren't a token, and the first again."""
     around = [lambda it: gss_rules.kerberos(gss_rules.KERBEROS, it),

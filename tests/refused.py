@@ -19,12 +19,18 @@ PASSED_OVER = 2
 # What is refused, by the line that says so, in the order of a run; and the status.
 WORDS = ("krbtool: words: OutOfMemory\n", 2)
 CLAP = ("error: out of memory\n", 3)
-# What else of a command is refused memory: its files, and words of its own.
-PARTS = {f"krbtool: {part}: OutOfMemory\n" for part in ("f", "g", "service", "name", "reply")}
+# What of a command is refused memory, besides its first file and its options: a second file, and words of its own.
+NAMED = {"add-keys": ["g"], "request": ["service"], "finish": ["service", "reply"], "pick-key": ["name"]}
 # The request whose reply is read.
 PENDING = ("finish", "krbtool: request: OutOfMemory\n")
 # The answer of accept to a line whose call was refused memory.
 REFUSED = b"refused none OutOfMemory\n"
+
+
+def parts(command):
+    """The lines that say which part of a command was refused memory."""
+    options = [it for it in ("service", "only") if f"--{it}" in command.words]
+    return {f"krbtool: {part}: OutOfMemory\n" for part in ["f", *NAMED.get(command.words[0], []), *options]}
 
 
 def commands(program):
@@ -33,6 +39,7 @@ def commands(program):
     yield from preload.file_commands()
     yield preload.calls(program)
     yield preload.calls_with_tails(program)
+    yield preload.calls_for_another(program)
     yield preload.calls_with_tokens(program)
 
 
@@ -66,7 +73,7 @@ def is_named(program, command, found):
     """Whether the run's lines say that the command, or its file, was refused memory, and nothing wrong was written."""
     if found.status != 3 or found.out not in (command.out, b"") and command.out != OLD:
         return False
-    if found.said in PARTS or (command.words[0], found.said) == PENDING:
+    if found.said in parts(command) or (command.words[0], found.said) == PENDING:
         return not found.wrote
     if command.stdin:
         return is_answered(program, command, found)
@@ -89,10 +96,13 @@ def end_of(command, found):
 
 
 def unmet(command, ends):
-    """Which ways to end a service with tails were met by no run in which one call is refused."""
-    if command.words[2:] != list(preload.TAILS):
+    """Which parts of a command were refused memory by no run in which one call is refused; and which ways to end a service with tails were
+    met by none."""
+    if command.wrote is None or not command.file:
         return set()
-    faults = {WORDS[0], CLAP[0], *(f"krbtool: {name}: OutOfMemory\n" for name in ("service", "f", "accept"))}
+    if command.words[2:] != list(preload.TAILS):
+        return parts(command) - ends
+    faults = {WORDS[0], CLAP[0], *parts(command), "krbtool: accept: OutOfMemory\n"}
     good = command.wrote.splitlines(keepends=True)
     return (faults | {without_tail(it).decode().strip() for it in good[:2]}) - ends
 

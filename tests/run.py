@@ -23,6 +23,7 @@ A case is a table [[case]] of a TOML file:
     stdin   what it reads (text), or "@PATH"
     output  "full": standard output is /dev/full
     closed  the standard streams that are closed: a list of 0, 1 and 2
+    descriptors  how many files it may have open, the standard streams included
     status  its exit status (0 where left out)
     stdout  what it must write on standard output, whole; or stdout_begins, its beginning, and stdout_holds, texts that it must hold
     stderr  what it must write on standard error, whole; or stderr_begins, its beginning
@@ -66,8 +67,8 @@ import script  # noqa: E402
 import tables  # noqa: E402
 import tally  # noqa: E402
 
-WORDS = """name args files folders links umask stdin output closed status stdout stdout_begins stdout_holds stderr stderr_begins
-    after modes gone"""
+WORDS = """name args files folders links umask stdin output closed descriptors status stdout stdout_begins stdout_holds stderr
+    stderr_begins after modes gone"""
 KEYS = set(WORDS.split())
 PARTS = (tables, documents, script, refused, calls, refused_lines, limited, claimed, endless, failing, dialogue, exchange, restarts,
          mit_tools)
@@ -145,7 +146,8 @@ def run(program, case):
         command = [program, *map(word_of, case["args"])]
         if "closed" in case:
             closing = " ".join(f"{it}>&-" for it in case["closed"])
-            command = ["sh", "-c", f'exec "$@" {closing}', "sh", *command]
+            limit = f"ulimit -n {case['descriptors']}; " if "descriptors" in case else ""
+            command = ["sh", "-c", f'exec {closing}; {limit}exec "$@"', "sh", *command]
         umask = int(case.get("umask", "022"), 8)
         try:
             ran = subprocess.run(command, cwd=room, input=given, stdout=out, stderr=subprocess.PIPE, timeout=60, umask=umask)

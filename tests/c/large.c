@@ -154,7 +154,7 @@ int main(int count, char **words)
     keytab = whole(words[3]);
     cache = whole(words[4]);
     request = whole(words[5]);
-    room = 4 << 20;
+    room = 16 << 20;
     buffer = malloc(room);
     if (buffer == NULL)
         return 2;
