@@ -97,12 +97,17 @@ RANGES = {"int32": (-(2**31), 2**31 - 1), "uint32": (0, 2**32 - 1), "seq_number"
 RANGES |= {kind: (value, value) for kind, value in CONSTANTS.items()}
 
 
+# The start of a long run of one byte.
+RUN = re.compile(rb"(?s)(.)\1{31}")
+
+
 def packed(text):
     """Bytes as a word of a case: long runs of one byte as `HEX*N`."""
-    pieces, at = [], 0
-    for run in re.finditer(rb"(?s)(.)\1{31,}", text):
-        pieces += [text[at : run.start()].hex(), f"{run[1].hex()}*{len(run[0])}"]
-        at = run.end()
+    pieces, at, run = [], 0, RUN.search(text)
+    while run:
+        end = len(text) - len(text[run.start() :].lstrip(run[1]))
+        pieces += [text[at : run.start()].hex(), f"{run[1].hex()}*{end - run.start()}"]
+        at, run = end, RUN.search(text, end)
     return "+".join(it for it in [*pieces, text[at:].hex()] if it) or "-"
 
 

@@ -356,7 +356,7 @@ def schedules(draw):
 
 
 # How many tuples are remembered at most. A list is gone through for each.
-TUPLES = {"timed": 200_000, "list": 4_000}
+TUPLES = {"timed": 100_000, "list": 4_000}
 WEB, ALICE = "3/4558/686f7374,776562", "1/4558/616c696365"
 
 

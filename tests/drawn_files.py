@@ -800,24 +800,19 @@ def most_of_a_cache():
         yield credential_case(f"{short}, off a reader", file, 65_536)
 
 
-def as_many(item, start):
-    """So many times an item of a file, that there is no room for one more; how many they are, and the file."""
-    count = (LIMIT - len(start.data)) // len(item.data)
-    return count, start + Spelled(item.data).times(count)
+# Of so many items, a file of small ones still has room.
+MOST = 100_000
 
 
-def full_files():
-    """As many entries and credentials as there is room for: each is shown as it is alone."""
+def many_items():
+    """Very many entries and credentials: each is shown as it is alone."""
     one, start = record(Spelled(b"EX"), 2, b"host", Spelled(KEY)), Spelled(b"\5\2")
-    count, file = as_many(one, start)
-    shown_one = entry_shown(reference.keytab(start.data + one.data)[0])
-    found = f"ok {count} {list_shown([shown_one] * count, ' ')}"
-    yield file_case("keytab", f"a keytab of {count} entries", file, 65_536, found, lambda data: f"ok {shown(data)}")
-    one, start = credential_of(), cache_of()
-    count, file = as_many(one, start)
+    found = f"ok {MOST} {list_shown([entry_shown(reference.keytab(start.data + one.data)[0])] * MOST, ' ')}"
+    yield file_case("keytab", f"a keytab of {MOST} entries", start + one.times(MOST), 65_536, found, lambda data: f"ok {shown(data)}")
+    one, start = Spelled(credential_of().data), cache_of()
     _, default, credentials = reference.cache(start.data + one.data)
-    found = f"ok {name_shown(default)} none {count} {list_shown([kind_shown(credentials[0])] * count, ' ')}"
-    yield file_case("cache", f"a cache of {count} credentials", file, 65_536, found, lambda data: f"ok {shown(data)}")
+    found = f"ok {name_shown(default)} none {MOST} {list_shown([kind_shown(credentials[0])] * MOST, ' ')}"
+    yield file_case("cache", f"a cache of {MOST} credentials", start + one.times(MOST), 65_536, found, lambda data: f"ok {shown(data)}")
 
 
 def wide_records():
@@ -843,7 +838,7 @@ def sizes():
     for name, file in large_caches():
         yield cache_case(f"a cache with {name}", file)
         yield from each_call(credential_case, f"a cache with {name}, off a reader", file, 4_096)
-    for part in (edits_of_large_files, most_of_a_keytab, most_of_a_cache, full_files, wide_records, long_words):
+    for part in (edits_of_large_files, most_of_a_keytab, most_of_a_cache, many_items, wide_records, long_words):
         yield from part()
 
 
