@@ -84,8 +84,8 @@ abbrev round_of : List ℕ → List ℕ → List ℕ → List ℕ
 round_of once doubled key_form =
     zip2 bit_xor
     (zip2 bit_xor
-        (zip2 bit_xor (zip2 bit_xor (picked once shifted_turned_2) (chunk 0 16 key_form)) (picked once shifted_turned_3))
-        (picked doubled shifted))
+    (zip2 bit_xor (zip2 bit_xor (picked once shifted_turned_2) (chunk 0 16 key_form)) (picked once shifted_turned_3))
+    (picked doubled shifted))
     (picked (zip2 bit_xor doubled once) shifted_turned_1)
 
 abbrev once_lanes : List ℕ → List ℕ
