@@ -801,7 +801,7 @@ def most_of_a_cache():
 
 
 # Of so many items, a file of small ones still has room.
-MOST = 100_000
+MOST = 20_000
 
 
 def many_items():
@@ -855,7 +855,7 @@ def long_words():
         answers.append(f"1000 false {items}")
     elements = list_shown(["2/7f000001"] * 1_000)
     yield PROGRAM, "long strings and lists", [*lines, "cache list 2/7f000001^1000"], [*answers, f"1000 false {elements}"]
-    for realm, components in ((b"a" * 1_000_000, [b"b"]), (b"EX", [b"a" * 1_000_000]), (b"EX", [b"host"] * 200_000)):
+    for realm, components in ((b"a" * 1_000_000, [b"b"]), (b"EX", [b"a" * 1_000_000]), (b"EX", [b"host"] * 20_000)):
         text = reference.principal_text(realm, components)
         name = {"name_type": 3, "realm": realm, "components": components}
         word = f"3/{realm.hex()}/{','.join(it.hex() for it in components)}"
