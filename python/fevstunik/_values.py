@@ -2,6 +2,7 @@
 from __future__ import annotations
 
 import enum
+import math
 import os
 import threading
 import time
@@ -58,6 +59,8 @@ class Moment:
             return when
         if isinstance(when, int):
             return cls(when)
+        if not math.isfinite(when):
+            raise ValueError(f"a moment can't be {when}")
         seconds = int(when // 1)
         return cls(seconds, min(int((when - seconds) * 1_000_000), 999_999))
 

@@ -133,6 +133,9 @@ def test_moments():
     for strange in (lambda: Moment(2**64), lambda: Moment(0, -1), lambda: Moment.of(float("nan"))):
         with pytest.raises(ValueError):
             strange()
+    for endless in ("nan", "inf", "-inf"):
+        with pytest.raises(ValueError, match=f"a moment can't be {endless}"):
+            Moment.of(float(endless))
 
 
 def test_an_exchange(service, cache):
