@@ -109,7 +109,7 @@ def many_lines():
 
 
 def many_keys():
-    """Very many keys are added, of which the keytab has a part."""
+    """Very many keys are added. The keytab already has some of them."""
     records = [reference.record_of(entry([b"host", b"n%06d" % at], 3, 19, struct.pack(">QQ", at, 0))) for at in range(90_000)]
     data, keys = (KEYTAB + b"".join(it) for it in (records[:60_000], records[30_000:]))
     made = KEYTAB + b"".join(records)
