@@ -221,8 +221,7 @@ def swept(room, preloaded, name, steps, lines_of, lasting):
     for number in range(1, ALL):
         told = room / "told"
         told.unlink(missing_ok=True)
-        last = ALL if lasting else number
-        status, lines = run(room, ["call", name], LD_PRELOAD=preloaded, REFUSE_FIRST=str(number), REFUSE_LAST=str(last), REFUSE_TOLD=str(told))
+        status, lines = run(room, ["call", name], LD_PRELOAD=preloaded, **preload.numbers(number, lasting, told))
         if not told.exists():
             well = status == 0 and lines == lines_of(set())
             lacking = set() if lasting else set(range(steps)) - met

@@ -28,29 +28,7 @@ pub fn twice(n: u32) -> u32
     n + n
 }
 
-pub fn four_times(n: u32) -> u32
-    requires small { n ≤ 500 }
-    ensures { result ≡ n * 4 }
-{
-    let half = twice(n);
-    half + half
-}
-
-pub fn six_times(n: u32) -> u32
-    requires small { n ≤ 500 }
-    ensures { result ≡ n * 6 }
-{
-    let third = twice(n);
-    third + third + third
-}
-
-pub fn three_times(n: u32) -> u32
-    requires small { n ≤ 500 }
-    ensures { result ≡ n * 3 }
-{
-    let two = twice(n);
-    two + n
-}
+MULTIPLES
 
 pub fn part(n: u32) -> u32
     ensures { result ≤ n }
@@ -93,6 +71,21 @@ impl Bit for u8 {
 }
 """
 
+
+def multiple(name, factor, part, whole):
+    """A function that makes a multiple of a number of a first part, its double."""
+    return f"""pub fn {name}(n: u32) -> u32
+    requires small {{ n ≤ 500 }}
+    ensures {{ result ≡ n * {factor} }}
+{{
+    let {part} = twice(n);
+    {whole}
+}}
+"""
+
+
+MULTIPLES = [("four_times", 4, "half", "half + half"), ("six_times", 6, "third", "third + third + third"), ("three_times", 3, "two", "two + n")]
+SOURCE = SOURCE.replace("MULTIPLES\n", "\n".join(multiple(*it) for it in MULTIPLES))
 # the answer names the call of twice
 ANSWERS = """use Rattle.std.proofs.Common.{rules}
 use Rattle.sample.proofs.six_times.Goals as goal
@@ -171,21 +164,24 @@ pub fn one() -> u32
 # An edit that names a comment, too.
 NAMES_A_COMMENT = ("twice_and_one", "    n + n", "    n + n + 1\nold: // Where an edit may stand.\nnew: // Here.", None)
 
-# What is changed (file, old text, new text), and whether the edits are then tried again.
-CHANGES = [
-    ("a comment of the crate below", "low/src/lib.rt", "// A number.", "// One.", False),
-    ("a body of the crate below", "low/src/lib.rt", "    1\n", "    2 - 1\n", False),
-    ("a contract of the crate below", "low/src/lib.rt", "result ≡ 1", "result ≤ 1", True),
-    ("a definition of the crate below", "low/specs/Lib.antt", "", "pub mod More\n", True),
-    ("a comment", "sample/src/lib.rt", "// Functions whose edits show", "// These show", False),
-    ("a comment of a proof", "sample/proofs/six_times/Answers.antt", "pub returns :", "-- What is returned.\npub returns :", False),
-    ("a comment that an edit names", "sample/src/lib.rt", "// Where an edit may stand.", "// Elsewhere.", True),
-    ("a body", "sample/src/lib.rt", "    n / 2", "    n / 4", True),
-    ("a contract", "sample/src/lib.rt", "ensures { result ≤ n }", "ensures { n ≤ n }", True),
-    ("a definition", "sample/specs/Lib.antt", "", "pub mod More\n", True),
-    ("a proof", "sample/proofs/six_times/Answers.antt", "search rules", "search  rules", True),
-    ("an edit", "sample/edits/twice_and_one.edit", "n + n + 1", "n + n + 2", True),
+# What is changed (file, old text, new text), and leaves the edits as they were; and what is changed, so that they are tried again.
+WITHOUT_EFFECT = [
+    ("a comment of the crate below", "low/src/lib.rt", "// A number.", "// One."),
+    ("a body of the crate below", "low/src/lib.rt", "    1\n", "    2 - 1\n"),
+    ("a comment", "sample/src/lib.rt", "// Functions whose edits show", "// These show"),
+    ("a comment of a proof", "sample/proofs/six_times/Answers.antt", "pub returns :", "-- What is returned.\npub returns :"),
 ]
+WITH_EFFECT = [
+    ("a contract of the crate below", "low/src/lib.rt", "result ≡ 1", "result ≤ 1"),
+    ("a definition of the crate below", "low/specs/Lib.antt", "", "pub mod More\n"),
+    ("a comment that an edit names", "sample/src/lib.rt", "// Where an edit may stand.", "// Elsewhere."),
+    ("a body", "sample/src/lib.rt", "    n / 2", "    n / 4"),
+    ("a contract", "sample/src/lib.rt", "ensures { result ≤ n }", "ensures { n ≤ n }"),
+    ("a definition", "sample/specs/Lib.antt", "", "pub mod More\n"),
+    ("a proof", "sample/proofs/six_times/Answers.antt", "search rules", "search  rules"),
+    ("an edit", "sample/edits/twice_and_one.edit", "n + n + 1", "n + n + 2"),
+]
+CHANGES = [(*it, tried) for changes, tried in ((WITHOUT_EFFECT, False), (WITH_EFFECT, True)) for it in changes]
 CHANGED, HELD = "edits: sample: 1 edits are tried: changed since", "edits: sample: 1 edits are tried: drawn"
 
 

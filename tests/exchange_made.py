@@ -40,11 +40,28 @@ ALL = 1 << 30
 
 
 @dataclass(frozen=True)
-class Made:
-    """What may differ of a request. Each default is the fixture's."""
+class Sent:
+    """What may differ of a request and of a reply. Each default is the fixture's."""
 
     seconds: int = 1_700_000_100
     micros: int = 5
+    # The type of the session key, and the one that is named where it isn't that of the key that seals.
+    session_etype: int = 19
+    told_etype: int = None
+    kvno: int = None
+    # How what is sealed is bent: how many bytes of its plain text are kept, how many zeros stand after them, and how many bytes of it are sent.
+    kept: int = ALL
+    zeros: int = 0
+    sent: int = ALL
+    # The sender's choices.
+    subkey: str = None
+    number: int = None
+
+
+@dataclass(frozen=True)
+class Made(Sent):
+    """What may differ of a request."""
+
     options: int = 0
     flags: int = 0
     # The names that the ticket and the authenticator tell, and the type of the client's.
@@ -56,28 +73,19 @@ class Made:
     kvno: int = 3
     service_key: bytes = der.SERVICE_KEY
     service_etype: int = 19
-    session_etype: int = 19
     session_len: int = 16
-    # The types that are told of the two sealed texts, where they aren't those of the keys.
-    told_etype: int = None
+    # The type that is named for the authenticator, where it isn't that of the key.
     sealed_etype: int = None
     starttime: int = None
-    # The type of the one element of authorization data of each.
-    ticket_data: int = None
-    data: int = None
-    # How a sealed text is bent: the usage that it is sealed for, how many bytes of its plain text are kept, how many zeros stand after
-    # them, and how many bytes of it are sent.
-    ticket_usage: int = model.TICKET_USAGE
+    # How the ticket is bent, and the usages for which both are sealed.
     ticket_kept: int = ALL
     ticket_zeros: int = 0
     ticket_sent: int = ALL
+    ticket_usage: int = model.TICKET_USAGE
     usage: int = model.AUTHENTICATOR_USAGE
-    kept: int = ALL
-    zeros: int = 0
-    sent: int = ALL
-    # The client's choices.
-    subkey: str = None
-    number: int = None
+    # The type of the one element of authorization data of each.
+    ticket_data: int = None
+    data: int = None
     # Whether ticket and authenticator carry all that they may.
     full: int = 0
     # The realm of the client's cache, where it isn't the ticket's.
@@ -85,20 +93,10 @@ class Made:
 
 
 @dataclass(frozen=True)
-class Replied:
+class Replied(Sent):
     """What may differ of a reply."""
 
-    seconds: int = 1_700_000_100
-    micros: int = 5
-    session_etype: int = 19
-    told_etype: int = None
-    kvno: int = None
-    subkey: str = None
-    number: int = None
     usage: int = model.REPLY_USAGE
-    kept: int = ALL
-    zeros: int = 0
-    sent: int = ALL
     confounder: bytes = REPLY_CONFOUNDER
 
 

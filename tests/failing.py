@@ -6,8 +6,7 @@ accept the answers to all whole lines that came. A read or write that is short c
 
 Each check is a pair: its name, and what is wrong, or None.
 """
-import subprocess
-import tempfile
+import itertools
 
 import preload
 from preload import ALL, OLD
@@ -69,8 +68,7 @@ def is_right(command, call, how, lasting, failed, found):
 def swept(program, command, call, how, lasting, preloaded):
     """What is wrong with a run in which a call fails, or None where each such run is right."""
     for failed in range(1, ALL):
-        more = {"FAIL_CALL": call, "FAIL_HOW": how, "FAIL_FIRST": str(failed), "FAIL_LAST": str(ALL if lasting else failed)}
-        found, met = preload.run(program, command, preloaded, "FAIL_TOLD", **more)
+        found, met = preload.run(program, command, preloaded, failed, lasting, FAIL_CALL=call, FAIL_HOW=how)
         if not met:
             return None if found.is_well(command) and failed > 1 else f"where {failed} calls go well it gives {found}"
         if not is_right(command, call, how, lasting, failed, found):
@@ -78,15 +76,14 @@ def swept(program, command, call, how, lasting, preloaded):
     return "it reads or writes again and again"
 
 
+WAYS = [("error", False), ("error", True), ("interrupted", False), ("short", False), ("short", True)]
+
+
 def checks(program):
-    with tempfile.TemporaryDirectory(prefix="krbtool-fail-") as folder:
-        try:
-            preloaded = preload.library(folder, "fail")
-            for command in commands(program):
-                for call in ("read", "write"):
-                    for how, lasting in (("error", False), ("error", True), ("interrupted", False), ("short", False), ("short", True)):
-                        lines = f" over {len(command.stdin.splitlines())} lines" if command.stdin else ""
-                        name = f"failing: {' '.join(command.words[:3])}{lines}, each {call}: {how}{', and all after it' if lasting else ''}"
-                        yield name, swept(program, command, call, how, lasting, preloaded)
-        except (OSError, subprocess.SubprocessError) as error:
-            yield "failing", str(error)
+    def of_command(command, preloaded):
+        lines = f" over {len(command.stdin.splitlines())} lines" if command.stdin else ""
+        for call, (how, lasting) in itertools.product(("read", "write"), WAYS):
+            name = f"failing: {' '.join(command.words[:3])}{lines}, each {call}: {how}{', and all after it' if lasting else ''}"
+            yield name, swept(program, command, call, how, lasting, preloaded)
+
+    return preload.checks("failing", "fail", commands(program), of_command)

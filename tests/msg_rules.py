@@ -17,20 +17,24 @@ of RFC 4120 (sections 5.2, 5.3, 5.5.1, 5.5.2 and 5.9.1), written out from that d
 
 The second, the third and the sixth are worked out here too, and this script fails where they do not hold.
 """
-from msg_values import (
-    VALUES, fields as numbered, element, flags, integer, name, octet_string, sealed, sequence, text_string, ticket, time, typed,
-)
+from msg_values import VALUES, element, encrypted, fields as numbered, flags, integer, name, octets, sequence, string, ticket, time, typed
 
 from der_rules import LIMIT, PROGRAM, Refused, answer, head, packed, read
 
 
-def fields(*rows):
-    """A SEQUENCE: each row has the number of a field, what it holds, and whether it must be there or may be left out."""
-    return [(way, (0xA0 + number, shape)) for number, shape, way in rows]
+def may(shape):
+    """A field that may be left out."""
+    return "may", shape
 
 
-def application(number, *rows):
-    return 0x60 + number, fields(*rows)
+def fields(*shapes):
+    """A SEQUENCE of fields that are numbered from 0 on. Each must be there, if it isn't one that may be left out."""
+    ways = [it if isinstance(it, tuple) and it[0] == "may" else ("must", it) for it in shapes]
+    return [(way, (0xA0 + number, shape)) for number, (way, shape) in enumerate(ways)]
+
+
+def application(number, *shapes):
+    return 0x60 + number, fields(*shapes)
 
 
 def list_of(shape):
@@ -39,91 +43,41 @@ def list_of(shape):
 
 # Section 5.2: Realm and KerberosString, KerberosTime, PrincipalName, HostAddresses, AuthorizationData, EncryptedData,
 # EncryptionKey and Checksum. Section 5.3: TransitedEncoding.
-PRINCIPAL_NAME = fields((0, "int32", "must"), (1, list_of("string"), "must"))
-HOST_ADDRESSES = list_of(fields((0, "int32", "must"), (1, "octets", "must")))
-AUTHORIZATION_DATA = list_of(fields((0, "int32", "must"), (1, "octets", "must")))
-ENCRYPTED_DATA = fields((0, "int32", "must"), (1, "uint32", "may"), (2, "octets", "must"))
-ENCRYPTION_KEY = fields((0, "int32", "must"), (1, "octets", "must"))
-CHECKSUM = fields((0, "int32", "must"), (1, "octets", "must"))
-TRANSITED_ENCODING = fields((0, "int32", "must"), (1, "octets", "must"))
+PRINCIPAL_NAME = fields("int32", list_of("string"))
+HOST_ADDRESSES = list_of(fields("int32", "octets"))
+AUTHORIZATION_DATA = list_of(fields("int32", "octets"))
+ENCRYPTED_DATA = fields("int32", may("uint32"), "octets")
+ENCRYPTION_KEY = fields("int32", "octets")
+CHECKSUM = fields("int32", "octets")
+TRANSITED_ENCODING = fields("int32", "octets")
 
 # Section 5.3: tkt-vno, realm, sname, enc-part.
-TICKET = application(
-    1,
-    (0, "five", "must"),
-    (1, "string", "must"),
-    (2, PRINCIPAL_NAME, "must"),
-    (3, ENCRYPTED_DATA, "must"),
-)
+TICKET = application(1, "five", "string", PRINCIPAL_NAME, ENCRYPTED_DATA)
 
 # Section 5.3: flags, key, crealm, cname, transited, authtime, starttime, endtime, renew-till, caddr, authorization-data.
 ENC_TICKET_PART = application(
-    3,
-    (0, "flags", "must"),
-    (1, ENCRYPTION_KEY, "must"),
-    (2, "string", "must"),
-    (3, PRINCIPAL_NAME, "must"),
-    (4, TRANSITED_ENCODING, "must"),
-    (5, "time", "must"),
-    (6, "time", "may"),
-    (7, "time", "must"),
-    (8, "time", "may"),
-    (9, HOST_ADDRESSES, "may"),
-    (10, AUTHORIZATION_DATA, "may"),
+    3, "flags", ENCRYPTION_KEY, "string", PRINCIPAL_NAME, TRANSITED_ENCODING, "time", may("time"), "time", may("time"), may(HOST_ADDRESSES),
+    may(AUTHORIZATION_DATA),
 )
 
 # Section 5.5.1: pvno, msg-type, ap-options, ticket, authenticator.
-AP_REQ = application(
-    14,
-    (0, "five", "must"),
-    (1, "fourteen", "must"),
-    (2, "flags", "must"),
-    (3, TICKET, "must"),
-    (4, ENCRYPTED_DATA, "must"),
-)
+AP_REQ = application(14, "five", "fourteen", "flags", TICKET, ENCRYPTED_DATA)
 
 # Section 5.5.1: authenticator-vno, crealm, cname, cksum, cusec, ctime, subkey, seq-number, authorization-data.
 AUTHENTICATOR = application(
-    2,
-    (0, "five", "must"),
-    (1, "string", "must"),
-    (2, PRINCIPAL_NAME, "must"),
-    (3, CHECKSUM, "may"),
-    (4, "microseconds", "must"),
-    (5, "time", "must"),
-    (6, ENCRYPTION_KEY, "may"),
-    (7, "seq_number", "may"),
-    (8, AUTHORIZATION_DATA, "may"),
+    2, "five", "string", PRINCIPAL_NAME, may(CHECKSUM), "microseconds", "time", may(ENCRYPTION_KEY), may("seq_number"), may(AUTHORIZATION_DATA),
 )
 
 # Section 5.5.2: pvno, msg-type, enc-part.
-AP_REP = application(15, (0, "five", "must"), (1, "fifteen", "must"), (2, ENCRYPTED_DATA, "must"))
+AP_REP = application(15, "five", "fifteen", ENCRYPTED_DATA)
 
 # Section 5.5.2: ctime, cusec, subkey, seq-number.
-ENC_AP_REP_PART = application(
-    27,
-    (0, "time", "must"),
-    (1, "microseconds", "must"),
-    (2, ENCRYPTION_KEY, "may"),
-    (3, "seq_number", "may"),
-)
+ENC_AP_REP_PART = application(27, "time", "microseconds", may(ENCRYPTION_KEY), may("seq_number"))
 
 # Section 5.9.1: pvno, msg-type, ctime, cusec, stime, susec, error-code, crealm, cname, realm, sname, e-text, e-data.
 KRB_ERROR = application(
-    30,
-    (0, "five", "must"),
-    (1, "thirty", "must"),
-    (2, "time", "may"),
-    (3, "microseconds", "may"),
-    (4, "time", "must"),
-    (5, "microseconds", "must"),
-    (6, "int32", "must"),
-    (7, "string", "may"),
-    (8, PRINCIPAL_NAME, "may"),
-    (9, "string", "must"),
-    (10, PRINCIPAL_NAME, "must"),
-    (11, "string", "may"),
-    (12, "octets", "may"),
+    30, "five", "thirty", may("time"), may("microseconds"), "time", "microseconds", "int32", may("string"), may(PRINCIPAL_NAME), "string",
+    PRINCIPAL_NAME, may("string"), may("octets"),
 )
 
 # What each message of msg_values is, by its name's last words: the first of these names that it ends in.
@@ -243,24 +197,24 @@ def message(kind, many, parts, number=2**32 - 1):
         return sequence(*[typed(1, bytes([7] * 2))] * many, *[typed(1, content)] * bool(content))
 
     moment, etype = time("20231114221500Z"), integer(19)
-    key, cipher = typed(19, main), sealed(19, main, 3)
+    key, cipher = typed(19, main), encrypted(19, main, 3)
     shared = ticket(named(), cipher, realm)
     rows = {
         "ticket": (None, shared),
         "enc-ticket": (0x63, [
-            (0, flags(0)), (1, key), (2, text_string(realm)), (3, named()), (4, typed(1, beside)), (5, moment), (6, moment), (7, moment), (8, moment),
+            (0, flags(0)), (1, key), (2, string(realm)), (3, named()), (4, typed(1, beside)), (5, moment), (6, moment), (7, moment), (8, moment),
             (9, listed(one)), (10, listed(two)),
         ]),
-        "ap-req": (0x6E, [(0, integer(5)), (1, integer(14)), (2, flags(1 << 29)), (3, shared), (4, sealed(19, beside, 3))]),
+        "ap-req": (0x6E, [(0, integer(5)), (1, integer(14)), (2, flags(1 << 29)), (3, shared), (4, encrypted(19, beside, 3))]),
         "authenticator": (0x62, [
-            (0, integer(5)), (1, text_string(realm)), (2, named()), (3, typed(1, beside)), (4, integer(5)), (5, moment), (6, key),
+            (0, integer(5)), (1, string(realm)), (2, named()), (3, typed(1, beside)), (4, integer(5)), (5, moment), (6, key),
             (7, integer(number)), (8, listed(one)),
         ]),
         "ap-rep": (0x6F, [(0, integer(5)), (1, integer(15)), (2, cipher)]),
         "enc-ap-rep": (0x7B, [(0, moment), (1, integer(5)), (2, key), (3, integer(number))]),
         "krb-error": (0x7E, [
-            (0, integer(5)), (1, integer(30)), (2, moment), (3, integer(5)), (4, moment), (5, integer(5)), (6, integer(37)), (7, text_string(one)),
-            (8, named(two)), (9, text_string(realm)), (10, named()), (11, text_string(beside)), (12, octet_string(main)),
+            (0, integer(5)), (1, integer(30)), (2, moment), (3, integer(5)), (4, moment), (5, integer(5)), (6, integer(37)), (7, string(one)),
+            (8, named(two)), (9, string(realm)), (10, named()), (11, string(beside)), (12, octets(main)),
         ]),
     }
     tag, row = rows[kind]

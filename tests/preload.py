@@ -112,8 +112,13 @@ def library(folder, name):
     return made
 
 
-def run(program, command, preloaded=None, told=None, **more):
-    """What a run gives, and whether the library met what it waits for (then it makes the file that the variable `told` names)."""
+def numbers(first, lasting, met):
+    """The variables that name the calls which a preloaded library meets (preloaded.h): one, or all from it on; and the file that it then makes."""
+    return {"CALL_FIRST": str(first), "CALL_LAST": str(ALL if lasting else first), "CALL_MET": str(met)}
+
+
+def run(program, command, preloaded=None, first=1, lasting=False, **more):
+    """What a run gives, and whether the library met a call."""
     with tempfile.TemporaryDirectory(prefix="krbtool-preload-") as name:
         room = Path(name)
         (room / "f").write_bytes(command.file)
@@ -122,11 +127,22 @@ def run(program, command, preloaded=None, told=None, **more):
         (room / "out").write_bytes(OLD)
         (room / "stdin").write_bytes(command.stdin)
         if preloaded:
-            more = {"LD_PRELOAD": preloaded, told: str(room / "told"), **more}
+            more = {"LD_PRELOAD": preloaded, **numbers(first, lasting, room / "met"), **more}
         with open(room / "stdin", "rb") as stdin:
             done = subprocess.run([program, *command.words], cwd=room, env={**os.environ, **more}, stdin=stdin, capture_output=True, timeout=SECONDS)
         found = Found(done.returncode, done.stdout, done.stderr.decode(errors="replace"), (room / "out").read_bytes())
-        return found, (room / "told").exists()
+        return found, (room / "met").exists()
+
+
+def checks(title, name, commands, of_command):
+    """The checks of each command beside the preloaded library of this name; or, by this title, why there are none."""
+    with tempfile.TemporaryDirectory(prefix=f"krbtool-{name}-") as folder:
+        try:
+            preloaded = library(folder, name)
+            for command in commands:
+                yield from of_command(command, preloaded)
+        except (OSError, subprocess.SubprocessError) as error:
+            yield title, str(error)
 
 
 def with_answer(program, command):

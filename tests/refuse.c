@@ -1,35 +1,17 @@
-/* A library to be preloaded: it refuses one call for memory of a program, as a machine without memory would.
- *
- *   REFUSE_FIRST=N   the Nth call is refused, counted from 1
- *   REFUSE_LAST=M    and each up to the Mth
- *   REFUSE_TOLD=FILE this file is made once a call is refused
- */
+/* A library to be preloaded: it refuses some of a program's calls for memory, as a machine without memory would. preloaded.h says which. */
 #include <errno.h>
-#include <fcntl.h>
-#include <stdlib.h>
-#include <unistd.h>
+
+#include "preloaded.h"
 
 extern void *__libc_malloc(size_t size);
 extern void *__libc_calloc(size_t count, size_t size);
 extern void *__libc_realloc(void *old, size_t size);
 extern void *__libc_memalign(size_t alignment, size_t size);
 
-static long calls;
-
-static long number(const char *name)
-{
-    const char *text = getenv(name);
-    return text ? atol(text) : 0;
-}
-
 static int is_refused(void)
 {
-    calls += 1;
-    if (calls < number("REFUSE_FIRST") || calls > number("REFUSE_LAST"))
+    if (!is_counted_in())
         return 0;
-    const char *told = getenv("REFUSE_TOLD");
-    if (told)
-        close(open(told, O_WRONLY | O_CREAT, 0600));
     errno = ENOMEM;
     return 1;
 }

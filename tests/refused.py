@@ -7,9 +7,6 @@ of a service that never got that line; and where it has no room for a reply or a
 
 Each check is a pair: its name, and what is wrong, or None.
 """
-import subprocess
-import tempfile
-
 import preload
 from preload import ALL, OLD, Command
 
@@ -112,8 +109,7 @@ def swept(program, command, last, preloaded, lasting):
     stage = passed_over = 0
     ends = set()
     for refused in range(1, ALL):
-        more = {"REFUSE_FIRST": str(refused), "REFUSE_LAST": str(ALL if lasting else refused)}
-        found, met = preload.run(program, command, preloaded, "REFUSE_TOLD", **more)
+        found, met = preload.run(program, command, preloaded, refused, lasting)
         well = found.is_well(command)
         if not met:
             lacking = set() if lasting else unmet(command, ends)
@@ -130,16 +126,13 @@ def swept(program, command, last, preloaded, lasting):
 
 
 def checks(program):
-    with tempfile.TemporaryDirectory(prefix="krbtool-refuse-") as folder:
-        try:
-            preloaded = preload.library(folder, "refuse")
-            for command in commands(program):
-                # after clap's text nothing comes
-                last = 1 if command.wrote is None else 2
-                if command.wrote is None:
-                    command = preload.with_answer(program, command)
-                for lasting in (False, True):
-                    name = f"refused memory: {' '.join(command.words[:3])}, each call{' and all after it' if lasting else ''}"
-                    yield name, swept(program, command, last, preloaded, lasting)
-        except (OSError, subprocess.SubprocessError) as error:
-            yield "refused memory", str(error)
+    def of_command(command, preloaded):
+        # after clap's text nothing comes
+        last = 1 if command.wrote is None else 2
+        if command.wrote is None:
+            command = preload.with_answer(program, command)
+        for lasting in (False, True):
+            name = f"refused memory: {' '.join(command.words[:3])}, each call{' and all after it' if lasting else ''}"
+            yield name, swept(program, command, last, preloaded, lasting)
+
+    return preload.checks("refused memory", "refuse", commands(program), of_command)

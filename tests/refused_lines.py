@@ -84,7 +84,7 @@ def swept(preloaded, room, memory):
     for number in range(1, ALL):
         told = room / "told"
         told.unlink(missing_ok=True)
-        status, found = run(lines, LD_PRELOAD=preloaded, REFUSE_FIRST=str(number), REFUSE_LAST=str(number), REFUSE_TOLD=str(told))
+        status, found = run(lines, LD_PRELOAD=preloaded, **preload.numbers(number, False, told))
         if not told.exists():
             return f"never refused: {sorted(TAKES - met)}" if TAKES - met or (status, found) != (0, right) else None
         if status == 2 and found == right[: len(found)]:

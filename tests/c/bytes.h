@@ -45,4 +45,16 @@ static inline void from_file(struct bytes *bytes, const char *name)
     fclose(file);
 }
 
+/* Reads a program's inputs, one for each word: a keytab and a cache from files, and the others in hexadecimal digits. */
+static inline void from_words(struct bytes *const *inputs, size_t count, char **words)
+{
+    size_t at;
+
+    for (at = 0; at < count; at++)
+        if (at < 2)
+            from_file(inputs[at], words[1 + at]);
+        else
+            from_hex(inputs[at], words[1 + at]);
+}
+
 #endif

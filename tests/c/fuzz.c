@@ -254,17 +254,15 @@ int main(int count, char **words)
 {
     fevstunik_acceptor service = FEVSTUNIK_ACCEPTOR_INIT;
     fevstunik_accepted accepted = FEVSTUNIK_ACCEPTED_INIT;
-    long at, inputs;
+    struct bytes *const inputs[] = {&keytab, &cache, &request, &reply};
+    long at, most;
 
     if (count != 7)
         return 2;
-    from_file(&keytab, words[1]);
-    from_file(&cache, words[2]);
-    from_hex(&request, words[3]);
-    from_hex(&reply, words[4]);
-    inputs = atol(words[5]);
+    from_words(inputs, 4, words);
+    most = atol(words[5]);
     state = strtoull(words[6], NULL, 10);
-    for (at = 0; at < inputs; at++) {
+    for (at = 0; at < most; at++) {
         /* A new service now and then, which hasn't seen the request. */
         if (at % 8 == 0 && fevstunik_acceptor_new(&service, keytab.at, keytab.size, 300, (const uint8_t *)"host/web@EX", 11).code != FEVSTUNIK_OK)
             wrong("a new service", at);
@@ -281,6 +279,6 @@ int main(int count, char **words)
         if (counts[at] > 0)
             printf("%ld: %ld\n", at, counts[at]);
     if (counts[FEVSTUNIK_OK] == 0 || counts[FEVSTUNIK_AUTHENTICATOR_INTEGRITY] == 0 || counts[FEVSTUNIK_REPLY_INTEGRITY] == 0)
-        wrong("what was reached", inputs);
+        wrong("what was reached", most);
     return 0;
 }

@@ -1,8 +1,8 @@
 /* Runs the library on the exchange that tests share (tests/vectors/fixture.py), with exact answers. The arguments are the files of the
  * keytab and of the cache, and in hex the request, the request with a subkey, the reply, the reply with a subkey, the error, a cache of
  * two credentials with an offset, a request for another service, and a request with lists (tests/c_cases.py). */
-#include "checks.h"
 #include "listed.h"
+#include "structs.h"
 
 /* Where the credential begins in the cache: after the version, an empty header and the default principal. */
 #define CREDENTIAL_AT 27
@@ -20,6 +20,10 @@ static fevstunik_accepted accepted = FEVSTUNIK_ACCEPTED_INIT;
 static fevstunik_cache credentials = FEVSTUNIK_CACHE_INIT;
 static fevstunik_pending pending = FEVSTUNIK_PENDING_INIT;
 static const fevstunik_choice nothing = {0, 0, false, false};
+/* What is known of the fixture's request. */
+static const fevstunik_known fixture_known = {
+    .client = {0, 8}, .session_key = {8, 16}, .subkey = {24, 0}, .service = {24, 11}, .authtime = 1700000000, .endtime = 1700036000,
+    .ctime = 1700000100, .cusec = 5, .name_type = 1, .service_type = 3, .session_type = 19};
 
 /* An empty handle answers that it is empty, and stays so. */
 static void empty_handles(void)
@@ -216,40 +220,28 @@ static void is_accepted(fevstunik_acceptor *service)
     is("not written", buffer[0], 0xaa);
     is_answer("told", fevstunik_accepted_known(&accepted, &known, buffer, 35), FEVSTUNIK_OK, 0, 0, 35);
     is("after", buffer[35], 0xaa);
-    is("client at", (long long)known.client.at, 0);
-    is("client size", (long long)known.client.size, 8);
+    is_known("known", &known, &fixture_known);
     is_bytes("client", buffer, "alice@EX", 8);
-    is("key at", (long long)known.session_key.at, 8);
-    is("key size", (long long)known.session_key.size, 16);
     is_bytes("key", buffer + 8, session_key, 16);
-    is("subkey at", (long long)known.subkey.at, 24);
-    is("subkey size", (long long)known.subkey.size, 0);
-    is("service at", (long long)known.service.at, 24);
-    is("service size", (long long)known.service.size, 11);
     is_bytes("service", buffer + 24, "host/web@EX", 11);
-    is("endtime", known.endtime, 1700036000);
-    is("ctime", known.ctime, 1700000100);
-    is("cusec", known.cusec, 5);
-    is("name type", known.name_type, 1);
-    is("service type", known.service_type, 3);
-    is("session type", known.session_type, 19);
-    is("authtime", known.authtime, 1700000000);
-    is("subkey type", known.subkey_type, 0);
-    is("has subkey", known.has_subkey, 0);
-    is("has seq", known.has_seq, 0);
-    is("wants reply", known.wants_reply, 0);
+}
+
+/* Fills bytes with this number and those after it. */
+static void count_from(uint8_t first, uint8_t *at, size_t size)
+{
+    size_t i;
+
+    for (i = 0; i < size; i++)
+        at[i] = (uint8_t)(first + i);
 }
 
 static fevstunik_answer reply_of(size_t confounder_size, int32_t type, size_t subkey_size, size_t room)
 {
     uint8_t confounder[17], subkey[32];
     fevstunik_choice choice = nothing;
-    size_t i;
 
-    for (i = 0; i < sizeof confounder; i++)
-        confounder[i] = (uint8_t)(0x30 + i);
-    for (i = 0; i < sizeof subkey; i++)
-        subkey[i] = (uint8_t)(0x40 + i);
+    count_from(0x30, confounder, sizeof confounder);
+    count_from(0x40, subkey, sizeof subkey);
     choice.subkey_type = type;
     choice.has_seq = type != 0;
     choice.seq = 128;
@@ -454,6 +446,12 @@ static void additions(void)
 /* What the files have is told, one by one. */
 static void listings(void)
 {
+    static const fevstunik_key_entry entry_wanted = {
+        .name = {0, 11}, .key = {11, 16}, .timestamp = 1700000000, .kvno = 3, .name_type = 3, .key_type = 19};
+    static const fevstunik_cache_entry credential_wanted = {
+        .client = {0, 8}, .server = {8, 11}, .key = {19, 16}, .ticket = {35, 214}, .authtime = 1700000000, .endtime = 1700036000,
+        .client_type = 1, .server_type = 3, .key_type = 19};
+    static const fevstunik_owner owner_wanted = {.name = {0, 8}, .name_type = 1};
     fevstunik_key_entry entry;
     fevstunik_cache_entry credential;
     fevstunik_owner owner;
@@ -463,14 +461,7 @@ static void listings(void)
     is_answer("entry", entry_in(keytab.at, keytab.size, 0, &entry, buffer, 27), FEVSTUNIK_OK, 0, 0, 27);
     is_bytes("entry name", buffer, "host/web@EX", 11);
     is_bytes("entry key", buffer + 11, keytab.at + keytab.size - 20, 16);
-    is("name at", (long long)entry.name.at, 0);
-    is("name size", (long long)entry.name.size, 11);
-    is("entry key at", (long long)entry.key.at, 11);
-    is("entry key size", (long long)entry.key.size, 16);
-    is("timestamp", entry.timestamp, 1700000000);
-    is("kvno", entry.kvno, 3);
-    is("entry name type", entry.name_type, 3);
-    is("entry key type", entry.key_type, 19);
+    is_entry("entry", &entry, &entry_wanted);
     is_answer("entry short", entry_in(keytab.at, keytab.size, 0, &entry, buffer, 26), FEVSTUNIK_SHORT_BUFFER, 0, 0, 27);
     memset(&entry, 0x5a, sizeof entry);
     is_answer("past the last", entry_in(keytab.at, keytab.size, ENTRIES, &entry, buffer, 27), FEVSTUNIK_NO_SUCH_ENTRY, 0, 0, 0);
@@ -483,18 +474,7 @@ static void listings(void)
     for (i = 0; i < 16; i++)
         is("session key", buffer[19 + i], i);
     is_bytes("ticket", buffer + 35, "\x61\x81\xd3", 3);
-    is("client size", (long long)credential.client.size, 8);
-    is("server at", (long long)credential.server.at, 8);
-    is("server size", (long long)credential.server.size, 11);
-    is("session key at", (long long)credential.key.at, 19);
-    is("session key size", (long long)credential.key.size, 16);
-    is("ticket at", (long long)credential.ticket.at, 35);
-    is("ticket size", (long long)credential.ticket.size, 214);
-    is("endtime", credential.endtime, 1700036000);
-    is("client type", credential.client_type, 1);
-    is("server type", credential.server_type, 3);
-    is("session key type", credential.key_type, 19);
-    is("is_skey", credential.is_skey, 0);
+    is_credential("credential", &credential, &credential_wanted);
     is_answer("credential short", credential_in(cache.at, cache.size, 0, &credential, buffer, size - 1), FEVSTUNIK_SHORT_BUFFER,
               0, 0, size);
     memset(&credential, 0x5a, sizeof credential);
@@ -504,12 +484,7 @@ static void listings(void)
     is_answer("of none", credential_in(cache.at, 3, 0, &credential, buffer, size), FEVSTUNIK_FILE_HEADER, 0, 0, 0);
     is_answer("owner", owner_in(cache.at, cache.size, &owner, buffer, 8), FEVSTUNIK_OK, 0, 0, 8);
     is_bytes("owner", buffer, "alice@EX", 8);
-    is("owner at", (long long)owner.name.at, 0);
-    is("owner size", (long long)owner.name.size, 8);
-    is("owner type", owner.name_type, 1);
-    is("no offset", owner.has_offset, 0);
-    is("no seconds", owner.offset_seconds, 0);
-    is("no micros", owner.offset_micros, 0);
+    is_owner("owner", &owner, &owner_wanted);
     is_answer("owner short", owner_in(cache.at, cache.size, &owner, buffer, 7), FEVSTUNIK_SHORT_BUFFER, 0, 0, 8);
     is_answer("owner of none", owner_in(cache.at, 1, &owner, buffer, 8), FEVSTUNIK_FILE_VERSION, 0, 0, 0);
 }
@@ -571,6 +546,8 @@ static void kept_cache(void)
 static void second_entry(void)
 {
     static const uint8_t zeros[42];
+    static const fevstunik_key_entry wanted = {
+        .name = {0, 4}, .key = {4, 16}, .timestamp = 1700000000, .kvno = 3, .name_type = 3, .key_type = 19};
     struct bytes file;
     fevstunik_key_entry entry;
     const uint8_t *key = keytab.at + keytab.size - 20;
@@ -582,10 +559,7 @@ static void second_entry(void)
     is_answer("the second", entry_in(file.at, file.size, 1, &entry, buffer, sizeof buffer), FEVSTUNIK_OK, 0, 0, 20);
     is_bytes("its name", buffer, "a@EX", 4);
     is_bytes("its key", buffer + 4, key, 16);
-    is("its name at", (long long)entry.name.at, 0);
-    is("its name's size", (long long)entry.name.size, 4);
-    is("its key at", (long long)entry.key.at, 4);
-    is("its key's size", (long long)entry.key.size, 16);
+    is_entry("the second", &entry, &wanted);
     is_answer("no third", entry_in(file.at, file.size, 2, &entry, buffer, sizeof buffer), FEVSTUNIK_NO_SUCH_ENTRY, 0, 0, 0);
     is_answer("remove it", fevstunik_keytab_remove(file.at, file.size, 1, made, sizeof made), FEVSTUNIK_OK, 0, 0, file.size);
     is_bytes("the first stays", made, file.at, keytab.size);
@@ -599,6 +573,13 @@ static void second_entry(void)
 static void second_credential(void)
 {
     static const char names[] = "alice@EXkrb5_ccache_conf_data/fast_avail@X-CACHECONF:yes";
+    static const fevstunik_owner owner_wanted = {.name = {0, 8}, .name_type = 1, .offset_seconds = -2, .offset_micros = 7, .has_offset = true};
+    static const fevstunik_cache_entry first_wanted = {
+        .client = {0, 8}, .server = {8, sizeof names - 12}, .key = {sizeof names - 4, 0}, .ticket = {sizeof names - 4, 3}, .client_type = 1};
+    static const fevstunik_cache_entry second_wanted = {
+        .client = {0, 8}, .server = {8, 11}, .key = {19, 16}, .ticket = {35, 214}, .authtime = 1700000000, .starttime = 1700000001,
+        .endtime = 1700036000, .renew_till = 1700600000, .flags = 0x40610000, .client_type = 1, .server_type = 3, .key_type = 19,
+        .is_skey = true};
     fevstunik_cache_entry credential;
     fevstunik_owner owner;
     size_t size = 8 + 11 + 16 + 214;
@@ -606,26 +587,15 @@ static void second_credential(void)
     is_answer("two credentials", fevstunik_cache_check(two.at, two.size), FEVSTUNIK_OK, 0, 0, 2);
     is_answer("the owner", owner_in(two.at, two.size, &owner, buffer, sizeof buffer), FEVSTUNIK_OK, 0, 0, 8);
     is_bytes("its name", buffer, "alice@EX", 8);
-    is("an offset", owner.has_offset, 1);
-    is("its seconds", owner.offset_seconds, -2);
-    is("its micros", owner.offset_micros, 7);
+    is_owner("the owner", &owner, &owner_wanted);
     is_answer("the first", credential_in(two.at, two.size, 0, &credential, buffer, sizeof buffer), FEVSTUNIK_OK, 0, 0,
               sizeof names - 1);
     is_bytes("what it tells", buffer, names, sizeof names - 1);
-    is("no key", (long long)credential.key.size, 0);
-    is("where it tells", (long long)credential.ticket.at, sizeof names - 4);
-    is("no type", credential.key_type, 0);
-    is("not under a session key", credential.is_skey, 0);
+    is_credential("the first", &credential, &first_wanted);
     is_answer("the second", credential_in(two.at, two.size, 1, &credential, buffer, sizeof buffer), FEVSTUNIK_OK, 0, 0, size);
     is_bytes("its names", buffer, "alice@EXhost/web@EX", 19);
     is_bytes("its ticket", buffer + 35, "\x61\x81\xd3", 3);
-    is("its type", credential.key_type, 19);
-    is("authtime", credential.authtime, 1700000000);
-    is("starttime", credential.starttime, 1700000001);
-    is("endtime", credential.endtime, 1700036000);
-    is("renew_till", credential.renew_till, 1700600000);
-    is("flags", credential.flags, 0x40610000);
-    is("under a session key", credential.is_skey, 1);
+    is_credential("the second", &credential, &second_wanted);
     is_answer("no third", credential_in(two.at, two.size, 2, &credential, buffer, sizeof buffer), FEVSTUNIK_NO_SUCH_ENTRY, 0, 0, 0);
 }
 
@@ -634,24 +604,21 @@ static void keyed_client(void)
 {
     fevstunik_acceptor service = FEVSTUNIK_ACCEPTOR_INIT;
     fevstunik_time now = moment(1700000100, 5);
-    fevstunik_known known;
+    fevstunik_known known, wanted = fixture_known;
     size_t i;
 
+    wanted.subkey.size = 32;
+    wanted.subkey_type = 20;
+    wanted.service.at = 24 + 32;
+    wanted.seq = 4294967295;
+    wanted.has_subkey = wanted.has_seq = wanted.wants_reply = true;
     is_answer("new", fevstunik_acceptor_new(&service, keytab.at, keytab.size, 0, EACH_NAME), FEVSTUNIK_OK, 0, 0, 0);
     is_answer("keyed", fevstunik_acceptor_accept(&service, &accepted, keyed.at, keyed.size, &now), FEVSTUNIK_OK, 0, 0, 0);
     is_answer("told", fevstunik_accepted_known(&accepted, &known, buffer, sizeof buffer), FEVSTUNIK_OK, 0, 0, 67);
-    is("type", known.subkey_type, 20);
-    is("there", known.has_subkey, 1);
-    is("at", (long long)known.subkey.at, 24);
-    is("size", (long long)known.subkey.size, 32);
+    is_known("keyed", &known, &wanted);
     for (i = 0; i < 32; i++)
         is("byte", buffer[24 + i], (long long)(0x20 + i));
-    is("service at", (long long)known.service.at, 56);
-    is("service size", (long long)known.service.size, 11);
     is_bytes("service", buffer + 56, "host/web@EX", 11);
-    is("number", known.seq, 4294967295);
-    is("numbered", known.has_seq, 1);
-    is("wants reply", known.wants_reply, 1);
     fevstunik_acceptor_free(&service);
 }
 
@@ -748,21 +715,19 @@ static void another_service(void)
     fevstunik_acceptor service = FEVSTUNIK_ACCEPTOR_INIT;
     fevstunik_time now = moment(1700000100, 5);
     fevstunik_answer both = added(&keytab, "a\\/b@EX", keytab.at + keytab.size - 20, 16, sizeof buffer);
-    fevstunik_known known;
+    fevstunik_known known, wanted = fixture_known;
 
+    wanted.service.size = 7;
+    wanted.service_type = -3;
+    wanted.name_type = -7;
+    wanted.flags = 0x40610000;
+    wanted.has_seq = true;
     is("two keys", both.code, FEVSTUNIK_OK);
     is_answer("new", fevstunik_acceptor_new(&service, buffer, both.size, 300, EACH_NAME), FEVSTUNIK_OK, 0, 0, 0);
     is_answer("accept", fevstunik_acceptor_accept(&service, &accepted, other.at, other.size, &now), FEVSTUNIK_OK, 0, 0, 0);
     is_answer("told", fevstunik_accepted_known(&accepted, &known, buffer, sizeof buffer), FEVSTUNIK_OK, 0, 0, 31);
-    is("at", (long long)known.service.at, 24);
-    is("size", (long long)known.service.size, 7);
+    is_known("another service", &known, &wanted);
     is_bytes("service", buffer + 24, "a\\/b@EX", 7);
-    is("service type", known.service_type, -3);
-    is("name type", known.name_type, -7);
-    is("flags", known.flags, 0x40610000);
-    is("authtime", known.authtime, 1700000000);
-    is("numbered", known.has_seq, 1);
-    is("number", known.seq, 0);
     is_answer("the fixture's", fevstunik_acceptor_accept(&service, &accepted, request.at, request.size, &now), FEVSTUNIK_OK, 0, 0, 0);
     is_answer("told then", fevstunik_accepted_known(&accepted, &known, buffer, sizeof buffer), FEVSTUNIK_OK, 0, 0, 35);
     is_bytes("its service", buffer + known.service.at, "host/web@EX", 11);
@@ -805,12 +770,9 @@ static fevstunik_answer asked(const char *service, fevstunik_time at, size_t con
 {
     uint8_t confounder[17], subkey[32];
     fevstunik_choice choice = nothing;
-    size_t i;
 
-    for (i = 0; i < sizeof confounder; i++)
-        confounder[i] = (uint8_t)(0x20 + i);
-    for (i = 0; i < sizeof subkey; i++)
-        subkey[i] = (uint8_t)(0x20 + i);
+    count_from(0x20, confounder, sizeof confounder);
+    count_from(0x20, subkey, sizeof subkey);
     choice.subkey_type = type;
     choice.wants_reply = choice.has_seq = type != 0;
     choice.seq = 4294967295;
@@ -818,9 +780,46 @@ static fevstunik_answer asked(const char *service, fevstunik_time at, size_t con
                              subkey, sizeof subkey, buffer, room);
 }
 
+/* The credential's end, and a second after the last that a moment may have. */
+#define EXPIRED 1700036000
+#define NO_MOMENT 253402300800
+
+/* A request that is refused: why, at which place in the service's name, and how it differs from the fixture's, unless by 0. */
+struct refused {
+    const char *what;
+    unsigned code;
+    size_t at;
+    const char *service;
+    int64_t seconds;
+    size_t confounder_size;
+    int32_t type;
+};
+
+static void are_refused(const struct refused *cases, size_t count)
+{
+    const struct refused *it;
+
+    for (it = cases; it < cases + count; it++)
+        is_answer(it->what,
+                  asked(it->service ? it->service : "host/web@EX", it->seconds ? moment(it->seconds, 0) : moment(1700000100, 5),
+                        it->confounder_size ? it->confounder_size : 16, it->type, sizeof buffer),
+                  it->code, 0, it->at, 0);
+}
+
 /* The requests are those of the fixture, to the byte; what isn't asked for says why. */
 static void requests(void)
 {
+    static const struct refused cases[] = {
+        {"another service", FEVSTUNIK_NO_CREDENTIAL, .service = "host/web@EY"},
+        {"no realm", FEVSTUNIK_NO_REALM, .service = "host/web"},
+        {"bad text", FEVSTUNIK_BAD_TEXT, 3, .service = "a@b@c"},
+        {"not UTF-8", FEVSTUNIK_NOT_UTF8, .service = "\xff@EX"},
+        {"confounder", FEVSTUNIK_BAD_CONFOUNDER, .confounder_size = 15},
+        {"length", FEVSTUNIK_KEY_LENGTH, .type = 19},
+        {"type", FEVSTUNIK_KEY_TYPE, .type = 1},
+        {"expired", FEVSTUNIK_CREDENTIAL_EXPIRED, .seconds = EXPIRED},
+        {"moment", FEVSTUNIK_BAD_MOMENT, .seconds = NO_MOMENT},
+    };
     fevstunik_time at = moment(1700000100, 5);
 
     is_answer("request", asked("host/web@EX", at, 16, 0, sizeof buffer), FEVSTUNIK_OK, 0, 0, request.size);
@@ -828,15 +827,7 @@ static void requests(void)
     is_answer("keyed request", asked("host/web@EX", at, 16, 20, sizeof buffer), FEVSTUNIK_OK, 0, 0, keyed.size);
     is_bytes("keyed request", buffer, keyed.at, keyed.size);
     is_answer("short request", asked("host/web@EX", at, 16, 0, request.size - 1), FEVSTUNIK_SHORT_BUFFER, 0, 0, request.size);
-    is_answer("another service", asked("host/web@EY", at, 16, 0, sizeof buffer), FEVSTUNIK_NO_CREDENTIAL, 0, 0, 0);
-    is_answer("no realm", asked("host/web", at, 16, 0, sizeof buffer), FEVSTUNIK_NO_REALM, 0, 0, 0);
-    is_answer("bad text", asked("a@b@c", at, 16, 0, sizeof buffer), FEVSTUNIK_BAD_TEXT, 0, 3, 0);
-    is_answer("not UTF-8", asked("\xff@EX", at, 16, 0, sizeof buffer), FEVSTUNIK_NOT_UTF8, 0, 0, 0);
-    is_answer("confounder", asked("host/web@EX", at, 15, 0, sizeof buffer), FEVSTUNIK_BAD_CONFOUNDER, 0, 0, 0);
-    is_answer("length", asked("host/web@EX", at, 16, 19, sizeof buffer), FEVSTUNIK_KEY_LENGTH, 0, 0, 0);
-    is_answer("type", asked("host/web@EX", at, 16, 1, sizeof buffer), FEVSTUNIK_KEY_TYPE, 0, 0, 0);
-    is_answer("expired", asked("host/web@EX", moment(1700036000, 0), 16, 0, sizeof buffer), FEVSTUNIK_CREDENTIAL_EXPIRED, 0, 0, 0);
-    is_answer("moment", asked("host/web@EX", moment(253402300800, 0), 16, 0, sizeof buffer), FEVSTUNIK_BAD_MOMENT, 0, 0, 0);
+    are_refused(cases, sizeof cases / sizeof *cases);
     is_answer("cut off", fevstunik_cache_new(&credentials, cache.at, cache.size - 1), FEVSTUNIK_FILE_BAD_ITEM, 0, CREDENTIAL_AT, 0);
     is_answer("version", fevstunik_cache_new(&credentials, cache.at + 1, cache.size - 1), FEVSTUNIK_FILE_VERSION, 0, 0, 0);
     is_answer("the cache stays", asked("host/web@EX", at, 16, 0, sizeof buffer), FEVSTUNIK_OK, 0, 0, request.size);
@@ -915,11 +906,11 @@ static void contexts(void)
 /* Handles of the client's side that are empty answer so, and stay so; what is awaited stays where there is no request. */
 static void empty_askings(void)
 {
+    static const uint8_t confounder[16];
     fevstunik_cache none = FEVSTUNIK_CACHE_INIT;
     fevstunik_pending nobody = FEVSTUNIK_PENDING_INIT;
     fevstunik_time at = moment(1700000100, 5);
     fevstunik_agreement told;
-    uint8_t confounder[16] = {0};
 
     memset(buffer, 0xaa, sizeof buffer);
     is_answer("of no cache", fevstunik_request(&none, &nobody, WEB, &at, confounder, 16, &nothing, confounder, 0, buffer, sizeof buffer),
@@ -962,32 +953,26 @@ static void negative_answer(void)
 /* What is agreed on by the fixture's replies, and why others are refused. */
 static void agreements(void)
 {
+    static const fevstunik_agreement plain = {
+        .client = {0, 8}, .session_key = {8, 16}, .service_subkey = {24, 0}, .name_type = 1, .session_type = 19};
+    static const fevstunik_agreement with_subkey = {
+        .client = {0, 8}, .session_key = {8, 16}, .service_subkey = {24, 16}, .service_seq = 128, .name_type = 1, .session_type = 19,
+        .service_subkey_type = 19, .has_service_subkey = true, .has_service_seq = true};
     fevstunik_agreement told;
     struct bytes none;
     size_t i;
 
     is_answer("ask", asked("host/web@EX", moment(1700000100, 5), 16, 0, sizeof buffer), FEVSTUNIK_OK, 0, 0, request.size);
     is_answer("finish", finished(&reply, &told, sizeof buffer), FEVSTUNIK_OK, 0, 0, 24);
-    is_bytes("client", buffer + told.client.at, "alice@EX", told.client.size);
-    is("client size", (long long)told.client.size, 8);
-    is("key at", (long long)told.session_key.at, 8);
-    is("key size", (long long)told.session_key.size, 16);
+    is_agreement("finish", &told, &plain);
+    is_bytes("client", buffer, "alice@EX", 8);
     for (i = 0; i < 16; i++)
         is("key", buffer[8 + i], (long long)i);
-    is("name type", told.name_type, 1);
-    is("session type", told.session_type, 19);
-    is("no subkey", told.has_service_subkey, 0);
-    is("no number", told.has_service_seq, 0);
     is_answer("finish short", finished(&keyed_reply, &told, 39), FEVSTUNIK_SHORT_BUFFER, 0, 0, 40);
     is_answer("finish keyed", finished(&keyed_reply, &told, 40), FEVSTUNIK_OK, 0, 0, 40);
-    is("subkey", told.has_service_subkey, 1);
-    is("subkey type", told.service_subkey_type, 19);
-    is("subkey at", (long long)told.service_subkey.at, 24);
-    is("subkey size", (long long)told.service_subkey.size, 16);
+    is_agreement("finish keyed", &told, &with_subkey);
     for (i = 0; i < 16; i++)
         is("subkey", buffer[24 + i], (long long)(0x40 + i));
-    is("number", told.service_seq, 128);
-    is("numbered", told.has_service_seq, 1);
     memset(&told, 0x5a, sizeof told);
     is_answer("a request", finished(&request, &told, sizeof buffer), FEVSTUNIK_REPLY_TYPE, 0, 0, 0);
     is("the agreement stays", told.service_seq == 0x5a5a5a5a && told.client.size == FILLED && told.session_type == 0x5a5a5a5a, 1);
@@ -1018,18 +1003,20 @@ static void files(void)
 /* Of two faults at once the first in the order of the header is told. */
 static void two_faults_of_requests(void)
 {
-    fevstunik_time at = moment(1700000100, 5), bad = moment(253402300800, 0), late = moment(1700036000, 0);
+    static const struct refused cases[] = {
+        {"name and moment", FEVSTUNIK_BAD_TEXT, 3, .service = "a@b@c", .seconds = NO_MOMENT},
+        {"bytes and moment", FEVSTUNIK_NOT_UTF8, .service = "\xff@b@c", .seconds = NO_MOMENT},
+        {"name and confounder", FEVSTUNIK_NO_REALM, .service = "host/web", .confounder_size = 15},
+        {"moment and confounder", FEVSTUNIK_BAD_MOMENT, .seconds = NO_MOMENT, .confounder_size = 15},
+        {"moment and type", FEVSTUNIK_BAD_MOMENT, .seconds = NO_MOMENT, .type = 1},
+        {"confounder and type", FEVSTUNIK_BAD_CONFOUNDER, .confounder_size = 15, .type = 1},
+        {"confounder and service", FEVSTUNIK_BAD_CONFOUNDER, .service = "host/web@EY", .confounder_size = 15},
+        {"type and service", FEVSTUNIK_KEY_TYPE, .service = "host/web@EY", .type = 1},
+        {"length and end", FEVSTUNIK_KEY_LENGTH, .seconds = EXPIRED, .type = 19},
+        {"service and end", FEVSTUNIK_NO_CREDENTIAL, .service = "host/web@EY", .seconds = EXPIRED},
+    };
 
-    is_answer("name and moment", asked("a@b@c", bad, 16, 0, sizeof buffer), FEVSTUNIK_BAD_TEXT, 0, 3, 0);
-    is_answer("bytes and moment", asked("\xff@b@c", bad, 16, 0, sizeof buffer), FEVSTUNIK_NOT_UTF8, 0, 0, 0);
-    is_answer("name and confounder", asked("host/web", at, 15, 0, sizeof buffer), FEVSTUNIK_NO_REALM, 0, 0, 0);
-    is_answer("moment and confounder", asked("host/web@EX", bad, 15, 0, sizeof buffer), FEVSTUNIK_BAD_MOMENT, 0, 0, 0);
-    is_answer("moment and type", asked("host/web@EX", bad, 16, 1, sizeof buffer), FEVSTUNIK_BAD_MOMENT, 0, 0, 0);
-    is_answer("confounder and type", asked("host/web@EX", at, 15, 1, sizeof buffer), FEVSTUNIK_BAD_CONFOUNDER, 0, 0, 0);
-    is_answer("confounder and service", asked("host/web@EY", at, 15, 0, sizeof buffer), FEVSTUNIK_BAD_CONFOUNDER, 0, 0, 0);
-    is_answer("type and service", asked("host/web@EY", at, 16, 1, sizeof buffer), FEVSTUNIK_KEY_TYPE, 0, 0, 0);
-    is_answer("length and end", asked("host/web@EX", late, 16, 19, sizeof buffer), FEVSTUNIK_KEY_LENGTH, 0, 0, 0);
-    is_answer("service and end", asked("host/web@EY", late, 16, 0, sizeof buffer), FEVSTUNIK_NO_CREDENTIAL, 0, 0, 0);
+    are_refused(cases, sizeof cases / sizeof *cases);
 }
 
 /* So are those of texts that are sealed and opened, of replies and errors, and of keytabs. */
@@ -1243,34 +1230,11 @@ static void new_keytabs(void)
     fevstunik_acceptor_free(&service);
 }
 
-int main(int count, char **words)
+/* One service, from its first request to its end. */
+static void whole_life(void)
 {
     fevstunik_acceptor service = FEVSTUNIK_ACCEPTOR_INIT;
 
-    if (count != 15)
-        return 2;
-    from_file(&keytab, words[1]);
-    from_file(&cache, words[2]);
-    from_hex(&request, words[3]);
-    from_hex(&keyed, words[4]);
-    from_hex(&reply, words[5]);
-    from_hex(&keyed_reply, words[6]);
-    from_hex(&error, words[7]);
-    from_hex(&two, words[8]);
-    from_hex(&other, words[9]);
-    from_hex(&listed, words[10]);
-    from_hex(&negative, words[11]);
-    from_hex(&negative_reply, words[12]);
-    from_hex(&with_start, words[13]);
-    from_hex(&at_the_end, words[14]);
-    empty_handles();
-    started_again();
-    negative_number();
-    unready();
-    kept_apart();
-    ready_again();
-    wanted_services();
-    constants();
     is_answer("new", fevstunik_acceptor_new(&service, keytab.at, keytab.size, 300, EACH_NAME), FEVSTUNIK_OK, 0, 0, 0);
     faulty_keytabs(&service);
     is_accepted(&service);
@@ -1281,33 +1245,30 @@ int main(int count, char **words)
     fevstunik_acceptor_free(&service);
     fevstunik_acceptor_free(&service);
     is("freed", service.opaque == NULL, 1);
-    keyed_client();
-    another_service();
-    lists();
-    stamps();
-    starts();
-    new_keytabs();
-    errors();
-    names();
-    files();
-    listings();
-    kept_keytab();
-    kept_cache();
-    second_credential();
-    edits();
-    additions();
-    second_entry();
+}
+
+/* The client's cache is read once. */
+static void kept_credentials(void)
+{
     is_answer("cache", fevstunik_cache_new(&credentials, cache.at, cache.size), FEVSTUNIK_OK, 0, 0, 1);
-    requests();
-    negative_answer();
-    contexts();
-    empty_askings();
-    agreements();
-    texts();
-    two_faults_of_requests();
-    two_faults();
-    bad_moments();
-    no_bytes();
+}
+
+int main(int count, char **words)
+{
+    static void (*const parts[])(void) = {
+        empty_handles, started_again, negative_number, unready, kept_apart, ready_again, wanted_services, constants, whole_life, keyed_client,
+        another_service, lists, stamps, starts, new_keytabs, errors, names, files, listings, kept_keytab, kept_cache, second_credential, edits,
+        additions, second_entry, kept_credentials, requests, negative_answer, contexts, empty_askings, agreements, texts, two_faults_of_requests,
+        two_faults, bad_moments, no_bytes};
+    struct bytes *const inputs[] = {&keytab, &cache, &request, &keyed, &reply, &keyed_reply, &error, &two, &other, &listed, &negative,
+                                    &negative_reply, &with_start, &at_the_end};
+    size_t part;
+
+    if (count != 15)
+        return 2;
+    from_words(inputs, 14, words);
+    for (part = 0; part < sizeof parts / sizeof *parts; part++)
+        parts[part]();
     fevstunik_accepted_free(&accepted);
     fevstunik_cache_free(&credentials);
     fevstunik_pending_free(&pending);

@@ -488,14 +488,12 @@ static void keytab_faults_without_memory(void)
 
 int main(int count, char **words)
 {
+    struct bytes *const inputs[] = {&keytab, &cache, &request, &reply};
     long before, again;
 
     if (count != 5)
         return 2;
-    from_file(&keytab, words[1]);
-    from_file(&cache, words[2]);
-    from_hex(&request, words[3]);
-    from_hex(&reply, words[4]);
+    from_words(inputs, 4, words);
     is_told("new", making);
     is_told("ready", getting_ready);
     first_accept();

@@ -1,56 +1,15 @@
 #!/usr/bin/env python3
 """Makes the small exchange that tests share: a ticket, a credential cache, requests, replies and an error, by the standards' rules alone.
 
-The DER writer here is a second one (RFC 4120, sections 5.2 to 5.5); sealing is that of sealing.py. It prints what was made, in hex,
-for tests to keep.
+DER is written by der.py, and sealing is that of sealing.py. It prints what was made, in hex, for tests to keep.
 """
 import struct
 
+from der import element, encrypted, field, integer, name, octets, sequence, string, time  # noqa: F401  tests take them from here, too
 from sealing import sealed
 
 SERVICE_KEY = bytes.fromhex("3705d96080c17728a0e800eab6e0d23c")
 SESSION_KEY = bytes(range(16))
-
-
-def element(tag, content):
-    size = len(content)
-    if size < 128:
-        return bytes([tag, size]) + content
-    digits = size.to_bytes((size.bit_length() + 7) // 8, "big")
-    return bytes([tag, 0x80 + len(digits)]) + digits + content
-
-
-def integer(number):
-    return element(2, number.to_bytes((number + (number < 0)).bit_length() // 8 + 1, "big", signed=True))
-
-
-def field(number, content):
-    return element(0xA0 + number, content)
-
-
-def sequence(*fields):
-    return element(0x30, b"".join(fields))
-
-
-def string(text):
-    return element(0x1B, text)
-
-
-def octets(data):
-    return element(4, data)
-
-
-def time(text):
-    return element(0x18, text.encode())
-
-
-def name(name_type, *components):
-    return sequence(field(0, integer(name_type)), field(1, sequence(*(string(it) for it in components))))
-
-
-def encrypted(etype, cipher, kvno=None):
-    version = [] if kvno is None else [field(1, integer(kvno))]
-    return sequence(field(0, integer(etype)), *version, field(2, octets(cipher)))
 
 
 def ticket_part():
