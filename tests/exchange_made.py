@@ -77,12 +77,12 @@ class Made(Sent):
     # The type that is named for the authenticator, where it isn't that of the key.
     sealed_etype: int = None
     starttime: int = None
-    # How the ticket is bent, and the usages for which both are sealed.
+    # The usages for which both are sealed, and how the ticket is bent.
+    ticket_usage: int = model.TICKET_USAGE
+    usage: int = model.AUTHENTICATOR_USAGE
     ticket_kept: int = ALL
     ticket_zeros: int = 0
     ticket_sent: int = ALL
-    ticket_usage: int = model.TICKET_USAGE
-    usage: int = model.AUTHENTICATOR_USAGE
     # The type of the one element of authorization data of each.
     ticket_data: int = None
     data: int = None
