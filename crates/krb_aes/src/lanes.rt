@@ -1,27 +1,48 @@
 // The cipher on 16 lanes, one for each byte of the state.
 
-ghost use Rattle.std.specs.Prelude.{All, ◌≡◌, ◌<◌, List, ℕ, length, map};
+ghost use Rattle.std.specs.Prelude.{All, ◌≡◌, ◌<◌, ◌+◌, ◌%◌, List, ℕ, length, map};
 ghost use Rattle.krb_aes.specs.State.{sub_bytes, inv_sub_bytes, shift_rows, inv_shift_rows, mix_columns, inv_mix_columns, add_round_key};
 ghost use Rattle.krb_aes.specs.KeyExpansion.{IsKey};
 ghost use Rattle.krb_aes.specs.Cipher.{IsBlock, cipher, inv_cipher};
-ghost use Rattle.krb_aes.specs.Inner.Schedule.{form_of_key};
-ghost use Rattle.krb_aes.specs.Inner.Tower.{LanesBelow, tower_form, inv_form};
+ghost use Rattle.krb_aes.specs.Inner.Schedule.{form_of_key, kept};
+ghost use Rattle.krb_aes.specs.Inner.Tower.{ArePlaces, LanesBelow, looked_up, tower_form, inv_form};
 
 use crate::KeySchedule;
 use crate::tower::{
-    InvProducts, formed, inv_formed, inv_products, inv_substituted, products, substituted_form,
-    times_0b, times_0d, times_0e, times_09,
+    InvProducts, formed, inv_formed, inv_products, inv_substituted, looked_up, products,
+    substituted_form, times_0b, times_0d, times_0e, times_09,
 };
 use std::simd::prelude::*;
 
-// ShiftRows, and then each column turned up by 0 to 3 places.
-const SHIFTED: [usize; 16] = [0, 5, 10, 15, 4, 9, 14, 3, 8, 13, 2, 7, 12, 1, 6, 11];
+// The rounds of encryption leave out ShiftRows, and keep the block as it is before as many of them: a byte of row r
+// lies r places to the right of its column for each. So these places depend on that number of times modulo 4.
 
-const SHIFTED_TURNED_1: [usize; 16] = [5, 10, 15, 0, 9, 14, 3, 4, 13, 2, 7, 8, 1, 6, 11, 12];
+// For each lane, that of the byte in the next row of its column.
+static NEXT_ROWS: [[u8; 16]; 4] = [
+    [1, 2, 3, 0, 5, 6, 7, 4, 9, 10, 11, 8, 13, 14, 15, 12],
+    [5, 6, 7, 4, 9, 10, 11, 8, 13, 14, 15, 12, 1, 2, 3, 0],
+    [9, 10, 11, 8, 13, 14, 15, 12, 1, 2, 3, 0, 5, 6, 7, 4],
+    [13, 14, 15, 12, 1, 2, 3, 0, 5, 6, 7, 4, 9, 10, 11, 8],
+];
 
-const SHIFTED_TURNED_2: [usize; 16] = [10, 15, 0, 5, 14, 3, 4, 9, 2, 7, 8, 13, 6, 11, 12, 1];
+// For each lane, that of the byte two rows below.
+static OPPOSITE_ROWS: [[u8; 16]; 4] = [
+    [2, 3, 0, 1, 6, 7, 4, 5, 10, 11, 8, 9, 14, 15, 12, 13],
+    [10, 11, 8, 9, 14, 15, 12, 13, 2, 3, 0, 1, 6, 7, 4, 5],
+    [2, 3, 0, 1, 6, 7, 4, 5, 10, 11, 8, 9, 14, 15, 12, 13],
+    [10, 11, 8, 9, 14, 15, 12, 13, 2, 3, 0, 1, 6, 7, 4, 5],
+];
 
-const SHIFTED_TURNED_3: [usize; 16] = [15, 0, 5, 10, 3, 4, 9, 14, 7, 8, 13, 2, 11, 12, 1, 6];
+// For each lane of a block with nothing left out, that of its byte.
+static KEPT: [[u8; 16]; 4] = [
+    [0, 1, 2, 3, 4, 5, 6, 7, 8, 9, 10, 11, 12, 13, 14, 15],
+    [0, 13, 10, 7, 4, 1, 14, 11, 8, 5, 2, 15, 12, 9, 6, 3],
+    [0, 9, 2, 11, 4, 13, 6, 15, 8, 1, 10, 3, 12, 5, 14, 7],
+    [0, 5, 10, 15, 4, 9, 14, 3, 8, 13, 2, 7, 12, 1, 6, 11],
+];
+
+// ShiftRows twice.
+const SHIFTED_TWICE: [usize; 16] = [0, 9, 2, 11, 4, 13, 6, 15, 8, 1, 10, 3, 12, 5, 14, 7];
 
 // InvShiftRows, and then each column turned up by 0 to 3 places.
 const UNSHIFTED: [usize; 16] = [0, 13, 10, 7, 4, 1, 14, 11, 8, 5, 2, 15, 12, 9, 6, 3];
@@ -48,32 +69,43 @@ fn first_round(block: &[u8; 16], key: &[u8]) -> u8x16
     formed(u8x16::from_array(*block) ^ u8x16::from_slice(key))
 }
 
-// A round of the cipher, on a block in the form that encryption keeps, with a key of `form_key`. What is known first is added first,
-// since the next round waits for the last sum.
+// The lanes of a vector at these places.
 #[inline(always)]
-fn round(form: u8x16, key: &[u8]) -> u8x16
-    requires form { LanesBelow 256 form }
-    requires key { length key.now ≡ 16 }
-    ensures { (block round_key : List ℕ) → IsBlock block → All (λ byte. byte < 256) round_key
-        → form ≡ map tower_form block → key.now ≡ form_of_key round_key
-        → result ≡ map tower_form (add_round_key (mix_columns (shift_rows (sub_bytes block))) round_key) }
+fn turned(lanes: u8x16, places: &[u8; 16]) -> u8x16
+    requires size { length lanes ≡ 16 }
+    requires places { ArePlaces places.now }
+    ensures { result ≡ map (looked_up lanes) places.now }
 {
-    let (once, doubled) = products(form);
-    let tripled = doubled ^ once;
-    let third = once.swizzle(SHIFTED_TURNED_2) ^ u8x16::from_slice(key);
-    let others = third ^ once.swizzle(SHIFTED_TURNED_3);
-    others ^ doubled.swizzle(SHIFTED) ^ tripled.swizzle(SHIFTED_TURNED_1)
+    looked_up(&lanes.to_array(), u8x16::from_array(*places))
 }
 
-// The last round, which has no MixColumns.
+// A round of the cipher, on a block in the form that encryption keeps, with a key of `form_key`, after which ShiftRows
+// has been left out as often as `shifts` says, modulo 4. The sum of 02 times a byte, 03 times the next and the last two
+// is that of `sum` at the byte, `sum` at the next and the byte itself.
+#[inline(always)]
+fn round(form: u8x16, key: &[u8], shifts: usize) -> u8x16
+    requires form { LanesBelow 256 form }
+    requires key { length key.now ≡ 16 }
+    requires shifts { shifts < 4 }
+    ensures { (block round_key : List ℕ) → IsBlock block → All (λ byte. byte < 256) round_key
+        → form ≡ map tower_form (kept ((shifts + 3) % 4) block) → key.now ≡ form_of_key shifts round_key
+        → result ≡ map tower_form (kept shifts (add_round_key (mix_columns (shift_rows (sub_bytes block))) round_key)) }
+{
+    let (product, tripled) = products(form);
+    let once = product ^ u8x16::from_slice(key);
+    let sum = tripled ^ turned(once, &OPPOSITE_ROWS[shifts]);
+    turned(sum, &NEXT_ROWS[shifts]) ^ (once ^ sum)
+}
+
+// The last round, which has no MixColumns, after one ShiftRows left out.
 #[inline(always)]
 fn last_round(form: u8x16, key: &[u8]) -> u8x16
     requires form { LanesBelow 256 form }
     requires key { length key.now ≡ 16 }
-    ensures { (block : List ℕ) → IsBlock block → form ≡ map tower_form block
+    ensures { (block : List ℕ) → IsBlock block → form ≡ map tower_form (kept 1 block)
         → result ≡ add_round_key (shift_rows (sub_bytes block)) key.now }
 {
-    substituted_form(form).swizzle(SHIFTED) ^ u8x16::from_slice(key)
+    substituted_form(form).swizzle(SHIFTED_TWICE) ^ u8x16::from_slice(key)
 }
 
 // The first round key added to a block, in the form that decryption keeps.
@@ -127,13 +159,17 @@ fn inv_mix_columns(state: u8x16) -> u8x16
     first ^ others
 }
 
-// The key of a round as `round` takes it: with the constant of SubBytes, which MixColumns leaves as it is.
+// The key of a round as `round` takes it: with the constant of SubBytes, which MixColumns leaves as it is, and so that what
+// `round` does to the bytes with which it adds the key gives the key.
 #[inline(always)]
-pub(crate) fn form_key(key: &[u8]) -> [u8; 16]
-    requires { length key.now ≡ 16 }
-    ensures { result ≡ form_of_key key.now }
+pub(crate) fn form_key(key: &[u8], shifts: usize) -> [u8; 16]
+    requires key { length key.now ≡ 16 }
+    requires shifts { shifts < 4 }
+    ensures { result ≡ form_of_key shifts key.now }
 {
-    first_round(&[0x63; 16], key).to_array()
+    let with_constant = u8x16::splat(0x63) ^ u8x16::from_slice(key);
+    let others = with_constant.swizzle(TURNED_1) ^ with_constant.swizzle(TURNED_2);
+    turned(formed(with_constant ^ others), &KEPT[shifts]).to_array()
 }
 
 // The key of a round as `inv_round` takes it.
@@ -153,7 +189,7 @@ pub(crate) fn encrypt_block(schedule: &KeySchedule, block: &mut [u8; 16])
     let last = schedule.rounds();
     let mut form = first_round(block, schedule.round_key(0));
     for at in 1..last {
-        let next = round(form, schedule.form_key(at));
+        let next = round(form, schedule.form_key(at), at % 4);
         form = next;
     }
     *block = last_round(form, schedule.round_key(last)).to_array();
