@@ -1,13 +1,11 @@
 -- The key expansion, as far as the code has come.
-use Rattle.std.proofs.Common.{◌++◌, subst, ◌≡◌, ℕ, zero, suc, ◌<◌, ◌≤◌, ◌-◌, ◌+◌, ◌*◌, ◌/◌, ◌%◌, ◌&&◌, List, map, refl, arith, length, length-append, take, drop, ap, sym, ◌∙◌, inl, inr}
+use Rattle.std.proofs.Common.{◌++◌, subst, ◌≡◌, ℕ, zero, suc, ◌<◌, ◌≤◌, ◌-◌, ◌+◌, ◌*◌, ◌/◌, ◌%◌, ◌&&◌, List, refl, arith, length, length-append, take, drop, ap, sym, ◌∙◌, inl, inr}
 use Rattle.std.proofs.lemmas.List.{get_or-take, take-take, take-append-le, take_all, drop-take}
 use Rattle.std.proofs.lemmas.Slice.{between-put_mid, take-put_mid, take-put_mid_below}
 use Rattle.std.proofs.lemmas.Bool.{cases_lt}
 use Rattle.std.specs.Prelude.{◌==◌, nat_lt}
 use borrow.Rule.Slice.PartMut.{put_mid}
-use Rattle.krb_aes.specs.Inner.Schedule.{IsSchedule, kept, form_of_key, form_round_key, inv_round_key}
-use Rattle.krb_aes.specs.Inner.Tower.{inv_form}
-use Rattle.krb_aes.specs.State.{inv_mix_columns}
+use Rattle.krb_aes.specs.Inner.Schedule.{IsSchedule, kept, form_of_key, form_round_key, inv_form_of_key, inv_round_key}
 use Rattle.krb_aes.specs.KeyExpansion.{IsKey, first_words, key_expansion, key_words, round_count, next_word, sum_of_words, changed_word, word, round_key}
 
 -- a key has whole words
@@ -118,7 +116,7 @@ schedule_of n key words form_words inv_words size is front all formed inverse =
       key = subst P (sym front) is;
       expanded = all ∙ ap key_expansion (sym front);
       formed = λ j some below. formed j some below ∙ ap (form_of_key (j % 4)) (same j below);
-      inverse = λ j some below. inverse j some below ∙ ap (λ k. map inv_form (inv_mix_columns k)) (same j below);
+      inverse = λ j some below. inverse j some below ∙ ap (inv_form_of_key ((j + 2) % 4)) (same j below);
     }
 
 -- a round key put in its place, and those before it
@@ -155,5 +153,5 @@ unfolding kept
 length-form_round_key w j = refl
 
 pub length-inv_round_key : (w : List ℕ) (j : ℕ) → length (inv_round_key w j) ≡ 16
-unfolding inv_mix_columns
+unfolding kept
 length-inv_round_key w j = refl

@@ -20,9 +20,13 @@ form_of_key n key = kept n (map tower_form (three_rows (add_round_key (replicate
 abbrev pub form_round_key : List ℕ → ℕ → List ℕ
 form_round_key w j = form_of_key (j % 4) (round_key w j)
 
--- InvMixColumns of round key j of an expanded key, in the form that decryption keeps
+-- InvMixColumns of a round key, in the form that decryption keeps
+abbrev pub inv_form_of_key : ℕ → List ℕ → List ℕ
+inv_form_of_key n key = kept n (map inv_form (inv_mix_columns key))
+
+-- there are 2 modulo 4 rounds
 abbrev pub inv_round_key : List ℕ → ℕ → List ℕ
-inv_round_key w j = map inv_form (inv_mix_columns (round_key w j))
+inv_round_key w j = inv_form_of_key ((j + 2) % 4) (round_key w j)
 
 pub record IsSchedule (key_len : ℕ) (words form_words inv_words : List ℕ) : Type 0 where
   pub key_size : length (take key_len words) ≡ key_len
