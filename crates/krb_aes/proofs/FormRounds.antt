@@ -2,8 +2,7 @@
 use Rattle.std.proofs.Common.{◌≡◌, ℕ, ◌+◌, ◌*◌, ◌%◌, ◌<◌, List, [], ◌∷◌, length, map, refl, sym, ap, ◌∙◌, subst, lit<, bit_xor}
 use Rattle.std.specs.Prelude.{slice_index}
 use Rattle.std.specs.Simd.Lanes.{zip2, chunk}
-use Rattle.std.specs.Int.Bits.{xor_self, xor_zero_r}
-use Rattle.std.proofs.lemmas.Nat.{xor_comm, xor_of_8}
+use Rattle.std.proofs.lemmas.Nat.{xor_of_8}
 use Rattle.krb_aes.specs.Field.{carryless, remainder, product}
 use Rattle.krb_aes.specs.SBox.{s_box}
 use Rattle.krb_aes.specs.State.{at, state_of, row_times_column, mix, sub_bytes, shift_rows, mix_columns, add_round_key}
@@ -14,7 +13,6 @@ use Rattle.krb_aes.specs.declared.tower.TheConstants.{ONCE_IO, ONCE_JO, THRICE_I
 use Rattle.krb_aes.specs.declared.lanes.TheConstants.{NEXT_ROWS, OPPOSITE_ROWS}
 use Rattle.krb_aes.proofs.ByteTests.{same_below}
 use Rattle.krb_aes.proofs.Bytes.{AreBytes, byte_tests, place, row_byte, s_box_byte, state_of-at, same_state}
-use Rattle.krb_aes.proofs.FieldLaws.{xor_exchange}
 use Rattle.krb_aes.proofs.ProductRules.{product_by_03}
 use Rattle.krb_aes.proofs.Sums.{term, plus, value, same_sum, linear_sum}
 use Rattle.krb_aes.proofs.MixLaws.{row_times_column-xor}
@@ -33,12 +31,9 @@ constant_stays = same_below (λ r. row_times_column mix r (λ _. 0x63)) (λ _. 0
 constants_vanish : (r : ℕ) (y : ℕ → ℕ) (key : ℕ) → r < 4 →
     bit_xor (row_times_column mix r (λ j. bit_xor (y j) 0x63)) (bit_xor 0x63 key) ≡ bit_xor (row_times_column mix r y) key
 constants_vanish r y key small =
-    ap (bit_xor (row_times_column mix r (λ j. bit_xor (y j) 0x63))) (xor_comm 0x63 key)
-    ∙ ap (λ x. bit_xor x (bit_xor key 0x63))
-    (row_times_column-xor mix r y (λ _. 0x63) ∙ ap (bit_xor (row_times_column mix r y)) (constant_stays r small))
-    ∙ xor_exchange (row_times_column mix r y) 0x63 key 0x63
-    ∙ ap (bit_xor (bit_xor (row_times_column mix r y) key)) (xor_self 0x63)
-    ∙ xor_zero_r _
+    let mixed = row_times_column mix r y in
+    ap (λ x. bit_xor x (bit_xor 0x63 key)) (row_times_column-xor mix r y (λ _. 0x63) ∙ ap (bit_xor mixed) (constant_stays r small))
+    ∙ same_sum (slice_index (mixed ∷ 0x63 ∷ key ∷ [])) (plus (plus (term 0) (term 1)) (plus (term 1) (term 2))) (plus (term 0) (term 2)) refl
 
 -- the lane at row r, of the products of its column and of the bytes with which the key is added
 abbrev lane_of : (ℕ → ℕ) → (ℕ → ℕ) → (ℕ → ℕ) → ℕ → ℕ

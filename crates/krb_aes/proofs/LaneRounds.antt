@@ -1,8 +1,8 @@
 -- The rounds on 16 lanes: each lane is the byte of the state at its place.
 use Rattle.std.proofs.Common.{◌≡◌, ℕ, zero, suc, ◌+◌, ◌*◌, ◌%◌, ◌<◌, List, [], ◌∷◌, ◌++◌, get_or, length, map, replicate, refl, lit<, sym, ap, ◌∙◌, subst, arith, bit_xor}
+use Rattle.std.specs.Prelude.{slice_index}
 use Rattle.std.specs.Simd.Lanes.{zip2, pick_l, chunk}
-use Rattle.std.specs.Int.Bits.{xor_assoc}
-use Rattle.std.proofs.lemmas.Nat.{xor_comm, xor_of_8}
+use Rattle.std.proofs.lemmas.Nat.{xor_of_8}
 use Rattle.std.proofs.lemmas.Simd.{Each1-from_get_or}
 use Rattle.krb_aes.specs.Field.{product}
 use Rattle.krb_aes.specs.State.{at, state_of, row_times_column, mix, inv_mix, inv_mix_columns, add_round_key}
@@ -12,6 +12,7 @@ use Rattle.krb_aes.specs.Inner.Tower.{LanesBelow, looked_up}
 use Rattle.krb_aes.specs.declared.lanes.TheConstants.{KEPT}
 use Rattle.krb_aes.proofs.Bytes.{AreBytes, place, IsBlock-state_of, state_of-at, same_state}
 use Rattle.krb_aes.proofs.LaneRules.{map_after}
+use Rattle.krb_aes.proofs.Sums.{Sum, term, plus, value, terms, same_sum}
 use Rattle.krb_aes.proofs.ProductRules.{product_by_01, product_by_03}
 
 pub lanes_of_block : (s : List ℕ) → IsBlock s → LanesBelow 256 s
@@ -46,21 +47,24 @@ kept_none s is = state_of-at s is.size
 
 -- ---- sums in another order
 
-abbrev sum4 : ℕ → ℕ → ℕ → ℕ → ℕ
-sum4 a b c d = bit_xor (bit_xor (bit_xor a b) c) d
+-- the sum of four terms, of which the first stands at place i
+abbrev four_from : ℕ → Sum
+four_from i = plus (plus (plus (term i) (term ((i + 1) % 4))) (term ((i + 2) % 4))) (term ((i + 3) % 4))
 
-turned : (a b c d : ℕ) → sum4 a b c d ≡ sum4 d a b c
-turned a b c d =
-    xor_comm (bit_xor (bit_xor a b) c) d
-    ∙ sym (xor_assoc d (bit_xor a b) c)
-    ∙ ap (λ x. bit_xor x c) (sym (xor_assoc d a b))
+abbrev in_pairs : Sum → Sum
+in_pairs last = plus (plus (term 0) (term 1)) last
 
-in_pairs : (a b c d : ℕ) → bit_xor (bit_xor a b) (bit_xor c d) ≡ sum4 a b c d
-in_pairs a b c d = sym (xor_assoc (bit_xor a b) c d)
+in_pairs_with : (a b c d k : ℕ) (i : ℕ) → i < 4 →
+    bit_xor (bit_xor a b) (bit_xor (bit_xor c d) k) ≡ value (slice_index (a ∷ b ∷ c ∷ d ∷ k ∷ [])) (plus (four_from i) (term 4))
+in_pairs_with a b c d k i small =
+    same_sum (slice_index (a ∷ b ∷ c ∷ d ∷ k ∷ [])) (in_pairs (plus (plus (term 2) (term 3)) (term 4))) (plus (four_from i) (term 4))
+    (by_row (λ j. terms (in_pairs (plus (plus (term 2) (term 3)) (term 4))) ≡ terms (plus (four_from j) (term 4))) refl refl refl refl i small)
 
-in_pairs_with : (a b c d k : ℕ) → bit_xor (bit_xor a b) (bit_xor (bit_xor c d) k) ≡ bit_xor (sum4 a b c d) k
-in_pairs_with a b c d k =
-    sym (xor_assoc (bit_xor a b) (bit_xor c d) k) ∙ ap (λ x. bit_xor x k) (in_pairs a b c d)
+of_pairs : (a b c d : ℕ) (i : ℕ) → i < 4 →
+    bit_xor (bit_xor a b) (bit_xor c d) ≡ value (slice_index (a ∷ b ∷ c ∷ d ∷ [])) (four_from i)
+of_pairs a b c d i small =
+    same_sum (slice_index (a ∷ b ∷ c ∷ d ∷ [])) (in_pairs (plus (term 2) (term 3))) (four_from i)
+    (by_row (λ j. terms (in_pairs (plus (term 2) (term 3))) ≡ terms (four_from j)) refl refl refl refl i small)
 
 -- ---- MixColumns, from row r of the column y on
 
@@ -71,27 +75,14 @@ mixed_lane r y k =
 
 pub mixed_lane_is : (r : ℕ) (y : ℕ → ℕ) (k : ℕ) → r < 4 → ((j : ℕ) → y j < 256) →
     mixed_lane r y k ≡ bit_xor (row_times_column mix r y) k
-mixed_lane_is zero y k small bytes =
-    rw (product_by_03 (y 1) (bytes 1), product_by_01 (y 2) (bytes 2), product_by_01 (y 3) (bytes 3))
-    (in_pairs_with (product 0x02 (y 0)) (bit_xor (product 0x02 (y 1)) (y 1)) (y 2) (y 3) k)
-mixed_lane_is (suc zero) y k small bytes =
-    rw (product_by_03 (y 2) (bytes 2), product_by_01 (y 3) (bytes 3), product_by_01 (y 0) (bytes 0))
-    (in_pairs_with (product 0x02 (y 1)) (bit_xor (product 0x02 (y 2)) (y 2)) (y 3) (y 0) k
-    ∙ ap (λ x. bit_xor x k) (turned (product 0x02 (y 1)) (bit_xor (product 0x02 (y 2)) (y 2)) (y 3) (y 0)))
-mixed_lane_is (suc (suc zero)) y k small bytes =
-    rw (product_by_03 (y 3) (bytes 3), product_by_01 (y 0) (bytes 0), product_by_01 (y 1) (bytes 1))
-    (in_pairs_with (product 0x02 (y 2)) (bit_xor (product 0x02 (y 3)) (y 3)) (y 0) (y 1) k
-    ∙ ap (λ x. bit_xor x k)
-    (turned (product 0x02 (y 2)) (bit_xor (product 0x02 (y 3)) (y 3)) (y 0) (y 1)
-    ∙ turned (y 1) (product 0x02 (y 2)) (bit_xor (product 0x02 (y 3)) (y 3)) (y 0)))
-mixed_lane_is (suc (suc (suc zero))) y k small bytes =
-    rw (product_by_03 (y 0) (bytes 0), product_by_01 (y 1) (bytes 1), product_by_01 (y 2) (bytes 2))
-    (in_pairs_with (product 0x02 (y 3)) (bit_xor (product 0x02 (y 0)) (y 0)) (y 1) (y 2) k
-    ∙ ap (λ x. bit_xor x k)
-    (turned (product 0x02 (y 3)) (bit_xor (product 0x02 (y 0)) (y 0)) (y 1) (y 2)
-    ∙ turned (y 2) (product 0x02 (y 3)) (bit_xor (product 0x02 (y 0)) (y 0)) (y 1)
-    ∙ turned (y 1) (y 2) (product 0x02 (y 3)) (bit_xor (product 0x02 (y 0)) (y 0))))
-mixed_lane_is (suc (suc (suc (suc r)))) y k small bytes = absurd (omega arith)
+mixed_lane_is r y k small bytes =
+    let by_01 : (j : ℕ) → y j ≡ product 0x01 (y j) = λ j. sym (product_by_01 (y j) (bytes j)) in
+    let by_03 : (j : ℕ) → bit_xor (product 0x02 (y j)) (y j) ≡ product 0x03 (y j) = λ j. sym (product_by_03 (y j) (bytes j)) in
+    let order : (i a b c d : ℕ) → i < 4 → _ = λ i a b c d i_small.
+    (λ t. bit_xor (bit_xor (product 0x02 (y a)) (by_03 b t)) (bit_xor (bit_xor (by_01 c t) (by_01 d t)) k))
+    ∙ in_pairs_with (product 0x02 (y a)) (product 0x03 (y b)) (product 0x01 (y c)) (product 0x01 (y d)) k i i_small in
+    by_row (λ q. mixed_lane q y k ≡ bit_xor (row_times_column mix q y) k)
+    (order 0 0 1 2 3 (lit< tt)) (order 3 1 2 3 0 (lit< tt)) (order 2 2 3 0 1 (lit< tt)) (order 1 3 0 1 2 (lit< tt)) r small
 
 abbrev pub inv_mixed_lane : ℕ → (ℕ → ℕ) → ℕ
 inv_mixed_lane r y =
@@ -99,21 +90,11 @@ inv_mixed_lane r y =
     (bit_xor (product 0x0d (y ((r + 2) % 4))) (product 0x09 (y ((r + 3) % 4))))
 
 pub inv_mixed_lane_is : (r : ℕ) (y : ℕ → ℕ) → r < 4 → inv_mixed_lane r y ≡ row_times_column inv_mix r y
-inv_mixed_lane_is zero y small =
-    in_pairs (product 0x0e (y 0)) (product 0x0b (y 1)) (product 0x0d (y 2)) (product 0x09 (y 3))
-inv_mixed_lane_is (suc zero) y small =
-    in_pairs (product 0x0e (y 1)) (product 0x0b (y 2)) (product 0x0d (y 3)) (product 0x09 (y 0))
-    ∙ turned (product 0x0e (y 1)) (product 0x0b (y 2)) (product 0x0d (y 3)) (product 0x09 (y 0))
-inv_mixed_lane_is (suc (suc zero)) y small =
-    in_pairs (product 0x0e (y 2)) (product 0x0b (y 3)) (product 0x0d (y 0)) (product 0x09 (y 1))
-    ∙ turned (product 0x0e (y 2)) (product 0x0b (y 3)) (product 0x0d (y 0)) (product 0x09 (y 1))
-    ∙ turned (product 0x09 (y 1)) (product 0x0e (y 2)) (product 0x0b (y 3)) (product 0x0d (y 0))
-inv_mixed_lane_is (suc (suc (suc zero))) y small =
-    in_pairs (product 0x0e (y 3)) (product 0x0b (y 0)) (product 0x0d (y 1)) (product 0x09 (y 2))
-    ∙ turned (product 0x0e (y 3)) (product 0x0b (y 0)) (product 0x0d (y 1)) (product 0x09 (y 2))
-    ∙ turned (product 0x09 (y 2)) (product 0x0e (y 3)) (product 0x0b (y 0)) (product 0x0d (y 1))
-    ∙ turned (product 0x0d (y 1)) (product 0x09 (y 2)) (product 0x0e (y 3)) (product 0x0b (y 0))
-inv_mixed_lane_is (suc (suc (suc (suc r)))) y small = absurd (omega arith)
+inv_mixed_lane_is r y small =
+    let order : (i a b c d : ℕ) → i < 4 → _ =
+    λ i a b c d. of_pairs (product 0x0e (y a)) (product 0x0b (y b)) (product 0x0d (y c)) (product 0x09 (y d)) i in
+    by_row (λ q. inv_mixed_lane q y ≡ row_times_column inv_mix q y)
+    (order 0 0 1 2 3 (lit< tt)) (order 3 1 2 3 0 (lit< tt)) (order 2 2 3 0 1 (lit< tt)) (order 1 3 0 1 2 (lit< tt)) r small
 
 -- ---- whole rounds
 
