@@ -110,7 +110,7 @@ round_lane_is r y key small bytes key_bytes =
 abbrev round_of : ℕ → List ℕ → List ℕ → List ℕ → List ℕ
 round_of n product thrice key_form =
     let once = zip2 bit_xor product (chunk 0 16 key_form) in
-    let sum = zip2 bit_xor thrice (turned_lanes OPPOSITE_ROWS n once) in
+    let sum = zip2 bit_xor thrice (turned_lanes OPPOSITE_ROWS (n % 2) once) in
     zip2 bit_xor (turned_lanes NEXT_ROWS n sum) (zip2 bit_xor once sum)
 
 abbrev once_lanes : List ℕ → List ℕ

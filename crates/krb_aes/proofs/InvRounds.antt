@@ -55,7 +55,7 @@ inv_round_lane_is r y key small bytes key_byte =
 abbrev inv_round_of : ℕ → List ℕ → List ℕ → List ℕ → List ℕ → List ℕ → List ℕ
 inv_round_of m e b d n key =
     zip2 bit_xor (zip2 bit_xor e (turned_lanes NEXT_ROWS m b))
-    (zip2 bit_xor (zip2 bit_xor (turned_lanes OPPOSITE_ROWS m d) (turned_lanes PREVIOUS_ROWS m n)) (chunk 0 16 key))
+    (zip2 bit_xor (zip2 bit_xor (turned_lanes OPPOSITE_ROWS (m % 2) d) (turned_lanes PREVIOUS_ROWS m n)) (chunk 0 16 key))
 
 abbrev product_lanes : ℕ → List ℕ → List ℕ
 product_lanes c s = map (λ x. inv_part (product c (inv_s_box x))) s

@@ -17,7 +17,7 @@ use std::simd::prelude::*;
 // The rounds leave out ShiftRows and InvShiftRows: they keep the block that n times ShiftRows would make into the
 // standard's. So where the other bytes of a column lie depends on n, and is the same for n + 4.
 
-// For each lane and n from 0 on, the lane of the next byte of the column.
+// For n = 0, 1, 2 and 3 and each lane, the lane of the next byte of the column.
 static NEXT_ROWS: [[u8; 16]; 4] = [
     [1, 2, 3, 0, 5, 6, 7, 4, 9, 10, 11, 8, 13, 14, 15, 12],
     [5, 6, 7, 4, 9, 10, 11, 8, 13, 14, 15, 12, 1, 2, 3, 0],
@@ -25,10 +25,8 @@ static NEXT_ROWS: [[u8; 16]; 4] = [
     [13, 14, 15, 12, 1, 2, 3, 0, 5, 6, 7, 4, 9, 10, 11, 8],
 ];
 
-// That of the byte two rows below.
-static OPPOSITE_ROWS: [[u8; 16]; 4] = [
-    [2, 3, 0, 1, 6, 7, 4, 5, 10, 11, 8, 9, 14, 15, 12, 13],
-    [10, 11, 8, 9, 14, 15, 12, 13, 2, 3, 0, 1, 6, 7, 4, 5],
+// That of the byte two rows below, which is the same for n + 2.
+static OPPOSITE_ROWS: [[u8; 16]; 2] = [
     [2, 3, 0, 1, 6, 7, 4, 5, 10, 11, 8, 9, 14, 15, 12, 13],
     [10, 11, 8, 9, 14, 15, 12, 13, 2, 3, 0, 1, 6, 7, 4, 5],
 ];
@@ -41,7 +39,7 @@ static PREVIOUS_ROWS: [[u8; 16]; 4] = [
     [7, 4, 5, 6, 11, 8, 9, 10, 15, 12, 13, 14, 3, 0, 1, 2],
 ];
 
-// The place of its byte in the standard's block.
+// The place of the lane's byte in the standard's block.
 static KEPT: [[u8; 16]; 4] = [
     [0, 1, 2, 3, 4, 5, 6, 7, 8, 9, 10, 11, 12, 13, 14, 15],
     [0, 13, 10, 7, 4, 1, 14, 11, 8, 5, 2, 15, 12, 9, 6, 3],
@@ -92,7 +90,7 @@ fn round(form: u8x16, key: &[u8], shifts: usize) -> u8x16
 {
     let (product, tripled) = products(form);
     let once = product ^ u8x16::from_slice(key);
-    let sum = tripled ^ turned(once, &OPPOSITE_ROWS[shifts]);
+    let sum = tripled ^ turned(once, &OPPOSITE_ROWS[shifts % 2]);
     turned(sum, &NEXT_ROWS[shifts]) ^ (once ^ sum)
 }
 
@@ -134,7 +132,7 @@ fn inv_round(form: u8x16, key: &[u8], shifts: usize) -> u8x16
         by_09,
     } = inv_products(form);
     let first = by_0e ^ turned(by_0b, &NEXT_ROWS[shifts]);
-    let others = turned(by_0d, &OPPOSITE_ROWS[shifts]) ^ turned(by_09, &PREVIOUS_ROWS[shifts]);
+    let others = turned(by_0d, &OPPOSITE_ROWS[shifts % 2]) ^ turned(by_09, &PREVIOUS_ROWS[shifts]);
     first ^ (others ^ u8x16::from_slice(key))
 }
 

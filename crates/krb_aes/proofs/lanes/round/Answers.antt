@@ -1,4 +1,4 @@
-use Rattle.std.proofs.Common.{◌≡◌, [], get_or, refl, ap, ◌∙◌, length, bit_xor}
+use Rattle.std.proofs.Common.{◌≡◌, ◌%◌, [], get_or, refl, ap, ◌∙◌, length, bit_xor}
 use Rattle.std.specs.Simd.Lanes.{zip2, chunk}
 use Rattle.krb_aes.specs.declared.lanes.TheConstants.{NEXT_ROWS, OPPOSITE_ROWS}
 use Rattle.krb_aes.proofs.LaneRules.{length-map_lanes, sum_size}
@@ -16,7 +16,7 @@ turned-requires-2-clause-size c =
     sum_size c.products.result.1 c.turned.result
     (ap length c.products.ensures.tripled ∙ length-map_lanes _ c.args.form ∙ c.requires.form.size)
     (ap length c.turned.ensures ∙ length-map_lanes _ _
-    ∙ by_row (λ n. length (get_or OPPOSITE_ROWS n []) ≡ 16) refl refl refl refl c.args.shifts c.requires.shifts)
+    ∙ by_row (λ n. length (get_or OPPOSITE_ROWS (n % 2) []) ≡ 16) refl refl refl refl c.args.shifts c.requires.shifts)
 
 pub returns : goal.returns
 returns c block round_key block_is key_is form_is key_form =
