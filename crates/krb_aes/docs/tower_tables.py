@@ -121,8 +121,8 @@ TABLES = {
     "SUB_JO": from_jo(lambda x: LINEAR[x]),
     "ONCE_IO": from_io(lambda x: tower(LINEAR[x])),
     "ONCE_JO": from_jo(lambda x: tower(LINEAR[x])),
-    "TWICE_IO": from_io(lambda x: tower(product(2, LINEAR[x]))),
-    "TWICE_JO": from_jo(lambda x: tower(product(2, LINEAR[x]))),
+    "THRICE_IO": from_io(lambda x: tower(product(3, LINEAR[x]))),
+    "THRICE_JO": from_jo(lambda x: tower(product(3, LINEAR[x]))),
     "INV_FORM_LOW": nibbles(lambda x: tower(unaffine(x)))[0],
     "INV_FORM_HIGH": nibbles(lambda x: tower(unaffine(x)))[1],
     "INV_SUB_IO": from_io(lambda x: x),
@@ -157,7 +157,7 @@ def check():
         s = affine(inverses[x])
         assert look("SUB_IO", io) ^ look("SUB_JO", jo) ^ 0x63 == s
         assert look("ONCE_IO", io) ^ look("ONCE_JO", jo) == half("TOWER", s ^ 0x63)
-        assert look("TWICE_IO", io) ^ look("TWICE_JO", jo) == half("TOWER", product(2, s ^ 0x63))
+        assert look("THRICE_IO", io) ^ look("THRICE_JO", jo) == half("TOWER", product(3, s ^ 0x63))
         form = half("INV_FORM", s)
         io, jo = inverted(form >> 4, form & 15)
         assert look("INV_SUB_IO", io) ^ look("INV_SUB_JO", jo) == x

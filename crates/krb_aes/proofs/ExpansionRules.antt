@@ -1,18 +1,20 @@
 -- The key expansion, as far as the code has come.
-use Rattle.std.proofs.Common.{◌++◌, subst, ◌≡◌, ℕ, zero, suc, ◌<◌, ◌≤◌, ◌-◌, ◌+◌, ◌*◌, ◌/◌, ◌%◌, ◌&&◌, List, map, refl, arith, length, length-append, take, drop, ap, sym, ◌∙◌, inl, inr}
+use Rattle.std.proofs.Common.{◌++◌, subst, ◌≡◌, ℕ, zero, suc, ◌<◌, ◌≤◌, ◌-◌, ◌+◌, ◌*◌, ◌/◌, ◌%◌, ◌&&◌, List, refl, arith, length, length-append, take, drop, ap, sym, ◌∙◌, inl, inr}
 use Rattle.std.proofs.lemmas.List.{get_or-take, take-take, take-append-le, take_all, drop-take}
 use Rattle.std.proofs.lemmas.Slice.{between-put_mid, take-put_mid, take-put_mid_below}
 use Rattle.std.proofs.lemmas.Bool.{cases_lt}
 use Rattle.std.specs.Prelude.{◌==◌, nat_lt}
 use borrow.Rule.Slice.PartMut.{put_mid}
-use Rattle.krb_aes.specs.Inner.Schedule.{IsSchedule, form_of_key, form_round_key, inv_round_key}
-use Rattle.krb_aes.specs.Inner.Tower.{inv_form}
-use Rattle.krb_aes.specs.State.{add_round_key, inv_mix_columns}
+use Rattle.krb_aes.specs.Inner.Schedule.{IsSchedule, kept, form_of_key, form_round_key, inv_form_of_key, inv_round_key}
 use Rattle.krb_aes.specs.KeyExpansion.{IsKey, first_words, key_expansion, key_words, round_count, next_word, sum_of_words, changed_word, word, round_key}
 
 -- a key has whole words
 pub bytes_of_words : (key : List ℕ) → IsKey key → 4 * key_words key ≡ length key
 bytes_of_words key is = elim is.size [ inl e ↦ rw e refl | inr e ↦ rw e refl ]
+
+-- 10 or 14 rounds: two more than whole fours
+pub rounds_of_four : (key : List ℕ) → IsKey key → round_count key % 4 ≡ 2
+rounds_of_four key is = elim is.size [ inl e ↦ rw e refl | inr e ↦ rw e refl ]
 
 pub length-first_words : (key : List ℕ) (n : ℕ) → length (first_words key n) ≡ length key + 4 * n
 unfolding first_words
@@ -113,8 +115,8 @@ schedule_of n key words form_words inv_words size is front all formed inverse =
       key_size = ap length front;
       key = subst P (sym front) is;
       expanded = all ∙ ap key_expansion (sym front);
-      formed = λ j some below. formed j some below ∙ ap form_of_key (same j below);
-      inverse = λ j some below. inverse j some below ∙ ap (λ k. map inv_form (inv_mix_columns k)) (same j below);
+      formed = λ j some below. formed j some below ∙ ap (form_of_key (j % 4)) (same j below);
+      inverse = λ j some below. inverse j some below ∙ ap (inv_form_of_key ((j + 2) % 4)) (same j below);
     }
 
 -- a round key put in its place, and those before it
@@ -147,9 +149,9 @@ put_next of keys key at room new size before j some below = elim (cases_lt j at)
 ]
 
 pub length-form_round_key : (w : List ℕ) (j : ℕ) → length (form_round_key w j) ≡ 16
-unfolding add_round_key
+unfolding kept
 length-form_round_key w j = refl
 
 pub length-inv_round_key : (w : List ℕ) (j : ℕ) → length (inv_round_key w j) ≡ 16
-unfolding inv_mix_columns
+unfolding kept
 length-inv_round_key w j = refl

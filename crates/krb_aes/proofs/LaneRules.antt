@@ -45,6 +45,9 @@ pub length-map_lanes : (g : ℕ → ℕ) (v : List ℕ) → length (map g v) ≡
 length-map_lanes g [] = refl
 length-map_lanes g (x ∷ xs) = ap suc (length-map_lanes g xs)
 
+pub sum_size : (xs ys : List ℕ) → length xs ≡ 16 → length ys ≡ 16 → length (zip2 bit_xor xs ys) ≡ 16
+sum_size xs ys xs_size ys_size = length-zip2 bit_xor xs ys (xs_size ∙ sym ys_size) ∙ xs_size
+
 pub places_of_bytes : (g : ℕ → ℕ) → agree_below (λ x. is_place (g x)) (λ _. true) 256 ≡ true → (v : List ℕ) → LanesBelow 256 v → ArePlaces (map g v)
 places_of_bytes g ok v below = record {
   size = length-map_lanes g v ∙ below.size;

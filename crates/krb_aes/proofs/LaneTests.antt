@@ -3,7 +3,7 @@ use Rattle.std.proofs.Common.{◌≡◌, ℕ, ◌<◌, List, [], ◌∷◌, refl
 use Rattle.krb_aes.specs.Field.{carryless, remainder, product, inverse, number_with}
 use Rattle.krb_aes.specs.SBox.{affine, s_box, inv_s_box}
 use Rattle.krb_aes.specs.Inner.Tower.{by_nibbles, read_from, substituted_of, tower_form, inv_form, inv_by_09, inv_by_0b, inv_by_0d, inv_by_0e}
-use Rattle.krb_aes.specs.declared.tower.TheConstants.{ONCE_IO, ONCE_JO, TWICE_IO, TWICE_JO, INV_SUB_IO, INV_SUB_JO, TIMES_0E_LOW, TIMES_0E_HIGH, TIMES_0B_LOW, TIMES_0B_HIGH, TIMES_0D_LOW, TIMES_0D_HIGH, TIMES_09_LOW, TIMES_09_HIGH}
+use Rattle.krb_aes.specs.declared.tower.TheConstants.{ONCE_IO, ONCE_JO, THRICE_IO, THRICE_JO, INV_SUB_IO, INV_SUB_JO, TIMES_0E_LOW, TIMES_0E_HIGH, TIMES_0B_LOW, TIMES_0B_HIGH, TIMES_0D_LOW, TIMES_0D_HIGH, TIMES_09_LOW, TIMES_09_HIGH}
 use Rattle.krb_aes.proofs.ByteTests.{same_below}
 use Rattle.krb_aes.proofs.FieldLaws.{linear}
 
@@ -29,10 +29,10 @@ unfolding carryless remainder product inverse number_with affine s_box linear to
 once_is =
     same_below (λ x. read_from ONCE_IO ONCE_JO (tower_form x)) (λ x. tower_part (bit_xor (s_box x) 0x63)) 256 refl
 
-pub twice_is : (x : ℕ) → x < 256 → read_from TWICE_IO TWICE_JO (tower_form x) ≡ tower_part (product 0x02 (bit_xor (s_box x) 0x63))
+pub thrice_is : (x : ℕ) → x < 256 → read_from THRICE_IO THRICE_JO (tower_form x) ≡ tower_part (product 0x03 (bit_xor (s_box x) 0x63))
 unfolding carryless remainder product inverse number_with affine s_box linear tower_form
-twice_is =
-    same_below (λ x. read_from TWICE_IO TWICE_JO (tower_form x)) (λ x. tower_part (product 0x02 (bit_xor (s_box x) 0x63))) 256 refl
+thrice_is =
+    same_below (λ x. read_from THRICE_IO THRICE_JO (tower_form x)) (λ x. tower_part (product 0x03 (bit_xor (s_box x) 0x63))) 256 refl
 
 -- ---- the form that decryption keeps
 

@@ -5,6 +5,7 @@ pub mod TableRules
 pub mod RoundRules
 pub mod ExpansionRules
 pub mod FieldLaws
+pub mod Sums
 pub mod Bytes
 pub mod MixLaws
 pub mod StateLaws

@@ -1,11 +1,13 @@
 -- The matrix of InvMixColumns is the inverse of that of MixColumns, over the field of the bytes.
-use Rattle.std.proofs.Common.{◌≡◌, ℕ, zero, suc, ◌<◌, Bool, true, eqb, cond, refl, ap, ◌∙◌, lit<, arith, bit_xor}
+use Rattle.std.proofs.Common.{◌≡◌, ℕ, zero, suc, ◌+◌, ◌<◌, [], ◌∷◌, Bool, true, eqb, cond, refl, ap, ◌∙◌, lit<, arith, bit_xor}
+use Rattle.std.specs.Prelude.{slice_index}
 use Rattle.std.specs.Int.Bits.{xor_zero_r}
 use Rattle.std.proofs.lemmas.Bool.{agree_below, agree_below_at}
 use Rattle.krb_aes.specs.Field.{carryless, remainder, product}
 use Rattle.krb_aes.specs.State.{row_times_column, mix, inv_mix}
 use Rattle.krb_aes.proofs.ByteTests.{same_on, same_below}
-use Rattle.krb_aes.proofs.FieldLaws.{xor_zero_l, xor_exchange, product-xor}
+use Rattle.krb_aes.proofs.FieldLaws.{xor_zero_l, product-xor}
+use Rattle.krb_aes.proofs.Sums.{Sum, term, plus, same_sum}
 
 -- the sum of four bytes
 abbrev sum4 : (ℕ → ℕ) → ℕ
@@ -13,9 +15,9 @@ sum4 f = bit_xor (bit_xor (bit_xor (f 0) (f 1)) (f 2)) (f 3)
 
 sum4-xor : (f g : ℕ → ℕ) → sum4 (λ j. bit_xor (f j) (g j)) ≡ bit_xor (sum4 f) (sum4 g)
 sum4-xor f g =
-    ap (λ x. bit_xor (bit_xor x (bit_xor (f 2) (g 2))) (bit_xor (f 3) (g 3))) (xor_exchange (f 0) (g 0) (f 1) (g 1))
-    ∙ ap (λ x. bit_xor x (bit_xor (f 3) (g 3))) (xor_exchange (bit_xor (f 0) (f 1)) (bit_xor (g 0) (g 1)) (f 2) (g 2))
-    ∙ xor_exchange (bit_xor (bit_xor (f 0) (f 1)) (f 2)) (bit_xor (bit_xor (g 0) (g 1)) (g 2)) (f 3) (g 3)
+    let both : ℕ → Sum = λ j. plus (term j) (term (j + 4)) in
+    let four : (ℕ → Sum) → Sum = λ t. plus (plus (plus (t 0) (t 1)) (t 2)) (t 3) in
+    same_sum (slice_index (f 0 ∷ f 1 ∷ f 2 ∷ f 3 ∷ g 0 ∷ g 1 ∷ g 2 ∷ g 3 ∷ [])) (four both) (plus (four term) (four (λ j. term (j + 4)))) refl
 
 pub row_times_column-xor : (m : ℕ → ℕ → ℕ) (r : ℕ) (f g : ℕ → ℕ) →
     row_times_column m r (λ k. bit_xor (f k) (g k)) ≡ bit_xor (row_times_column m r f) (row_times_column m r g)

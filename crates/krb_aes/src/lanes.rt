@@ -1,36 +1,54 @@
 // The cipher on 16 lanes, one for each byte of the state.
 
-ghost use Rattle.std.specs.Prelude.{All, ◌≡◌, ◌<◌, List, ℕ, length, map};
+ghost use Rattle.std.specs.Prelude.{All, ◌≡◌, ◌<◌, ◌+◌, ◌%◌, List, ℕ, length, map};
 ghost use Rattle.krb_aes.specs.State.{sub_bytes, inv_sub_bytes, shift_rows, inv_shift_rows, mix_columns, inv_mix_columns, add_round_key};
 ghost use Rattle.krb_aes.specs.KeyExpansion.{IsKey};
 ghost use Rattle.krb_aes.specs.Cipher.{IsBlock, cipher, inv_cipher};
-ghost use Rattle.krb_aes.specs.Inner.Schedule.{form_of_key};
-ghost use Rattle.krb_aes.specs.Inner.Tower.{LanesBelow, tower_form, inv_form};
+ghost use Rattle.krb_aes.specs.Inner.Schedule.{form_of_key, inv_form_of_key, kept};
+ghost use Rattle.krb_aes.specs.Inner.Tower.{ArePlaces, LanesBelow, looked_up, tower_form, inv_form};
 
 use crate::KeySchedule;
 use crate::tower::{
-    InvProducts, formed, inv_formed, inv_products, inv_substituted, products, substituted_form,
-    times_0b, times_0d, times_0e, times_09,
+    InvProducts, formed, inv_formed, inv_products, inv_substituted, looked_up, products,
+    substituted_form, times_0b, times_0d, times_0e, times_09,
 };
 use std::simd::prelude::*;
 
-// ShiftRows, and then each column turned up by 0 to 3 places.
-const SHIFTED: [usize; 16] = [0, 5, 10, 15, 4, 9, 14, 3, 8, 13, 2, 7, 12, 1, 6, 11];
+// The rounds leave out ShiftRows and InvShiftRows: they keep the block that n times ShiftRows would make into the
+// standard's. So where the other bytes of a column lie depends on n, and is the same for n + 4.
 
-const SHIFTED_TURNED_1: [usize; 16] = [5, 10, 15, 0, 9, 14, 3, 4, 13, 2, 7, 8, 1, 6, 11, 12];
+// For n = 0, 1, 2 and 3 and each lane, the lane of the next byte of the column.
+static NEXT_ROWS: [[u8; 16]; 4] = [
+    [1, 2, 3, 0, 5, 6, 7, 4, 9, 10, 11, 8, 13, 14, 15, 12],
+    [5, 6, 7, 4, 9, 10, 11, 8, 13, 14, 15, 12, 1, 2, 3, 0],
+    [9, 10, 11, 8, 13, 14, 15, 12, 1, 2, 3, 0, 5, 6, 7, 4],
+    [13, 14, 15, 12, 1, 2, 3, 0, 5, 6, 7, 4, 9, 10, 11, 8],
+];
 
-const SHIFTED_TURNED_2: [usize; 16] = [10, 15, 0, 5, 14, 3, 4, 9, 2, 7, 8, 13, 6, 11, 12, 1];
+// That of the byte two rows below, which is the same for n + 2.
+static OPPOSITE_ROWS: [[u8; 16]; 2] = [
+    [2, 3, 0, 1, 6, 7, 4, 5, 10, 11, 8, 9, 14, 15, 12, 13],
+    [10, 11, 8, 9, 14, 15, 12, 13, 2, 3, 0, 1, 6, 7, 4, 5],
+];
 
-const SHIFTED_TURNED_3: [usize; 16] = [15, 0, 5, 10, 3, 4, 9, 14, 7, 8, 13, 2, 11, 12, 1, 6];
+// That of the byte three rows below.
+static PREVIOUS_ROWS: [[u8; 16]; 4] = [
+    [3, 0, 1, 2, 7, 4, 5, 6, 11, 8, 9, 10, 15, 12, 13, 14],
+    [15, 12, 13, 14, 3, 0, 1, 2, 7, 4, 5, 6, 11, 8, 9, 10],
+    [11, 8, 9, 10, 15, 12, 13, 14, 3, 0, 1, 2, 7, 4, 5, 6],
+    [7, 4, 5, 6, 11, 8, 9, 10, 15, 12, 13, 14, 3, 0, 1, 2],
+];
 
-// InvShiftRows, and then each column turned up by 0 to 3 places.
-const UNSHIFTED: [usize; 16] = [0, 13, 10, 7, 4, 1, 14, 11, 8, 5, 2, 15, 12, 9, 6, 3];
+// The place of the lane's byte in the standard's block.
+static KEPT: [[u8; 16]; 4] = [
+    [0, 1, 2, 3, 4, 5, 6, 7, 8, 9, 10, 11, 12, 13, 14, 15],
+    [0, 13, 10, 7, 4, 1, 14, 11, 8, 5, 2, 15, 12, 9, 6, 3],
+    [0, 9, 2, 11, 4, 13, 6, 15, 8, 1, 10, 3, 12, 5, 14, 7],
+    [0, 5, 10, 15, 4, 9, 14, 3, 8, 13, 2, 7, 12, 1, 6, 11],
+];
 
-const UNSHIFTED_TURNED_1: [usize; 16] = [13, 10, 7, 0, 1, 14, 11, 4, 5, 2, 15, 8, 9, 6, 3, 12];
-
-const UNSHIFTED_TURNED_2: [usize; 16] = [10, 7, 0, 13, 14, 11, 4, 1, 2, 15, 8, 5, 6, 3, 12, 9];
-
-const UNSHIFTED_TURNED_3: [usize; 16] = [7, 0, 13, 10, 11, 4, 1, 14, 15, 8, 5, 2, 3, 12, 9, 6];
+// ShiftRows twice.
+const SHIFTED_TWICE: [usize; 16] = [0, 9, 2, 11, 4, 13, 6, 15, 8, 1, 10, 3, 12, 5, 14, 7];
 
 // Each column turned up by 1 to 3 places.
 const TURNED_1: [usize; 16] = [1, 2, 3, 0, 5, 6, 7, 4, 9, 10, 11, 8, 13, 14, 15, 12];
@@ -48,32 +66,43 @@ fn first_round(block: &[u8; 16], key: &[u8]) -> u8x16
     formed(u8x16::from_array(*block) ^ u8x16::from_slice(key))
 }
 
-// A round of the cipher, on a block in the form that encryption keeps, with a key of `form_key`. What is known first is added first,
-// since the next round waits for the last sum.
+// The lanes of a vector at these places.
 #[inline(always)]
-fn round(form: u8x16, key: &[u8]) -> u8x16
-    requires form { LanesBelow 256 form }
-    requires key { length key.now ≡ 16 }
-    ensures { (block round_key : List ℕ) → IsBlock block → All (λ byte. byte < 256) round_key
-        → form ≡ map tower_form block → key.now ≡ form_of_key round_key
-        → result ≡ map tower_form (add_round_key (mix_columns (shift_rows (sub_bytes block))) round_key) }
+fn turned(lanes: u8x16, places: &[u8; 16]) -> u8x16
+    requires size { length lanes ≡ 16 }
+    requires places { ArePlaces places.now }
+    ensures { result ≡ map (looked_up lanes) places.now }
 {
-    let (once, doubled) = products(form);
-    let tripled = doubled ^ once;
-    let third = once.swizzle(SHIFTED_TURNED_2) ^ u8x16::from_slice(key);
-    let others = third ^ once.swizzle(SHIFTED_TURNED_3);
-    others ^ doubled.swizzle(SHIFTED) ^ tripled.swizzle(SHIFTED_TURNED_1)
+    looked_up(&lanes.to_array(), u8x16::from_array(*places))
 }
 
-// The last round, which has no MixColumns.
+// A round of the cipher, on a block in the form that encryption keeps, with a key of `form_key`. Afterwards ShiftRows has
+// been left out `shifts` times modulo 4. 02 times a byte, 03 times the next and the last two of a column add up to
+// `sum` at the byte, `sum` at the next and the byte itself.
+#[inline(always)]
+fn round(form: u8x16, key: &[u8], shifts: usize) -> u8x16
+    requires form { LanesBelow 256 form }
+    requires key { length key.now ≡ 16 }
+    requires shifts { shifts < 4 }
+    ensures { (block round_key : List ℕ) → IsBlock block → All (λ byte. byte < 256) round_key
+        → form ≡ map tower_form (kept ((shifts + 3) % 4) block) → key.now ≡ form_of_key shifts round_key
+        → result ≡ map tower_form (kept shifts (add_round_key (mix_columns (shift_rows (sub_bytes block))) round_key)) }
+{
+    let (product, tripled) = products(form);
+    let once = product ^ u8x16::from_slice(key);
+    let sum = tripled ^ turned(once, &OPPOSITE_ROWS[shifts % 2]);
+    turned(sum, &NEXT_ROWS[shifts]) ^ (once ^ sum)
+}
+
+// The last round, which has no MixColumns. Before it ShiftRows has been left out once, modulo 4.
 #[inline(always)]
 fn last_round(form: u8x16, key: &[u8]) -> u8x16
     requires form { LanesBelow 256 form }
     requires key { length key.now ≡ 16 }
-    ensures { (block : List ℕ) → IsBlock block → form ≡ map tower_form block
+    ensures { (block : List ℕ) → IsBlock block → form ≡ map tower_form (kept 1 block)
         → result ≡ add_round_key (shift_rows (sub_bytes block)) key.now }
 {
-    substituted_form(form).swizzle(SHIFTED) ^ u8x16::from_slice(key)
+    substituted_form(form).swizzle(SHIFTED_TWICE) ^ u8x16::from_slice(key)
 }
 
 // The first round key added to a block, in the form that decryption keeps.
@@ -85,14 +114,16 @@ fn inv_first_round(block: &[u8; 16], key: &[u8]) -> u8x16
     inv_formed(u8x16::from_array(*block) ^ u8x16::from_slice(key))
 }
 
-// A round of the inverse cipher, on a block in the form that decryption keeps, with a key of `inv_key`.
+// A round of the inverse cipher, on a block in the form that decryption keeps, with a key of `inv_key`. Afterwards `shifts`
+// times ShiftRows, modulo 4, would make the block into the standard's; to leave out InvShiftRows takes one off.
 #[inline(always)]
-fn inv_round(form: u8x16, key: &[u8]) -> u8x16
+fn inv_round(form: u8x16, key: &[u8], shifts: usize) -> u8x16
     requires form { LanesBelow 256 form }
     requires key { length key.now ≡ 16 }
+    requires shifts { shifts < 4 }
     ensures { (block round_key : List ℕ) → IsBlock block → All (λ byte. byte < 256) round_key
-        → form ≡ map inv_form block → key.now ≡ map inv_form (inv_mix_columns round_key)
-        → result ≡ map inv_form (inv_mix_columns (add_round_key (inv_sub_bytes (inv_shift_rows block)) round_key)) }
+        → form ≡ map inv_form (kept ((shifts + 1) % 4) block) → key.now ≡ inv_form_of_key shifts round_key
+        → result ≡ map inv_form (kept shifts (inv_mix_columns (add_round_key (inv_sub_bytes (inv_shift_rows block)) round_key))) }
 {
     let InvProducts {
         by_0e,
@@ -100,20 +131,20 @@ fn inv_round(form: u8x16, key: &[u8]) -> u8x16
         by_0d,
         by_09,
     } = inv_products(form);
-    let first = by_0e.swizzle(UNSHIFTED) ^ by_0b.swizzle(UNSHIFTED_TURNED_1);
-    let others = by_0d.swizzle(UNSHIFTED_TURNED_2) ^ by_09.swizzle(UNSHIFTED_TURNED_3);
+    let first = by_0e ^ turned(by_0b, &NEXT_ROWS[shifts]);
+    let others = turned(by_0d, &OPPOSITE_ROWS[shifts % 2]) ^ turned(by_09, &PREVIOUS_ROWS[shifts]);
     first ^ (others ^ u8x16::from_slice(key))
 }
 
-// The last round, which has no InvMixColumns.
+// The last round, which has no InvMixColumns. Before it InvShiftRows has been left out once, modulo 4.
 #[inline(always)]
 fn inv_last_round(form: u8x16, key: &[u8]) -> u8x16
     requires form { LanesBelow 256 form }
     requires key { length key.now ≡ 16 }
-    ensures { (block : List ℕ) → IsBlock block → form ≡ map inv_form block
+    ensures { (block : List ℕ) → IsBlock block → form ≡ map inv_form (kept 3 block)
         → result ≡ add_round_key (inv_sub_bytes (inv_shift_rows block)) key.now }
 {
-    inv_substituted(form).swizzle(UNSHIFTED) ^ u8x16::from_slice(key)
+    inv_substituted(form).swizzle(SHIFTED_TWICE) ^ u8x16::from_slice(key)
 }
 
 #[inline(always)]
@@ -127,22 +158,28 @@ fn inv_mix_columns(state: u8x16) -> u8x16
     first ^ others
 }
 
-// The key of a round as `round` takes it: with the constant of SubBytes, which MixColumns leaves as it is.
+// The key of a round as `round` takes it: with the constant of SubBytes, which MixColumns leaves as it is, and each byte
+// plus the next two of its column, of which `round` makes the byte again.
 #[inline(always)]
-pub(crate) fn form_key(key: &[u8]) -> [u8; 16]
-    requires { length key.now ≡ 16 }
-    ensures { result ≡ form_of_key key.now }
+pub(crate) fn form_key(key: &[u8], shifts: usize) -> [u8; 16]
+    requires key { length key.now ≡ 16 }
+    requires shifts { shifts < 4 }
+    ensures { result ≡ form_of_key shifts key.now }
 {
-    first_round(&[0x63; 16], key).to_array()
+    let with_constant = u8x16::splat(0x63) ^ u8x16::from_slice(key);
+    let others = with_constant.swizzle(TURNED_1) ^ with_constant.swizzle(TURNED_2);
+    turned(formed(with_constant ^ others), &KEPT[shifts]).to_array()
 }
 
 // The key of a round as `inv_round` takes it.
 #[inline(always)]
-pub(crate) fn inv_key(key: &[u8]) -> [u8; 16]
-    requires { length key.now ≡ 16 }
-    ensures { result ≡ map inv_form (inv_mix_columns key.now) }
+pub(crate) fn inv_key(key: &[u8], shifts: usize) -> [u8; 16]
+    requires key { length key.now ≡ 16 }
+    requires shifts { shifts < 4 }
+    ensures { result ≡ inv_form_of_key shifts key.now }
 {
-    inv_formed(inv_mix_columns(u8x16::from_slice(key))).to_array()
+    let form = inv_formed(inv_mix_columns(u8x16::from_slice(key)));
+    turned(form, &KEPT[shifts]).to_array()
 }
 
 pub(crate) fn encrypt_block(schedule: &KeySchedule, block: &mut [u8; 16])
@@ -153,7 +190,7 @@ pub(crate) fn encrypt_block(schedule: &KeySchedule, block: &mut [u8; 16])
     let last = schedule.rounds();
     let mut form = first_round(block, schedule.round_key(0));
     for at in 1..last {
-        let next = round(form, schedule.form_key(at));
+        let next = round(form, schedule.form_key(at), at % 4);
         form = next;
     }
     *block = last_round(form, schedule.round_key(last)).to_array();
@@ -167,7 +204,7 @@ pub(crate) fn decrypt_block(schedule: &KeySchedule, block: &mut [u8; 16])
     let last = schedule.rounds();
     let mut form = inv_first_round(block, schedule.round_key(last));
     for at in (1..last).rev() {
-        let next = inv_round(form, schedule.inv_key(at));
+        let next = inv_round(form, schedule.inv_key(at), (at + 2) % 4);
         form = next;
     }
     *block = inv_last_round(form, schedule.round_key(0)).to_array();
@@ -187,8 +224,8 @@ pub(crate) fn decrypt_two_blocks(schedule: &KeySchedule, one: &mut [u8; 16], oth
     let mut other_form = inv_first_round(other, first_key);
     for round in (1..last).rev() {
         let key = schedule.inv_key(round);
-        let next_one = inv_round(one_form, key);
-        let next_other = inv_round(other_form, key);
+        let next_one = inv_round(one_form, key, (round + 2) % 4);
+        let next_other = inv_round(other_form, key, (round + 2) % 4);
         one_form = next_one;
         other_form = next_other;
     }

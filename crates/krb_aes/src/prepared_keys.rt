@@ -26,8 +26,8 @@ pub(crate) fn prepared_keys(words: &[u8; EXPANDED_LEN], last: usize) -> Prepared
     let mut inv_words = [0; EXPANDED_LEN];
     for at in 1..last {
         let key = &words[16 * at..16 * at + 16];
-        form_words[16 * at..16 * at + 16].copy_from_slice(&form_key(key));
-        inv_words[16 * at..16 * at + 16].copy_from_slice(&inv_key(key));
+        form_words[16 * at..16 * at + 16].copy_from_slice(&form_key(key, at % 4));
+        inv_words[16 * at..16 * at + 16].copy_from_slice(&inv_key(key, (at + 2) % 4));
     }
     PreparedKeys {
         form_words,

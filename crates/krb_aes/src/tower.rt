@@ -7,7 +7,7 @@ ghost use Rattle.std.specs.Simd.Lanes.{zip2};
 ghost use Rattle.krb_aes.specs.Field.{product};
 ghost use Rattle.krb_aes.specs.SBox.{s_box};
 ghost use Rattle.krb_aes.specs.Inner.Tower.{ArePlaces, LanesBelow, looked_up, by_nibbles, io_of, jo_of, io_at, jo_at, read_from, substituted_of, tower_form, inv_form, inv_by_09, inv_by_0b, inv_by_0d, inv_by_0e};
-ghost use Rattle.krb_aes.specs.declared.tower.TheConstants.{ONCE_IO, ONCE_JO, TWICE_IO, TWICE_JO, INV_SUB_IO, INV_SUB_JO};
+ghost use Rattle.krb_aes.specs.declared.tower.TheConstants.{ONCE_IO, ONCE_JO, THRICE_IO, THRICE_JO, INV_SUB_IO, INV_SUB_JO};
 
 use std::simd::prelude::*;
 
@@ -43,12 +43,12 @@ static ONCE_JO: [u8; 16] = [
     0x00, 0xe6, 0x72, 0xb7, 0xe5, 0xc6, 0xc5, 0x23, 0x51, 0xb4, 0x03, 0x71, 0x20, 0x97, 0x52, 0x94,
 ];
 
-static TWICE_IO: [u8; 16] = [
-    0x00, 0x7c, 0x20, 0xcf, 0x92, 0x01, 0xef, 0x93, 0xb3, 0x21, 0xee, 0xce, 0x7d, 0xb2, 0x5d, 0x5c,
+static THRICE_IO: [u8; 16] = [
+    0x00, 0xbf, 0x6f, 0xc3, 0x6e, 0x7d, 0xac, 0x13, 0x7c, 0x12, 0xd1, 0xbe, 0xc2, 0x01, 0xad, 0xd0,
 ];
 
-static TWICE_JO: [u8; 16] = [
-    0x00, 0xd1, 0xe5, 0xf7, 0xe6, 0x25, 0x12, 0xc3, 0x26, 0xc0, 0x37, 0xd2, 0xf4, 0x03, 0x11, 0x34,
+static THRICE_JO: [u8; 16] = [
+    0x00, 0x37, 0x97, 0x40, 0x03, 0xe3, 0xd7, 0xe0, 0x77, 0x74, 0x34, 0xa3, 0xd4, 0x94, 0x43, 0xa0,
 ];
 
 static INV_FORM_LOW: [u8; 16] = [
@@ -133,7 +133,7 @@ static TIMES_09_HIGH: [u8; 16] = [
 
 // The entry at each lane's place, or 0 if the place is 128 or above.
 #[inline(always)]
-fn looked_up(table: &[u8; 16], places: u8x16) -> u8x16
+pub(crate) fn looked_up(table: &[u8; 16], places: u8x16) -> u8x16
     requires { ArePlaces places }
     ensures { result ≡ map (looked_up table.now) places }
 {
@@ -222,17 +222,17 @@ pub(crate) fn substituted(bytes: u8x16) -> u8x16
     substituted_form(formed(bytes))
 }
 
-// SBox of each byte in the form that encryption keeps, without the constant 63, and x times that: both in this form.
+// SBox of each byte in the form that encryption keeps, without the constant 63, and 03 times that: both in this form.
 #[inline(always)]
 pub(crate) fn products(form: u8x16) -> (u8x16, u8x16)
     requires { LanesBelow 256 form }
     ensures once { result.0 ≡ map (read_from ONCE_IO ONCE_JO) form }
-    ensures doubled { result.1 ≡ map (read_from TWICE_IO TWICE_JO) form }
+    ensures tripled { result.1 ≡ map (read_from THRICE_IO THRICE_JO) form }
 {
     let values = inverted_form(form);
     (
         read(&ONCE_IO, &ONCE_JO, values),
-        read(&TWICE_IO, &TWICE_JO, values),
+        read(&THRICE_IO, &THRICE_JO, values),
     )
 }
 

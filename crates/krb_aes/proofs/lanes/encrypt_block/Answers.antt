@@ -1,35 +1,37 @@
-use Rattle.std.proofs.Common.{◌≡◌, ◌+◌, ◌-◌, ◌∙◌, ap, map, sym, arith}
+use Rattle.std.proofs.Common.{◌≡◌, ◌+◌, ◌-◌, ◌%◌, ◌∙◌, ap, map, subst, sym, arith}
 use Rattle.krb_aes.specs.State.{add_round_key, sub_bytes, shift_rows}
 use Rattle.krb_aes.specs.KeyExpansion.{key_expansion, round_key}
 use Rattle.krb_aes.specs.Cipher.{IsBlock, rounds, cipher}
+use Rattle.krb_aes.specs.Inner.Schedule.{kept}
 use Rattle.krb_aes.specs.Inner.Tower.{tower_form}
 use Rattle.krb_aes.proofs.Bytes.{block_of_array, round_key_bytes}
+use Rattle.krb_aes.proofs.ExpansionRules.{rounds_of_four}
+use Rattle.krb_aes.proofs.LaneRounds.{IsBlock-kept, kept_none}
 use Rattle.krb_aes.proofs.FormRounds.{lanes_of_tower_form}
-use Rattle.krb_aes.proofs.RoundLaws.{IsBlock-rounds, inv_cipher-cipher}
+use Rattle.krb_aes.proofs.StateLaws.{IsBlock-add_round_key, IsBlock-mix_columns, IsBlock-shifted}
+use Rattle.krb_aes.proofs.RoundLaws.{inv_cipher-cipher}
 use Rattle.krb_aes.proofs.RoundRules.{rounds_after}
 use Rattle.krb_aes.proofs.lanes.encrypt_block.Goals as goal
 
 pub round-next-requires-clause-form : goal.round-next-requires-clause-form
 round-next-requires-clause-form c =
-    let block = block_of_array c.args.block.now c.told-block c.fits-block in
-    let key = c.args.schedule.now in
-    lanes_of_tower_form _ c.loop-at.form
-    (IsBlock-rounds (round_key (key_expansion key)) (c.loop-at.at - 1) c.args.block.now
-    (λ j. round_key_bytes key j c.rounds-last.ensures.key.bytes) block) c.loop-at.invariant.form
+    lanes_of_tower_form _ c.loop-at.form (IsBlock-kept _ _ c.loop-at.invariant.is_block) c.loop-at.invariant.form
 
 pub last_round-requires-clause-form : goal.last_round-requires-clause-form
 last_round-requires-clause-form c =
-    let block = block_of_array c.args.block.now c.told-block c.fits-block in
-    let key = c.args.schedule.now in
-    lanes_of_tower_form _ c.loop-at.form
-    (IsBlock-rounds (round_key (key_expansion key)) (c.loop-at.at - 1) c.args.block.now
-    (λ j. round_key_bytes key j c.rounds-last.ensures.key.bytes) block) c.loop-at.invariant.form
+    lanes_of_tower_form _ c.loop-at.form (IsBlock-kept _ _ c.loop-at.invariant.is_block) c.loop-at.invariant.form
 
 pub loop-at-init : goal.loop-at-init
 unfolding rounds
-loop-at-init c = record {
-  form = c.first_round-form.ensures ∙ ap (λ k. map tower_form (add_round_key c.args.block.now k)) c.round_key.ensures.value;
-}
+loop-at-init c =
+    let key = c.args.schedule.now in
+    let block = block_of_array c.args.block.now c.told-block c.fits-block in
+    let first = IsBlock-add_round_key c.args.block.now _ block (round_key_bytes key 0 c.rounds-last.ensures.key.bytes) in
+    record {
+      is_block = first;
+      form = c.first_round-form.ensures ∙ ap (λ k. map tower_form (add_round_key c.args.block.now k)) c.round_key.ensures.value
+          ∙ ap (map tower_form) (sym (kept_none _ first));
+    }
 
 pub loop-at-preserved : goal.loop-at-preserved
 loop-at-preserved c =
@@ -37,12 +39,15 @@ loop-at-preserved c =
     let k = round_key (key_expansion key) in
     let at = c.loop-at.at in
     let before = rounds k (at - 1) c.args.block.now in
-    let block = block_of_array c.args.block.now c.told-block c.fits-block in
-    let is : IsBlock before = IsBlock-rounds k (at - 1) c.args.block.now (λ j. round_key_bytes key j c.rounds-last.ensures.key.bytes) block in
+    let bytes = round_key_bytes key at c.rounds-last.ensures.key.bytes in
     let same : at + 1 - 1 ≡ at = omega arith in
-    let next = c.round-next.ensures before (k at) is (round_key_bytes key at c.rounds-last.ensures.key.bytes) c.loop-at.invariant.form c.form_key.ensures.value
-    ∙ ap (map tower_form) (sym (rounds_after k c.args.block.now at (omega arith))) in
-    record { form = rw same next }
+    let left : (at + 1 + 3) % 4 ≡ at % 4 = omega arith in
+    let shifts : (at + 3) % 4 ≡ (at % 4 + 3) % 4 = omega arith in
+    let more = sym (rounds_after k c.args.block.now at (omega arith)) in
+    let is = IsBlock-add_round_key _ (k at) (IsBlock-mix_columns _ (IsBlock-shifted before c.loop-at.invariant.is_block)) bytes in
+    let next = c.round-next.ensures before (k at) c.loop-at.invariant.is_block bytes
+    (c.loop-at.invariant.form ∙ ap (λ n. map tower_form (kept n before)) shifts) c.form_key.ensures.value in
+    record { is_block = rw same (subst IsBlock more is); form = rw (same, left) (next ∙ ap (λ s. map tower_form (kept (at % 4) s)) more) }
 
 pub returns-clause-block : goal.returns-clause-block
 unfolding cipher
@@ -52,9 +57,8 @@ returns-clause-block c =
     let last = c.rounds-last.result in
     let end : c.loop-at.at - 1 ≡ last - 1 = omega arith in
     let before = rounds k (c.loop-at.at - 1) c.args.block.now in
-    let block = block_of_array c.args.block.now c.told-block c.fits-block in
-    let is : IsBlock before = IsBlock-rounds k (c.loop-at.at - 1) c.args.block.now (λ j. round_key_bytes key j c.rounds-last.ensures.key.bytes) block in
-    c.last_round.ensures before is c.loop-at.invariant.form
+    let left : (c.loop-at.at + 3) % 4 ≡ 1 = omega (arith, rounds_of_four key c.rounds-last.ensures.key, c.rounds-last.ensures.count) in
+    c.last_round.ensures before c.loop-at.invariant.is_block (c.loop-at.invariant.form ∙ ap (λ n. map tower_form (kept n before)) left)
     ∙ ap (add_round_key (shift_rows (sub_bytes before))) c.round_key-2.ensures.value
     ∙ ap (λ n. add_round_key (shift_rows (sub_bytes (rounds k n c.args.block.now))) (k last)) end
     ∙ ap (λ n. add_round_key (shift_rows (sub_bytes (rounds k (n - 1) c.args.block.now))) (k n)) c.rounds-last.ensures.count
