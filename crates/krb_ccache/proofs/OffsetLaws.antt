@@ -97,10 +97,6 @@ begins_so (x ∷ xs) first name r lt e f = told r (told_text first name r f)
 
 -- ---- one offset at most
 
-record Held (field : HeaderField) (seconds microseconds : ℤ) : Type 0 where
-  tag : field.tag ≡ 1
-  offset : IsOffset field.value seconds microseconds
-
 same_field : (xs ys : List HeaderField) (x y : HeaderField) (a b : List HeaderField) → AllByRecursion (λ other. other.tag ≢ 1) xs → AllByRecursion (λ other. other.tag ≢ 1) ys → x.tag ≡ 1 → y.tag ≡ 1 → xs ++ x ∷ a ≡ ys ++ y ∷ b → x ≡ y
 same_field [] [] x y a b p q t u e = cc
 same_field [] (z ∷ ys) x y a b p q t u e = let same : x ≡ z = cc in absurd (q.0 (ap (λ (k : HeaderField). k.tag) (sym same) ∙ t))

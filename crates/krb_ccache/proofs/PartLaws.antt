@@ -12,7 +12,6 @@ use Rattle.krb_name.proofs.CursorLaws.{bind_some, some_is, Takes-then, IsField-u
 use Rattle.krb_name.proofs.Repeated.{IsField-times}
 use Rattle.krb_name.specs.declared.principal.Principal.{Principal}
 use Rattle.krb_ccache.specs.declared.typed.TypedBytes.{TypedBytes}
-use Rattle.krb_ccache.specs.declared.credential.HeaderField.{HeaderField}
 use Rattle.krb_ccache.specs.declared.layout.Layout.{Layout}
 use Rattle.krb_ccache.specs.declared.layout.Layout.TheVariants.{Version3, Version4}
 use Rattle.krb_ccache.specs.Spelling.{field_bytes, name_bytes, typed_bytes, list_bytes}
@@ -20,6 +19,7 @@ use Rattle.krb_ccache.specs.Format.{version_of}
 use Rattle.krb_ccache.specs.Inner.Stepping.{Any}
 use Rattle.krb_ccache.specs.Value.{FitsName, FitsList}
 use Rattle.krb_ccache.specs.Inner.Reading.{both_at, made_at, field_of, is_field, field_at, name_at, is_flag, allowed, byte_at, typed_of, typed_at, list_at, layout_of, layout_at}
+use Rattle.krb_ccache.specs.Inner.Standing.{FitsField}
 use Rattle.krb_ccache.proofs.Fields.{IsField-both, IsMade, IsField-made, IsField-passing, IsField-counted}
 
 abbrev pub Below16 : ℕ → Type 0
@@ -35,9 +35,6 @@ abbrev pub Short32 : List ℕ → Type 0
 Short32 bytes = length bytes < 2 ^ 32
 
 -- ---- a field of the header
-
-abbrev pub FitsField : HeaderField → Type 0
-FitsField field = ((field.tag < 2 ^ 16) × (length field.value < 2 ^ 16)) × (is_field field ≡ true)
 
 field_made : IsMade field_of (λ parts. number_bytes w16 parts.0 ++ data_bytes w16 parts.1) (λ parts. Below16 parts.0 × Short16 parts.1) field_bytes (λ field. Below16 field.tag × Short16 field.value)
 field_made = record {

@@ -3,38 +3,33 @@ use Rattle.std.proofs.Common.{◌≡◌, ℕ, ◌+◌, ◌-◌, ◌≤◌, Bool,
 use Rattle.std.specs.Prelude.{◌≢◌, max, IfOk, IfErr, IfSome, OnErr}
 use Rattle.std.specs.Io.KnownBytes.{Consumes, IsAtEnd}
 use Rattle.std.proofs.KnownBytes.{Consumes-trans, Consumes-nil}
-use Rattle.std.proofs.lemmas.List.{length-append, nil_from_length, length-take, take_at, take-append-le, take-append-drop}
+use Rattle.std.proofs.lemmas.List.{length-append, nil_from_length, length-take, take-append-drop}
 use Rattle.std.proofs.lemmas.List.Elements.{All-nil}
 use Rattle.krb_name.specs.Window.{AtHand}
 use Rattle.krb_name.specs.declared.principal.Principal.{Principal}
 use Rattle.krb_ccache.specs.declared.credential.HeaderField.{HeaderField}
 use Rattle.krb_ccache.specs.declared.credential.Credential.{Credential}
 use Rattle.krb_ccache.specs.declared.layout.Layout.{Layout}
-use Rattle.krb_ccache.specs.declared.layout.Layout.TheVariants.{Version3, Version4}
 use Rattle.krb_ccache.specs.Spelling.{name_bytes}
 use Rattle.krb_ccache.specs.Value.{Cache, cache_of, FitsName}
 use Rattle.krb_name.specs.File.{file_limit, IsGiven}
 use Rattle.krb_ccache.specs.Format.{version_of, head_bytes, FitsHead, start_bytes, credential_length, Spelled, Spells, IsReached, IsFaultOf}
 use Rattle.krb_ccache.specs.Reader.{Reading, ended_by, ended_passed, passed, HasTaken, HasRead, GaveOne, PassedOne, StaysAtEnd, GoesTo, GaveCache, GaveFault, with_credential}
 use Rattle.krb_ccache.specs.declared.fault.CacheFault.{CacheFault}
-use Rattle.krb_ccache.specs.declared.fault.CacheFault.TheVariants.{Version, Header, BadItem, TooLong, Read, OutOfMemory}
+use Rattle.krb_ccache.specs.declared.fault.CacheFault.TheVariants.{Version, Header, BadItem, Read, OutOfMemory}
 use Rattle.krb_ccache.specs.Inner.Standing.{bytes_of, IsMissing, spelled_as}
 use Rattle.krb_ccache.specs.Inner.Stepping.{Any, Comes, Gives, Tells, Misses, MissesOne, IsStep}
 use Rattle.std.proofs.lemmas.Bool.{cases_lt}
 use Rattle.std.proofs.Math.Seq.{take-append-add}
 use Rattle.krb_ccache.proofs.AnswerLaws.{same_reached}
 use Rattle.krb_ccache.proofs.FileLaws.{spelled_bytes_some}
-use Rattle.krb_ccache.proofs.LayoutLaws.{name_more, spelled_length, is_reached, front_of, reached_bytes, reached_at, reached_too, reached_all, reached_end, reached_before, reached_more}
+use Rattle.krb_ccache.proofs.WalkLaws.{shorter_front}
+use Rattle.krb_ccache.proofs.LayoutLaws.{version_length, name_more, spelled_length, is_reached, front_of, reached_bytes, reached_at, reached_too, reached_all, reached_end, reached_before, reached_more}
 
 -- ---- no credential within the limit
 
 abbrev NoneWithin : Layout → ℕ → List ℕ → Type 0
 NoneWithin layout at bytes = (one : Spelled) (others : List ℕ) → Spells layout one → at + length one.bytes ≤ file_limit → bytes ≡ one.bytes ++ others → ⊥
-
-front_in : (bytes more front others : List ℕ) → length front ≤ length bytes → bytes ++ more ≡ front ++ others → bytes ≡ front ++ drop (length front) bytes
-front_in bytes more front others le e =
-    let same : take (length front) bytes ≡ front = sym (take-append-le (length front) bytes more le) ∙ ap (take (length front)) e ∙ take_at front others (length front) refl in
-    sym (take-append-drop (length front) bytes) ∙ ap (λ (t : List ℕ). t ++ drop (length front) bytes) same
 
 none_comes : (layout : Layout) (whole : List ℕ) (a b : Option (List ℕ)) (before bytes : List ℕ) (at given : ℕ) → Consumes (Some whole) a before → Consumes a b bytes → (given ≤ file_limit → IsAtEnd b) → given ≡ at + length bytes → NoneWithin layout at bytes
     → (behind : List ℕ) × (whole ≡ before ++ behind) × NoneWithin layout at behind
@@ -45,7 +40,7 @@ none_comes layout whole (Some rest) (Some more) before bytes at given p q end to
     none : NoneWithin layout at rest
     none one others spells le e =
         elim (cases_lt file_limit given) [
-          | inl long ↦ missing one (drop (length one.bytes) bytes) spells le (front_in bytes more one.bytes others (omega (arith, le, long, total)) (sym q ∙ e))
+          | inl long ↦ missing one (drop (length one.bytes) bytes) spells le (shorter_front one.bytes bytes others more (omega (arith, le, long, total)) (sym e ∙ q))
           | inr within ↦ missing one others spells le (sym (q ∙ ap (λ (t : List ℕ). bytes ++ t) (end within) ∙ append-nil bytes) ∙ e)
         ]
 
@@ -154,11 +149,7 @@ module _ {S : Type 0} (left : S → Option (List ℕ)) where
     -- no more was at hand than of the longest of these
     pub begun_peak : (old first middle new : AtHand S) (header : List HeaderField) (name : Principal) → Comes version_of Any left old first layout → Comes (head_bytes layout) (FitsHead layout) left first middle header → Comes name_bytes FitsName left middle new name
         → new.peak ≡ max old.peak (max (length (head_bytes layout header)) (length (name_bytes name)))
-    begun_peak old first middle new header name v h n = omega (arith, v.peak, two layout, h.peak, n.peak, name_more name)
-      where
-        two : (l : Layout) → length (version_of l) ≡ 2
-        two Version3 = refl
-        two Version4 = refl
+    begun_peak old first middle new header name v h n = omega (arith, v.peak, version_length layout, h.peak, n.peak, name_more name)
 
     pub item_taken : (from : Option (List ℕ)) (old new : AtHand S) (cache : Cache) (one : Spelled) → HasTaken layout from (left old.source) old.given cache → Comes bytes_of (Spells layout) left old new one
         → HasTaken layout from (left new.source) new.given (with_credential cache one.credential)
@@ -168,31 +159,27 @@ module _ {S : Type 0} (left : S → Option (List ℕ)) where
       reached = subst (λ (n : ℕ). IsReached layout (h.bytes ++ one.bytes) n (with_credential cache one.credential) []) (sym c.given) (reached_more layout h.bytes old.given cache h.reached one c.fits);
     }
 
-    bad_item : (at : ℕ) → BadItem at ≡ OutOfMemory → ⊥
-    bad_item at e = cc
-
-    bad_read : (at : ℕ) → BadItem at ≡ Read → ⊥
-    bad_read at e = cc
-
-    bad_long : (at : ℕ) → BadItem at ≡ TooLong → ⊥
-    bad_long at e = cc
+    -- no bytes came, where it is told that no part did
+    all_came : (new : AtHand S) (at : ℕ) → Tells left new (BadItem at) (BadItem at) → IsAtEnd (left new.source) × (new.given ≤ file_limit)
+    all_came new at tells =
+        elim tells [
+          | inl failed ↦ absurd cc
+          | inr (inl long) ↦ let other = long.0 in absurd cc
+          | inr (inr same) ↦ same.1
+        ]
 
     pub end_taken : (from : Option (List ℕ)) (old new : AtHand S) (cache : Cache) → HasTaken layout from (left old.source) old.given cache → MissesOne layout left old new (BadItem old.given) → new.given ≡ old.given → GaveCache from (left new.source) cache
     end_taken from old new cache h m same =
-        let l = m.lacks (bad_read old.given) (bad_item old.given) in
+        let l = m.lacks (λ e. absurd cc) (λ e. absurd cc) in
+        let came = all_came new old.given (m.tells (λ e. absurd cc)) in
         let none : l.bytes ≡ [] = nil_from_length l.bytes (omega (arith, l.gives.given, same)) in
         let consumed : Consumes from (left new.source) h.bytes = subst (λ (x : List ℕ). Consumes from (left new.source) x) (ap (λ (x : List ℕ). h.bytes ++ x) none ∙ append-nil h.bytes)
         (Consumes-trans from (left old.source) (left new.source) h.bytes l.bytes h.taken l.gives.consumed) in
-        elim (m.tells (bad_item old.given)) [
-          | inl failed ↦ absurd (bad_read old.given failed)
-          | inr (inl long) ↦ absurd (bad_long old.given long.0)
-          | inr (inr within) ↦
-              let few : length h.bytes ≤ file_limit = omega (arith, reached_end layout h.bytes old.given cache h.reached, same, within.1.1) in (
-                h.bytes,
-                record { given = consumed; limit = omega (arith, few); end = λ k. within.1.0 },
-                record { limit = few; layout = layout; at = old.given; reached = h.reached },
-              )
-        ]
+        let few : length h.bytes ≤ file_limit = omega (arith, reached_end layout h.bytes old.given cache h.reached, same, came.1) in (
+          h.bytes,
+          record { given = consumed; limit = omega (arith, few); end = λ k. came.0 },
+          record { limit = few; layout = layout; at = old.given; reached = h.reached },
+        )
 
     pub item_fault : (from : Option (List ℕ)) (old new : AtHand S) (cache : Cache) (told : CacheFault) → HasTaken layout from (left old.source) old.given cache → MissesOne layout left old new told
         → (told ≡ BadItem old.given → new.given ≢ old.given) → GaveFault from (left new.source) told
@@ -289,18 +276,10 @@ module _ {S : Type 0} (left : S → Option (List ℕ)) where
     stays was now old new (Ok None) step end g h source given held =
         let some = step.0.some.1 in
         record {
-          end = subst (λ (s : S). IsAtEnd (left s)) (sym source) (at_end (step.0.tells (bad_item old.given)));
+          end = subst (λ (s : S). IsAtEnd (left s)) (sym source) (all_came new old.given (step.0.tells (λ e. absurd cc))).0;
           given = omega (arith, step.1, g, given);
           held = omega (arith, step.1, some.given, some.grows, some.peak, h, held);
         }
-      where
-        at_end : Tells left new (BadItem old.given) (BadItem old.given) → IsAtEnd (left new.source)
-        at_end tells =
-            elim tells [
-              | inl failed ↦ absurd (bad_read old.given failed)
-              | inr (inl long) ↦ absurd (bad_long old.given long.0)
-              | inr (inr within) ↦ within.1.0
-            ]
 
     pub next_fault : (from : Option (List ℕ)) (old new : AtHand S) (cache : Cache) (result : Result (Option Credential) CacheFault) → IsStep layout left old new result → HasTaken layout from (left old.source) old.given cache
         → IfErr result (GaveFault from (left new.source))

@@ -3,8 +3,8 @@ use Rattle.std.proofs.Common.{◌≡◌, ℕ, suc, ◌+◌, ◌-◌, ◌<◌, �
 use Rattle.std.specs.Int.{Width, w32, byte_len, from_be_bytes}
 use Rattle.std.proofs.lemmas.Bool.{cases_lt, lt-leb}
 use Rattle.std.proofs.KnownBytes.{Consumes-nil, Consumes-trans}
-use Rattle.std.proofs.lemmas.List.{length-append, length-take, length-drop, drop-drop, take_all, take_at, drop_at, take-append-drop}
-use Rattle.krb_name.specs.Window.{AtHand, Keeps}
+use Rattle.std.proofs.lemmas.List.{length-append, length-take, length-drop, drop-drop, take_all, take_at, drop_at, take-append-drop, take-append-le}
+use Rattle.krb_name.specs.Window.{Keeps}
 use Rattle.krb_name.specs.Cursor.{Place, ◌>>=◌, bytes_at, number_at}
 use Rattle.krb_name.proofs.CursorLaws.{IsField-bytes}
 use Rattle.krb_ccache.specs.declared.walking.TakeFault.{TakeFault}
@@ -19,18 +19,21 @@ front_same xs ys more others len e = (
   sym (drop_at xs more (length ys) len) ∙ ap (drop (length ys)) e ∙ drop_at ys others (length ys) refl,
 )
 
+-- the shorter front of one list is the front of the other
+pub shorter_front : (xs ys more others : List ℕ) → length xs ≤ length ys → xs ++ more ≡ ys ++ others → ys ≡ xs ++ drop (length xs) ys
+shorter_front xs ys more others le e =
+    let front : take (length xs) ys ≡ xs = sym (take-append-le (length xs) ys others le) ∙ ap (take (length xs)) (sym e) ∙ take_at xs more (length xs) refl in
+    sym (take-append-drop (length xs) ys) ∙ ap (λ (t : List ℕ). t ++ drop (length xs) ys) front
+
 -- ---- what is at hand
 
-keeps_then : {S : Type 0} (a b c : Option (List ℕ)) (old middle new : AtHand S) (front bytes : List ℕ) → Keeps a b old middle front → Keeps b c middle new bytes → Keeps a c old new (front ++ bytes)
-keeps_then a b c old middle new front bytes p q = record {
-  consumed = Consumes-trans a b c front bytes p.consumed q.consumed;
+joined : (old middle new : Hand) (front bytes : List ℕ) → Keeps old.source middle.source old middle front → Keeps middle.source new.source middle new bytes → Keeps old.source new.source old new (front ++ bytes)
+joined old middle new front bytes p q = record {
+  consumed = Consumes-trans old.source middle.source new.source front bytes p.consumed q.consumed;
   bytes = q.bytes ∙ ap (λ (t : List ℕ). t ++ bytes) p.bytes ∙ append_assoc old.bytes front bytes;
   peak = omega (arith, p.peak, q.peak, ap length q.bytes, length-append middle.bytes bytes);
   given = omega (arith, p.given, q.given, length-append front bytes);
 }
-
-joined : (old middle new : Hand) (front bytes : List ℕ) → Keeps old.source middle.source old middle front → Keeps middle.source new.source middle new bytes → Keeps old.source new.source old new (front ++ bytes)
-joined old middle new front bytes p q = keeps_then old.source middle.source new.source old middle new front bytes p q
 
 -- ---- two ways to pass over the same
 
@@ -66,7 +69,11 @@ nothing_then p place = from_first (p place)
 pub skips : (count at : ℕ) (bytes rest : List ℕ) → length bytes ≡ count → skip_at count (record { at = at; rest = bytes ++ rest }) ≡ Some (record { at = at + length bytes; rest = rest })
 skips count at bytes rest len = ap (λ (o : Option (List ℕ × Place)). o >>= λ x. Some x.1) ((IsField-bytes count).again at bytes rest len)
 
-pub no_skip : (count at : ℕ) (rest : List ℕ) → length rest < count → skip_at count (record { at = at; rest = rest }) ≡ None
+-- nothing is passed over of fewer bytes than these
+abbrev pub NeedsBytes : Pass → ℕ → Type 0
+NeedsBytes p count = (at : ℕ) (rest : List ℕ) → length rest < count → p (record { at = at; rest = rest }) ≡ None
+
+pub no_skip : (count : ℕ) → NeedsBytes (skip_at count) count
 unfolding bytes_at
 no_skip count at rest few = let short : leb count (length rest) ≡ false = lt-leb count (length rest) few in rw short refl
 
@@ -78,13 +85,13 @@ unfolding number_at
 numbers w others number at bytes rest len is =
     ap (λ (o : Option (List ℕ × Place)). (o >>= number_of w) >>= λ n. others n.0 n.1) ((IsField-bytes (byte_len w)).again at bytes rest len) ∙ ap (λ (n : ℕ). others n (record { at = at + length bytes; rest = rest })) (sym is)
 
-no_number : (w : Width) (others : ℕ → Pass) (at : ℕ) (rest : List ℕ) → length rest < byte_len w → pass_number w others (record { at = at; rest = rest }) ≡ None
+no_number : (w : Width) (others : ℕ → Pass) → NeedsBytes (pass_number w others) (byte_len w)
 unfolding number_at bytes_at
 no_number w others at rest few = let short : leb (byte_len w) (length rest) ≡ false = lt-leb (byte_len w) (length rest) few in rw short refl
 
 -- where the second of two has too few bytes
-module _ (count more : ℕ) (p : Pass) (none : (at : ℕ) (rest : List ℕ) → length rest < more → p (record { at = at; rest = rest }) ≡ None) where
-  too_few : (at : ℕ) (rest : List ℕ) → length rest < count + more → and_then (skip_at count) p (record { at = at; rest = rest }) ≡ None
+module _ (count more : ℕ) (p : Pass) (none : NeedsBytes p more) where
+  too_few : NeedsBytes (and_then (skip_at count) p) (count + more)
   too_few at rest few =
       elim (cases_lt (length rest) count) [
         | inl lt ↦ ap (λ (o : Option Place). o >>= p) (no_skip count at rest lt)
@@ -204,16 +211,20 @@ module _ (Within : Hand → Type 0) where
 
     -- ---- what is taken at once
 
-    pub bytes_stops : (count : ℕ) (old new : Hand) (stop : TakeFault) → TookFewer Within Lacks count old new stop → Stops (skip_at count) Within Lacks old new stop
-    bytes_stops count old new stop t = record {
+    -- nothing is passed over of fewer bytes
+    pub fewer_stop : (p : Pass) (count : ℕ) → NeedsBytes p count → (old new : Hand) (stop : TakeFault) → TookFewer Within Lacks count old new stop → Stops p Within Lacks old new stop
+    fewer_stop p count needs old new stop t = record {
       piece = t.piece;
       keeps = t.keeps;
       within = t.within;
       count = count - length t.piece;
       some = omega (arith, t.fewer);
-      none = λ at rest few. no_skip count at (t.piece ++ rest) (omega (arith, few, length-append t.piece rest, t.fewer));
+      none = λ at rest few. needs at (t.piece ++ rest) (omega (arith, few, length-append t.piece rest, t.fewer));
       lacks = t.lacks;
     }
+
+    pub bytes_stops : (count : ℕ) (old new : Hand) (stop : TakeFault) → TookFewer Within Lacks count old new stop → Stops (skip_at count) Within Lacks old new stop
+    bytes_stops count = fewer_stop (skip_at count) count (no_skip count)
 
     pub bytes_walk : {T : Type 0} (count : ℕ) (old new : Hand) (result : Result T TakeFault) → IsTaken Within Lacks count old new result → IsWalk (skip_at count) (λ x. pass_none) Within Lacks old new result
     bytes_walk count old new (Ok x) t = bytes_goes count old new t
@@ -222,15 +233,7 @@ module _ (Within : Hand → Type 0) where
     -- so many bytes, and a number after them
     module _ (w : Width) (skip : ℕ) (others : ℕ → Pass) where
       pub number_stops : (old new : Hand) (stop : TakeFault) → TookFewer Within Lacks (skip + byte_len w) old new stop → Stops (and_then (skip_at skip) (pass_number w others)) Within Lacks old new stop
-      number_stops old new stop t = record {
-        piece = t.piece;
-        keeps = t.keeps;
-        within = t.within;
-        count = (skip + byte_len w) - length t.piece;
-        some = omega (arith, t.fewer);
-        none = λ at rest few. too_few skip (byte_len w) (pass_number w others) (no_number w others) at (t.piece ++ rest) (omega (arith, few, length-append t.piece rest, t.fewer));
-        lacks = t.lacks;
-      }
+      number_stops = fewer_stop (and_then (skip_at skip) (pass_number w others)) (skip + byte_len w) (too_few skip (byte_len w) (pass_number w others) (no_number w others))
 
   module _ (w : Width) (skip : ℕ) (others : ℕ → Pass) where
     pub number_goes : (old new : Hand) (number : ℕ) → Taken Within (skip + byte_len w) old new → number ≡ last_number w skip old.bytes new.bytes → Goes (and_then (skip_at skip) (pass_number w others)) (others number) Within old new
@@ -257,7 +260,7 @@ module _ (Within : Hand → Type 0) (skip : ℕ) (others : ℕ → ℕ → Pass)
   abbrev pub pass_pair : Pass
   pass_pair = pass_number w32 (λ one. pass_number w32 (others one))
 
-  no_pair : (at : ℕ) (rest : List ℕ) → length rest < 8 → pass_pair (record { at = at; rest = rest }) ≡ None
+  no_pair : NeedsBytes pass_pair 8
   no_pair at rest few =
       elim (cases_lt (length rest) 4) [
         | inl lt ↦ no_number w32 (λ one. pass_number w32 (others one)) at rest lt
@@ -293,15 +296,7 @@ module _ (Within : Hand → Type 0) (skip : ℕ) (others : ℕ → ℕ → Pass)
       }
 
   pub pair_stops : (Lacks : TakeFault → Hand → ℕ → Type 0) (old new : Hand) (stop : TakeFault) → TookFewer Within Lacks (skip + 8) old new stop → Stops (and_then (skip_at skip) pass_pair) Within Lacks old new stop
-  pair_stops Lacks old new stop t = record {
-    piece = t.piece;
-    keeps = t.keeps;
-    within = t.within;
-    count = (skip + 8) - length t.piece;
-    some = omega (arith, t.fewer);
-    none = λ at rest few. too_few skip 8 pass_pair no_pair at (t.piece ++ rest) (omega (arith, few, length-append t.piece rest, t.fewer));
-    lacks = t.lacks;
-  }
+  pair_stops Lacks = fewer_stop Within Lacks (and_then (skip_at skip) pass_pair) (skip + 8) (too_few skip 8 pass_pair no_pair)
 
 -- ---- so many times bytes after their length
 

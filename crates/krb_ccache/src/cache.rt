@@ -7,10 +7,9 @@ ghost use Rattle.krb_ccache.specs.Value.{Cache, cache_of, HasLengths, Fits, Fits
 ghost use Rattle.krb_ccache.specs.declared.fault.CacheFault.{CacheFault as CacheFaultValue};
 ghost use Rattle.krb_ccache.specs.Configuration.{IsConfiguration};
 ghost use Rattle.krb_ccache.specs.Fault.{offset_of, failed_reads};
-ghost use Rattle.krb_name.specs.File.{file_limit, GivesWithin, ReadsFile};
+ghost use Rattle.krb_name.specs.File.{file_limit, ReadsFile};
 ghost use Rattle.krb_ccache.specs.Format.{written, Spelled, Spells, IsCache, IsFaultOf, IsAnswerOf};
 ghost use Rattle.krb_ccache.specs.Offset.{IsOffsetOf};
-ghost use Rattle.krb_ccache.specs.Reader.{GaveCache, GaveFault};
 ghost use Rattle.krb_ccache.specs.Inner.Room.{Leaves};
 ghost use Rattle.krb_ccache.specs.Inner.Standing.{bytes_of, Lies, Reaches, IsMissing, StopsBy};
 
@@ -18,14 +17,13 @@ use crate::checking::check;
 use crate::configuration::{is_entry, offset_in};
 use crate::credential::{Credential, HeaderField};
 use crate::fault::CacheFault;
-use crate::fits::header_fits;
 use crate::header::{open, read_head};
 use crate::item_fault::ItemFault;
 use crate::items::{read_credential, read_name};
 use crate::layout::{Layout, VERSION_4};
 use crate::part::{Part, behind_each, fits_each, write_each};
 use crate::stepping::{Start, begin, steps};
-use crate::writing::{behind_header, write_header, write_u16};
+use crate::writing::{behind_header, header_fits, write_header, write_u16};
 use krb_name::{FILE_LIMIT, FileCursor, Principal, Source, Window};
 use std::alloc::{AllocError, Global};
 use std::marker::Model;
@@ -148,21 +146,6 @@ impl CCache {
         requires start { window.old.given ≡ 0 }
         ensures reads { ReadsFile IsAnswerOf CacheFault.OutOfMemory CacheFault.Read
             (S.remaining window.old.source) (S.remaining window.new.source) result }
-        ensures failed { S.failure_count window.new.source
-            ≡ S.failure_count window.old.source + failed_reads result }
-        ensures lent { S.lender window.new.source ≡ S.lender window.old.source }
-    {
-        CCache::read_parts(alloc, window)
-    }
-
-    fn read_parts<S: Source>(alloc: Global, window: &mut Window<S>) -> Result<CCache, CacheFault>
-        requires reads { S.failure_count window.old.source < 2 ^ 64 - 1 }
-        requires start { window.old.given ≡ 0 }
-        ensures found { IfOk result (λ cache.
-            GaveCache (S.remaining window.old.source) (S.remaining window.new.source) cache) }
-        ensures fault { IfErr result (GaveFault (S.remaining window.old.source) (S.remaining window.new.source)) }
-        ensures gave { GivesWithin (S.remaining window.old.source) (S.remaining window.new.source)
-            window.old.given window.new.given }
         ensures failed { S.failure_count window.new.source
             ≡ S.failure_count window.old.source + failed_reads result }
         ensures lent { S.lender window.new.source ≡ S.lender window.old.source }

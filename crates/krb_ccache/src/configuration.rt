@@ -1,7 +1,7 @@
 //! What a cache contains beside its tickets: the KDC's clock offset, and configuration entries.
 
 ghost use Rattle.std.specs.Prelude.{◌≡◌, ◌≢◌, ◌↔◌, All, IsTrue, IfNone, IfSome, codes, length};
-ghost use Rattle.krb_ccache.specs.Configuration.{IsOffset, HoldsOffset, BeginsWith, IsConfiguration};
+ghost use Rattle.krb_ccache.specs.Configuration.{IsOffset, BeginsWith, IsConfiguration};
 ghost use Rattle.krb_ccache.specs.Offset.{IsOffsetOf};
 
 use crate::credential::{Credential, HeaderField};
@@ -17,14 +17,6 @@ const CONFIGURATION_NAME: &[u8] = b"krb5_ccache_conf_data";
 pub(crate) fn offset_in(header: &[HeaderField]) -> Option<(i32, i32)>
     requires { All (λ field. field.tag ≡ 1 → length field.value ≡ 8) header.now }
     ensures { IsOffsetOf header.now result }
-{
-    first_offset(header)
-}
-
-fn first_offset(header: &[HeaderField]) -> Option<(i32, i32)>
-    requires { All (λ field. field.tag ≡ 1 → length field.value ≡ 8) header.now }
-    ensures some { IfSome result (λ offset. HoldsOffset header.now offset.0 offset.1) }
-    ensures none { IfNone result (All (λ field. field.tag ≢ 1) header.now) }
 {
     for field in header {
         if field.tag == OFFSET_TAG {

@@ -1,14 +1,13 @@
 //! What comes before the default principal of a cache.
 
-ghost use Rattle.std.specs.Prelude.{◌≡◌, ◌≤◌, ◌<◌, ◌^◌, ◌++◌, List, Err, None, Some, IfOk, IfErr, OnErr, length};
+ghost use Rattle.std.specs.Prelude.{◌≡◌, ◌<◌, ◌^◌, List, Err, None, Some, IfOk, IfErr, OnErr, length};
 ghost use Rattle.krb_name.specs.Field.{IsBytes};
 ghost use Rattle.krb_ccache.specs.declared.credential.HeaderField.{HeaderField as HeaderFieldValue};
 ghost use Rattle.krb_ccache.specs.Spelling.{header_bytes};
 ghost use Rattle.krb_ccache.specs.Value.{FitsHeader};
-ghost use Rattle.krb_name.specs.File.{file_limit};
-ghost use Rattle.krb_ccache.specs.Format.{version_of, head_bytes, FitsHead, IsFaultOf};
+ghost use Rattle.krb_ccache.specs.Format.{head_bytes, FitsHead, IsFaultOf};
 ghost use Rattle.krb_ccache.specs.Inner.Reading.{field_at};
-ghost use Rattle.krb_ccache.specs.Inner.Standing.{Lies, IsMissing, Fills};
+ghost use Rattle.krb_ccache.specs.Inner.Standing.{Opened, Lies, IsMissing, Fills};
 
 use crate::credential::HeaderField;
 use crate::fault::CacheFault;
@@ -28,10 +27,7 @@ pub(crate) const OFFSET_LENGTH: usize = 8;
 /// # Errors
 /// `TooLong` or `Version`.
 pub(crate) fn open<'a>(bytes: &'a [u8]) -> Result<(Layout, FileCursor<'a>), CacheFault>
-    ensures limit { IfOk result (λ opened. length bytes.now ≤ file_limit) }
-    ensures at { IfOk result (λ opened. opened.1.at ≡ 2) }
-    ensures rest { IfOk result (λ opened. bytes.now ≡ version_of opened.0 ++ opened.1.rest) }
-    ensures bytes { IfOk result (λ opened. IsBytes opened.1.rest) }
+    ensures opened { IfOk result (λ opened. Opened opened.0 bytes.now opened.1) }
     ensures fault { IfErr result (IsFaultOf bytes.now) }
 {
     if bytes.len() > FILE_LIMIT {

@@ -1,14 +1,17 @@
 //! The parts of a cache: whether they fit into a file, how many bytes they take, and how they are written.
 
-ghost use Rattle.std.specs.Prelude.{◌≡◌, ◌<◌, ◌^◌, ◌++◌, ℕ, List, All, MatchBool, OnOk, length};
+ghost use Rattle.std.specs.Prelude.{◌≡◌, ◌<◌, ◌^◌, ◌++◌, ℕ, true, List, All, MatchBool, OnOk, length};
 ghost use Rattle.std.specs.Int.{w32};
 ghost use Rattle.std.specs.List.{flat_map};
 ghost use Rattle.krb_name.specs.Cursor.{data_bytes};
 ghost use Rattle.krb_ccache.specs.Spelling.{field_bytes, name_bytes, typed_bytes, list_bytes, credential_bytes};
 ghost use Rattle.krb_ccache.specs.Value.{HasNameLengths, HasListLengths, HasCredentialLengths, FitsName, FitsList, FitsCredential};
+ghost use Rattle.krb_ccache.specs.Inner.Reading.{is_field};
 ghost use Rattle.krb_ccache.specs.Inner.Room.{Leaves};
+ghost use Rattle.krb_ccache.specs.Inner.Standing.{FitsField};
 
 use crate::credential::{Credential, HeaderField};
+use crate::header::{OFFSET_LENGTH, OFFSET_TAG};
 use crate::typed::{TypedBytes, TypedList};
 use crate::writing::{write_i32, write_u16, write_u32};
 use krb_name::{Bytes, Principal};
@@ -170,16 +173,23 @@ impl Part for TypedList {
     }
 }
 
+// Whether a field of tag 1 has 8 bytes.
+fn has_offset_length(field: &HeaderField) -> bool
+    ensures tag { field.now.tag < 2 ^ 16 }
+    ensures length { result ≡ is_field field.now }
+{
+    field.tag != OFFSET_TAG || field.value.len() == OFFSET_LENGTH
+}
+
 impl Part for HeaderField {
     ghost spelled = { field_bytes };
 
-    ghost Fits = { λ field. length field.value < 2 ^ 16 };
+    ghost Fits = { λ field. (length field.value < 2 ^ 16) × (is_field field ≡ true) };
 
-    ghost InRange = { λ field. (field.tag < 2 ^ 16) × (length field.value < 2 ^ 16) };
+    ghost InRange = { FitsField };
 
     fn fits(&self) -> bool {
-        let _tag = self.tag;
-        self.value.len() <= MOST_16
+        self.value.len() <= MOST_16 && has_offset_length(self)
     }
 
     #[tactic(auto, using(crate::proofs::RoomLaws::sizes))]

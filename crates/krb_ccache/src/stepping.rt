@@ -126,7 +126,8 @@ pub(crate) fn begin<S: Source>(alloc: Global, window: &mut Window<S>) -> Result<
         ≡ S.failure_count window.old.source + failed_reads result }
     ensures lent { S.lender window.new.source ≡ S.lender window.old.source }
 {
-    // The version tells the layout, and is spelled alike in each.
+    // The layout isn't known yet. The version is read in the same way in both, so either can be
+    // passed.
     let layout = come(alloc, Layout::Version4, window, CacheFault::Version)?;
     let header = come(alloc, layout, window, CacheFault::Header)?;
     let at = window.given();

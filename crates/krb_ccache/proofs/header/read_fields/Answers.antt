@@ -1,10 +1,8 @@
-use Rattle.std.proofs.lemmas.Result.{err_from_is_err_and}
 use Rattle.krb_ccache.proofs.HeaderLaws.{field_goes, not_filled}
 use Rattle.krb_ccache.proofs.header.read_fields.Goals as goal
 
 pub returns-in_err-field-clause-missing : goal.returns-in_err-field-clause-missing
 returns-in_err-field-clause-missing c = λ e.
-    let p = err_from_is_err_and c.from_residual.result c.from_residual.ensures.1 in
     not_filled c.args.body.now c.loop-cursor.cursor c.loop-cursor.header.items c.loop-cursor.invariant (λ end. let at_end = rw end at c.is_at_end.ensures in cc (at_end, c.loop-cursor-test.true)) (c.in_err-field.ensures.short)
 
 pub loop-cursor-smaller : goal.loop-cursor-smaller
