@@ -13,10 +13,10 @@ use Rattle.krb_ccache.specs.Value.{FitsCredential}
 use Rattle.krb_ccache.specs.Inner.Reading.{made_at, is_flag, allowed, Parts, credential_of}
 use Rattle.krb_ccache.specs.Inner.Standing.{bytes_of, spelled_as, Lies, LiesOne, IsMissing}
 use Rattle.krb_ccache.specs.Inner.Walking.{passed_at}
-use Rattle.krb_ccache.proofs.Fields.{Reads, reads, both}
+use Rattle.krb_ccache.proofs.Fields.{none_then, Reads, reads, both}
 use Rattle.krb_ccache.proofs.PartLaws.{IsField-name, IsField-list, byte_field}
 use Rattle.krb_ccache.proofs.Repeats.{missing_where}
-use Rattle.krb_ccache.proofs.WalkParts.{passed_some, passed_none}
+use Rattle.krb_ccache.proofs.WalkParts.{passed_some}
 
 -- the bytes of its parts
 abbrev pub parts_bytes : Parts → List ℕ
@@ -120,14 +120,11 @@ module _ (layout : Layout) where
 
   -- ---- what was read, or passed over
 
-  abbrev with_bytes : Option (Parts × Place) → Option (Spelled × Place)
-  with_bytes read = read >>= λ x. Some (spelled_of x.0, x.1)
-
   lies : (place : Place) (parts : Parts) (behind : Place) → IsBytes place.rest → parts_at true layout place ≡ Some (parts, behind) → Lies bytes_of (Spells layout) place (spelled_of parts) behind
   lies place parts behind fits e = let t = (IsField-parts true layout).takes place parts behind fits e in record { fits = parts_spell parts t.1; takes = t.0 }
 
   missing : (place : Place) → parts_at true layout place ≡ None → IsMissing bytes_of (Spells layout) place.rest
-  missing place none = missing_where (spelled_at layout) bytes_of (Spells layout) IsField-spelled place (ap with_bytes none)
+  missing place none = missing_where (spelled_at layout) bytes_of (Spells layout) IsField-spelled place (ap (λ (read : Option (Parts × Place)). read >>= λ x. Some (spelled_of x.0, x.1)) none)
 
   module _ {Row : Type 0} (value : Parts → Row) (place : Place) where
     pub credential_lies : (behind : Place) (row : Row) (credential : Credential) → IsBytes place.rest → made_at value (parts_at true layout) place ≡ Some (row, behind) → ((parts : Parts) → row ≡ value parts → credential ≡ credential_of parts) → LiesOne layout place credential behind
@@ -139,14 +136,7 @@ module _ (layout : Layout) where
         (subst (λ (p : Row × Place). LiesOne layout place (credential_of a.0.0) p.1) same (parts_bytes a.0.0, lies place a.0.0 a.0.1 fits a.1))
 
     pub credential_missing : made_at value (parts_at true layout) place ≡ None → IsMissing bytes_of (Spells layout) place.rest
-    credential_missing none = missing place (made_none (parts_at true layout place) none)
-      where
-        valued : Parts × Place → Option (Row × Place)
-        valued p = Some (value p.0, p.1)
-
-        made_none : (o : Option (Parts × Place)) → (o >>= valued) ≡ None → o ≡ None
-        made_none None e = refl
-        made_none (Some p) e = absurd cc
+    credential_missing none = missing place (none_then (parts_at true layout place) (λ p. (value p.0, p.1)) none)
 
   pub passed_lies : (place behind : Place) → IsBytes place.rest → passed_at (parts_at true layout) place ≡ Some behind → (one : Spelled) × Lies bytes_of (Spells layout) place one behind
   passed_lies place behind fits e =
@@ -154,4 +144,4 @@ module _ (layout : Layout) where
       (spelled_of some.0, lies place some.0 behind fits some.1)
 
   pub passed_missing : (place : Place) → passed_at (parts_at true layout) place ≡ None → IsMissing bytes_of (Spells layout) place.rest
-  passed_missing place e = missing place (passed_none (parts_at true layout place) e)
+  passed_missing place e = missing place (none_then (parts_at true layout place) (λ p. p.1) e)

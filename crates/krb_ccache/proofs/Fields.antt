@@ -12,6 +12,20 @@ use Rattle.krb_name.proofs.CursorLaws.{bind_some, some_is, Takes-then, IsField-u
 use Rattle.krb_name.proofs.Repeated.{IsField-times}
 use Rattle.krb_ccache.specs.Inner.Reading.{both_at, made_at, passing_at, counted_at}
 
+-- ---- one read after another
+
+pub bind_assoc : {A B C : Type 0} (o : Option A) (f : A → Option B) (g : B → Option C) → ((o >>= f) >>= g) ≡ (o >>= λ x. f x >>= g)
+bind_assoc None f g = refl
+bind_assoc (Some x) f g = refl
+
+pub bind_same : {A B : Type 0} (o : Option A) (f g : A → Option B) → ((x : A) → f x ≡ g x) → (o >>= f) ≡ (o >>= g)
+bind_same None f g e = refl
+bind_same (Some x) f g e = e x
+
+pub none_then : {A B : Type 0} (o : Option A) (f : A → B) → (o >>= λ x. Some (f x)) ≡ None → o ≡ None
+none_then None f e = refl
+none_then (Some x) f e = absurd cc
+
 -- ---- one behind the other
 
 module _ {X Y : Type 0} (read_one : Place → Option (X × Place)) (bytes_one : X → List ℕ) (IsOne : X → Type 0) (one : IsField read_one bytes_one IsOne) (read_other : Place → Option (Y × Place)) (bytes_other : Y → List ℕ) (IsOther : Y → Type 0) (other : IsField read_other bytes_other IsOther) where

@@ -1,8 +1,8 @@
 -- The header of a cache, and its version.
-use Rattle.std.proofs.Common.{◌≡◌, ◌⊎◌, ℕ, ◌<◌, ◌≤◌, ◌^◌, Bool, true, false, eqb, List, [], ◌++◌, length, Some, None, refl, sym, ap, subst, ◌∙◌, append-nil, arith, inl, inr}
+use Rattle.std.proofs.Common.{◌≡◌, ◌⊎◌, ℕ, ◌<◌, ◌≤◌, ◌^◌, true, List, [], ◌++◌, length, Some, None, refl, sym, ap, subst, ◌∙◌, append-nil, arith, inl, inr}
 use Rattle.std.specs.Int.{w16}
 use Rattle.std.specs.Prelude.{All}
-use Rattle.std.proofs.lemmas.Bool.{eqb-true, eq-eqb}
+use Rattle.std.proofs.lemmas.Bool.Decides.{nat_tests}
 use Rattle.std.proofs.lemmas.List.{length-append}
 use Rattle.std.proofs.lemmas.List.Elements.{recursion_from_All}
 use Rattle.krb_name.specs.Cursor.{Place, data_at, number_bytes, data_bytes}
@@ -28,18 +28,10 @@ pub field_some : (field : HeaderField) → FitsField field → 0 < length (field
 field_some field fits = omega (arith, length-append (number_bytes w16 field.tag) (data_bytes w16 field.value))
 
 offset_length : (field : HeaderField) → is_field field ≡ true → field.tag ≡ 1 → length field.value ≡ 8
-offset_length field passes tag = tested (eqb (length field.value) 8) refl
-  where
-    tested : (b : Bool) → eqb (length field.value) 8 ≡ b → length field.value ≡ 8
-    tested true e = eqb-true _ _ e
-    tested false e = let t : eqb field.tag 1 ≡ true = eq-eqb _ _ tag in let h = rw (t, e) at passes in cc
+offset_length field passes tag = grind (arith, nat_tests)
 
 has_length : (field : HeaderField) → (field.tag ≡ 1 → length field.value ≡ 8) → is_field field ≡ true
-has_length field h = tested (eqb field.tag 1) refl
-  where
-    tested : (b : Bool) → eqb field.tag 1 ≡ b → is_field field ≡ true
-    tested false e = rw e refl
-    tested true e = let n : eqb (length field.value) 8 ≡ true = eq-eqb _ _ (h (eqb-true _ _ e)) in rw (e, n) refl
+has_length field h = grind (arith, nat_tests)
 
 pub fields_fit : (fields : List HeaderField) → All FitsField fields → length (fields_bytes fields) < 2 ^ 16 → FitsHeader fields
 fields_fit fields fit whole = record {

@@ -1,5 +1,5 @@
 -- The clock offset of a header.
-use Rattle.std.proofs.Common.{◌≡◌, ◌≢◌, Bool, true, false, cond, leb, ℕ, ℤ, suc, ◌+◌, ◌<◌, List, [], ◌∷◌, ◌++◌, length, get_or, take, drop, Option, Some, None, refl, sym, ap, subst, ◌∙◌, append-nil, arith, drop-cons}
+use Rattle.std.proofs.Common.{◌≡◌, ◌≢◌, Bool, true, false, cond, leb, ℕ, ℤ, suc, ◌+◌, ◌<◌, List, [], ◌∷◌, ◌++◌, length, get_or, take, drop, Some, None, refl, sym, ap, subst, ◌∙◌, append-nil, arith, drop-cons}
 use Rattle.std.specs.Int.{w32, from_be_bytes, cast_signed}
 use mir.Val.{of_z, to_z}
 use Rattle.std.proofs.lemmas.Int.{to_z-of_z}
@@ -9,11 +9,12 @@ use Rattle.std.specs.Cmp.Lexicographic.{pointwise, told_text}
 use Rattle.std.proofs.lemmas.List.{length-append, nil_from_length, take-append-drop}
 use Rattle.std.proofs.lemmas.List.Elements.{recursion_from_All}
 use Rattle.std.specs.List.{AllByRecursion}
-use Rattle.krb_name.specs.Cursor.{Place, ◌>>=◌, bytes_at, number_at, signed_at, signed_bytes}
+use Rattle.krb_name.specs.Cursor.{Place, bytes_at, number_at, signed_at, signed_bytes}
 use Rattle.krb_name.specs.Field.{IsBytes}
 use Rattle.krb_name.proofs.CursorLaws.{IsField-i32}
 use Rattle.krb_ccache.specs.declared.credential.HeaderField.{HeaderField}
 use Rattle.krb_ccache.specs.Configuration.{IsOffset, HoldsOffset, BeginsWith}
+use Rattle.krb_ccache.proofs.Fields.{none_then}
 use Rattle.krb_ccache.proofs.Repeats.{same_front}
 
 -- ---- reading it
@@ -37,10 +38,6 @@ offset_answered value seconds microseconds o = rw (to_z-of_z w32 seconds o.secon
 none_bytes : {A : Type 0} (b : Bool) (x : A) → cond b (Some x) None ≡ None → b ≡ false
 none_bytes true x e = absurd cc
 none_bytes false x e = refl
-
-none_then : {A B : Type 0} (read : Option A) (f : A → B) → (read >>= λ x. Some (f x)) ≡ None → read ≡ None
-none_then None f e = refl
-none_then (Some x) f e = absurd cc
 
 short_bytes : (count : ℕ) (place : Place) → bytes_at count place ≡ None → length place.rest < count
 unfolding bytes_at

@@ -145,18 +145,9 @@ layout_is : (n : ℕ) (layout : Layout) → layout_of n ≡ Some layout → numb
 layout_is n layout e = tested (eqb n 0x0503) (eqb n 0x0504) refl refl e
   where
     tested : (b c : Bool) → eqb n 0x0503 ≡ b → eqb n 0x0504 ≡ c → cond b (Some Version3) (cond c (Some Version4) None) ≡ Some layout → number_bytes w16 n ≡ version_of layout
-    tested true c p q r = ap (number_bytes w16) (eqb-true n 0x0503 p) ∙ ap version_of (same Version3 layout r)
-      where
-        same : (x y : Layout) → Some x ≡ Some y → x ≡ y
-        same x y s = cc
-    tested false true p q r = ap (number_bytes w16) (eqb-true n 0x0504 q) ∙ ap version_of (same Version4 layout r)
-      where
-        same : (x y : Layout) → Some x ≡ Some y → x ≡ y
-        same x y s = cc
-    tested false false p q r = absurd (none_is layout r)
-      where
-        none_is : (y : Layout) → None ≡ Some y → ⊥
-        none_is y s = cc
+    tested true c p q r = ap (number_bytes w16) (eqb-true n 0x0503 p) ∙ ap version_of (some_is Version3 layout r)
+    tested false true p q r = ap (number_bytes w16) (eqb-true n 0x0504 q) ∙ ap version_of (some_is Version4 layout r)
+    tested false false p q r = absurd cc
 
 layout_take : (place : Place) (layout : Layout) (behind : Place) → IsBytes place.rest → layout_at place ≡ Some (layout, behind) → Takes place (version_of layout) behind × Any layout
 unfolding layout_at

@@ -9,6 +9,7 @@ use Rattle.krb_name.specs.Cursor.{Place, ◌>>=◌, bytes_at, number_at}
 use Rattle.krb_name.proofs.CursorLaws.{IsField-bytes}
 use Rattle.krb_ccache.specs.declared.walking.TakeFault.{TakeFault}
 use Rattle.krb_ccache.specs.Inner.Walking.{Hand, Pass, Same, skip_at, and_then, pass_none, pass_if, pass_number, pass_times, pass_data, Goes, Stops, IsWalk, Taken, TookFewer, IsTaken, last_number}
+use Rattle.krb_ccache.proofs.Fields.{bind_assoc, bind_same}
 
 -- ---- lists
 
@@ -41,18 +42,10 @@ pub also : (p q r : Pass) → Same p q → Same q r → Same p r
 also p q r e f place = e place ∙ f place
 
 pub grouped : (p q r : Pass) → Same (and_then (and_then p q) r) (and_then p (and_then q r))
-grouped p q r place = from_first (p place)
-  where
-    from_first : (o : Option Place) → ((o >>= q) >>= r) ≡ (o >>= λ next. q next >>= r)
-    from_first None = refl
-    from_first (Some next) = refl
+grouped p q r place = bind_assoc (p place) q r
 
 pub same_both : (p p' q q' : Pass) → Same p p' → Same q q' → Same (and_then p q) (and_then p' q')
-same_both p p' q q' e f place = ap (λ (o : Option Place). o >>= q) (e place) ∙ from_first (p' place)
-  where
-    from_first : (o : Option Place) → (o >>= q) ≡ (o >>= q')
-    from_first None = refl
-    from_first (Some next) = f next
+same_both p p' q q' e f place = ap (λ (o : Option Place). o >>= q) (e place) ∙ bind_same (p' place) q q' f
 
 pub same_then : (p q q' : Pass) → Same q q' → Same (and_then p q) (and_then p q')
 same_then p q q' f = same_both p p q q' (λ place. refl) f

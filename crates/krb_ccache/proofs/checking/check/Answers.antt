@@ -2,7 +2,8 @@ use Rattle.std.proofs.Common.{ap}
 use Rattle.std.proofs.lemmas.Result.{err_from_is_err_and}
 use Rattle.krb_ccache.specs.declared.fault.CacheFault.TheVariants.{BadItem}
 use Rattle.krb_ccache.specs.Inner.Reading.{name_at}
-use Rattle.krb_ccache.proofs.WalkParts.{passed_some, passed_none}
+use Rattle.krb_ccache.proofs.Fields.{none_then}
+use Rattle.krb_ccache.proofs.WalkParts.{passed_some}
 use Rattle.krb_ccache.proofs.FileLaws.{name_lies, name_missing, header_read, cache_read, cache_found, default_fault, credential_fault}
 use Rattle.krb_ccache.proofs.checking.check.Goals as goal
 
@@ -39,4 +40,4 @@ returns-in-Err-skip-clause-fault c =
     let opened = c.in_ok-layout in
     let header = c.in-Ok.ensures.ok in
     let start = header_read opened.layout c.args.bytes.now opened.cursor header.0 c.check_head.new.cursor opened.ensures.opened header.1 in
-    default_fault opened.layout c.args.bytes.now header.0 c.check_head.new.cursor (BadItem c.at-at.result) start (ap BadItem c.at-at.ensures, name_missing c.check_head.new.cursor (passed_none (name_at c.check_head.new.cursor) c.in-Err-skip.ensures.short))
+    default_fault opened.layout c.args.bytes.now header.0 c.check_head.new.cursor (BadItem c.at-at.result) start (ap BadItem c.at-at.ensures, name_missing c.check_head.new.cursor (none_then (name_at c.check_head.new.cursor) (λ x. x.1) c.in-Err-skip.ensures.short))
