@@ -340,13 +340,9 @@ header_answer bytes place fits begun (Some (body, behind)) e =
           name_answer Version4 bytes ended.xs behind t.0.rest_fits (header_read Version4 bytes place ended.xs behind begun lies) (name_at behind) refl
       | inr more ↦ elim ended.end [
         | inl none ↦ absurd (more none)
-        | inr missing ↦ (Err Header, header_fault Version4 bytes place begun (header_wrong place body behind fits e (stopped body ended.behind ended.xs ended.reach more missing)))
+        | inr missing ↦ (Err Header, header_fault Version4 bytes place begun (header_wrong place body behind fits e (λ header fills. more (filled_same body ended.behind ended.xs ended.reach (inr missing) header fills))))
       ]
     ]
-  where
-    stopped : (body : List ℕ) (place : Place) (fields : List HeaderField) → Reaches field_bytes FitsField (record { at = 0; rest = body }) fields place → (place.rest ≡ [] → ⊥) → IsMissing field_bytes FitsField place.rest
-        → (header : List HeaderField) → Fills body header → ⊥
-    stopped body place fields reaches more missing header fills = more (filled_same body place fields reaches (inr missing) header fills)
 
 head_answer : (layout : Layout) (bytes : List ℕ) (place : Place) → IsBytes place.rest → Opened layout bytes place → HasAnswer bytes
 head_answer Version3 bytes place fits begun = name_answer Version3 bytes [] place fits (header_read Version3 bytes place [] place begun (no_head place [] fits refl)) (name_at place) refl

@@ -209,15 +209,15 @@ module _ {S : Type 0} (left : S → Option (List ℕ)) where
 
     -- ---- the answer of a step
 
-    pub next_item : (from : Option (List ℕ)) (old new : AtHand S) (reader : Reading S) (cache : Cache) (result : Result (Option Credential) CacheFault) → IsStep layout left old new result → HasTaken layout from (left old.source) old.given cache
-        → reader.layout ≡ layout → reader.source ≡ new.source → reader.given ≡ new.given → reader.ended ≡ ended_by result → IfOk result (λ next. IfSome next (λ credential. HasRead left from reader (with_credential cache credential)))
-    next_item from old new reader cache (Ok (Some credential)) step h same source given ended =
-        let t = item_taken from old new cache (spelled_as step.0 credential) h step.1 in
-        let moved = subst (λ (s : S). HasTaken layout from (left s) new.given (with_credential cache credential)) (sym source) t in
-        let all = subst (λ (n : ℕ). HasTaken layout from (left reader.source) n (with_credential cache credential)) (sym given) moved in
-        record { going = ended; taken = subst (λ (l : Layout). HasTaken l from (left reader.source) reader.given (with_credential cache credential)) (sym same) all }
-    next_item from old new reader cache (Ok None) step h same source given ended = tt
-    next_item from old new reader cache (Err fault) step h same source given ended = tt
+    -- a reader, with what it took of its source
+    abbrev reading : List HeaderField → Principal → Option (Result (Unit {0}) CacheFault) → AtHand S → Reading S
+    reading header name ended window = record { source = window.source; layout = layout; header = header; default_principal = name; given = window.given; held = window.peak; ended = ended }
+
+    pub next_item : (from : Option (List ℕ)) (old new : AtHand S) (header : List HeaderField) (name : Principal) (ended : Option (Result (Unit {0}) CacheFault)) (cache : Cache) (result : Result (Option Credential) CacheFault) → IsStep layout left old new result
+        → HasTaken layout from (left old.source) old.given cache → ended ≡ ended_by result → IfOk result (λ next. IfSome next (λ credential. HasRead left from (reading header name ended new) (with_credential cache credential)))
+    next_item from old new header name ended cache (Ok (Some credential)) step h is = record { going = is; taken = item_taken from old new cache (spelled_as step.0 credential) h step.1 }
+    next_item from old new header name ended cache (Ok None) step h is = tt
+    next_item from old new header name ended cache (Err fault) step h is = tt
 
     gave_one : (old new : AtHand S) (bytes : List ℕ) (credential : Credential) → Comes bytes_of (Spells layout) left old new (spelled_as bytes credential) → GaveOne layout old.given new.given credential
     gave_one old new bytes credential comes =
@@ -244,24 +244,18 @@ module _ {S : Type 0} (left : S → Option (List ℕ)) where
     on_err (Ok there) P h = tt
     on_err (Err fault) P h = h
 
-    pub passed_one : (was now : Reading S) (old new : AtHand S) (answer : Result (Option Credential) CacheFault) (said : Result Bool CacheFault) → IsStep layout left old new answer → said ≡ passed answer → said ≡ Ok true
-        → was.layout ≡ layout → now.layout ≡ layout → was.source ≡ old.source → was.given ≡ old.given → was.held ≡ old.peak → now.source ≡ new.source → now.given ≡ new.given → now.held ≡ new.peak → now.ended ≡ ended_passed said
-        → (credential : Credential) × PassedOne left was now credential
-    passed_one was now old new (Ok None) said step is there lay also s g h source given held ended = absurd cc
-    passed_one was now old new (Err fault) said step is there lay also s g h source given held ended = absurd cc
-    passed_one was now old new (Ok (Some credential)) said step is there lay also s g h source given held ended =
-        let one = gave_one old new step.0 credential step.1 in
-        let length_is : credential_length was.layout credential ≡ credential_length layout credential = ap (λ (l : Layout). credential_length l credential) lay in (
-          credential,
-          record {
-            gave = record { given = omega (arith, one.given, g, given, length_is); some = omega (arith, one.some, g, given); limit = omega (arith, one.limit, given) };
-            held = omega (arith, step.1.peak, h, held, spelled_length layout (spelled_as step.0 credential) step.1.fits, length_is);
-            read = λ from cache read.
-                let before = subst (λ (l : Layout). HasTaken l from (left was.source) was.given cache) lay read.taken in
-                let taken = subst (λ (n : ℕ). HasTaken layout from (left old.source) n cache) g (subst (λ (t : S). HasTaken layout from (left t) was.given cache) s before) in
-                next_item from old new now cache (Ok (Some credential)) step taken also source given (ended ∙ ap ended_passed is);
-          },
-        )
+    pub passed_one : (old new : AtHand S) (header : List HeaderField) (name : Principal) (was now : Option (Result (Unit {0}) CacheFault)) (answer : Result (Option Credential) CacheFault) (said : Result Bool CacheFault) → IsStep layout left old new answer → said ≡ passed answer → said ≡ Ok true
+        → now ≡ ended_passed said → (credential : Credential) × PassedOne left (reading header name was old) (reading header name now new) credential
+    passed_one old new header name was now (Ok None) said step is there ended = absurd cc
+    passed_one old new header name was now (Err fault) said step is there ended = absurd cc
+    passed_one old new header name was now (Ok (Some credential)) said step is there ended = (
+      credential,
+      record {
+        gave = gave_one old new step.0 credential step.1;
+        held = omega (arith, step.1.peak, spelled_length layout (spelled_as step.0 credential) step.1.fits);
+        read = λ from cache read. next_item from old new header name now cache (Ok (Some credential)) step read.taken (ended ∙ ap ended_passed is);
+      },
+    )
 
     pub next_end : (from : Option (List ℕ)) (old new : AtHand S) (cache : Cache) (result : Result (Option Credential) CacheFault) → IsStep layout left old new result → HasTaken layout from (left old.source) old.given cache → result ≡ Ok None → GaveCache from (left new.source) cache
     next_end from old new cache (Ok None) step h e = end_taken from old new cache h step.0 step.1
@@ -269,17 +263,13 @@ module _ {S : Type 0} (left : S → Option (List ℕ)) where
     next_end from old new cache (Err fault) step h e = absurd cc
 
     -- at the end nothing more came
-    pub stays : (was now : Reading S) (old new : AtHand S) (answer : Result (Option Credential) CacheFault) → IsStep layout left old new answer → answer ≡ Ok None → was.given ≡ old.given → was.held ≡ old.peak
-        → now.source ≡ new.source → now.given ≡ new.given → now.held ≡ new.peak → StaysAtEnd (left now.source) was now
-    stays was now old new (Ok (Some credential)) step end g h source given held = absurd cc
-    stays was now old new (Err fault) step end g h source given held = absurd cc
-    stays was now old new (Ok None) step end g h source given held =
+    pub stays : (old new : AtHand S) (header : List HeaderField) (name : Principal) (was now : Option (Result (Unit {0}) CacheFault)) (answer : Result (Option Credential) CacheFault) → IsStep layout left old new answer → answer ≡ Ok None
+        → StaysAtEnd (left new.source) (reading header name was old) (reading header name now new)
+    stays old new header name was now (Ok (Some credential)) step end = absurd cc
+    stays old new header name was now (Err fault) step end = absurd cc
+    stays old new header name was now (Ok None) step end =
         let some = step.0.some.1 in
-        record {
-          end = subst (λ (s : S). IsAtEnd (left s)) (sym source) (all_came new old.given (step.0.tells (λ e. absurd cc))).0;
-          given = omega (arith, step.1, g, given);
-          held = omega (arith, step.1, some.given, some.grows, some.peak, h, held);
-        }
+        record { end = (all_came new old.given (step.0.tells (λ e. absurd cc))).0; given = step.1; held = omega (arith, step.1, some.given, some.grows, some.peak) }
 
     pub next_fault : (from : Option (List ℕ)) (old new : AtHand S) (cache : Cache) (result : Result (Option Credential) CacheFault) → IsStep layout left old new result → HasTaken layout from (left old.source) old.given cache
         → IfErr result (GaveFault from (left new.source))

@@ -6,7 +6,7 @@ use Rattle.krb_ccache.proofs.reader.CredentialReader.next.Goals as goal
 
 pub returns-clause-item : goal.returns-clause-item
 returns-clause-item g c = λ from cache h.
-    next_item g.S.Source.remaining c.self.inside.layout from c.self.inside.window c.step-answer.new.window _ cache c.step-answer.result c.step-answer.ensures.step (subst (λ (reader : Reading g.row.S.Denot). HasRead g.S.Source.remaining from reader cache) (sym c.self.view_is) h).taken refl refl refl (c.ended_by-self-inside.ensures ∙ ap ended_passed c.is_there.ensures)
+    next_item g.S.Source.remaining c.self.inside.layout from c.self.inside.window c.step-answer.new.window _ _ _ cache c.step-answer.result c.step-answer.ensures.step (subst (λ (reader : Reading g.row.S.Denot). HasRead g.S.Source.remaining from reader cache) (sym c.self.view_is) h).taken (c.ended_by-self-inside.ensures ∙ ap ended_passed c.is_there.ensures)
 
 pub returns-clause-end : goal.returns-clause-end
 returns-clause-end g c = λ from cache h e.
@@ -14,7 +14,7 @@ returns-clause-end g c = λ from cache h e.
 
 pub returns-clause-stays : goal.returns-clause-stays
 returns-clause-stays g c = λ going end.
-    rw (← c.self.view_is) (stays g.S.Source.remaining c.self.inside.layout _ _ c.self.inside.window c.step-answer.new.window c.step-answer.result c.step-answer.ensures.step end refl refl refl refl refl)
+    rw (← c.self.view_is) (stays g.S.Source.remaining c.self.inside.layout c.self.inside.window c.step-answer.new.window _ _ _ _ c.step-answer.result c.step-answer.ensures.step end)
 
 pub returns-clause-fault : goal.returns-clause-fault
 returns-clause-fault g c = λ from cache h.

@@ -7,7 +7,7 @@ use Rattle.krb_ccache.proofs.reader.CredentialReader.pass.Goals as goal
 pub returns-clause-item : goal.returns-clause-item
 returns-clause-item g c = λ going there.
     let step = c.step_past-answer.ensures.step in
-    rw (← c.self.view_is) (passed_one g.S.Source.remaining c.self.inside.layout _ _ c.self.inside.window c.step_past-answer.new.window step.0 c.step_past-answer.result step.2 step.1 there refl refl refl refl refl refl refl refl c.ended_by-self-inside.ensures)
+    rw (← c.self.view_is) (passed_one g.S.Source.remaining c.self.inside.layout c.self.inside.window c.step_past-answer.new.window _ _ _ _ step.0 c.step_past-answer.result step.2 step.1 there c.ended_by-self-inside.ensures)
 
 pub returns-clause-end : goal.returns-clause-end
 returns-clause-end g c = λ from cache h end.
@@ -18,7 +18,7 @@ returns-clause-end g c = λ from cache h end.
 pub returns-clause-stays : goal.returns-clause-stays
 returns-clause-stays g c = λ going end.
     let step = c.step_past-answer.ensures.step in
-    rw (← c.self.view_is) (stays g.S.Source.remaining c.self.inside.layout _ _ c.self.inside.window c.step_past-answer.new.window step.0 step.2 (passed_end g.S.Source.remaining c.self.inside.layout step.0 c.step_past-answer.result step.1 end) refl refl refl refl refl)
+    rw (← c.self.view_is) (stays g.S.Source.remaining c.self.inside.layout c.self.inside.window c.step_past-answer.new.window _ _ _ _ step.0 step.2 (passed_end g.S.Source.remaining c.self.inside.layout step.0 c.step_past-answer.result step.1 end))
 
 pub returns-clause-fault : goal.returns-clause-fault
 returns-clause-fault g c = λ from cache h.
