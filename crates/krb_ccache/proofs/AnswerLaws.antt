@@ -21,7 +21,7 @@ use Rattle.krb_ccache.specs.Format.{version_of, head_bytes, FitsHead, start_byte
 use Rattle.krb_ccache.specs.declared.fault.CacheFault.{CacheFault}
 use Rattle.krb_ccache.specs.declared.fault.CacheFault.TheVariants.{Version, Header, BadItem, TooLong, Read, OutOfMemory}
 use Rattle.krb_ccache.specs.Inner.Reading.{field_at, name_at, layout_at}
-use Rattle.krb_ccache.specs.Inner.Standing.{Opened, bytes_of, Lies, Reaches, IsMissing, Fills, FitsField}
+use Rattle.krb_ccache.specs.Inner.Standing.{Opened, bytes_of, Lies, IsMissing, FitsField}
 use Rattle.krb_ccache.specs.Inner.Stepping.{Any}
 use Rattle.krb_ccache.specs.Reader.{HasTaken, IsFirstOf}
 use Rattle.krb_ccache.proofs.PartLaws.{IsField-field, IsField-name, IsField-layout}

@@ -13,7 +13,7 @@ use Rattle.krb_ccache.specs.declared.layout.Layout.{Layout}
 use Rattle.krb_ccache.specs.Spelling.{name_bytes}
 use Rattle.krb_ccache.specs.Value.{Cache, cache_of, FitsName}
 use Rattle.krb_name.specs.File.{file_limit, IsGiven}
-use Rattle.krb_ccache.specs.Format.{version_of, head_bytes, FitsHead, start_bytes, credential_length, Spelled, Spells, IsReached, IsFaultOf}
+use Rattle.krb_ccache.specs.Format.{version_of, head_bytes, FitsHead, start_bytes, Spelled, Spells, IsReached, IsFaultOf}
 use Rattle.krb_ccache.specs.Reader.{Reading, ended_by, ended_passed, passed, HasTaken, HasRead, GaveOne, PassedOne, StaysAtEnd, GoesTo, GaveCache, GaveFault, with_credential}
 use Rattle.krb_ccache.specs.declared.fault.CacheFault.{CacheFault}
 use Rattle.krb_ccache.specs.declared.fault.CacheFault.TheVariants.{Version, Header, BadItem, Read, OutOfMemory}

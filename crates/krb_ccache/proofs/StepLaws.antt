@@ -13,15 +13,13 @@ use Rattle.krb_ccache.specs.Reader.{HeldPart, passed}
 use Rattle.krb_ccache.specs.declared.layout.Layout.{Layout}
 use Rattle.krb_ccache.specs.Value.{FitsCredential}
 use Rattle.krb_ccache.specs.declared.credential.Credential.{Credential}
-use Rattle.krb_ccache.specs.Inner.Standing.{bytes_of, IsMissing, spelled_as}
+use Rattle.krb_ccache.specs.Inner.Standing.{bytes_of, Lies, IsMissing, spelled_as}
 use Rattle.krb_ccache.specs.Inner.Walking.{Walks, Halts, FitsKeyed, whole}
 use Rattle.krb_ccache.specs.Inner.Stepping.{Any, Stands, cleared, Comes, Gives, Runs, IsTold, Lacks, Misses, MissesOne, IsStep, IsAtHand, IsNone}
 use Rattle.std.specs.Prelude.{◌≢◌}
 use Rattle.krb_ccache.specs.declared.fault.CacheFault.TheVariants.{BadItem, OutOfMemory}
 use Rattle.krb_ccache.specs.Format.{version_of, head_bytes, FitsHead, second_size, Spelled, Spells}
 use Rattle.krb_ccache.specs.declared.credential.HeaderField.{HeaderField}
-use Rattle.krb_name.specs.Field.{IsBytes, IsField}
-use Rattle.krb_ccache.proofs.Repeats.{missing_where}
 use Rattle.krb_name.proofs.FileLaws.{gives_then}
 use Rattle.krb_ccache.proofs.WalkLaws.{front_same}
 
@@ -208,16 +206,9 @@ was_made layout left old new (Ok (Some credential)) bytes made there step hand s
     let stands = subst (λ (t : List ℕ). Stands bytes_of (Spells layout) t one) (sym same) hand.1 in
     subst (λ (x : Credential). IsStep layout left old new (Ok (Some x))) (sym (is one stands)) step
 
--- ---- a field
-
-module _ {X : Type 0} (r : Place → Option (X × Place)) (s : X → List ℕ) (P : X → Type 0) (f : IsField r s P) where
-  pub field_stands : (bytes : List ℕ) (place : Place) (x : X) (behind : Place) → place ≡ record { at = 0; rest = bytes } → IsBytes bytes → r place ≡ Some (x, behind) → Stands s P bytes x
-  field_stands bytes place x behind e fits read =
-      let t = f.takes (record { at = 0; rest = bytes }) x behind fits (subst (λ (p : Place). r p ≡ Some (x, behind)) e read) in
-      record { fits = t.1; others = behind.rest; bytes_are = t.0.parts }
-
-  pub field_missing : (bytes : List ℕ) (place : Place) → place ≡ record { at = 0; rest = bytes } → r place ≡ None → IsMissing s P bytes
-  field_missing bytes place e none = missing_where r s P f (record { at = 0; rest = bytes }) (subst (λ (p : Place). r p ≡ None) e none)
+-- what lies at the start of the bytes at hand
+pub lies_stands : {X : Type 0} {s : X → List ℕ} {P : X → Type 0} (bytes : List ℕ) (place behind : Place) (x : X) → place ≡ record { at = 0; rest = bytes } → Lies s P place x behind → Stands s P bytes x
+lies_stands bytes place behind x e lies = record { fits = lies.fits; others = behind.rest; bytes_are = sym (ap (λ (p : Place). p.rest) e) ∙ lies.takes.parts }
 
 -- ---- how much of a credential was at hand
 

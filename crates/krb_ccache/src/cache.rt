@@ -19,8 +19,9 @@ use crate::credential::{Credential, HeaderField};
 use crate::fault::CacheFault;
 use crate::header::{open, read_head};
 use crate::item_fault::ItemFault;
-use crate::items::{read_credential, read_name};
+use crate::items::read_credential;
 use crate::layout::{Layout, VERSION_4};
+use crate::leading::Leading;
 use crate::part::{Part, behind_each, fits_each, write_each};
 use crate::stepping::{Start, begin, steps};
 use crate::writing::{behind_header, header_fits, write_header, write_u16};
@@ -174,7 +175,7 @@ impl CCache {
             Err(ItemFault::Missing) => return Err(CacheFault::Header),
             Err(ItemFault::OutOfMemory) => return Err(CacheFault::OutOfMemory),
         };
-        let default_principal = read_default(alloc, &mut cursor)?;
+        let default_principal = read_default(alloc, layout, &mut cursor)?;
         let credentials = read_credentials(alloc, layout, &mut cursor)?;
         Ok(CCache {
             header,
@@ -262,14 +263,18 @@ impl CCache {
 }
 
 // Reads the principal that begins here, and moves past it.
-fn read_default(alloc: Global, cursor: &mut FileCursor<'_>) -> Result<Principal, CacheFault>
+fn read_default(
+    alloc: Global,
+    layout: Layout,
+    cursor: &mut FileCursor<'_>,
+) -> Result<Principal, CacheFault>
     requires { IsBytes cursor.old.rest }
     ensures read { IfOk result (λ name. Lies name_bytes FitsName cursor.old name cursor.new) }
     ensures missing { IfErr result (λ fault. fault ≢ CacheFault.OutOfMemory
         → (fault ≡ CacheFault.BadItem cursor.old.at) × IsMissing name_bytes FitsName cursor.old.rest) }
 {
     let at = cursor.at();
-    match read_name(alloc, cursor) {
+    match Leading::read(alloc, layout, cursor) {
         Ok(name) => Ok(name),
         Err(ItemFault::Missing) => Err(CacheFault::BadItem { at }),
         Err(ItemFault::OutOfMemory) => Err(CacheFault::OutOfMemory),

@@ -98,11 +98,16 @@ fn come<L: Leading, S: Source>(
 {
     window.clear();
     match L::take(layout, window) {
-        Ok(()) => match L::read(alloc, layout, window.bytes()) {
-            Ok(part) => Ok(part),
-            Err(ItemFault::Missing) => Err(told(window, TakeFault::Long, fault)),
-            Err(ItemFault::OutOfMemory) => Err(CacheFault::OutOfMemory),
-        },
+        Ok(()) => {
+            let bytes = window.bytes();
+            are_bytes(bytes);
+            let mut cursor = FileCursor::new(bytes);
+            match L::read(alloc, layout, &mut cursor) {
+                Ok(part) => Ok(part),
+                Err(ItemFault::Missing) => Err(told(window, TakeFault::Long, fault)),
+                Err(ItemFault::OutOfMemory) => Err(CacheFault::OutOfMemory),
+            }
+        }
         Err(stop) => Err(told(window, stop, fault)),
     }
 }

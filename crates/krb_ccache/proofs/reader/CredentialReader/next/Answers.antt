@@ -1,4 +1,4 @@
-use Rattle.std.proofs.Common.{refl, sym, ap, subst, ◌∙◌}
+use Rattle.std.proofs.Common.{sym, ap, subst, ◌∙◌}
 use Rattle.krb_ccache.specs.Reader.{Reading, HasRead, ended_passed}
 use Rattle.krb_ccache.proofs.ReaderLaws.{next_item, next_more, next_end, next_fault, next_stops, stays}
 use Rattle.krb_ccache.proofs.StepLaws.{step_limit}

@@ -1,4 +1,4 @@
-use Rattle.std.proofs.Common.{refl, sym, subst}
+use Rattle.std.proofs.Common.{sym, subst}
 use Rattle.krb_ccache.specs.Reader.{Reading, HasRead}
 use Rattle.krb_ccache.proofs.ReaderLaws.{passed_one, passed_end, passed_err, next_end, next_fault, next_stops, stays, on_err}
 use Rattle.krb_ccache.proofs.StepLaws.{step_limit}
