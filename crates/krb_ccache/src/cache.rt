@@ -101,6 +101,7 @@ impl CCache {
     ///
     /// Source: MIT krb5, "Credential cache file format", version 4; of version 3 the layout that
     /// docs/FORMATS.md gives.
+    #[tactic(auto, using(crate::proofs::AnswerLaws::only_answer, crate::proofs::AnswerLaws::one_fault))]
     pub fn parse(alloc: Global, bytes: &[u8]) -> Result<CCache, CacheFault>
         ensures found { IfOk result (λ cache. IsCache bytes.now cache) }
         ensures fault { IfErr result (λ fault.
@@ -211,6 +212,7 @@ impl CCache {
     /// - `OutOfMemory`: there is no memory for the bytes.
     ///
     /// Source: MIT krb5, "Credential cache file format", version 4.
+    #[tactic(auto, using(crate::proofs::LayoutLaws::written_cache))]
     pub fn to_bytes(&self, alloc: Global) -> Result<Vec<u8>, CacheFault>
         ensures written { IfOk result (λ bytes. bytes.items ≡ written self.now) }
         ensures read_back { IfOk result (λ bytes. IsCache bytes.items self.now) }
@@ -282,6 +284,7 @@ fn read_default(
 }
 
 // Reads the credentials from here to the end.
+#[tactic(auto, using(crate::proofs::FileLaws::credential_goes, crate::proofs::FileLaws::stops, crate::proofs::FileLaws::read_none, crate::proofs::FileLaws::read_more))]
 fn read_credentials(
     alloc: Global,
     layout: Layout,

@@ -26,6 +26,7 @@ pub(crate) fn offset_in(header: &[HeaderField]) -> Option<(i32, i32)>
     None
 }
 
+#[tactic(auto, using(crate::proofs::OffsetLaws::offset_read, crate::proofs::OffsetLaws::offset_answered, crate::proofs::OffsetLaws::first_there, crate::proofs::OffsetLaws::second_there))]
 fn offset_of(value: &[u8]) -> Option<(i32, i32)>
     requires { length value.now ≡ 8 }
     ensures some { IfSome result (λ offset. IsOffset value.now offset.0 offset.1) }
@@ -49,6 +50,7 @@ pub(crate) fn is_entry(credential: &Credential) -> bool
         && has_name(credential.server.components.as_slice())
 }
 
+#[tactic(auto, using(crate::proofs::OffsetLaws::begins_so))]
 fn has_name(components: &[Bytes]) -> bool
     ensures { IsTrue result ↔ BeginsWith components.now (codes "krb5_ccache_conf_data") }
 {

@@ -201,6 +201,7 @@ impl Field for u32 {
         Ok(cursor.read_u32()?)
     }
 
+    #[tactic(auto, using(crate::proofs::WalkParts::number_passed))]
     fn take<T: Taker>(_: Layout, taker: &mut T, left: Left) -> Result<Left, TakeFault> {
         Ok(leave(taker, left, 4))
     }
@@ -219,6 +220,7 @@ impl Field for i16 {
         Ok(cursor.read_i16()?)
     }
 
+    #[tactic(auto, using(crate::proofs::WalkParts::signed_passed))]
     fn take<T: Taker>(_: Layout, taker: &mut T, left: Left) -> Result<Left, TakeFault> {
         Ok(leave(taker, left, 2))
     }

@@ -60,6 +60,7 @@ pub(crate) fn read_head(
 }
 
 // Reads the header that begins here, and moves past it.
+#[tactic(auto, using(crate::proofs::HeaderLaws::header_lies, crate::proofs::HeaderLaws::header_cut, crate::proofs::HeaderLaws::header_wrong))]
 pub(crate) fn read_header(
     alloc: Global,
     cursor: &mut FileCursor<'_>,
@@ -75,6 +76,7 @@ pub(crate) fn read_header(
 }
 
 // Reads the fields that fill the bytes of a header.
+#[tactic(auto, using(crate::proofs::HeaderLaws::not_filled))]
 fn read_fields(alloc: Global, body: &[u8]) -> Result<Vec<HeaderField>, ItemFault>
     requires { length body.now < 2 ^ 16 }
     ensures read { IfOk result (λ header. Fills body.now header.items) }

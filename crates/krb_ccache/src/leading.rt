@@ -50,11 +50,7 @@ pub(crate) trait Leading: Sized {
         ensures lent { S.lender window.new.source ≡ S.lender window.old.source };
 
     /// Reads the part that begins here, and moves past it. On an error the position is unspecified.
-    fn read(
-        alloc: Global,
-        layout: Layout,
-        cursor: &mut FileCursor<'_>,
-    ) -> Result<Self, ItemFault>
+    fn read(alloc: Global, layout: Layout, cursor: &mut FileCursor<'_>) -> Result<Self, ItemFault>
         requires { IsBytes cursor.old.rest }
         ensures read { IfOk result (λ part.
             Lies (spelled layout) (InRange layout) cursor.old (raw part) cursor.new) }

@@ -47,6 +47,7 @@ pub(crate) trait Part {
         ensures { OnOk result (out.new.items ≡ out.old.items ++ spelled self.now) };
 }
 
+#[tactic(auto, using(crate::proofs::FitsLaws::one_more, crate::proofs::FitsLaws::all_seen))]
 pub(crate) fn fits_each<T: Part>(parts: &[T]) -> bool
     ensures { MatchBool result (All T.InRange parts.now) (¬ All T.Fits parts.now) }
 {
@@ -58,6 +59,7 @@ pub(crate) fn fits_each<T: Part>(parts: &[T]) -> bool
     true
 }
 
+#[tactic(auto, using(crate::proofs::RoomLaws::goes_on, crate::proofs::RoomLaws::walked))]
 pub(crate) fn behind_each<T: Part>(left: usize, parts: &[T]) -> Option<usize>
     ensures { Leaves left (length (flat_map T.spelled parts.now)) result }
 {
@@ -68,6 +70,7 @@ pub(crate) fn behind_each<T: Part>(left: usize, parts: &[T]) -> Option<usize>
     Some(rest)
 }
 
+#[tactic(auto, using(crate::proofs::FitsLaws::spelled_more))]
 pub(crate) fn write_each<T: Part>(out: &mut Vec<u8>, parts: &[T]) -> Result<(), AllocError>
     requires { All T.Fits parts.now }
     ensures { OnOk result (out.new.items ≡ out.old.items ++ flat_map T.spelled parts.now) }

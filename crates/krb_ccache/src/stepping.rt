@@ -113,6 +113,7 @@ fn come<L: Leading, S: Source>(
 }
 
 /// Reads the version, the header and the default principal.
+#[tactic(auto, using(crate::proofs::StepLaws::misses_gives, crate::proofs::ReaderLaws::version_fault, crate::proofs::ReaderLaws::begun, crate::proofs::ReaderLaws::begun_peak, crate::proofs::LayoutLaws::head_fits))]
 pub(crate) fn begin<S: Source>(alloc: Global, window: &mut Window<S>) -> Result<Start, CacheFault>
     requires reads { S.failure_count window.old.source < 2 ^ 64 - 1 }
     requires start { window.old.given ≡ 0 }
@@ -145,6 +146,7 @@ pub(crate) fn begin<S: Source>(alloc: Global, window: &mut Window<S>) -> Result<
 }
 
 /// Reads the next credential, or finds that the source is at its end.
+#[tactic(auto, using(crate::proofs::StepLaws::not_made))]
 pub(crate) fn step<S: Source>(
     alloc: Global,
     layout: Layout,
@@ -221,6 +223,7 @@ fn none_past<S: Source>(
 }
 
 /// Reads the credentials to the end of the source.
+#[tactic(auto, using(crate::proofs::StepLaws::gives_step))]
 pub(crate) fn steps<S: Source>(
     alloc: Global,
     layout: Layout,

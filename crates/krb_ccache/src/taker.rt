@@ -51,6 +51,7 @@ impl<S: Source> Taker for Window<S> {
 
     ghost lender = { λ window. S.lender window.source };
 
+    #[tactic(auto, using(crate::proofs::WalkEnds::nothing_comes))]
     fn take(&mut self, count: usize) -> Result<(), TakeFault> {
         let _held = self.held();
         if count > FILE_LIMIT - self.given() {
@@ -104,6 +105,7 @@ impl Taker for Passing<'_> {
 
     ghost lender = { λ _. 0 };
 
+    #[tactic(auto, using(crate::proofs::WalkEnds::none_left, crate::proofs::WalkEnds::some_left))]
     fn take(&mut self, count: usize) -> Result<(), TakeFault> {
         if count > self.bytes.len() - self.at {
             return Err(TakeFault::End);

@@ -7,12 +7,6 @@ use Rattle.krb_ccache.proofs.WalkParts.{passed_some}
 use Rattle.krb_ccache.proofs.FileLaws.{name_lies, name_missing, header_read, cache_read, cache_found, default_fault, credential_fault}
 use Rattle.krb_ccache.proofs.checking.check.Goals as goal
 
-pub check_credentials-requires : goal.check_credentials-requires
-check_credentials-requires c =
-    let header = c.in-Ok.ensures.ok in
-    let name = passed_some (name_at c.check_head.new.cursor) c.skip.new.cursor c.in-Ok-skip.ensures.ok in
-    (name_lies c.check_head.new.cursor name.0 c.skip.new.cursor header.1.takes.rest_fits name.1).takes.rest_fits
-
 pub returns-clause-ok : goal.returns-clause-ok
 returns-clause-ok c =
     let opened = c.in_ok-layout in
