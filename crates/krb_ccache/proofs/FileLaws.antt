@@ -22,7 +22,7 @@ use Rattle.krb_ccache.specs.Inner.Standing.{Opened, bytes_of, spelled_as, Lies, 
 use Rattle.krb_ccache.proofs.PartLaws.{IsField-name}
 use Rattle.krb_ccache.proofs.CredentialLaws.{spelled_at, IsField-spelled}
 use Rattle.krb_ccache.proofs.Repeats.{lies_where, missing_where, reach_none, Goes, goes}
-use Rattle.krb_ccache.proofs.LayoutLaws.{version_length, credential_some, credential_in, all_fit, map_more, read_cache, is_reached, reached_within}
+use Rattle.krb_ccache.proofs.LayoutLaws.{version_length, grouped, credential_some, credential_in, all_fit, map_more, read_cache, is_reached, reached_within}
 
 -- ---- the default principal
 
@@ -92,8 +92,7 @@ module _ (layout : Layout) where
       let n : List ℕ = name_bytes name in
       let c : List ℕ = flat_map bytes_of spelled in
       let parts : place.rest ≡ n ++ (c ++ behind.rest) = lies.takes.parts ∙ ap (λ (t : List ℕ). n ++ t) reaches.takes.parts in
-      let grouped : (s ++ (n ++ c)) ++ behind.rest ≡ s ++ (n ++ (c ++ behind.rest)) = append_assoc s (n ++ c) behind.rest ∙ ap (λ (t : List ℕ). s ++ t) (append_assoc n c behind.rest) in
-      is_reached layout bytes behind.at header name spelled behind.rest start.fits lies.fits reaches.fit (start.bytes_are ∙ ap (λ (t : List ℕ). s ++ t) parts ∙ sym grouped)
+      is_reached layout bytes behind.at header name spelled behind.rest start.fits lies.fits reaches.fit (start.bytes_are ∙ ap (λ (t : List ℕ). s ++ t) parts ∙ sym (grouped s n c behind.rest))
       (omega (arith, start.at, lies.takes.at, reaches.takes.at, length-append s (n ++ c), length-append n c))
 
   pub cache_found : (bytes : List ℕ) (at : ℕ) (cache : Cache) (rest : List ℕ) → length bytes ≤ file_limit → IsReached layout bytes at cache rest → rest ≡ [] → IsCache bytes cache

@@ -66,7 +66,7 @@ front layout header name spelled = start_bytes layout header ++ (name_bytes name
 abbrev pub read_cache : List HeaderField → Principal → List Spelled → Cache
 read_cache header name spelled = cache_of header name (map credential_in spelled)
 
-grouped : (s n c b : List ℕ) → (s ++ (n ++ c)) ++ b ≡ s ++ (n ++ (c ++ b))
+pub grouped : (s n c b : List ℕ) → (s ++ (n ++ c)) ++ b ≡ s ++ (n ++ (c ++ b))
 grouped s n c b = append_assoc s (n ++ c) b ∙ ap (λ (t : List ℕ). s ++ t) (append_assoc n c b)
 
 module _ (layout : Layout) where

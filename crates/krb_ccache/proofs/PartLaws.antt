@@ -20,7 +20,7 @@ use Rattle.krb_ccache.specs.Inner.Stepping.{Any}
 use Rattle.krb_ccache.specs.Value.{FitsName, FitsList}
 use Rattle.krb_ccache.specs.Inner.Reading.{both_at, made_at, field_of, is_field, field_at, name_at, is_flag, allowed, byte_at, typed_of, typed_at, list_at, layout_of, layout_at}
 use Rattle.krb_ccache.specs.Inner.Standing.{FitsField}
-use Rattle.krb_ccache.proofs.Fields.{IsField-both, IsMade, IsField-made, IsField-passing, IsField-counted}
+use Rattle.krb_ccache.proofs.Fields.{IsField-both, IsField-made, IsField-passing, IsField-counted}
 
 abbrev pub Below16 : ℕ → Type 0
 Below16 n = n < 2 ^ 16
@@ -36,21 +36,12 @@ Short32 bytes = length bytes < 2 ^ 32
 
 -- ---- a field of the header
 
-field_made : IsMade field_of (λ parts. number_bytes w16 parts.0 ++ data_bytes w16 parts.1) (λ parts. Below16 parts.0 × Short16 parts.1) field_bytes (λ field. Below16 field.tag × Short16 field.value)
-field_made = record {
-  parts = λ field. (field.tag, field.value);
-  back = λ field. refl;
-  spelled = λ parts. refl;
-  ranges = λ parts h. h;
-  in_parts = λ field h. h;
-}
-
 pub IsField-field : IsField field_at field_bytes FitsField
 unfolding field_at
 IsField-field =
     IsField-passing is_field (made_at field_of (both_at (number_at w16) (data_at w16))) field_bytes (λ field. Below16 field.tag × Short16 field.value)
-    (IsField-made field_of (both_at (number_at w16) (data_at w16)) (λ parts. number_bytes w16 parts.0 ++ data_bytes w16 parts.1) (λ parts. Below16 parts.0 × Short16 parts.1)
-    (IsField-both (number_at w16) (number_bytes w16) Below16 IsField-u16 (data_at w16) (data_bytes w16) Short16 IsField-data16) field_bytes (λ field. Below16 field.tag × Short16 field.value) field_made)
+    (IsField-made field_of (λ field. (field.tag, field.value)) (λ field. refl) (λ parts. refl) (both_at (number_at w16) (data_at w16)) (λ parts. number_bytes w16 parts.0 ++ data_bytes w16 parts.1) (λ parts. Below16 parts.0 × Short16 parts.1)
+    (IsField-both (number_at w16) (number_bytes w16) Below16 IsField-u16 (data_at w16) (data_bytes w16) Short16 IsField-data16))
 
 -- ---- a principal
 
@@ -106,20 +97,11 @@ byte_field strict = IsField-passing (λ n. allowed strict (is_flag n)) (number_a
 abbrev pub FitsTyped : TypedBytes → Type 0
 FitsTyped element = Below16 element.kind × Short32 element.bytes
 
-typed_made : IsMade typed_of (λ parts. number_bytes w16 parts.0 ++ data_bytes w32 parts.1) (λ parts. Below16 parts.0 × Short32 parts.1) typed_bytes FitsTyped
-typed_made = record {
-  parts = λ element. (element.kind, element.bytes);
-  back = λ element. refl;
-  spelled = λ parts. refl;
-  ranges = λ parts h. h;
-  in_parts = λ element h. h;
-}
-
 IsField-typed : IsField typed_at typed_bytes FitsTyped
 unfolding typed_at
 IsField-typed =
-    IsField-made typed_of (both_at (number_at w16) (data_at w32)) (λ parts. number_bytes w16 parts.0 ++ data_bytes w32 parts.1) (λ parts. Below16 parts.0 × Short32 parts.1)
-    (IsField-both (number_at w16) (number_bytes w16) Below16 IsField-u16 (data_at w32) (data_bytes w32) Short32 IsField-data32) typed_bytes FitsTyped typed_made
+    IsField-made typed_of (λ element. (element.kind, element.bytes)) (λ element. refl) (λ parts. refl) (both_at (number_at w16) (data_at w32)) (λ parts. number_bytes w16 parts.0 ++ data_bytes w32 parts.1) (λ parts. Below16 parts.0 × Short32 parts.1)
+    (IsField-both (number_at w16) (number_bytes w16) Below16 IsField-u16 (data_at w32) (data_bytes w32) Short32 IsField-data32)
 
 list_from : (list : List TypedBytes) → (length list < 2 ^ 32) × All FitsTyped list → FitsList list
 list_from list h = record {

@@ -120,7 +120,7 @@ impl<S: Source> CredentialReader<S> {
     /// - `TooLong` or `BadItem`, as `CCache::parse` answers for all the bytes: no whole credential
     ///   within the limit comes next, and the source was read to its end first, or to one byte past
     ///   16,777,216.
-    #[tactic(auto, using(crate::proofs::ReaderLaws::next_more, crate::proofs::ReaderLaws::next_stops, crate::proofs::ReaderLaws::stays, crate::proofs::StepLaws::step_limit))]
+    #[tactic(auto, using(crate::proofs::ReaderLaws::next_more, crate::proofs::ReaderLaws::stays, crate::proofs::StepLaws::step_limit))]
     pub fn next(&mut self, alloc: Global) -> Result<Option<Credential>, CacheFault>
         requires { S.failure_count self.old.source < 2 ^ 64 - 1 }
 

@@ -113,7 +113,7 @@ fn come<L: Leading, S: Source>(
 }
 
 /// Reads the version, the header and the default principal.
-#[tactic(auto, using(crate::proofs::StepLaws::misses_gives, crate::proofs::ReaderLaws::version_fault, crate::proofs::ReaderLaws::begun, crate::proofs::ReaderLaws::begun_peak, crate::proofs::LayoutLaws::head_fits))]
+#[tactic(auto, using(crate::proofs::StepLaws::misses_gives, crate::proofs::ReaderLaws::begun, crate::proofs::ReaderLaws::begun_peak, crate::proofs::LayoutLaws::head_fits))]
 pub(crate) fn begin<S: Source>(alloc: Global, window: &mut Window<S>) -> Result<Start, CacheFault>
     requires reads { S.failure_count window.old.source < 2 ^ 64 - 1 }
     requires start { window.old.given ≡ 0 }

@@ -7,8 +7,13 @@ use Rattle.krb_ccache.specs.declared.fault.CacheFault.TheVariants.{Header}
 use Rattle.krb_ccache.specs.Inner.Stepping.{Any}
 use Rattle.krb_name.proofs.FileLaws.{gives_then}
 use Rattle.krb_ccache.proofs.StepLaws.{comes_gives, misses_gives, head_gives}
-use Rattle.krb_ccache.proofs.ReaderLaws.{header_fault, name_fault}
+use Rattle.krb_ccache.proofs.ReaderLaws.{version_fault, header_fault, name_fault}
 use Rattle.krb_ccache.proofs.stepping.begin.Goals as goal
+
+pub returns-in_err-layout-clause-fault : goal.returns-in_err-layout-clause-fault
+returns-in_err-layout-clause-fault g c =
+    let p = err_from_is_err_and c.from_residual.result c.from_residual.ensures.1 in
+    rw (p.1, p.2) (version_fault g.S.Source.remaining c.args.window.now c.come.new.window c.in_err-layout.field-0.0 c.requires.start c.in_err-layout.ensures.misses)
 
 pub returns-in_err-header-clause-fault : goal.returns-in_err-header-clause-fault
 returns-in_err-header-clause-fault g c =
