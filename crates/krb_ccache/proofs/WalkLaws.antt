@@ -228,25 +228,31 @@ module _ (Within : Hand → Type 0) where
       pub number_stops : (old new : Hand) (stop : TakeFault) → TookFewer Within Lacks (skip + byte_len w) old new stop → Stops (and_then (skip_at skip) (pass_number w others)) Within Lacks old new stop
       number_stops = fewer_stop (and_then (skip_at skip) (pass_number w others)) (skip + byte_len w) (too_few skip (byte_len w) (pass_number w others) (no_number w others))
 
+  -- so many bytes are skipped, and the others passed over
+  pub skipped_goes : (skip more : ℕ) (p q : Pass) (old new : Hand) → Taken Within (skip + more) old new
+      → ((at : ℕ) (back rest : List ℕ) → length back ≡ more → back ≡ drop (length old.bytes + skip) new.bytes → p (record { at = at; rest = back ++ rest }) ≡ q (record { at = at + length back; rest = rest }))
+      → Goes (and_then (skip_at skip) p) q Within old new
+  skipped_goes skip more p q old new t passes =
+      let front : List ℕ = take skip t.piece in
+      let back : List ℕ = drop skip t.piece in
+      let parts : t.piece ≡ front ++ back = sym (take-append-drop skip t.piece) in
+      let first : length front ≡ skip = omega (arith, length-take skip t.piece, t.length_is) in
+      let second : length back ≡ more = omega (arith, length-drop skip t.piece, t.length_is) in
+      let last = ap (drop (length old.bytes + skip)) t.keeps.bytes ∙ sym (drop-drop skip (length old.bytes) (old.bytes ++ t.piece)) ∙ ap (drop skip) (drop_at old.bytes t.piece (length old.bytes) refl) in
+      record {
+        piece = t.piece;
+        keeps = t.keeps;
+        within = t.within;
+        same = λ at rest.
+            ap (λ (l : List ℕ). and_then (skip_at skip) p (record { at = at; rest = l })) (ap (λ (l : List ℕ). l ++ rest) parts ∙ append_assoc front back rest)
+            ∙ ap (λ (o : Option Place). o >>= p) (skips skip at front (back ++ rest) first) ∙ passes (at + length front) back rest second (sym last)
+            ∙ ap (λ (n : ℕ). q (record { at = n; rest = rest })) (omega (arith, ap length parts, length-append front back));
+      }
+
   module _ (w : Width) (skip : ℕ) (others : ℕ → Pass) where
     pub number_goes : (old new : Hand) (number : ℕ) → Taken Within (skip + byte_len w) old new → number ≡ last_number w skip old.bytes new.bytes → Goes (and_then (skip_at skip) (pass_number w others)) (others number) Within old new
     number_goes old new number t last =
-        let front : List ℕ = take skip t.piece in
-        let back : List ℕ = drop skip t.piece in
-        let parts : t.piece ≡ front ++ back = sym (take-append-drop skip t.piece) in
-        let first : length front ≡ skip = omega (arith, length-take skip t.piece, t.length_is) in
-        let second : length back ≡ byte_len w = omega (arith, length-drop skip t.piece, t.length_is) in
-        let is = last ∙ ap (λ (l : List ℕ). from_be_bytes w (drop (length old.bytes + skip) l)) t.keeps.bytes
-        ∙ ap (from_be_bytes w) (sym (drop-drop skip (length old.bytes) (old.bytes ++ t.piece)) ∙ ap (drop skip) (drop_at old.bytes t.piece (length old.bytes) refl)) in
-        record {
-          piece = t.piece;
-          keeps = t.keeps;
-          within = t.within;
-          same = λ at rest.
-              ap (λ (l : List ℕ). and_then (skip_at skip) (pass_number w others) (record { at = at; rest = l })) (ap (λ (l : List ℕ). l ++ rest) parts ∙ append_assoc front back rest)
-              ∙ ap (λ (o : Option Place). o >>= pass_number w others) (skips skip at front (back ++ rest) first) ∙ numbers w others number (at + length front) back rest second is
-              ∙ ap (λ (n : ℕ). others number (record { at = n; rest = rest })) (omega (arith, ap length parts, length-append front back));
-        }
+        skipped_goes skip (byte_len w) (pass_number w others) (others number) old new t (λ at back rest len is. numbers w others number at back rest len (last ∙ ap (from_be_bytes w) (sym is)))
 
 -- so many bytes, and two numbers after them
 module _ (Within : Hand → Type 0) (skip : ℕ) (others : ℕ → ℕ → Pass) where
@@ -265,28 +271,19 @@ module _ (Within : Hand → Type 0) (skip : ℕ) (others : ℕ → ℕ → Pass)
 
   pub pair_goes : (old new : Hand) (last : List ℕ) (one other : ℕ) → Taken Within (skip + 8) old new → last ≡ drop (length old.bytes + skip) new.bytes → one ≡ from_be_bytes w32 (take 4 last) → other ≡ from_be_bytes w32 (take 4 (drop 4 last))
       → Goes (and_then (skip_at skip) pass_pair) (others one other) Within old new
-  pair_goes old new last one other t last_is is also_is =
-      let front : List ℕ = take skip t.piece in
-      let back : List ℕ = drop skip t.piece in
-      let a : List ℕ = take 4 back in
-      let b : List ℕ = drop 4 back in
-      let len : length back ≡ 8 = omega (arith, length-drop skip t.piece, t.length_is) in
-      let parts : t.piece ≡ front ++ (a ++ b) = sym (take-append-drop skip t.piece) ∙ ap (λ (l : List ℕ). front ++ l) (sym (take-append-drop 4 back)) in
-      let first : length front ≡ skip = omega (arith, length-take skip t.piece, t.length_is) in
-      let second : length a ≡ 4 = omega (arith, length-take 4 back, len) in
-      let third : length b ≡ 4 = omega (arith, length-drop 4 back, len) in
-      let after : last ≡ back = last_is ∙ ap (drop (length old.bytes + skip)) t.keeps.bytes ∙ sym (drop-drop skip (length old.bytes) (old.bytes ++ t.piece)) ∙ ap (drop skip) (drop_at old.bytes t.piece (length old.bytes) refl) in
-      let one_is : one ≡ from_be_bytes w32 a = is ∙ ap (λ (l : List ℕ). from_be_bytes w32 (take 4 l)) after in
-      let other_is : other ≡ from_be_bytes w32 b = also_is ∙ ap (λ (l : List ℕ). from_be_bytes w32 (take 4 (drop 4 l))) after ∙ ap (from_be_bytes w32) (take_all 4 b (omega (arith, third))) in
-      record {
-        piece = t.piece;
-        keeps = t.keeps;
-        within = t.within;
-        same = λ at rest.
-            ap (λ (l : List ℕ). and_then (skip_at skip) pass_pair (record { at = at; rest = l })) (ap (λ (l : List ℕ). l ++ rest) parts ∙ append_assoc front (a ++ b) rest ∙ ap (λ (l : List ℕ). front ++ l) (append_assoc a b rest))
-            ∙ ap (λ (o : Option Place). o >>= pass_pair) (skips skip at front (a ++ (b ++ rest)) first) ∙ numbers w32 (λ n. pass_number w32 (others n)) one (at + length front) a (b ++ rest) second one_is
-            ∙ numbers w32 (others one) other ((at + length front) + length a) b rest third other_is ∙ ap (λ (n : ℕ). others one other (record { at = n; rest = rest })) (omega (arith, first, second, third, t.length_is));
-      }
+  pair_goes old new last one other t last_is is also_is = skipped_goes Within skip 8 pass_pair (others one other) old new t passes
+    where
+      passes : (at : ℕ) (back rest : List ℕ) → length back ≡ 8 → back ≡ drop (length old.bytes + skip) new.bytes → pass_pair (record { at = at; rest = back ++ rest }) ≡ others one other (record { at = at + length back; rest = rest })
+      passes at back rest len after =
+          let a : List ℕ = take 4 back in
+          let b : List ℕ = drop 4 back in
+          let same : last ≡ back = last_is ∙ sym after in
+          let second : length a ≡ 4 = omega (arith, length-take 4 back, len) in
+          let third : length b ≡ 4 = omega (arith, length-drop 4 back, len) in
+          let one_is : one ≡ from_be_bytes w32 a = is ∙ ap (λ (l : List ℕ). from_be_bytes w32 (take 4 l)) same in
+          let other_is : other ≡ from_be_bytes w32 b = also_is ∙ ap (λ (l : List ℕ). from_be_bytes w32 (take 4 (drop 4 l))) same ∙ ap (from_be_bytes w32) (take_all 4 b (omega (arith, third))) in
+          ap (λ (l : List ℕ). pass_pair (record { at = at; rest = l })) (ap (λ (l : List ℕ). l ++ rest) (sym (take-append-drop 4 back)) ∙ append_assoc a b rest) ∙ numbers w32 (λ n. pass_number w32 (others n)) one at a (b ++ rest) second one_is
+          ∙ numbers w32 (others one) other (at + length a) b rest third other_is ∙ ap (λ (n : ℕ). others one other (record { at = n; rest = rest })) (omega (arith, second, third, len))
 
   pub pair_stops : (Lacks : TakeFault → Hand → ℕ → Type 0) (old new : Hand) (stop : TakeFault) → TookFewer Within Lacks (skip + 8) old new stop → Stops (and_then (skip_at skip) pass_pair) Within Lacks old new stop
   pair_stops Lacks = fewer_stop Within Lacks (and_then (skip_at skip) pass_pair) (skip + 8) (too_few skip 8 pass_pair no_pair)

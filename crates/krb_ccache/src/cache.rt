@@ -10,8 +10,7 @@ ghost use Rattle.krb_ccache.specs.Fault.{offset_of, failed_reads};
 ghost use Rattle.krb_name.specs.File.{file_limit, ReadsFile};
 ghost use Rattle.krb_ccache.specs.Format.{written, Spelled, Spells, IsCache, IsFaultOf, IsAnswerOf};
 ghost use Rattle.krb_ccache.specs.Offset.{IsOffsetOf};
-ghost use Rattle.krb_ccache.specs.Inner.Room.{Leaves};
-ghost use Rattle.krb_ccache.specs.Inner.Standing.{bytes_of, Lies, Reaches, IsMissing, StopsBy};
+ghost use Rattle.krb_ccache.specs.Inner.Standing.{bytes_of, Lies, Reaches, IsMissing, StopsBy, Leaves};
 
 use crate::checking::check;
 use crate::configuration::{is_entry, offset_in};

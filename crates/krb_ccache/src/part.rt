@@ -7,8 +7,7 @@ ghost use Rattle.krb_name.specs.Cursor.{data_bytes};
 ghost use Rattle.krb_ccache.specs.Spelling.{field_bytes, name_bytes, typed_bytes, list_bytes, credential_bytes};
 ghost use Rattle.krb_ccache.specs.Value.{HasNameLengths, HasListLengths, HasCredentialLengths, FitsName, FitsList, FitsCredential};
 ghost use Rattle.krb_ccache.specs.Inner.Reading.{is_field};
-ghost use Rattle.krb_ccache.specs.Inner.Room.{Leaves};
-ghost use Rattle.krb_ccache.specs.Inner.Standing.{FitsField};
+ghost use Rattle.krb_ccache.specs.Inner.Standing.{FitsField, Leaves};
 
 use crate::credential::{Credential, HeaderField};
 use crate::header::{OFFSET_LENGTH, OFFSET_TAG};

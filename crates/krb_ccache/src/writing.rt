@@ -5,7 +5,7 @@ ghost use Rattle.std.specs.Prelude.{◌≡◌, ◌++◌, MatchBool, OnOk, length
 ghost use Rattle.std.specs.Int.{w16, w32};
 ghost use Rattle.krb_name.specs.Cursor.{number_bytes, signed_bytes};
 ghost use Rattle.krb_ccache.specs.Spelling.{header_bytes};
-ghost use Rattle.krb_ccache.specs.Inner.Room.{Leaves};
+ghost use Rattle.krb_ccache.specs.Inner.Standing.{Leaves};
 ghost use Rattle.krb_ccache.specs.Value.{HasHeaderLengths, FitsHeader};
 
 use crate::credential::HeaderField;

@@ -1,5 +1,5 @@
 -- What it means that parts of a cache stand at a place, or don't.
-use Rattle.std.specs.Prelude.{◌≡◌, ◌≢◌, ℕ, ◌<◌, ◌≤◌, ◌^◌, true, List, [], ◌++◌, length, All}
+use Rattle.std.specs.Prelude.{◌≡◌, ◌≢◌, ℕ, ◌<◌, ◌≤◌, ◌^◌, true, List, [], ◌++◌, length, All, ◌-◌, Option, SomeIff}
 use Rattle.std.specs.List.{flat_map}
 use Rattle.krb_name.specs.Cursor.{Place}
 use Rattle.krb_name.specs.Field.{IsBytes, Takes}
@@ -63,3 +63,7 @@ pub record StopsBy (layout : Layout) (place : Place) (fault : CacheFault) : Type
   pub fault_is : fault ≡ BadItem behind.at
   pub more : behind.rest ≢ []
   pub missing : IsMissing bytes_of (Spells layout) behind.rest
+
+-- the room that so many bytes leave, if there are as many
+abbrev pub Leaves : ℕ → ℕ → Option ℕ → Type 0
+Leaves left size result = SomeIff result (size ≤ left) (left - size)
