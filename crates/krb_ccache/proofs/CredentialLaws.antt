@@ -1,5 +1,5 @@
 -- A credential is read as it is spelled: its fields one after another.
-use Rattle.std.proofs.Common.{◌≡◌, ℕ, zero, suc, ◌+◌, ◌<◌, ◌≤◌, ◌^◌, Bool, true, false, eqb, List, ◌++◌, length, Option, Some, None, refl, sym, ap, subst, ◌∙◌, arith}
+use Rattle.std.proofs.Common.{◌≡◌, ℕ, zero, suc, ◌+◌, ◌<◌, ◌≤◌, ◌^◌, Bool, true, false, eqb, List, ◌++◌, length, Option, Some, None, refl, sym, ap, subst, ◌∙◌, arith, rules}
 use Rattle.std.specs.Int.{w8}
 use Rattle.std.proofs.lemmas.Bool.{leb-true}
 use Rattle.krb_name.specs.Cursor.{Place, ◌>>=◌, number_bytes}
@@ -36,17 +36,10 @@ abbrev pub flag_byte : Bool → ℕ
 flag_byte true = 1
 flag_byte false = 0
 
-flag_fits : (flag : Bool) → (flag_byte flag < 2 ^ 8) × (is_flag (flag_byte flag) ≡ true)
-flag_fits true = (omega arith, refl)
-flag_fits false = (omega arith, refl)
-
-pub flag_spelled : (flag : Bool) → number_bytes w8 (flag_byte flag) ≡ flag_bytes flag
-flag_spelled true = refl
-flag_spelled false = refl
-
-flag_is_back : (flag : Bool) → eqb (flag_byte flag) 1 ≡ flag
-flag_is_back true = refl
-flag_is_back false = refl
+-- it is a byte, and is spelled and read as the flag
+pub flag_known : (flag : Bool) → ((flag_byte flag < 2 ^ 8) × (is_flag (flag_byte flag) ≡ true)) × ((number_bytes w8 (flag_byte flag) ≡ flag_bytes flag) × (eqb (flag_byte flag) 1 ≡ flag))
+flag_known true = ((omega arith, refl), (refl, refl))
+flag_known false = ((omega arith, refl), (refl, refl))
 
 -- ---- a credential
 
@@ -83,7 +76,7 @@ module _ (strict : Bool) (layout : Layout) where
   parts_of c second mark = (c.client, (c.server, (c.etype, (second, (c.key, (c.authtime, (c.starttime, (c.endtime, (c.renew_till, (mark, (c.ticket_flags, (c.addresses, (c.authdata, (c.ticket, c.second_ticket))))))))))))))
 
   pub fits_parts : (c : Credential) (second : List ℕ) (mark : ℕ) → FitsCredential c → length second ≡ second_size layout → (mark < 2 ^ 8) × (allowed strict (is_flag mark) ≡ true) → FitsParts (parts_of c second mark)
-  fits_parts c second mark h size is_skey = (h.client, (h.server, (h.etype, (size, (h.key, (h.authtime, (h.starttime, (h.endtime, (h.renew_till, (is_skey, (h.ticket_flags, (h.addresses, (h.authdata, (h.ticket, h.second_ticket))))))))))))))
+  fits_parts c second mark h size is_skey = search rules
 
 -- a credential, with its bytes
 abbrev pub spelled_at : Layout → Place → Option (Spelled × Place)
@@ -108,10 +101,10 @@ module _ (layout : Layout) where
   spelled_again at one rest h =
       let c : Credential = one.credential in
       let p : Parts = parts_of true layout c h.second (flag_byte c.is_skey) in
-      let read = (IsField-parts true layout).again at p rest (fits_parts true layout c h.second (flag_byte c.is_skey) h.fits h.size (flag_fits c.is_skey)) in
+      let read = (IsField-parts true layout).again at p rest (fits_parts true layout c h.second (flag_byte c.is_skey) h.fits h.size (flag_known c.is_skey).0) in
       let made : spelled_at layout (record { at = at; rest = parts_bytes p ++ rest }) ≡ Some (spelled_of p, record { at = at + length (parts_bytes p); rest = rest }) = ap (λ (o : Option (Parts × Place)). o >>= λ x. Some (spelled_of x.0, x.1)) read in
-      let bytes_are : parts_bytes p ≡ one.bytes = ap (marked_bytes c h.second) (flag_spelled c.is_skey) ∙ sym h.bytes_are in
-      let same : spelled_of p ≡ one = ap (λ (b : List ℕ). spelled_as b (credential_of p)) bytes_are ∙ ap (λ (b : Bool). spelled_as one.bytes (record c { is_skey = b })) (flag_is_back c.is_skey) in
+      let bytes_are : parts_bytes p ≡ one.bytes = ap (marked_bytes c h.second) (flag_known c.is_skey).1.0 ∙ sym h.bytes_are in
+      let same : spelled_of p ≡ one = ap (λ (b : List ℕ). spelled_as b (credential_of p)) bytes_are ∙ ap (λ (b : Bool). spelled_as one.bytes (record c { is_skey = b })) (flag_known c.is_skey).1.1 in
       subst (λ (b : List ℕ). spelled_at layout (record { at = at; rest = b ++ rest }) ≡ Some (one, record { at = at + length b; rest = rest })) bytes_are
       (subst (λ (x : Spelled). spelled_at layout (record { at = at; rest = parts_bytes p ++ rest }) ≡ Some (x, record { at = at + length (parts_bytes p); rest = rest })) same made)
 

@@ -100,23 +100,19 @@ same_field [] (z ∷ ys) x y a b p q t u e = let same : x ≡ z = cc in absurd (
 same_field (z ∷ xs) [] x y a b p q t u e = let same : z ≡ y = cc in absurd (p.0 (ap (λ (k : HeaderField). k.tag) same ∙ u))
 same_field (z ∷ xs) (w ∷ ys) x y a b p q t u e = let others : xs ++ x ∷ a ≡ ys ++ y ∷ b = cc in same_field xs ys x y a b p.1 q.1 t u others
 
-record Both (a b c d : ℤ) : Type 0 where
-  first : a ≡ c
-  second : b ≡ d
-
-same_offset : (value : List ℕ) (a b c d : ℤ) → IsOffset value a b → IsOffset value c d → Both a b c d
+same_offset : (value : List ℕ) (a b c d : ℤ) → IsOffset value a b → IsOffset value c d → (a ≡ c) × (b ≡ d)
 same_offset value a b c d p q =
     let first = same_front _ _ _ IsField-i32 a c (signed_bytes w32 b) (signed_bytes w32 d) p.seconds_fit q.seconds_fit (sym p.value_is ∙ q.value_is) in
     let second = same_front _ _ _ IsField-i32 b d [] [] p.microseconds_fit q.microseconds_fit (append-nil (signed_bytes w32 b) ∙ first.1 ∙ sym (append-nil (signed_bytes w32 d))) in
-    record { first = first.0; second = second.0 }
+    (first.0, second.0)
 
-both_held : (header : List HeaderField) (a b c d : ℤ) → HoldsOffset header a b → HoldsOffset header c d → Both a b c d
+both_held : (header : List HeaderField) (a b c d : ℤ) → HoldsOffset header a b → HoldsOffset header c d → (a ≡ c) × (b ≡ d)
 both_held header a b c d p q =
     let same = same_field p.before q.before p.field q.field p.after q.after (recursion_from_All (λ other. other.tag ≢ 1) p.before p.first) (recursion_from_All (λ other. other.tag ≢ 1) q.before q.first) p.tag q.tag (sym p.header_is ∙ q.header_is) in
     same_offset q.field.value a b c d (subst (λ (field : HeaderField). IsOffset field.value a b) same p.offset) q.offset
 
 pub one_seconds : (header : List HeaderField) (a b c d : ℤ) → HoldsOffset header a b → HoldsOffset header c d → a ≡ c
-one_seconds header a b c d p q = (both_held header a b c d p q).first
+one_seconds header a b c d p q = (both_held header a b c d p q).0
 
 pub one_microseconds : (header : List HeaderField) (a b c d : ℤ) → HoldsOffset header a b → HoldsOffset header c d → b ≡ d
-one_microseconds header a b c d p q = (both_held header a b c d p q).second
+one_microseconds header a b c d p q = (both_held header a b c d p q).1

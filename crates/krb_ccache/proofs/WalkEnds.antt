@@ -28,7 +28,7 @@ use Rattle.krb_ccache.specs.Inner.Standing.{bytes_of, IsMissing}
 use Rattle.krb_ccache.specs.Inner.Walking.{Hand, window_hand, window_within, window_lacks, bytes_hand, bytes_within, bytes_lacks, Pass, passed_at, skip_at, pass_none, pass_if, Goes, Stops, IsWhole, IsTaken, Taken, TookFewer, Spans, Wants, Walks, Halts, Marked, FitsKeyed, whole}
 use Rattle.krb_ccache.proofs.PartLaws.{IsField-name}
 use Rattle.krb_ccache.proofs.WalkLaws.{shorter_front, bytes_goes, bytes_stops}
-use Rattle.krb_ccache.proofs.CredentialLaws.{passed_lies, passed_missing, parts_at, IsField-parts, parts_of, fits_parts, flag_byte, flag_spelled}
+use Rattle.krb_ccache.proofs.CredentialLaws.{passed_lies, passed_missing, parts_at, IsField-parts, parts_of, fits_parts, flag_byte, flag_known}
 
 -- ---- a spelling is passed over
 
@@ -58,7 +58,7 @@ whole_passes layout m fits =
 pub spelled_passes : (layout : Layout) (one : Spelled) → Spells layout one → Passes (passed_at (parts_at false layout)) one.bytes
 spelled_passes layout one h =
     let c : Credential = one.credential in
-    let same : marked_bytes c h.second (number_bytes w8 (flag_byte c.is_skey)) ≡ one.bytes = ap (marked_bytes c h.second) (flag_spelled c.is_skey) ∙ sym h.bytes_are in
+    let same : marked_bytes c h.second (number_bytes w8 (flag_byte c.is_skey)) ≡ one.bytes = ap (marked_bytes c h.second) (flag_known c.is_skey).1.0 ∙ sym h.bytes_are in
     subst (Passes (passed_at (parts_at false layout))) same (whole_passes layout (record { credential = c; second = h.second; mark = flag_byte c.is_skey }) (h.fits, h.size))
 
 -- ---- of a source
