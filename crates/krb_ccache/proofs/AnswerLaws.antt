@@ -8,18 +8,12 @@ use Rattle.std.proofs.lemmas.List.{drop_at, length-append, length-map, map-appen
 use Rattle.std.proofs.lemmas.List.Elements.{recursion_from_All}
 use Rattle.krb_name.specs.Cursor.{Place, data_at, number_bytes, data_bytes}
 use Rattle.krb_name.specs.Field.{IsBytes}
-use Rattle.krb_name.specs.declared.principal.Principal.{Principal}
+use Rattle.krb_ccache.specs.Types.{Principal, HeaderField, Credential, Layout, Version3, Version4, CacheFault, Version, Header, BadItem, TooLong, Read, OutOfMemory}
 use Rattle.krb_name.proofs.CursorLaws.{IsBytes-drop, IsField-data16}
-use Rattle.krb_ccache.specs.declared.credential.HeaderField.{HeaderField}
-use Rattle.krb_ccache.specs.declared.credential.Credential.{Credential}
-use Rattle.krb_ccache.specs.declared.layout.Layout.{Layout}
-use Rattle.krb_ccache.specs.declared.layout.Layout.TheVariants.{Version3, Version4}
 use Rattle.krb_ccache.specs.Spelling.{field_bytes, fields_bytes, header_bytes, name_bytes}
 use Rattle.krb_ccache.specs.Value.{Cache, FitsHeader, FitsName, Fits}
 use Rattle.krb_name.specs.File.{file_limit}
 use Rattle.krb_ccache.specs.Format.{version_of, head_bytes, FitsHead, start_bytes, written, Spelled, Spells, IsReached, IsCache, LacksVersion, LacksHeader, LacksDefault, IsFaultOf, IsAnswerOf}
-use Rattle.krb_ccache.specs.declared.fault.CacheFault.{CacheFault}
-use Rattle.krb_ccache.specs.declared.fault.CacheFault.TheVariants.{Version, Header, BadItem, TooLong, Read, OutOfMemory}
 use Rattle.krb_ccache.specs.Inner.Reading.{field_at, name_at, layout_at}
 use Rattle.krb_ccache.specs.Inner.Standing.{Opened, bytes_of, Lies, IsMissing, FitsField}
 use Rattle.krb_ccache.specs.Inner.Stepping.{Any}

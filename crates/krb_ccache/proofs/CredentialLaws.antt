@@ -5,8 +5,7 @@ use Rattle.std.proofs.lemmas.Bool.{leb-true}
 use Rattle.krb_name.specs.Cursor.{Place, ◌>>=◌, number_bytes}
 use Rattle.krb_name.specs.Field.{IsBytes, Takes, IsField}
 use Rattle.krb_name.proofs.CursorLaws.{bind_some, some_is, IsField-bytes, IsField-u32, IsField-i16, IsField-data32}
-use Rattle.krb_ccache.specs.declared.credential.Credential.{Credential}
-use Rattle.krb_ccache.specs.declared.layout.Layout.{Layout}
+use Rattle.krb_ccache.specs.Types.{Credential, Layout}
 use Rattle.krb_ccache.specs.Spelling.{flag_bytes, marked_bytes}
 use Rattle.krb_ccache.specs.Format.{second_size, Spelled, Spells}
 use Rattle.krb_ccache.specs.Value.{FitsCredential}

@@ -6,17 +6,12 @@ use Rattle.std.proofs.lemmas.List.{length-append}
 use Rattle.std.proofs.lemmas.List.Elements.{recursion_from_All}
 use Rattle.krb_name.specs.Cursor.{Place}
 use Rattle.krb_name.specs.Field.{IsBytes}
-use Rattle.krb_name.specs.declared.principal.Principal.{Principal}
-use Rattle.krb_ccache.specs.declared.credential.HeaderField.{HeaderField}
-use Rattle.krb_ccache.specs.declared.credential.Credential.{Credential}
-use Rattle.krb_ccache.specs.declared.layout.Layout.{Layout}
+use Rattle.krb_ccache.specs.Types.{Principal, HeaderField, Credential, Layout, CacheFault, Version, Header, BadItem, TooLong, Read, OutOfMemory}
 use Rattle.krb_ccache.specs.Spelling.{name_bytes}
 use Rattle.krb_ccache.specs.Value.{Cache, FitsName, FitsCredential}
 use Rattle.krb_ccache.specs.Fault.{offset_of}
 use Rattle.krb_name.specs.File.{file_limit}
 use Rattle.krb_ccache.specs.Format.{version_of, head_bytes, FitsHead, start_bytes, Spelled, Spells, IsReached, IsCache, IsFaultOf}
-use Rattle.krb_ccache.specs.declared.fault.CacheFault.{CacheFault}
-use Rattle.krb_ccache.specs.declared.fault.CacheFault.TheVariants.{Version, Header, BadItem, TooLong, Read, OutOfMemory}
 use Rattle.krb_ccache.specs.Inner.Reading.{name_at}
 use Rattle.krb_ccache.specs.Inner.Standing.{Opened, bytes_of, spelled_as, Lies, LiesOne, Reaches, IsMissing, StopsBy}
 use Rattle.krb_ccache.proofs.PartLaws.{IsField-name}

@@ -9,11 +9,9 @@ use Rattle.krb_name.specs.Cursor.{Place, data_at, number_bytes, data_bytes}
 use Rattle.krb_name.specs.Field.{IsBytes, Takes}
 use Rattle.krb_name.specs.File.{file_limit}
 use Rattle.krb_name.proofs.CursorLaws.{IsField-data16}
-use Rattle.krb_ccache.specs.declared.credential.HeaderField.{HeaderField}
+use Rattle.krb_ccache.specs.Types.{HeaderField, Layout, Version3}
 use Rattle.krb_ccache.specs.Spelling.{field_bytes, fields_bytes, header_bytes}
 use Rattle.krb_ccache.specs.Value.{FitsHeader}
-use Rattle.krb_ccache.specs.declared.layout.Layout.{Layout}
-use Rattle.krb_ccache.specs.declared.layout.Layout.TheVariants.{Version3}
 use Rattle.krb_ccache.specs.Format.{version_of, head_bytes, FitsHead}
 use Rattle.krb_ccache.specs.Inner.Stepping.{Any}
 use Rattle.krb_ccache.specs.Inner.Reading.{is_field, field_at, layout_at}

@@ -12,7 +12,7 @@ use Rattle.std.specs.List.{AllByRecursion}
 use Rattle.krb_name.specs.Cursor.{Place, bytes_at, number_at, signed_at, signed_bytes}
 use Rattle.krb_name.specs.Field.{IsBytes}
 use Rattle.krb_name.proofs.CursorLaws.{IsField-i32}
-use Rattle.krb_ccache.specs.declared.credential.HeaderField.{HeaderField}
+use Rattle.krb_ccache.specs.Types.{HeaderField}
 use Rattle.krb_ccache.specs.Configuration.{IsOffset, HoldsOffset, BeginsWith}
 use Rattle.krb_ccache.proofs.Fields.{none_then}
 use Rattle.krb_ccache.proofs.Repeats.{same_front}

@@ -10,10 +10,7 @@ use Rattle.krb_name.specs.Cursor.{Place, ◌>>=◌, number_at, signed_at, data_a
 use Rattle.krb_name.specs.Field.{IsBytes, Takes, IsField}
 use Rattle.krb_name.proofs.CursorLaws.{bind_some, some_is, Takes-then, IsField-u8, IsField-u16, IsField-u32, IsField-i32, IsField-data16, IsField-data32}
 use Rattle.krb_name.proofs.Repeated.{IsField-times}
-use Rattle.krb_name.specs.declared.principal.Principal.{Principal}
-use Rattle.krb_ccache.specs.declared.typed.TypedBytes.{TypedBytes}
-use Rattle.krb_ccache.specs.declared.layout.Layout.{Layout}
-use Rattle.krb_ccache.specs.declared.layout.Layout.TheVariants.{Version3, Version4}
+use Rattle.krb_ccache.specs.Types.{Principal, TypedBytes, Layout, Version3, Version4}
 use Rattle.krb_ccache.specs.Spelling.{field_bytes, name_bytes, typed_bytes, list_bytes}
 use Rattle.krb_ccache.specs.Format.{version_of}
 use Rattle.krb_ccache.specs.Inner.Stepping.{Any}

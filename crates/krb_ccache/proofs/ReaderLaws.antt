@@ -6,17 +6,12 @@ use Rattle.std.proofs.KnownBytes.{Consumes-trans, Consumes-nil}
 use Rattle.std.proofs.lemmas.List.{length-append, nil_from_length, length-take, take-append-drop}
 use Rattle.std.proofs.lemmas.List.Elements.{All-nil}
 use Rattle.krb_name.specs.Window.{AtHand}
-use Rattle.krb_name.specs.declared.principal.Principal.{Principal}
-use Rattle.krb_ccache.specs.declared.credential.HeaderField.{HeaderField}
-use Rattle.krb_ccache.specs.declared.credential.Credential.{Credential}
-use Rattle.krb_ccache.specs.declared.layout.Layout.{Layout}
+use Rattle.krb_ccache.specs.Types.{Principal, HeaderField, Credential, Layout, CacheFault, Version, Header, BadItem, Read, OutOfMemory}
 use Rattle.krb_ccache.specs.Spelling.{name_bytes}
 use Rattle.krb_ccache.specs.Value.{Cache, cache_of, FitsName}
 use Rattle.krb_name.specs.File.{file_limit, IsGiven}
 use Rattle.krb_ccache.specs.Format.{version_of, head_bytes, FitsHead, start_bytes, Spelled, Spells, IsReached, IsFaultOf}
 use Rattle.krb_ccache.specs.Reader.{Reading, ended_by, ended_passed, passed, HasTaken, HasRead, GaveOne, PassedOne, StaysAtEnd, GoesTo, GaveCache, GaveFault, with_credential}
-use Rattle.krb_ccache.specs.declared.fault.CacheFault.{CacheFault}
-use Rattle.krb_ccache.specs.declared.fault.CacheFault.TheVariants.{Version, Header, BadItem, Read, OutOfMemory}
 use Rattle.krb_ccache.specs.Inner.Standing.{bytes_of, IsMissing, spelled_as}
 use Rattle.krb_ccache.specs.Inner.Stepping.{Any, Comes, Gives, Tells, Misses, MissesOne, IsStep}
 use Rattle.std.proofs.lemmas.Bool.{cases_lt}

@@ -8,8 +8,7 @@ use Rattle.krb_name.specs.File.{file_limit, IsGiven, TakesFile, ReadsFile}
 use Rattle.krb_ccache.specs.Format.{IsAnswerOf}
 use Rattle.krb_ccache.specs.Reader.{GaveCache, GaveFault}
 use Rattle.krb_ccache.proofs.AnswerLaws.{one_answer}
-use Rattle.krb_ccache.specs.declared.fault.CacheFault.{CacheFault}
-use Rattle.krb_ccache.specs.declared.fault.CacheFault.TheVariants.{Version, Header, BadItem, TooLong, Read, OutOfMemory}
+use Rattle.krb_ccache.specs.Types.{CacheFault, Version, Header, BadItem, TooLong, Read, OutOfMemory}
 
 -- an answer for too many bytes
 long_answer : (bytes more : List ℕ) (answer : Result Cache CacheFault) → file_limit < length bytes → file_limit < length more → IsAnswerOf bytes answer → IsAnswerOf more answer

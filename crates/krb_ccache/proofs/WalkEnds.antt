@@ -12,11 +12,7 @@ use Rattle.std.proofs.KnownBytes.{Consumes-nil}
 use Rattle.krb_name.specs.Cursor.{Place, ◌>>=◌, bytes_at, data_at, number_bytes}
 use Rattle.krb_name.specs.Field.{IsBytes, IsField}
 use Rattle.krb_name.proofs.CursorLaws.{some_is, IsField-bytes, IsField-data16}
-use Rattle.krb_name.specs.declared.principal.Principal.{Principal}
-use Rattle.krb_ccache.specs.declared.credential.HeaderField.{HeaderField}
-use Rattle.krb_ccache.specs.declared.credential.Credential.{Credential}
-use Rattle.krb_ccache.specs.declared.layout.Layout.{Layout}
-use Rattle.krb_ccache.specs.declared.layout.Layout.TheVariants.{Version3, Version4}
+use Rattle.krb_ccache.specs.Types.{Principal, HeaderField, Credential, Layout, Version3, Version4}
 use Rattle.krb_ccache.specs.declared.walking.TakeFault.{TakeFault}
 use Rattle.krb_ccache.specs.declared.walking.TakeFault.TheVariants as stop
 use Rattle.krb_ccache.specs.Spelling.{fields_bytes, header_bytes, name_bytes, marked_bytes}

@@ -5,7 +5,7 @@ use Rattle.std.specs.Int.{Width, w8, w16, w32, byte_len, from_be_bytes, cast_sig
 use Rattle.krb_name.specs.Cursor.{Place, ◌>>=◌, bytes_at, number_at, signed_at, data_at, times_at}
 use Rattle.krb_ccache.specs.declared.walking.TakeFault.{TakeFault}
 use Rattle.krb_ccache.specs.declared.walking.Left.{Left}
-use Rattle.krb_name.specs.declared.principal.Principal.{Principal}
+use Rattle.krb_ccache.specs.Types.{Principal}
 use Rattle.krb_ccache.specs.Inner.Reading.{both_at, made_at, name_at, is_flag, allowed, byte_at, typed_of, typed_at, list_at}
 use Rattle.krb_ccache.specs.Inner.Walking.{Hand, Pass, passed_at, skip_at, and_then, pass_none, pass_if, pass_number, pass_times, pass_data, left_at, Same, Goes, Stops, IsWalk, Taken, TookFewer, IsTaken, last_number}
 use Rattle.krb_ccache.proofs.Fields.{bind_assoc, bind_same}

@@ -3,7 +3,7 @@
 
 ghost use Rattle.std.specs.Prelude.{◌≡◌, ◌+◌, ◌<◌, ◌^◌, List, [], true, Some, None, OnOk, OnErr, IfErr, length};
 ghost use Rattle.krb_name.specs.Field.{IsBytes};
-ghost use Rattle.krb_ccache.specs.declared.credential.HeaderField.{HeaderField as HeaderFieldValue};
+ghost use Rattle.krb_ccache.specs.Types.{HeaderField as HeaderFieldValue};
 ghost use Rattle.krb_ccache.specs.Spelling.{header_bytes};
 ghost use Rattle.krb_ccache.specs.Value.{Cache, FitsHeader};
 ghost use Rattle.krb_ccache.specs.Format.{head_bytes, FitsHead, Spelled, Spells, IsCache, IsFaultOf};

@@ -2,7 +2,7 @@
 
 ghost use Rattle.std.specs.Prelude.{◌≡◌, ◌<◌, ◌^◌, List, Err, None, Some, IfOk, IfErr, OnErr, length};
 ghost use Rattle.krb_name.specs.Field.{IsBytes};
-ghost use Rattle.krb_ccache.specs.declared.credential.HeaderField.{HeaderField as HeaderFieldValue};
+ghost use Rattle.krb_ccache.specs.Types.{HeaderField as HeaderFieldValue};
 ghost use Rattle.krb_ccache.specs.Spelling.{header_bytes};
 ghost use Rattle.krb_ccache.specs.Value.{FitsHeader};
 ghost use Rattle.krb_ccache.specs.Format.{head_bytes, FitsHead, IsFaultOf};

@@ -3,13 +3,10 @@
 
 ghost use Rattle.std.specs.Prelude.{◌≡◌, ◌≢◌, ◌≤◌, ◌++◌, ℕ, ℤ, All, IfSome, List, None, Option, Some, Result, length};
 ghost use Rattle.krb_name.specs.Field.{IsBytes};
-ghost use Rattle.krb_ccache.specs.declared.credential.HeaderField.{HeaderField};
-ghost use Rattle.krb_ccache.specs.declared.fault.CacheFault.{CacheFault};
+ghost use Rattle.krb_ccache.specs.Types.{HeaderField, CacheFault, Layout, Version4};
 ghost use Rattle.krb_ccache.specs.Configuration.{HoldsOffset};
 ghost use Rattle.krb_name.specs.File.{file_limit, IsGiven};
 ghost use Rattle.krb_ccache.specs.Format.{version_of, written, IsCache, IsAnswerOf, IsFaultOf};
-ghost use Rattle.krb_ccache.specs.declared.layout.Layout.{Layout};
-ghost use Rattle.krb_ccache.specs.declared.layout.Layout.TheVariants.{Version4};
 ghost use Rattle.krb_ccache.specs.Fault.{offset_of};
 ghost use Rattle.krb_ccache.specs.Offset.{clock_offset};
 ghost use Rattle.krb_ccache.specs.Reader.{HasTaken, GoesTo, IsFirstOf};

@@ -4,9 +4,7 @@
 ghost use Rattle.std.specs.Prelude.{◌≡◌, ◌+◌, ◌-◌, ◌≤◌, ◌<◌, ◌^◌, ℕ, List, IfOk, IfErr, OnOk, Err};
 ghost use Rattle.krb_name.specs.Field.{IsBytes};
 ghost use Rattle.krb_name.specs.File.{file_limit};
-ghost use Rattle.krb_name.specs.declared.principal.Principal.{Principal as PrincipalValue};
-ghost use Rattle.krb_ccache.specs.declared.credential.HeaderField.{HeaderField as HeaderFieldValue};
-ghost use Rattle.krb_ccache.specs.declared.layout.Layout.{Layout as LayoutValue};
+ghost use Rattle.krb_ccache.specs.Types.{Principal as PrincipalValue, HeaderField as HeaderFieldValue, Layout as LayoutValue};
 ghost use Rattle.krb_ccache.specs.Format.{version_of, head_bytes, FitsHead};
 ghost use Rattle.krb_ccache.specs.Spelling.{name_bytes};
 ghost use Rattle.krb_ccache.specs.Value.{FitsName};

@@ -9,7 +9,7 @@ ghost use Rattle.krb_ccache.specs.Offset.{IsOffsetOf};
 ghost use Rattle.krb_ccache.specs.Reader.{ended_by as ended_by_answer, ended_passed, passed, last_answer, with_credential, HasRead, Gave, GaveOne, PassedOne, HeldPart, StaysAtEnd, GaveFault, EndsFile, HasFileFault, StopsInFile};
 ghost use Rattle.krb_ccache.specs.Spelling.{name_bytes};
 ghost use Rattle.krb_ccache.specs.Value.{Cache, cache_of};
-ghost use Rattle.krb_ccache.specs.declared.credential.Credential.{Credential as CredentialValue};
+ghost use Rattle.krb_ccache.specs.Types.{Credential as CredentialValue};
 
 use crate::configuration::{is_entry, offset_in};
 use crate::credential::{Credential, HeaderField};

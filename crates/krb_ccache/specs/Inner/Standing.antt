@@ -4,15 +4,11 @@ use Rattle.std.specs.List.{flat_map}
 use Rattle.krb_name.specs.Cursor.{Place}
 use Rattle.krb_name.specs.Field.{IsBytes, Takes}
 use Rattle.krb_name.specs.File.{file_limit}
-use Rattle.krb_ccache.specs.declared.credential.HeaderField.{HeaderField}
-use Rattle.krb_ccache.specs.declared.credential.Credential.{Credential}
-use Rattle.krb_ccache.specs.declared.layout.Layout.{Layout}
+use Rattle.krb_ccache.specs.Types.{HeaderField, Credential, Layout, CacheFault, BadItem}
 use Rattle.krb_ccache.specs.Spelling.{fields_bytes}
 use Rattle.krb_ccache.specs.Value.{FitsHeader}
 use Rattle.krb_ccache.specs.Inner.Reading.{is_field}
 use Rattle.krb_ccache.specs.Format.{version_of, Spelled, Spells}
-use Rattle.krb_ccache.specs.declared.fault.CacheFault.{CacheFault}
-use Rattle.krb_ccache.specs.declared.fault.CacheFault.TheVariants.{BadItem}
 
 -- a thing that is in range lies between two places
 pub record Lies {X : Type 0} (spelled : X → List ℕ) (InRange : X → Type 0) (place : Place) (x : X) (behind : Place) : Type 0 where

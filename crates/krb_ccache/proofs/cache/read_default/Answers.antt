@@ -1,6 +1,6 @@
 use Rattle.std.proofs.Common.{ap, Err}
 use Rattle.krb_ccache.specs.declared.item_fault.ItemFault.{ItemFault}
-use Rattle.krb_ccache.specs.declared.fault.CacheFault.TheVariants.{BadItem}
+use Rattle.krb_ccache.specs.Types.{BadItem}
 use Rattle.krb_ccache.proofs.cache.read_default.Goals as goal
 
 pub returns-in-Err-Missing-clause-missing : goal.returns-in-Err-Missing-clause-missing

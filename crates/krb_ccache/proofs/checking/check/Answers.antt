@@ -1,6 +1,6 @@
 use Rattle.std.proofs.Common.{ap}
 use Rattle.std.proofs.lemmas.Result.{err_from_is_err_and}
-use Rattle.krb_ccache.specs.declared.fault.CacheFault.TheVariants.{BadItem}
+use Rattle.krb_ccache.specs.Types.{BadItem}
 use Rattle.krb_ccache.specs.Inner.Reading.{name_at}
 use Rattle.krb_ccache.proofs.Fields.{none_then}
 use Rattle.krb_ccache.proofs.WalkParts.{passed_some}

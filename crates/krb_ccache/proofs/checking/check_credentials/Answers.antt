@@ -1,5 +1,5 @@
 use Rattle.std.proofs.Common.{[], ◌∷◌, ◌++◌, ap}
-use Rattle.krb_ccache.specs.declared.fault.CacheFault.TheVariants.{BadItem}
+use Rattle.krb_ccache.specs.Types.{BadItem}
 use Rattle.krb_ccache.proofs.CredentialLaws.{passed_lies, passed_missing}
 use Rattle.krb_ccache.proofs.FileLaws.{credential_goes, stops}
 use Rattle.krb_ccache.proofs.checking.check_credentials.Goals as goal

@@ -1,5 +1,5 @@
 use Rattle.std.proofs.Common.{List, length}
-use Rattle.krb_ccache.specs.declared.credential.HeaderField.{HeaderField}
+use Rattle.krb_ccache.specs.Types.{HeaderField}
 use Rattle.krb_ccache.specs.Spelling.{field_bytes}
 use Rattle.krb_ccache.specs.Inner.Standing.{Reaches, FitsField}
 use Rattle.krb_ccache.proofs.checking.check_fields.Given as goal

@@ -3,7 +3,7 @@ use Rattle.std.proofs.lemmas.Result.{err_from_is_err_and}
 use Rattle.krb_ccache.specs.Spelling.{name_bytes}
 use Rattle.krb_ccache.specs.Value.{FitsName}
 use Rattle.krb_ccache.specs.Format.{version_of, head_bytes, FitsHead}
-use Rattle.krb_ccache.specs.declared.fault.CacheFault.TheVariants.{Header}
+use Rattle.krb_ccache.specs.Types.{Header}
 use Rattle.krb_ccache.specs.Inner.Stepping.{Any}
 use Rattle.krb_name.proofs.FileLaws.{gives_then}
 use Rattle.krb_ccache.proofs.StepLaws.{comes_gives, misses_gives, head_gives}

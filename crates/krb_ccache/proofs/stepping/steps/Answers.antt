@@ -2,7 +2,7 @@ use Rattle.std.proofs.Common.{◌∙◌, Option, Some, Ok, List, sym, subst, ari
 use Rattle.std.proofs.lemmas.Result.{err_from_is_err_and}
 use Rattle.std.specs.Prelude.{All}
 use Rattle.std.proofs.lemmas.List.Elements.{All-push}
-use Rattle.krb_ccache.specs.declared.credential.Credential.{Credential}
+use Rattle.krb_ccache.specs.Types.{Credential}
 use Rattle.krb_ccache.specs.Reader.{HasTaken}
 use Rattle.krb_ccache.specs.Value.{cache_of, FitsCredential}
 use Rattle.krb_ccache.specs.Inner.Stepping.{IsStep}
