@@ -205,9 +205,6 @@ way bytes (Err OutOfMemory) a = absurd a
 
 -- what goes past one way is no other
 
-too_long : (bytes : List ℕ) → file_limit < length bytes → length bytes ≤ file_limit → ⊥
-too_long bytes p q = omega arith
-
 module _ (bytes : List ℕ) where
   ran_start : (v : Result Cache CacheFault) (r : Ran bytes v) → Start bytes r.layout r.cache.header (name_bytes r.cache.default_principal ++ after_name r.reached.spelled r.behind)
   ran_start v r = reached_start bytes r.layout r.at r.cache r.behind r.reached
@@ -235,26 +232,26 @@ module _ (bytes : List ℕ) where
 
   same_way : (v w : Result Cache CacheFault) → Way bytes v → Way bytes w → v ≡ w
   same_way v w (is_long p e) (is_long q f) = e ∙ sym f
-  same_way v w (is_long p e) (is_other q f) = absurd (too_long bytes p q.limit)
-  same_way v w (is_long p e) (is_wrong q f) = absurd (too_long bytes p q.limit)
-  same_way v w (is_long p e) (is_nameless at q f) = absurd (too_long bytes p q.limit)
-  same_way v w (is_long p e) (has_ran q) = absurd (too_long bytes p q.limit)
-  same_way v w (is_other p e) (is_long q f) = absurd (too_long bytes q p.limit)
+  same_way v w (is_long p e) (is_other q f) = absurd (omega (arith, p, q.limit))
+  same_way v w (is_long p e) (is_wrong q f) = absurd (omega (arith, p, q.limit))
+  same_way v w (is_long p e) (is_nameless at q f) = absurd (omega (arith, p, q.limit))
+  same_way v w (is_long p e) (has_ran q) = absurd (omega (arith, p, q.limit))
+  same_way v w (is_other p e) (is_long q f) = absurd (omega (arith, q, p.limit))
   same_way v w (is_other p e) (is_other q f) = e ∙ sym f
   same_way v w (is_other p e) (is_wrong q f) = absurd (p.missing q.layout q.behind q.bytes_are)
   same_way v w (is_other p e) (is_nameless at q f) = absurd (some_version q.layout q.header q.behind p (default_start at q))
   same_way v w (is_other p e) (has_ran q) = absurd (some_version q.layout q.cache.header _ p (ran_start w q))
-  same_way v w (is_wrong p e) (is_long q f) = absurd (too_long bytes q p.limit)
+  same_way v w (is_wrong p e) (is_long q f) = absurd (omega (arith, q, p.limit))
   same_way v w (is_wrong p e) (is_other q f) = absurd (q.missing p.layout p.behind p.bytes_are)
   same_way v w (is_wrong p e) (is_wrong q f) = e ∙ sym f
   same_way v w (is_wrong p e) (is_nameless at q f) = absurd (no_header q.layout q.header q.behind p (default_start at q))
   same_way v w (is_wrong p e) (has_ran q) = absurd (no_header q.layout q.cache.header _ p (ran_start w q))
-  same_way v w (is_nameless at p e) (is_long q f) = absurd (too_long bytes q p.limit)
+  same_way v w (is_nameless at p e) (is_long q f) = absurd (omega (arith, q, p.limit))
   same_way v w (is_nameless at p e) (is_other q f) = absurd (some_version p.layout p.header p.behind q (default_start at p))
   same_way v w (is_nameless at p e) (is_wrong q f) = absurd (no_header p.layout p.header p.behind q (default_start at p))
   same_way v w (is_nameless at p e) (is_nameless here q f) = e ∙ ap (λ (n : ℕ). Err (BadItem n)) (same_default at here p q) ∙ sym f
   same_way v w (is_nameless at p e) (has_ran q) = absurd (no_name at w p q)
-  same_way v w (has_ran p) (is_long q f) = absurd (too_long bytes q p.limit)
+  same_way v w (has_ran p) (is_long q f) = absurd (omega (arith, q, p.limit))
   same_way v w (has_ran p) (is_other q f) = absurd (some_version p.layout p.cache.header _ q (ran_start v p))
   same_way v w (has_ran p) (is_wrong q f) = absurd (no_header p.layout p.cache.header _ q (ran_start v p))
   same_way v w (has_ran p) (is_nameless at q f) = absurd (no_name at v q p)

@@ -1,6 +1,6 @@
 -- The answer for what a source gave is the answer for all the bytes that were to come of it.
 use Rattle.std.proofs.Common.{◌≡◌, ◌⊎◌, ℕ, ◌<◌, List, ◌++◌, length, Option, Some, None, Result, Ok, Err, refl, sym, ap, subst, ◌∙◌, append-nil, arith, inl, inr}
-use Rattle.std.specs.Prelude.{IfSome, IfOk, IfErr}
+use Rattle.std.specs.Prelude.{◌↔◌, IfSome, IfOk, IfErr}
 use Rattle.std.proofs.lemmas.Bool.{cases_lt}
 use Rattle.std.proofs.lemmas.List.{length-append}
 use Rattle.krb_ccache.specs.Value.{Cache}
@@ -23,22 +23,18 @@ all_given whole bytes (Some rest) g =
       | inr within ↦ inl (g.given ∙ ap (λ (t : List ℕ). bytes ++ t) (g.end within) ∙ append-nil bytes)
     ]
 
-answer_of_given : (whole bytes : List ℕ) (to : Option (List ℕ)) (answer : Result Cache CacheFault) → IsGiven (Some whole) to bytes → IsAnswerOf whole answer → IsAnswerOf bytes answer
-answer_of_given whole bytes to answer g a =
+-- so they have the same answers
+same_answers : (whole bytes : List ℕ) (to : Option (List ℕ)) (answer : Result Cache CacheFault) → IsGiven (Some whole) to bytes → IsAnswerOf whole answer ↔ IsAnswerOf bytes answer
+same_answers whole bytes to answer g =
     elim (all_given whole bytes to g) [
-      | inl same ↦ subst (λ (t : List ℕ). IsAnswerOf t answer) same a
-      | inr long ↦ long_answer whole bytes answer long.1 long.0 a
+      | inl same ↦ (λ a. subst (λ (t : List ℕ). IsAnswerOf t answer) same a, λ a. subst (λ (t : List ℕ). IsAnswerOf t answer) (sym same) a)
+      | inr long ↦ (long_answer whole bytes answer long.1 long.0, long_answer bytes whole answer long.0 long.1)
     ]
 
 -- ---- what a source gave, told of all the bytes that were to come
 
--- an answer for what was given is one for all
 pub answer_of_whole : (whole bytes : List ℕ) (to : Option (List ℕ)) (answer : Result Cache CacheFault) → IsGiven (Some whole) to bytes → IsAnswerOf bytes answer → IsAnswerOf whole answer
-answer_of_whole whole bytes to answer g a =
-    elim (all_given whole bytes to g) [
-      | inl same ↦ subst (λ (t : List ℕ). IsAnswerOf t answer) (sym same) a
-      | inr long ↦ long_answer bytes whole answer long.0 long.1 a
-    ]
+answer_of_whole whole bytes to answer g = (same_answers whole bytes to answer g).1
 
 pub answer_known : (from to : Option (List ℕ)) (bytes : List ℕ) (answer : Result Cache CacheFault) → IsGiven from to bytes → IsAnswerOf bytes answer → IfSome from (λ whole. IsAnswerOf whole answer)
 answer_known None to bytes answer g a = tt
@@ -46,7 +42,7 @@ answer_known (Some whole) to bytes answer g a = answer_of_whole whole bytes to a
 
 -- the one answer for all the bytes
 only_given : (to : Option (List ℕ)) (bytes whole : List ℕ) (result answer : Result Cache CacheFault) → IsGiven (Some whole) to bytes → IsAnswerOf bytes result → IsAnswerOf whole answer → result ≡ answer
-only_given to bytes whole result answer g r a = one_answer bytes result answer r (answer_of_given whole bytes to answer g a)
+only_given to bytes whole result answer g r a = one_answer bytes result answer r ((same_answers whole bytes to answer g).0 a)
 
 pub only_whole : (from to : Option (List ℕ)) (result : Result Cache CacheFault) → IfOk result (GaveCache from to) → IfErr result (GaveFault from to) → (whole : List ℕ) (answer : Result Cache CacheFault) → from ≡ Some whole → IsAnswerOf whole answer
     → (result ≡ answer) ⊎ ((result ≡ Err OutOfMemory) ⊎ (result ≡ Err Read))

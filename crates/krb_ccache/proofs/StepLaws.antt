@@ -20,13 +20,10 @@ use Rattle.krb_name.proofs.FileLaws.{gives_then}
 use Rattle.krb_ccache.proofs.WalkLaws.{front_same}
 
 module _ {X S : Type 0} (s : X → List ℕ) (P : X → Type 0) (left : S → Option (List ℕ)) where
-  started : (old start new : AtHand S) → Walks s P left start new → start ≡ cleared old → Walks s P left (cleared old) new
-  started old start new w e = subst (λ (t : AtHand S). Walks s P left t new) e w
-
   -- what was taken is the thing that was read
   pub came : (old start new : AtHand S) (bytes : List ℕ) (x : X) → Walks s P left start new → start ≡ cleared old → bytes ≡ new.bytes → Stands s P bytes x → Comes s P left old new x
   came old start new bytes x walks e at_hand stands =
-      let w = started old start new walks e in
+      let w = subst (λ (t : AtHand S). Walks s P left t new) e walks in
       let parts : w.piece ≡ s x ++ stands.others = sym (at_hand ∙ w.keeps.bytes) ∙ stands.bytes_are in
       let len : length (s x) ≡ length w.piece = w.spans x [] stands.others stands.fits (append-nil w.piece ∙ parts) in
       let none : stands.others ≡ [] = nil_from_length stands.others (omega (arith, len, ap length parts, length-append (s x) stands.others)) in
@@ -42,7 +39,7 @@ module _ {X S : Type 0} (s : X → List ℕ) (P : X → Type 0) (left : S → Op
   -- what was taken is no such thing
   pub missed : (old start new : AtHand S) → Walks s P left start new → start ≡ cleared old → IsMissing s P new.bytes → Halts s P left (cleared old) new stop.Long
   missed old start new walks e missing =
-      let w = started old start new walks e in
+      let w = subst (λ (t : AtHand S). Walks s P left t new) e walks in
       record {
         piece = w.piece;
         keeps = w.keeps;
