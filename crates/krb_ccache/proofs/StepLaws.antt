@@ -6,14 +6,14 @@ use Rattle.std.proofs.lemmas.List.{length-append, nil_from_length}
 use Rattle.krb_name.specs.Cursor.{Place}
 use Rattle.krb_name.specs.Window.{AtHand, Keeps}
 use Rattle.krb_name.specs.File.{file_limit, GivesWithin}
-use Rattle.krb_ccache.specs.Types.{CacheFault, Layout, Credential, BadItem, OutOfMemory, HeaderField}
+use Rattle.krb_ccache.specs.Types.{CacheFault, Layout, Credential, BadItem, OutOfMemory, HeaderField, Read}
 use Rattle.krb_ccache.specs.declared.walking.TakeFault.{TakeFault}
 use Rattle.krb_ccache.specs.declared.walking.TakeFault.TheVariants as stop
 use Rattle.krb_ccache.specs.Reader.{HeldPart, passed}
 use Rattle.krb_ccache.specs.Value.{FitsCredential}
 use Rattle.krb_ccache.specs.Inner.Standing.{bytes_of, Lies, IsMissing, spelled_as}
 use Rattle.krb_ccache.specs.Inner.Walking.{Walks, Halts, FitsKeyed, whole}
-use Rattle.krb_ccache.specs.Inner.Stepping.{Any, Stands, cleared, Comes, Gives, Runs, IsTold, Lacks, Misses, MissesOne, IsStep, IsAtHand, IsNone}
+use Rattle.krb_ccache.specs.Inner.Stepping.{Any, Stands, cleared, Comes, Gives, Runs, IsTold, Lacks, Misses, MissesOne, IsStep, IsAtHand, IsNone, Tells}
 use Rattle.std.specs.Prelude.{◌≢◌}
 use Rattle.krb_ccache.specs.Format.{version_of, head_bytes, FitsHead, second_size, Spelled, Spells}
 use Rattle.krb_name.proofs.FileLaws.{gives_then}
@@ -91,30 +91,21 @@ module _ {X S : Type 0} (s : X → List ℕ) (P : X → Type 0) (left : S → Op
     missing = λ x others p le e. omega (arith, h.wants x r.piece others p e, h.cant_come, h.keeps.given, le);
   }
 
-  halted : (old new : AtHand S) (stop : TakeFault) → Halts s P left (cleared old) new stop → (bytes : List ℕ) × Gives left old new bytes
-  halted old new stop h = (h.piece, some_given old new h.piece h.keeps h.within)
+  -- nothing was read after that
+  stayed : (old middle new : AtHand S) (stop : TakeFault) (fault told : CacheFault) → Halts s P left (cleared old) middle stop → new ≡ middle → (told ≢ Read → told ≢ OutOfMemory → Lacks s P left old middle) → (told ≢ OutOfMemory → Tells left middle fault told)
+      → Misses s P left old new fault told
+  stayed old middle new stop fault told h same lacks tells =
+      subst (λ (w : AtHand S). Misses s P left old w fault told) (sym same) (record { some = (h.piece, some_given old middle h.piece h.keeps h.within); lacks = lacks; tells = tells })
 
   pub misses : (old middle new : AtHand S) (stop : TakeFault) (fault told : CacheFault) → Halts s P left (cleared old) middle stop → IsTold left middle new stop fault told → Misses s P left old new fault told
-  misses old middle new stop.End fault told h t = subst (λ (w : AtHand S). Misses s P left old w fault told) (sym t.1) (record {
-    some = halted old middle stop.End h;
-    lacks = λ read memory. ended old middle h;
-    tells = λ memory. inr (inr (t.0, (h.cant_come.0, h.within)));
-  })
+  misses old middle new stop.End fault told h t = stayed old middle new stop.End fault told h t.1 (λ read memory. ended old middle h) (λ memory. inr (inr (t.0, (h.cant_come.0, h.within))))
   misses old middle new stop.Long fault told h t = record {
     some = (h.piece ++ t.0.piece, then_run old middle new h.piece h.keeps h.within t.0);
     lacks = λ read memory. ran old middle new h t.0;
     tells = λ memory. t.1;
   }
-  misses old middle new stop.Read fault told h t = subst (λ (w : AtHand S). Misses s P left old w fault told) (sym t.1) (record {
-    some = halted old middle stop.Read h;
-    lacks = λ read memory. absurd (read t.0);
-    tells = λ memory. inl t.0;
-  })
-  misses old middle new stop.OutOfMemory fault told h t = subst (λ (w : AtHand S). Misses s P left old w fault told) (sym t.1) (record {
-    some = halted old middle stop.OutOfMemory h;
-    lacks = λ read memory. absurd (memory t.0);
-    tells = λ memory. absurd (memory t.0);
-  })
+  misses old middle new stop.Read fault told h t = stayed old middle new stop.Read fault told h t.1 (λ read memory. absurd (read t.0)) (λ memory. inl t.0)
+  misses old middle new stop.OutOfMemory fault told h t = stayed old middle new stop.OutOfMemory fault told h t.1 (λ read memory. absurd (memory t.0)) (λ memory. absurd (memory t.0))
 
   -- the source gave at most one byte past the limit, whether a thing came or not
   pub comes_gives : (old new : AtHand S) (x : X) → Comes s P left old new x → GivesWithin (left old.source) (left new.source) old.given new.given
