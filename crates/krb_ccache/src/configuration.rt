@@ -1,6 +1,6 @@
 //! What a cache contains beside its tickets: the KDC's clock offset, and configuration entries.
 
-ghost use Rattle.std.specs.Prelude.{◌≡◌, ◌≢◌, ◌↔◌, All, IsTrue, IfNone, IfSome, codes, length};
+ghost use Rattle.std.specs.Prelude.{◌≡◌, ◌↔◌, All, IsTrue, IfNone, IfSome, codes, length};
 ghost use Rattle.krb_ccache.specs.Configuration.{IsOffset, BeginsWith, IsConfiguration};
 ghost use Rattle.krb_ccache.specs.Offset.{IsOffsetOf};
 
