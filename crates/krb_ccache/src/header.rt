@@ -1,6 +1,6 @@
 //! What comes before the default principal of a cache.
 
-ghost use Rattle.std.specs.Prelude.{◌≡◌, ◌<◌, ◌^◌, List, Err, None, Some, IfOk, IfErr, OnErr, length};
+ghost use Rattle.std.specs.Prelude.{◌≡◌, ◌<◌, ◌^◌, List, Err, None, Some, IfOk, IfErr, OnErr, length, [], ◌∷◌, ◌++◌, OnOk};
 ghost use Rattle.krb_name.specs.Field.{IsBytes};
 ghost use Rattle.krb_ccache.specs.Types.{HeaderField as HeaderFieldValue};
 ghost use Rattle.krb_ccache.specs.Spelling.{header_bytes};
@@ -87,7 +87,7 @@ fn read_fields(alloc: Global, body: &[u8]) -> Result<Vec<HeaderField>, ItemFault
     let mut header = Vec::new(alloc);
     while !cursor.is_at_end() {
         let field = read_field(&mut cursor)?;
-        header.push(field.to_field(alloc)?)?;
+        field.copy_to(alloc, &mut header)?;
     }
     Ok(header)
 }
@@ -120,14 +120,12 @@ impl<'a> Model for FieldView<'a> {
 }
 
 impl<'a> FieldView<'a> {
-    /// Copies the field.
-    fn to_field(&self, alloc: Global) -> Result<HeaderField, AllocError>
-        ensures { IfOk result (λ field. field ≡ self.now) }
+    /// Appends a copy of the field to a header.
+    fn copy_to(&self, alloc: Global, header: &mut Vec<HeaderField>) -> Result<(), AllocError>
+        ensures { OnOk result (header.new.items ≡ header.old.items ++ self.now ∷ []) }
     {
         let value = Bytes::from_slice(alloc, self.value)?;
-        Ok(HeaderField {
-            tag: self.tag,
-            value,
-        })
+        let tag = self.tag;
+        Ok(header.push(HeaderField { tag, value })?)
     }
 }

@@ -6,4 +6,4 @@ loop-cursor-smaller c = (field_goes c.args.body.now c.loop-cursor.cursor c.loop-
 
 pub loop-cursor-preserved : goal.loop-cursor-preserved
 loop-cursor-preserved c =
-    rw (c.in_ok-push.ensures.items, c.in_ok-to_field.ensures) (field_goes c.args.body.now c.loop-cursor.cursor c.loop-cursor.header.items c.in_ok-field.field c.read_field.new.cursor c.loop-cursor.invariant c.in_ok-field.ensures.read).reaches
+    rw c.in_ok-copy_to.ensures (field_goes c.args.body.now c.loop-cursor.cursor c.loop-cursor.header.items c.in_ok-field.field c.read_field.new.cursor c.loop-cursor.invariant c.in_ok-field.ensures.read).reaches
