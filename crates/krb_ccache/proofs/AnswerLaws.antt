@@ -8,28 +8,22 @@ use Rattle.std.proofs.lemmas.List.{drop_at, length-append, length-map, map-appen
 use Rattle.std.proofs.lemmas.List.Elements.{recursion_from_All}
 use Rattle.krb_name.specs.Cursor.{Place, data_at, number_bytes, data_bytes}
 use Rattle.krb_name.specs.Field.{IsBytes}
-use Rattle.krb_name.specs.declared.principal.Principal.{Principal}
+use Rattle.krb_ccache.specs.Types.{Principal, HeaderField, Credential, Layout, Version3, Version4, CacheFault, Version, Header, BadItem, TooLong, Read, OutOfMemory}
 use Rattle.krb_name.proofs.CursorLaws.{IsBytes-drop, IsField-data16}
-use Rattle.krb_ccache.specs.declared.credential.HeaderField.{HeaderField}
-use Rattle.krb_ccache.specs.declared.credential.Credential.{Credential}
-use Rattle.krb_ccache.specs.declared.layout.Layout.{Layout}
-use Rattle.krb_ccache.specs.declared.layout.Layout.TheVariants.{Version3, Version4}
 use Rattle.krb_ccache.specs.Spelling.{field_bytes, fields_bytes, header_bytes, name_bytes}
 use Rattle.krb_ccache.specs.Value.{Cache, FitsHeader, FitsName, Fits}
 use Rattle.krb_name.specs.File.{file_limit}
 use Rattle.krb_ccache.specs.Format.{version_of, head_bytes, FitsHead, start_bytes, written, Spelled, Spells, IsReached, IsCache, LacksVersion, LacksHeader, LacksDefault, IsFaultOf, IsAnswerOf}
-use Rattle.krb_ccache.specs.declared.fault.CacheFault.{CacheFault}
-use Rattle.krb_ccache.specs.declared.fault.CacheFault.TheVariants.{Version, Header, BadItem, TooLong, Read, OutOfMemory}
 use Rattle.krb_ccache.specs.Inner.Reading.{field_at, name_at, layout_at}
-use Rattle.krb_ccache.specs.Inner.Standing.{bytes_of, Lies, Reaches, IsMissing, Fills}
+use Rattle.krb_ccache.specs.Inner.Standing.{Opened, bytes_of, Lies, IsMissing, FitsField}
 use Rattle.krb_ccache.specs.Inner.Stepping.{Any}
 use Rattle.krb_ccache.specs.Reader.{HasTaken, IsFirstOf}
-use Rattle.krb_ccache.proofs.PartLaws.{FitsField, IsField-field, IsField-name, IsField-layout}
+use Rattle.krb_ccache.proofs.PartLaws.{IsField-field, IsField-name, IsField-layout}
 use Rattle.krb_ccache.proofs.CredentialLaws.{spelled_at, IsField-spelled}
 use Rattle.krb_ccache.proofs.Repeats.{same_front, same_things, first_things, runs_out}
 use Rattle.krb_ccache.proofs.HeaderLaws.{field_some, fits_fields, filled, filled_same, header_lies, header_cut, header_wrong, no_head, opened, no_version}
 use Rattle.krb_ccache.proofs.LayoutLaws.{credential_in, read_cache, written_reached, reached_written, reached_before}
-use Rattle.krb_ccache.proofs.FileLaws.{spelled_bytes_some, name_lies, name_missing, Begun, HasStart, header_read, cache_read, cache_found, header_fault, default_fault}
+use Rattle.krb_ccache.proofs.FileLaws.{spelled_bytes_some, name_lies, name_missing, HasStart, header_read, cache_read, cache_found, header_fault, default_fault}
 
 -- ---- at most one answer
 
@@ -68,6 +62,11 @@ same_start bytes layout other header also behind rest p q =
     let head = same_head other header also behind rest (subst (λ (l : Layout). FitsHead l header) first.0 p.fits) q.fits (ap (λ (l : Layout). head_bytes l header ++ behind) (sym first.0) ∙ first.1) in
     record { layouts = first.0; headers = head.0; behinds = head.1 }
 
+same_cache : (one other : Cache) → one.header ≡ other.header → one.default_principal ≡ other.default_principal → one.credentials ≡ other.credentials → one ≡ other
+same_cache one other e f g =
+    ap (λ (header : List HeaderField). record one { header = header }) e ∙ ap (λ (n : Principal). record { header = other.header; default_principal = n; credentials = one.credentials }) f
+    ∙ ap (λ (cs : List Credential). record other { credentials = cs }) g
+
 -- nothing more is there, or no credential
 abbrev pub Ends : Layout → List ℕ → Type 0
 Ends layout behind = (behind ≡ []) ⊎ IsMissing bytes_of (Spells layout) behind
@@ -93,8 +92,7 @@ module _ (bytes : List ℕ) where
       (recursion_from_All (Spells layout) q.spelled q.spell) ends too name.1 in
       let credentials : one.credentials ≡ other.credentials = p.credentials_are ∙ ap (map credential_in) items.0 ∙ sym q.credentials_are in
       record {
-        cache = ap (λ (header : List HeaderField). record one { header = header }) start.headers ∙ ap (λ (n : Principal). record { header = other.header; default_principal = n; credentials = one.credentials }) name.0
-            ∙ ap (λ (cs : List Credential). record other { credentials = cs }) credentials;
+        cache = same_cache one other start.headers name.0 credentials;
         offset = omega (
           arith,
           p.at_is,
@@ -162,8 +160,7 @@ taken_same whole left right layout also at here one other h k same =
     let first = first_reached whole layout also one other at here r.0 t.0 r.1 t.1 (inl (omega (arith, same))) in
     let none : first.0.others ≡ [] = nil_from_length first.0.others (omega (arith, ap length first.0.credentials, length-append one.credentials first.0.others, same)) in
     let credentials : one.credentials ≡ other.credentials = sym (first.0.credentials ∙ ap (λ (cs : List Credential). one.credentials ++ cs) none ∙ append-nil one.credentials) in
-    let caches : one ≡ other = ap (λ (header : List HeaderField). record one { header = header }) first.0.header ∙ ap (λ (n : Principal). record { header = other.header; default_principal = n; credentials = one.credentials }) first.0.default_principal
-    ∙ ap (λ (cs : List Credential). record other { credentials = cs }) credentials in
+    let caches : one ≡ other = same_cache one other first.0.header first.0.default_principal credentials in
     (caches, first.1 caches)
 
 -- a header, a principal and whole credentials, and what that says of the file
@@ -208,9 +205,6 @@ way bytes (Err OutOfMemory) a = absurd a
 
 -- what goes past one way is no other
 
-too_long : (bytes : List ℕ) → file_limit < length bytes → length bytes ≤ file_limit → ⊥
-too_long bytes p q = omega arith
-
 module _ (bytes : List ℕ) where
   ran_start : (v : Result Cache CacheFault) (r : Ran bytes v) → Start bytes r.layout r.cache.header (name_bytes r.cache.default_principal ++ after_name r.reached.spelled r.behind)
   ran_start v r = reached_start bytes r.layout r.at r.cache r.behind r.reached
@@ -238,26 +232,26 @@ module _ (bytes : List ℕ) where
 
   same_way : (v w : Result Cache CacheFault) → Way bytes v → Way bytes w → v ≡ w
   same_way v w (is_long p e) (is_long q f) = e ∙ sym f
-  same_way v w (is_long p e) (is_other q f) = absurd (too_long bytes p q.limit)
-  same_way v w (is_long p e) (is_wrong q f) = absurd (too_long bytes p q.limit)
-  same_way v w (is_long p e) (is_nameless at q f) = absurd (too_long bytes p q.limit)
-  same_way v w (is_long p e) (has_ran q) = absurd (too_long bytes p q.limit)
-  same_way v w (is_other p e) (is_long q f) = absurd (too_long bytes q p.limit)
+  same_way v w (is_long p e) (is_other q f) = absurd (omega (arith, p, q.limit))
+  same_way v w (is_long p e) (is_wrong q f) = absurd (omega (arith, p, q.limit))
+  same_way v w (is_long p e) (is_nameless at q f) = absurd (omega (arith, p, q.limit))
+  same_way v w (is_long p e) (has_ran q) = absurd (omega (arith, p, q.limit))
+  same_way v w (is_other p e) (is_long q f) = absurd (omega (arith, q, p.limit))
   same_way v w (is_other p e) (is_other q f) = e ∙ sym f
   same_way v w (is_other p e) (is_wrong q f) = absurd (p.missing q.layout q.behind q.bytes_are)
   same_way v w (is_other p e) (is_nameless at q f) = absurd (some_version q.layout q.header q.behind p (default_start at q))
   same_way v w (is_other p e) (has_ran q) = absurd (some_version q.layout q.cache.header _ p (ran_start w q))
-  same_way v w (is_wrong p e) (is_long q f) = absurd (too_long bytes q p.limit)
+  same_way v w (is_wrong p e) (is_long q f) = absurd (omega (arith, q, p.limit))
   same_way v w (is_wrong p e) (is_other q f) = absurd (q.missing p.layout p.behind p.bytes_are)
   same_way v w (is_wrong p e) (is_wrong q f) = e ∙ sym f
   same_way v w (is_wrong p e) (is_nameless at q f) = absurd (no_header q.layout q.header q.behind p (default_start at q))
   same_way v w (is_wrong p e) (has_ran q) = absurd (no_header q.layout q.cache.header _ p (ran_start w q))
-  same_way v w (is_nameless at p e) (is_long q f) = absurd (too_long bytes q p.limit)
+  same_way v w (is_nameless at p e) (is_long q f) = absurd (omega (arith, q, p.limit))
   same_way v w (is_nameless at p e) (is_other q f) = absurd (some_version p.layout p.header p.behind q (default_start at p))
   same_way v w (is_nameless at p e) (is_wrong q f) = absurd (no_header p.layout p.header p.behind q (default_start at p))
   same_way v w (is_nameless at p e) (is_nameless here q f) = e ∙ ap (λ (n : ℕ). Err (BadItem n)) (same_default at here p q) ∙ sym f
   same_way v w (is_nameless at p e) (has_ran q) = absurd (no_name at w p q)
-  same_way v w (has_ran p) (is_long q f) = absurd (too_long bytes q p.limit)
+  same_way v w (has_ran p) (is_long q f) = absurd (omega (arith, q, p.limit))
   same_way v w (has_ran p) (is_other q f) = absurd (some_version p.layout p.cache.header _ q (ran_start v p))
   same_way v w (has_ran p) (is_wrong q f) = absurd (no_header p.layout p.cache.header _ q (ran_start v p))
   same_way v w (has_ran p) (is_nameless at q f) = absurd (no_name at v q p)
@@ -326,7 +320,7 @@ module _ (layout : Layout) (bytes : List ℕ) where
   name_answer header place fits start (Some (name, middle)) e = credentials_answer header place name middle start (name_lies place name middle fits e)
 
 -- a file that has a header
-header_answer : (bytes : List ℕ) (place : Place) → IsBytes place.rest → Begun Version4 bytes place → (read : Option (List ℕ × Place)) → data_at w16 place ≡ read → HasAnswer bytes
+header_answer : (bytes : List ℕ) (place : Place) → IsBytes place.rest → Opened Version4 bytes place → (read : Option (List ℕ × Place)) → data_at w16 place ≡ read → HasAnswer bytes
 header_answer bytes place fits begun None e = (Err Header, header_fault Version4 bytes place begun (header_cut place e))
 header_answer bytes place fits begun (Some (body, behind)) e =
     let t = IsField-data16.takes place body behind fits e in
@@ -337,23 +331,19 @@ header_answer bytes place fits begun (Some (body, behind)) e =
           name_answer Version4 bytes ended.xs behind t.0.rest_fits (header_read Version4 bytes place ended.xs behind begun lies) (name_at behind) refl
       | inr more ↦ elim ended.end [
         | inl none ↦ absurd (more none)
-        | inr missing ↦ (Err Header, header_fault Version4 bytes place begun (header_wrong place body behind fits e (stopped body ended.behind ended.xs ended.reach more missing)))
+        | inr missing ↦ (Err Header, header_fault Version4 bytes place begun (header_wrong place body behind fits e (λ header fills. more (filled_same body ended.behind ended.xs ended.reach (inr missing) header fills))))
       ]
     ]
-  where
-    stopped : (body : List ℕ) (place : Place) (fields : List HeaderField) → Reaches field_bytes FitsField (record { at = 0; rest = body }) fields place → (place.rest ≡ [] → ⊥) → IsMissing field_bytes FitsField place.rest
-        → (header : List HeaderField) → Fills body header → ⊥
-    stopped body place fields reaches more missing header fills = more (filled_same body place fields reaches (inr missing) header fills)
 
-head_answer : (layout : Layout) (bytes : List ℕ) (place : Place) → IsBytes place.rest → Begun layout bytes place → HasAnswer bytes
+head_answer : (layout : Layout) (bytes : List ℕ) (place : Place) → IsBytes place.rest → Opened layout bytes place → HasAnswer bytes
 head_answer Version3 bytes place fits begun = name_answer Version3 bytes [] place fits (header_read Version3 bytes place [] place begun (no_head place [] fits refl)) (name_at place) refl
 head_answer Version4 bytes place fits begun = header_answer bytes place fits begun (data_at w16 place) refl
 
 version_answer : (bytes : List ℕ) → IsBytes bytes → length bytes ≤ file_limit → (read : Option (Layout × Place)) → layout_at (record { at = 0; rest = bytes }) ≡ read → HasAnswer bytes
 version_answer bytes fits limit None e = (Err Version, record { limit = limit; missing = no_version bytes (record { at = 0; rest = bytes }) refl e })
 version_answer bytes fits limit (Some (layout, place)) e =
-    let o = opened layout bytes (record { at = 0; rest = bytes }) place fits refl e in
-    head_answer layout bytes place o.fits (record { limit = limit; at = o.at; rest = o.rest })
+    let o = opened layout bytes (record { at = 0; rest = bytes }) place limit fits refl e in
+    head_answer layout bytes place o.fits o
 
 pub some_answer : (bytes : List ℕ) → IsBytes bytes → HasAnswer bytes
 some_answer bytes fits =

@@ -10,9 +10,9 @@ use Rattle.std.proofs.lemmas.List.{take_at, drop_at}
 use Rattle.std.proofs.lemmas.List.Elements.{recursion_from_All}
 use Rattle.std.proofs.lemmas.Nat.{from_be_bytes-to_be_bytes_4}
 use Rattle.krb_name.specs.Cursor.{signed_bytes}
-use Rattle.krb_ccache.specs.declared.credential.HeaderField.{HeaderField}
+use Rattle.krb_ccache.specs.Types.{HeaderField}
 use Rattle.krb_ccache.specs.Configuration.{IsOffset, HoldsOffset}
-use Rattle.krb_ccache.specs.Offset.{signed_of, clock_offset}
+use Rattle.krb_ccache.specs.Offset.{signed_of, clock_offset, IsOffsetOf}
 
 signed_back : (z : ℤ) → FitsSigned w32 z → signed_of (signed_bytes w32 z) ≡ z
 signed_back z fits = ap (cast_signed w32) (from_be_bytes-to_be_bytes_4 (cast_unsigned w32 z) (Fits-of_z fits).fits) ∙ to_z-of_z w32 z fits
@@ -42,6 +42,7 @@ no_field (other ∷ header) none = let not : eqb other.tag 1 ≡ false = ne_eqb 
 pub none_computed : (header : List HeaderField) → All (λ field. field.tag ≢ 1) header → clock_offset header ≡ None
 none_computed header none = no_field header (recursion_from_All (λ other. other.tag ≢ 1) header none)
 
-pub answer_computed : (header : List HeaderField) (result : Option (ℤ × ℤ)) → IfSome result (λ offset. HoldsOffset header offset.0 offset.1) → IfNone result (All (λ field. field.tag ≢ 1) header) → result ≡ clock_offset header
-answer_computed header None some none = sym (none_computed header none)
-answer_computed header (Some offset) some none = sym (held_computed header offset.0 offset.1 some)
+-- the offset that a field holds is that of the header
+pub offset_there : (header : List HeaderField) (result : Option (ℤ × ℤ)) → IfNone result ⊥ → IfSome result (λ offset. HoldsOffset header offset.0 offset.1) → IsOffsetOf header result
+offset_there header None none some = absurd none
+offset_there header (Some offset) none some = record { some = some; none = tt; computed = sym (held_computed header offset.0 offset.1 some) }

@@ -1,5 +1,5 @@
 -- Fields that are joined of others are read as they are spelled.
-use Rattle.std.proofs.Common.{◌≡◌, ℕ, ◌+◌, ◌<◌, ◌^◌, Bool, true, cond, List, ◌++◌, length, Option, Some, None, refl, sym, ap, subst, ◌∙◌, append_assoc, arith}
+use Rattle.std.proofs.Common.{◌≡◌, ℕ, ◌+◌, ◌<◌, ◌^◌, Bool, true, cond, List, ◌++◌, length, Option, Some, None, refl, sym, subst, append_assoc, arith}
 use Rattle.std.specs.Int.{w32}
 use Rattle.std.specs.Prelude.{All}
 use Rattle.std.specs.List.{flat_map}
@@ -11,6 +11,20 @@ use Rattle.krb_name.specs.Field.{IsBytes, Takes, IsField}
 use Rattle.krb_name.proofs.CursorLaws.{bind_some, some_is, Takes-then, IsField-u32}
 use Rattle.krb_name.proofs.Repeated.{IsField-times}
 use Rattle.krb_ccache.specs.Inner.Reading.{both_at, made_at, passing_at, counted_at}
+
+-- ---- one read after another
+
+pub bind_assoc : {A B C : Type 0} (o : Option A) (f : A → Option B) (g : B → Option C) → ((o >>= f) >>= g) ≡ (o >>= λ x. f x >>= g)
+bind_assoc None f g = refl
+bind_assoc (Some x) f g = refl
+
+pub bind_same : {A B : Type 0} (o : Option A) (f g : A → Option B) → ((x : A) → f x ≡ g x) → (o >>= f) ≡ (o >>= g)
+bind_same None f g e = refl
+bind_same (Some x) f g e = e x
+
+pub none_then : {A B : Type 0} (o : Option A) (f : A → B) → (o >>= λ x. Some (f x)) ≡ None → o ≡ None
+none_then None f e = refl
+none_then (Some x) f e = absurd cc
 
 -- ---- one behind the other
 
@@ -57,28 +71,17 @@ both one other = record {
 -- ---- what is made of another
 
 -- a value is made of its parts, and spelled and in range as they are
-pub record IsMade {X Y : Type 0} (make : X → Y) (sx : X → List ℕ) (PX : X → Type 0) (sy : Y → List ℕ) (PY : Y → Type 0) : Type 0 where
-  pub parts : Y → X
-  pub back : (y : Y) → make (parts y) ≡ y
-  pub spelled : (x : X) → sx x ≡ sy (make x)
-  pub ranges : (x : X) → PX x → PY (make x)
-  pub in_parts : (y : Y) → PY y → PX (parts y)
-
-module _ {X Y : Type 0} (make : X → Y) (rx : Place → Option (X × Place)) (sx : X → List ℕ) (PX : X → Type 0) (fx : IsField rx sx PX) (sy : Y → List ℕ) (PY : Y → Type 0) (made : IsMade make sx PX sy PY) where
-  made_take : (place : Place) (y : Y) (behind : Place) → IsBytes place.rest → made_at make rx place ≡ Some (y, behind) → Takes place (sy y) behind × PY y
+module _ {X Y : Type 0} (make : X → Y) (parts : Y → X) (back : (y : Y) → make (parts y) ≡ y) (forth : (x : X) → parts (make x) ≡ x) (rx : Place → Option (X × Place)) (sx : X → List ℕ) (PX : X → Type 0) (fx : IsField rx sx PX) where
+  made_take : (place : Place) (y : Y) (behind : Place) → IsBytes place.rest → made_at make rx place ≡ Some (y, behind) → Takes place (sx (parts y)) behind × PX (parts y)
   made_take place y behind fits e =
       let a = bind_some (rx place) (λ p. Some (make p.0, p.1)) (y, behind) e in
       let t = fx.takes place a.0.0 a.0.1 fits a.1 in
-      subst (λ (p : Y × Place). Takes place (sy p.0) p.1 × PY p.0) (some_is (make a.0.0, a.0.1) (y, behind) a.2)
-      (subst (λ (text : List ℕ). Takes place text a.0.1) (made.spelled a.0.0) t.0, made.ranges a.0.0 t.1)
+      subst (λ (p : Y × Place). Takes place (sx (parts p.0)) p.1 × PX (parts p.0)) (some_is (make a.0.0, a.0.1) (y, behind) a.2) (subst (λ (x : X). Takes place (sx x) a.0.1 × PX x) (sym (forth a.0.0)) t)
 
-  made_again : (at : ℕ) (y : Y) (rest : List ℕ) → PY y → made_at make rx (record { at = at; rest = sy y ++ rest }) ≡ Some (y, record { at = at + length (sy y); rest = rest })
-  made_again at y rest h =
-      let same : sy y ≡ sx (made.parts y) = sym (made.spelled (made.parts y) ∙ ap sy (made.back y)) in
-      let read = fx.again at (made.parts y) rest (made.in_parts y h) in
-      rw (same, read, made.back y) refl
+  made_again : (at : ℕ) (y : Y) (rest : List ℕ) → PX (parts y) → made_at make rx (record { at = at; rest = sx (parts y) ++ rest }) ≡ Some (y, record { at = at + length (sx (parts y)); rest = rest })
+  made_again at y rest h = let read = fx.again at (parts y) rest h in rw (read, back y) refl
 
-  pub IsField-made : IsField (made_at make rx) sy PY
+  pub IsField-made : IsField (made_at make rx) (λ y. sx (parts y)) (λ y. PX (parts y))
   IsField-made = record { takes = made_take; again = made_again }
 
 -- ---- what passes a test

@@ -1,34 +1,28 @@
 -- What is read of a file, part by part, is what the file says.
-use Rattle.std.proofs.Common.{◌≡◌, ℕ, ◌<◌, ◌≤◌, List, [], ◌∷◌, ◌++◌, length, map, Some, None, refl, sym, ap, subst, ◌∙◌, append_assoc, arith, inl, inr}
+use Rattle.std.proofs.Common.{◌≡◌, ℕ, ◌<◌, ◌≤◌, List, [], ◌∷◌, ◌++◌, length, map, Some, None, sym, ap, subst, ◌∙◌, append_assoc, arith, inl, inr}
 use Rattle.std.specs.Prelude.{All, IfSome}
 use Rattle.std.specs.List.{flat_map}
 use Rattle.std.proofs.lemmas.List.{length-append}
 use Rattle.std.proofs.lemmas.List.Elements.{recursion_from_All}
 use Rattle.krb_name.specs.Cursor.{Place}
 use Rattle.krb_name.specs.Field.{IsBytes}
-use Rattle.krb_name.specs.declared.principal.Principal.{Principal}
-use Rattle.krb_ccache.specs.declared.credential.HeaderField.{HeaderField}
-use Rattle.krb_ccache.specs.declared.credential.Credential.{Credential}
-use Rattle.krb_ccache.specs.declared.layout.Layout.{Layout}
-use Rattle.krb_ccache.specs.declared.layout.Layout.TheVariants.{Version3, Version4}
+use Rattle.krb_ccache.specs.Types.{Principal, HeaderField, Credential, Layout, CacheFault, Version, Header, BadItem, TooLong, Read, OutOfMemory}
 use Rattle.krb_ccache.specs.Spelling.{name_bytes}
 use Rattle.krb_ccache.specs.Value.{Cache, FitsName, FitsCredential}
 use Rattle.krb_ccache.specs.Fault.{offset_of}
 use Rattle.krb_name.specs.File.{file_limit}
 use Rattle.krb_ccache.specs.Format.{version_of, head_bytes, FitsHead, start_bytes, Spelled, Spells, IsReached, IsCache, IsFaultOf}
-use Rattle.krb_ccache.specs.declared.fault.CacheFault.{CacheFault}
-use Rattle.krb_ccache.specs.declared.fault.CacheFault.TheVariants.{Version, Header, BadItem, TooLong, Read, OutOfMemory}
 use Rattle.krb_ccache.specs.Inner.Reading.{name_at}
-use Rattle.krb_ccache.specs.Inner.Standing.{bytes_of, spelled_as, Lies, LiesOne, Reaches, IsMissing, StopsBy}
+use Rattle.krb_ccache.specs.Inner.Standing.{Opened, bytes_of, spelled_as, Lies, LiesOne, Reaches, IsMissing, StopsBy}
 use Rattle.krb_ccache.proofs.PartLaws.{IsField-name}
 use Rattle.krb_ccache.proofs.CredentialLaws.{spelled_at, IsField-spelled}
-use Rattle.krb_ccache.proofs.Repeats.{missing_where, reach_none, reach_more}
-use Rattle.krb_ccache.proofs.LayoutLaws.{credential_some, credential_in, all_fit, map_more, read_cache, is_reached, reached_within}
+use Rattle.krb_ccache.proofs.Repeats.{lies_where, missing_where, reach_none, Goes, goes}
+use Rattle.krb_ccache.proofs.LayoutLaws.{version_length, grouped, credential_some, credential_in, all_fit, map_more, read_cache, is_reached, reached_within}
 
 -- ---- the default principal
 
 pub name_lies : (place : Place) (name : Principal) (behind : Place) → IsBytes place.rest → name_at place ≡ Some (name, behind) → Lies name_bytes FitsName place name behind
-name_lies place name behind fits e = let t = IsField-name.takes place name behind fits e in record { fits = t.1; takes = t.0 }
+name_lies place name behind fits e = lies_where name_at name_bytes FitsName IsField-name place name behind fits e
 
 pub name_missing : (place : Place) → name_at place ≡ None → IsMissing name_bytes FitsName place.rest
 name_missing place none = missing_where name_at name_bytes FitsName IsField-name place none
@@ -41,21 +35,13 @@ spelled_bytes_some layout one h = omega (arith, credential_some one.credential h
 pub none_reached : (layout : Layout) (start place : Place) → IsBytes start.rest → place ≡ start → Reaches bytes_of (Spells layout) start [] place
 none_reached layout start place fits e = rw e (reach_none (spelled_at layout) bytes_of (Spells layout) (IsField-spelled layout) start fits)
 
--- one credential more
-pub record Goes (layout : Layout) (start place : Place) (spelled : List Spelled) (one : Spelled) (behind : Place) : Type 0 where
-  pub reaches : Reaches bytes_of (Spells layout) start (spelled ++ one ∷ []) behind
-  pub smaller : length behind.rest < length place.rest
-
-pub credential_goes : (layout : Layout) (start place : Place) (spelled : List Spelled) (one : Spelled) (behind : Place) → Reaches bytes_of (Spells layout) start spelled place → Lies bytes_of (Spells layout) place one behind → Goes layout start place spelled one behind
-credential_goes layout start place spelled one behind reaches lies = record {
-  reaches = reach_more (spelled_at layout) bytes_of (Spells layout) (IsField-spelled layout) start spelled place one behind reaches lies;
-  smaller = omega (arith, spelled_bytes_some layout one lies.fits, ap length lies.takes.parts, length-append one.bytes behind.rest);
-}
+pub credential_goes : (layout : Layout) (start place : Place) (spelled : List Spelled) (one : Spelled) (behind : Place) → Reaches bytes_of (Spells layout) start spelled place → Lies bytes_of (Spells layout) place one behind
+    → Goes (spelled_at layout) bytes_of (Spells layout) (IsField-spelled layout) (spelled_bytes_some layout) start place spelled one behind
+credential_goes layout start place spelled one behind reaches lies = goes _ _ _ (IsField-spelled layout) (spelled_bytes_some layout) start place spelled one behind reaches lies
 
 pub stops : (layout : Layout) (start place : Place) (spelled : List Spelled) (fault : CacheFault) → Reaches bytes_of (Spells layout) start spelled place → (place.rest ≡ [] → ⊥)
     → (fault ≡ BadItem place.at) × IsMissing bytes_of (Spells layout) place.rest → StopsBy layout start fault
-stops layout start place spelled fault reaches more h =
-    subst (StopsBy layout start) (sym h.0) (record { credentials = spelled; behind = place; reaches = reaches; at_is = refl; more = more; missing = h.1 })
+stops layout start place spelled fault reaches more h = record { credentials = spelled; behind = place; reaches = reaches; fault_is = h.0; more = more; missing = h.1 }
 
 -- the credentials so far, with their spellings
 pub record ReadTo (layout : Layout) (start place : Place) (credentials : List Credential) : Type 0 where
@@ -79,23 +65,14 @@ read_fit layout start place credentials so_far =
 
 -- ---- the file so far
 
-pub record Begun (layout : Layout) (bytes : List ℕ) (place : Place) : Type 0 where
-  pub limit : length bytes ≤ file_limit
-  pub at : place.at ≡ 2
-  pub rest : bytes ≡ version_of layout ++ place.rest
-
 pub record HasStart (layout : Layout) (bytes : List ℕ) (header : List HeaderField) (place : Place) : Type 0 where
   pub limit : length bytes ≤ file_limit
   pub fits : FitsHead layout header
   pub bytes_are : bytes ≡ start_bytes layout header ++ place.rest
   pub at : place.at ≡ length (start_bytes layout header)
 
-version_length : (layout : Layout) → length (version_of layout) ≡ 2
-version_length Version3 = refl
-version_length Version4 = refl
-
 module _ (layout : Layout) where
-  pub header_read : (bytes : List ℕ) (place : Place) (header : List HeaderField) (behind : Place) → Begun layout bytes place → Lies (head_bytes layout) (FitsHead layout) place header behind → HasStart layout bytes header behind
+  pub header_read : (bytes : List ℕ) (place : Place) (header : List HeaderField) (behind : Place) → Opened layout bytes place → Lies (head_bytes layout) (FitsHead layout) place header behind → HasStart layout bytes header behind
   header_read bytes place header behind begun lies = record {
     limit = begun.limit;
     fits = lies.fits;
@@ -110,8 +87,7 @@ module _ (layout : Layout) where
       let n : List ℕ = name_bytes name in
       let c : List ℕ = flat_map bytes_of spelled in
       let parts : place.rest ≡ n ++ (c ++ behind.rest) = lies.takes.parts ∙ ap (λ (t : List ℕ). n ++ t) reaches.takes.parts in
-      let grouped : (s ++ (n ++ c)) ++ behind.rest ≡ s ++ (n ++ (c ++ behind.rest)) = append_assoc s (n ++ c) behind.rest ∙ ap (λ (t : List ℕ). s ++ t) (append_assoc n c behind.rest) in
-      is_reached layout bytes behind.at header name spelled behind.rest start.fits lies.fits reaches.fit (start.bytes_are ∙ ap (λ (t : List ℕ). s ++ t) parts ∙ sym grouped)
+      is_reached layout bytes behind.at header name spelled behind.rest start.fits lies.fits reaches.fit (start.bytes_are ∙ ap (λ (t : List ℕ). s ++ t) parts ∙ sym (grouped s n c behind.rest))
       (omega (arith, start.at, lies.takes.at, reaches.takes.at, length-append s (n ++ c), length-append n c))
 
   pub cache_found : (bytes : List ℕ) (at : ℕ) (cache : Cache) (rest : List ℕ) → length bytes ≤ file_limit → IsReached layout bytes at cache rest → rest ≡ [] → IsCache bytes cache
@@ -124,7 +100,7 @@ module _ (layout : Layout) where
       let has = cache_read bytes header place name middle so_far.spelled behind start lies so_far.reaches in
       subst (λ (cs : List Credential). IsCache bytes (record { header = header; default_principal = name; credentials = cs })) (sym so_far.are) (cache_found bytes behind.at (read_cache header name so_far.spelled) behind.rest start.limit has end)
 
-  pub header_fault : (bytes : List ℕ) (place : Place) → Begun layout bytes place → IsMissing (head_bytes layout) (FitsHead layout) place.rest → IsFaultOf bytes Header
+  pub header_fault : (bytes : List ℕ) (place : Place) → Opened layout bytes place → IsMissing (head_bytes layout) (FitsHead layout) place.rest → IsFaultOf bytes Header
   header_fault bytes place begun missing = record { limit = begun.limit; layout = layout; behind = place.rest; bytes_are = begun.rest; missing = missing }
 
   pub default_fault : (bytes : List ℕ) (header : List HeaderField) (place : Place) (fault : CacheFault) → HasStart layout bytes header place → (fault ≡ BadItem place.at) × IsMissing name_bytes FitsName place.rest → IsFaultOf bytes fault
@@ -133,22 +109,16 @@ module _ (layout : Layout) where
 
   pub credential_fault : (bytes : List ℕ) (header : List HeaderField) (place : Place) (name : Principal) (middle : Place) (fault : CacheFault) → HasStart layout bytes header place → Lies name_bytes FitsName place name middle → StopsBy layout middle fault
       → IsFaultOf bytes fault
-  credential_fault bytes header place name middle (BadItem at) start lies s =
-      let has = cache_read bytes header place name middle s.credentials s.behind start lies s.reaches in
-      inr (record {
+  credential_fault bytes header place name middle fault start lies s =
+      subst (IsFaultOf bytes) (sym s.fault_is) (inr (record {
         limit = start.limit;
         layout = layout;
         cache = read_cache header name s.credentials;
         behind = s.behind.rest;
-        reached = subst (λ (n : ℕ). IsReached layout bytes n (read_cache header name s.credentials) s.behind.rest) (sym s.at_is) has;
+        reached = cache_read bytes header place name middle s.credentials s.behind start lies s.reaches;
         more = s.more;
         missing = s.missing;
-      })
-  credential_fault bytes header place name middle Version start lies s = absurd s
-  credential_fault bytes header place name middle Header start lies s = absurd s
-  credential_fault bytes header place name middle TooLong start lies s = absurd s
-  credential_fault bytes header place name middle Read start lies s = absurd s
-  credential_fault bytes header place name middle OutOfMemory start lies s = absurd s
+      }))
 
 -- ---- an offset lies within the file
 

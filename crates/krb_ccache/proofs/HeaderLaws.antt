@@ -1,24 +1,24 @@
 -- The header of a cache, and its version.
-use Rattle.std.proofs.Common.{◌≡◌, ◌⊎◌, ℕ, ◌+◌, ◌<◌, ◌^◌, Bool, true, false, eqb, List, [], ◌∷◌, ◌++◌, length, Some, None, refl, sym, ap, subst, ◌∙◌, append-nil, arith, inl, inr}
+use Rattle.std.proofs.Common.{◌≡◌, ◌⊎◌, ℕ, ◌<◌, ◌≤◌, ◌^◌, true, List, [], ◌++◌, length, Some, None, refl, sym, ap, subst, ◌∙◌, append-nil, arith, inl, inr}
 use Rattle.std.specs.Int.{w16}
 use Rattle.std.specs.Prelude.{All}
-use Rattle.std.proofs.lemmas.Bool.{eqb-true, eq-eqb}
+use Rattle.std.proofs.lemmas.Bool.Decides.{nat_tests}
 use Rattle.std.proofs.lemmas.List.{length-append}
 use Rattle.std.proofs.lemmas.List.Elements.{recursion_from_All}
 use Rattle.krb_name.specs.Cursor.{Place, data_at, number_bytes, data_bytes}
 use Rattle.krb_name.specs.Field.{IsBytes, Takes}
+use Rattle.krb_name.specs.File.{file_limit}
 use Rattle.krb_name.proofs.CursorLaws.{IsField-data16}
-use Rattle.krb_ccache.specs.declared.credential.HeaderField.{HeaderField}
+use Rattle.krb_ccache.specs.Types.{HeaderField, Layout, Version3}
 use Rattle.krb_ccache.specs.Spelling.{field_bytes, fields_bytes, header_bytes}
 use Rattle.krb_ccache.specs.Value.{FitsHeader}
-use Rattle.krb_ccache.specs.declared.layout.Layout.{Layout}
-use Rattle.krb_ccache.specs.declared.layout.Layout.TheVariants.{Version3, Version4}
 use Rattle.krb_ccache.specs.Format.{version_of, head_bytes, FitsHead}
 use Rattle.krb_ccache.specs.Inner.Stepping.{Any}
 use Rattle.krb_ccache.specs.Inner.Reading.{is_field, field_at, layout_at}
-use Rattle.krb_ccache.specs.Inner.Standing.{Lies, Reaches, IsMissing, Fills}
-use Rattle.krb_ccache.proofs.PartLaws.{Short16, FitsField, IsField-field, IsField-layout}
-use Rattle.krb_ccache.proofs.Repeats.{same_front, missing_where, same_things, reach_none, reach_more}
+use Rattle.krb_ccache.specs.Inner.Standing.{Opened, Lies, Reaches, IsMissing, Fills, FitsField}
+use Rattle.krb_ccache.proofs.PartLaws.{Short16, IsField-field, IsField-layout}
+use Rattle.krb_ccache.proofs.LayoutLaws.{version_length}
+use Rattle.krb_ccache.proofs.Repeats.{same_front, lies_where, missing_where, same_things, reach_none, Goes, goes}
 
 -- ---- the fields
 
@@ -26,18 +26,10 @@ pub field_some : (field : HeaderField) → FitsField field → 0 < length (field
 field_some field fits = omega (arith, length-append (number_bytes w16 field.tag) (data_bytes w16 field.value))
 
 offset_length : (field : HeaderField) → is_field field ≡ true → field.tag ≡ 1 → length field.value ≡ 8
-offset_length field passes tag = tested (eqb (length field.value) 8) refl
-  where
-    tested : (b : Bool) → eqb (length field.value) 8 ≡ b → length field.value ≡ 8
-    tested true e = eqb-true _ _ e
-    tested false e = let t : eqb field.tag 1 ≡ true = eq-eqb _ _ tag in let h = rw (t, e) at passes in cc
+offset_length field passes tag = grind (arith, nat_tests)
 
 has_length : (field : HeaderField) → (field.tag ≡ 1 → length field.value ≡ 8) → is_field field ≡ true
-has_length field h = tested (eqb field.tag 1) refl
-  where
-    tested : (b : Bool) → eqb field.tag 1 ≡ b → is_field field ≡ true
-    tested false e = rw e refl
-    tested true e = let n : eqb (length field.value) 8 ≡ true = eq-eqb _ _ (h (eqb-true _ _ e)) in rw (e, n) refl
+has_length field h = grind (arith, nat_tests)
 
 pub fields_fit : (fields : List HeaderField) → All FitsField fields → length (fields_bytes fields) < 2 ^ 16 → FitsHeader fields
 fields_fit fields fit whole = record {
@@ -53,18 +45,10 @@ fits_fields fields fits = λ k d lt. ((fits.tags k d lt, fits.lengths.values k d
 pub start_of : (body : List ℕ) (place : Place) (fields : List HeaderField) → IsBytes body → place ≡ record { at = 0; rest = body } → fields ≡ [] → Reaches field_bytes FitsField (record { at = 0; rest = body }) fields place
 start_of body place fields fits e f = rw (e, f) (reach_none field_at field_bytes FitsField IsField-field (record { at = 0; rest = body }) fits)
 
-pub record Goes (body : List ℕ) (place : Place) (fields : List HeaderField) (behind : Place) : Type 0 where
-  pub reaches : Reaches field_bytes FitsField (record { at = 0; rest = body }) fields behind
-  pub smaller : length behind.rest < length place.rest
-
 pub field_goes : (body : List ℕ) (place : Place) (fields : List HeaderField) (field : HeaderField) (behind : Place) → Reaches field_bytes FitsField (record { at = 0; rest = body }) fields place
-    → field_at place ≡ Some (field, behind) → Goes body place (fields ++ field ∷ []) behind
+    → field_at place ≡ Some (field, behind) → Goes field_at field_bytes FitsField IsField-field field_some (record { at = 0; rest = body }) place fields field behind
 field_goes body place fields field behind reaches e =
-    let t = IsField-field.takes place field behind reaches.takes.rest_fits e in
-    record {
-      reaches = reach_more field_at field_bytes FitsField IsField-field (record { at = 0; rest = body }) fields place field behind reaches (record { fits = t.1; takes = t.0 });
-      smaller = omega (arith, field_some field t.1, ap length t.0.parts, length-append (field_bytes field) behind.rest);
-    }
+    goes _ _ _ IsField-field field_some (record { at = 0; rest = body }) place fields field behind reaches (lies_where _ _ _ IsField-field place field behind reaches.takes.rest_fits e)
 
 pub filled : (body : List ℕ) (place : Place) (fields : List HeaderField) → length body < 2 ^ 16 → Reaches field_bytes FitsField (record { at = 0; rest = body }) fields place → place.rest ≡ [] → Fills body fields
 filled body place fields short reaches end =
@@ -106,19 +90,10 @@ no_head place header fits none = record { fits = none; takes = record { parts = 
 
 -- ---- the version
 
-pub record Opens (layout : Layout) (bytes : List ℕ) (place : Place) : Type 0 where
-  pub at : place.at ≡ 2
-  pub rest : bytes ≡ version_of layout ++ place.rest
-  pub fits : IsBytes place.rest
-
-pub opened : (layout : Layout) (bytes : List ℕ) (start place : Place) → IsBytes bytes → start ≡ record { at = 0; rest = bytes } → layout_at start ≡ Some (layout, place) → Opens layout bytes place
-opened layout bytes start place fits e read =
+pub opened : (layout : Layout) (bytes : List ℕ) (start place : Place) → length bytes ≤ file_limit → IsBytes bytes → start ≡ record { at = 0; rest = bytes } → layout_at start ≡ Some (layout, place) → Opened layout bytes place
+opened layout bytes start place limit fits e read =
     let t = IsField-layout.takes (record { at = 0; rest = bytes }) layout place fits (subst (λ (p : Place). layout_at p ≡ Some (layout, place)) e read) in
-    record { at = t.0.at ∙ two layout; rest = t.0.parts; fits = t.0.rest_fits }
-  where
-    two : (l : Layout) → 0 + length (version_of l) ≡ 2
-    two Version3 = refl
-    two Version4 = refl
+    record { limit = limit; at = omega (arith, t.0.at, version_length layout); rest = t.0.parts; fits = t.0.rest_fits }
 
 pub no_version : (bytes : List ℕ) (start : Place) → start ≡ record { at = 0; rest = bytes } → layout_at start ≡ None → (layout : Layout) (others : List ℕ) → bytes ≡ version_of layout ++ others → ⊥
 no_version bytes start e none layout others is =

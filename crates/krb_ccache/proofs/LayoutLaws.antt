@@ -1,21 +1,15 @@
 -- What lies up to an offset of a file, whichever its layout is.
 use Rattle.std.proofs.Common.{◌≡◌, ℕ, ◌+◌, ◌<◌, ◌≤◌, List, [], ◌∷◌, ◌++◌, length, map, refl, sym, ap, ap₂, subst, ◌∙◌, append_assoc, append-nil, arith}
 use Rattle.std.specs.Prelude.{All, ◌^◌}
-use Rattle.std.specs.Int.{w16, w32}
 use Rattle.std.specs.List.{flat_map, AllByRecursion}
 use Rattle.std.proofs.lemmas.List.{length-append, nil_from_length}
 use Rattle.std.proofs.lemmas.List.Concat.{flat_map-cons, flat_map-append}
 use Rattle.std.proofs.lemmas.List.Elements.{recursion_from_All, All-nil, All-cons, All-push}
-use Rattle.krb_name.specs.Cursor.{number_bytes, signed_bytes, data_bytes}
-use Rattle.krb_name.specs.declared.principal.Principal.{Principal}
-use Rattle.krb_ccache.specs.declared.credential.HeaderField.{HeaderField}
-use Rattle.krb_ccache.specs.declared.credential.Credential.{Credential}
-use Rattle.krb_ccache.specs.declared.layout.Layout.{Layout}
-use Rattle.krb_ccache.specs.declared.layout.Layout.TheVariants.{Version3, Version4}
-use Rattle.krb_ccache.specs.Spelling.{name_bytes, flag_bytes, list_bytes, keyed_bytes, credential_bytes}
+use Rattle.krb_ccache.specs.Types.{Principal, HeaderField, Credential, Layout, Version3, Version4}
+use Rattle.krb_ccache.specs.Spelling.{name_bytes, keyed_bytes, credential_bytes}
 use Rattle.krb_ccache.specs.Value.{Cache, cache_of, FitsHeader, FitsName, FitsCredential, Fits}
 use Rattle.krb_name.specs.File.{file_limit}
-use Rattle.krb_ccache.specs.Format.{FitsHead, start_bytes, written, Spelled, Spells, credential_length, IsReached, IsCache}
+use Rattle.krb_ccache.specs.Format.{version_of, FitsHead, start_bytes, written, Spelled, Spells, credential_length, IsReached, IsCache}
 use Rattle.krb_ccache.specs.Inner.Standing.{bytes_of, spelled_as}
 use Rattle.krb_ccache.specs.Reader.{with_credential}
 
@@ -30,39 +24,22 @@ head_fits Version4 header fits = fits
 
 -- ---- how many bytes
 
+pub version_length : (layout : Layout) → length (version_of layout) ≡ 2
+version_length Version3 = refl
+version_length Version4 = refl
+
 pub name_more : (name : Principal) → 12 ≤ length (name_bytes name)
-name_more name =
-    let components : List ℕ = flat_map (data_bytes w32) name.components in
-    let realm : List ℕ = data_bytes w32 name.realm ++ components in
-    omega (arith, length-append (signed_bytes w32 name.name_type) (number_bytes w32 (length name.components) ++ realm), length-append (number_bytes w32 (length name.components)) realm, length-append (data_bytes w32 name.realm) components, length-append (number_bytes w32 (length name.realm)) name.realm)
+name_more name = simp length-append (omega arith)
 
 -- the bytes after the encryption type, and all others
 pub keyed_length : (c : Credential) (second : List ℕ) → length (keyed_bytes c second) ≡ length (credential_bytes c) + length second
-keyed_length c second =
-    let others : List ℕ =
-    data_bytes w32 c.key ++ (number_bytes w32 c.authtime ++ (number_bytes w32 c.starttime ++ (number_bytes w32 c.endtime ++ (number_bytes w32 c.renew_till
-    ++ (flag_bytes c.is_skey ++ (number_bytes w32 c.ticket_flags ++ (list_bytes c.addresses ++ (list_bytes c.authdata ++ (data_bytes w32 c.ticket ++ data_bytes w32 c.second_ticket))))))))) in
-    let etype : List ℕ = signed_bytes w16 c.etype in
-    omega (
-      arith,
-      length-append (name_bytes c.client) (name_bytes c.server ++ (etype ++ (second ++ others))),
-      length-append (name_bytes c.client) (name_bytes c.server ++ (etype ++ others)),
-      length-append (name_bytes c.server) (etype ++ (second ++ others)),
-      length-append (name_bytes c.server) (etype ++ others),
-      length-append etype (second ++ others),
-      length-append etype others,
-      length-append second others,
-    )
+keyed_length c second = simp length-append (omega arith)
 
 pub spelled_length : (layout : Layout) (one : Spelled) → Spells layout one → length one.bytes ≡ credential_length layout one.credential
 spelled_length layout one h = ap length h.bytes_are ∙ keyed_length one.credential h.second ∙ ap (λ (n : ℕ). length (credential_bytes one.credential) + n) h.size
 
 pub credential_some : (credential : Credential) (second : List ℕ) → 0 < length (keyed_bytes credential second)
-credential_some c second =
-    let others : List ℕ =
-    name_bytes c.server ++ (signed_bytes w16 c.etype ++ (second ++ (data_bytes w32 c.key ++ (number_bytes w32 c.authtime ++ (number_bytes w32 c.starttime ++ (number_bytes w32 c.endtime ++ (number_bytes w32 c.renew_till
-    ++ (flag_bytes c.is_skey ++ (number_bytes w32 c.ticket_flags ++ (list_bytes c.addresses ++ (list_bytes c.authdata ++ (data_bytes w32 c.ticket ++ data_bytes w32 c.second_ticket)))))))))))) in
-    omega (arith, name_more c.client, length-append (name_bytes c.client) others)
+credential_some credential second = simp length-append (omega arith)
 
 -- ---- credentials with their spellings
 
@@ -85,7 +62,7 @@ front layout header name spelled = start_bytes layout header ++ (name_bytes name
 abbrev pub read_cache : List HeaderField → Principal → List Spelled → Cache
 read_cache header name spelled = cache_of header name (map credential_in spelled)
 
-grouped : (s n c b : List ℕ) → (s ++ (n ++ c)) ++ b ≡ s ++ (n ++ (c ++ b))
+pub grouped : (s n c b : List ℕ) → (s ++ (n ++ c)) ++ b ≡ s ++ (n ++ (c ++ b))
 grouped s n c b = append_assoc s (n ++ c) b ∙ ap (λ (t : List ℕ). s ++ t) (append_assoc n c b)
 
 module _ (layout : Layout) where

@@ -1,5 +1,5 @@
 -- The clock offset of a header.
-use Rattle.std.proofs.Common.{◌≡◌, ◌≢◌, Bool, true, false, cond, leb, ℕ, ℤ, suc, ◌+◌, ◌<◌, List, [], ◌∷◌, ◌++◌, length, get_or, take, drop, Option, Some, None, refl, sym, ap, subst, ◌∙◌, append-nil, arith, drop-cons}
+use Rattle.std.proofs.Common.{◌≡◌, ◌≢◌, Bool, true, false, cond, leb, ℕ, ℤ, suc, ◌+◌, ◌<◌, List, [], ◌∷◌, ◌++◌, length, get_or, take, drop, Some, None, refl, sym, ap, subst, ◌∙◌, append-nil, arith, drop-cons}
 use Rattle.std.specs.Int.{w32, from_be_bytes, cast_signed}
 use mir.Val.{of_z, to_z}
 use Rattle.std.proofs.lemmas.Int.{to_z-of_z}
@@ -9,11 +9,12 @@ use Rattle.std.specs.Cmp.Lexicographic.{pointwise, told_text}
 use Rattle.std.proofs.lemmas.List.{length-append, nil_from_length, take-append-drop}
 use Rattle.std.proofs.lemmas.List.Elements.{recursion_from_All}
 use Rattle.std.specs.List.{AllByRecursion}
-use Rattle.krb_name.specs.Cursor.{Place, ◌>>=◌, bytes_at, number_at, signed_at, signed_bytes}
+use Rattle.krb_name.specs.Cursor.{Place, bytes_at, number_at, signed_at, signed_bytes}
 use Rattle.krb_name.specs.Field.{IsBytes}
 use Rattle.krb_name.proofs.CursorLaws.{IsField-i32}
-use Rattle.krb_ccache.specs.declared.credential.HeaderField.{HeaderField}
+use Rattle.krb_ccache.specs.Types.{HeaderField}
 use Rattle.krb_ccache.specs.Configuration.{IsOffset, HoldsOffset, BeginsWith}
+use Rattle.krb_ccache.proofs.Fields.{none_then}
 use Rattle.krb_ccache.proofs.Repeats.{same_front}
 
 -- ---- reading it
@@ -37,10 +38,6 @@ offset_answered value seconds microseconds o = rw (to_z-of_z w32 seconds o.secon
 none_bytes : {A : Type 0} (b : Bool) (x : A) → cond b (Some x) None ≡ None → b ≡ false
 none_bytes true x e = absurd cc
 none_bytes false x e = refl
-
-none_then : {A B : Type 0} (read : Option A) (f : A → B) → (read >>= λ x. Some (f x)) ≡ None → read ≡ None
-none_then None f e = refl
-none_then (Some x) f e = absurd cc
 
 short_bytes : (count : ℕ) (place : Place) → bytes_at count place ≡ None → length place.rest < count
 unfolding bytes_at
@@ -97,33 +94,25 @@ begins_so (x ∷ xs) first name r lt e f = told r (told_text first name r f)
 
 -- ---- one offset at most
 
-record Held (field : HeaderField) (seconds microseconds : ℤ) : Type 0 where
-  tag : field.tag ≡ 1
-  offset : IsOffset field.value seconds microseconds
-
 same_field : (xs ys : List HeaderField) (x y : HeaderField) (a b : List HeaderField) → AllByRecursion (λ other. other.tag ≢ 1) xs → AllByRecursion (λ other. other.tag ≢ 1) ys → x.tag ≡ 1 → y.tag ≡ 1 → xs ++ x ∷ a ≡ ys ++ y ∷ b → x ≡ y
 same_field [] [] x y a b p q t u e = cc
 same_field [] (z ∷ ys) x y a b p q t u e = let same : x ≡ z = cc in absurd (q.0 (ap (λ (k : HeaderField). k.tag) (sym same) ∙ t))
 same_field (z ∷ xs) [] x y a b p q t u e = let same : z ≡ y = cc in absurd (p.0 (ap (λ (k : HeaderField). k.tag) same ∙ u))
 same_field (z ∷ xs) (w ∷ ys) x y a b p q t u e = let others : xs ++ x ∷ a ≡ ys ++ y ∷ b = cc in same_field xs ys x y a b p.1 q.1 t u others
 
-record Both (a b c d : ℤ) : Type 0 where
-  first : a ≡ c
-  second : b ≡ d
-
-same_offset : (value : List ℕ) (a b c d : ℤ) → IsOffset value a b → IsOffset value c d → Both a b c d
+same_offset : (value : List ℕ) (a b c d : ℤ) → IsOffset value a b → IsOffset value c d → (a ≡ c) × (b ≡ d)
 same_offset value a b c d p q =
     let first = same_front _ _ _ IsField-i32 a c (signed_bytes w32 b) (signed_bytes w32 d) p.seconds_fit q.seconds_fit (sym p.value_is ∙ q.value_is) in
     let second = same_front _ _ _ IsField-i32 b d [] [] p.microseconds_fit q.microseconds_fit (append-nil (signed_bytes w32 b) ∙ first.1 ∙ sym (append-nil (signed_bytes w32 d))) in
-    record { first = first.0; second = second.0 }
+    (first.0, second.0)
 
-both_held : (header : List HeaderField) (a b c d : ℤ) → HoldsOffset header a b → HoldsOffset header c d → Both a b c d
+both_held : (header : List HeaderField) (a b c d : ℤ) → HoldsOffset header a b → HoldsOffset header c d → (a ≡ c) × (b ≡ d)
 both_held header a b c d p q =
     let same = same_field p.before q.before p.field q.field p.after q.after (recursion_from_All (λ other. other.tag ≢ 1) p.before p.first) (recursion_from_All (λ other. other.tag ≢ 1) q.before q.first) p.tag q.tag (sym p.header_is ∙ q.header_is) in
     same_offset q.field.value a b c d (subst (λ (field : HeaderField). IsOffset field.value a b) same p.offset) q.offset
 
 pub one_seconds : (header : List HeaderField) (a b c d : ℤ) → HoldsOffset header a b → HoldsOffset header c d → a ≡ c
-one_seconds header a b c d p q = (both_held header a b c d p q).first
+one_seconds header a b c d p q = (both_held header a b c d p q).0
 
 pub one_microseconds : (header : List HeaderField) (a b c d : ℤ) → HoldsOffset header a b → HoldsOffset header c d → b ≡ d
-one_microseconds header a b c d p q = (both_held header a b c d p q).second
+one_microseconds header a b c d p q = (both_held header a b c d p q).1

@@ -10,17 +10,14 @@ use Rattle.krb_name.specs.Cursor.{Place, ◌>>=◌, number_at, signed_at, data_a
 use Rattle.krb_name.specs.Field.{IsBytes, Takes, IsField}
 use Rattle.krb_name.proofs.CursorLaws.{bind_some, some_is, Takes-then, IsField-u8, IsField-u16, IsField-u32, IsField-i32, IsField-data16, IsField-data32}
 use Rattle.krb_name.proofs.Repeated.{IsField-times}
-use Rattle.krb_name.specs.declared.principal.Principal.{Principal}
-use Rattle.krb_ccache.specs.declared.typed.TypedBytes.{TypedBytes}
-use Rattle.krb_ccache.specs.declared.credential.HeaderField.{HeaderField}
-use Rattle.krb_ccache.specs.declared.layout.Layout.{Layout}
-use Rattle.krb_ccache.specs.declared.layout.Layout.TheVariants.{Version3, Version4}
+use Rattle.krb_ccache.specs.Types.{Principal, TypedBytes, Layout, Version3, Version4}
 use Rattle.krb_ccache.specs.Spelling.{field_bytes, name_bytes, typed_bytes, list_bytes}
 use Rattle.krb_ccache.specs.Format.{version_of}
 use Rattle.krb_ccache.specs.Inner.Stepping.{Any}
 use Rattle.krb_ccache.specs.Value.{FitsName, FitsList}
 use Rattle.krb_ccache.specs.Inner.Reading.{both_at, made_at, field_of, is_field, field_at, name_at, is_flag, allowed, byte_at, typed_of, typed_at, list_at, layout_of, layout_at}
-use Rattle.krb_ccache.proofs.Fields.{IsField-both, IsMade, IsField-made, IsField-passing, IsField-counted}
+use Rattle.krb_ccache.specs.Inner.Standing.{FitsField}
+use Rattle.krb_ccache.proofs.Fields.{IsField-both, IsField-made, IsField-passing, IsField-counted}
 
 abbrev pub Below16 : ℕ → Type 0
 Below16 n = n < 2 ^ 16
@@ -36,24 +33,12 @@ Short32 bytes = length bytes < 2 ^ 32
 
 -- ---- a field of the header
 
-abbrev pub FitsField : HeaderField → Type 0
-FitsField field = ((field.tag < 2 ^ 16) × (length field.value < 2 ^ 16)) × (is_field field ≡ true)
-
-field_made : IsMade field_of (λ parts. number_bytes w16 parts.0 ++ data_bytes w16 parts.1) (λ parts. Below16 parts.0 × Short16 parts.1) field_bytes (λ field. Below16 field.tag × Short16 field.value)
-field_made = record {
-  parts = λ field. (field.tag, field.value);
-  back = λ field. refl;
-  spelled = λ parts. refl;
-  ranges = λ parts h. h;
-  in_parts = λ field h. h;
-}
-
 pub IsField-field : IsField field_at field_bytes FitsField
 unfolding field_at
 IsField-field =
     IsField-passing is_field (made_at field_of (both_at (number_at w16) (data_at w16))) field_bytes (λ field. Below16 field.tag × Short16 field.value)
-    (IsField-made field_of (both_at (number_at w16) (data_at w16)) (λ parts. number_bytes w16 parts.0 ++ data_bytes w16 parts.1) (λ parts. Below16 parts.0 × Short16 parts.1)
-    (IsField-both (number_at w16) (number_bytes w16) Below16 IsField-u16 (data_at w16) (data_bytes w16) Short16 IsField-data16) field_bytes (λ field. Below16 field.tag × Short16 field.value) field_made)
+    (IsField-made field_of (λ field. (field.tag, field.value)) (λ field. refl) (λ parts. refl) (both_at (number_at w16) (data_at w16)) (λ parts. number_bytes w16 parts.0 ++ data_bytes w16 parts.1) (λ parts. Below16 parts.0 × Short16 parts.1)
+    (IsField-both (number_at w16) (number_bytes w16) Below16 IsField-u16 (data_at w16) (data_bytes w16) Short16 IsField-data16))
 
 -- ---- a principal
 
@@ -109,20 +94,11 @@ byte_field strict = IsField-passing (λ n. allowed strict (is_flag n)) (number_a
 abbrev pub FitsTyped : TypedBytes → Type 0
 FitsTyped element = Below16 element.kind × Short32 element.bytes
 
-typed_made : IsMade typed_of (λ parts. number_bytes w16 parts.0 ++ data_bytes w32 parts.1) (λ parts. Below16 parts.0 × Short32 parts.1) typed_bytes FitsTyped
-typed_made = record {
-  parts = λ element. (element.kind, element.bytes);
-  back = λ element. refl;
-  spelled = λ parts. refl;
-  ranges = λ parts h. h;
-  in_parts = λ element h. h;
-}
-
 IsField-typed : IsField typed_at typed_bytes FitsTyped
 unfolding typed_at
 IsField-typed =
-    IsField-made typed_of (both_at (number_at w16) (data_at w32)) (λ parts. number_bytes w16 parts.0 ++ data_bytes w32 parts.1) (λ parts. Below16 parts.0 × Short32 parts.1)
-    (IsField-both (number_at w16) (number_bytes w16) Below16 IsField-u16 (data_at w32) (data_bytes w32) Short32 IsField-data32) typed_bytes FitsTyped typed_made
+    IsField-made typed_of (λ element. (element.kind, element.bytes)) (λ element. refl) (λ parts. refl) (both_at (number_at w16) (data_at w32)) (λ parts. number_bytes w16 parts.0 ++ data_bytes w32 parts.1) (λ parts. Below16 parts.0 × Short32 parts.1)
+    (IsField-both (number_at w16) (number_bytes w16) Below16 IsField-u16 (data_at w32) (data_bytes w32) Short32 IsField-data32)
 
 list_from : (list : List TypedBytes) → (length list < 2 ^ 32) × All FitsTyped list → FitsList list
 list_from list h = record {
@@ -148,18 +124,9 @@ layout_is : (n : ℕ) (layout : Layout) → layout_of n ≡ Some layout → numb
 layout_is n layout e = tested (eqb n 0x0503) (eqb n 0x0504) refl refl e
   where
     tested : (b c : Bool) → eqb n 0x0503 ≡ b → eqb n 0x0504 ≡ c → cond b (Some Version3) (cond c (Some Version4) None) ≡ Some layout → number_bytes w16 n ≡ version_of layout
-    tested true c p q r = ap (number_bytes w16) (eqb-true n 0x0503 p) ∙ ap version_of (same Version3 layout r)
-      where
-        same : (x y : Layout) → Some x ≡ Some y → x ≡ y
-        same x y s = cc
-    tested false true p q r = ap (number_bytes w16) (eqb-true n 0x0504 q) ∙ ap version_of (same Version4 layout r)
-      where
-        same : (x y : Layout) → Some x ≡ Some y → x ≡ y
-        same x y s = cc
-    tested false false p q r = absurd (none_is layout r)
-      where
-        none_is : (y : Layout) → None ≡ Some y → ⊥
-        none_is y s = cc
+    tested true c p q r = ap (number_bytes w16) (eqb-true n 0x0503 p) ∙ ap version_of (some_is Version3 layout r)
+    tested false true p q r = ap (number_bytes w16) (eqb-true n 0x0504 q) ∙ ap version_of (some_is Version4 layout r)
+    tested false false p q r = absurd cc
 
 layout_take : (place : Place) (layout : Layout) (behind : Place) → IsBytes place.rest → layout_at place ≡ Some (layout, behind) → Takes place (version_of layout) behind × Any layout
 unfolding layout_at

@@ -3,38 +3,28 @@ use Rattle.std.proofs.Common.{◌≡◌, ℕ, ◌+◌, ◌-◌, ◌≤◌, Bool,
 use Rattle.std.specs.Prelude.{◌≢◌, max, IfOk, IfErr, IfSome, OnErr}
 use Rattle.std.specs.Io.KnownBytes.{Consumes, IsAtEnd}
 use Rattle.std.proofs.KnownBytes.{Consumes-trans, Consumes-nil}
-use Rattle.std.proofs.lemmas.List.{length-append, nil_from_length, length-take, take_at, take-append-le, take-append-drop}
+use Rattle.std.proofs.lemmas.List.{length-append, nil_from_length, length-take, take-append-drop}
 use Rattle.std.proofs.lemmas.List.Elements.{All-nil}
 use Rattle.krb_name.specs.Window.{AtHand}
-use Rattle.krb_name.specs.declared.principal.Principal.{Principal}
-use Rattle.krb_ccache.specs.declared.credential.HeaderField.{HeaderField}
-use Rattle.krb_ccache.specs.declared.credential.Credential.{Credential}
-use Rattle.krb_ccache.specs.declared.layout.Layout.{Layout}
-use Rattle.krb_ccache.specs.declared.layout.Layout.TheVariants.{Version3, Version4}
+use Rattle.krb_ccache.specs.Types.{Principal, HeaderField, Credential, Layout, CacheFault, Version, Header, BadItem, Read, OutOfMemory}
 use Rattle.krb_ccache.specs.Spelling.{name_bytes}
 use Rattle.krb_ccache.specs.Value.{Cache, cache_of, FitsName}
 use Rattle.krb_name.specs.File.{file_limit, IsGiven}
-use Rattle.krb_ccache.specs.Format.{version_of, head_bytes, FitsHead, start_bytes, credential_length, Spelled, Spells, IsReached, IsFaultOf}
+use Rattle.krb_ccache.specs.Format.{version_of, head_bytes, FitsHead, start_bytes, Spelled, Spells, IsReached, IsFaultOf}
 use Rattle.krb_ccache.specs.Reader.{Reading, ended_by, ended_passed, passed, HasTaken, HasRead, GaveOne, PassedOne, StaysAtEnd, GoesTo, GaveCache, GaveFault, with_credential}
-use Rattle.krb_ccache.specs.declared.fault.CacheFault.{CacheFault}
-use Rattle.krb_ccache.specs.declared.fault.CacheFault.TheVariants.{Version, Header, BadItem, TooLong, Read, OutOfMemory}
 use Rattle.krb_ccache.specs.Inner.Standing.{bytes_of, IsMissing, spelled_as}
 use Rattle.krb_ccache.specs.Inner.Stepping.{Any, Comes, Gives, Tells, Misses, MissesOne, IsStep}
 use Rattle.std.proofs.lemmas.Bool.{cases_lt}
 use Rattle.std.proofs.Math.Seq.{take-append-add}
 use Rattle.krb_ccache.proofs.AnswerLaws.{same_reached}
 use Rattle.krb_ccache.proofs.FileLaws.{spelled_bytes_some}
-use Rattle.krb_ccache.proofs.LayoutLaws.{name_more, spelled_length, is_reached, front_of, reached_bytes, reached_at, reached_too, reached_all, reached_end, reached_before, reached_more}
+use Rattle.krb_ccache.proofs.WalkLaws.{shorter_front}
+use Rattle.krb_ccache.proofs.LayoutLaws.{version_length, name_more, spelled_length, is_reached, front_of, reached_bytes, reached_at, reached_too, reached_all, reached_end, reached_before, reached_more}
 
 -- ---- no credential within the limit
 
 abbrev NoneWithin : Layout → ℕ → List ℕ → Type 0
 NoneWithin layout at bytes = (one : Spelled) (others : List ℕ) → Spells layout one → at + length one.bytes ≤ file_limit → bytes ≡ one.bytes ++ others → ⊥
-
-front_in : (bytes more front others : List ℕ) → length front ≤ length bytes → bytes ++ more ≡ front ++ others → bytes ≡ front ++ drop (length front) bytes
-front_in bytes more front others le e =
-    let same : take (length front) bytes ≡ front = sym (take-append-le (length front) bytes more le) ∙ ap (take (length front)) e ∙ take_at front others (length front) refl in
-    sym (take-append-drop (length front) bytes) ∙ ap (λ (t : List ℕ). t ++ drop (length front) bytes) same
 
 none_comes : (layout : Layout) (whole : List ℕ) (a b : Option (List ℕ)) (before bytes : List ℕ) (at given : ℕ) → Consumes (Some whole) a before → Consumes a b bytes → (given ≤ file_limit → IsAtEnd b) → given ≡ at + length bytes → NoneWithin layout at bytes
     → (behind : List ℕ) × (whole ≡ before ++ behind) × NoneWithin layout at behind
@@ -45,7 +35,7 @@ none_comes layout whole (Some rest) (Some more) before bytes at given p q end to
     none : NoneWithin layout at rest
     none one others spells le e =
         elim (cases_lt file_limit given) [
-          | inl long ↦ missing one (drop (length one.bytes) bytes) spells le (front_in bytes more one.bytes others (omega (arith, le, long, total)) (sym q ∙ e))
+          | inl long ↦ missing one (drop (length one.bytes) bytes) spells le (shorter_front one.bytes bytes others more (omega (arith, le, long, total)) (sym e ∙ q))
           | inr within ↦ missing one others spells le (sym (q ∙ ap (λ (t : List ℕ). bytes ++ t) (end within) ∙ append-nil bytes) ∙ e)
         ]
 
@@ -154,11 +144,7 @@ module _ {S : Type 0} (left : S → Option (List ℕ)) where
     -- no more was at hand than of the longest of these
     pub begun_peak : (old first middle new : AtHand S) (header : List HeaderField) (name : Principal) → Comes version_of Any left old first layout → Comes (head_bytes layout) (FitsHead layout) left first middle header → Comes name_bytes FitsName left middle new name
         → new.peak ≡ max old.peak (max (length (head_bytes layout header)) (length (name_bytes name)))
-    begun_peak old first middle new header name v h n = omega (arith, v.peak, two layout, h.peak, n.peak, name_more name)
-      where
-        two : (l : Layout) → length (version_of l) ≡ 2
-        two Version3 = refl
-        two Version4 = refl
+    begun_peak old first middle new header name v h n = omega (arith, v.peak, version_length layout, h.peak, n.peak, name_more name)
 
     pub item_taken : (from : Option (List ℕ)) (old new : AtHand S) (cache : Cache) (one : Spelled) → HasTaken layout from (left old.source) old.given cache → Comes bytes_of (Spells layout) left old new one
         → HasTaken layout from (left new.source) new.given (with_credential cache one.credential)
@@ -168,31 +154,27 @@ module _ {S : Type 0} (left : S → Option (List ℕ)) where
       reached = subst (λ (n : ℕ). IsReached layout (h.bytes ++ one.bytes) n (with_credential cache one.credential) []) (sym c.given) (reached_more layout h.bytes old.given cache h.reached one c.fits);
     }
 
-    bad_item : (at : ℕ) → BadItem at ≡ OutOfMemory → ⊥
-    bad_item at e = cc
-
-    bad_read : (at : ℕ) → BadItem at ≡ Read → ⊥
-    bad_read at e = cc
-
-    bad_long : (at : ℕ) → BadItem at ≡ TooLong → ⊥
-    bad_long at e = cc
+    -- no bytes came, where it is told that no part did
+    all_came : (new : AtHand S) (at : ℕ) → Tells left new (BadItem at) (BadItem at) → IsAtEnd (left new.source) × (new.given ≤ file_limit)
+    all_came new at tells =
+        elim tells [
+          | inl failed ↦ absurd cc
+          | inr (inl long) ↦ let other = long.0 in absurd cc
+          | inr (inr same) ↦ same.1
+        ]
 
     pub end_taken : (from : Option (List ℕ)) (old new : AtHand S) (cache : Cache) → HasTaken layout from (left old.source) old.given cache → MissesOne layout left old new (BadItem old.given) → new.given ≡ old.given → GaveCache from (left new.source) cache
     end_taken from old new cache h m same =
-        let l = m.lacks (bad_read old.given) (bad_item old.given) in
+        let l = m.lacks (λ e. absurd cc) (λ e. absurd cc) in
+        let came = all_came new old.given (m.tells (λ e. absurd cc)) in
         let none : l.bytes ≡ [] = nil_from_length l.bytes (omega (arith, l.gives.given, same)) in
         let consumed : Consumes from (left new.source) h.bytes = subst (λ (x : List ℕ). Consumes from (left new.source) x) (ap (λ (x : List ℕ). h.bytes ++ x) none ∙ append-nil h.bytes)
         (Consumes-trans from (left old.source) (left new.source) h.bytes l.bytes h.taken l.gives.consumed) in
-        elim (m.tells (bad_item old.given)) [
-          | inl failed ↦ absurd (bad_read old.given failed)
-          | inr (inl long) ↦ absurd (bad_long old.given long.0)
-          | inr (inr within) ↦
-              let few : length h.bytes ≤ file_limit = omega (arith, reached_end layout h.bytes old.given cache h.reached, same, within.1.1) in (
-                h.bytes,
-                record { given = consumed; limit = omega (arith, few); end = λ k. within.1.0 },
-                record { limit = few; layout = layout; at = old.given; reached = h.reached },
-              )
-        ]
+        let few : length h.bytes ≤ file_limit = omega (arith, reached_end layout h.bytes old.given cache h.reached, same, came.1) in (
+          h.bytes,
+          record { given = consumed; limit = omega (arith, few); end = λ k. came.0 },
+          record { limit = few; layout = layout; at = old.given; reached = h.reached },
+        )
 
     pub item_fault : (from : Option (List ℕ)) (old new : AtHand S) (cache : Cache) (told : CacheFault) → HasTaken layout from (left old.source) old.given cache → MissesOne layout left old new told
         → (told ≡ BadItem old.given → new.given ≢ old.given) → GaveFault from (left new.source) told
@@ -222,15 +204,15 @@ module _ {S : Type 0} (left : S → Option (List ℕ)) where
 
     -- ---- the answer of a step
 
-    pub next_item : (from : Option (List ℕ)) (old new : AtHand S) (reader : Reading S) (cache : Cache) (result : Result (Option Credential) CacheFault) → IsStep layout left old new result → HasTaken layout from (left old.source) old.given cache
-        → reader.layout ≡ layout → reader.source ≡ new.source → reader.given ≡ new.given → reader.ended ≡ ended_by result → IfOk result (λ next. IfSome next (λ credential. HasRead left from reader (with_credential cache credential)))
-    next_item from old new reader cache (Ok (Some credential)) step h same source given ended =
-        let t = item_taken from old new cache (spelled_as step.0 credential) h step.1 in
-        let moved = subst (λ (s : S). HasTaken layout from (left s) new.given (with_credential cache credential)) (sym source) t in
-        let all = subst (λ (n : ℕ). HasTaken layout from (left reader.source) n (with_credential cache credential)) (sym given) moved in
-        record { going = ended; taken = subst (λ (l : Layout). HasTaken l from (left reader.source) reader.given (with_credential cache credential)) (sym same) all }
-    next_item from old new reader cache (Ok None) step h same source given ended = tt
-    next_item from old new reader cache (Err fault) step h same source given ended = tt
+    -- a reader, with what it took of its source
+    abbrev reading : List HeaderField → Principal → Option (Result (Unit {0}) CacheFault) → AtHand S → Reading S
+    reading header name ended window = record { source = window.source; layout = layout; header = header; default_principal = name; given = window.given; held = window.peak; ended = ended }
+
+    pub next_item : (from : Option (List ℕ)) (old new : AtHand S) (header : List HeaderField) (name : Principal) (ended : Option (Result (Unit {0}) CacheFault)) (cache : Cache) (result : Result (Option Credential) CacheFault) → IsStep layout left old new result
+        → HasTaken layout from (left old.source) old.given cache → ended ≡ ended_by result → IfOk result (λ next. IfSome next (λ credential. HasRead left from (reading header name ended new) (with_credential cache credential)))
+    next_item from old new header name ended cache (Ok (Some credential)) step h is = record { going = is; taken = item_taken from old new cache (spelled_as step.0 credential) h step.1 }
+    next_item from old new header name ended cache (Ok None) step h is = tt
+    next_item from old new header name ended cache (Err fault) step h is = tt
 
     gave_one : (old new : AtHand S) (bytes : List ℕ) (credential : Credential) → Comes bytes_of (Spells layout) left old new (spelled_as bytes credential) → GaveOne layout old.given new.given credential
     gave_one old new bytes credential comes =
@@ -257,24 +239,18 @@ module _ {S : Type 0} (left : S → Option (List ℕ)) where
     on_err (Ok there) P h = tt
     on_err (Err fault) P h = h
 
-    pub passed_one : (was now : Reading S) (old new : AtHand S) (answer : Result (Option Credential) CacheFault) (said : Result Bool CacheFault) → IsStep layout left old new answer → said ≡ passed answer → said ≡ Ok true
-        → was.layout ≡ layout → now.layout ≡ layout → was.source ≡ old.source → was.given ≡ old.given → was.held ≡ old.peak → now.source ≡ new.source → now.given ≡ new.given → now.held ≡ new.peak → now.ended ≡ ended_passed said
-        → (credential : Credential) × PassedOne left was now credential
-    passed_one was now old new (Ok None) said step is there lay also s g h source given held ended = absurd cc
-    passed_one was now old new (Err fault) said step is there lay also s g h source given held ended = absurd cc
-    passed_one was now old new (Ok (Some credential)) said step is there lay also s g h source given held ended =
-        let one = gave_one old new step.0 credential step.1 in
-        let length_is : credential_length was.layout credential ≡ credential_length layout credential = ap (λ (l : Layout). credential_length l credential) lay in (
-          credential,
-          record {
-            gave = record { given = omega (arith, one.given, g, given, length_is); some = omega (arith, one.some, g, given); limit = omega (arith, one.limit, given) };
-            held = omega (arith, step.1.peak, h, held, spelled_length layout (spelled_as step.0 credential) step.1.fits, length_is);
-            read = λ from cache read.
-                let before = subst (λ (l : Layout). HasTaken l from (left was.source) was.given cache) lay read.taken in
-                let taken = subst (λ (n : ℕ). HasTaken layout from (left old.source) n cache) g (subst (λ (t : S). HasTaken layout from (left t) was.given cache) s before) in
-                next_item from old new now cache (Ok (Some credential)) step taken also source given (ended ∙ ap ended_passed is);
-          },
-        )
+    pub passed_one : (old new : AtHand S) (header : List HeaderField) (name : Principal) (was now : Option (Result (Unit {0}) CacheFault)) (answer : Result (Option Credential) CacheFault) (said : Result Bool CacheFault) → IsStep layout left old new answer → said ≡ passed answer → said ≡ Ok true
+        → now ≡ ended_passed said → (credential : Credential) × PassedOne left (reading header name was old) (reading header name now new) credential
+    passed_one old new header name was now (Ok None) said step is there ended = absurd cc
+    passed_one old new header name was now (Err fault) said step is there ended = absurd cc
+    passed_one old new header name was now (Ok (Some credential)) said step is there ended = (
+      credential,
+      record {
+        gave = gave_one old new step.0 credential step.1;
+        held = omega (arith, step.1.peak, spelled_length layout (spelled_as step.0 credential) step.1.fits);
+        read = λ from cache read. next_item from old new header name now cache (Ok (Some credential)) step read.taken (ended ∙ ap ended_passed is);
+      },
+    )
 
     pub next_end : (from : Option (List ℕ)) (old new : AtHand S) (cache : Cache) (result : Result (Option Credential) CacheFault) → IsStep layout left old new result → HasTaken layout from (left old.source) old.given cache → result ≡ Ok None → GaveCache from (left new.source) cache
     next_end from old new cache (Ok None) step h e = end_taken from old new cache h step.0 step.1
@@ -282,25 +258,13 @@ module _ {S : Type 0} (left : S → Option (List ℕ)) where
     next_end from old new cache (Err fault) step h e = absurd cc
 
     -- at the end nothing more came
-    pub stays : (was now : Reading S) (old new : AtHand S) (answer : Result (Option Credential) CacheFault) → IsStep layout left old new answer → answer ≡ Ok None → was.given ≡ old.given → was.held ≡ old.peak
-        → now.source ≡ new.source → now.given ≡ new.given → now.held ≡ new.peak → StaysAtEnd (left now.source) was now
-    stays was now old new (Ok (Some credential)) step end g h source given held = absurd cc
-    stays was now old new (Err fault) step end g h source given held = absurd cc
-    stays was now old new (Ok None) step end g h source given held =
+    pub stays : (old new : AtHand S) (header : List HeaderField) (name : Principal) (was now : Option (Result (Unit {0}) CacheFault)) (answer : Result (Option Credential) CacheFault) → IsStep layout left old new answer → answer ≡ Ok None
+        → StaysAtEnd (left new.source) (reading header name was old) (reading header name now new)
+    stays old new header name was now (Ok (Some credential)) step end = absurd cc
+    stays old new header name was now (Err fault) step end = absurd cc
+    stays old new header name was now (Ok None) step end =
         let some = step.0.some.1 in
-        record {
-          end = subst (λ (s : S). IsAtEnd (left s)) (sym source) (at_end (step.0.tells (bad_item old.given)));
-          given = omega (arith, step.1, g, given);
-          held = omega (arith, step.1, some.given, some.grows, some.peak, h, held);
-        }
-      where
-        at_end : Tells left new (BadItem old.given) (BadItem old.given) → IsAtEnd (left new.source)
-        at_end tells =
-            elim tells [
-              | inl failed ↦ absurd (bad_read old.given failed)
-              | inr (inl long) ↦ absurd (bad_long old.given long.0)
-              | inr (inr within) ↦ within.1.0
-            ]
+        record { end = (all_came new old.given (step.0.tells (λ e. absurd cc))).0; given = step.1; held = omega (arith, step.1, some.given, some.grows, some.peak) }
 
     pub next_fault : (from : Option (List ℕ)) (old new : AtHand S) (cache : Cache) (result : Result (Option Credential) CacheFault) → IsStep layout left old new result → HasTaken layout from (left old.source) old.given cache
         → IfErr result (GaveFault from (left new.source))

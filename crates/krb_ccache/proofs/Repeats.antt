@@ -24,6 +24,10 @@ module _ {X : Type 0} (r : Place → Option (X × Place)) (s : X → List ℕ) (
       let read : r place ≡ Some (x, record { at = place.at + length (s x); rest = others }) = ap (λ (t : List ℕ). r (record { at = place.at; rest = t })) e ∙ f.again place.at x others p in
       cc
 
+  -- where something is read, it stands
+  pub lies_where : (place : Place) (x : X) (behind : Place) → IsBytes place.rest → r place ≡ Some (x, behind) → Lies s P place x behind
+  lies_where place x behind fits e = let t = f.takes place x behind fits e in record { fits = t.1; takes = t.0 }
+
   module _ (some : (x : X) → P x → 0 < length (s x)) where
     -- there are no bytes, or nothing stands there
     abbrev pub Ends : List ℕ → Type 0
@@ -82,13 +86,22 @@ module _ {X : Type 0} (r : Place → Option (X × Place)) (s : X → List ℕ) (
     pub end : (behind.rest ≡ []) ⊎ IsMissing s P behind.rest
 
   module _ (some : (x : X) → P x → 0 < length (s x)) where
+    -- one thing more, and fewer bytes left
+    pub record Goes (start place : Place) (xs : List X) (x : X) (behind : Place) : Type 0 where
+      pub reaches : Reaches s P start (xs ++ x ∷ []) behind
+      pub smaller : length behind.rest < length place.rest
+
+    pub goes : (start place : Place) (xs : List X) (x : X) (behind : Place) → Reaches s P start xs place → Lies s P place x behind → Goes start place xs x behind
+    goes start place xs x behind reaches lies =
+        let first : 0 < length (s x) = some x lies.fits in
+        record { reaches = reach_more start xs place x behind reaches lies; smaller = omega (arith, ap length lies.takes.parts, length-append (s x) behind.rest) }
+
     step_from : (place : Place) (xs : List X) (middle : Place) → Reaches s P place xs middle → ((x : X) (behind : Place) → Reaches s P place (xs ++ x ∷ []) behind → length behind.rest < length middle.rest → Ended place)
         → (read : Option (X × Place)) → r middle ≡ read → Ended place
     step_from place xs middle so_far next None e = record { xs = xs; behind = middle; reach = so_far; end = inr (missing_where middle e) }
     step_from place xs middle so_far next (Some (x, behind)) e =
-        let t = f.takes middle x behind so_far.takes.rest_fits e in
-        let first : 0 < length (s x) = some x t.1 in
-        next x behind (reach_more place xs middle x behind so_far (record { fits = t.1; takes = t.0 })) (omega (arith, ap length t.0.parts, length-append (s x) behind.rest))
+        let more = goes place middle xs x behind so_far (lies_where middle x behind so_far.takes.rest_fits e) in
+        next x behind more.reaches more.smaller
 
     run_from : (most : ℕ) (place : Place) (xs : List X) (middle : Place) → Reaches s P place xs middle → length middle.rest ≤ most → Ended place
     run_from zero place xs middle so_far few = record { xs = xs; behind = middle; reach = so_far; end = inl (nil_from_length middle.rest (omega arith)) }

@@ -1,27 +1,18 @@
 -- The answer for what a source gave is the answer for all the bytes that were to come of it.
 use Rattle.std.proofs.Common.{◌≡◌, ◌⊎◌, ℕ, ◌<◌, List, ◌++◌, length, Option, Some, None, Result, Ok, Err, refl, sym, ap, subst, ◌∙◌, append-nil, arith, inl, inr}
-use Rattle.std.specs.Prelude.{◌≢◌, IfSome, IfOk, IfErr}
+use Rattle.std.specs.Prelude.{◌↔◌, IfSome, IfOk, IfErr}
 use Rattle.std.proofs.lemmas.Bool.{cases_lt}
 use Rattle.std.proofs.lemmas.List.{length-append}
 use Rattle.krb_ccache.specs.Value.{Cache}
 use Rattle.krb_name.specs.File.{file_limit, IsGiven, TakesFile, ReadsFile}
-use Rattle.krb_ccache.specs.Format.{IsCache, IsAnswerOf, IsFaultOf}
+use Rattle.krb_ccache.specs.Format.{IsAnswerOf}
 use Rattle.krb_ccache.specs.Reader.{GaveCache, GaveFault}
-use Rattle.std.specs.Io.KnownBytes.{IsAtEnd}
 use Rattle.krb_ccache.proofs.AnswerLaws.{one_answer}
-use Rattle.krb_ccache.specs.declared.fault.CacheFault.{CacheFault}
-use Rattle.krb_ccache.specs.declared.fault.CacheFault.TheVariants.{Version, Header, BadItem, TooLong, Read, OutOfMemory}
+use Rattle.krb_ccache.specs.Types.{CacheFault, Version, Header, BadItem, TooLong, Read, OutOfMemory}
 
 -- an answer for too many bytes
-long_answer : (bytes more : List ℕ) (answer : Result (Cache) CacheFault) → file_limit < length bytes → file_limit < length more → IsAnswerOf bytes answer → IsAnswerOf more answer
-long_answer bytes more (Ok cache) long longer a = let l = a.limit in absurd (omega arith)
-long_answer bytes more (Err TooLong) long longer a = longer
-long_answer bytes more (Err Version) long longer a = let l = a.limit in absurd (omega arith)
-long_answer bytes more (Err Header) long longer a = let l = a.limit in absurd (omega arith)
-long_answer bytes more (Err (BadItem at)) long longer (inl a) = let l = a.limit in absurd (omega arith)
-long_answer bytes more (Err (BadItem at)) long longer (inr a) = let l = a.limit in absurd (omega arith)
-long_answer bytes more (Err Read) long longer a = absurd a
-long_answer bytes more (Err OutOfMemory) long longer a = absurd a
+long_answer : (bytes more : List ℕ) (answer : Result Cache CacheFault) → file_limit < length bytes → file_limit < length more → IsAnswerOf bytes answer → IsAnswerOf more answer
+long_answer bytes more answer long longer a = subst (IsAnswerOf more) (one_answer bytes (Err TooLong) answer long a) longer
 
 -- all the bytes are those that were given, or both are too many
 all_given : (whole bytes : List ℕ) (to : Option (List ℕ)) → IsGiven (Some whole) to bytes → (whole ≡ bytes) ⊎ ((file_limit < length bytes) × (file_limit < length whole))
@@ -32,39 +23,26 @@ all_given whole bytes (Some rest) g =
       | inr within ↦ inl (g.given ∙ ap (λ (t : List ℕ). bytes ++ t) (g.end within) ∙ append-nil bytes)
     ]
 
-answer_of_given : (whole bytes : List ℕ) (to : Option (List ℕ)) (answer : Result (Cache) CacheFault) → IsGiven (Some whole) to bytes → IsAnswerOf whole answer → IsAnswerOf bytes answer
-answer_of_given whole bytes to answer g a =
+-- so they have the same answers
+same_answers : (whole bytes : List ℕ) (to : Option (List ℕ)) (answer : Result Cache CacheFault) → IsGiven (Some whole) to bytes → IsAnswerOf whole answer ↔ IsAnswerOf bytes answer
+same_answers whole bytes to answer g =
     elim (all_given whole bytes to g) [
-      | inl same ↦ subst (λ (t : List ℕ). IsAnswerOf t answer) same a
-      | inr long ↦ long_answer whole bytes answer long.1 long.0 a
+      | inl same ↦ (λ a. subst (λ (t : List ℕ). IsAnswerOf t answer) same a, λ a. subst (λ (t : List ℕ). IsAnswerOf t answer) (sym same) a)
+      | inr long ↦ (long_answer whole bytes answer long.1 long.0, long_answer bytes whole answer long.0 long.1)
     ]
 
 -- ---- what a source gave, told of all the bytes that were to come
 
--- an answer for what was given is one for all
 pub answer_of_whole : (whole bytes : List ℕ) (to : Option (List ℕ)) (answer : Result Cache CacheFault) → IsGiven (Some whole) to bytes → IsAnswerOf bytes answer → IsAnswerOf whole answer
-answer_of_whole whole bytes to answer g a =
-    elim (all_given whole bytes to g) [
-      | inl same ↦ subst (λ (t : List ℕ). IsAnswerOf t answer) (sym same) a
-      | inr long ↦ long_answer bytes whole answer long.0 long.1 a
-    ]
+answer_of_whole whole bytes to answer g = (same_answers whole bytes to answer g).1
 
 pub answer_known : (from to : Option (List ℕ)) (bytes : List ℕ) (answer : Result Cache CacheFault) → IsGiven from to bytes → IsAnswerOf bytes answer → IfSome from (λ whole. IsAnswerOf whole answer)
 answer_known None to bytes answer g a = tt
 answer_known (Some whole) to bytes answer g a = answer_of_whole whole bytes to answer g a
 
-pub found_whole : (from to : Option (List ℕ)) (cache : Cache) → GaveCache from to cache → IfSome from (λ whole. IsCache whole cache)
-found_whole from to cache f = answer_known from to f.0 (Ok cache) f.1 f.2
-
-pub found_end : (from to : Option (List ℕ)) (cache : Cache) → GaveCache from to cache → IsAtEnd to
-found_end from to cache f = f.1.end f.2.limit
-
-pub fault_whole : (from to : Option (List ℕ)) (fault : CacheFault) → GaveFault from to fault → fault ≢ OutOfMemory → fault ≢ Read → IfSome from (λ whole. IsFaultOf whole fault)
-fault_whole from to fault f memory read = let g = f memory read in answer_known from to g.0 (Err fault) g.1 g.2
-
 -- the one answer for all the bytes
 only_given : (to : Option (List ℕ)) (bytes whole : List ℕ) (result answer : Result Cache CacheFault) → IsGiven (Some whole) to bytes → IsAnswerOf bytes result → IsAnswerOf whole answer → result ≡ answer
-only_given to bytes whole result answer g r a = one_answer bytes result answer r (answer_of_given whole bytes to answer g a)
+only_given to bytes whole result answer g r a = one_answer bytes result answer r ((same_answers whole bytes to answer g).0 a)
 
 pub only_whole : (from to : Option (List ℕ)) (result : Result Cache CacheFault) → IfOk result (GaveCache from to) → IfErr result (GaveFault from to) → (whole : List ℕ) (answer : Result Cache CacheFault) → from ≡ Some whole → IsAnswerOf whole answer
     → (result ≡ answer) ⊎ ((result ≡ Err OutOfMemory) ⊎ (result ≡ Err Read))
@@ -82,5 +60,5 @@ abbrev err_of : CacheFault → Result Cache CacheFault
 err_of fault = Err fault
 
 pub reads_whole : (from to : Option (List ℕ)) (result : Result Cache CacheFault) → IfOk result (GaveCache from to) → IfErr result (GaveFault from to) → TakesFile from to → ReadsFile IsAnswerOf OutOfMemory Read from to result
-reads_whole from to (Ok cache) f e taken = record { found = found_whole from to cache f; end = found_end from to cache f; fault = tt; only = only_whole from to (Ok cache) f e; given = λ memory read. f; taken = taken }
-reads_whole from to (Err fault) f e taken = record { found = tt; end = tt; fault = λ memory read. fault_whole from to fault e memory read; only = only_whole from to (Err fault) f e; given = λ memory read. e (λ is. memory (ap (λ (x : CacheFault). err_of x) is)) (λ is. read (ap (λ (x : CacheFault). err_of x) is)); taken = taken }
+reads_whole from to (Ok cache) f e taken = record { found = answer_known from to f.0 (Ok cache) f.1 f.2; end = f.1.end f.2.limit; fault = tt; only = only_whole from to (Ok cache) f e; given = λ memory read. f; taken = taken }
+reads_whole from to (Err fault) f e taken = record { found = tt; end = tt; fault = λ memory read. let g = e memory read in answer_known from to g.0 (Err fault) g.1 g.2; only = only_whole from to (Err fault) f e; given = λ memory read. e (λ is. memory (ap (λ (x : CacheFault). err_of x) is)) (λ is. read (ap (λ (x : CacheFault). err_of x) is)); taken = taken }

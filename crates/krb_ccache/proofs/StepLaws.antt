@@ -6,33 +6,24 @@ use Rattle.std.proofs.lemmas.List.{length-append, nil_from_length}
 use Rattle.krb_name.specs.Cursor.{Place}
 use Rattle.krb_name.specs.Window.{AtHand, Keeps}
 use Rattle.krb_name.specs.File.{file_limit, GivesWithin}
-use Rattle.krb_ccache.specs.declared.fault.CacheFault.{CacheFault}
+use Rattle.krb_ccache.specs.Types.{CacheFault, Layout, Credential, BadItem, OutOfMemory, HeaderField, Read}
 use Rattle.krb_ccache.specs.declared.walking.TakeFault.{TakeFault}
 use Rattle.krb_ccache.specs.declared.walking.TakeFault.TheVariants as stop
 use Rattle.krb_ccache.specs.Reader.{HeldPart, passed}
-use Rattle.krb_ccache.specs.declared.layout.Layout.{Layout}
 use Rattle.krb_ccache.specs.Value.{FitsCredential}
-use Rattle.krb_ccache.specs.declared.credential.Credential.{Credential}
-use Rattle.krb_ccache.specs.Inner.Standing.{bytes_of, IsMissing, spelled_as}
+use Rattle.krb_ccache.specs.Inner.Standing.{bytes_of, Lies, IsMissing, spelled_as}
 use Rattle.krb_ccache.specs.Inner.Walking.{Walks, Halts, FitsKeyed, whole}
-use Rattle.krb_ccache.specs.Inner.Stepping.{Any, Stands, cleared, Comes, Gives, Runs, IsTold, Lacks, Misses, MissesOne, IsStep, IsAtHand, IsNone}
+use Rattle.krb_ccache.specs.Inner.Stepping.{Any, Stands, cleared, Comes, Gives, Runs, IsTold, Lacks, Misses, MissesOne, IsStep, IsAtHand, IsNone, Tells}
 use Rattle.std.specs.Prelude.{◌≢◌}
-use Rattle.krb_ccache.specs.declared.fault.CacheFault.TheVariants.{BadItem, OutOfMemory}
 use Rattle.krb_ccache.specs.Format.{version_of, head_bytes, FitsHead, second_size, Spelled, Spells}
-use Rattle.krb_ccache.specs.declared.credential.HeaderField.{HeaderField}
-use Rattle.krb_name.specs.Field.{IsBytes, IsField}
-use Rattle.krb_ccache.proofs.Repeats.{missing_where}
 use Rattle.krb_name.proofs.FileLaws.{gives_then}
 use Rattle.krb_ccache.proofs.WalkLaws.{front_same}
 
 module _ {X S : Type 0} (s : X → List ℕ) (P : X → Type 0) (left : S → Option (List ℕ)) where
-  started : (old start new : AtHand S) → Walks s P left start new → start ≡ cleared old → Walks s P left (cleared old) new
-  started old start new w e = subst (λ (t : AtHand S). Walks s P left t new) e w
-
   -- what was taken is the thing that was read
   pub came : (old start new : AtHand S) (bytes : List ℕ) (x : X) → Walks s P left start new → start ≡ cleared old → bytes ≡ new.bytes → Stands s P bytes x → Comes s P left old new x
   came old start new bytes x walks e at_hand stands =
-      let w = started old start new walks e in
+      let w = subst (λ (t : AtHand S). Walks s P left t new) e walks in
       let parts : w.piece ≡ s x ++ stands.others = sym (at_hand ∙ w.keeps.bytes) ∙ stands.bytes_are in
       let len : length (s x) ≡ length w.piece = w.spans x [] stands.others stands.fits (append-nil w.piece ∙ parts) in
       let none : stands.others ≡ [] = nil_from_length stands.others (omega (arith, len, ap length parts, length-append (s x) stands.others)) in
@@ -48,7 +39,7 @@ module _ {X S : Type 0} (s : X → List ℕ) (P : X → Type 0) (left : S → Op
   -- what was taken is no such thing
   pub missed : (old start new : AtHand S) → Walks s P left start new → start ≡ cleared old → IsMissing s P new.bytes → Halts s P left (cleared old) new stop.Long
   missed old start new walks e missing =
-      let w = started old start new walks e in
+      let w = subst (λ (t : AtHand S). Walks s P left t new) e walks in
       record {
         piece = w.piece;
         keeps = w.keeps;
@@ -100,30 +91,21 @@ module _ {X S : Type 0} (s : X → List ℕ) (P : X → Type 0) (left : S → Op
     missing = λ x others p le e. omega (arith, h.wants x r.piece others p e, h.cant_come, h.keeps.given, le);
   }
 
-  halted : (old new : AtHand S) (stop : TakeFault) → Halts s P left (cleared old) new stop → (bytes : List ℕ) × Gives left old new bytes
-  halted old new stop h = (h.piece, some_given old new h.piece h.keeps h.within)
+  -- nothing was read after that
+  stayed : (old middle new : AtHand S) (stop : TakeFault) (fault told : CacheFault) → Halts s P left (cleared old) middle stop → new ≡ middle → (told ≢ Read → told ≢ OutOfMemory → Lacks s P left old middle) → (told ≢ OutOfMemory → Tells left middle fault told)
+      → Misses s P left old new fault told
+  stayed old middle new stop fault told h same lacks tells =
+      subst (λ (w : AtHand S). Misses s P left old w fault told) (sym same) (record { some = (h.piece, some_given old middle h.piece h.keeps h.within); lacks = lacks; tells = tells })
 
   pub misses : (old middle new : AtHand S) (stop : TakeFault) (fault told : CacheFault) → Halts s P left (cleared old) middle stop → IsTold left middle new stop fault told → Misses s P left old new fault told
-  misses old middle new stop.End fault told h t = subst (λ (w : AtHand S). Misses s P left old w fault told) (sym t.1) (record {
-    some = halted old middle stop.End h;
-    lacks = λ read memory. ended old middle h;
-    tells = λ memory. inr (inr (t.0, (h.cant_come.0, h.within)));
-  })
+  misses old middle new stop.End fault told h t = stayed old middle new stop.End fault told h t.1 (λ read memory. ended old middle h) (λ memory. inr (inr (t.0, (h.cant_come.0, h.within))))
   misses old middle new stop.Long fault told h t = record {
     some = (h.piece ++ t.0.piece, then_run old middle new h.piece h.keeps h.within t.0);
     lacks = λ read memory. ran old middle new h t.0;
     tells = λ memory. t.1;
   }
-  misses old middle new stop.Read fault told h t = subst (λ (w : AtHand S). Misses s P left old w fault told) (sym t.1) (record {
-    some = halted old middle stop.Read h;
-    lacks = λ read memory. absurd (read t.0);
-    tells = λ memory. inl t.0;
-  })
-  misses old middle new stop.OutOfMemory fault told h t = subst (λ (w : AtHand S). Misses s P left old w fault told) (sym t.1) (record {
-    some = halted old middle stop.OutOfMemory h;
-    lacks = λ read memory. absurd (memory t.0);
-    tells = λ memory. absurd (memory t.0);
-  })
+  misses old middle new stop.Read fault told h t = stayed old middle new stop.Read fault told h t.1 (λ read memory. absurd (read t.0)) (λ memory. inl t.0)
+  misses old middle new stop.OutOfMemory fault told h t = stayed old middle new stop.OutOfMemory fault told h t.1 (λ read memory. absurd (memory t.0)) (λ memory. absurd (memory t.0))
 
   -- the source gave at most one byte past the limit, whether a thing came or not
   pub comes_gives : (old new : AtHand S) (x : X) → Comes s P left old new x → GivesWithin (left old.source) (left new.source) old.given new.given
@@ -208,16 +190,9 @@ was_made layout left old new (Ok (Some credential)) bytes made there step hand s
     let stands = subst (λ (t : List ℕ). Stands bytes_of (Spells layout) t one) (sym same) hand.1 in
     subst (λ (x : Credential). IsStep layout left old new (Ok (Some x))) (sym (is one stands)) step
 
--- ---- a field
-
-module _ {X : Type 0} (r : Place → Option (X × Place)) (s : X → List ℕ) (P : X → Type 0) (f : IsField r s P) where
-  pub field_stands : (bytes : List ℕ) (place : Place) (x : X) (behind : Place) → place ≡ record { at = 0; rest = bytes } → IsBytes bytes → r place ≡ Some (x, behind) → Stands s P bytes x
-  field_stands bytes place x behind e fits read =
-      let t = f.takes (record { at = 0; rest = bytes }) x behind fits (subst (λ (p : Place). r p ≡ Some (x, behind)) e read) in
-      record { fits = t.1; others = behind.rest; bytes_are = t.0.parts }
-
-  pub field_missing : (bytes : List ℕ) (place : Place) → place ≡ record { at = 0; rest = bytes } → r place ≡ None → IsMissing s P bytes
-  field_missing bytes place e none = missing_where r s P f (record { at = 0; rest = bytes }) (subst (λ (p : Place). r p ≡ None) e none)
+-- what lies at the start of the bytes at hand
+pub lies_stands : {X : Type 0} {s : X → List ℕ} {P : X → Type 0} (bytes : List ℕ) (place behind : Place) (x : X) → place ≡ record { at = 0; rest = bytes } → Lies s P place x behind → Stands s P bytes x
+lies_stands bytes place behind x e lies = record { fits = lies.fits; others = behind.rest; bytes_are = sym (ap (λ (p : Place). p.rest) e) ∙ lies.takes.parts }
 
 -- ---- how much of a credential was at hand
 

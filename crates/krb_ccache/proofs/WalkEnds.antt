@@ -5,20 +5,14 @@ use Rattle.std.specs.Prelude.{IfErr, OnOk}
 use Rattle.std.specs.Io.KnownBytes.{Consumes}
 use lib.Seq.{take-add}
 use Rattle.std.proofs.lemmas.Bool.{cases_lt}
-use Rattle.std.proofs.lemmas.List.{length-take, length-drop, drop-drop, take_at, take-append-drop, take-append-le}
-use Rattle.krb_name.specs.Window.{AtHand, Keeps, Fills}
+use Rattle.std.proofs.lemmas.List.{length-take, length-drop, drop-drop, take-append-drop}
+use Rattle.krb_name.specs.Window.{AtHand}
 use Rattle.krb_name.specs.File.{file_limit}
-use Rattle.krb_name.specs.declared.reading.ReadFault.{ReadFault}
-use Rattle.krb_name.specs.declared.reading.ReadFault.TheVariants as source
 use Rattle.std.proofs.KnownBytes.{Consumes-nil}
 use Rattle.krb_name.specs.Cursor.{Place, ◌>>=◌, bytes_at, data_at, number_bytes}
 use Rattle.krb_name.specs.Field.{IsBytes, IsField}
 use Rattle.krb_name.proofs.CursorLaws.{some_is, IsField-bytes, IsField-data16}
-use Rattle.krb_name.specs.declared.principal.Principal.{Principal}
-use Rattle.krb_ccache.specs.declared.credential.HeaderField.{HeaderField}
-use Rattle.krb_ccache.specs.declared.credential.Credential.{Credential}
-use Rattle.krb_ccache.specs.declared.layout.Layout.{Layout}
-use Rattle.krb_ccache.specs.declared.layout.Layout.TheVariants.{Version3, Version4}
+use Rattle.krb_ccache.specs.Types.{Principal, HeaderField, Credential, Layout, Version3, Version4}
 use Rattle.krb_ccache.specs.declared.walking.TakeFault.{TakeFault}
 use Rattle.krb_ccache.specs.declared.walking.TakeFault.TheVariants as stop
 use Rattle.krb_ccache.specs.Spelling.{fields_bytes, header_bytes, name_bytes, marked_bytes}
@@ -27,10 +21,10 @@ use Rattle.krb_ccache.specs.Format.{version_of, head_bytes, FitsHead, Spelled, S
 use Rattle.krb_ccache.specs.Inner.Reading.{name_at}
 use Rattle.krb_ccache.specs.Inner.Stepping.{Any, Stands, cleared}
 use Rattle.krb_ccache.specs.Inner.Standing.{bytes_of, IsMissing}
-use Rattle.krb_ccache.specs.Inner.Walking.{Hand, window_hand, window_within, window_lacks, bytes_hand, bytes_within, bytes_lacks, Pass, passed_at, skip_at, pass_none, pass_if, Goes, Stops, IsWhole, IsTaken, Taken, TookFewer, stop_of, Spans, Wants, Walks, Halts, Marked, FitsKeyed, whole}
+use Rattle.krb_ccache.specs.Inner.Walking.{Hand, window_hand, window_within, window_lacks, bytes_hand, bytes_within, bytes_lacks, Pass, passed_at, skip_at, pass_none, pass_if, Goes, Stops, IsWhole, IsTaken, Taken, TookFewer, Spans, Wants, Walks, Halts, Marked, FitsKeyed, whole}
 use Rattle.krb_ccache.proofs.PartLaws.{IsField-name}
-use Rattle.krb_ccache.proofs.WalkLaws.{bytes_goes, bytes_stops}
-use Rattle.krb_ccache.proofs.CredentialLaws.{passed_lies, passed_missing, parts_at, IsField-parts, parts_of, fits_parts, flag_byte, flag_spelled}
+use Rattle.krb_ccache.proofs.WalkLaws.{shorter_front, bytes_goes, bytes_stops}
+use Rattle.krb_ccache.proofs.CredentialLaws.{passed_lies, passed_missing, parts_at, IsField-parts, parts_of, fits_parts, flag_byte, flag_known}
 
 -- ---- a spelling is passed over
 
@@ -60,7 +54,7 @@ whole_passes layout m fits =
 pub spelled_passes : (layout : Layout) (one : Spelled) → Spells layout one → Passes (passed_at (parts_at false layout)) one.bytes
 spelled_passes layout one h =
     let c : Credential = one.credential in
-    let same : marked_bytes c h.second (number_bytes w8 (flag_byte c.is_skey)) ≡ one.bytes = ap (marked_bytes c h.second) (flag_spelled c.is_skey) ∙ sym h.bytes_are in
+    let same : marked_bytes c h.second (number_bytes w8 (flag_byte c.is_skey)) ≡ one.bytes = ap (marked_bytes c h.second) (flag_known c.is_skey).1.0 ∙ sym h.bytes_are in
     subst (Passes (passed_at (parts_at false layout))) same (whole_passes layout (record { credential = c; second = h.second; mark = flag_byte c.is_skey }) (h.fits, h.size))
 
 -- ---- of a source
@@ -76,12 +70,6 @@ module _ {Y : Type 0} (pass : Pass) (s : Y → List ℕ) (P : Y → Type 0) (pas
       let some = ap (λ (t : List ℕ). pass (record { at = at; rest = t })) e ∙ passes y p at more in
       absurd cc
 
-  -- the shorter front of one list is the front of the other
-  front_of : (xs ys more others : List ℕ) → length xs ≤ length ys → xs ++ more ≡ ys ++ others → ys ≡ xs ++ drop (length xs) ys
-  front_of xs ys more others le e =
-      let front : take (length xs) ys ≡ xs = sym (take-append-le (length xs) ys others le) ∙ ap (take (length xs)) (sym e) ∙ take_at xs more (length xs) refl in
-      sym (take-append-drop (length xs) ys) ∙ ap (λ (t : List ℕ). t ++ drop (length xs) ys) front
-
   wants_of : (piece : List ℕ) (count : ℕ) → 0 < count → ((at : ℕ) (more : List ℕ) → length more < count → pass (record { at = at; rest = piece ++ more }) ≡ None) → Wants s P piece count
   wants_of piece count some h y more others p e =
       elim (cases_lt (length (s y)) (length piece + count)) [
@@ -89,11 +77,11 @@ module _ {Y : Type 0} (pass : Pass) (s : Y → List ℕ) (P : Y → Type 0) (pas
         | inl few ↦
             elim (cases_lt (length (s y)) (length piece)) [
               | inl shorter ↦
-                  let is : piece ≡ s y ++ drop (length (s y)) piece = front_of (s y) piece others more (omega (arith, shorter)) (sym e) in
+                  let is : piece ≡ s y ++ drop (length (s y)) piece = shorter_front (s y) piece others more (omega (arith, shorter)) (sym e) in
                   absurd (none_some 0 (piece ++ []) y (drop (length (s y)) piece) p (append-nil piece ∙ is) (h 0 [] some))
               | inr longer ↦
                   let back : List ℕ = drop (length piece) (s y) in
-                  let is : s y ≡ piece ++ back = front_of piece (s y) more others longer e in
+                  let is : s y ≡ piece ++ back = shorter_front piece (s y) more others longer e in
                   absurd (none_some 0 (piece ++ back) y [] p (sym is ∙ sym (append-nil (s y))) (h 0 back (omega (arith, length-drop (length piece) (s y), few, longer))))
             ]
       ]
@@ -153,9 +141,6 @@ module _ (layout : Layout) {S : Type 0} (left : S → Option (List ℕ)) (old ne
 
 -- what was asked of a source
 module _ {S : Type 0} (left : S → Option (List ℕ)) (old new : AtHand S) (count : ℕ) where
-  keeps_hand : (piece : List ℕ) → Keeps (left old.source) (left new.source) old new piece → Keeps (left old.source) (left new.source) (window_hand left old) (window_hand left new) piece
-  keeps_hand piece k = record { consumed = k.consumed; bytes = k.bytes; peak = k.peak; given = k.given }
-
   pub nothing_comes : length old.bytes ≤ old.peak → old.given ≤ file_limit → file_limit - old.given < count → TookFewer window_within window_lacks count (window_hand left old) (window_hand left old) stop.Long
   nothing_comes peak within long = record {
     piece = [];
@@ -164,32 +149,6 @@ module _ {S : Type 0} (left : S → Option (List ℕ)) (old new : AtHand S) (cou
     fewer = omega (arith, long);
     lacks = omega (arith, long, within);
   }
-
-  module _ (old_within : old.given ≤ file_limit) (enough : count ≤ file_limit - old.given) where
-    pub all_came : Fills (left old.source) (left new.source) old new count (Ok true) → Taken window_within count (window_hand left old) (window_hand left new)
-    all_came f = record { piece = f.piece; keeps = keeps_hand f.piece f.keeps; within = omega (arith, f.keeps.given, f.came, old_within, enough); length_is = f.came }
-
-    pub some_came : Fills (left old.source) (left new.source) old new count (Ok false) → TookFewer window_within window_lacks count (window_hand left old) (window_hand left new) stop.End
-    some_came f = record {
-      piece = f.piece;
-      keeps = keeps_hand f.piece f.keeps;
-      within = omega (arith, f.keeps.given, f.came.0, old_within, enough);
-      fewer = f.came.0;
-      lacks = (f.came.1, omega (arith, f.came.0));
-    }
-
-    pub fill_failed : (fault : ReadFault) → Fills (left old.source) (left new.source) old new count (Err fault) → TookFewer window_within window_lacks count (window_hand left old) (window_hand left new) (stop_of fault)
-    fill_failed fault f = record {
-      piece = f.piece;
-      keeps = keeps_hand f.piece f.keeps;
-      within = omega (arith, f.keeps.given, f.came, old_within, enough);
-      fewer = f.came;
-      lacks = unknown fault;
-    }
-      where
-        unknown : (cause : ReadFault) → window_lacks (stop_of cause) (window_hand left new) (count - length f.piece)
-        unknown source.Read = tt
-        unknown source.OutOfMemory = tt
 
 -- a credential whose bytes were taken, and whose flag is one or not
 module _ (layout : Layout) {S : Type 0} (left : S → Option (List ℕ)) (old start new : AtHand S) (good : Bool) (clear : start ≡ cleared old) (g : Goes (passed_at (parts_at true layout)) (pass_if good) window_within (window_hand left start) (window_hand left new)) where

@@ -3,12 +3,13 @@ use Rattle.std.proofs.Common.{◌≡◌, ℕ, suc, ◌+◌, ◌-◌, ◌<◌, �
 use Rattle.std.specs.Int.{Width, w32, byte_len, from_be_bytes}
 use Rattle.std.proofs.lemmas.Bool.{cases_lt, lt-leb}
 use Rattle.std.proofs.KnownBytes.{Consumes-nil, Consumes-trans}
-use Rattle.std.proofs.lemmas.List.{length-append, length-take, length-drop, drop-drop, take_all, take_at, drop_at, take-append-drop}
-use Rattle.krb_name.specs.Window.{AtHand, Keeps}
+use Rattle.std.proofs.lemmas.List.{length-append, length-take, length-drop, drop-drop, take_all, take_at, drop_at, take-append-drop, take-append-le}
+use Rattle.krb_name.specs.Window.{Keeps}
 use Rattle.krb_name.specs.Cursor.{Place, ◌>>=◌, bytes_at, number_at}
 use Rattle.krb_name.proofs.CursorLaws.{IsField-bytes}
 use Rattle.krb_ccache.specs.declared.walking.TakeFault.{TakeFault}
 use Rattle.krb_ccache.specs.Inner.Walking.{Hand, Pass, Same, skip_at, and_then, pass_none, pass_if, pass_number, pass_times, pass_data, Goes, Stops, IsWalk, Taken, TookFewer, IsTaken, last_number}
+use Rattle.krb_ccache.proofs.Fields.{bind_assoc, bind_same}
 
 -- ---- lists
 
@@ -19,18 +20,21 @@ front_same xs ys more others len e = (
   sym (drop_at xs more (length ys) len) ∙ ap (drop (length ys)) e ∙ drop_at ys others (length ys) refl,
 )
 
+-- the shorter front of one list is the front of the other
+pub shorter_front : (xs ys more others : List ℕ) → length xs ≤ length ys → xs ++ more ≡ ys ++ others → ys ≡ xs ++ drop (length xs) ys
+shorter_front xs ys more others le e =
+    let front : take (length xs) ys ≡ xs = sym (take-append-le (length xs) ys others le) ∙ ap (take (length xs)) (sym e) ∙ take_at xs more (length xs) refl in
+    sym (take-append-drop (length xs) ys) ∙ ap (λ (t : List ℕ). t ++ drop (length xs) ys) front
+
 -- ---- what is at hand
 
-keeps_then : {S : Type 0} (a b c : Option (List ℕ)) (old middle new : AtHand S) (front bytes : List ℕ) → Keeps a b old middle front → Keeps b c middle new bytes → Keeps a c old new (front ++ bytes)
-keeps_then a b c old middle new front bytes p q = record {
-  consumed = Consumes-trans a b c front bytes p.consumed q.consumed;
+joined : (old middle new : Hand) (front bytes : List ℕ) → Keeps old.source middle.source old middle front → Keeps middle.source new.source middle new bytes → Keeps old.source new.source old new (front ++ bytes)
+joined old middle new front bytes p q = record {
+  consumed = Consumes-trans old.source middle.source new.source front bytes p.consumed q.consumed;
   bytes = q.bytes ∙ ap (λ (t : List ℕ). t ++ bytes) p.bytes ∙ append_assoc old.bytes front bytes;
   peak = omega (arith, p.peak, q.peak, ap length q.bytes, length-append middle.bytes bytes);
   given = omega (arith, p.given, q.given, length-append front bytes);
 }
-
-joined : (old middle new : Hand) (front bytes : List ℕ) → Keeps old.source middle.source old middle front → Keeps middle.source new.source middle new bytes → Keeps old.source new.source old new (front ++ bytes)
-joined old middle new front bytes p q = keeps_then old.source middle.source new.source old middle new front bytes p q
 
 -- ---- two ways to pass over the same
 
@@ -38,18 +42,10 @@ pub also : (p q r : Pass) → Same p q → Same q r → Same p r
 also p q r e f place = e place ∙ f place
 
 pub grouped : (p q r : Pass) → Same (and_then (and_then p q) r) (and_then p (and_then q r))
-grouped p q r place = from_first (p place)
-  where
-    from_first : (o : Option Place) → ((o >>= q) >>= r) ≡ (o >>= λ next. q next >>= r)
-    from_first None = refl
-    from_first (Some next) = refl
+grouped p q r place = bind_assoc (p place) q r
 
 pub same_both : (p p' q q' : Pass) → Same p p' → Same q q' → Same (and_then p q) (and_then p' q')
-same_both p p' q q' e f place = ap (λ (o : Option Place). o >>= q) (e place) ∙ from_first (p' place)
-  where
-    from_first : (o : Option Place) → (o >>= q) ≡ (o >>= q')
-    from_first None = refl
-    from_first (Some next) = f next
+same_both p p' q q' e f place = ap (λ (o : Option Place). o >>= q) (e place) ∙ bind_same (p' place) q q' f
 
 pub same_then : (p q q' : Pass) → Same q q' → Same (and_then p q) (and_then p q')
 same_then p q q' f = same_both p p q q' (λ place. refl) f
@@ -66,7 +62,11 @@ nothing_then p place = from_first (p place)
 pub skips : (count at : ℕ) (bytes rest : List ℕ) → length bytes ≡ count → skip_at count (record { at = at; rest = bytes ++ rest }) ≡ Some (record { at = at + length bytes; rest = rest })
 skips count at bytes rest len = ap (λ (o : Option (List ℕ × Place)). o >>= λ x. Some x.1) ((IsField-bytes count).again at bytes rest len)
 
-pub no_skip : (count at : ℕ) (rest : List ℕ) → length rest < count → skip_at count (record { at = at; rest = rest }) ≡ None
+-- nothing is passed over of fewer bytes than these
+abbrev pub NeedsBytes : Pass → ℕ → Type 0
+NeedsBytes p count = (at : ℕ) (rest : List ℕ) → length rest < count → p (record { at = at; rest = rest }) ≡ None
+
+pub no_skip : (count : ℕ) → NeedsBytes (skip_at count) count
 unfolding bytes_at
 no_skip count at rest few = let short : leb count (length rest) ≡ false = lt-leb count (length rest) few in rw short refl
 
@@ -78,13 +78,13 @@ unfolding number_at
 numbers w others number at bytes rest len is =
     ap (λ (o : Option (List ℕ × Place)). (o >>= number_of w) >>= λ n. others n.0 n.1) ((IsField-bytes (byte_len w)).again at bytes rest len) ∙ ap (λ (n : ℕ). others n (record { at = at + length bytes; rest = rest })) (sym is)
 
-no_number : (w : Width) (others : ℕ → Pass) (at : ℕ) (rest : List ℕ) → length rest < byte_len w → pass_number w others (record { at = at; rest = rest }) ≡ None
+no_number : (w : Width) (others : ℕ → Pass) → NeedsBytes (pass_number w others) (byte_len w)
 unfolding number_at bytes_at
 no_number w others at rest few = let short : leb (byte_len w) (length rest) ≡ false = lt-leb (byte_len w) (length rest) few in rw short refl
 
 -- where the second of two has too few bytes
-module _ (count more : ℕ) (p : Pass) (none : (at : ℕ) (rest : List ℕ) → length rest < more → p (record { at = at; rest = rest }) ≡ None) where
-  too_few : (at : ℕ) (rest : List ℕ) → length rest < count + more → and_then (skip_at count) p (record { at = at; rest = rest }) ≡ None
+module _ (count more : ℕ) (p : Pass) (none : NeedsBytes p more) where
+  too_few : NeedsBytes (and_then (skip_at count) p) (count + more)
   too_few at rest few =
       elim (cases_lt (length rest) count) [
         | inl lt ↦ ap (λ (o : Option Place). o >>= p) (no_skip count at rest lt)
@@ -204,16 +204,20 @@ module _ (Within : Hand → Type 0) where
 
     -- ---- what is taken at once
 
-    pub bytes_stops : (count : ℕ) (old new : Hand) (stop : TakeFault) → TookFewer Within Lacks count old new stop → Stops (skip_at count) Within Lacks old new stop
-    bytes_stops count old new stop t = record {
+    -- nothing is passed over of fewer bytes
+    pub fewer_stop : (p : Pass) (count : ℕ) → NeedsBytes p count → (old new : Hand) (stop : TakeFault) → TookFewer Within Lacks count old new stop → Stops p Within Lacks old new stop
+    fewer_stop p count needs old new stop t = record {
       piece = t.piece;
       keeps = t.keeps;
       within = t.within;
       count = count - length t.piece;
       some = omega (arith, t.fewer);
-      none = λ at rest few. no_skip count at (t.piece ++ rest) (omega (arith, few, length-append t.piece rest, t.fewer));
+      none = λ at rest few. needs at (t.piece ++ rest) (omega (arith, few, length-append t.piece rest, t.fewer));
       lacks = t.lacks;
     }
+
+    pub bytes_stops : (count : ℕ) (old new : Hand) (stop : TakeFault) → TookFewer Within Lacks count old new stop → Stops (skip_at count) Within Lacks old new stop
+    bytes_stops count = fewer_stop (skip_at count) count (no_skip count)
 
     pub bytes_walk : {T : Type 0} (count : ℕ) (old new : Hand) (result : Result T TakeFault) → IsTaken Within Lacks count old new result → IsWalk (skip_at count) (λ x. pass_none) Within Lacks old new result
     bytes_walk count old new (Ok x) t = bytes_goes count old new t
@@ -222,42 +226,40 @@ module _ (Within : Hand → Type 0) where
     -- so many bytes, and a number after them
     module _ (w : Width) (skip : ℕ) (others : ℕ → Pass) where
       pub number_stops : (old new : Hand) (stop : TakeFault) → TookFewer Within Lacks (skip + byte_len w) old new stop → Stops (and_then (skip_at skip) (pass_number w others)) Within Lacks old new stop
-      number_stops old new stop t = record {
+      number_stops = fewer_stop (and_then (skip_at skip) (pass_number w others)) (skip + byte_len w) (too_few skip (byte_len w) (pass_number w others) (no_number w others))
+
+  -- so many bytes are skipped, and the others passed over
+  pub skipped_goes : (skip more : ℕ) (p q : Pass) (old new : Hand) → Taken Within (skip + more) old new
+      → ((at : ℕ) (back rest : List ℕ) → length back ≡ more → back ≡ drop (length old.bytes + skip) new.bytes → p (record { at = at; rest = back ++ rest }) ≡ q (record { at = at + length back; rest = rest }))
+      → Goes (and_then (skip_at skip) p) q Within old new
+  skipped_goes skip more p q old new t passes =
+      let front : List ℕ = take skip t.piece in
+      let back : List ℕ = drop skip t.piece in
+      let parts : t.piece ≡ front ++ back = sym (take-append-drop skip t.piece) in
+      let first : length front ≡ skip = omega (arith, length-take skip t.piece, t.length_is) in
+      let second : length back ≡ more = omega (arith, length-drop skip t.piece, t.length_is) in
+      let last = ap (drop (length old.bytes + skip)) t.keeps.bytes ∙ sym (drop-drop skip (length old.bytes) (old.bytes ++ t.piece)) ∙ ap (drop skip) (drop_at old.bytes t.piece (length old.bytes) refl) in
+      record {
         piece = t.piece;
         keeps = t.keeps;
         within = t.within;
-        count = (skip + byte_len w) - length t.piece;
-        some = omega (arith, t.fewer);
-        none = λ at rest few. too_few skip (byte_len w) (pass_number w others) (no_number w others) at (t.piece ++ rest) (omega (arith, few, length-append t.piece rest, t.fewer));
-        lacks = t.lacks;
+        same = λ at rest.
+            ap (λ (l : List ℕ). and_then (skip_at skip) p (record { at = at; rest = l })) (ap (λ (l : List ℕ). l ++ rest) parts ∙ append_assoc front back rest)
+            ∙ ap (λ (o : Option Place). o >>= p) (skips skip at front (back ++ rest) first) ∙ passes (at + length front) back rest second (sym last)
+            ∙ ap (λ (n : ℕ). q (record { at = n; rest = rest })) (omega (arith, ap length parts, length-append front back));
       }
 
   module _ (w : Width) (skip : ℕ) (others : ℕ → Pass) where
     pub number_goes : (old new : Hand) (number : ℕ) → Taken Within (skip + byte_len w) old new → number ≡ last_number w skip old.bytes new.bytes → Goes (and_then (skip_at skip) (pass_number w others)) (others number) Within old new
     number_goes old new number t last =
-        let front : List ℕ = take skip t.piece in
-        let back : List ℕ = drop skip t.piece in
-        let parts : t.piece ≡ front ++ back = sym (take-append-drop skip t.piece) in
-        let first : length front ≡ skip = omega (arith, length-take skip t.piece, t.length_is) in
-        let second : length back ≡ byte_len w = omega (arith, length-drop skip t.piece, t.length_is) in
-        let is = last ∙ ap (λ (l : List ℕ). from_be_bytes w (drop (length old.bytes + skip) l)) t.keeps.bytes
-        ∙ ap (from_be_bytes w) (sym (drop-drop skip (length old.bytes) (old.bytes ++ t.piece)) ∙ ap (drop skip) (drop_at old.bytes t.piece (length old.bytes) refl)) in
-        record {
-          piece = t.piece;
-          keeps = t.keeps;
-          within = t.within;
-          same = λ at rest.
-              ap (λ (l : List ℕ). and_then (skip_at skip) (pass_number w others) (record { at = at; rest = l })) (ap (λ (l : List ℕ). l ++ rest) parts ∙ append_assoc front back rest)
-              ∙ ap (λ (o : Option Place). o >>= pass_number w others) (skips skip at front (back ++ rest) first) ∙ numbers w others number (at + length front) back rest second is
-              ∙ ap (λ (n : ℕ). others number (record { at = n; rest = rest })) (omega (arith, ap length parts, length-append front back));
-        }
+        skipped_goes skip (byte_len w) (pass_number w others) (others number) old new t (λ at back rest len is. numbers w others number at back rest len (last ∙ ap (from_be_bytes w) (sym is)))
 
 -- so many bytes, and two numbers after them
 module _ (Within : Hand → Type 0) (skip : ℕ) (others : ℕ → ℕ → Pass) where
   abbrev pub pass_pair : Pass
   pass_pair = pass_number w32 (λ one. pass_number w32 (others one))
 
-  no_pair : (at : ℕ) (rest : List ℕ) → length rest < 8 → pass_pair (record { at = at; rest = rest }) ≡ None
+  no_pair : NeedsBytes pass_pair 8
   no_pair at rest few =
       elim (cases_lt (length rest) 4) [
         | inl lt ↦ no_number w32 (λ one. pass_number w32 (others one)) at rest lt
@@ -269,39 +271,22 @@ module _ (Within : Hand → Type 0) (skip : ℕ) (others : ℕ → ℕ → Pass)
 
   pub pair_goes : (old new : Hand) (last : List ℕ) (one other : ℕ) → Taken Within (skip + 8) old new → last ≡ drop (length old.bytes + skip) new.bytes → one ≡ from_be_bytes w32 (take 4 last) → other ≡ from_be_bytes w32 (take 4 (drop 4 last))
       → Goes (and_then (skip_at skip) pass_pair) (others one other) Within old new
-  pair_goes old new last one other t last_is is also_is =
-      let front : List ℕ = take skip t.piece in
-      let back : List ℕ = drop skip t.piece in
-      let a : List ℕ = take 4 back in
-      let b : List ℕ = drop 4 back in
-      let len : length back ≡ 8 = omega (arith, length-drop skip t.piece, t.length_is) in
-      let parts : t.piece ≡ front ++ (a ++ b) = sym (take-append-drop skip t.piece) ∙ ap (λ (l : List ℕ). front ++ l) (sym (take-append-drop 4 back)) in
-      let first : length front ≡ skip = omega (arith, length-take skip t.piece, t.length_is) in
-      let second : length a ≡ 4 = omega (arith, length-take 4 back, len) in
-      let third : length b ≡ 4 = omega (arith, length-drop 4 back, len) in
-      let after : last ≡ back = last_is ∙ ap (drop (length old.bytes + skip)) t.keeps.bytes ∙ sym (drop-drop skip (length old.bytes) (old.bytes ++ t.piece)) ∙ ap (drop skip) (drop_at old.bytes t.piece (length old.bytes) refl) in
-      let one_is : one ≡ from_be_bytes w32 a = is ∙ ap (λ (l : List ℕ). from_be_bytes w32 (take 4 l)) after in
-      let other_is : other ≡ from_be_bytes w32 b = also_is ∙ ap (λ (l : List ℕ). from_be_bytes w32 (take 4 (drop 4 l))) after ∙ ap (from_be_bytes w32) (take_all 4 b (omega (arith, third))) in
-      record {
-        piece = t.piece;
-        keeps = t.keeps;
-        within = t.within;
-        same = λ at rest.
-            ap (λ (l : List ℕ). and_then (skip_at skip) pass_pair (record { at = at; rest = l })) (ap (λ (l : List ℕ). l ++ rest) parts ∙ append_assoc front (a ++ b) rest ∙ ap (λ (l : List ℕ). front ++ l) (append_assoc a b rest))
-            ∙ ap (λ (o : Option Place). o >>= pass_pair) (skips skip at front (a ++ (b ++ rest)) first) ∙ numbers w32 (λ n. pass_number w32 (others n)) one (at + length front) a (b ++ rest) second one_is
-            ∙ numbers w32 (others one) other ((at + length front) + length a) b rest third other_is ∙ ap (λ (n : ℕ). others one other (record { at = n; rest = rest })) (omega (arith, first, second, third, t.length_is));
-      }
+  pair_goes old new last one other t last_is is also_is = skipped_goes Within skip 8 pass_pair (others one other) old new t passes
+    where
+      passes : (at : ℕ) (back rest : List ℕ) → length back ≡ 8 → back ≡ drop (length old.bytes + skip) new.bytes → pass_pair (record { at = at; rest = back ++ rest }) ≡ others one other (record { at = at + length back; rest = rest })
+      passes at back rest len after =
+          let a : List ℕ = take 4 back in
+          let b : List ℕ = drop 4 back in
+          let same : last ≡ back = last_is ∙ sym after in
+          let second : length a ≡ 4 = omega (arith, length-take 4 back, len) in
+          let third : length b ≡ 4 = omega (arith, length-drop 4 back, len) in
+          let one_is : one ≡ from_be_bytes w32 a = is ∙ ap (λ (l : List ℕ). from_be_bytes w32 (take 4 l)) same in
+          let other_is : other ≡ from_be_bytes w32 b = also_is ∙ ap (λ (l : List ℕ). from_be_bytes w32 (take 4 (drop 4 l))) same ∙ ap (from_be_bytes w32) (take_all 4 b (omega (arith, third))) in
+          ap (λ (l : List ℕ). pass_pair (record { at = at; rest = l })) (ap (λ (l : List ℕ). l ++ rest) (sym (take-append-drop 4 back)) ∙ append_assoc a b rest) ∙ numbers w32 (λ n. pass_number w32 (others n)) one at a (b ++ rest) second one_is
+          ∙ numbers w32 (others one) other (at + length a) b rest third other_is ∙ ap (λ (n : ℕ). others one other (record { at = n; rest = rest })) (omega (arith, second, third, len))
 
   pub pair_stops : (Lacks : TakeFault → Hand → ℕ → Type 0) (old new : Hand) (stop : TakeFault) → TookFewer Within Lacks (skip + 8) old new stop → Stops (and_then (skip_at skip) pass_pair) Within Lacks old new stop
-  pair_stops Lacks old new stop t = record {
-    piece = t.piece;
-    keeps = t.keeps;
-    within = t.within;
-    count = (skip + 8) - length t.piece;
-    some = omega (arith, t.fewer);
-    none = λ at rest few. too_few skip 8 pass_pair no_pair at (t.piece ++ rest) (omega (arith, few, length-append t.piece rest, t.fewer));
-    lacks = t.lacks;
-  }
+  pair_stops Lacks = fewer_stop Within Lacks (and_then (skip_at skip) pass_pair) (skip + 8) (too_few skip 8 pass_pair no_pair)
 
 -- ---- so many times bytes after their length
 

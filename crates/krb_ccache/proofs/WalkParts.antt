@@ -5,9 +5,10 @@ use Rattle.std.specs.Int.{Width, w8, w16, w32, byte_len, from_be_bytes, cast_sig
 use Rattle.krb_name.specs.Cursor.{Place, ◌>>=◌, bytes_at, number_at, signed_at, data_at, times_at}
 use Rattle.krb_ccache.specs.declared.walking.TakeFault.{TakeFault}
 use Rattle.krb_ccache.specs.declared.walking.Left.{Left}
-use Rattle.krb_name.specs.declared.principal.Principal.{Principal}
+use Rattle.krb_ccache.specs.Types.{Principal}
 use Rattle.krb_ccache.specs.Inner.Reading.{both_at, made_at, name_at, is_flag, allowed, byte_at, typed_of, typed_at, list_at}
 use Rattle.krb_ccache.specs.Inner.Walking.{Hand, Pass, passed_at, skip_at, and_then, pass_none, pass_if, pass_number, pass_times, pass_data, left_at, Same, Goes, Stops, IsWalk, Taken, TookFewer, IsTaken, last_number}
+use Rattle.krb_ccache.proofs.Fields.{bind_assoc, bind_same}
 use Rattle.krb_ccache.proofs.WalkLaws.{also, grouped, same_both, same_then, none_skipped, skip_zero, skip_both, skip_more, goes_none, goes_guarded, bytes_goes, goes_same, goes_then, goes_more, goes_if, stops_same, stops_then, stops_more, stops_if, stops_guarded, bytes_stops, walk_same, walk_then, bytes_walk, number_goes, number_stops, pair_stops}
 
 -- ---- what is passed over of what is read
@@ -16,30 +17,16 @@ use Rattle.krb_ccache.proofs.WalkLaws.{also, grouped, same_both, same_then, none
 abbrev behind : {X : Type 0} → X × Place → Option Place
 behind x = Some x.1
 
-module _ {X Y : Type 0} where
-  abbrev paired : X → Y × Place → Option ((X × Y) × Place)
-  paired x y = Some ((x, y.0), y.1)
+-- what is made of two things doesn't matter
+pair_passed : {X Y Z : Type 0} (make : X → Y → Z) (o : Option (X × Place)) (other : Place → Option (Y × Place)) → ((o >>= λ x. other x.1 >>= λ y. Some (make x.0 y.0, y.1)) >>= behind) ≡ ((o >>= behind) >>= λ p. other p >>= behind)
+pair_passed make None other = refl
+pair_passed make (Some x) other = bind_assoc (other x.1) (λ y. Some (make x.0 y.0, y.1)) behind
 
-  pub both_passed : (one : Place → Option (X × Place)) (other : Place → Option (Y × Place)) → Same (passed_at (both_at one other)) (and_then (passed_at one) (passed_at other))
-  both_passed one other place = from_one (one place)
-    where
-      from_other : (x : X) (o : Option (Y × Place)) → ((o >>= paired x) >>= behind) ≡ (o >>= behind)
-      from_other x None = refl
-      from_other x (Some y) = refl
+pub both_passed : {X Y : Type 0} (one : Place → Option (X × Place)) (other : Place → Option (Y × Place)) → Same (passed_at (both_at one other)) (and_then (passed_at one) (passed_at other))
+both_passed {X} {Y} one other place = pair_passed (λ (x : X) (y : Y). (x, y)) (one place) other
 
-      from_one : (o : Option (X × Place)) → ((o >>= λ x. other x.1 >>= paired x.0) >>= behind) ≡ ((o >>= behind) >>= λ p. other p >>= behind)
-      from_one None = refl
-      from_one (Some x) = from_other x.0 (other x.1)
-
-  abbrev made : (X → Y) → X × Place → Option (Y × Place)
-  made make x = Some (make x.0, x.1)
-
-  made_passed : (make : X → Y) (read : Place → Option (X × Place)) → Same (passed_at (made_at make read)) (passed_at read)
-  made_passed make read place = from_read (read place)
-    where
-      from_read : (o : Option (X × Place)) → ((o >>= made make) >>= behind) ≡ (o >>= behind)
-      from_read None = refl
-      from_read (Some x) = refl
+made_passed : {X Y : Type 0} (make : X → Y) (read : Place → Option (X × Place)) → Same (passed_at (made_at make read)) (passed_at read)
+made_passed make read place = bind_assoc (read place) (λ x. Some (make x.0, x.1)) behind
 
 both_as : {X Y : Type 0} (one : Place → Option (X × Place)) (p : Pass) → Same (passed_at one) p → (other : Place → Option (Y × Place)) (q : Pass) → Same (passed_at other) q → Same (passed_at (both_at one other)) (and_then p q)
 both_as one p e other q f = also _ _ _ (both_passed one other) (same_both (passed_at one) p (passed_at other) q e f)
@@ -52,47 +39,18 @@ pub signed_passed : (w : Width) → Same (passed_at (signed_at w)) (skip_at (byt
 unfolding signed_at
 signed_passed w = also _ _ _ (made_passed (cast_signed w) (number_at w)) (number_passed w)
 
--- a number, and what is read after it
-bound_passed : {X : Type 0} (w : Width) (read : ℕ → Place → Option (X × Place)) (place : Place) → ((number_at w place >>= λ n. read n.0 n.1) >>= λ x. Some x.1) ≡ pass_number w (λ n. passed_at (read n)) place
-bound_passed {X} w read place = from_number (number_at w place)
-  where
-    from_number : (o : Option (ℕ × Place)) → ((o >>= λ n. read n.0 n.1) >>= λ x. Some x.1) ≡ (o >>= λ n. read n.0 n.1 >>= λ x. Some x.1)
-    from_number None = refl
-    from_number (Some n) = refl
-
 number_same : (w : Width) (p q : ℕ → Pass) → ((n : ℕ) → Same (p n) (q n)) → Same (pass_number w p) (pass_number w q)
-number_same w p q e place = from_number (number_at w place)
-  where
-    from_number : (o : Option (ℕ × Place)) → (o >>= λ n. p n.0 n.1) ≡ (o >>= λ n. q n.0 n.1)
-    from_number None = refl
-    from_number (Some n) = e n.0 n.1
-
-number_grouped : (w : Width) (p : ℕ → Pass) (q : Pass) → Same (and_then (pass_number w p) q) (pass_number w (λ n. and_then (p n) q))
-number_grouped w p q place = from_number (number_at w place)
-  where
-    from_number : (o : Option (ℕ × Place)) → ((o >>= λ n. p n.0 n.1) >>= q) ≡ (o >>= λ n. p n.0 n.1 >>= q)
-    from_number None = refl
-    from_number (Some n) = refl
+number_same w p q e place = bind_same (number_at w place) (λ n. p n.0 n.1) (λ n. q n.0 n.1) (λ n. e n.0 n.1)
 
 pub data_passed : (w : Width) → Same (passed_at (data_at w)) (pass_number w skip_at)
 unfolding data_at
-data_passed w place = bound_passed w bytes_at place
+data_passed w place = bind_assoc (number_at w place) (λ n. bytes_at n.0 n.1) behind
 
 times_passed : {X : Type 0} (read : Place → Option (X × Place)) (p : Pass) → Same (passed_at read) p → (count : ℕ) → Same (passed_at (times_at read count)) (pass_times count p)
 unfolding times_at
 times_passed read p e zero place = refl
-times_passed {X} read p e (suc count) place = from_first (read place) ∙ same_both (passed_at read) p (passed_at (times_at read count)) (pass_times count p) e (times_passed read p e count) place
-  where
-    others_of : X → List X × Place → Option (List X × Place)
-    others_of x xs = Some (x ∷ xs.0, xs.1)
-
-    from_others : (x : X) (o : Option (List X × Place)) → ((o >>= others_of x) >>= behind) ≡ (o >>= behind)
-    from_others x None = refl
-    from_others x (Some xs) = refl
-
-    from_first : (o : Option (X × Place)) → ((o >>= λ x. times_at read count x.1 >>= others_of x.0) >>= behind) ≡ ((o >>= behind) >>= λ next. times_at read count next >>= behind)
-    from_first None = refl
-    from_first (Some x) = from_others x.0 (times_at read count x.1)
+times_passed {X} read p e (suc count) place =
+    pair_passed (λ (x : X) (xs : List X). x ∷ xs) (read place) (times_at read count) ∙ same_both (passed_at read) p (passed_at (times_at read count)) (pass_times count p) e (times_passed read p e count) place
 
 -- ---- the parts
 
@@ -105,32 +63,24 @@ from_count count = pass_number w32 (from_realm count)
 strings_passed : (count : ℕ) → Same (and_then (passed_at (data_at w32)) (passed_at (times_at (data_at w32) count))) (from_count count)
 strings_passed count =
     let one = also _ _ _ (data_passed w32) (λ place. sym (none_skipped (pass_number w32 skip_at) place)) in
-    also _ _ _ (same_both (passed_at (data_at w32)) (pass_number w32 skip_at) _ _ (data_passed w32) (times_passed (data_at w32) (pass_data 0) one count)) (number_grouped w32 skip_at (pass_times count (pass_data 0)))
+    also _ _ _ (same_both (passed_at (data_at w32)) (pass_number w32 skip_at) _ _ (data_passed w32) (times_passed (data_at w32) (pass_data 0) one count)) (λ place. bind_assoc (number_at w32 place) (λ n. skip_at n.0 n.1) (pass_times count (pass_data 0)))
 
-abbrev named : ℤ → List ℕ → List (List ℕ) × Place → Option (Principal × Place)
-named t realm components = Some (record { realm = realm; name_type = t; components = components.0 }, components.1)
+abbrev named : ℤ → List ℕ → List (List ℕ) → Principal
+named t realm components = record { realm = realm; name_type = t; components = components }
 
 name_passed : Same (passed_at name_at) (and_then (skip_at 4) (pass_number w32 from_count))
 unfolding name_at
 name_passed place = from_type (signed_at w32 place) ∙ same_both (passed_at (signed_at w32)) (skip_at 4) _ _ (signed_passed w32) (number_same w32 _ from_count strings_passed) place
   where
-    from_strings : (t : ℤ) (realm : List ℕ) (o : Option (List (List ℕ) × Place)) → ((o >>= named t realm) >>= behind) ≡ (o >>= behind)
-    from_strings t realm None = refl
-    from_strings t realm (Some components) = refl
+    from_start : (t : ℤ) (next : Place) → ((number_at w32 next >>= λ count. data_at w32 count.1 >>= λ realm. times_at (data_at w32) count.0 realm.1 >>= λ components. Some (named t realm.0 components.0, components.1)) >>= behind)
+        ≡ pass_number w32 (λ count. and_then (passed_at (data_at w32)) (passed_at (times_at (data_at w32) count))) next
+    from_start t next =
+        bind_assoc (number_at w32 next) _ behind ∙ bind_same (number_at w32 next) _ _ (λ count. pair_passed (named t) (data_at w32 count.1) (times_at (data_at w32) count.0))
 
-    from_components : (t : ℤ) (count : ℕ) (o : Option (List ℕ × Place)) → ((o >>= λ realm. times_at (data_at w32) count realm.1 >>= named t realm.0) >>= behind) ≡ ((o >>= behind) >>= passed_at (times_at (data_at w32) count))
-    from_components t count None = refl
-    from_components t count (Some realm) = from_strings t realm.0 (times_at (data_at w32) count realm.1)
-
-    from_head : (t : ℤ) (o : Option (ℕ × Place)) → ((o >>= λ count. data_at w32 count.1 >>= λ realm. times_at (data_at w32) count.0 realm.1 >>= named t realm.0) >>= behind)
-        ≡ (o >>= λ count. and_then (passed_at (data_at w32)) (passed_at (times_at (data_at w32) count.0)) count.1)
-    from_head t None = refl
-    from_head t (Some count) = from_components t count.0 (data_at w32 count.1)
-
-    from_type : (o : Option (ℤ × Place)) → ((o >>= λ t. number_at w32 t.1 >>= λ count. data_at w32 count.1 >>= λ realm. times_at (data_at w32) count.0 realm.1 >>= named t.0 realm.0) >>= behind)
+    from_type : (o : Option (ℤ × Place)) → ((o >>= λ t. number_at w32 t.1 >>= λ count. data_at w32 count.1 >>= λ realm. times_at (data_at w32) count.0 realm.1 >>= λ components. Some (named t.0 realm.0 components.0, components.1)) >>= behind)
         ≡ ((o >>= behind) >>= pass_number w32 (λ count. and_then (passed_at (data_at w32)) (passed_at (times_at (data_at w32) count))))
     from_type None = refl
-    from_type (Some t) = from_head t.0 (number_at w32 t.1)
+    from_type (Some t) = from_start t.0 t.1
 
 typed_passed : Same (passed_at typed_at) (pass_data 2)
 unfolding typed_at
@@ -141,15 +91,11 @@ from_length count = pass_times count (pass_data 2)
 
 list_passed : Same (passed_at list_at) (pass_number w32 from_length)
 unfolding list_at
-list_passed place = bound_passed w32 (times_at typed_at) place ∙ number_same w32 _ from_length (times_passed typed_at (pass_data 2) typed_passed) place
+list_passed place = bind_assoc (number_at w32 place) (λ n. times_at typed_at n.0 n.1) behind ∙ number_same w32 _ from_length (times_passed typed_at (pass_data 2) typed_passed) place
 
 pub passed_some : {X : Type 0} (o : Option (X × Place)) (behind : Place) → (o >>= λ x. Some x.1) ≡ Some behind → (x : X) × (o ≡ Some (x, behind))
 passed_some None behind e = absurd cc
 passed_some (Some (x, next)) behind e = let same : next ≡ behind = cc in (x, ap (λ (p : Place). Some (x, p)) same)
-
-pub passed_none : {X : Type 0} (o : Option (X × Place)) → (o >>= λ x. Some x.1) ≡ None → o ≡ None
-passed_none None e = refl
-passed_none (Some x) e = absurd cc
 
 -- ---- the walks
 

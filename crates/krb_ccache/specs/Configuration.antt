@@ -3,8 +3,7 @@
 use Rattle.std.specs.Prelude.{◌≡◌, ◌≢◌, ℕ, ℤ, List, ◌∷◌, ◌++◌, All, FitsSigned, codes}
 use Rattle.std.specs.Int.{w32}
 use Rattle.krb_name.specs.Cursor.{signed_bytes}
-use Rattle.krb_ccache.specs.declared.credential.HeaderField.{HeaderField}
-use Rattle.krb_ccache.specs.declared.credential.Credential.{Credential}
+use Rattle.krb_ccache.specs.Types.{HeaderField, Credential}
 
 -- two signed numbers of 32 bits
 pub record IsOffset (value : List ℕ) (seconds microseconds : ℤ) : Type 0 where

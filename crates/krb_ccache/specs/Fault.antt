@@ -1,7 +1,6 @@
 -- Where a fault lies, and which faults are those of a source.
 use Rattle.std.specs.Prelude.{ℕ, Option, Some, None, Result, Err}
-use Rattle.krb_ccache.specs.declared.fault.CacheFault.{CacheFault}
-use Rattle.krb_ccache.specs.declared.fault.CacheFault.TheVariants.{BadItem, Read, OutOfMemory}
+use Rattle.krb_ccache.specs.Types.{CacheFault, BadItem, Read, OutOfMemory}
 use Rattle.krb_name.specs.declared.reading.ReadFault.{ReadFault}
 use Rattle.krb_name.specs.File.{fault_of_read}
 

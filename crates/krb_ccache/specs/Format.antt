@@ -2,16 +2,10 @@
 -- format"): which bytes are which cache, and what is wrong with other bytes.
 use Rattle.std.specs.Prelude.{◌≡◌, ◌≢◌, ◌⊎◌, ℕ, ◌<◌, ◌≤◌, ◌+◌, List, [], ◌∷◌, ◌++◌, length, map, All, Result, Ok, Err}
 use Rattle.std.specs.List.{flat_map}
-use Rattle.krb_name.specs.declared.principal.Principal.{Principal}
+use Rattle.krb_ccache.specs.Types.{Principal, HeaderField, Credential, Layout, Version3, Version4, CacheFault, Version, Header, BadItem, TooLong}
 use Rattle.krb_name.specs.File.{file_limit}
-use Rattle.krb_ccache.specs.declared.credential.HeaderField.{HeaderField}
-use Rattle.krb_ccache.specs.declared.credential.Credential.{Credential}
-use Rattle.krb_ccache.specs.declared.layout.Layout.{Layout}
-use Rattle.krb_ccache.specs.declared.layout.Layout.TheVariants.{Version3, Version4}
 use Rattle.krb_ccache.specs.Spelling.{header_bytes, name_bytes, keyed_bytes, credential_bytes}
 use Rattle.krb_ccache.specs.Value.{Cache, FitsHeader, FitsName, FitsCredential}
-use Rattle.krb_ccache.specs.declared.fault.CacheFault.{CacheFault}
-use Rattle.krb_ccache.specs.declared.fault.CacheFault.TheVariants.{Version, Header, BadItem, TooLong}
 
 -- ---- how the versions differ
 

@@ -2,7 +2,7 @@
 -- header has, and that none is computed if there is no field of tag 1.
 use Rattle.std.specs.Prelude.{◌≡◌, ◌≢◌, ℕ, ◌==◌, ℤ, List, [], ◌∷◌, take, drop, Option, Some, None, All, IfSome, IfNone, if◌then◌else◌}
 use Rattle.std.specs.Int.{w32, from_be_bytes, cast_signed}
-use Rattle.krb_ccache.specs.declared.credential.HeaderField.{HeaderField}
+use Rattle.krb_ccache.specs.Types.{HeaderField}
 use Rattle.krb_ccache.specs.Configuration.{HoldsOffset}
 
 -- four bytes as a signed number

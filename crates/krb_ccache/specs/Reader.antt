@@ -4,16 +4,11 @@ use Rattle.std.specs.Prelude.{◌≡◌, ◌≢◌, ℕ, ◌+◌, ◌<◌, ◌�
 use Rattle.std.specs.Int.{w8}
 use Rattle.std.specs.Io.KnownBytes.{Consumes, IsAtEnd}
 use Rattle.krb_name.specs.Cursor.{number_bytes}
-use Rattle.krb_name.specs.declared.principal.Principal.{Principal}
-use Rattle.krb_ccache.specs.declared.credential.HeaderField.{HeaderField}
-use Rattle.krb_ccache.specs.declared.credential.Credential.{Credential}
-use Rattle.krb_ccache.specs.declared.layout.Layout.{Layout}
+use Rattle.krb_ccache.specs.Types.{Principal, HeaderField, Credential, Layout, CacheFault, Read, OutOfMemory}
 use Rattle.krb_ccache.specs.Spelling.{marked_bytes}
 use Rattle.krb_ccache.specs.Value.{Cache, cache_of, FitsCredential}
 use Rattle.krb_name.specs.File.{file_limit, IsGiven}
 use Rattle.krb_ccache.specs.Format.{second_size, Spelled, Spells, credential_length, IsReached, IsCache, IsFaultOf}
-use Rattle.krb_ccache.specs.declared.fault.CacheFault.{CacheFault}
-use Rattle.krb_ccache.specs.declared.fault.CacheFault.TheVariants.{Read, OutOfMemory}
 
 -- a reader: its source; the layout, the header and the default principal; how many bytes the source
 -- has given; how many were held at once at most; and the last answer, once it was given: the end or

@@ -4,10 +4,7 @@ use Rattle.std.specs.Prelude.{ℕ, Bool, true, false, List, [], ◌++◌, length
 use Rattle.std.specs.Int.{w8, w16, w32}
 use Rattle.std.specs.List.{flat_map}
 use Rattle.krb_name.specs.Cursor.{number_bytes, signed_bytes, data_bytes}
-use Rattle.krb_name.specs.declared.principal.Principal.{Principal}
-use Rattle.krb_ccache.specs.declared.typed.TypedBytes.{TypedBytes}
-use Rattle.krb_ccache.specs.declared.credential.HeaderField.{HeaderField}
-use Rattle.krb_ccache.specs.declared.credential.Credential.{Credential}
+use Rattle.krb_ccache.specs.Types.{Principal, TypedBytes, HeaderField, Credential}
 
 -- ---- the header: its length, and then its fields
 

@@ -2,10 +2,7 @@
 use Rattle.std.specs.Prelude.{◌≡◌, ◌<◌, ◌^◌, ℕ, ℤ, List, ◌++◌, length, codes, All, FitsSigned}
 use Rattle.std.specs.Fmt.{signed_decimal}
 use Rattle.std.specs.Int.{w16, w32}
-use Rattle.krb_name.specs.declared.principal.Principal.{Principal}
-use Rattle.krb_ccache.specs.declared.typed.TypedBytes.{TypedBytes}
-use Rattle.krb_ccache.specs.declared.credential.HeaderField.{HeaderField}
-use Rattle.krb_ccache.specs.declared.credential.Credential.{Credential}
+use Rattle.krb_ccache.specs.Types.{Principal, TypedBytes, HeaderField, Credential}
 use Rattle.krb_ccache.specs.Spelling.{fields_bytes}
 
 -- the fields of the header, the default principal and the credentials, in their order

@@ -4,28 +4,26 @@ ghost use Rattle.std.specs.Prelude.{◌≡◌, ◌≢◌, ◌⊎◌, ◌≤◌, 
 ghost use Rattle.krb_name.specs.Field.{IsBytes};
 ghost use Rattle.krb_ccache.specs.Spelling.{name_bytes};
 ghost use Rattle.krb_ccache.specs.Value.{Cache, cache_of, HasLengths, Fits, FitsName, FitsCredential};
-ghost use Rattle.krb_ccache.specs.declared.fault.CacheFault.{CacheFault as CacheFaultValue};
+ghost use Rattle.krb_ccache.specs.Types.{CacheFault as CacheFaultValue};
 ghost use Rattle.krb_ccache.specs.Configuration.{IsConfiguration};
 ghost use Rattle.krb_ccache.specs.Fault.{offset_of, failed_reads};
-ghost use Rattle.krb_name.specs.File.{file_limit, GivesWithin, ReadsFile};
+ghost use Rattle.krb_name.specs.File.{file_limit, ReadsFile};
 ghost use Rattle.krb_ccache.specs.Format.{written, Spelled, Spells, IsCache, IsFaultOf, IsAnswerOf};
 ghost use Rattle.krb_ccache.specs.Offset.{IsOffsetOf};
-ghost use Rattle.krb_ccache.specs.Reader.{GaveCache, GaveFault};
-ghost use Rattle.krb_ccache.specs.Inner.Room.{Leaves};
-ghost use Rattle.krb_ccache.specs.Inner.Standing.{bytes_of, Lies, Reaches, IsMissing, StopsBy};
+ghost use Rattle.krb_ccache.specs.Inner.Standing.{bytes_of, Lies, Reaches, IsMissing, StopsBy, Leaves};
 
 use crate::checking::check;
 use crate::configuration::{is_entry, offset_in};
 use crate::credential::{Credential, HeaderField};
 use crate::fault::CacheFault;
-use crate::fits::header_fits;
 use crate::header::{open, read_head};
 use crate::item_fault::ItemFault;
-use crate::items::{read_credential, read_name};
+use crate::items::read_credential;
 use crate::layout::{Layout, VERSION_4};
+use crate::leading::Leading;
 use crate::part::{Part, behind_each, fits_each, write_each};
 use crate::stepping::{Start, begin, steps};
-use crate::writing::{behind_header, write_header, write_u16};
+use crate::writing::{behind_header, header_fits, write_header, write_u16};
 use krb_name::{FILE_LIMIT, FileCursor, Principal, Source, Window};
 use std::alloc::{AllocError, Global};
 use std::marker::Model;
@@ -102,6 +100,7 @@ impl CCache {
     ///
     /// Source: MIT krb5, "Credential cache file format", version 4; of version 3 the layout that
     /// docs/FORMATS.md gives.
+    #[tactic(auto, using(crate::proofs::AnswerLaws::only_answer, crate::proofs::AnswerLaws::one_fault))]
     pub fn parse(alloc: Global, bytes: &[u8]) -> Result<CCache, CacheFault>
         ensures found { IfOk result (λ cache. IsCache bytes.now cache) }
         ensures fault { IfErr result (λ fault.
@@ -152,21 +151,6 @@ impl CCache {
             ≡ S.failure_count window.old.source + failed_reads result }
         ensures lent { S.lender window.new.source ≡ S.lender window.old.source }
     {
-        CCache::read_parts(alloc, window)
-    }
-
-    fn read_parts<S: Source>(alloc: Global, window: &mut Window<S>) -> Result<CCache, CacheFault>
-        requires reads { S.failure_count window.old.source < 2 ^ 64 - 1 }
-        requires start { window.old.given ≡ 0 }
-        ensures found { IfOk result (λ cache.
-            GaveCache (S.remaining window.old.source) (S.remaining window.new.source) cache) }
-        ensures fault { IfErr result (GaveFault (S.remaining window.old.source) (S.remaining window.new.source)) }
-        ensures gave { GivesWithin (S.remaining window.old.source) (S.remaining window.new.source)
-            window.old.given window.new.given }
-        ensures failed { S.failure_count window.new.source
-            ≡ S.failure_count window.old.source + failed_reads result }
-        ensures lent { S.lender window.new.source ≡ S.lender window.old.source }
-    {
         let Start {
             layout,
             header,
@@ -191,7 +175,7 @@ impl CCache {
             Err(ItemFault::Missing) => return Err(CacheFault::Header),
             Err(ItemFault::OutOfMemory) => return Err(CacheFault::OutOfMemory),
         };
-        let default_principal = read_default(alloc, &mut cursor)?;
+        let default_principal = read_default(alloc, layout, &mut cursor)?;
         let credentials = read_credentials(alloc, layout, &mut cursor)?;
         Ok(CCache {
             header,
@@ -227,6 +211,7 @@ impl CCache {
     /// - `OutOfMemory`: there is no memory for the bytes.
     ///
     /// Source: MIT krb5, "Credential cache file format", version 4.
+    #[tactic(auto, using(crate::proofs::LayoutLaws::written_cache))]
     pub fn to_bytes(&self, alloc: Global) -> Result<Vec<u8>, CacheFault>
         ensures written { IfOk result (λ bytes. bytes.items ≡ written self.now) }
         ensures read_back { IfOk result (λ bytes. IsCache bytes.items self.now) }
@@ -279,14 +264,18 @@ impl CCache {
 }
 
 // Reads the principal that begins here, and moves past it.
-fn read_default(alloc: Global, cursor: &mut FileCursor<'_>) -> Result<Principal, CacheFault>
+fn read_default(
+    alloc: Global,
+    layout: Layout,
+    cursor: &mut FileCursor<'_>,
+) -> Result<Principal, CacheFault>
     requires { IsBytes cursor.old.rest }
     ensures read { IfOk result (λ name. Lies name_bytes FitsName cursor.old name cursor.new) }
     ensures missing { IfErr result (λ fault. fault ≢ CacheFault.OutOfMemory
         → (fault ≡ CacheFault.BadItem cursor.old.at) × IsMissing name_bytes FitsName cursor.old.rest) }
 {
     let at = cursor.at();
-    match read_name(alloc, cursor) {
+    match Leading::read(alloc, layout, cursor) {
         Ok(name) => Ok(name),
         Err(ItemFault::Missing) => Err(CacheFault::BadItem { at }),
         Err(ItemFault::OutOfMemory) => Err(CacheFault::OutOfMemory),
@@ -294,6 +283,7 @@ fn read_default(alloc: Global, cursor: &mut FileCursor<'_>) -> Result<Principal,
 }
 
 // Reads the credentials from here to the end.
+#[tactic(auto, using(crate::proofs::FileLaws::credential_goes, crate::proofs::FileLaws::stops, crate::proofs::FileLaws::read_none, crate::proofs::FileLaws::read_more))]
 fn read_credentials(
     alloc: Global,
     layout: Layout,

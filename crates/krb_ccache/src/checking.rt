@@ -3,7 +3,7 @@
 
 ghost use Rattle.std.specs.Prelude.{◌≡◌, ◌+◌, ◌<◌, ◌^◌, List, [], true, Some, None, OnOk, OnErr, IfErr, length};
 ghost use Rattle.krb_name.specs.Field.{IsBytes};
-ghost use Rattle.krb_ccache.specs.declared.credential.HeaderField.{HeaderField as HeaderFieldValue};
+ghost use Rattle.krb_ccache.specs.Types.{HeaderField as HeaderFieldValue};
 ghost use Rattle.krb_ccache.specs.Spelling.{header_bytes};
 ghost use Rattle.krb_ccache.specs.Value.{Cache, FitsHeader};
 ghost use Rattle.krb_ccache.specs.Format.{head_bytes, FitsHead, Spelled, Spells, IsCache, IsFaultOf};
@@ -22,6 +22,7 @@ use krb_name::{FileCursor, Principal, Short};
 ///
 /// # Errors
 /// Those of `CCache::parse` except `OutOfMemory`.
+#[tactic(auto, using(crate::proofs::WalkParts::passed_some, crate::proofs::FileLaws::name_lies))]
 pub(crate) fn check(bytes: &[u8]) -> Result<(), CacheFault>
     ensures ok { OnOk result ((cache : Cache) × IsCache bytes.now cache) }
     ensures fault { IfErr result (IsFaultOf bytes.now) }
@@ -54,6 +55,7 @@ fn check_head(layout: Layout, cursor: &mut FileCursor<'_>) -> Result<(), Short>
 }
 
 // Moves past the header that begins here.
+#[tactic(auto, using(crate::proofs::HeaderLaws::header_lies, crate::proofs::HeaderLaws::header_cut, crate::proofs::HeaderLaws::header_wrong))]
 fn check_header(cursor: &mut FileCursor<'_>) -> Result<(), Short>
     requires { IsBytes cursor.old.rest }
     ensures ok { OnOk result ((header : List HeaderFieldValue)
@@ -66,6 +68,7 @@ fn check_header(cursor: &mut FileCursor<'_>) -> Result<(), Short>
 }
 
 // Returns `Ok` if fields fill the bytes of a header.
+#[tactic(auto, using(crate::proofs::HeaderLaws::start_of, crate::proofs::HeaderLaws::not_filled))]
 fn check_fields(body: &[u8]) -> Result<(), Short>
     requires { length body.now < 2 ^ 16 }
     ensures ok { OnOk result ((header : List HeaderFieldValue) × Fills body.now header) }
@@ -79,6 +82,7 @@ fn check_fields(body: &[u8]) -> Result<(), Short>
 }
 
 // Moves past the credentials from here to the end.
+#[tactic(auto, using(crate::proofs::FileLaws::none_reached))]
 fn check_credentials(layout: Layout, cursor: &mut FileCursor<'_>) -> Result<(), CacheFault>
     requires { IsBytes cursor.old.rest }
     ensures ok { OnOk result ((credentials : List Spelled)

@@ -1,7 +1,7 @@
 //! What a cache contains beside its tickets: the KDC's clock offset, and configuration entries.
 
-ghost use Rattle.std.specs.Prelude.{◌≡◌, ◌≢◌, ◌↔◌, All, IsTrue, IfNone, IfSome, codes, length};
-ghost use Rattle.krb_ccache.specs.Configuration.{IsOffset, HoldsOffset, BeginsWith, IsConfiguration};
+ghost use Rattle.std.specs.Prelude.{◌≡◌, ◌↔◌, All, IsTrue, IfNone, IfSome, codes, length};
+ghost use Rattle.krb_ccache.specs.Configuration.{IsOffset, BeginsWith, IsConfiguration};
 ghost use Rattle.krb_ccache.specs.Offset.{IsOffsetOf};
 
 use crate::credential::{Credential, HeaderField};
@@ -18,14 +18,6 @@ pub(crate) fn offset_in(header: &[HeaderField]) -> Option<(i32, i32)>
     requires { All (λ field. field.tag ≡ 1 → length field.value ≡ 8) header.now }
     ensures { IsOffsetOf header.now result }
 {
-    first_offset(header)
-}
-
-fn first_offset(header: &[HeaderField]) -> Option<(i32, i32)>
-    requires { All (λ field. field.tag ≡ 1 → length field.value ≡ 8) header.now }
-    ensures some { IfSome result (λ offset. HoldsOffset header.now offset.0 offset.1) }
-    ensures none { IfNone result (All (λ field. field.tag ≢ 1) header.now) }
-{
     for field in header {
         if field.tag == OFFSET_TAG {
             return offset_of(field.value.as_slice());
@@ -34,6 +26,7 @@ fn first_offset(header: &[HeaderField]) -> Option<(i32, i32)>
     None
 }
 
+#[tactic(auto, using(crate::proofs::OffsetLaws::offset_read, crate::proofs::OffsetLaws::offset_answered, crate::proofs::OffsetLaws::first_there, crate::proofs::OffsetLaws::second_there))]
 fn offset_of(value: &[u8]) -> Option<(i32, i32)>
     requires { length value.now ≡ 8 }
     ensures some { IfSome result (λ offset. IsOffset value.now offset.0 offset.1) }
@@ -57,6 +50,7 @@ pub(crate) fn is_entry(credential: &Credential) -> bool
         && has_name(credential.server.components.as_slice())
 }
 
+#[tactic(auto, using(crate::proofs::OffsetLaws::begins_so))]
 fn has_name(components: &[Bytes]) -> bool
     ensures { IsTrue result ↔ BeginsWith components.now (codes "krb5_ccache_conf_data") }
 {

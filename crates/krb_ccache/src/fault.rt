@@ -1,7 +1,7 @@
 //! Why bytes aren't a credential cache, or no cache can be returned.
 
 ghost use Rattle.std.specs.Prelude.{◌≡◌};
-ghost use Rattle.krb_ccache.specs.declared.fault.CacheFault.TheVariants.{OutOfMemory};
+ghost use Rattle.krb_ccache.specs.Types.{OutOfMemory};
 
 use krb_name::ReadFault;
 use std::alloc::{AllocError, AllocFailed};

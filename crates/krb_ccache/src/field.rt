@@ -2,10 +2,8 @@
 
 ghost use Rattle.std.specs.Prelude.{◌≡◌, ◌==◌, ◌+◌, ◌-◌, ◌≤◌, ◌<◌, ◌^◌, ℕ, ℤ, Bool, true, max, List, Option, Some, None, IfOk};
 ghost use Rattle.std.specs.Int.{w16, w32};
-ghost use Rattle.krb_name.specs.declared.principal.Principal.{Principal as PrincipalValue};
+ghost use Rattle.krb_ccache.specs.Types.{Principal as PrincipalValue, Layout as LayoutValue, TypedBytes as TypedBytesValue};
 ghost use Rattle.krb_name.specs.Cursor.{Place, number_at, signed_at, data_at};
-ghost use Rattle.krb_ccache.specs.declared.layout.Layout.{Layout as LayoutValue};
-ghost use Rattle.krb_ccache.specs.declared.typed.TypedBytes.{TypedBytes as TypedBytesValue};
 ghost use Rattle.krb_ccache.specs.Inner.Reading.{both_at, made_at, name_at, list_at, allowed, byte_at};
 ghost use Rattle.krb_ccache.specs.Inner.Walking.{IsWalk, passed_at, and_then, pass_if, left_at, stopped_reads};
 
@@ -201,6 +199,7 @@ impl Field for u32 {
         Ok(cursor.read_u32()?)
     }
 
+    #[tactic(auto, using(crate::proofs::WalkParts::number_passed))]
     fn take<T: Taker>(_: Layout, taker: &mut T, left: Left) -> Result<Left, TakeFault> {
         Ok(leave(taker, left, 4))
     }
@@ -219,6 +218,7 @@ impl Field for i16 {
         Ok(cursor.read_i16()?)
     }
 
+    #[tactic(auto, using(crate::proofs::WalkParts::signed_passed))]
     fn take<T: Taker>(_: Layout, taker: &mut T, left: Left) -> Result<Left, TakeFault> {
         Ok(leave(taker, left, 2))
     }

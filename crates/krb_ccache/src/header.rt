@@ -1,14 +1,13 @@
 //! What comes before the default principal of a cache.
 
-ghost use Rattle.std.specs.Prelude.{◌≡◌, ◌≤◌, ◌<◌, ◌^◌, ◌++◌, List, Err, None, Some, IfOk, IfErr, OnErr, length};
+ghost use Rattle.std.specs.Prelude.{◌≡◌, ◌<◌, ◌^◌, List, Err, None, Some, IfOk, IfErr, OnErr, length, [], ◌∷◌, ◌++◌, OnOk};
 ghost use Rattle.krb_name.specs.Field.{IsBytes};
-ghost use Rattle.krb_ccache.specs.declared.credential.HeaderField.{HeaderField as HeaderFieldValue};
+ghost use Rattle.krb_ccache.specs.Types.{HeaderField as HeaderFieldValue};
 ghost use Rattle.krb_ccache.specs.Spelling.{header_bytes};
 ghost use Rattle.krb_ccache.specs.Value.{FitsHeader};
-ghost use Rattle.krb_name.specs.File.{file_limit};
-ghost use Rattle.krb_ccache.specs.Format.{version_of, head_bytes, FitsHead, IsFaultOf};
+ghost use Rattle.krb_ccache.specs.Format.{head_bytes, FitsHead, IsFaultOf};
 ghost use Rattle.krb_ccache.specs.Inner.Reading.{field_at};
-ghost use Rattle.krb_ccache.specs.Inner.Standing.{Lies, IsMissing, Fills};
+ghost use Rattle.krb_ccache.specs.Inner.Standing.{Opened, Lies, IsMissing, Fills};
 
 use crate::credential::HeaderField;
 use crate::fault::CacheFault;
@@ -28,10 +27,7 @@ pub(crate) const OFFSET_LENGTH: usize = 8;
 /// # Errors
 /// `TooLong` or `Version`.
 pub(crate) fn open<'a>(bytes: &'a [u8]) -> Result<(Layout, FileCursor<'a>), CacheFault>
-    ensures limit { IfOk result (λ opened. length bytes.now ≤ file_limit) }
-    ensures at { IfOk result (λ opened. opened.1.at ≡ 2) }
-    ensures rest { IfOk result (λ opened. bytes.now ≡ version_of opened.0 ++ opened.1.rest) }
-    ensures bytes { IfOk result (λ opened. IsBytes opened.1.rest) }
+    ensures opened { IfOk result (λ opened. Opened opened.0 bytes.now opened.1) }
     ensures fault { IfErr result (IsFaultOf bytes.now) }
 {
     if bytes.len() > FILE_LIMIT {
@@ -64,6 +60,7 @@ pub(crate) fn read_head(
 }
 
 // Reads the header that begins here, and moves past it.
+#[tactic(auto, using(crate::proofs::HeaderLaws::header_lies, crate::proofs::HeaderLaws::header_cut, crate::proofs::HeaderLaws::header_wrong))]
 pub(crate) fn read_header(
     alloc: Global,
     cursor: &mut FileCursor<'_>,
@@ -79,6 +76,7 @@ pub(crate) fn read_header(
 }
 
 // Reads the fields that fill the bytes of a header.
+#[tactic(auto, using(crate::proofs::HeaderLaws::not_filled))]
 fn read_fields(alloc: Global, body: &[u8]) -> Result<Vec<HeaderField>, ItemFault>
     requires { length body.now < 2 ^ 16 }
     ensures read { IfOk result (λ header. Fills body.now header.items) }
@@ -89,7 +87,7 @@ fn read_fields(alloc: Global, body: &[u8]) -> Result<Vec<HeaderField>, ItemFault
     let mut header = Vec::new(alloc);
     while !cursor.is_at_end() {
         let field = read_field(&mut cursor)?;
-        header.push(field.to_field(alloc)?)?;
+        field.copy_to(alloc, &mut header)?;
     }
     Ok(header)
 }
@@ -122,14 +120,12 @@ impl<'a> Model for FieldView<'a> {
 }
 
 impl<'a> FieldView<'a> {
-    /// Copies the field.
-    fn to_field(&self, alloc: Global) -> Result<HeaderField, AllocError>
-        ensures { IfOk result (λ field. field ≡ self.now) }
+    /// Appends a copy of the field to a header.
+    fn copy_to(&self, alloc: Global, header: &mut Vec<HeaderField>) -> Result<(), AllocError>
+        ensures { OnOk result (header.new.items ≡ header.old.items ++ self.now ∷ []) }
     {
         let value = Bytes::from_slice(alloc, self.value)?;
-        Ok(HeaderField {
-            tag: self.tag,
-            value,
-        })
+        let tag = self.tag;
+        Ok(header.push(HeaderField { tag, value })?)
     }
 }

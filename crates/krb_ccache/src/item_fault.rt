@@ -4,7 +4,7 @@ ghost use Rattle.std.specs.Prelude.{◌≡◌};
 ghost use Rattle.krb_ccache.specs.declared.item_fault.ItemFault.TheVariants.{Missing, OutOfMemory};
 
 use krb_name::Short;
-use std::alloc::{AllocError, AllocFailed};
+use std::alloc::AllocError;
 
 /// Why a part of a cache couldn't be read.
 #[derive(Clone, Copy)]
@@ -27,14 +27,6 @@ impl From<AllocError> for ItemFault {
     ghost from_gives = { λ _ fault. fault ≡ OutOfMemory };
 
     fn from(_: AllocError) -> ItemFault {
-        ItemFault::OutOfMemory
-    }
-}
-
-impl<T: Drop> From<AllocFailed<T>> for ItemFault {
-    ghost from_gives = { λ _ fault. fault ≡ OutOfMemory };
-
-    fn from(_: AllocFailed<T>) -> ItemFault {
         ItemFault::OutOfMemory
     }
 }

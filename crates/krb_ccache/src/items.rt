@@ -43,6 +43,7 @@ pub(crate) fn read_name(alloc: Global, cursor: &mut FileCursor<'_>) -> Result<Pr
     })
 }
 
+#[tactic(auto, using(krb_name::proofs::Repeated::times_goes_on, krb_name::proofs::Repeated::times_stops, krb_name::proofs::Repeated::times_done))]
 fn read_components(
     alloc: Global,
     cursor: &mut FileCursor<'_>,
@@ -70,6 +71,7 @@ fn read_typed(alloc: Global, cursor: &mut FileCursor<'_>) -> Result<TypedBytes, 
     Ok(TypedBytes { kind, bytes })
 }
 
+#[tactic(auto, using(krb_name::proofs::Repeated::times_goes_on, krb_name::proofs::Repeated::times_stops, krb_name::proofs::Repeated::times_done))]
 pub(crate) fn read_elements(
     alloc: Global,
     cursor: &mut FileCursor<'_>,

@@ -3,19 +3,17 @@
 
 ghost use Rattle.std.specs.Prelude.{◌≡◌, ◌≢◌, ◌≤◌, ◌++◌, ℕ, ℤ, All, IfSome, List, None, Option, Some, Result, length};
 ghost use Rattle.krb_name.specs.Field.{IsBytes};
-ghost use Rattle.krb_ccache.specs.declared.credential.HeaderField.{HeaderField};
-ghost use Rattle.krb_ccache.specs.declared.fault.CacheFault.{CacheFault};
+ghost use Rattle.krb_ccache.specs.Types.{HeaderField, CacheFault, Layout, Version4};
 ghost use Rattle.krb_ccache.specs.Configuration.{HoldsOffset};
 ghost use Rattle.krb_name.specs.File.{file_limit, IsGiven};
 ghost use Rattle.krb_ccache.specs.Format.{version_of, written, IsCache, IsAnswerOf, IsFaultOf};
-ghost use Rattle.krb_ccache.specs.declared.layout.Layout.{Layout};
-ghost use Rattle.krb_ccache.specs.declared.layout.Layout.TheVariants.{Version4};
 ghost use Rattle.krb_ccache.specs.Fault.{offset_of};
 ghost use Rattle.krb_ccache.specs.Offset.{clock_offset};
 ghost use Rattle.krb_ccache.specs.Reader.{HasTaken, GoesTo, IsFirstOf};
 ghost use Rattle.krb_ccache.specs.Value.{Cache, Fits};
 
 /// States that bytes either are a cache, of one value only, or have a fault, and only one.
+#[tactic(auto, using(crate::proofs::AnswerLaws::some_answer, crate::proofs::AnswerLaws::one_answer))]
 pub fn each_file_has_one_answer()
     ensures some { (bytes : List ℕ) → IsBytes bytes
         → (answer : Result Cache CacheFault) × IsAnswerOf bytes answer }
@@ -26,6 +24,7 @@ pub fn each_file_has_one_answer()
 /// States that bytes are a cache of one value only; that what is written of a cache, within the
 /// limit, is a cache of that value; that a cache of version 0x0504 has the bytes that are written
 /// of its value; and that two caches with the same written bytes are the same.
+#[tactic(auto, using(crate::proofs::LayoutLaws::written_cache, crate::proofs::AnswerLaws::same_written))]
 pub fn each_value_has_one_spelling()
     ensures value { (bytes : List ℕ) (one other : Cache)
         → IsCache bytes one → IsCache bytes other → one ≡ other }
@@ -49,6 +48,7 @@ pub fn a_header_holds_one_offset()
 
 /// States that the clock offset of a header is the computed one, and that none is computed for a
 /// header without a field of tag 1.
+#[tactic(auto, using(crate::proofs::ComputedOffset::none_computed))]
 pub fn the_offset_is_computed()
     ensures held { (header : List HeaderField) (seconds microseconds : ℤ)
         → HoldsOffset header seconds microseconds
@@ -58,6 +58,7 @@ pub fn the_offset_is_computed()
 {}
 
 /// States that the offset of a fault is that of one of the bytes, or their end.
+#[tactic(auto, using(crate::proofs::FileLaws::fault_within))]
 pub fn each_fault_lies_within()
     ensures { (bytes : List ℕ) (fault : CacheFault) → IsFaultOf bytes fault
         → IfSome (offset_of fault) (λ at. at ≤ length bytes) }
@@ -66,6 +67,7 @@ pub fn each_fault_lies_within()
 /// States that the answer for the bytes that a source gave, up to its end or to one byte past the
 /// limit, is the answer for all that it had. So a reader's last answer is that of `CCache::parse`,
 /// and at the end its credentials are those of `CCache::parse`.
+#[tactic(auto, using(crate::proofs::SourceLaws::answer_of_whole))]
 pub fn a_source_tells_its_file()
     ensures { (whole bytes : List ℕ) (left : Option (List ℕ)) (answer : Result Cache CacheFault)
         → IsGiven (Some whole) left bytes → IsAnswerOf bytes answer → IsAnswerOf whole answer }

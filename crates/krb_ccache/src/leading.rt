@@ -2,15 +2,14 @@
 //! and what they are.
 
 ghost use Rattle.std.specs.Prelude.{◌≡◌, ◌+◌, ◌-◌, ◌≤◌, ◌<◌, ◌^◌, ℕ, List, IfOk, IfErr, OnOk, Err};
+ghost use Rattle.krb_name.specs.Field.{IsBytes};
 ghost use Rattle.krb_name.specs.File.{file_limit};
-ghost use Rattle.krb_name.specs.declared.principal.Principal.{Principal as PrincipalValue};
-ghost use Rattle.krb_ccache.specs.declared.credential.HeaderField.{HeaderField as HeaderFieldValue};
-ghost use Rattle.krb_ccache.specs.declared.layout.Layout.{Layout as LayoutValue};
+ghost use Rattle.krb_ccache.specs.Types.{Principal as PrincipalValue, HeaderField as HeaderFieldValue, Layout as LayoutValue};
 ghost use Rattle.krb_ccache.specs.Format.{version_of, head_bytes, FitsHead};
 ghost use Rattle.krb_ccache.specs.Spelling.{name_bytes};
 ghost use Rattle.krb_ccache.specs.Value.{FitsName};
-ghost use Rattle.krb_ccache.specs.Inner.Standing.{IsMissing};
-ghost use Rattle.krb_ccache.specs.Inner.Stepping.{Stands, Any};
+ghost use Rattle.krb_ccache.specs.Inner.Standing.{Lies, IsMissing};
+ghost use Rattle.krb_ccache.specs.Inner.Stepping.{Any};
 ghost use Rattle.krb_ccache.specs.Inner.Walking.{Walks, Halts, stopped_reads};
 
 use crate::credential::HeaderField;
@@ -48,11 +47,13 @@ pub(crate) trait Leading: Sized {
             ≡ S.failure_count window.old.source + stopped_reads result }
         ensures lent { S.lender window.new.source ≡ S.lender window.old.source };
 
-    /// Reads the part at the front of the bytes.
-    fn read(alloc: Global, layout: Layout, bytes: &[u8]) -> Result<Self, ItemFault>
-        ensures read { IfOk result (λ part. Stands (spelled layout) (InRange layout) bytes.now (raw part)) }
+    /// Reads the part that begins here, and moves past it. On an error the position is unspecified.
+    fn read(alloc: Global, layout: Layout, cursor: &mut FileCursor<'_>) -> Result<Self, ItemFault>
+        requires { IsBytes cursor.old.rest }
+        ensures read { IfOk result (λ part.
+            Lies (spelled layout) (InRange layout) cursor.old (raw part) cursor.new) }
         ensures missing { result ≡ Err ItemFault.Missing
-            → IsMissing (spelled layout) (InRange layout) bytes.now };
+            → IsMissing (spelled layout) (InRange layout) cursor.old.rest };
 }
 
 impl Leading for Layout {
@@ -69,9 +70,8 @@ impl Leading for Layout {
         window.take(2)
     }
 
-    fn read(_: Global, _: Layout, bytes: &[u8]) -> Result<Layout, ItemFault> {
-        let mut cursor = FileCursor::new(bytes);
-        Ok(read_layout(&mut cursor)?)
+    fn read(_: Global, _: Layout, cursor: &mut FileCursor<'_>) -> Result<Layout, ItemFault> {
+        Ok(read_layout(cursor)?)
     }
 }
 
@@ -93,9 +93,12 @@ impl Leading for Vec<HeaderField> {
         }
     }
 
-    fn read(alloc: Global, layout: Layout, bytes: &[u8]) -> Result<Vec<HeaderField>, ItemFault> {
-        let mut cursor = FileCursor::new(bytes);
-        read_head(alloc, layout, &mut cursor)
+    fn read(
+        alloc: Global,
+        layout: Layout,
+        cursor: &mut FileCursor<'_>,
+    ) -> Result<Vec<HeaderField>, ItemFault> {
+        read_head(alloc, layout, cursor)
     }
 }
 
@@ -113,8 +116,7 @@ impl Leading for Principal {
         Ok(())
     }
 
-    fn read(alloc: Global, _: Layout, bytes: &[u8]) -> Result<Principal, ItemFault> {
-        let mut cursor = FileCursor::new(bytes);
-        read_name(alloc, &mut cursor)
+    fn read(alloc: Global, _: Layout, cursor: &mut FileCursor<'_>) -> Result<Principal, ItemFault> {
+        read_name(alloc, cursor)
     }
 }

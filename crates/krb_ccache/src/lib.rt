@@ -26,7 +26,6 @@ mod configuration;
 mod credential;
 mod fault;
 mod field;
-mod fits;
 mod header;
 mod item_fault;
 mod items;

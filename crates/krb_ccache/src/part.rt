@@ -1,14 +1,16 @@
 //! The parts of a cache: whether they fit into a file, how many bytes they take, and how they are written.
 
-ghost use Rattle.std.specs.Prelude.{◌≡◌, ◌<◌, ◌^◌, ◌++◌, ℕ, List, All, MatchBool, OnOk, length};
+ghost use Rattle.std.specs.Prelude.{◌≡◌, ◌<◌, ◌^◌, ◌++◌, ℕ, true, List, All, MatchBool, OnOk, length};
 ghost use Rattle.std.specs.Int.{w32};
 ghost use Rattle.std.specs.List.{flat_map};
 ghost use Rattle.krb_name.specs.Cursor.{data_bytes};
 ghost use Rattle.krb_ccache.specs.Spelling.{field_bytes, name_bytes, typed_bytes, list_bytes, credential_bytes};
 ghost use Rattle.krb_ccache.specs.Value.{HasNameLengths, HasListLengths, HasCredentialLengths, FitsName, FitsList, FitsCredential};
-ghost use Rattle.krb_ccache.specs.Inner.Room.{Leaves};
+ghost use Rattle.krb_ccache.specs.Inner.Reading.{is_field};
+ghost use Rattle.krb_ccache.specs.Inner.Standing.{FitsField, Leaves};
 
 use crate::credential::{Credential, HeaderField};
+use crate::header::{OFFSET_LENGTH, OFFSET_TAG};
 use crate::typed::{TypedBytes, TypedList};
 use crate::writing::{write_i32, write_u16, write_u32};
 use krb_name::{Bytes, Principal};
@@ -44,6 +46,7 @@ pub(crate) trait Part {
         ensures { OnOk result (out.new.items ≡ out.old.items ++ spelled self.now) };
 }
 
+#[tactic(auto, using(crate::proofs::FitsLaws::one_more, crate::proofs::FitsLaws::all_seen))]
 pub(crate) fn fits_each<T: Part>(parts: &[T]) -> bool
     ensures { MatchBool result (All T.InRange parts.now) (¬ All T.Fits parts.now) }
 {
@@ -55,6 +58,7 @@ pub(crate) fn fits_each<T: Part>(parts: &[T]) -> bool
     true
 }
 
+#[tactic(auto, using(crate::proofs::RoomLaws::goes_on, crate::proofs::RoomLaws::walked))]
 pub(crate) fn behind_each<T: Part>(left: usize, parts: &[T]) -> Option<usize>
     ensures { Leaves left (length (flat_map T.spelled parts.now)) result }
 {
@@ -65,6 +69,7 @@ pub(crate) fn behind_each<T: Part>(left: usize, parts: &[T]) -> Option<usize>
     Some(rest)
 }
 
+#[tactic(auto, using(crate::proofs::FitsLaws::spelled_more))]
 pub(crate) fn write_each<T: Part>(out: &mut Vec<u8>, parts: &[T]) -> Result<(), AllocError>
     requires { All T.Fits parts.now }
     ensures { OnOk result (out.new.items ≡ out.old.items ++ flat_map T.spelled parts.now) }
@@ -170,16 +175,23 @@ impl Part for TypedList {
     }
 }
 
+// Whether a field of tag 1 has 8 bytes.
+fn has_offset_length(field: &HeaderField) -> bool
+    ensures tag { field.now.tag < 2 ^ 16 }
+    ensures length { result ≡ is_field field.now }
+{
+    field.tag != OFFSET_TAG || field.value.len() == OFFSET_LENGTH
+}
+
 impl Part for HeaderField {
     ghost spelled = { field_bytes };
 
-    ghost Fits = { λ field. length field.value < 2 ^ 16 };
+    ghost Fits = { λ field. (length field.value < 2 ^ 16) × (is_field field ≡ true) };
 
-    ghost InRange = { λ field. (field.tag < 2 ^ 16) × (length field.value < 2 ^ 16) };
+    ghost InRange = { FitsField };
 
     fn fits(&self) -> bool {
-        let _tag = self.tag;
-        self.value.len() <= MOST_16
+        self.value.len() <= MOST_16 && has_offset_length(self)
     }
 
     #[tactic(auto, using(crate::proofs::RoomLaws::sizes))]

@@ -9,7 +9,7 @@ ghost use Rattle.krb_ccache.specs.Offset.{IsOffsetOf};
 ghost use Rattle.krb_ccache.specs.Reader.{ended_by as ended_by_answer, ended_passed, passed, last_answer, with_credential, HasRead, Gave, GaveOne, PassedOne, HeldPart, StaysAtEnd, GaveFault, EndsFile, HasFileFault, StopsInFile};
 ghost use Rattle.krb_ccache.specs.Spelling.{name_bytes};
 ghost use Rattle.krb_ccache.specs.Value.{Cache, cache_of};
-ghost use Rattle.krb_ccache.specs.declared.credential.Credential.{Credential as CredentialValue};
+ghost use Rattle.krb_ccache.specs.Types.{Credential as CredentialValue};
 
 use crate::configuration::{is_entry, offset_in};
 use crate::credential::{Credential, HeaderField};
@@ -120,6 +120,7 @@ impl<S: Source> CredentialReader<S> {
     /// - `TooLong` or `BadItem`, as `CCache::parse` answers for all the bytes: no whole credential
     ///   within the limit comes next, and the source was read to its end first, or to one byte past
     ///   16,777,216.
+    #[tactic(auto, using(crate::proofs::ReaderLaws::next_more, crate::proofs::ReaderLaws::stays, crate::proofs::StepLaws::step_limit))]
     pub fn next(&mut self, alloc: Global) -> Result<Option<Credential>, CacheFault>
         requires { S.failure_count self.old.source < 2 ^ 64 - 1 }
 
@@ -177,6 +178,7 @@ impl<S: Source> CredentialReader<S> {
     /// Those of `next`; `OutOfMemory` only if there is no memory for the bytes.
     ///
     /// Source: MIT krb5, "Credential cache file format", versions 3 and 4.
+    #[tactic(auto, using(crate::proofs::ReaderLaws::passed_end, crate::proofs::ReaderLaws::stays, crate::proofs::ReaderLaws::on_err, crate::proofs::StepLaws::step_limit))]
     pub fn pass(&mut self) -> Result<bool, CacheFault>
         requires { S.failure_count self.old.source < 2 ^ 64 - 1 }
 

@@ -8,11 +8,7 @@ ghost use Rattle.krb_ccache.specs.Format.{head_bytes, Spelled, Spells};
 ghost use Rattle.krb_ccache.specs.Reader.{HasTaken, HeldPart, GaveCache, GaveFault, passed};
 ghost use Rattle.krb_ccache.specs.Spelling.{name_bytes};
 ghost use Rattle.krb_ccache.specs.Value.{cache_of, FitsHeader, FitsName, FitsCredential};
-ghost use Rattle.krb_name.specs.declared.principal.Principal.{Principal as PrincipalValue};
-ghost use Rattle.krb_ccache.specs.declared.credential.Credential.{Credential as CredentialValue};
-ghost use Rattle.krb_ccache.specs.declared.credential.HeaderField.{HeaderField as HeaderFieldValue};
-ghost use Rattle.krb_ccache.specs.declared.fault.CacheFault.{CacheFault as CacheFaultValue};
-ghost use Rattle.krb_ccache.specs.declared.fault.CacheFault.TheVariants.{BadItem};
+ghost use Rattle.krb_ccache.specs.Types.{Principal as PrincipalValue, Credential as CredentialValue, HeaderField as HeaderFieldValue, CacheFault as CacheFaultValue, BadItem};
 ghost use Rattle.krb_ccache.specs.Inner.Standing.{bytes_of};
 ghost use Rattle.krb_ccache.specs.Inner.Walking.{stop_reads};
 ghost use Rattle.krb_ccache.specs.Inner.Stepping.{Stands, Comes, IsTold, IsNone, Misses, IsStep, IsAtHand};
@@ -98,16 +94,22 @@ fn come<L: Leading, S: Source>(
 {
     window.clear();
     match L::take(layout, window) {
-        Ok(()) => match L::read(alloc, layout, window.bytes()) {
-            Ok(part) => Ok(part),
-            Err(ItemFault::Missing) => Err(told(window, TakeFault::Long, fault)),
-            Err(ItemFault::OutOfMemory) => Err(CacheFault::OutOfMemory),
-        },
+        Ok(()) => {
+            let bytes = window.bytes();
+            are_bytes(bytes);
+            let mut cursor = FileCursor::new(bytes);
+            match L::read(alloc, layout, &mut cursor) {
+                Ok(part) => Ok(part),
+                Err(ItemFault::Missing) => Err(told(window, TakeFault::Long, fault)),
+                Err(ItemFault::OutOfMemory) => Err(CacheFault::OutOfMemory),
+            }
+        }
         Err(stop) => Err(told(window, stop, fault)),
     }
 }
 
 /// Reads the version, the header and the default principal.
+#[tactic(auto, using(crate::proofs::StepLaws::misses_gives, crate::proofs::ReaderLaws::begun, crate::proofs::ReaderLaws::begun_peak, crate::proofs::LayoutLaws::head_fits))]
 pub(crate) fn begin<S: Source>(alloc: Global, window: &mut Window<S>) -> Result<Start, CacheFault>
     requires reads { S.failure_count window.old.source < 2 ^ 64 - 1 }
     requires start { window.old.given ≡ 0 }
@@ -126,7 +128,8 @@ pub(crate) fn begin<S: Source>(alloc: Global, window: &mut Window<S>) -> Result<
         ≡ S.failure_count window.old.source + failed_reads result }
     ensures lent { S.lender window.new.source ≡ S.lender window.old.source }
 {
-    // The version tells the layout, and is spelled alike in each.
+    // The layout isn't known yet. The version is read in the same way in both, so either can be
+    // passed.
     let layout = come(alloc, Layout::Version4, window, CacheFault::Version)?;
     let header = come(alloc, layout, window, CacheFault::Header)?;
     let at = window.given();
@@ -139,6 +142,7 @@ pub(crate) fn begin<S: Source>(alloc: Global, window: &mut Window<S>) -> Result<
 }
 
 /// Reads the next credential, or finds that the source is at its end.
+#[tactic(auto, using(crate::proofs::StepLaws::not_made))]
 pub(crate) fn step<S: Source>(
     alloc: Global,
     layout: Layout,
@@ -215,6 +219,7 @@ fn none_past<S: Source>(
 }
 
 /// Reads the credentials to the end of the source.
+#[tactic(auto, using(crate::proofs::StepLaws::gives_step))]
 pub(crate) fn steps<S: Source>(
     alloc: Global,
     layout: Layout,

@@ -1,7 +1,6 @@
 //! What the bytes of a part are taken from: a source, or bytes in memory.
 
 ghost use Rattle.std.specs.Prelude.{◌≡◌, ◌+◌, ◌-◌, ◌≤◌, ◌<◌, ◌^◌, ℕ, List, [], Option, OnOk, length};
-ghost use Rattle.krb_name.specs.File.{file_limit};
 ghost use Rattle.krb_ccache.specs.Inner.Walking.{Hand, IsTaken, stopped_reads, window_hand, window_within, window_lacks, bytes_hand, bytes_within, bytes_lacks};
 ghost use Rattle.krb_ccache.specs.declared.walking.TakeFault.{TakeFault as TakeFaultValue};
 
@@ -52,35 +51,22 @@ impl<S: Source> Taker for Window<S> {
 
     ghost lender = { λ window. S.lender window.source };
 
+    #[tactic(auto, using(crate::proofs::WalkEnds::nothing_comes))]
     fn take(&mut self, count: usize) -> Result<(), TakeFault> {
-        fill(self, count)
+        let _held = self.held();
+        if count > FILE_LIMIT - self.given() {
+            return Err(TakeFault::Long);
+        }
+        match self.fill(count) {
+            Ok(true) => Ok(()),
+            Ok(false) => Err(TakeFault::End),
+            Err(fault) => Err(TakeFault::from(fault)),
+        }
     }
 
     fn taken(&self) -> &[u8] {
         let _held = self.held();
         self.bytes()
-    }
-}
-
-// Appends so many bytes of the source to those held.
-fn fill<S: Source>(window: &mut Window<S>, count: usize) -> Result<(), TakeFault>
-    requires reads { S.failure_count window.old.source < 2 ^ 64 - 1 }
-    requires within { window.old.given ≤ file_limit }
-    ensures taken { IsTaken window_within window_lacks count
-        (window_hand S.remaining window.old) (window_hand S.remaining window.new) result }
-    ensures count { OnOk result (length window.new.bytes ≡ length window.old.bytes + count) }
-    ensures failed { S.failure_count window.new.source
-        ≡ S.failure_count window.old.source + stopped_reads result }
-    ensures lent { S.lender window.new.source ≡ S.lender window.old.source }
-{
-    let _held = window.held();
-    if count > FILE_LIMIT - window.given() {
-        return Err(TakeFault::Long);
-    }
-    match window.fill(count) {
-        Ok(true) => Ok(()),
-        Ok(false) => Err(TakeFault::End),
-        Err(fault) => Err(TakeFault::from(fault)),
     }
 }
 
@@ -119,6 +105,7 @@ impl Taker for Passing<'_> {
 
     ghost lender = { λ _. 0 };
 
+    #[tactic(auto, using(crate::proofs::WalkEnds::none_left, crate::proofs::WalkEnds::some_left))]
     fn take(&mut self, count: usize) -> Result<(), TakeFault> {
         if count > self.bytes.len() - self.at {
             return Err(TakeFault::End);

@@ -94,6 +94,7 @@ pub(crate) fn take_last<const N: usize, T: Taker>(
 
 /// Takes `skip` bytes, and then `count` times a gap of bytes, and bytes after their length. The last
 /// bytes are left.
+#[tactic(auto, using(crate::proofs::WalkLaws::front_none, crate::proofs::WalkLaws::front_more, crate::proofs::WalkLaws::front_all))]
 pub(crate) fn take_many<T: Taker>(
     taker: &mut T,
     skip: u32,
@@ -138,6 +139,7 @@ pub(crate) fn leave<T: Taker>(taker: &T, left: Left, size: usize) -> Left
 }
 
 /// Takes all bytes of a header.
+#[tactic(auto, using(crate::proofs::WalkParts::data_then, crate::proofs::WalkParts::data_first))]
 pub(crate) fn take_header<T: Taker>(taker: &mut T) -> Result<(), TakeFault>
     requires reads { T.failures taker.old < 2 ^ 64 - 1 }
     requires within { T.Within (T.hand taker.old) }

@@ -1,14 +1,15 @@
-//! Writing numbers and the header of a cache after what was written before, and the header's length.
+//! Writing numbers and the header of a cache after what was written before, and whether the header
+//! fits into a file.
 
-ghost use Rattle.std.specs.Prelude.{◌≡◌, ◌++◌, OnOk, length};
+ghost use Rattle.std.specs.Prelude.{◌≡◌, ◌++◌, MatchBool, OnOk, length};
 ghost use Rattle.std.specs.Int.{w16, w32};
 ghost use Rattle.krb_name.specs.Cursor.{number_bytes, signed_bytes};
 ghost use Rattle.krb_ccache.specs.Spelling.{header_bytes};
-ghost use Rattle.krb_ccache.specs.Inner.Room.{Leaves};
-ghost use Rattle.krb_ccache.specs.Value.{HasHeaderLengths};
+ghost use Rattle.krb_ccache.specs.Inner.Standing.{Leaves};
+ghost use Rattle.krb_ccache.specs.Value.{HasHeaderLengths, FitsHeader};
 
 use crate::credential::HeaderField;
-use crate::part::{behind_each, write_each};
+use crate::part::{MOST_16, behind_each, fits_each, write_each};
 use byteorder::{BigEndian, ByteOrder};
 use std::alloc::AllocError;
 
@@ -48,6 +49,13 @@ pub(crate) fn write_header(out: &mut Vec<u8>, header: &[HeaderField]) -> Result<
     write_each(&mut fields, header)?;
     write_u16(out, fields.len() as u16)?;
     out.extend_from_slice(&fields)
+}
+
+/// Returns whether the header fits into a file.
+pub(crate) fn header_fits(header: &[HeaderField]) -> bool
+    ensures { MatchBool result (FitsHeader header.now) (¬ HasHeaderLengths header.now) }
+{
+    fits_each(header) && behind_each(MOST_16, header).is_some()
 }
 
 /// Returns how many of `left` bytes the header leaves over, or `None` if it has more bytes than that.

@@ -6,8 +6,7 @@ use Rattle.krb_name.specs.Cursor.{Place, ◌>>=◌, bytes_at, number_at, number_
 use Rattle.krb_name.specs.Window.{AtHand, Keeps}
 use Rattle.krb_name.specs.declared.reading.ReadFault.{ReadFault}
 use Rattle.krb_name.specs.declared.reading.ReadFault.TheVariants as source
-use Rattle.krb_ccache.specs.declared.credential.Credential.{Credential}
-use Rattle.krb_ccache.specs.declared.layout.Layout.{Layout}
+use Rattle.krb_ccache.specs.Types.{Credential, Layout}
 use Rattle.krb_ccache.specs.Spelling.{marked_bytes}
 use Rattle.krb_ccache.specs.Format.{second_size}
 use Rattle.krb_ccache.specs.Value.{FitsCredential}

@@ -1,11 +1,7 @@
 use Rattle.std.proofs.Common.{ap, Err}
 use Rattle.krb_ccache.specs.declared.item_fault.ItemFault.{ItemFault}
-use Rattle.krb_ccache.specs.declared.fault.CacheFault.TheVariants.{BadItem}
-use Rattle.krb_ccache.proofs.FileLaws.{name_lies, name_missing}
+use Rattle.krb_ccache.specs.Types.{BadItem}
 use Rattle.krb_ccache.proofs.cache.read_default.Goals as goal
 
-pub returns-in-Ok-clause-read : goal.returns-in-Ok-clause-read
-returns-in-Ok-clause-read c = name_lies c.args.cursor.now c.in-Ok.name c.read_name.new.cursor c.requires c.in-Ok.ensures.read
-
 pub returns-in-Err-Missing-clause-missing : goal.returns-in-Err-Missing-clause-missing
-returns-in-Err-Missing-clause-missing c = λ other. (ap BadItem c.at-at.ensures, name_missing c.args.cursor.now (c.in-Err-Missing.ensures.missing (ap (λ (f : ItemFault). Err f) c.in-Err-Missing.field-0-is)))
+returns-in-Err-Missing-clause-missing c = λ other. (ap BadItem c.at-at.ensures, c.in-Err-Missing.ensures.missing (ap (λ (f : ItemFault). Err f) c.in-Err-Missing.field-0-is))

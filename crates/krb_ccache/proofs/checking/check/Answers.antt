@@ -1,16 +1,11 @@
 use Rattle.std.proofs.Common.{ap}
 use Rattle.std.proofs.lemmas.Result.{err_from_is_err_and}
-use Rattle.krb_ccache.specs.declared.fault.CacheFault.TheVariants.{BadItem}
+use Rattle.krb_ccache.specs.Types.{BadItem}
 use Rattle.krb_ccache.specs.Inner.Reading.{name_at}
-use Rattle.krb_ccache.proofs.WalkParts.{passed_some, passed_none}
+use Rattle.krb_ccache.proofs.Fields.{none_then}
+use Rattle.krb_ccache.proofs.WalkParts.{passed_some}
 use Rattle.krb_ccache.proofs.FileLaws.{name_lies, name_missing, header_read, cache_read, cache_found, default_fault, credential_fault}
 use Rattle.krb_ccache.proofs.checking.check.Goals as goal
-
-pub check_credentials-requires : goal.check_credentials-requires
-check_credentials-requires c =
-    let header = c.in-Ok.ensures.ok in
-    let name = passed_some (name_at c.check_head.new.cursor) c.skip.new.cursor c.in-Ok-skip.ensures.ok in
-    (name_lies c.check_head.new.cursor name.0 c.skip.new.cursor header.1.takes.rest_fits name.1).takes.rest_fits
 
 pub returns-clause-ok : goal.returns-clause-ok
 returns-clause-ok c =
@@ -18,17 +13,17 @@ returns-clause-ok c =
     let header = c.in-Ok.ensures.ok in
     let name = passed_some (name_at c.check_head.new.cursor) c.skip.new.cursor c.in-Ok-skip.ensures.ok in
     let credentials = c.in_ok-check_credentials.ensures.ok in
-    let start = header_read opened.layout c.args.bytes.now opened.cursor header.0 c.check_head.new.cursor (record { limit = opened.ensures.limit; at = opened.ensures.at; rest = opened.ensures.rest }) header.1 in
+    let start = header_read opened.layout c.args.bytes.now opened.cursor header.0 c.check_head.new.cursor opened.ensures.opened header.1 in
     let lies = name_lies c.check_head.new.cursor name.0 c.skip.new.cursor header.1.takes.rest_fits name.1 in
     let has = cache_read opened.layout c.args.bytes.now header.0 c.check_head.new.cursor name.0 c.skip.new.cursor credentials.0 c.check_credentials.new.cursor start lies credentials.1 in
-    (_, cache_found opened.layout c.args.bytes.now _ _ c.check_credentials.new.cursor.rest opened.ensures.limit has c.in_ok-check_credentials.ensures.end)
+    (_, cache_found opened.layout c.args.bytes.now _ _ c.check_credentials.new.cursor.rest opened.ensures.opened.limit has c.in_ok-check_credentials.ensures.end)
 
 pub returns-in_err-check_credentials-clause-fault : goal.returns-in_err-check_credentials-clause-fault
 returns-in_err-check_credentials-clause-fault c =
     let opened = c.in_ok-layout in
     let header = c.in-Ok.ensures.ok in
     let name = passed_some (name_at c.check_head.new.cursor) c.skip.new.cursor c.in-Ok-skip.ensures.ok in
-    let start = header_read opened.layout c.args.bytes.now opened.cursor header.0 c.check_head.new.cursor (record { limit = opened.ensures.limit; at = opened.ensures.at; rest = opened.ensures.rest }) header.1 in
+    let start = header_read opened.layout c.args.bytes.now opened.cursor header.0 c.check_head.new.cursor opened.ensures.opened header.1 in
     let lies = name_lies c.check_head.new.cursor name.0 c.skip.new.cursor header.1.takes.rest_fits name.1 in
     let p = err_from_is_err_and c.from_residual-in_err-check_credentials.result c.from_residual-in_err-check_credentials.ensures.1 in
     rw (p.1, p.2)
@@ -38,5 +33,5 @@ pub returns-in-Err-skip-clause-fault : goal.returns-in-Err-skip-clause-fault
 returns-in-Err-skip-clause-fault c =
     let opened = c.in_ok-layout in
     let header = c.in-Ok.ensures.ok in
-    let start = header_read opened.layout c.args.bytes.now opened.cursor header.0 c.check_head.new.cursor (record { limit = opened.ensures.limit; at = opened.ensures.at; rest = opened.ensures.rest }) header.1 in
-    default_fault opened.layout c.args.bytes.now header.0 c.check_head.new.cursor (BadItem c.at-at.result) start (ap BadItem c.at-at.ensures, name_missing c.check_head.new.cursor (passed_none (name_at c.check_head.new.cursor) c.in-Err-skip.ensures.short))
+    let start = header_read opened.layout c.args.bytes.now opened.cursor header.0 c.check_head.new.cursor opened.ensures.opened header.1 in
+    default_fault opened.layout c.args.bytes.now header.0 c.check_head.new.cursor (BadItem c.at-at.result) start (ap BadItem c.at-at.ensures, name_missing c.check_head.new.cursor (none_then (name_at c.check_head.new.cursor) (λ x. x.1) c.in-Err-skip.ensures.short))

@@ -1,11 +1,8 @@
-use Rattle.std.proofs.Common.{[], ◌∷◌, ◌++◌, refl, ap}
-use Rattle.krb_ccache.specs.declared.fault.CacheFault.TheVariants.{BadItem}
+use Rattle.std.proofs.Common.{[], ◌∷◌, ◌++◌, ap}
+use Rattle.krb_ccache.specs.Types.{BadItem}
 use Rattle.krb_ccache.proofs.CredentialLaws.{passed_lies, passed_missing}
-use Rattle.krb_ccache.proofs.FileLaws.{none_reached, credential_goes, stops}
+use Rattle.krb_ccache.proofs.FileLaws.{credential_goes, stops}
 use Rattle.krb_ccache.proofs.checking.check_credentials.Goals as goal
-
-pub loop-layout-init : goal.loop-layout-init
-loop-layout-init c = ([], none_reached c.args.layout c.args.cursor.now c.args.cursor.now c.requires refl)
 
 pub loop-layout-smaller : goal.loop-layout-smaller
 loop-layout-smaller c =

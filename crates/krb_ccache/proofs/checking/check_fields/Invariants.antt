@@ -1,8 +1,7 @@
 use Rattle.std.proofs.Common.{List, length}
-use Rattle.krb_ccache.specs.declared.credential.HeaderField.{HeaderField}
+use Rattle.krb_ccache.specs.Types.{HeaderField}
 use Rattle.krb_ccache.specs.Spelling.{field_bytes}
-use Rattle.krb_ccache.specs.Inner.Standing.{Reaches}
-use Rattle.krb_ccache.proofs.PartLaws.{FitsField}
+use Rattle.krb_ccache.specs.Inner.Standing.{Reaches, FitsField}
 use Rattle.krb_ccache.proofs.checking.check_fields.Given as goal
 
 abbrev pub invariant-loop-cursor : goal.invariant-loop-cursor

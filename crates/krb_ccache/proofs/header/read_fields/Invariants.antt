@@ -1,7 +1,6 @@
 use Rattle.std.proofs.Common.{length}
 use Rattle.krb_ccache.specs.Spelling.{field_bytes}
-use Rattle.krb_ccache.specs.Inner.Standing.{Reaches}
-use Rattle.krb_ccache.proofs.PartLaws.{FitsField}
+use Rattle.krb_ccache.specs.Inner.Standing.{Reaches, FitsField}
 use Rattle.krb_ccache.proofs.header.read_fields.Given as goal
 
 abbrev pub invariant-loop-cursor : goal.invariant-loop-cursor

@@ -3,12 +3,11 @@ use Rattle.std.proofs.lemmas.Result.{err_from_is_err_and}
 use Rattle.krb_ccache.specs.Spelling.{name_bytes}
 use Rattle.krb_ccache.specs.Value.{FitsName}
 use Rattle.krb_ccache.specs.Format.{version_of, head_bytes, FitsHead}
-use Rattle.krb_ccache.specs.declared.fault.CacheFault.TheVariants.{Version, Header}
+use Rattle.krb_ccache.specs.Types.{Header}
 use Rattle.krb_ccache.specs.Inner.Stepping.{Any}
 use Rattle.krb_name.proofs.FileLaws.{gives_then}
 use Rattle.krb_ccache.proofs.StepLaws.{comes_gives, misses_gives, head_gives}
-use Rattle.krb_ccache.proofs.ReaderLaws.{version_fault, header_fault, name_fault, begun, begun_peak}
-use Rattle.krb_ccache.proofs.LayoutLaws.{head_fits}
+use Rattle.krb_ccache.proofs.ReaderLaws.{version_fault, header_fault, name_fault}
 use Rattle.krb_ccache.proofs.stepping.begin.Goals as goal
 
 pub returns-in_err-layout-clause-fault : goal.returns-in_err-layout-clause-fault
@@ -25,12 +24,6 @@ pub returns-in_err-default_principal-clause-fault : goal.returns-in_err-default_
 returns-in_err-default_principal-clause-fault g c =
     let p = err_from_is_err_and c.from_residual-in_err-default_principal.result c.from_residual-in_err-default_principal.ensures.1 in
     rw (p.1, p.2) (name_fault g.S.Source.remaining c.in_ok-layout.layout c.args.window.now c.come.new.window c.come-2.new.window c.come-3.new.window c.in_ok-header.header.items _ c.in_err-default_principal.field-0.0 c.requires.start c.in_ok-layout.ensures.comes c.in_ok-header.ensures.comes c.in_err-default_principal.ensures.misses (search rules))
-
-pub returns-clause-taken : goal.returns-clause-taken
-returns-clause-taken g c = begun g.S.Source.remaining c.in_ok-layout.layout c.args.window.now c.come.new.window c.come-2.new.window c.come-3.new.window c.in_ok-header.header.items c.in_ok-default_principal.default_principal c.requires.start c.in_ok-layout.ensures.comes c.in_ok-header.ensures.comes c.in_ok-default_principal.ensures.comes
-
-pub returns-in_err-layout-clause-gave : goal.returns-in_err-layout-clause-gave
-returns-in_err-layout-clause-gave g c = misses_gives version_of Any g.S.Source.remaining c.args.window.now c.come.new.window Version c.in_err-layout.field-0.0 c.in_err-layout.ensures.misses
 
 pub returns-in_err-header-clause-gave : goal.returns-in_err-header-clause-gave
 returns-in_err-header-clause-gave g c =
@@ -50,9 +43,3 @@ pub returns-clause-gave : goal.returns-clause-gave
 returns-clause-gave g c =
     head_gives g.S.Source.remaining c.in_ok-layout.layout c.args.window.now c.come.new.window c.come-2.new.window c.come-3.new.window c.in_ok-header.header.items c.in_ok-layout.ensures.comes c.in_ok-header.ensures.comes
     (comes_gives name_bytes FitsName g.S.Source.remaining c.come-2.new.window c.come-3.new.window c.in_ok-default_principal.default_principal c.in_ok-default_principal.ensures.comes)
-
-pub returns-clause-peak : goal.returns-clause-peak
-returns-clause-peak g c = begun_peak g.S.Source.remaining c.in_ok-layout.layout c.args.window.now c.come.new.window c.come-2.new.window c.come-3.new.window c.in_ok-header.header.items c.in_ok-default_principal.default_principal c.in_ok-layout.ensures.comes c.in_ok-header.ensures.comes c.in_ok-default_principal.ensures.comes
-
-pub returns-clause-fits : goal.returns-clause-fits
-returns-clause-fits g c = (head_fits c.in_ok-layout.layout c.in_ok-header.header.items c.in_ok-header.ensures.comes.fits, c.in_ok-default_principal.ensures.comes.fits)

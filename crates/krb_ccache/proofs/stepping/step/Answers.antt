@@ -1,12 +1,5 @@
-use Rattle.std.proofs.lemmas.Result.{err_from_is_err_and}
-use Rattle.krb_ccache.proofs.StepLaws.{not_made, was_made}
+use Rattle.krb_ccache.proofs.StepLaws.{was_made}
 use Rattle.krb_ccache.proofs.stepping.step.Goals as goal
-
-pub returns-in_err-credential_of-clause-step : goal.returns-in_err-credential_of-clause-step
-returns-in_err-credential_of-clause-step g c =
-    let p = err_from_is_err_and c.from_residual-in_err-credential_of.result c.from_residual-in_err-credential_of.ensures.1 in
-    let past = rw c.if-branch.true at c.in_ok-step_past.ensures.step in
-    rw (p.1, p.2) (not_made c.args.layout g.S.Source.remaining c.args.window.now c.step_past.new.window past.0 past.1 past.2)
 
 pub returns-in_ok-credential_of-clause-step : goal.returns-in_ok-credential_of-clause-step
 returns-in_ok-credential_of-clause-step g c =

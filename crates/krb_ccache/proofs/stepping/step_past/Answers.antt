@@ -1,6 +1,6 @@
 use Rattle.std.proofs.Common.{Ok, Some, true, false, refl, subst}
 use Rattle.krb_name.specs.Field.{IsBytes}
-use Rattle.krb_ccache.specs.declared.fault.CacheFault.TheVariants.{BadItem}
+use Rattle.krb_ccache.specs.Types.{BadItem}
 use Rattle.krb_ccache.specs.declared.walking.TakeFault.TheVariants as stop
 use Rattle.krb_ccache.specs.Format.{Spells}
 use Rattle.krb_ccache.specs.Inner.Standing.{bytes_of}

@@ -1,8 +1,8 @@
-use Rattle.std.proofs.Common.{◌∙◌, Option, Some, Ok, Err, List, sym, subst, arith}
+use Rattle.std.proofs.Common.{◌∙◌, Option, Some, Ok, List, sym, subst, arith}
 use Rattle.std.proofs.lemmas.Result.{err_from_is_err_and}
 use Rattle.std.specs.Prelude.{All}
 use Rattle.std.proofs.lemmas.List.Elements.{All-push}
-use Rattle.krb_ccache.specs.declared.credential.Credential.{Credential}
+use Rattle.krb_ccache.specs.Types.{Credential}
 use Rattle.krb_ccache.specs.Reader.{HasTaken}
 use Rattle.krb_ccache.specs.Value.{cache_of, FitsCredential}
 use Rattle.krb_ccache.specs.Inner.Stepping.{IsStep}
@@ -36,20 +36,3 @@ pub returns-clause-end : goal.returns-clause-end
 returns-clause-end g c = λ from header name start.
     let ends = subst (λ (next : Option Credential). IsStep c.args.layout g.S.Source.remaining c.loop-credentials.window c.step.new.window (Ok next)) c.in_default.is c.in_ok-credential.ensures.step in
     end_taken g.S.Source.remaining c.args.layout from c.loop-credentials.window c.step.new.window (cache_of header name c.loop-credentials.credentials.items) (c.loop-credentials.invariant.taken from header name start) ends.0 ends.1
-
-pub returns-in_err-push-clause-fault : goal.returns-in_err-push-clause-fault
-returns-in_err-push-clause-fault g c =
-    let p = err_from_is_err_and c.from_residual-in_err-push.result c.from_residual-in_err-push.ensures.1 in
-    rw p.1 (λ from header name start memory read. absurd (memory p.2))
-
-pub returns-clause-gave : goal.returns-clause-gave
-returns-clause-gave g c =
-    gives_step c.args.layout g.S.Source.remaining c.loop-credentials.window c.step.new.window (g.S.Source.remaining c.args.window.now.source) c.args.window.now.given (Ok c.in_ok-credential.field-0) c.loop-credentials.invariant.gave c.in_ok-credential.ensures.step
-
-pub returns-in_err-credential-clause-gave : goal.returns-in_err-credential-clause-gave
-returns-in_err-credential-clause-gave g c =
-    gives_step c.args.layout g.S.Source.remaining c.loop-credentials.window c.step.new.window (g.S.Source.remaining c.args.window.now.source) c.args.window.now.given (Err c.in_err-credential.field-0.0) c.loop-credentials.invariant.gave c.in_err-credential.ensures.step
-
-pub returns-in_err-push-clause-gave : goal.returns-in_err-push-clause-gave
-returns-in_err-push-clause-gave g c =
-    gives_step c.args.layout g.S.Source.remaining c.loop-credentials.window c.step.new.window (g.S.Source.remaining c.args.window.now.source) c.args.window.now.given (Ok c.in_ok-credential.field-0) c.loop-credentials.invariant.gave c.in_ok-credential.ensures.step

@@ -1,21 +1,12 @@
-use Rattle.std.proofs.Common.{Err, ap, inl}
+use Rattle.std.proofs.Common.{Err, inl}
 use Rattle.std.proofs.lemmas.Result.{err_from_is_err_and}
-use Rattle.krb_ccache.specs.declared.fault.CacheFault.{CacheFault}
-use Rattle.krb_ccache.proofs.AnswerLaws.{only_answer, one_answer, one_fault, no_fault}
+use Rattle.krb_ccache.proofs.AnswerLaws.{one_answer, no_fault}
 use Rattle.krb_ccache.proofs.cache.CCache.parse.Goals as goal
-
-pub returns-clause-only : goal.returns-clause-only
-returns-clause-only c = λ answer a. only_answer c.args.bytes.now c.of_parts.result answer c.of_parts.ensures.found c.of_parts.ensures.fault a
 
 pub returns-clause-faulty : goal.returns-clause-faulty
 returns-clause-faulty c = λ fault faulty.
     let cache = c.in_ok-check.ensures.ok in
     absurd (no_fault c.args.bytes.now cache.0 fault cache.1 faulty)
-
-pub returns-in_err-check-clause-faulty : goal.returns-in_err-check-clause-faulty
-returns-in_err-check-clause-faulty c = λ fault faulty.
-    let p = err_from_is_err_and c.from_residual.result c.from_residual.ensures.1 in
-    rw (p.1, p.2) (ap (λ (f : CacheFault). Err f) (one_fault c.args.bytes.now c.in_err-check.field-0.0 fault c.in_err-check.ensures.fault faulty))
 
 pub returns-in_err-check-clause-only : goal.returns-in_err-check-clause-only
 returns-in_err-check-clause-only c = λ answer a.

@@ -2,7 +2,7 @@ use Rattle.std.proofs.Common.{ap, ◌∙◌, ◌++◌, ℕ, List, []}
 use Rattle.std.specs.List.{flat_map}
 use Rattle.krb_ccache.specs.Spelling.{header_bytes, name_bytes, credential_bytes}
 use Rattle.krb_ccache.specs.Value.{Cache}
-use Rattle.krb_ccache.specs.declared.layout.Layout.TheVariants.{Version4}
+use Rattle.krb_ccache.specs.Types.{Version4}
 use Rattle.krb_ccache.specs.Format.{version_of}
 use Rattle.krb_ccache.proofs.WritingLaws.{wrote, then_wrote, wrote_same}
 use Rattle.krb_ccache.proofs.cache.CCache.written.Goals as goal

@@ -1,5 +1,5 @@
 use Rattle.std.proofs.Common.{ℕ, List, length, subst}
-use Rattle.krb_ccache.specs.Inner.Room.{Leaves}
+use Rattle.krb_ccache.specs.Inner.Standing.{Leaves}
 use Rattle.krb_ccache.proofs.part.CredentialPart.behind.Goals as goal
 
 pub returns : goal.returns

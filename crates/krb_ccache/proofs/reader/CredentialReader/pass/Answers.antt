@@ -1,24 +1,18 @@
-use Rattle.std.proofs.Common.{refl, sym, subst}
+use Rattle.std.proofs.Common.{sym, subst}
 use Rattle.krb_ccache.specs.Reader.{Reading, HasRead}
-use Rattle.krb_ccache.proofs.ReaderLaws.{passed_one, passed_end, passed_err, next_end, next_fault, next_stops, stays, on_err}
-use Rattle.krb_ccache.proofs.StepLaws.{step_limit}
+use Rattle.krb_ccache.proofs.ReaderLaws.{passed_one, passed_end, passed_err, next_end, next_fault, next_stops}
 use Rattle.krb_ccache.proofs.reader.CredentialReader.pass.Goals as goal
 
 pub returns-clause-item : goal.returns-clause-item
 returns-clause-item g c = λ going there.
     let step = c.step_past-answer.ensures.step in
-    rw (← c.self.view_is) (passed_one g.S.Source.remaining c.self.inside.layout _ _ c.self.inside.window c.step_past-answer.new.window step.0 c.step_past-answer.result step.2 step.1 there refl refl refl refl refl refl refl refl c.ended_by-self-inside.ensures)
+    rw (← c.self.view_is) (passed_one g.S.Source.remaining c.self.inside.layout c.self.inside.window c.step_past-answer.new.window _ _ _ _ step.0 c.step_past-answer.result step.2 step.1 there c.ended_by-self-inside.ensures)
 
 pub returns-clause-end : goal.returns-clause-end
 returns-clause-end g c = λ from cache h end.
     let step = c.step_past-answer.ensures.step in
     next_end g.S.Source.remaining c.self.inside.layout from c.self.inside.window c.step_past-answer.new.window cache step.0 step.2 (subst (λ (reader : Reading g.row.S.Denot). HasRead g.S.Source.remaining from reader cache) (sym c.self.view_is) h).taken
     (passed_end g.S.Source.remaining c.self.inside.layout step.0 c.step_past-answer.result step.1 end)
-
-pub returns-clause-stays : goal.returns-clause-stays
-returns-clause-stays g c = λ going end.
-    let step = c.step_past-answer.ensures.step in
-    rw (← c.self.view_is) (stays g.S.Source.remaining c.self.inside.layout _ _ c.self.inside.window c.step_past-answer.new.window step.0 step.2 (passed_end g.S.Source.remaining c.self.inside.layout step.0 c.step_past-answer.result step.1 end) refl refl refl refl refl)
 
 pub returns-clause-fault : goal.returns-clause-fault
 returns-clause-fault g c = λ from cache h.
@@ -32,11 +26,3 @@ returns-clause-stops g c = λ from cache h.
     let started = subst (λ (reader : Reading g.row.S.Denot). HasRead g.S.Source.remaining from reader cache) (sym c.self.view_is) h in
     passed_err g.S.Source.remaining c.self.inside.layout step.0 c.step_past-answer.result _ step.1
     (next_stops g.S.Source.remaining c.self.inside.layout from c.self.inside.window c.step_past-answer.new.window cache step.0 step.2 started.taken (c.self.invariant.2 started.going))
-
-pub returns-clause-part : goal.returns-clause-part
-returns-clause-part g c = λ going. rw (← c.self.view_is) (on_err g.S.Source.remaining c.self.inside.layout c.step_past-answer.result _ c.step_past-answer.ensures.part)
-
-pub returns-clause-limit : goal.returns-clause-limit
-returns-clause-limit g c =
-    let step = c.step_past-answer.ensures.step in
-    step_limit c.self.inside.layout g.S.Source.remaining c.self.inside.window c.step_past-answer.new.window step.0 step.2
