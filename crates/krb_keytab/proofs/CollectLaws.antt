@@ -1,17 +1,14 @@
 -- What a keytab is, that is read record by record to its end.
-use Rattle.std.proofs.Common.{◌≡◌, ℕ, ◌≤◌, List, [], ◌∷◌, ◌++◌, length, Option, Some, None, Result, Ok, Err, refl, sym, subst, arith}
-use Rattle.std.specs.Io.KnownBytes.{Consumes, IsAtEnd}
+use Rattle.std.proofs.Common.{◌≡◌, ℕ, ◌≤◌, List, [], ◌∷◌, ◌++◌, length, Option, Some, None, Result, Ok, Err, sym, subst, arith}
 use Rattle.std.proofs.KnownBytes.{Consumes-trans}
 use Rattle.std.proofs.lemmas.List.{length-append}
 use Rattle.krb_name.specs.Window.{AtHand}
 use Rattle.krb_keytab.specs.Entry.{KeytabEntry}
-use Rattle.krb_name.specs.File.{file_limit, IsGiven, TakesFile}
-use Rattle.krb_keytab.specs.Format.{IsReached, IsCutOff, HoldsNoEntry, StandsAt}
-use Rattle.krb_keytab.specs.Items.{StandsTo}
+use Rattle.krb_name.specs.File.{file_limit, TakesFile}
+use Rattle.krb_keytab.specs.Format.{IsReached}
 use Rattle.krb_keytab.specs.Inner.Meeting.{HasReached, MeetsNext, HasTaken, IsFound, IsFaulty}
 use Rattle.krb_keytab.specs.declared.fault.KeytabFault.{KeytabFault}
-use Rattle.krb_keytab.specs.declared.fault.KeytabFault.TheVariants.{Version, Truncated, BadEntry, TooLong, NoSuchEntry, Read, OutOfMemory}
-use Rattle.krb_keytab.specs.declared.stage.Stage.TheVariants.{Failed}
+use Rattle.krb_keytab.proofs.OneAnswer.{concluded, fault_of}
 use Rattle.krb_keytab.proofs.StandLaws.{ends_reached}
 
 behind : {from mid : Option (List ℕ)} {given : ℕ} {entries : List KeytabEntry} (t : HasTaken from mid given entries) → given ≤ file_limit → HasReached given t.bytes entries
@@ -31,28 +28,9 @@ entry_taken from mid to old new entries more e t limit m pushed =
 
 pub end_taken : {S : Type 0} (from mid to : Option (List ℕ)) (old new : AtHand S) (entries : List KeytabEntry) → HasTaken from mid old.given entries → old.given ≤ file_limit → MeetsNext mid to old new (Ok None) → IsFound from to entries
 end_taken from mid to old new entries t limit m =
-    let s = m.stands t.bytes entries (behind t limit) in (
-      t.bytes ++ m.piece,
-      record { given = Consumes-trans from mid to t.bytes m.piece t.taken m.moves.consumed; limit = omega (arith, s.limit); end = λ within. s.all },
-      record { limit = s.limit; at = s.stops.at; behind = s.stops.behind; reached = s.stops.reached; end = s.stops.lacks },
-    )
+    concluded from to (t.bytes ++ m.piece) entries None (Consumes-trans from mid to t.bytes m.piece t.taken m.moves.consumed) (m.stands t.bytes entries (behind t limit))
 
 -- ---- faults
-
-ended : (from to : Option (List ℕ)) (bytes : List ℕ) → Consumes from to bytes → length bytes ≤ file_limit → IsAtEnd to → IsGiven from to bytes
-ended from to bytes c limit end = record { given = c; limit = omega (arith, limit); end = λ within. end }
-
-there : (bytes : List ℕ) (entries : List KeytabEntry) (place at : ℕ) (behind : List ℕ) (IsFault : List ℕ → Type 0) → length bytes ≤ file_limit → IsReached bytes at entries behind → place ≡ at → IsFault behind → StandsAt bytes place IsFault
-there bytes entries place at behind IsFault limit reached e faulty = record { limit = limit; entries = entries; behind = behind; reached = subst (λ (n : ℕ). IsReached bytes n entries behind) (sym e) reached; faulty = faulty }
-
-pub fault_of : (from to : Option (List ℕ)) (held : ℕ) (bytes : List ℕ) (entries : List KeytabEntry) (fault : KeytabFault) → Consumes from to bytes → StandsTo to held (Failed fault) bytes entries → IsFaulty from to fault
-fault_of from to held bytes entries Version c s = λ memory read. (bytes, ended from to bytes c s.limit s.all, (s.limit, s.stops.1))
-fault_of from to held bytes entries (Truncated place) c s = λ memory read. (bytes, ended from to bytes c s.limit s.all, there bytes entries place s.stops.at s.stops.behind IsCutOff s.limit s.stops.reached s.stops.lacks.0 s.stops.lacks.1)
-fault_of from to held bytes entries (BadEntry place) c s = λ memory read. (bytes, ended from to bytes c s.limit s.all, there bytes entries place s.stops.at s.stops.behind HoldsNoEntry s.limit s.stops.reached s.stops.lacks.0 s.stops.lacks.1)
-fault_of from to held bytes entries TooLong c s = λ memory read. (bytes, record { given = c; limit = omega (arith, s.long); end = λ within. absurd (omega (arith, s.long, within)) }, omega (arith, s.long))
-fault_of from to held bytes entries NoSuchEntry c s = absurd s.stops.lacks
-fault_of from to held bytes entries Read c s = λ memory read. absurd (read refl)
-fault_of from to held bytes entries OutOfMemory c s = λ memory read. absurd (memory refl)
 
 pub next_faulty : {S : Type 0} (from mid to : Option (List ℕ)) (old new : AtHand S) (entries : List KeytabEntry) (fault : KeytabFault) → HasTaken from mid old.given entries → old.given ≤ file_limit → MeetsNext mid to old new (Err fault) → IsFaulty from to fault
 next_faulty from mid to old new entries fault t limit m =

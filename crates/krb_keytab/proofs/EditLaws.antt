@@ -12,8 +12,8 @@ use Rattle.krb_keytab.specs.Inner.Putting.{Puts}
 use Rattle.krb_keytab.specs.declared.fault.KeytabFault.{KeytabFault}
 use Rattle.krb_keytab.specs.declared.fault.KeytabFault.TheVariants.{NoSuchEntry}
 use Rattle.krb_keytab.specs.declared.finding.Extent.{Extent}
-use Rattle.krb_keytab.proofs.RecordLaws.{entry_size}
-use Rattle.krb_keytab.proofs.OneEnd.{same_answers}
+use Rattle.krb_keytab.proofs.FileLaws.{entry_size}
+use Rattle.krb_keytab.proofs.OneAnswer.{same_answers}
 use Rattle.krb_keytab.proofs.PutLaws.{Puts-length}
 use Rattle.krb_keytab.proofs.MadeLaws.{made_keytab}
 

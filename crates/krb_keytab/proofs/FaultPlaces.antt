@@ -5,7 +5,7 @@ use Rattle.std.specs.List.{flat_map}
 use Rattle.krb_keytab.specs.Fault.{offset_of}
 use Rattle.krb_keytab.specs.Format.{version, record_bytes, StandsAt, IsFaultOf}
 use Rattle.krb_keytab.specs.declared.fault.KeytabFault.{KeytabFault}
-use Rattle.krb_keytab.specs.declared.fault.KeytabFault.TheVariants.{Version, Truncated, BadEntry, TooLong, NoSuchEntry, Read, OutOfMemory}
+use Rattle.krb_keytab.specs.declared.fault.KeytabFault.TheVariants.{Truncated, BadEntry}
 
 -- whole records end at one of the bytes, or behind the last
 stands_within : (bytes : List ℕ) (at : ℕ) (IsFaulty : List ℕ → Type 0) → StandsAt bytes at IsFaulty → at ≤ length bytes
@@ -16,8 +16,4 @@ stands_within bytes at IsFaulty s =
 pub fault_within : (bytes : List ℕ) (fault : KeytabFault) → IsFaultOf bytes fault → IfSome (offset_of fault) (λ at. at ≤ length bytes)
 fault_within bytes (Truncated at) s = stands_within bytes at _ s
 fault_within bytes (BadEntry at) s = stands_within bytes at _ s
-fault_within bytes TooLong s = tt
-fault_within bytes Version s = tt
-fault_within bytes NoSuchEntry s = tt
-fault_within bytes Read s = tt
-fault_within bytes OutOfMemory s = tt
+fault_within bytes _ s = tt

@@ -1,8 +1,6 @@
 pub mod ComponentLaws
 pub mod EntryLaws
-pub mod RecordLaws
 pub mod FileLaws
-pub mod SourceLaws
 pub mod PickLaws
 pub mod IndexLaws
 pub mod OnlyLaws
@@ -14,15 +12,15 @@ pub mod WrittenLaws
 pub mod MadeLaws
 pub mod ScanLaws
 pub mod EditLaws
+pub mod OneRecord
 pub mod OneSplit
+pub mod OneAnswer
 pub mod AddLaws
 pub mod FaultPlaces
 pub mod MeetLaws
 pub mod StandLaws
 pub mod ToldLaws
-pub mod OneEnd
 pub mod CollectLaws
-pub mod OneReader
 pub mod OnePlace
 pub mod RoomLaws
 pub mod AdderLaws

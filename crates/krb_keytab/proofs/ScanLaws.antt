@@ -14,13 +14,12 @@ use Rattle.krb_keytab.specs.Inner.Feed.{nothing_of}
 use Rattle.krb_keytab.specs.Inner.Finding.{LiesAt}
 use Rattle.krb_keytab.specs.Inner.Meeting.{Moves, IsWhole, MeetsLast, MeetsOne}
 use Rattle.krb_keytab.specs.declared.fault.KeytabFault.{KeytabFault}
-use Rattle.krb_keytab.specs.declared.fault.KeytabFault.TheVariants.{Version, Truncated, BadEntry, TooLong, NoSuchEntry, Read, OutOfMemory}
+use Rattle.krb_keytab.specs.declared.fault.KeytabFault.TheVariants.{Read, OutOfMemory}
 use Rattle.krb_keytab.specs.declared.found.Found.{Found}
 use Rattle.krb_keytab.specs.declared.found.Found.TheVariants.{End, Hole, Entry}
 use Rattle.krb_keytab.proofs.FileLaws.{record_first, flat_push}
 use Rattle.krb_keytab.proofs.StandLaws.{failed_stands}
-use Rattle.krb_keytab.proofs.CollectLaws.{fault_of}
-use Rattle.krb_keytab.proofs.SourceLaws.{fault_whole}
+use Rattle.krb_keytab.proofs.ToldLaws.{fault_told}
 
 -- ---- the records that were read
 
@@ -108,18 +107,14 @@ module _ {bytes : List ℕ} {place : AtHand (List ℕ)} {records : List KeytabRe
       let stands = failed_stands front entries reached (Some after.source) after.peak m.piece fault (omega (arith, here, limit)) (subst (λ (n : ℕ). MeetsLast (Some after.source) n m.piece (Some fault)) here m.meets) in
       let given : bytes ≡ (front ++ m.piece) ++ after.source =
       s.bytes_are ∙ sym (append_assoc version before place.source) ∙ ap (λ (t : List ℕ). front ++ t) m.moves.consumed ∙ sym (append_assoc front m.piece after.source) in
-      fault_whole (Some bytes) (Some after.source) fault (fault_of (Some bytes) (Some after.source) after.peak (front ++ m.piece) entries fault given stands) content.0 content.1
+      fault_told bytes (front ++ m.piece) (Some after.source) after.peak entries fault content.1 content.0 given stands
 
 -- bytes in memory are there, and can be read
 pub content : {T : Type 0} (answer : Result T KeytabFault) → (answer ≡ Err OutOfMemory → ⊥) → 0 ≡ 0 + failed_reads answer → IfErr answer (λ fault. (fault ≢ OutOfMemory) × (fault ≢ Read))
 content (Ok x) memory failed = tt
-content (Err Version) memory failed = (λ e. cc, λ e. cc)
-content (Err (Truncated at)) memory failed = (λ e. cc, λ e. cc)
-content (Err (BadEntry at)) memory failed = (λ e. cc, λ e. cc)
-content (Err TooLong) memory failed = (λ e. cc, λ e. cc)
-content (Err NoSuchEntry) memory failed = (λ e. cc, λ e. cc)
 content (Err Read) memory failed = absurd (omega (arith, failed))
 content (Err OutOfMemory) memory failed = absurd (memory refl)
+content (Err _) memory failed = (λ e. cc, λ e. cc)
 
 pub further : {bytes : List ℕ} {place : AtHand (List ℕ)} {records : List KeytabRecord} {one : KeytabRecord} {after : AtHand (List ℕ)} → Passes bytes place records one after → place.given + 4 ≤ after.given
 further {bytes} {place} {records} {one} {after} p = omega (arith, p.lies.to, record_first one)

@@ -32,7 +32,7 @@ either_decided P Q (inl p) other = inl (inl p)
 either_decided P Q (inr no_p) (inl q) = inl (inr q)
 either_decided P Q (inr no_p) (inr no_q) = inr (λ h. elim h [ inl p ↦ no_p p | inr q ↦ no_q q ])
 
-same_bytes : (one other : List ℕ) → (one ≡ other) ⊎ (one ≡ other → ⊥)
+pub same_bytes : (one other : List ℕ) → (one ≡ other) ⊎ (one ≡ other → ⊥)
 same_bytes one other = decided_by (one ≡ other) (bytes_eq one other) (bytes_eq-Decides one other)
 
 abbrev texts : List (List ℕ) → List (List ℕ)

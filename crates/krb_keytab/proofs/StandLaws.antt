@@ -13,9 +13,9 @@ use Rattle.krb_keytab.specs.Entry.{KeytabEntry}
 use Rattle.krb_name.specs.File.{file_limit}
 use Rattle.krb_keytab.specs.Format.{version, KeytabRecord, hole, entry, entry_bytes, record_bytes, FitsRecord, entries_of, IsReached}
 use Rattle.krb_keytab.specs.Items.{LacksVersion, LacksRecord, Stops, StopsSo, IsTooLong, Concludes, AreFirst, EndsWithEntry, StandsTo, IsPartOfRecord, HasMet, HasRead, EntriesRead, passed, stage_after, stage_passed, entries_after, GivesMore}
-use Rattle.krb_keytab.specs.Inner.Meeting.{Moves, Peaks, RanOut, OpensAt, MeetsVersion, IsWhole, IsLastAt, IsLongAt, MeetsLast, MeetsOne, PassesHoles, HasReached, IsFirst, MeetsBehind, MeetsNext, keeping, MeetsKept, MeetsFirst, IsWithin}
+use Rattle.krb_keytab.specs.Inner.Meeting.{Moves, Peaks, RanOut, OpensAt, MeetsVersion, IsWhole, IsLastAt, IsLongAt, MeetsLast, MeetsOne, PassesHoles, HasReached, IsFirst, MeetsBehind, MeetsNext, MeetsKept, MeetsFirst, IsWithin}
 use Rattle.krb_keytab.specs.declared.fault.KeytabFault.{KeytabFault}
-use Rattle.krb_keytab.specs.declared.fault.KeytabFault.TheVariants.{Version, Truncated, BadEntry, TooLong, NoSuchEntry, Read, OutOfMemory}
+use Rattle.krb_keytab.specs.declared.fault.KeytabFault.TheVariants.{Version, TooLong, Read, OutOfMemory}
 use Rattle.krb_keytab.specs.declared.found.Found.{Found}
 use Rattle.krb_keytab.specs.declared.found.Found.TheVariants.{End, Hole, Entry}
 use Rattle.krb_keytab.specs.declared.stage.Stage.{Stage}
@@ -52,16 +52,10 @@ module _ (bytes : List ℕ) (entries : List KeytabEntry) (reached : IsReached by
       }
 
   stops_so : (some : List ℕ) (last : Option KeytabFault) → Stops some entries last → StopsSo some entries last
-  stops_so some None s = s
-  stops_so some (Some (Truncated at)) s = s
-  stops_so some (Some (BadEntry at)) s = s
   stops_so some (Some Version) s = absurd s.lacks
-  stops_so some (Some TooLong) s = s
-  stops_so some (Some NoSuchEntry) s = s
-  stops_so some (Some Read) s = s
-  stops_so some (Some OutOfMemory) s = s
+  stops_so some _ s = s
 
-  stops_at : (piece : List ℕ) (last : Option KeytabFault) → LacksRecord (length bytes) last piece → StopsSo (bytes ++ piece) entries last
+  pub stops_at : (piece : List ℕ) (last : Option KeytabFault) → LacksRecord (length bytes) last piece → StopsSo (bytes ++ piece) entries last
   stops_at piece last lacks = stops_so (bytes ++ piece) last (record { at = length bytes; behind = piece; reached = reach_piece piece; lacks = lacks })
 
   concludes : (left : Option (List ℕ)) (piece : List ℕ) (last : Option KeytabFault) → IsLastAt left (length bytes) piece last → Concludes left (bytes ++ piece) entries last
@@ -78,13 +72,10 @@ module _ (bytes : List ℕ) (entries : List KeytabEntry) (reached : IsReached by
   first piece = inr (length bytes, piece, reach_piece piece)
 
   pub failed_stands : (left : Option (List ℕ)) (held : ℕ) (piece : List ℕ) (fault : KeytabFault) → length bytes ≤ file_limit → MeetsLast left (length bytes) piece (Some fault) → StandsTo left held (stage_after (Err fault)) (bytes ++ piece) entries
-  failed_stands left held piece Version within m = absurd m.lacks
-  failed_stands left held piece (Truncated at) within m = concludes left piece (Some (Truncated at)) m
-  failed_stands left held piece (BadEntry at) within m = concludes left piece (Some (BadEntry at)) m
   failed_stands left held piece TooLong within m = too_long piece within m
-  failed_stands left held piece NoSuchEntry within m = absurd m.lacks
   failed_stands left held piece Read within m = first piece
   failed_stands left held piece OutOfMemory within m = first piece
+  failed_stands left held piece fault within m = concludes left piece (Some fault) m
 
   pub end_stands : (left : Option (List ℕ)) (held : ℕ) (piece : List ℕ) → MeetsLast left (length bytes) piece None → StandsTo left held (stage_after (Ok None)) (bytes ++ piece) entries
   end_stands left held piece m = concludes left piece None m
@@ -206,9 +197,6 @@ passes_hole of_entry from mid to old between new h m = record {
 abbrev said_of : {E : Type 0} → Result (Option E) KeytabFault → Result (Option E) KeytabFault
 said_of said = said
 
-abbrev told_of : Result Bool KeytabFault → Result Bool KeytabFault
-told_of told = told
-
 next_by : {S E : Type 0} (of_entry : KeytabEntry → E) (from mid to : Option (List ℕ)) (old between new : AtHand S) (found : Result (Found E) KeytabFault) (answer : Result (Option KeytabEntry) KeytabFault) (P : ℕ → Type 0) → PassesHoles from mid old between → (m : MeetsOne of_entry mid to between new found) → P between.given
     → IsWithin (stage_after answer) new.given → GivesMore answer old.given new.given
     → ((some : List ℕ) (entries : List KeytabEntry) → IsReached some (length some) entries [] → length some ≤ file_limit → P (length some) → StandsTo to new.peak (stage_after answer) (some ++ m.piece) (entries_after entries answer))
@@ -257,15 +245,6 @@ module _ {S E : Type 0} (of_entry : KeytabEntry → E) (from mid to : Option (Li
     meets = next_by of_entry from mid to old between new (Err fault) (Err fault) (λ (n : ℕ). MeetsLast to n m.piece (Some fault)) h m m.meets (m.moves.limit (omega (arith, h.limit))) tt (λ some entries reached limit meets. failed_stands some entries reached to new.peak m.piece fault limit meets);
   }
 
--- ---- what was kept of an entry
-
-kept_whole : (answer : Result (Option KeytabEntry) KeytabFault) → keeping (λ e. e) answer ≡ answer
-kept_whole (Ok (Some e)) = refl
-kept_whole (Ok None) = refl
-kept_whole (Err fault) = refl
-
--- the entry itself
--- that there is one
 -- ---- the first answer
 
 more_after : (old between new : ℕ) (answer : Result (Option KeytabEntry) KeytabFault) → old ≤ between → GivesMore answer between new → GivesMore answer old new
@@ -294,12 +273,10 @@ first_next from mid to old between new opened answer o start n =
 
 version_stands : (left : Option (List ℕ)) (held : ℕ) (piece : List ℕ) (fault : KeytabFault) → MeetsVersion left piece (Err fault) → StandsTo left held (stage_after (Err fault)) piece []
 version_stands left held piece Version m = record { limit = m.0; all = m.1; stops = (refl, m.2) }
-version_stands left held piece (Truncated at) m = absurd m
-version_stands left held piece (BadEntry at) m = absurd m
 version_stands left held piece TooLong m = record { long = m.0; last = Some Version; stops = (refl, m.1) }
-version_stands left held piece NoSuchEntry m = absurd m
 version_stands left held piece Read m = inl refl
 version_stands left held piece OutOfMemory m = inl refl
+version_stands left held piece _ m = absurd m
 
 pub first_fault : {S : Type 0} (from to : Option (List ℕ)) (old new : AtHand S) (fault : KeytabFault) → OpensAt from to old new (Err fault) → old.given ≡ 0 → MeetsFirst from to old new (Err fault)
 first_fault from to old new fault o start = record {

@@ -7,5 +7,4 @@ pub mod Index
 pub mod Meeting
 pub mod Pick
 pub mod Putting
-pub mod Reading
 pub mod Room

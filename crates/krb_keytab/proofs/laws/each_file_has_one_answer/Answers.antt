@@ -1,5 +1,5 @@
 use Rattle.krb_keytab.proofs.AnswerLaws.{some_answer}
-use Rattle.krb_keytab.proofs.OneEnd.{same_answers}
+use Rattle.krb_keytab.proofs.OneAnswer.{same_answers}
 use Rattle.krb_keytab.proofs.laws.each_file_has_one_answer.Goals as goal
 
 pub returns-clause-some : goal.returns-clause-some
