@@ -19,13 +19,6 @@ regroup : (front : List (List ℕ)) (x : List ℕ) (read : Option (List (List �
 regroup front x None = refl
 regroup front x (Some read) = ap (λ (all : List (List ℕ)). Some (all, read.1)) (simp append_assoc)
 
-nothing_read : (read : Option (List (List ℕ) × Place)) → with_front [] read ≡ read
-nothing_read None = refl
-nothing_read (Some read) = refl
-
-pub starts : (count : ℕ) (place : Place) → with_front [] (components_at (count - 0) place) ≡ components_at count place
-starts count place = let k : count - 0 ≡ count = omega arith in rw k (nothing_read (components_at count place))
-
 pub none_is_not_some : {X : Type 0} (read : Option X) (x : X) → read ≡ None → read ≡ Some x → ⊥
 none_is_not_some read x p q = cc
 

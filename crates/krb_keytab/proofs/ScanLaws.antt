@@ -8,15 +8,14 @@ use Rattle.krb_name.specs.Window.{AtHand}
 use Rattle.krb_keytab.specs.Entry.{KeytabEntry}
 use Rattle.krb_name.specs.File.{file_limit}
 use Rattle.krb_keytab.specs.Fault.{failed_reads}
-use Rattle.krb_keytab.specs.Format.{version, KeytabRecord, hole, entry, record_bytes, FitsRecord, entries_of, IsReached, IsEnd, IsFaultOf}
-use Rattle.krb_keytab.specs.Edit.{IsMadeOf}
+use Rattle.krb_keytab.specs.Format.{version, KeytabRecord, hole, entry, record_bytes, FitsRecord, entries_of, IsReached, IsFaultOf}
 use Rattle.krb_keytab.specs.Inner.Feed.{nothing_of}
 use Rattle.krb_keytab.specs.Inner.Finding.{LiesAt}
 use Rattle.krb_keytab.specs.Inner.Meeting.{Moves, IsWhole, MeetsLast, MeetsOne}
 use Rattle.krb_keytab.specs.declared.fault.KeytabFault.{KeytabFault}
 use Rattle.krb_keytab.specs.declared.fault.KeytabFault.TheVariants.{Read, OutOfMemory}
 use Rattle.krb_keytab.specs.declared.found.Found.{Found}
-use Rattle.krb_keytab.specs.declared.found.Found.TheVariants.{End, Hole, Entry}
+use Rattle.krb_keytab.specs.declared.found.Found.TheVariants.{Hole, Entry}
 use Rattle.krb_keytab.proofs.FileLaws.{record_first, flat_push}
 use Rattle.krb_keytab.proofs.StandLaws.{failed_stands}
 use Rattle.krb_keytab.proofs.ToldLaws.{fault_told}
@@ -85,18 +84,6 @@ module _ {bytes : List ℕ} {place : AtHand (List ℕ)} {records : List KeytabRe
       of_kind (hole ignored) fits is some limit = absurd cc
       of_kind (entry e short_kvno rest) fits is some limit = record { e = e; short_kvno = short_kvno; rest = rest; passes = pass after s (entry e short_kvno rest) m.piece fits is m.moves limit }
 
-  -- the records have ended
-  pub ended : Reads place after (Ok End) → IsMadeOf bytes records place.source
-  ended m =
-      let before : List ℕ = flat_map record_bytes records in
-      let last : place.source ≡ m.piece = m.moves.consumed ∙ ap (λ (t : List ℕ). m.piece ++ t) m.meets.all ∙ append-nil m.piece in
-      record {
-        limit = omega (arith, ap length s.bytes_are, length-append before place.source, s.at, ap length last, m.meets.limit);
-        fit = s.fit;
-        bytes_are = s.bytes_are;
-        is_end = subst IsEnd (sym last) m.meets.lacks;
-      }
-
   pub stopped : (fault : KeytabFault) → place.given ≤ file_limit → Reads place after (Err fault) → (fault ≢ OutOfMemory) × (fault ≢ Read) → IsFaultOf bytes fault
   stopped fault limit m content =
       let before : List ℕ = flat_map record_bytes records in
@@ -115,6 +102,3 @@ content (Ok x) memory failed = tt
 content (Err Read) memory failed = absurd (omega (arith, failed))
 content (Err OutOfMemory) memory failed = absurd (memory refl)
 content (Err _) memory failed = (λ e. cc, λ e. cc)
-
-pub further : {bytes : List ℕ} {place : AtHand (List ℕ)} {records : List KeytabRecord} {one : KeytabRecord} {after : AtHand (List ℕ)} → Passes bytes place records one after → place.given + 4 ≤ after.given
-further {bytes} {place} {records} {one} {after} p = omega (arith, p.lies.to, record_first one)

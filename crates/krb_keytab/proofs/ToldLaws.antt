@@ -51,7 +51,7 @@ begins_first whole bytes left all entries c k (inr reached) = begins whole bytes
 
 pub first_told : (whole bytes : List ℕ) (left : Option (List ℕ)) (held : ℕ) (stage : Stage) (all entries : List KeytabEntry) → Consumes (Some whole) left bytes → StandsTo left held stage bytes entries → IsKeytab whole all → Begins all entries
 first_told whole bytes left held Start all entries c s k = none_begins all entries s.1
-first_told whole bytes left held Records all entries c s k = begins whole bytes left all entries (length bytes) [] c k (ends_reached held bytes entries s.0 s.1)
+first_told whole bytes left held Records all entries c s k = begins whole bytes left all entries (length bytes) [] c k (ends_reached left held (length bytes) bytes entries refl s).reached
 first_told whole bytes left held End all entries c s k = begins whole bytes left all entries s.stops.at s.stops.behind c k s.stops.reached
 first_told whole bytes left held (Failed Version) all entries c s k = none_begins all entries s.stops.0
 first_told whole bytes left held (Failed TooLong) all entries c s k = let l = k.limit in let long = fault_told whole bytes left held entries TooLong (λ e. cc) (λ e. cc) c s in absurd (omega arith)
