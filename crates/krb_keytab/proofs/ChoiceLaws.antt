@@ -16,15 +16,6 @@ has_none : (P : KeytabEntry → Type 0) (entries : List KeytabEntry) → HasEntr
 has_none P entries has none =
     at_middle (λ e. ¬ P e) has.before has.entry has.after (recursion_from_All (λ e. ¬ P e) (has.before ++ has.entry ∷ has.after) (All-same (λ e. ¬ P e) (has.before ++ has.entry ∷ has.after) entries (sym has.entries_are) none)) has.holds
 
-abbrev entries_are : List KeytabEntry → List KeytabEntry
-entries_are xs = xs
-
-heads : (x y : KeytabEntry) (xs ys : List KeytabEntry) → entries_are (x ∷ xs) ≡ entries_are (y ∷ ys) → x ≡ y
-heads x y xs ys e = cc
-
-tails : (x y : KeytabEntry) (xs ys : List KeytabEntry) → entries_are (x ∷ xs) ≡ entries_are (y ∷ ys) → xs ≡ ys
-tails x y xs ys e = cc
-
 abbrev Below : (KeytabEntry → Type 0) → KeytabEntry → KeytabEntry → Type 0
 Below C e other = C other → other.kvno < e.kvno
 
@@ -36,18 +27,20 @@ apart a b p q = omega arith
 
 same_place : (C : KeytabEntry → Type 0) (before others : List KeytabEntry) (e f : KeytabEntry) (after rest : List KeytabEntry) → C e → C f → AllByRecursion (Below C e) before → AllByRecursion (AtMost C e) after
     → AllByRecursion (Below C f) others → AllByRecursion (AtMost C f) rest → before ++ e ∷ after ≡ others ++ f ∷ rest → e ≡ f
-same_place C [] [] e f after rest ce cf be ae bf af same = heads e f after rest same
+same_place C [] [] e f after rest ce cf be ae bf af same = cc
 same_place C [] (y ∷ others) e f after rest ce cf be ae bf af same =
-    let first : e ≡ y = heads e y after (others ++ f ∷ rest) same in
+    let first : e ≡ y = cc in
+    let behind : after ≡ others ++ f ∷ rest = cc in
     let less : e.kvno < f.kvno = (subst (Below C f) (sym first) bf.0) ce in
-    let more : f.kvno ≤ e.kvno = at_middle (AtMost C e) others f rest (subst (AllByRecursion (AtMost C e)) (tails e y after (others ++ f ∷ rest) same) ae) cf in
+    let more : f.kvno ≤ e.kvno = at_middle (AtMost C e) others f rest (subst (AllByRecursion (AtMost C e)) behind ae) cf in
     absurd (apart e.kvno f.kvno less more)
 same_place C (x ∷ before) [] e f after rest ce cf be ae bf af same =
-    let first : f ≡ x = heads f x rest (before ++ e ∷ after) (sym same) in
+    let first : f ≡ x = cc in
+    let behind : rest ≡ before ++ e ∷ after = cc in
     let less : f.kvno < e.kvno = (subst (Below C e) (sym first) be.0) cf in
-    let more : e.kvno ≤ f.kvno = at_middle (AtMost C f) before e after (subst (AllByRecursion (AtMost C f)) (tails f x rest (before ++ e ∷ after) (sym same)) af) ce in
+    let more : e.kvno ≤ f.kvno = at_middle (AtMost C f) before e after (subst (AllByRecursion (AtMost C f)) behind af) ce in
     absurd (apart f.kvno e.kvno less more)
-same_place C (x ∷ before) (y ∷ others) e f after rest ce cf be ae bf af same = same_place C before others e f after rest ce cf be.1 ae bf.1 af (tails x y (before ++ e ∷ after) (others ++ f ∷ rest) same)
+same_place C (x ∷ before) (y ∷ others) e f after rest ce cf be ae bf af same = same_place C before others e f after rest ce cf be.1 ae bf.1 af cc
 
 same_chosen : (entries : List KeytabEntry) (name : Principal) (etype : ℤ) (kvno : Option ℕ) (e f : KeytabEntry) → IsChosen entries name etype kvno e → IsChosen entries name etype kvno f → e ≡ f
 same_chosen entries name etype kvno e f p q =

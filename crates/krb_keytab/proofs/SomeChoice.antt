@@ -3,16 +3,17 @@ use Rattle.std.proofs.Common.{◌≡◌, ℕ, ℤ, pos, int_eq, Bool, true, fals
 use Rattle.std.specs.Prelude.{IfSome, ◌⊎◌}
 use Rattle.std.specs.Bool.{Decides}
 use Rattle.std.specs.Str.{bytes_eq}
+use Rattle.std.specs.Cmp.Lexicographic.{pointwise}
 use Rattle.std.proofs.lemmas.Bool.{cases_lt, cases_eq}
 use Rattle.std.proofs.lemmas.Bool.Decides.{Decides-int_eq}
-use Rattle.std.proofs.lemmas.Slice.Eq.{bytes_eq-Decides}
+use Rattle.std.proofs.lemmas.Slice.Eq.{bytes_eq-Decides, slice_eq-Decides}
 use Rattle.std.proofs.lemmas.List.{append-nil}
 use Rattle.std.proofs.lemmas.List.Elements.{All-nil}
 use Rattle.krb_name.specs.declared.principal.Principal.{Principal}
 use Rattle.krb_name.specs.Name.{SameName}
 use Rattle.krb_keytab.specs.Entry.{KeytabEntry}
 use Rattle.krb_keytab.specs.Usable.{IsUsable, IsUsableKey}
-use Rattle.krb_keytab.specs.Pick.{IsKeyOf, IsCandidate, IsChoice, Choice, chosen, no_name, no_key, no_version}
+use Rattle.krb_keytab.specs.Pick.{IsKeyOf, IsCandidate, IsChoice, Choice, chosen, no_name}
 use Rattle.krb_keytab.specs.Inner.Pick.{or_no_key, or_no_version}
 use Rattle.krb_keytab.proofs.PickLaws.{other_name, name_without_key, key_without_version, kept, replaced}
 
@@ -35,27 +36,8 @@ either_decided P Q (inr no_p) (inr no_q) = inr (λ h. elim h [ inl p ↦ no_p p 
 pub same_bytes : (one other : List ℕ) → (one ≡ other) ⊎ (one ≡ other → ⊥)
 same_bytes one other = decided_by (one ≡ other) (bytes_eq one other) (bytes_eq-Decides one other)
 
-abbrev texts : List (List ℕ) → List (List ℕ)
-texts xs = xs
-
-heads : (x y : List ℕ) (xs ys : List (List ℕ)) → texts (x ∷ xs) ≡ texts (y ∷ ys) → x ≡ y
-heads x y xs ys e = cc
-
-tails : (x y : List ℕ) (xs ys : List (List ℕ)) → texts (x ∷ xs) ≡ texts (y ∷ ys) → xs ≡ ys
-tails x y xs ys e = cc
-
-same_cons : (x y : List ℕ) (xs ys : List (List ℕ)) → x ≡ y → xs ≡ ys → texts (x ∷ xs) ≡ texts (y ∷ ys)
-same_cons x y xs ys e f = cc
-
 same_components : (one other : List (List ℕ)) → (one ≡ other) ⊎ (one ≡ other → ⊥)
-same_components [] [] = inl refl
-same_components [] (y ∷ ys) = inr (λ e. cc)
-same_components (x ∷ xs) [] = inr (λ e. cc)
-same_components (x ∷ xs) (y ∷ ys) =
-    elim (both_decided (x ≡ y) (xs ≡ ys) (same_bytes x y) (same_components xs ys)) [
-      | inl same ↦ inl (same_cons x y xs ys same.0 same.1)
-      | inr differ ↦ inr (λ e. differ (heads x y xs ys e, tails x y xs ys e))
-    ]
+same_components one other = decided_by (one ≡ other) (pointwise bytes_eq one other) (slice_eq-Decides bytes_eq-Decides one other _ refl)
 
 name_decided : (one other : Principal) → SameName one other ⊎ (SameName one other → ⊥)
 name_decided one other =
@@ -93,9 +75,7 @@ better entries name etype kvno e (chosen best) candidate h =
       | inl below ↦ (chosen e, replaced entries name etype kvno e (chosen best) candidate below h)
       | inr least ↦ (chosen best, kept entries name etype kvno e best least h)
     ]
-better entries name etype kvno e no_name candidate h = (chosen e, replaced entries name etype kvno e no_name candidate tt h)
-better entries name etype kvno e no_key candidate h = (chosen e, replaced entries name etype kvno e no_key candidate tt h)
-better entries name etype kvno e no_version candidate h = (chosen e, replaced entries name etype kvno e no_version candidate tt h)
+better entries name etype kvno e choice candidate h = (chosen e, replaced entries name etype kvno e choice candidate tt h)
 
 one_entry_more : (entries : List KeytabEntry) (name : Principal) (etype : ℤ) (kvno : Option ℕ) (e : KeytabEntry) (choice : Choice) → IsChoice entries name etype kvno choice
     → (more : Choice) × IsChoice (entries ++ e ∷ []) name etype kvno more
