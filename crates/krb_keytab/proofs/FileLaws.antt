@@ -1,7 +1,9 @@
 -- What whole records reach, and what is found behind them.
-use Rattle.std.proofs.Common.{◌≡◌, ℕ, pos, neg_ℤ, ◌<◌, ◌≤◌, List, [], ◌∷◌, ◌++◌, length, refl, ap, ◌∙◌, append-nil, arith}
+use Rattle.std.proofs.Common.{◌≡◌, ℕ, pos, neg_ℤ, ◌<◌, ◌≤◌, List, [], ◌∷◌, ◌++◌, length, refl, ap, subst, ◌∙◌, append-nil, arith}
 use Rattle.std.specs.Int.{w32}
 use Rattle.std.specs.List.{flat_map}
+use Rattle.std.specs.Prelude.{All}
+use Rattle.std.proofs.Math.Seq.{get_or-append_seam}
 use Rattle.std.proofs.lemmas.List.{length-append}
 use Rattle.std.proofs.lemmas.List.Concat.{flat_map-append}
 use Rattle.std.proofs.lemmas.List.Elements.{All-from_recursion}
@@ -25,3 +27,8 @@ record_first (entry e short_kvno rest) = omega (arith, length-append (signed_byt
 
 pub entry_size : (e : KeytabEntry) (short_kvno : ℕ) (rest : List ℕ) → 0 < length (entry_bytes e short_kvno rest)
 entry_size e short_kvno rest = omega arith
+
+-- ---- one element among others
+
+pub at_middle : {X : Type 0} (P : X → Type 0) (before : List X) (x : X) (after : List X) → All P (before ++ x ∷ after) → P x
+at_middle P before x after all = subst P (get_or-append_seam before x after x) (all (length before) x (omega (arith, length-append before (x ∷ after))))

@@ -79,6 +79,7 @@ impl EntryAdder {
     /// - `TooLong`: no hole is long enough, and the longer file would have more than 16,777,216
     ///   bytes.
     /// - `OutOfMemory`: no hole is long enough, and there is no memory for the longer file.
+    #[tactic(auto, using(crate::proofs::AddLaws::adds_gains))]
     pub fn add(&mut self, entry: &Entry) -> Result<(), KeytabFault>
         ensures ok { OnOk result (AddsEntry self.old entry.now self.new) }
         ensures list { OnOk result (GainsEntry self.old entry.now self.new) }

@@ -8,7 +8,7 @@ ghost use Rattle.krb_name.specs.Cursor.{data_bytes};
 ghost use Rattle.krb_keytab.specs.Entry.{LengthsFit, FitsEntry};
 ghost use Rattle.krb_keytab.specs.Format.{record_bytes};
 ghost use Rattle.krb_keytab.specs.Written.{padded_record, written_record, record_length};
-ghost use Rattle.krb_keytab.specs.Edit.{zero_hole, AddsEntry, GainsEntry, WouldGrow, WouldPass, IsUnadded};
+ghost use Rattle.krb_keytab.specs.Edit.{zero_hole, AddsEntry, WouldGrow, WouldPass, IsUnadded};
 ghost use Rattle.krb_keytab.specs.Inner.Finding.{IsFoundRoom};
 ghost use Rattle.krb_keytab.specs.Inner.Room.{PutsIn};
 ghost use Rattle.krb_keytab.specs.Inner.Putting.{Puts, PutsTo, body_bytes};
@@ -69,7 +69,6 @@ pub(crate) fn put_in(file: &mut Vec<u8>, room: Room, entry: &Entry) -> Result<()
     requires { IsFoundRoom file.old.items (record_length entry.now) room }
     ensures puts { PutsIn room entry.now file.old.items file.new.items result }
     ensures ok { OnOk result (AddsEntry file.old.items entry.now file.new.items) }
-    ensures list { OnOk result (GainsEntry file.old.items entry.now file.new.items) }
     ensures too_long { WouldPass file.old.items entry.now → result ≡ Err KeytabFault.TooLong }
     ensures unadded { IfErr result (IsUnadded file.old.items entry.now) }
     ensures memory { result ≡ Err KeytabFault.OutOfMemory
