@@ -1,13 +1,12 @@
 -- Reading the records of a file to their end.
 use Rattle.std.proofs.Common.{◌≡◌, ℕ, ◌+◌, ◌<◌, ◌≤◌, List, [], ◌∷◌, ◌++◌, length, Some, Result, Ok, Err, refl, sym, ap, subst, ◌∙◌, append_assoc, append-nil, arith}
 use Rattle.std.specs.List.{flat_map}
-use Rattle.std.specs.Prelude.{◌≢◌, All, IfErr}
+use Rattle.std.specs.Prelude.{◌≢◌, All}
 use Rattle.std.proofs.lemmas.List.{length-append}
 use Rattle.std.proofs.lemmas.List.Elements.{All-push}
 use Rattle.krb_name.specs.Window.{AtHand}
 use Rattle.krb_keytab.specs.Entry.{KeytabEntry}
 use Rattle.krb_name.specs.File.{file_limit}
-use Rattle.krb_keytab.specs.Fault.{failed_reads}
 use Rattle.krb_keytab.specs.Format.{version, KeytabRecord, hole, entry, record_bytes, FitsRecord, entries_of, IsReached, IsFaultOf}
 use Rattle.krb_keytab.specs.Inner.Feed.{nothing_of}
 use Rattle.krb_keytab.specs.Inner.Finding.{LiesAt}
@@ -95,10 +94,3 @@ module _ {bytes : List ℕ} {place : AtHand (List ℕ)} {records : List KeytabRe
       let given : bytes ≡ (front ++ m.piece) ++ after.source =
       s.bytes_are ∙ sym (append_assoc version before place.source) ∙ ap (λ (t : List ℕ). front ++ t) m.moves.consumed ∙ sym (append_assoc front m.piece after.source) in
       fault_told bytes (front ++ m.piece) (Some after.source) after.peak entries fault content.1 content.0 given stands
-
--- bytes in memory are there, and can be read
-pub content : {T : Type 0} (answer : Result T KeytabFault) → (answer ≡ Err OutOfMemory → ⊥) → 0 ≡ 0 + failed_reads answer → IfErr answer (λ fault. (fault ≢ OutOfMemory) × (fault ≢ Read))
-content (Ok x) memory failed = tt
-content (Err Read) memory failed = absurd (omega (arith, failed))
-content (Err OutOfMemory) memory failed = absurd (memory refl)
-content (Err _) memory failed = (λ e. cc, λ e. cc)

@@ -118,20 +118,11 @@ fn read_room(alloc: Global, bytes: &[u8]) -> Result<(Vec<Hole>, usize), KeytabFa
         fault ≢ KeytabFault.OutOfMemory → IsFaultOf bytes.now fault) }
     ensures faulty { (fault : KeytabFault) → IsFaultOf bytes.now fault → result ≡ Err fault }
 {
-    match find_holes(alloc, bytes) {
-        Ok(found) => Ok(found),
+    let mut holes = Vec::new(alloc);
+    match read_all(bytes, &mut holes) {
+        Ok(end) => Ok((holes, end)),
         Err(_) => Err(fault_of(bytes)),
     }
-}
-
-fn find_holes(alloc: Global, bytes: &[u8]) -> Result<(Vec<Hole>, usize), KeytabFault>
-    ensures room { IfOk result (λ found. KnowsRoom bytes.now found.0.items found.1) }
-    ensures fault { IfErr result (λ fault.
-        fault ≢ KeytabFault.OutOfMemory → IsFaultOf bytes.now fault) }
-{
-    let mut holes = Vec::new(alloc);
-    let end = read_all(bytes, &mut holes)?;
-    Ok((holes, end))
 }
 
 impl Gather for Vec<Hole> {
