@@ -1,6 +1,6 @@
 -- What is picked where one entry more is there.
-use Rattle.std.proofs.Common.{◌≡◌, ℕ, ◌<◌, ◌≤◌, ℤ, Bool, true, false, Bor, subst, List, [], ◌∷◌, ◌++◌, ◌+◌, length, take, get_or, Option, refl, sym, ap, ◌∙◌, append_assoc, arith}
-use Rattle.std.specs.Prelude.{All, IsTrue, ◌↔◌}
+use Rattle.std.proofs.Common.{◌≡◌, ℕ, ◌<◌, ◌≤◌, ℤ, Bor, subst, List, [], ◌∷◌, ◌++◌, ◌+◌, length, take, get_or, Option, refl, sym, ap, ◌∙◌, append_assoc, arith}
+use Rattle.std.specs.Prelude.{All}
 use Rattle.std.proofs.lemmas.List.Elements.{All-push, All-append, All-cons, All-weaker, All-nil, All-same}
 use Rattle.std.proofs.lemmas.List.{take_more, take_all}
 use Rattle.krb_name.specs.declared.principal.Principal.{Principal}
@@ -10,7 +10,7 @@ use Rattle.krb_keytab.specs.Usable.{IsUsable}
 use Rattle.krb_keytab.specs.Pick.{IsKeyOf, IsCandidate, HasEntry, IsChosen, IsChoice, Choice, chosen, no_name, no_key, no_version, choice_of, IsPicked}
 use Rattle.krb_keytab.specs.Inner.Pick.{or_no_key, or_no_version, IsBelow}
 use Rattle.krb_keytab.specs.declared.pick.Picked.{Picked}
-use Rattle.krb_keytab.specs.declared.pick.Picked.TheVariants.{Entry, NoName, NoKey, NoVersion}
+use Rattle.krb_keytab.specs.declared.pick.Picked.TheVariants.{Entry}
 
 has_more : (P : KeytabEntry → Type 0) (entries : List KeytabEntry) (e : KeytabEntry) → HasEntry P entries → HasEntry P (entries ++ e ∷ [])
 has_more P entries e h = record {
@@ -108,15 +108,6 @@ replaced entries name etype kvno e no_version candidate lt h = chosen_last entri
 
 -- ---- what a test says
 
-pub is_so : (b : Bool) (P : Type 0) → IsTrue b ↔ P → b ≡ true → P
-is_so b P h e = h.0 e
-
-pub is_not : (b : Bool) (P : Type 0) → IsTrue b ↔ P → b ≡ false → ¬ P
-is_not b P h e p = true_is_not_false b (h.1 p) e
-  where
-    true_is_not_false : (b : Bool) → b ≡ true → b ≡ false → ⊥
-    true_is_not_false b p q = cc
-
 pub key_of : (name : Principal) (etype : ℤ) (e : KeytabEntry) → SameName e.principal name → (e.etype ≡ etype) × IsUsable e → IsKeyOf name etype e
 key_of name etype e same h = record { same_name = same; same_etype = h.0; usable = h.1 }
 
@@ -128,9 +119,7 @@ below_at picked p e same h = subst (λ (t : Picked). IsBelow (choice_of t) e) (s
 
 pub not_entry : (picked : Picked) (e : KeytabEntry) → ((best : Bor KeytabEntry) → picked ≡ Entry best → ⊥) → IsBelow (choice_of picked) e
 not_entry (Entry best) e never = absurd (never best refl)
-not_entry NoName e never = tt
-not_entry NoKey e never = tt
-not_entry NoVersion e never = tt
+not_entry _ e never = tt
 
 -- the same choice is one of the same entries
 pub same_choice : (entries : List KeytabEntry) (name : Principal) (etype : ℤ) (kvno : Option ℕ) (choice other : Choice) → other ≡ choice → IsChoice entries name etype kvno choice → IsChoice entries name etype kvno other
