@@ -15,9 +15,8 @@ use Rattle.krb_keytab.specs.declared.fault.KeytabFault.{KeytabFault}
 use Rattle.krb_keytab.specs.declared.finding.Extent.{Extent}
 use Rattle.krb_keytab.specs.declared.finding.Room.{Room}
 use Rattle.krb_keytab.specs.declared.finding.Room.TheVariants.{Hole, End}
-use Rattle.krb_keytab.proofs.MadeLaws.{made_keytab, padded_fits, written_fits}
+use Rattle.krb_keytab.proofs.MadeLaws.{made_keytab, padded_fits, written_fits, padded_length}
 use Rattle.krb_keytab.proofs.FileLaws.{flat_push, at_middle}
-use Rattle.krb_keytab.proofs.WrittenLaws.{padded_length}
 use Rattle.krb_keytab.proofs.EditLaws.{flat_split, replaced, within, no_fault}
 use Rattle.krb_keytab.proofs.OneSplit.{same_records}
 

@@ -21,7 +21,7 @@ use Rattle.krb_keytab.proofs.OneSplit.{same_records}
 use Rattle.krb_keytab.proofs.PutLaws.{Puts-length}
 use Rattle.krb_keytab.proofs.RoomLaws.{entry_more, holes_joined, none_fits, stands_for}
 use Rattle.krb_keytab.proofs.FileLaws.{flat_push}
-use Rattle.krb_keytab.proofs.WrittenLaws.{padded_length}
+use Rattle.krb_keytab.proofs.MadeLaws.{padded_length}
 
 abbrev pub place_of : Hole → Extent
 place_of one = record { from = one.from; to = one.from + one.size }

@@ -7,7 +7,7 @@ use Rattle.std.proofs.lemmas.List.Concat.{flat_map-cons}
 use Rattle.krb_name.specs.Cursor.{Place, ◌>>=◌, data_at, data_bytes}
 use Rattle.krb_name.specs.Field.{IsBytes, Takes, IsField}
 use Rattle.krb_name.proofs.CursorLaws.{bind_some, some_is, Takes-then, IsField-data16}
-use Rattle.krb_keytab.specs.Inner.Components.{components_at, first_components, HasComponents, IsBehind}
+use Rattle.krb_keytab.specs.Inner.Entry.{components_at, first_components, HasComponents, IsBehind}
 
 -- ---- as a loop does it
 

@@ -9,8 +9,7 @@ use Rattle.krb_name.specs.Field.{IsBytes, IsField}
 use Rattle.krb_name.proofs.CursorLaws.{bind_some, some_is, IsBytes-take, IsField-u8, IsField-u16, IsField-u32, IsField-i16, IsField-i32, IsField-data16}
 use Rattle.krb_keytab.specs.Entry.{KeytabEntry}
 use Rattle.krb_keytab.specs.Format.{entry_bytes, full_kvno, IsEntry}
-use Rattle.krb_keytab.specs.Inner.Components.{components_at}
-use Rattle.krb_keytab.specs.Inner.Entry.{entry_at}
+use Rattle.krb_keytab.specs.Inner.Entry.{components_at, entry_at}
 use Rattle.krb_keytab.proofs.ComponentLaws.{Short16, AreComponents, IsField-components}
 
 -- a field was read, and then others: what follows of it follows

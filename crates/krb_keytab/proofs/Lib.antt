@@ -8,7 +8,6 @@ pub mod AnswerLaws
 pub mod ChoiceLaws
 pub mod SomeChoice
 pub mod PutLaws
-pub mod WrittenLaws
 pub mod MadeLaws
 pub mod ScanLaws
 pub mod EditLaws
@@ -16,11 +15,9 @@ pub mod OneRecord
 pub mod OneSplit
 pub mod OneAnswer
 pub mod AddLaws
-pub mod FaultPlaces
 pub mod MeetLaws
 pub mod StandLaws
 pub mod ToldLaws
-pub mod CollectLaws
 pub mod OnePlace
 pub mod RoomLaws
 pub mod AdderLaws

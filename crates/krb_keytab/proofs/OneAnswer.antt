@@ -1,17 +1,19 @@
--- Of any list one answer holds, also where it isn't one of bytes.
-use Rattle.std.proofs.Common.{◌≡◌, ◌⊎◌, ℕ, ◌<◌, ◌≤◌, List, [], length, Option, Some, None, Result, Ok, Err, refl, sym, ap, subst, ◌∙◌, arith, inl, inr}
-use Rattle.std.specs.Prelude.{◌≢◌}
+-- Of any list one answer holds, also where it isn't one of bytes; and where its fault lies.
+use Rattle.std.proofs.Common.{◌≡◌, ◌⊎◌, ℕ, ◌<◌, ◌≤◌, List, [], length, Option, Some, None, Result, Ok, Err, refl, sym, ap, subst, ◌∙◌, arith, inl, inr, ◌++◌, length-append}
+use Rattle.std.specs.Prelude.{◌≢◌, IfSome}
 use Rattle.std.specs.Io.KnownBytes.{Consumes}
 use Rattle.krb_keytab.specs.Entry.{KeytabEntry}
 use Rattle.krb_name.specs.File.{file_limit, IsGiven}
 use Rattle.krb_name.proofs.FileLaws.{AnswersFiles}
-use Rattle.krb_keytab.specs.Format.{IsReached, IsFaultOf, IsAnswerOf}
+use Rattle.krb_keytab.specs.Format.{IsReached, IsFaultOf, IsAnswerOf, version, record_bytes, StandsAt}
 use Rattle.krb_keytab.specs.Items.{StopsSo, Concludes, StandsTo}
 use Rattle.krb_keytab.specs.Inner.Meeting.{IsFaulty}
 use Rattle.krb_keytab.specs.declared.fault.KeytabFault.{KeytabFault}
 use Rattle.krb_keytab.specs.declared.fault.KeytabFault.TheVariants.{Version, Truncated, BadEntry, TooLong, Read, OutOfMemory}
 use Rattle.krb_keytab.specs.declared.stage.Stage.TheVariants.{Failed}
 use Rattle.krb_keytab.proofs.OneSplit.{one_last}
+use Rattle.std.specs.List.{flat_map}
+use Rattle.krb_keytab.specs.Fault.{offset_of}
 
 -- the answer for bytes with these entries and this last answer
 abbrev pub said : List KeytabEntry → Option KeytabFault → Result (List KeytabEntry) KeytabFault
@@ -93,3 +95,14 @@ pub only_fault : (bytes : List ℕ) (fault : KeytabFault) (answer : Result (List
     → (refused fault ≡ answer) ⊎ (refused fault ≡ Err OutOfMemory)
 only_fault bytes OutOfMemory answer is a = inr refl
 only_fault bytes fault answer is a = inl (same_answers bytes (Err fault) answer (is (λ e. cc)) a)
+
+-- whole records end at one of the bytes, or behind the last
+stands_within : (bytes : List ℕ) (at : ℕ) (IsFaulty : List ℕ → Type 0) → StandsAt bytes at IsFaulty → at ≤ length bytes
+stands_within bytes at IsFaulty s =
+    let front = flat_map record_bytes s.reached.records in
+    omega (arith, ap length s.reached.bytes_are, length-append version (front ++ s.behind), length-append front s.behind, s.reached.at_is)
+
+pub fault_within : (bytes : List ℕ) (fault : KeytabFault) → IsFaultOf bytes fault → IfSome (offset_of fault) (λ at. at ≤ length bytes)
+fault_within bytes (Truncated at) s = stands_within bytes at _ s
+fault_within bytes (BadEntry at) s = stands_within bytes at _ s
+fault_within bytes _ s = tt

@@ -1,8 +1,6 @@
-pub mod Components
 pub mod Entry
 pub mod Feed
 pub mod Finding
-pub mod Hash
 pub mod Index
 pub mod Meeting
 pub mod Pick

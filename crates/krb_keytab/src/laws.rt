@@ -60,7 +60,7 @@ pub fn records_hold_the_entries()
 {}
 
 /// States that the offset of a fault is that of one of the bytes, or their end.
-#[tactic(auto, using(crate::proofs::FaultPlaces::fault_within))]
+#[tactic(auto, using(crate::proofs::OneAnswer::fault_within))]
 pub fn each_fault_lies_within()
     ensures { (bytes : List ℕ) (fault : KeytabFault) → IsFaultOf bytes fault
         → IfSome (offset_of fault) (λ at. at ≤ length bytes) }

@@ -2,7 +2,7 @@ use Rattle.std.proofs.Common.{◌∙◌, add-zero, Option, Ok, subst}
 use Rattle.std.proofs.lemmas.Result.{err_from_is_err_and}
 use Rattle.krb_keytab.specs.Entry.{KeytabEntry}
 use Rattle.krb_keytab.specs.Inner.Meeting.{MeetsNext}
-use Rattle.krb_keytab.proofs.CollectLaws.{entry_taken, end_taken, next_faulty, next_takes}
+use Rattle.krb_keytab.proofs.ToldLaws.{entry_taken, end_taken, next_faulty, next_takes}
 use Rattle.krb_keytab.proofs.step.read_entries.Goals as goal
 
 pub returns-in_err-entry-clause-fault : goal.returns-in_err-entry-clause-fault

@@ -3,7 +3,7 @@ use Rattle.std.proofs.lemmas.Int.{of_z-to_z}
 use Rattle.std.proofs.lemmas.List.{length-replicate, length-drop, take_rest}
 use Rattle.krb_keytab.specs.Written.{record_length}
 use Rattle.krb_keytab.proofs.PutLaws.{puts_mid, Puts-length}
-use Rattle.krb_keytab.proofs.WrittenLaws.{filled}
+use Rattle.krb_keytab.proofs.MadeLaws.{filled}
 use Rattle.krb_keytab.proofs.writing.fill_record.Goals as goal
 
 pub returns-clause-filled : goal.returns-clause-filled

@@ -1,6 +1,6 @@
 use Rattle.std.proofs.Common.{w16, w32}
 use Rattle.std.proofs.lemmas.Int.{to_z-of_z}
-use Rattle.krb_keytab.proofs.WrittenLaws.{puts_body}
+use Rattle.krb_keytab.proofs.MadeLaws.{puts_body}
 use Rattle.krb_keytab.proofs.writing.put_entry.Goals as goal
 
 pub returns-clause-puts : goal.returns-clause-puts
