@@ -45,21 +45,18 @@ fill_gains {old} {new} {e} h = record {
 
 -- ---- a record is appended
 
-front_length : (records : List KeytabRecord) → length (version ++ flat_map record_bytes records) ≡ length version + length (flat_map record_bytes records)
-front_length records = length-append version (flat_map record_bytes records)
-
 pub appends : {old new : List ℕ} (e : KeytabEntry) (at : ℕ) → HasNone old (record_length e) at → at + record_length e ≤ file_limit → FitsEntry e → new ≡ take at old ++ record_bytes (written_record e) → Appends old e new
 appends {old} {new} e at h limit fits made =
     let one : KeytabRecord = written_record e in
     let flat : List ℕ = flat_map record_bytes h.records in
     let front : List ℕ = version ++ flat in
-    let kept : take at old ≡ front = ap (take at) (h.is.bytes_are ∙ sym (append_assoc version flat h.end)) ∙ take_at front h.end at (omega (arith, front_length h.records, h.holds.0)) in
+    let kept : take at old ≡ front = ap (take at) (h.is.bytes_are ∙ sym (append_assoc version flat h.end)) ∙ take_at front h.end at (omega (arith, length-append version flat, h.holds.0)) in
     let bytes : new ≡ front ++ record_bytes one = made ∙ ap (λ (t : List ℕ). t ++ record_bytes one) kept in
     record {
       records = h.records;
       old_is = record { end = h.end; is = h.is; no_room = h.holds.1 };
       new_is = record {
-        limit = omega (arith, ap length bytes, length-append front (record_bytes one), front_length h.records, h.holds.0, limit);
+        limit = omega (arith, ap length bytes, length-append front (record_bytes one), length-append version flat, h.holds.0, limit);
         fit = All-push FitsRecord h.records one h.is.fit (written_fits e fits (omega (arith, limit)));
         bytes_are = bytes ∙ append_assoc version flat (record_bytes one) ∙ ap (λ (t : List ℕ). version ++ t) (sym (flat_push record_bytes h.records one) ∙ sym (append-nil (flat_map record_bytes (h.records ++ one ∷ []))));
         is_end = inl refl;

@@ -19,9 +19,6 @@ Below C e other = C other → other.kvno < e.kvno
 abbrev AtMost : (KeytabEntry → Type 0) → KeytabEntry → KeytabEntry → Type 0
 AtMost C e other = C other → other.kvno ≤ e.kvno
 
-apart : (a b : ℕ) → a < b → b ≤ a → ⊥
-apart a b p q = omega arith
-
 same_place : (C : KeytabEntry → Type 0) (before others : List KeytabEntry) (e f : KeytabEntry) (after rest : List KeytabEntry) → C e → C f → AllByRecursion (Below C e) before → All (AtMost C e) after
     → AllByRecursion (Below C f) others → All (AtMost C f) rest → before ++ e ∷ after ≡ others ++ f ∷ rest → e ≡ f
 same_place C [] [] e f after rest ce cf be ae bf af same = cc
@@ -30,13 +27,13 @@ same_place C [] (y ∷ others) e f after rest ce cf be ae bf af same =
     let behind : after ≡ others ++ f ∷ rest = cc in
     let less : e.kvno < f.kvno = (subst (Below C f) (sym first) bf.0) ce in
     let more : f.kvno ≤ e.kvno = at_middle (AtMost C e) others f rest (subst (All (AtMost C e)) behind ae) cf in
-    absurd (apart e.kvno f.kvno less more)
+    absurd (omega arith)
 same_place C (x ∷ before) [] e f after rest ce cf be ae bf af same =
     let first : f ≡ x = cc in
     let behind : rest ≡ before ++ e ∷ after = cc in
     let less : f.kvno < e.kvno = (subst (Below C e) (sym first) be.0) cf in
     let more : e.kvno ≤ f.kvno = at_middle (AtMost C f) before e after (subst (All (AtMost C f)) behind af) ce in
-    absurd (apart f.kvno e.kvno less more)
+    absurd (omega arith)
 same_place C (x ∷ before) (y ∷ others) e f after rest ce cf be ae bf af same = same_place C before others e f after rest ce cf be.1 ae bf.1 af cc
 
 same_chosen : (entries : List KeytabEntry) (name : Principal) (etype : ℤ) (kvno : Option ℕ) (e f : KeytabEntry) → IsChosen entries name etype kvno e → IsChosen entries name etype kvno f → e ≡ f

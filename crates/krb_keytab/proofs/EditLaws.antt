@@ -112,23 +112,11 @@ loses_entry {old} {new} {index} h = record {
 
 -- ---- one answer alone
 
-abbrev answer_of : Result (List KeytabEntry) KeytabFault → Result (List KeytabEntry) KeytabFault
-answer_of answer = answer
-
-list_is : (xs ys : List KeytabEntry) → answer_of (Ok xs) ≡ answer_of (Ok ys) → xs ≡ ys
-list_is xs ys e = cc
-
-not_both : (xs : List KeytabEntry) (fault : KeytabFault) → answer_of (Ok xs) ≡ answer_of (Err fault) → ⊥
-not_both xs fault e = cc
-
-fault_is : (f g : KeytabFault) → answer_of (Err f) ≡ answer_of (Err g) → f ≡ g
-fault_is f g e = cc
-
 pub no_fault : (bytes : List ℕ) (entries : List KeytabEntry) (fault : KeytabFault) → IsKeytab bytes entries → IsFaultOf bytes fault → ⊥
-no_fault bytes entries fault k f = not_both entries fault (same_answers bytes (Ok entries) (Err fault) k f)
+no_fault bytes entries fault k f = let both = same_answers bytes (Ok entries) (Err fault) k f in cc
 
 pub same_fault : (bytes : List ℕ) (f g : KeytabFault) → IsFaultOf bytes f → IsFaultOf bytes g → f ≡ g
-same_fault bytes f g p q = fault_is f g (same_answers bytes (Err f) (Err g) p q)
+same_fault bytes f g p q = let both = same_answers bytes (Err f) (Err g) p q in cc
 
 listed : (bytes : List ℕ) (index : ℕ) (place : Option Extent) → IsFoundEntry bytes index place → (entries : List KeytabEntry) × IsKeytab bytes entries
 listed bytes index None l = (l.entries, l.list)
@@ -143,7 +131,8 @@ not_lacking : (bytes : List ℕ) (index : ℕ) (place : Extent) → HoldsIndex b
 not_lacking bytes index place h l =
     let k = h.holds in
     let all : List KeytabEntry = flat_map entries_of h.records in
-    let same = list_is l.entries all (same_answers bytes (Ok l.entries) (Ok all) l.list (made_keytab h.is)) in
+    let both = same_answers bytes (Ok l.entries) (Ok all) l.list (made_keytab h.is) in
+    let same : l.entries ≡ all = cc in
     let parts = ap (flat_map entries_of) k.records_are ∙ flat_split entries_of k.before (entry k.removed k.short_kvno k.rest) k.after in
     omega (arith, ap length same, ap length parts, length-append (flat_map entries_of k.before) (k.removed ∷ flat_map entries_of k.after), k.index_is, l.few)
 
@@ -154,16 +143,13 @@ removal_of (Ok (Some place)) = Ok tt
 removal_of (Ok None) = Err NoSuchEntry
 removal_of (Err fault) = Err fault
 
-refused_is : (f g : KeytabFault) → removal_of (Err f) ≡ Err g → f ≡ g
-refused_is f g e = cc
-
 module _ (bytes : List ℕ) (index : ℕ) where
   pub removal_missing : (found : Result (Option Extent) KeytabFault) → MatchResult found (IsFoundEntry bytes index) (IsFaultOf bytes) → removal_of found ≡ Err NoSuchEntry ↔ LacksEntry bytes index
   removal_missing (Ok None) l = (λ e. l, λ k. refl)
   removal_missing (Ok (Some place)) h = (λ e. absurd cc, λ l. absurd (not_lacking bytes index place h l))
-  removal_missing (Err fault) f = (λ e. absurd (subst (IsFaultOf bytes) (refused_is fault NoSuchEntry e) f), λ l. absurd (no_fault bytes l.entries fault l.list f))
+  removal_missing (Err fault) f = (λ e. let same : fault ≡ NoSuchEntry = cc in absurd (subst (IsFaultOf bytes) same f), λ l. absurd (no_fault bytes l.entries fault l.list f))
 
   pub removal_faults : (found : Result (Option Extent) KeytabFault) → MatchResult found (IsFoundEntry bytes index) (IsFaultOf bytes) → (other : KeytabFault) → other ≢ NoSuchEntry → removal_of found ≡ Err other ↔ IsFaultOf bytes other
-  removal_faults (Ok None) l other differs = (λ e. absurd (differs (sym (refused_is NoSuchEntry other e))), λ f. absurd (searched bytes index None other l f))
+  removal_faults (Ok None) l other differs = (λ e. absurd (differs cc), λ f. absurd (searched bytes index None other l f))
   removal_faults (Ok (Some place)) h other differs = (λ e. absurd cc, λ f. absurd (searched bytes index (Some place) other h f))
-  removal_faults (Err fault) g other differs = (λ e. subst (IsFaultOf bytes) (refused_is fault other e) g, λ f. ap (λ x. removal_of (Err x)) (same_fault bytes fault other g f))
+  removal_faults (Err fault) g other differs = (λ e. let same : fault ≡ other = cc in subst (IsFaultOf bytes) same g, λ f. ap (λ x. removal_of (Err x)) (same_fault bytes fault other g f))

@@ -110,12 +110,9 @@ no_entry at count body more some limit l read = (
     behind_is = append_assoc (signed_bytes w32 (pos count)) body more ∙ ap (λ (k : ℕ). signed_bytes w32 (pos k) ++ (body ++ more)) (sym l);
     size = omega (arith, l, some);
     size_fits = omega (arith, l, limit);
-    no_entry = λ made short_kvno rest is_entry same. none_and_some (entry_at body) made read (ap entry_at same ∙ again_entry made short_kvno rest is_entry);
+    no_entry = λ made short_kvno rest is_entry same. let again = ap entry_at same ∙ again_entry made short_kvno rest is_entry in cc;
   },
 )
-  where
-    none_and_some : (read : Option KeytabEntry) (made : KeytabEntry) → read ≡ None → read ≡ Some made → ⊥
-    none_and_some read made p q = cc
 
 -- ---- what is at hand
 

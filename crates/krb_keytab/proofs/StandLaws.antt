@@ -13,7 +13,7 @@ use Rattle.krb_keytab.specs.Entry.{KeytabEntry}
 use Rattle.krb_name.specs.File.{file_limit}
 use Rattle.krb_keytab.specs.Format.{version, KeytabRecord, hole, entry, entry_bytes, record_bytes, FitsRecord, entries_of, IsReached}
 use Rattle.krb_keytab.specs.Items.{LacksVersion, LacksRecord, Stops, StopsSo, IsTooLong, Concludes, AreFirst, EndsWithEntry, StandsTo, IsPartOfRecord, HasMet, HasRead, EntriesRead, passed, stage_after, stage_passed, entries_after, GivesMore}
-use Rattle.krb_keytab.specs.Inner.Meeting.{Moves, Peaks, RanOut, OpensAt, MeetsVersion, IsWhole, IsLastAt, IsLongAt, MeetsLast, MeetsOne, Goes, PassesHoles, HasReached, IsFirst, MeetsBehind, MeetsNext, MeetsKept, MeetsFirst}
+use Rattle.krb_keytab.specs.Inner.Meeting.{Peaks, RanOut, OpensAt, MeetsVersion, IsWhole, IsLastAt, IsLongAt, MeetsLast, MeetsOne, Goes, PassesHoles, HasReached, IsFirst, MeetsBehind, MeetsNext, MeetsKept, MeetsFirst}
 use Rattle.krb_keytab.specs.declared.fault.KeytabFault.{KeytabFault}
 use Rattle.krb_keytab.specs.declared.fault.KeytabFault.TheVariants.{Version, TooLong, Read, OutOfMemory}
 use Rattle.krb_keytab.specs.declared.found.Found.{Found}
@@ -160,13 +160,10 @@ version_ran left given two later answer r g size lacks =
 
 -- ---- one step behind the other
 
-moves_on : {S : Type 0} (from mid to : Option (List ℕ)) (old between new : AtHand S) (p q : List ℕ) → Moves from mid old between p → Moves mid to between new q → Moves from to old new (p ++ q)
-moves_on from mid to old between new p q m n = record { consumed = Consumes-trans from mid to p q m.consumed n.consumed; given = omega (arith, m.given, n.given, length-append p q); limit = λ l. n.limit (m.limit l) }
-
 goes_then : {S : Type 0} {A B C : List ℕ → List KeytabEntry → Type 0} (from mid to : Option (List ℕ)) (old between new : AtHand S) → Goes A B from mid old between → Goes B C mid to between new → Goes A C from to old new
 goes_then {C = C} from mid to old between new p q = record {
   piece = p.piece ++ q.piece;
-  moves = moves_on from mid to old between new p.piece q.piece p.moves q.moves;
+  moves = record { consumed = Consumes-trans from mid to p.piece q.piece p.moves.consumed q.moves.consumed; given = omega (arith, p.moves.given, q.moves.given, length-append p.piece q.piece); limit = λ l. q.moves.limit (p.moves.limit l) };
   grows = omega (arith, p.grows, q.grows);
   low = λ l. q.low (p.low l);
   stands = λ bytes entries b. subst (λ (t : List ℕ). C t entries) (append_assoc bytes p.piece q.piece) (q.stands (bytes ++ p.piece) entries (p.stands bytes entries b));
