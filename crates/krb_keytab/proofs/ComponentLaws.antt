@@ -19,9 +19,6 @@ regroup : (front : List (List ℕ)) (x : List ℕ) (read : Option (List (List �
 regroup front x None = refl
 regroup front x (Some read) = ap (λ (all : List (List ℕ)). Some (all, read.1)) (simp append_assoc)
 
-pub none_is_not_some : {X : Type 0} (read : Option X) (x : X) → read ≡ None → read ≡ Some x → ⊥
-none_is_not_some read x p q = cc
-
 pub first_is : (count : ℕ) (bytes : List ℕ) (x : List (List ℕ)) (behind : Place) → components_at count (record { at = 0; rest = bytes }) ≡ Some (x, behind) → x ≡ first_components count bytes
 first_is count bytes x behind e = rw e refl
 

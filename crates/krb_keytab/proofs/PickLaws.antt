@@ -99,9 +99,6 @@ replaced entries name etype kvno e no_version candidate lt h = chosen_last entri
 pub key_of : (name : Principal) (etype : ℤ) (e : KeytabEntry) → SameName e.principal name → (e.etype ≡ etype) × IsUsable e → IsKeyOf name etype e
 key_of name etype e same h = record { same_name = same; same_etype = h.0; usable = h.1 }
 
-pub not_key_of : (name : Principal) (etype : ℤ) (e : KeytabEntry) → ¬ ((e.etype ≡ etype) × IsUsable e) → ¬ IsKeyOf name etype e
-not_key_of name etype e never key = never (key.same_etype, key.usable)
-
 pub below_at : (picked p : Picked) (e : KeytabEntry) → picked ≡ p → IsBelow (choice_of p) e → IsBelow (choice_of picked) e
 below_at picked p e same h = subst (λ (t : Picked). IsBelow (choice_of t) e) (sym same) h
 

@@ -2,8 +2,8 @@
 use Rattle.std.proofs.Common.{◌≡◌, ℕ, ◌+◌, ◌<◌, List, [], ◌∷◌, ◌++◌, length, refl, sym, ap, subst, ◌∙◌, arith, append-nil, add-one, suc, take, drop, get_or, drop-cons}
 use Rattle.std.specs.List.{flat_map, AllByRecursion}
 use Rattle.std.specs.Prelude.{All}
-use Rattle.std.proofs.lemmas.List.{length-append, get_or_default, take_more, take-append-drop}
-use Rattle.std.proofs.lemmas.List.Elements.{recursion_from_All, All-from_recursion, All-push}
+use Rattle.std.proofs.lemmas.List.{length-append, take-append-drop}
+use Rattle.std.proofs.lemmas.List.Elements.{recursion_from_All, All-from_recursion}
 use Rattle.krb_keytab.specs.Format.{version, KeytabRecord, hole, entry, record_bytes}
 use Rattle.krb_keytab.specs.Entry.{KeytabEntry}
 use Rattle.krb_keytab.specs.Edit.{LacksRoom}
@@ -111,12 +111,3 @@ pub hole_at : (holes : List Hole) (at : ℕ) (one : Hole) → at < length holes 
 hole_at holes at one within is =
     sym (take-append-drop at holes) ∙ ap (λ (t : List Hole). take at holes ++ t)
     (drop-cons holes at one within ∙ ap (λ (h : Hole). h ∷ drop (suc at) holes) (sym is) ∙ ap (λ (n : ℕ). one ∷ drop n holes) (sym (add-one at)))
-
-pub one_hole : (holes : List Hole) (at : ℕ) (one other : Hole) → at < length holes → one ≡ get_or holes at one → other ≡ get_or holes at other → one ≡ other
-one_hole holes at one other within is that = is ∙ get_or_default holes at one other within ∙ sym that
-
-pub small_more : (size : ℕ) (holes : List Hole) (at : ℕ) (one : Hole) → at < length holes → one ≡ get_or holes at one → one.size < size
-    → All (λ (h : Hole). h.size < size) (take at holes) → All (λ (h : Hole). h.size < size) (take (at + 1) holes)
-small_more size holes at one within is short small =
-    subst (All (λ (h : Hole). h.size < size)) (sym (take_more holes at one within))
-    (All-push (λ (h : Hole). h.size < size) (take at holes) (get_or holes at one) small (subst (λ (h : Hole). h.size < size) is short))

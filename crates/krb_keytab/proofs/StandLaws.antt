@@ -77,9 +77,6 @@ module _ (bytes : List ℕ) (entries : List KeytabEntry) (reached : IsReached by
   failed_stands left held piece OutOfMemory within m = first piece
   failed_stands left held piece fault within m = concludes left piece (Some fault) m
 
-  pub end_stands : (left : Option (List ℕ)) (held : ℕ) (piece : List ℕ) → MeetsLast left (length bytes) piece None → StandsTo left held (stage_after (Ok None)) (bytes ++ piece) entries
-  end_stands left held piece m = concludes left piece None m
-
   ends_with : (held : ℕ) (piece : List ℕ) (e : KeytabEntry) (one : KeytabRecord) → FitsRecord one → piece ≡ record_bytes one → e ∷ [] ≡ entries_of one → length piece ≤ 4 + held → EndsWithEntry held (bytes ++ piece) (entries ++ e ∷ [])
   ends_with held piece e (hole ignored) fits is are room = absurd cc
   ends_with held piece e (entry last short_kvno rest) fits is are room =
@@ -212,7 +209,7 @@ module _ {S E : Type 0} (of_entry : KeytabEntry → E) (from mid to : Option (Li
     answer = Ok None;
     said_is = refl;
     meets = record {
-      goes = goes_then from mid to old between new h (goes_one of_entry mid to between new (Ok End) m (λ bytes entries b. end_stands bytes entries b.reached to new.peak m.piece (rw b.given_is at m.meets)));
+      goes = goes_then from mid to old between new h (goes_one of_entry mid to between new (Ok End) m (λ bytes entries b. concludes bytes entries b.reached to m.piece None (rw b.given_is at m.meets)));
       within = m.moves.limit (omega (arith, limit));
       more = tt;
     };

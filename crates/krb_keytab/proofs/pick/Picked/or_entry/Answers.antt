@@ -1,7 +1,7 @@
 use Rattle.std.proofs.Common.{arith, w32}
 use Rattle.std.proofs.lemmas.Int.{to_z-of_z}
 use Rattle.krb_keytab.specs.Pick.{IsCandidate, choice_of}
-use Rattle.krb_keytab.proofs.PickLaws.{other_name, name_without_key, key_without_version, same_choice, replaced, key_of, not_key_of, below_at, not_entry}
+use Rattle.krb_keytab.proofs.PickLaws.{other_name, name_without_key, key_without_version, same_choice, replaced, key_of, below_at, not_entry}
 use Rattle.krb_keytab.proofs.KeyLaws.{denied}
 use Rattle.krb_keytab.proofs.pick.Picked.or_entry.Goals as goal
 use Rattle.krb_keytab.proofs.pick.Picked.or_entry.Goals.{in_default-via-in-Entry+else-kvno, in_default-via-in_default}
@@ -15,7 +15,7 @@ pub returns-then-not-is_key : goal.returns-then-not-is_key
 returns-then-not-is_key c = λ entries h.
     let named = (rw c.principal.ensures at c.same_name.ensures).0 c.if-not-same_name.false in
     let tested = rw (to_z-of_z w32 c.args.etype c.ranges.etype) at c.is_key.ensures in
-    same_choice _ _ _ _ _ _ c.or_no_key.ensures (name_without_key entries c.args.name.now c.args.etype c.args.kvno c.args.entry.now (choice_of c.args.self) named (not_key_of _ _ _ (denied c.is_key.result tested c.if-not-is_key.true)) h)
+    same_choice _ _ _ _ _ _ c.or_no_key.ensures (name_without_key entries c.args.name.now c.args.etype c.args.kvno c.args.entry.now (choice_of c.args.self) named (λ key. denied c.is_key.result tested c.if-not-is_key.true (key.same_etype, key.usable)) h)
 
 pub returns-then-not-has_version : goal.returns-then-not-has_version
 returns-then-not-has_version c = λ entries h.
