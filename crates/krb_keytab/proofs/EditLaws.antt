@@ -37,9 +37,6 @@ with_other : (P : KeytabRecord → Type 0) (before : List KeytabRecord) (one oth
 with_other P [] one other after h q = (q, h.1)
 with_other P (x ∷ before) one other after h q = (h.0, with_other P before one other after h.1 q)
 
-pub fits_there : {bytes : List ℕ} (before : List KeytabRecord) (one : KeytabRecord) (after : List KeytabRecord) {end : List ℕ} → IsMadeOf bytes (before ++ one ∷ after) end → FitsRecord one
-fits_there before one after m = at_middle FitsRecord before one after m.fit
-
 -- where a record lies, it lies within the file
 pub within : {bytes : List ℕ} (before : List KeytabRecord) (one : KeytabRecord) (after : List KeytabRecord) {end : List ℕ} {place : Extent} → IsMadeOf bytes (before ++ one ∷ after) end → LiesAt before one place → place.to ≤ length bytes
 within before one after {end} m lies =
@@ -68,16 +65,6 @@ replaced {bytes} {new} before one other after {end} {place} m lies fits size put
 
 -- ---- an entry is removed
 
--- a hole as long as an entry's record
-pub zero_fits : (e : KeytabEntry) (short_kvno : ℕ) (rest : List ℕ) → FitsRecord (entry e short_kvno rest) → FitsRecord (zero_hole (length (entry_bytes e short_kvno rest)))
-zero_fits e short_kvno rest fits =
-    let count = length-replicate {A = ℕ} (length (entry_bytes e short_kvno rest)) 0 in
-    let some = entry_size e short_kvno rest in
-    (omega (arith, count, some), omega (arith, count, fits.1))
-
-pub zero_length : (e : KeytabEntry) (short_kvno : ℕ) (rest : List ℕ) → length (record_bytes (zero_hole (length (entry_bytes e short_kvno rest)))) ≡ length (record_bytes (entry e short_kvno rest))
-zero_length e short_kvno rest = omega (arith, length-replicate {A = ℕ} (length (entry_bytes e short_kvno rest)) 0)
-
 there_is : {bytes : List ℕ} {index : ℕ} {place : Extent} (h : HoldsIndex bytes index place) → IsMadeOf bytes (h.holds.before ++ entry h.holds.removed h.holds.short_kvno h.holds.rest ∷ h.holds.after) h.end
 there_is {bytes} h = subst (λ (r : List KeytabRecord). IsMadeOf bytes r h.end) h.holds.records_are h.is
 
@@ -87,7 +74,9 @@ makes_hole {old} {new} {index} {place} h puts =
     let one : KeytabRecord = entry k.removed k.short_kvno k.rest in
     let count : ℕ = length (entry_bytes k.removed k.short_kvno k.rest) in
     let size : place.to - place.from - 4 ≡ count = omega (arith, k.lies.to) in
-    let fits = fits_there k.before one k.after (there_is h) in
+    let fits : FitsRecord one = at_middle FitsRecord k.before one k.after (there_is h).fit in
+    let zeros = length-replicate {A = ℕ} count 0 in
+    let some = entry_size k.removed k.short_kvno k.rest in
     record {
       before = k.before;
       removed = k.removed;
@@ -97,7 +86,7 @@ makes_hole {old} {new} {index} {place} h puts =
       end = h.end;
       index_is = k.index_is;
       old_is = there_is h;
-      new_is = replaced k.before one (zero_hole count) k.after (there_is h) k.lies (zero_fits k.removed k.short_kvno k.rest fits) (zero_length k.removed k.short_kvno k.rest) (subst (λ (n : ℕ). Puts old place.from (record_bytes (zero_hole n)) new) size puts);
+      new_is = replaced k.before one (zero_hole count) k.after (there_is h) k.lies (omega (arith, zeros, some), omega (arith, zeros, fits.1)) (omega (arith, zeros)) (subst (λ (n : ℕ). Puts old place.from (record_bytes (zero_hole n)) new) size puts);
     }
 
 pub loses_entry : {old new : List ℕ} {index : ℕ} → MakesHole old index new → LosesEntry old index new

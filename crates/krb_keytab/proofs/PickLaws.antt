@@ -25,7 +25,7 @@ has_last : (P : KeytabEntry → Type 0) (entries : List KeytabEntry) (e : Keytab
 has_last P entries e p = record { before = entries; entry = e; after = []; entries_are = refl; holds = p }
 
 -- an entry that isn't better leaves what was chosen
-chosen_more : (entries : List KeytabEntry) (name : Principal) (etype : ℤ) (kvno : Option ℕ) (best e : KeytabEntry) → IsChosen entries name etype kvno best
+pub chosen_more : (entries : List KeytabEntry) (name : Principal) (etype : ℤ) (kvno : Option ℕ) (best e : KeytabEntry) → IsChosen entries name etype kvno best
     → (IsCandidate name etype kvno e → e.kvno ≤ best.kvno) → IsChosen (entries ++ e ∷ []) name etype kvno best
 chosen_more entries name etype kvno best e h lower = record {
   before = h.before;
@@ -84,9 +84,6 @@ key_without_version entries name etype kvno e (chosen best) key never h = chosen
 key_without_version entries name etype kvno e no_name key never h = (has_last (IsKeyOf name etype) entries e key, no_more (λ other. SameName other.principal name) (IsCandidate name etype kvno) entries e (λ other candidate. candidate.key_of.same_name) h never)
 key_without_version entries name etype kvno e no_key key never h = (has_last (IsKeyOf name etype) entries e key, no_more (IsKeyOf name etype) (IsCandidate name etype kvno) entries e (λ other candidate. candidate.key_of) h.1 never)
 key_without_version entries name etype kvno e no_version key never h = (has_more (IsKeyOf name etype) entries e h.0, All-push (λ other. ¬ IsCandidate name etype kvno other) entries e h.1 never)
-
-pub kept : (entries : List KeytabEntry) (name : Principal) (etype : ℤ) (kvno : Option ℕ) (e best : KeytabEntry) → e.kvno ≤ best.kvno → IsChosen entries name etype kvno best → IsChosen (entries ++ e ∷ []) name etype kvno best
-kept entries name etype kvno e best le h = chosen_more entries name etype kvno best e h (λ candidate. le)
 
 pub replaced : (entries : List KeytabEntry) (name : Principal) (etype : ℤ) (kvno : Option ℕ) (e : KeytabEntry) (choice : Choice) → IsCandidate name etype kvno e → IsBelow choice e → IsChoice entries name etype kvno choice → IsChosen (entries ++ e ∷ []) name etype kvno e
 replaced entries name etype kvno e (chosen best) candidate lt h = chosen_last entries name etype kvno e candidate (below_best entries name etype kvno best e h lt)

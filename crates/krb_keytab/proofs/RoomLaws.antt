@@ -34,10 +34,6 @@ pub record StandsFor (at : ℕ) (records : List KeytabRecord) (front : List Hole
   pub front_is : holes_of at before ≡ front
   pub back_is : holes_of (one.from + one.size) after ≡ back
 
-none_split : {X : Type 0} (front : List X) (one : X) (back : List X) → [] ≡ front ++ one ∷ back → ⊥
-none_split [] one back e = cc
-none_split (x ∷ front) one back e = cc
-
 behind : {at : ℕ} {records : List KeytabRecord} {front : List Hole} {one : Hole} {back : List Hole} (first : KeytabRecord) (holes : List Hole)
     → ((before : List KeytabRecord) → holes_of (at + length (record_bytes first)) before ≡ front → holes_of at (first ∷ before) ≡ holes)
     → StandsFor (at + length (record_bytes first)) records front one back → StandsFor at (first ∷ records) holes one back
@@ -53,7 +49,7 @@ behind {at} first holes joins s = record {
 }
 
 pub stands_for : (at : ℕ) (records : List KeytabRecord) (front : List Hole) (one : Hole) (back : List Hole) → holes_of at records ≡ front ++ one ∷ back → StandsFor at records front one back
-stands_for at [] front one back e = absurd (none_split front one back e)
+stands_for at [] front one back e = absurd (omega (arith, ap length e, length-append front (one ∷ back)))
 stands_for at (entry e short_kvno rest ∷ records) front one back is =
     behind (entry e short_kvno rest) front (λ before joined. joined) (stands_for (at + length (record_bytes (entry e short_kvno rest))) records front one back is)
 stands_for at (hole ignored ∷ records) [] one back is =

@@ -13,7 +13,7 @@ use Rattle.krb_name.specs.Name.{SameName}
 use Rattle.krb_keytab.specs.Entry.{KeytabEntry}
 use Rattle.krb_keytab.specs.Pick.{IsKeyOf, IsCandidate, IsChoice, Choice, chosen, no_name}
 use Rattle.krb_keytab.specs.Inner.Pick.{or_no_key, or_no_version}
-use Rattle.krb_keytab.proofs.PickLaws.{other_name, name_without_key, key_without_version, kept, replaced}
+use Rattle.krb_keytab.proofs.PickLaws.{other_name, name_without_key, key_without_version, chosen_more, replaced}
 
 -- ---- what is decided
 
@@ -51,7 +51,7 @@ unfoldable better : (entries : List KeytabEntry) (name : Principal) (etype : ℤ
 better entries name etype kvno e (chosen best) candidate h =
     elim (cases_lt best.kvno e.kvno) [
       | inl below ↦ (chosen e, replaced entries name etype kvno e (chosen best) candidate below h)
-      | inr least ↦ (chosen best, kept entries name etype kvno e best least h)
+      | inr least ↦ (chosen best, chosen_more entries name etype kvno best e h (λ _. least))
     ]
 better entries name etype kvno e choice candidate h = (chosen e, replaced entries name etype kvno e choice candidate tt h)
 
