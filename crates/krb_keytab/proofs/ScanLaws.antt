@@ -8,9 +8,8 @@ use Rattle.krb_name.specs.Window.{AtHand}
 use Rattle.krb_keytab.specs.Entry.{KeytabEntry}
 use Rattle.krb_name.specs.File.{file_limit}
 use Rattle.krb_keytab.specs.Format.{version, KeytabRecord, hole, entry, record_bytes, FitsRecord, entries_of, IsReached, IsFaultOf}
-use Rattle.krb_keytab.specs.Inner.Feed.{nothing_of}
 use Rattle.krb_keytab.specs.Inner.Finding.{LiesAt}
-use Rattle.krb_keytab.specs.Inner.Meeting.{Moves, IsWhole, MeetsLast, MeetsOne}
+use Rattle.krb_keytab.specs.Inner.Meeting.{nothing_of, Moves, IsWhole, MeetsLast, MeetsOne}
 use Rattle.krb_keytab.specs.declared.fault.KeytabFault.{KeytabFault}
 use Rattle.krb_keytab.specs.declared.fault.KeytabFault.TheVariants.{Read, OutOfMemory}
 use Rattle.krb_keytab.specs.declared.found.Found.{Found}

@@ -1,5 +1,4 @@
 pub mod Entry
-pub mod Feed
 pub mod Finding
 pub mod Index
 pub mod Meeting

@@ -178,6 +178,10 @@ MeetsNext from to old new answer = MeetsBehind (HasReached old.given) from to ol
 abbrev pub MeetsFirst : {S : Type 0} → Option (List ℕ) → Option (List ℕ) → AtHand S → AtHand S → Result (Option KeytabEntry) KeytabFault → Type 0
 MeetsFirst from to old new answer = MeetsBehind IsFirst from to old new answer
 
+-- nothing is kept of an entry
+abbrev pub nothing_of : KeytabEntry → Unit {0}
+nothing_of e = tt
+
 -- an answer with what is kept of an entry in place of it
 abbrev pub keeping : {E : Type 0} → (KeytabEntry → E) → Result (Option KeytabEntry) KeytabFault → Result (Option E) KeytabFault
 keeping of_entry (Ok (Some e)) = Ok (Some (of_entry e))
