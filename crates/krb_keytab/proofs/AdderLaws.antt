@@ -1,5 +1,5 @@
 -- What is known of a file after an entry was added.
-use Rattle.std.proofs.Common.{◌≡◌, ℕ, ◌+◌, ◌-◌, ◌<◌, ◌≤◌, ◌^◌, List, [], ◌∷◌, ◌++◌, length, Result, Ok, Err, sym, ap, subst, ◌∙◌, arith}
+use Rattle.std.proofs.Common.{◌≡◌, ℕ, ◌+◌, ◌-◌, ◌<◌, ◌≤◌, List, [], ◌∷◌, ◌++◌, length, Result, Ok, Err, sym, ap, subst, ◌∙◌, arith}
 use Rattle.std.specs.List.{flat_map}
 use Rattle.std.specs.Prelude.{All}
 use Rattle.std.proofs.lemmas.List.{length-append}
@@ -8,66 +8,49 @@ use Rattle.krb_keytab.specs.Entry.{KeytabEntry, FitsEntry}
 use Rattle.krb_keytab.specs.Format.{version, KeytabRecord, hole, record_bytes}
 use Rattle.krb_keytab.specs.Written.{padded_record, written_record, record_length}
 use Rattle.krb_keytab.specs.Edit.{Appends, IsMadeOf}
-use Rattle.krb_keytab.specs.Inner.Finding.{LiesAt, HasRoom, HasNone}
+use Rattle.krb_keytab.specs.Inner.Finding.{HasRoom, HasNone}
 use Rattle.krb_keytab.specs.Inner.Putting.{Puts}
 use Rattle.krb_keytab.specs.Inner.Room.{holes_of, KnowsRoom, IsTaken, PutsIn}
 use Rattle.krb_keytab.specs.declared.adder.Hole.{Hole}
 use Rattle.krb_keytab.specs.declared.fault.KeytabFault.{KeytabFault}
 use Rattle.krb_keytab.specs.declared.finding.Extent.{Extent}
 use Rattle.krb_keytab.specs.declared.finding.Room.TheVariants as room
-use Rattle.krb_keytab.proofs.EditLaws.{replaced, within}
-use Rattle.krb_keytab.proofs.MadeLaws.{padded_fits}
+use Rattle.krb_keytab.proofs.EditLaws.{within}
+use Rattle.krb_keytab.proofs.AddLaws.{fills_hole}
 use Rattle.krb_keytab.proofs.OneSplit.{same_records}
 use Rattle.krb_keytab.proofs.PutLaws.{Puts-length}
-use Rattle.krb_keytab.proofs.RoomLaws.{entry_more, holes_joined, none_fits, stands_for, StandsFor}
+use Rattle.krb_keytab.proofs.RoomLaws.{entry_more, holes_joined, none_fits, stands_for}
 use Rattle.krb_keytab.proofs.FileLaws.{flat_push}
-use Rattle.krb_keytab.proofs.WrittenLaws.{padded_length}
+use Rattle.krb_keytab.proofs.MadeLaws.{padded_length}
 
 abbrev pub place_of : Hole → Extent
 place_of one = record { from = one.from; to = one.from + one.size }
 
-stands : {bytes : List ℕ} {holes : List Hole} {at size : ℕ} {one : Hole} {others : List Hole} (k : KnowsRoom bytes holes at) (t : IsTaken holes size one others)
-    → StandsFor (length version) k.records t.before one t.after
-stands {bytes} {holes} {at} {size} {one} k t = stands_for (length version) k.records t.before one t.after (sym k.holes_are ∙ t.old_is)
-
-there_is : {bytes : List ℕ} {holes : List Hole} {at size : ℕ} {one : Hole} {others : List Hole} (k : KnowsRoom bytes holes at) (t : IsTaken holes size one others)
-    → IsMadeOf bytes ((stands k t).before ++ hole (stands k t).ignored ∷ (stands k t).after) k.end
-there_is {bytes} k t = subst (λ (r : List KeytabRecord). IsMadeOf bytes r k.end) (stands k t).records_are k.is
-
-there_lies : {bytes : List ℕ} {holes : List Hole} {at size : ℕ} {one : Hole} {others : List Hole} (k : KnowsRoom bytes holes at) (t : IsTaken holes size one others)
-    → LiesAt (stands k t).before (hole (stands k t).ignored) (place_of one)
-there_lies {bytes} {holes} {at} {size} {one} k t = record { from = (stands k t).from; to = ap (λ (n : ℕ). one.from + n) (stands k t).size }
-
-pub ends_within : {bytes : List ℕ} {holes : List Hole} {at size : ℕ} {one : Hole} {others : List Hole} → KnowsRoom bytes holes at → IsTaken holes size one others
-    → (one.from + one.size ≤ length bytes) × (length bytes ≤ file_limit)
-ends_within k t = (within (stands k t).before (hole (stands k t).ignored) (stands k t).after (there_is k t) (there_lies k t), k.is.limit)
-
 pub has_room : {bytes : List ℕ} {holes : List Hole} {at size : ℕ} {one : Hole} {others : List Hole} → KnowsRoom bytes holes at → IsTaken holes size one others → HasRoom bytes size (place_of one)
 has_room {bytes} {holes} {at} {size} {one} k t =
-    let s = stands k t in
+    let s = stands_for (length version) k.records t.before one t.after (sym k.holds.1 ∙ t.old_is) in
     record {
       records = k.records;
       end = k.end;
       is = k.is;
-      there = record {
+      holds = record {
         before = s.before;
         ignored = s.ignored;
         after = s.after;
         records_are = s.records_are;
-        lies = there_lies k t;
+        lies = record { from = s.from; to = ap (λ (n : ℕ). one.from + n) s.size };
         first = none_fits size (length version) s.before t.before s.front_is t.small;
         room = subst (λ (n : ℕ). size ≤ n) s.size t.room;
       };
     }
 
+pub ends_within : {bytes : List ℕ} {size : ℕ} {place : Extent} → HasRoom bytes size place → (place.to ≤ length bytes) × (length bytes ≤ file_limit)
+ends_within {bytes} h =
+    let k = h.holds in
+    (within k.before (hole k.ignored) k.after (subst (λ (r : List KeytabRecord). IsMadeOf bytes r h.end) k.records_are h.is) k.lies, h.is.limit)
+
 pub has_none : {bytes : List ℕ} {holes : List Hole} {at : ℕ} (size : ℕ) → KnowsRoom bytes holes at → All (λ (h : Hole). h.size < size) holes → HasNone bytes size at
-has_none {bytes} {holes} size k small = record {
-  records = k.records;
-  end = k.end;
-  is = k.is;
-  at_is = k.at_is;
-  no_room = none_fits size (length version) k.records holes (sym k.holes_are) small;
-}
+has_none {bytes} {holes} size k small = record { records = k.records; end = k.end; is = k.is; holds = (k.holds.0, none_fits size (length version) k.records holes (sym k.holds.1) small) }
 
 whole_length : {bytes : List ℕ} {records : List KeytabRecord} {end : List ℕ} → IsMadeOf bytes records end → length bytes ≡ length version + length (flat_map record_bytes records) + length end
 whole_length {bytes} {records} {end} is =
@@ -79,43 +62,41 @@ filled_always place e old new (Ok done) p = p
 filled_always place e old new (Err fault) p = absurd p
 
 -- a hole was filled
-pub knows_filled : {old new : List ℕ} {holes : List Hole} {at : ℕ} {one : Hole} {others : List Hole} (e : KeytabEntry) (size : ℕ) → size ≡ record_length e
-    → KnowsRoom old holes at → IsTaken holes size one others → FitsEntry e
+pub knows_filled : {old new : List ℕ} {holes : List Hole} {at : ℕ} {one : Hole} {others : List Hole} (e : KeytabEntry) → KnowsRoom old holes at → IsTaken holes (record_length e) one others → FitsEntry e
     → Puts old one.from (record_bytes (padded_record e (one.from + one.size - one.from - record_length e))) new → KnowsRoom new others at
-knows_filled {old} {new} {holes} {at} {one} {others} e size is k t fits puts =
-    let s = stands k t in
+unfolding has_room fills_hole
+knows_filled {old} {new} {holes} {at} {one} {others} e k t fits puts =
+    let s = stands_for (length version) k.records t.before one t.after (sym k.holds.1 ∙ t.old_is) in
+    let made = (fills_hole e (has_room k t) fits puts).new_is in
     let there : ℕ = length (record_bytes (hole s.ignored)) in
-    let zeros : ℕ = there - record_length e in
-    let long : length (record_bytes (padded_record e zeros)) ≡ there = omega (arith, padded_length e zeros, t.room, s.size, is) in
-    let records : List KeytabRecord = s.before ++ padded_record e zeros ∷ s.after in
-    let zeros_are : one.from + one.size - one.from - record_length e ≡ zeros = omega (arith, s.size) in
-    let small : length (record_bytes (padded_record e zeros)) < 2 ^ 31 = omega (arith, long, s.size, (ends_within k t).0, (ends_within k t).1) in
-    let made : IsMadeOf new records k.end =
-    replaced s.before (hole s.ignored) (padded_record e zeros) s.after (there_is k t) (there_lies k t) (padded_fits e zeros fits small) long
-    (subst (λ (n : ℕ). Puts old one.from (record_bytes (padded_record e n)) new) zeros_are puts) in
-    let place : length version + length (flat_map record_bytes s.before) + length (record_bytes (padded_record e zeros)) ≡ one.from + one.size = omega (arith, s.from, s.size, long) in
+    let one_more : KeytabRecord = padded_record e (there - record_length e) in
+    let long : length (record_bytes one_more) ≡ there = omega (arith, padded_length e (there - record_length e), t.room, s.size) in
+    let place : length version + length (flat_map record_bytes s.before) + length (record_bytes one_more) ≡ one.from + one.size = omega (arith, s.from, s.size, long) in
     record {
-      records = records;
+      records = s.before ++ one_more ∷ s.after;
       end = k.end;
       is = made;
-      at_is = omega (arith, k.at_is, whole_length k.is, whole_length made, Puts-length puts);
-      holes_are = t.new_is ∙ sym (
-          holes_joined (length version) s.before (padded_record e zeros ∷ s.after)
-          ∙ ap (λ (n : ℕ). holes_of (length version) s.before ++ holes_of n s.after) place
-          ∙ ap (λ (l : List Hole). l ++ holes_of (one.from + one.size) s.after) s.front_is
-          ∙ ap (λ (l : List Hole). t.before ++ l) s.back_is);
+      holds = (
+        omega (arith, k.holds.0, whole_length k.is, whole_length made, Puts-length puts),
+        t.new_is ∙ sym (
+            holes_joined (length version) s.before (one_more ∷ s.after)
+            ∙ ap (λ (n : ℕ). holes_of (length version) s.before ++ holes_of n s.after) place
+            ∙ ap (λ (l : List Hole). l ++ holes_of (one.from + one.size) s.after) s.front_is
+            ∙ ap (λ (l : List Hole). t.before ++ l) s.back_is),
+      );
     }
 
 -- a record was appended
-pub knows_appended : {old new : List ℕ} {holes others : List Hole} {at : ℕ} (e : KeytabEntry) (size : ℕ) → size ≡ record_length e → KnowsRoom old holes at
-    → others ≡ holes → Appends old e new → KnowsRoom new others (at + size)
-knows_appended {old} {new} {holes} {others} {at} e size is k same a =
+pub knows_appended : {old new : List ℕ} {holes others : List Hole} {at : ℕ} (e : KeytabEntry) → KnowsRoom old holes at → others ≡ holes → Appends old e new → KnowsRoom new others (at + record_length e)
+knows_appended {old} {new} {holes} {others} {at} e k same a =
     let made : IsMadeOf new (k.records ++ written_record e ∷ []) [] =
     subst (λ (r : List KeytabRecord). IsMadeOf new (r ++ written_record e ∷ []) []) (same_records a.old_is.is k.is) a.new_is in
     record {
       records = k.records ++ written_record e ∷ [];
       end = [];
       is = made;
-      at_is = omega (arith, k.at_is, is, ap length (flat_push record_bytes k.records (written_record e)), length-append (flat_map record_bytes k.records) (record_bytes (written_record e)));
-      holes_are = entry_more k.records e _ _ others (same ∙ k.holes_are);
+      holds = (
+        omega (arith, k.holds.0, ap length (flat_push record_bytes k.records (written_record e)), length-append (flat_map record_bytes k.records) (record_bytes (written_record e))),
+        entry_more k.records e _ _ others (same ∙ k.holds.1),
+      );
     }

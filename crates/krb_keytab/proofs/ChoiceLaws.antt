@@ -6,24 +6,12 @@ use Rattle.std.proofs.lemmas.List.Elements.{recursion_from_All, All-same}
 use Rattle.krb_name.specs.declared.principal.Principal.{Principal}
 use Rattle.krb_name.specs.Name.{SameName}
 use Rattle.krb_keytab.specs.Entry.{KeytabEntry}
+use Rattle.krb_keytab.proofs.FileLaws.{at_middle}
 use Rattle.krb_keytab.specs.Pick.{IsKeyOf, IsCandidate, HasEntry, IsChosen, IsChoice, Choice, chosen, no_name, no_key, no_version}
-
-at_middle : (P : KeytabEntry → Type 0) (before : List KeytabEntry) (e : KeytabEntry) (after : List KeytabEntry) → AllByRecursion P (before ++ e ∷ after) → P e
-at_middle P [] e after h = h.0
-at_middle P (x ∷ before) e after h = at_middle P before e after h.1
 
 has_none : (P : KeytabEntry → Type 0) (entries : List KeytabEntry) → HasEntry P entries → All (λ e. ¬ P e) entries → ⊥
 has_none P entries has none =
-    at_middle (λ e. ¬ P e) has.before has.entry has.after (recursion_from_All (λ e. ¬ P e) (has.before ++ has.entry ∷ has.after) (All-same (λ e. ¬ P e) (has.before ++ has.entry ∷ has.after) entries (sym has.entries_are) none)) has.holds
-
-abbrev entries_are : List KeytabEntry → List KeytabEntry
-entries_are xs = xs
-
-heads : (x y : KeytabEntry) (xs ys : List KeytabEntry) → entries_are (x ∷ xs) ≡ entries_are (y ∷ ys) → x ≡ y
-heads x y xs ys e = cc
-
-tails : (x y : KeytabEntry) (xs ys : List KeytabEntry) → entries_are (x ∷ xs) ≡ entries_are (y ∷ ys) → xs ≡ ys
-tails x y xs ys e = cc
+    at_middle (λ e. ¬ P e) has.before has.entry has.after (All-same (λ e. ¬ P e) (has.before ++ has.entry ∷ has.after) entries (sym has.entries_are) none) has.holds
 
 abbrev Below : (KeytabEntry → Type 0) → KeytabEntry → KeytabEntry → Type 0
 Below C e other = C other → other.kvno < e.kvno
@@ -31,29 +19,28 @@ Below C e other = C other → other.kvno < e.kvno
 abbrev AtMost : (KeytabEntry → Type 0) → KeytabEntry → KeytabEntry → Type 0
 AtMost C e other = C other → other.kvno ≤ e.kvno
 
-apart : (a b : ℕ) → a < b → b ≤ a → ⊥
-apart a b p q = omega arith
-
-same_place : (C : KeytabEntry → Type 0) (before others : List KeytabEntry) (e f : KeytabEntry) (after rest : List KeytabEntry) → C e → C f → AllByRecursion (Below C e) before → AllByRecursion (AtMost C e) after
-    → AllByRecursion (Below C f) others → AllByRecursion (AtMost C f) rest → before ++ e ∷ after ≡ others ++ f ∷ rest → e ≡ f
-same_place C [] [] e f after rest ce cf be ae bf af same = heads e f after rest same
+same_place : (C : KeytabEntry → Type 0) (before others : List KeytabEntry) (e f : KeytabEntry) (after rest : List KeytabEntry) → C e → C f → AllByRecursion (Below C e) before → All (AtMost C e) after
+    → AllByRecursion (Below C f) others → All (AtMost C f) rest → before ++ e ∷ after ≡ others ++ f ∷ rest → e ≡ f
+same_place C [] [] e f after rest ce cf be ae bf af same = cc
 same_place C [] (y ∷ others) e f after rest ce cf be ae bf af same =
-    let first : e ≡ y = heads e y after (others ++ f ∷ rest) same in
+    let first : e ≡ y = cc in
+    let behind : after ≡ others ++ f ∷ rest = cc in
     let less : e.kvno < f.kvno = (subst (Below C f) (sym first) bf.0) ce in
-    let more : f.kvno ≤ e.kvno = at_middle (AtMost C e) others f rest (subst (AllByRecursion (AtMost C e)) (tails e y after (others ++ f ∷ rest) same) ae) cf in
-    absurd (apart e.kvno f.kvno less more)
+    let more : f.kvno ≤ e.kvno = at_middle (AtMost C e) others f rest (subst (All (AtMost C e)) behind ae) cf in
+    absurd (omega arith)
 same_place C (x ∷ before) [] e f after rest ce cf be ae bf af same =
-    let first : f ≡ x = heads f x rest (before ++ e ∷ after) (sym same) in
+    let first : f ≡ x = cc in
+    let behind : rest ≡ before ++ e ∷ after = cc in
     let less : f.kvno < e.kvno = (subst (Below C e) (sym first) be.0) cf in
-    let more : e.kvno ≤ f.kvno = at_middle (AtMost C f) before e after (subst (AllByRecursion (AtMost C f)) (tails f x rest (before ++ e ∷ after) (sym same)) af) ce in
-    absurd (apart f.kvno e.kvno less more)
-same_place C (x ∷ before) (y ∷ others) e f after rest ce cf be ae bf af same = same_place C before others e f after rest ce cf be.1 ae bf.1 af (tails x y (before ++ e ∷ after) (others ++ f ∷ rest) same)
+    let more : e.kvno ≤ f.kvno = at_middle (AtMost C f) before e after (subst (All (AtMost C f)) behind af) ce in
+    absurd (omega arith)
+same_place C (x ∷ before) (y ∷ others) e f after rest ce cf be ae bf af same = same_place C before others e f after rest ce cf be.1 ae bf.1 af cc
 
 same_chosen : (entries : List KeytabEntry) (name : Principal) (etype : ℤ) (kvno : Option ℕ) (e f : KeytabEntry) → IsChosen entries name etype kvno e → IsChosen entries name etype kvno f → e ≡ f
 same_chosen entries name etype kvno e f p q =
     let C : KeytabEntry → Type 0 = IsCandidate name etype kvno in
-    same_place C p.before q.before e f p.after q.after p.candidate q.candidate (recursion_from_All (Below C e) p.before p.above) (recursion_from_All (AtMost C e) p.after p.highest)
-    (recursion_from_All (Below C f) q.before q.above) (recursion_from_All (AtMost C f) q.after q.highest) (sym p.entries_are ∙ q.entries_are)
+    same_place C p.before q.before e f p.after q.after p.candidate q.candidate (recursion_from_All (Below C e) p.before p.above) p.highest
+    (recursion_from_All (Below C f) q.before q.above) q.highest (sym p.entries_are ∙ q.entries_are)
 
 chosen_there : (entries : List KeytabEntry) (name : Principal) (etype : ℤ) (kvno : Option ℕ) (e : KeytabEntry) → IsChosen entries name etype kvno e → HasEntry (IsCandidate name etype kvno) entries
 chosen_there entries name etype kvno e p = record { before = p.before; entry = e; after = p.after; entries_are = p.entries_are; holds = p.candidate }

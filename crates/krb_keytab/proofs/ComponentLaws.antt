@@ -7,7 +7,7 @@ use Rattle.std.proofs.lemmas.List.Concat.{flat_map-cons}
 use Rattle.krb_name.specs.Cursor.{Place, ◌>>=◌, data_at, data_bytes}
 use Rattle.krb_name.specs.Field.{IsBytes, Takes, IsField}
 use Rattle.krb_name.proofs.CursorLaws.{bind_some, some_is, Takes-then, IsField-data16}
-use Rattle.krb_keytab.specs.Inner.Components.{components_at, first_components, HasComponents, IsBehind}
+use Rattle.krb_keytab.specs.Inner.Entry.{components_at, first_components, HasComponents, IsBehind}
 
 -- ---- as a loop does it
 
@@ -18,16 +18,6 @@ with_front front read = read >>= λ x. Some (front ++ x.0, x.1)
 regroup : (front : List (List ℕ)) (x : List ℕ) (read : Option (List (List ℕ) × Place)) → with_front front (read >>= λ others. Some (x ∷ others.0, others.1)) ≡ with_front (front ++ x ∷ []) read
 regroup front x None = refl
 regroup front x (Some read) = ap (λ (all : List (List ℕ)). Some (all, read.1)) (simp append_assoc)
-
-nothing_read : (read : Option (List (List ℕ) × Place)) → with_front [] read ≡ read
-nothing_read None = refl
-nothing_read (Some read) = refl
-
-pub starts : (count : ℕ) (place : Place) → with_front [] (components_at (count - 0) place) ≡ components_at count place
-starts count place = let k : count - 0 ≡ count = omega arith in rw k (nothing_read (components_at count place))
-
-pub none_is_not_some : {X : Type 0} (read : Option X) (x : X) → read ≡ None → read ≡ Some x → ⊥
-none_is_not_some read x p q = cc
 
 pub first_is : (count : ℕ) (bytes : List ℕ) (x : List (List ℕ)) (behind : Place) → components_at count (record { at = 0; rest = bytes }) ≡ Some (x, behind) → x ≡ first_components count bytes
 first_is count bytes x behind e = rw e refl

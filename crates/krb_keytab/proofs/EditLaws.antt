@@ -1,5 +1,6 @@
 -- What a file is once one of its records was replaced, or a record was put in place of its end.
-use Rattle.std.proofs.Common.{◌≡◌, ℕ, ◌+◌, ◌-◌, ◌≤◌, List, [], ◌∷◌, ◌++◌, length, take, drop, Option, Some, None, Result, Ok, Err, sym, ap, subst, ◌∙◌, append_assoc, arith}
+use Rattle.std.proofs.Common.{◌≡◌, ℕ, ◌+◌, ◌-◌, ◌≤◌, List, [], ◌∷◌, ◌++◌, length, take, drop, Option, Some, None, Result, Ok, Err, refl, sym, ap, subst, ◌∙◌, append_assoc, arith}
+use Rattle.std.specs.Prelude.{◌≢◌, ◌↔◌, MatchResult}
 use Rattle.std.specs.List.{flat_map, AllByRecursion}
 use Rattle.std.proofs.lemmas.List.{length-append, length-replicate, take_at, drop_at}
 use Rattle.std.proofs.lemmas.List.Concat.{flat_map-append}
@@ -12,8 +13,8 @@ use Rattle.krb_keytab.specs.Inner.Putting.{Puts}
 use Rattle.krb_keytab.specs.declared.fault.KeytabFault.{KeytabFault}
 use Rattle.krb_keytab.specs.declared.fault.KeytabFault.TheVariants.{NoSuchEntry}
 use Rattle.krb_keytab.specs.declared.finding.Extent.{Extent}
-use Rattle.krb_keytab.proofs.RecordLaws.{entry_size}
-use Rattle.krb_keytab.proofs.OneEnd.{same_answers}
+use Rattle.krb_keytab.proofs.FileLaws.{entry_size, at_middle}
+use Rattle.krb_keytab.proofs.OneAnswer.{same_answers}
 use Rattle.krb_keytab.proofs.PutLaws.{Puts-length}
 use Rattle.krb_keytab.proofs.MadeLaws.{made_keytab}
 
@@ -32,16 +33,9 @@ parts before one after end =
     ∙ ap (λ (t : List ℕ). version ++ t) (append_assoc front (record_bytes one ++ back) end ∙ ap (λ (t : List ℕ). front ++ t) (append_assoc (record_bytes one) back end))
     ∙ sym (append_assoc version front (record_bytes one ++ (back ++ end)))
 
-pub at_one : (P : KeytabRecord → Type 0) (before : List KeytabRecord) (one : KeytabRecord) (after : List KeytabRecord) → AllByRecursion P (before ++ one ∷ after) → P one
-at_one P [] one after h = h.0
-at_one P (x ∷ before) one after h = at_one P before one after h.1
-
 with_other : (P : KeytabRecord → Type 0) (before : List KeytabRecord) (one other : KeytabRecord) (after : List KeytabRecord) → AllByRecursion P (before ++ one ∷ after) → P other → AllByRecursion P (before ++ other ∷ after)
 with_other P [] one other after h q = (q, h.1)
 with_other P (x ∷ before) one other after h q = (h.0, with_other P before one other after h.1 q)
-
-pub fits_there : {bytes : List ℕ} (before : List KeytabRecord) (one : KeytabRecord) (after : List KeytabRecord) {end : List ℕ} → IsMadeOf bytes (before ++ one ∷ after) end → FitsRecord one
-fits_there before one after m = at_one FitsRecord before one after (recursion_from_All FitsRecord (before ++ one ∷ after) m.fit)
 
 -- where a record lies, it lies within the file
 pub within : {bytes : List ℕ} (before : List KeytabRecord) (one : KeytabRecord) (after : List KeytabRecord) {end : List ℕ} {place : Extent} → IsMadeOf bytes (before ++ one ∷ after) end → LiesAt before one place → place.to ≤ length bytes
@@ -71,26 +65,18 @@ replaced {bytes} {new} before one other after {end} {place} m lies fits size put
 
 -- ---- an entry is removed
 
--- a hole as long as an entry's record
-pub zero_fits : (e : KeytabEntry) (short_kvno : ℕ) (rest : List ℕ) → FitsRecord (entry e short_kvno rest) → FitsRecord (zero_hole (length (entry_bytes e short_kvno rest)))
-zero_fits e short_kvno rest fits =
-    let count = length-replicate {A = ℕ} (length (entry_bytes e short_kvno rest)) 0 in
-    let some = entry_size e short_kvno rest in
-    (omega (arith, count, some), omega (arith, count, fits.1))
-
-pub zero_length : (e : KeytabEntry) (short_kvno : ℕ) (rest : List ℕ) → length (record_bytes (zero_hole (length (entry_bytes e short_kvno rest)))) ≡ length (record_bytes (entry e short_kvno rest))
-zero_length e short_kvno rest = omega (arith, length-replicate {A = ℕ} (length (entry_bytes e short_kvno rest)) 0)
-
-there_is : {bytes : List ℕ} {index : ℕ} {place : Extent} (h : HoldsIndex bytes index place) → IsMadeOf bytes (h.there.before ++ entry h.there.removed h.there.short_kvno h.there.rest ∷ h.there.after) h.end
-there_is {bytes} h = subst (λ (r : List KeytabRecord). IsMadeOf bytes r h.end) h.there.records_are h.is
+there_is : {bytes : List ℕ} {index : ℕ} {place : Extent} (h : HoldsIndex bytes index place) → IsMadeOf bytes (h.holds.before ++ entry h.holds.removed h.holds.short_kvno h.holds.rest ∷ h.holds.after) h.end
+there_is {bytes} h = subst (λ (r : List KeytabRecord). IsMadeOf bytes r h.end) h.holds.records_are h.is
 
 pub makes_hole : {old new : List ℕ} {index : ℕ} {place : Extent} (h : HoldsIndex old index place) → Puts old place.from (record_bytes (zero_hole (place.to - place.from - 4))) new → MakesHole old index new
 makes_hole {old} {new} {index} {place} h puts =
-    let k = h.there in
+    let k = h.holds in
     let one : KeytabRecord = entry k.removed k.short_kvno k.rest in
     let count : ℕ = length (entry_bytes k.removed k.short_kvno k.rest) in
     let size : place.to - place.from - 4 ≡ count = omega (arith, k.lies.to) in
-    let fits = fits_there k.before one k.after (there_is h) in
+    let fits : FitsRecord one = at_middle FitsRecord k.before one k.after (there_is h).fit in
+    let zeros = length-replicate {A = ℕ} count 0 in
+    let some = entry_size k.removed k.short_kvno k.rest in
     record {
       before = k.before;
       removed = k.removed;
@@ -100,7 +86,7 @@ makes_hole {old} {new} {index} {place} h puts =
       end = h.end;
       index_is = k.index_is;
       old_is = there_is h;
-      new_is = replaced k.before one (zero_hole count) k.after (there_is h) k.lies (zero_fits k.removed k.short_kvno k.rest fits) (zero_length k.removed k.short_kvno k.rest) (subst (λ (n : ℕ). Puts old place.from (record_bytes (zero_hole n)) new) size puts);
+      new_is = replaced k.before one (zero_hole count) k.after (there_is h) k.lies (omega (arith, zeros, some), omega (arith, zeros, fits.1)) (omega (arith, zeros)) (subst (λ (n : ℕ). Puts old place.from (record_bytes (zero_hole n)) new) size puts);
     }
 
 pub loses_entry : {old new : List ℕ} {index : ℕ} → MakesHole old index new → LosesEntry old index new
@@ -115,62 +101,44 @@ loses_entry {old} {new} {index} h = record {
 
 -- ---- one answer alone
 
-abbrev answer_of : Result (List KeytabEntry) KeytabFault → Result (List KeytabEntry) KeytabFault
-answer_of answer = answer
-
-list_is : (xs ys : List KeytabEntry) → answer_of (Ok xs) ≡ answer_of (Ok ys) → xs ≡ ys
-list_is xs ys e = cc
-
-not_both : (xs : List KeytabEntry) (fault : KeytabFault) → answer_of (Ok xs) ≡ answer_of (Err fault) → ⊥
-not_both xs fault e = cc
-
-fault_is : (f g : KeytabFault) → answer_of (Err f) ≡ answer_of (Err g) → f ≡ g
-fault_is f g e = cc
-
 pub no_fault : (bytes : List ℕ) (entries : List KeytabEntry) (fault : KeytabFault) → IsKeytab bytes entries → IsFaultOf bytes fault → ⊥
-no_fault bytes entries fault k f = not_both entries fault (same_answers bytes (Ok entries) (Err fault) k f)
+no_fault bytes entries fault k f = let both = same_answers bytes (Ok entries) (Err fault) k f in cc
 
 pub same_fault : (bytes : List ℕ) (f g : KeytabFault) → IsFaultOf bytes f → IsFaultOf bytes g → f ≡ g
-same_fault bytes f g p q = fault_is f g (same_answers bytes (Err f) (Err g) p q)
+same_fault bytes f g p q = let both = same_answers bytes (Err f) (Err g) p q in cc
+
+listed : (bytes : List ℕ) (index : ℕ) (place : Option Extent) → IsFoundEntry bytes index place → (entries : List KeytabEntry) × IsKeytab bytes entries
+listed bytes index None l = (l.entries, l.list)
+listed bytes index (Some place) h = (flat_map entries_of h.records, made_keytab h.is)
 
 -- a file that was searched to its end has no fault
 pub searched : (bytes : List ℕ) (index : ℕ) (place : Option Extent) (fault : KeytabFault) → IsFoundEntry bytes index place → IsFaultOf bytes fault → ⊥
-searched bytes index None fault l f = no_fault bytes l.entries fault l.list f
-searched bytes index (Some place) fault h f = no_fault bytes (flat_map entries_of h.records) fault (made_keytab h.is) f
+searched bytes index place fault found f = let all = listed bytes index place found in no_fault bytes all.0 fault all.1 f
 
 -- an entry of this index is there, or it isn't
-pub not_lacking : (bytes : List ℕ) (index : ℕ) (place : Extent) → HoldsIndex bytes index place → LacksEntry bytes index → ⊥
+not_lacking : (bytes : List ℕ) (index : ℕ) (place : Extent) → HoldsIndex bytes index place → LacksEntry bytes index → ⊥
 not_lacking bytes index place h l =
-    let k = h.there in
-    let listed : List KeytabEntry = flat_map entries_of h.records in
-    let same = list_is l.entries listed (same_answers bytes (Ok l.entries) (Ok listed) l.list (made_keytab h.is)) in
+    let k = h.holds in
+    let all : List KeytabEntry = flat_map entries_of h.records in
+    let both = same_answers bytes (Ok l.entries) (Ok all) l.list (made_keytab h.is) in
+    let same : l.entries ≡ all = cc in
     let parts = ap (flat_map entries_of) k.records_are ∙ flat_split entries_of k.before (entry k.removed k.short_kvno k.rest) k.after in
     omega (arith, ap length same, ap length parts, length-append (flat_map entries_of k.before) (k.removed ∷ flat_map entries_of k.after), k.index_is, l.few)
 
 -- ---- what removing answers
 
-abbrev pub done_of : Result (Unit {0}) KeytabFault → Result (Unit {0}) KeytabFault
-done_of answer = answer
+abbrev pub removal_of : Result (Option Extent) KeytabFault → Result (Unit {0}) KeytabFault
+removal_of (Ok (Some place)) = Ok tt
+removal_of (Ok None) = Err NoSuchEntry
+removal_of (Err fault) = Err fault
 
-pub refused_is : (f g : KeytabFault) → done_of (Err f) ≡ done_of (Err g) → f ≡ g
-refused_is f g e = cc
+module _ (bytes : List ℕ) (index : ℕ) where
+  pub removal_missing : (found : Result (Option Extent) KeytabFault) → MatchResult found (IsFoundEntry bytes index) (IsFaultOf bytes) → removal_of found ≡ Err NoSuchEntry ↔ LacksEntry bytes index
+  removal_missing (Ok None) l = (λ e. l, λ k. refl)
+  removal_missing (Ok (Some place)) h = (λ e. absurd cc, λ l. absurd (not_lacking bytes index place h l))
+  removal_missing (Err fault) f = (λ e. let same : fault ≡ NoSuchEntry = cc in absurd (subst (IsFaultOf bytes) same f), λ l. absurd (no_fault bytes l.entries fault l.list f))
 
-pub not_done : (fault : KeytabFault) → done_of (Ok tt) ≡ done_of (Err fault) → ⊥
-not_done fault e = cc
-
-pub removal_fault : (bytes : List ℕ) (index : ℕ) (fault : KeytabFault) → IsFaultOf bytes fault
-    → (done_of (Err fault) ≡ Err NoSuchEntry → LacksEntry bytes index) × (LacksEntry bytes index → done_of (Err fault) ≡ Err NoSuchEntry)
-removal_fault bytes index fault f = (λ e. absurd (subst (IsFaultOf bytes) (refused_is fault NoSuchEntry e) f), λ l. absurd (no_fault bytes l.entries fault l.list f))
-
-pub removal_faults : (bytes : List ℕ) (fault other : KeytabFault) → IsFaultOf bytes fault → (done_of (Err fault) ≡ Err other → IsFaultOf bytes other) × (IsFaultOf bytes other → done_of (Err fault) ≡ Err other)
-removal_faults bytes fault other f = (λ e. subst (IsFaultOf bytes) (refused_is fault other e) f, λ g. ap (λ x. done_of (Err x)) (same_fault bytes fault other f g))
-
-pub lacking_faults : (bytes : List ℕ) (index : ℕ) (other : KeytabFault) → LacksEntry bytes index → (other ≡ NoSuchEntry → ⊥)
-    → (done_of (Err NoSuchEntry) ≡ Err other → IsFaultOf bytes other) × (IsFaultOf bytes other → done_of (Err NoSuchEntry) ≡ Err other)
-lacking_faults bytes index other l differs = (λ e. absurd (differs (sym (refused_is NoSuchEntry other e))), λ f. absurd (searched bytes index None other l f))
-
-pub removed_faults : (bytes : List ℕ) (index : ℕ) (place : Extent) (other : KeytabFault) → HoldsIndex bytes index place → (done_of (Ok tt) ≡ Err other → IsFaultOf bytes other) × (IsFaultOf bytes other → done_of (Ok tt) ≡ Err other)
-removed_faults bytes index place other h = (
-  λ e. absurd (not_done other e),
-  λ f. absurd (searched bytes index (Some place) other h f),
-)
+  pub removal_faults : (found : Result (Option Extent) KeytabFault) → MatchResult found (IsFoundEntry bytes index) (IsFaultOf bytes) → (other : KeytabFault) → other ≢ NoSuchEntry → removal_of found ≡ Err other ↔ IsFaultOf bytes other
+  removal_faults (Ok None) l other differs = (λ e. absurd (differs cc), λ f. absurd (searched bytes index None other l f))
+  removal_faults (Ok (Some place)) h other differs = (λ e. absurd cc, λ f. absurd (searched bytes index (Some place) other h f))
+  removal_faults (Err fault) g other differs = (λ e. let same : fault ≡ other = cc in subst (IsFaultOf bytes) same g, λ f. ap (λ x. removal_of (Err x)) (same_fault bytes fault other g f))

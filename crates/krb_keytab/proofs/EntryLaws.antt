@@ -9,8 +9,7 @@ use Rattle.krb_name.specs.Field.{IsBytes, IsField}
 use Rattle.krb_name.proofs.CursorLaws.{bind_some, some_is, IsBytes-take, IsField-u8, IsField-u16, IsField-u32, IsField-i16, IsField-i32, IsField-data16}
 use Rattle.krb_keytab.specs.Entry.{KeytabEntry}
 use Rattle.krb_keytab.specs.Format.{entry_bytes, full_kvno, IsEntry}
-use Rattle.krb_keytab.specs.Inner.Components.{components_at}
-use Rattle.krb_keytab.specs.Inner.Entry.{entry_at}
+use Rattle.krb_keytab.specs.Inner.Entry.{components_at, entry_at}
 use Rattle.krb_keytab.proofs.ComponentLaws.{Short16, AreComponents, IsField-components}
 
 -- a field was read, and then others: what follows of it follows
@@ -21,11 +20,6 @@ field_then read spelled InRange field place others y Claim fits e claimed =
     let b = bind_some (read place) others y e in
     let t = field.takes place b.0.0 b.0.1 fits b.1 in
     claimed b.0.0 b.0.1 t.0.parts t.1 t.0.rest_fits b.2
-
-entry_parts : (body r1 r2 r3 r4 r5 r6 r7 : List ℕ) (e : KeytabEntry) (short_kvno : ℕ) (rest : List ℕ) → body ≡ number_bytes w16 (length e.principal.components) ++ r1 → r1 ≡ data_bytes w16 e.principal.realm ++ r2
-    → r2 ≡ flat_map (data_bytes w16) e.principal.components ++ r3 → r3 ≡ signed_bytes w32 e.principal.name_type ++ r4 → r4 ≡ number_bytes w32 e.timestamp ++ r5 → r5 ≡ number_bytes w8 short_kvno ++ r6
-    → r6 ≡ signed_bytes w16 e.etype ++ r7 → r7 ≡ data_bytes w16 e.key ++ rest → body ≡ entry_bytes e short_kvno rest
-entry_parts body r1 r2 r3 r4 r5 r6 r7 e short_kvno rest p1 p2 p3 p4 p5 p6 p7 p8 = rw (p1, p2, p3, p4, p5, p6, p7, p8) refl
 
 pub record HoldsEntry (body : List ℕ) (e : KeytabEntry) : Type 0 where
   pub short_kvno : ℕ
@@ -67,7 +61,7 @@ take_entry body e fits read =
     subst (HoldsEntry body) (some_is made e e8) (record {
       short_kvno = short_kvno;
       rest = b8.rest;
-      body_is = entry_parts body b1.rest b2.rest b3.rest b4.rest b5.rest b6.rest b7.rest made short_kvno b8.rest counted p2 p3 p4 p5 p6 p7 p8;
+      body_is = rw (counted, p2, p3, p4, p5, p6, p7, p8) refl;
       is_entry = record {
         fits = record {
           lengths = record { count = subst (λ (n : ℕ). n < 2 ^ 16) (sym q3.0) q1; realm = q2; components = All-from_recursion Short16 components q3.1; key_length = q8 };
@@ -81,32 +75,23 @@ take_entry body e fits read =
       };
     })))))))))
 
+-- a field is read where it is spelled, and then the others are
+field_again : {X B : Type 0} {read : Place → Option (X × Place)} {spelled : X → List ℕ} {InRange : X → Type 0} → IsField read spelled InRange → (at : ℕ) (x : X) (rest : List ℕ) (others : X × Place → Option B) → InRange x
+    → (read (record { at = at; rest = spelled x ++ rest }) >>= others) ≡ others (x, record { at = at + length (spelled x); rest = rest })
+field_again field at x rest others fits = rw (field.again at x rest fits) refl
+
 pub again_entry : (e : KeytabEntry) (short_kvno : ℕ) (rest : List ℕ) → IsEntry e short_kvno rest → entry_at (entry_bytes e short_kvno rest) ≡ Some e
 unfolding entry_at
 again_entry e short_kvno rest h =
     let fits = h.fits in
     let name = e.principal in
     let components = recursion_from_All Short16 name.components fits.lengths.components in
-    let r8 : List ℕ = data_bytes w16 e.key ++ rest in
-    let r7 : List ℕ = signed_bytes w16 e.etype ++ r8 in
-    let r6 : List ℕ = number_bytes w8 short_kvno ++ r7 in
-    let r5 : List ℕ = number_bytes w32 e.timestamp ++ r6 in
-    let r4 : List ℕ = signed_bytes w32 name.name_type ++ r5 in
-    let r3 : List ℕ = flat_map (data_bytes w16) name.components ++ r4 in
-    let r2 : List ℕ = data_bytes w16 name.realm ++ r3 in
-    let a2 : ℕ = 0 + length (number_bytes w16 (length name.components)) in
-    let b1 : ℕ = 0 + length (flat_map (data_bytes w16) name.components) in
-    let b2 : ℕ = b1 + length (signed_bytes w32 name.name_type) in
-    let b3 : ℕ = b2 + length (number_bytes w32 e.timestamp) in
-    let b4 : ℕ = b3 + length (number_bytes w8 short_kvno) in
-    let b5 : ℕ = b4 + length (signed_bytes w16 e.etype) in
-    rw (
-      IsField-u16.again 0 (length name.components) r2 fits.lengths.count,
-      IsField-data16.again a2 name.realm r3 fits.lengths.realm,
-      (IsField-components (length name.components)).again 0 name.components r4 (refl, components),
-      IsField-i32.again b1 name.name_type r5 fits.name_type,
-      IsField-u32.again b2 e.timestamp r6 fits.timestamp,
-      IsField-u8.again b3 short_kvno r7 h.short_fits,
-      IsField-i16.again b4 e.etype r8 fits.etype,
-      IsField-data16.again b5 e.key rest fits.lengths.key_length,
-    ) (ap (λ (kvno : ℕ). Some (record e { kvno = kvno })) (sym h.kvno))
+    field_again IsField-u16 0 (length name.components) _ _ fits.lengths.count
+    ∙ field_again IsField-data16 _ name.realm _ _ fits.lengths.realm
+    ∙ field_again (IsField-components (length name.components)) _ name.components _ _ (refl, components)
+    ∙ field_again IsField-i32 _ name.name_type _ _ fits.name_type
+    ∙ field_again IsField-u32 _ e.timestamp _ _ fits.timestamp
+    ∙ field_again IsField-u8 _ short_kvno _ _ h.short_fits
+    ∙ field_again IsField-i16 _ e.etype _ _ fits.etype
+    ∙ field_again IsField-data16 _ e.key rest _ fits.lengths.key_length
+    ∙ ap (λ (kvno : ℕ). Some (record e { kvno = kvno })) (sym h.kvno)

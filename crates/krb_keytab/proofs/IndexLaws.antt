@@ -12,8 +12,7 @@ use Rattle.krb_name.specs.declared.principal.Principal.{Principal}
 use Rattle.krb_name.specs.Name.{SameName}
 use Rattle.krb_keytab.specs.Entry.{KeytabEntry}
 use Rattle.krb_keytab.specs.Pick.{IsChoice, Choice, choice_of, IsPicked}
-use Rattle.krb_keytab.specs.Inner.Hash.{hash_of}
-use Rattle.krb_keytab.specs.Inner.Index.{bucket_of, buckets_of, LeadsTo, IsLinkedFrom}
+use Rattle.krb_keytab.specs.Inner.Index.{hash_of, bucket_of, buckets_of, LeadsTo, IsLinkedFrom}
 use Rattle.krb_keytab.specs.declared.pick.Picked.{Picked}
 use Rattle.krb_keytab.specs.declared.pick.Picked.TheVariants.{NoName}
 use Rattle.krb_keytab.proofs.PickLaws.{other_name}

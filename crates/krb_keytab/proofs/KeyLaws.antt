@@ -1,8 +1,8 @@
 -- Looking for a key by the index.
-use Rattle.std.proofs.Common.{◌≡◌, ℕ, ◌+◌, ◌<◌, ◌%◌, List, [], ◌∷◌, zero, suc, refl, length, get_or, sym, ap, ◌∙◌, inl, inr, subst, arith}
+use Rattle.std.proofs.Common.{◌≡◌, ℕ, ◌+◌, ◌<◌, ◌%◌, List, length, get_or, sym, ap, ◌∙◌, inl, inr, subst, arith}
 use Rattle.std.specs.Prelude.{◌↔◌, Bool, true, false, IsTrue}
 use Rattle.std.proofs.lemmas.Bool.{cases_lt}
-use Rattle.std.proofs.lemmas.List.{length-map}
+use Rattle.std.proofs.lemmas.List.{length-map, get_or_default}
 use Rattle.krb_keytab.specs.Entry.{KeytabEntry}
 use Rattle.krb_keytab.specs.SameKey.{IsSameKey}
 use Rattle.krb_keytab.specs.Inner.Index.{bucket_of, buckets_of, LeadsTo}
@@ -22,11 +22,6 @@ other_keys entries entry count from to leads others = λ k d below within same.
           (bucket_at count entries k d within ∙ ap (λ n. n % count) (same_hash _ entry.principal same.name))
     ]
 
-same_there : (entries : List KeytabEntry) (at : ℕ) (one other : KeytabEntry) → at < length entries → get_or entries at one ≡ get_or entries at other
-same_there [] at one other within = absurd (omega arith)
-same_there (first ∷ entries) zero one other within = refl
-same_there (first ∷ entries) (suc at) one other within = same_there entries at one other (omega arith)
-
 pub one_other : (entries : List KeytabEntry) (entry one : KeytabEntry) (at : ℕ) → at < length entries → one ≡ get_or entries at one → (¬ IsSameKey one entry)
     → OtherKeys entries entry at → OtherKeys entries entry (at + 1)
 one_other entries entry one at within is other others = λ k d below inside same.
@@ -34,7 +29,7 @@ one_other entries entry one at within is other others = λ k d below inside same
       | inl before ↦ others k d before inside same
       | inr behind ↦
           let here : k ≡ at = omega arith in
-          let there : get_or entries k d ≡ one = ap (λ n. get_or entries n d) here ∙ same_there entries at d one within ∙ sym is in
+          let there : get_or entries k d ≡ one = ap (λ n. get_or entries n d) here ∙ get_or_default entries at d one within ∙ sym is in
           other (subst (λ e. IsSameKey e entry) there same)
     ]
 

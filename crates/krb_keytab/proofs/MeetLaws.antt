@@ -20,7 +20,7 @@ use Rattle.krb_keytab.specs.Fault.{source_fault}
 use Rattle.krb_keytab.specs.Format.{hole, entry, entry_bytes}
 use Rattle.krb_keytab.specs.Items.{LacksRecord, IsPartOfRecord}
 use Rattle.krb_keytab.specs.Inner.Entry.{entry_at}
-use Rattle.krb_keytab.specs.Inner.Meeting.{Peaks, RanOut, RunsOutTo, IsWhole, IsLastAt, IsLongAt, IsFewAt, kept_of, MeetsLast, MeetsSize, MeetsSizeAt, MeetsBody, MeetsOne, Meets}
+use Rattle.krb_keytab.specs.Inner.Meeting.{Moves, Peaks, RanOut, RunsOutTo, IsWhole, IsLastAt, IsLongAt, IsFewAt, kept_of, MeetsLast, MeetsSize, MeetsSizeAt, MeetsBody, MeetsOne, Meets}
 use Rattle.krb_keytab.specs.declared.fault.KeytabFault.{KeytabFault}
 use Rattle.krb_keytab.specs.declared.fault.KeytabFault.TheVariants.{Truncated, BadEntry, TooLong, Read}
 use Rattle.krb_keytab.specs.declared.found.Found.{Found}
@@ -110,12 +110,9 @@ no_entry at count body more some limit l read = (
     behind_is = append_assoc (signed_bytes w32 (pos count)) body more ∙ ap (λ (k : ℕ). signed_bytes w32 (pos k) ++ (body ++ more)) (sym l);
     size = omega (arith, l, some);
     size_fits = omega (arith, l, limit);
-    no_entry = λ made short_kvno rest is_entry same. none_and_some (entry_at body) made read (ap entry_at same ∙ again_entry made short_kvno rest is_entry);
+    no_entry = λ made short_kvno rest is_entry same. let again = ap entry_at same ∙ again_entry made short_kvno rest is_entry in cc;
   },
 )
-  where
-    none_and_some : (read : Option KeytabEntry) (made : KeytabEntry) → read ≡ None → read ≡ Some made → ⊥
-    none_and_some read made p q = cc
 
 -- ---- what is at hand
 
@@ -183,6 +180,19 @@ came_within (Err fault) count piece to came = omega (arith, came)
 
 pub fills_within : {S : Type 0} (from to : Option (List ℕ)) (old new : AtHand S) (count : ℕ) (answer : Result Bool ReadFault) (f : Fills from to old new count answer) → length f.piece ≤ count
 fills_within from to old new count answer f = came_within answer count f.piece to f.came
+
+-- what was held, and what came behind it until the source ran out
+pub held_out : {S T : Type 0} (IsPart : List ℕ → Type 0) {from mid to : Option (List ℕ)} (old : AtHand S) {between new : AtHand S} {count : ℕ} {came : Result Bool ReadFault} {last answer : Result T KeytabFault}
+    (f : Fills from mid (record old { bytes = [] }) between count came) (r : RunsOutTo mid to between new last answer) → IsPart f.piece → old.given + length f.piece ≤ file_limit
+    → Moves from to old new (f.piece ++ r.piece) × Peaks IsPart (f.piece ++ r.piece) old.peak new.peak
+held_out IsPart {from} {mid} {to} old {between} {new} f r part within = (
+  record {
+    consumed = Consumes-trans from mid to f.piece r.piece f.keeps.consumed r.moves.consumed;
+    given = omega (arith, f.keeps.given, r.moves.given, length-append f.piece r.piece);
+    limit = λ l. r.moves.limit (omega (arith, f.keeps.given, within));
+  },
+  peaks_at IsPart (f.piece ++ r.piece) f.piece r.piece old.peak new.peak between.bytes refl part f.keeps.bytes (omega (arith, within)) (r.peak ∙ f.keeps.peak),
+)
 
 -- ---- the bytes of an entry
 

@@ -9,7 +9,8 @@ use Rattle.krb_keytab.specs.Entry.{KeytabEntry}
 use Rattle.krb_keytab.specs.Format.{version, KeytabRecord, entry, record_bytes, FitsRecord, entries_of}
 use Rattle.krb_keytab.specs.Items.{EndsWithEntry, StandsTo}
 use Rattle.krb_keytab.specs.declared.stage.Stage.TheVariants.{Records}
-use Rattle.krb_keytab.proofs.OneSplit.{first_is, same_first}
+use Rattle.krb_keytab.proofs.OneRecord.{same_first}
+use Rattle.krb_keytab.proofs.OneSplit.{first_is}
 
 -- ---- records up to an entry
 

@@ -1,6 +1,6 @@
 -- What is picked where one entry more is there.
-use Rattle.std.proofs.Common.{◌≡◌, ℕ, ◌<◌, ◌≤◌, ℤ, Bool, true, false, Bor, subst, List, [], ◌∷◌, ◌++◌, ◌+◌, length, take, get_or, Option, refl, sym, ap, ◌∙◌, append_assoc, arith}
-use Rattle.std.specs.Prelude.{All, IsTrue, ◌↔◌}
+use Rattle.std.proofs.Common.{◌≡◌, ℕ, ◌<◌, ◌≤◌, ℤ, Bor, subst, List, [], ◌∷◌, ◌++◌, ◌+◌, length, take, get_or, Option, refl, sym, ap, ◌∙◌, append_assoc, arith}
+use Rattle.std.specs.Prelude.{All}
 use Rattle.std.proofs.lemmas.List.Elements.{All-push, All-append, All-cons, All-weaker, All-nil, All-same}
 use Rattle.std.proofs.lemmas.List.{take_more, take_all}
 use Rattle.krb_name.specs.declared.principal.Principal.{Principal}
@@ -10,7 +10,7 @@ use Rattle.krb_keytab.specs.Usable.{IsUsable}
 use Rattle.krb_keytab.specs.Pick.{IsKeyOf, IsCandidate, HasEntry, IsChosen, IsChoice, Choice, chosen, no_name, no_key, no_version, choice_of, IsPicked}
 use Rattle.krb_keytab.specs.Inner.Pick.{or_no_key, or_no_version, IsBelow}
 use Rattle.krb_keytab.specs.declared.pick.Picked.{Picked}
-use Rattle.krb_keytab.specs.declared.pick.Picked.TheVariants.{Entry, NoName, NoKey, NoVersion}
+use Rattle.krb_keytab.specs.declared.pick.Picked.TheVariants.{Entry}
 
 has_more : (P : KeytabEntry → Type 0) (entries : List KeytabEntry) (e : KeytabEntry) → HasEntry P entries → HasEntry P (entries ++ e ∷ [])
 has_more P entries e h = record {
@@ -25,7 +25,7 @@ has_last : (P : KeytabEntry → Type 0) (entries : List KeytabEntry) (e : Keytab
 has_last P entries e p = record { before = entries; entry = e; after = []; entries_are = refl; holds = p }
 
 -- an entry that isn't better leaves what was chosen
-chosen_more : (entries : List KeytabEntry) (name : Principal) (etype : ℤ) (kvno : Option ℕ) (best e : KeytabEntry) → IsChosen entries name etype kvno best
+pub chosen_more : (entries : List KeytabEntry) (name : Principal) (etype : ℤ) (kvno : Option ℕ) (best e : KeytabEntry) → IsChosen entries name etype kvno best
     → (IsCandidate name etype kvno e → e.kvno ≤ best.kvno) → IsChosen (entries ++ e ∷ []) name etype kvno best
 chosen_more entries name etype kvno best e h lower = record {
   before = h.before;
@@ -52,15 +52,9 @@ below_best : (entries : List KeytabEntry) (name : Principal) (etype : ℤ) (kvno
     → All (λ other. IsCandidate name etype kvno other → other.kvno < e.kvno) entries
 below_best entries name etype kvno best e h lt =
     let P : KeytabEntry → Type 0 = λ other. IsCandidate name etype kvno other → other.kvno < e.kvno in
-    let front : All P h.before = All-weaker (λ other. IsCandidate name etype kvno other → other.kvno < best.kvno) P (λ other below candidate. lt_trans other.kvno best.kvno e.kvno (below candidate) lt) h.before h.above in
-    let back : All P h.after = All-weaker (λ other. IsCandidate name etype kvno other → other.kvno ≤ best.kvno) P (λ other below candidate. le_lt_trans other.kvno best.kvno e.kvno (below candidate) lt) h.after h.highest in
+    let front : All P h.before = All-weaker (λ other. IsCandidate name etype kvno other → other.kvno < best.kvno) P (λ other below candidate. omega (arith, below candidate, lt)) h.before h.above in
+    let back : All P h.after = All-weaker (λ other. IsCandidate name etype kvno other → other.kvno ≤ best.kvno) P (λ other below candidate. omega (arith, below candidate, lt)) h.after h.highest in
     All-same P entries (h.before ++ best ∷ h.after) h.entries_are (All-append P h.before (best ∷ h.after) front (All-cons P best h.after (λ candidate. lt) back))
-  where
-    lt_trans : (a b c : ℕ) → a < b → b < c → a < c
-    lt_trans a b c p q = omega arith
-
-    le_lt_trans : (a b c : ℕ) → a ≤ b → b < c → a < c
-    le_lt_trans a b c p q = omega arith
 
 no_candidate : (P : KeytabEntry → Type 0) (entries : List KeytabEntry) (name : Principal) (etype : ℤ) (kvno : Option ℕ) (e : KeytabEntry) → ((other : KeytabEntry) → IsCandidate name etype kvno other → P other) → All (λ other. ¬ P other) entries
     → All (λ other. IsCandidate name etype kvno other → other.kvno < e.kvno) entries
@@ -68,12 +62,6 @@ no_candidate P entries name etype kvno e is none = All-weaker (λ other. ¬ P ot
 
 no_more : (P Q : KeytabEntry → Type 0) (entries : List KeytabEntry) (e : KeytabEntry) → ((other : KeytabEntry) → Q other → P other) → All (λ other. ¬ P other) entries → ¬ Q e → All (λ other. ¬ Q other) (entries ++ e ∷ [])
 no_more P Q entries e is none never = All-push (λ other. ¬ Q other) entries e (All-weaker (λ other. ¬ P other) (λ other. ¬ Q other) (λ other np q. np (is other q)) entries none) never
-
-named : (name : Principal) (etype : ℤ) (e : KeytabEntry) → IsKeyOf name etype e → SameName e.principal name
-named name etype e h = h.same_name
-
-keyed : (name : Principal) (etype : ℤ) (kvno : Option ℕ) (e : KeytabEntry) → IsCandidate name etype kvno e → IsKeyOf name etype e
-keyed name etype kvno e h = h.key_of
 
 -- ---- the four steps
 
@@ -86,7 +74,7 @@ other_name entries name etype kvno e no_version never h = (has_more (IsKeyOf nam
 pub name_without_key : (entries : List KeytabEntry) (name : Principal) (etype : ℤ) (kvno : Option ℕ) (e : KeytabEntry) (choice : Choice) → SameName e.principal name → ¬ IsKeyOf name etype e → IsChoice entries name etype kvno choice
     → IsChoice (entries ++ e ∷ []) name etype kvno (or_no_key choice)
 name_without_key entries name etype kvno e (chosen best) same never h = chosen_more entries name etype kvno best e h (λ candidate. absurd (never candidate.key_of))
-name_without_key entries name etype kvno e no_name same never h = (has_last (λ other. SameName other.principal name) entries e same, no_more (λ other. SameName other.principal name) (IsKeyOf name etype) entries e (named name etype) h never)
+name_without_key entries name etype kvno e no_name same never h = (has_last (λ other. SameName other.principal name) entries e same, no_more (λ other. SameName other.principal name) (IsKeyOf name etype) entries e (λ other key. key.same_name) h never)
 name_without_key entries name etype kvno e no_key same never h = (has_more (λ other. SameName other.principal name) entries e h.0, All-push (λ other. ¬ IsKeyOf name etype other) entries e h.1 never)
 name_without_key entries name etype kvno e no_version same never h = (has_more (IsKeyOf name etype) entries e h.0, All-push (λ other. ¬ IsCandidate name etype kvno other) entries e h.1 (λ candidate. never candidate.key_of))
 
@@ -94,43 +82,26 @@ pub key_without_version : (entries : List KeytabEntry) (name : Principal) (etype
     → IsChoice (entries ++ e ∷ []) name etype kvno (or_no_version choice)
 key_without_version entries name etype kvno e (chosen best) key never h = chosen_more entries name etype kvno best e h (λ candidate. absurd (never candidate))
 key_without_version entries name etype kvno e no_name key never h = (has_last (IsKeyOf name etype) entries e key, no_more (λ other. SameName other.principal name) (IsCandidate name etype kvno) entries e (λ other candidate. candidate.key_of.same_name) h never)
-key_without_version entries name etype kvno e no_key key never h = (has_last (IsKeyOf name etype) entries e key, no_more (IsKeyOf name etype) (IsCandidate name etype kvno) entries e (keyed name etype kvno) h.1 never)
+key_without_version entries name etype kvno e no_key key never h = (has_last (IsKeyOf name etype) entries e key, no_more (IsKeyOf name etype) (IsCandidate name etype kvno) entries e (λ other candidate. candidate.key_of) h.1 never)
 key_without_version entries name etype kvno e no_version key never h = (has_more (IsKeyOf name etype) entries e h.0, All-push (λ other. ¬ IsCandidate name etype kvno other) entries e h.1 never)
-
-pub kept : (entries : List KeytabEntry) (name : Principal) (etype : ℤ) (kvno : Option ℕ) (e best : KeytabEntry) → e.kvno ≤ best.kvno → IsChosen entries name etype kvno best → IsChosen (entries ++ e ∷ []) name etype kvno best
-kept entries name etype kvno e best le h = chosen_more entries name etype kvno best e h (λ candidate. le)
 
 pub replaced : (entries : List KeytabEntry) (name : Principal) (etype : ℤ) (kvno : Option ℕ) (e : KeytabEntry) (choice : Choice) → IsCandidate name etype kvno e → IsBelow choice e → IsChoice entries name etype kvno choice → IsChosen (entries ++ e ∷ []) name etype kvno e
 replaced entries name etype kvno e (chosen best) candidate lt h = chosen_last entries name etype kvno e candidate (below_best entries name etype kvno best e h lt)
 replaced entries name etype kvno e no_name candidate lt h = chosen_last entries name etype kvno e candidate (no_candidate (λ other. SameName other.principal name) entries name etype kvno e (λ other c. c.key_of.same_name) h)
-replaced entries name etype kvno e no_key candidate lt h = chosen_last entries name etype kvno e candidate (no_candidate (IsKeyOf name etype) entries name etype kvno e (keyed name etype kvno) h.1)
+replaced entries name etype kvno e no_key candidate lt h = chosen_last entries name etype kvno e candidate (no_candidate (IsKeyOf name etype) entries name etype kvno e (λ other candidate. candidate.key_of) h.1)
 replaced entries name etype kvno e no_version candidate lt h = chosen_last entries name etype kvno e candidate (no_candidate (IsCandidate name etype kvno) entries name etype kvno e (λ other c. c) h.1)
 
 -- ---- what a test says
 
-pub is_so : (b : Bool) (P : Type 0) → IsTrue b ↔ P → b ≡ true → P
-is_so b P h e = h.0 e
-
-pub is_not : (b : Bool) (P : Type 0) → IsTrue b ↔ P → b ≡ false → ¬ P
-is_not b P h e p = true_is_not_false b (h.1 p) e
-  where
-    true_is_not_false : (b : Bool) → b ≡ true → b ≡ false → ⊥
-    true_is_not_false b p q = cc
-
 pub key_of : (name : Principal) (etype : ℤ) (e : KeytabEntry) → SameName e.principal name → (e.etype ≡ etype) × IsUsable e → IsKeyOf name etype e
 key_of name etype e same h = record { same_name = same; same_etype = h.0; usable = h.1 }
-
-pub not_key_of : (name : Principal) (etype : ℤ) (e : KeytabEntry) → ¬ ((e.etype ≡ etype) × IsUsable e) → ¬ IsKeyOf name etype e
-not_key_of name etype e never key = never (key.same_etype, key.usable)
 
 pub below_at : (picked p : Picked) (e : KeytabEntry) → picked ≡ p → IsBelow (choice_of p) e → IsBelow (choice_of picked) e
 below_at picked p e same h = subst (λ (t : Picked). IsBelow (choice_of t) e) (sym same) h
 
 pub not_entry : (picked : Picked) (e : KeytabEntry) → ((best : Bor KeytabEntry) → picked ≡ Entry best → ⊥) → IsBelow (choice_of picked) e
 not_entry (Entry best) e never = absurd (never best refl)
-not_entry NoName e never = tt
-not_entry NoKey e never = tt
-not_entry NoVersion e never = tt
+not_entry _ e never = tt
 
 -- the same choice is one of the same entries
 pub same_choice : (entries : List KeytabEntry) (name : Principal) (etype : ℤ) (kvno : Option ℕ) (choice other : Choice) → other ≡ choice → IsChoice entries name etype kvno choice → IsChoice entries name etype kvno other

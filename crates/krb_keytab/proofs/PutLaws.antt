@@ -2,9 +2,9 @@
 use Rattle.std.proofs.Common.{◌≡◌, ℕ, ◌+◌, ◌-◌, ◌≤◌, ◌<◌, List, [], ◌∷◌, ◌++◌, length, get_or, take, drop, sym, ap, subst, ◌∙◌, append_assoc, append-nil, arith}
 use borrow.Rule.Slice.PartMut.{put_mid}
 use Rattle.std.specs.List.{flat_map}
-use Rattle.std.proofs.lemmas.List.{length-append, length-take-le, length-drop, take_more, take-append-drop, drop_all, drop-drop, take_at, drop_at, take_all}
+use Rattle.std.proofs.lemmas.List.{length-append, length-take-le, length-drop, take_more, drop_all, drop-drop, take_at, drop_at, take_all}
 use Rattle.std.proofs.lemmas.List.Concat.{flat_map-append}
-use Rattle.krb_keytab.specs.Inner.Putting.{Puts}
+use Rattle.krb_keytab.specs.Inner.Putting.{Puts, PutsTo}
 
 -- ---- one text
 
@@ -52,8 +52,11 @@ then_at {old} {at} {x} {mid} {y} {new} p q =
           ∙ ap (λ (t : List ℕ). take at old ++ t) (sym (append_assoc x y (drop (at + length (x ++ y)) old)));
     }
 
-pub Puts-then : {old : List ℕ} {at : ℕ} {x mid : List ℕ} {behind : ℕ} {y new : List ℕ} → Puts old at x mid → behind ≡ at + length x → Puts mid behind y new → Puts old at (x ++ y) new
-Puts-then {old} {at} {x} {mid} {behind} {y} {new} p e q = then_at p (subst (λ (n : ℕ). Puts mid n y new) e q)
+pub Puts-then : {old : List ℕ} {at : ℕ} {x mid : List ℕ} {behind : ℕ} {y new : List ℕ} → PutsTo old at x mid behind → Puts mid behind y new → Puts old at (x ++ y) new
+Puts-then {old} {at} {x} {mid} {behind} {y} {new} p q = then_at p.puts (subst (λ (n : ℕ). Puts mid n y new) p.end_is q)
+
+pub PutsTo-then : {old : List ℕ} {at : ℕ} {x mid : List ℕ} {behind : ℕ} {y new : List ℕ} {end : ℕ} → PutsTo old at x mid behind → PutsTo mid behind y new end → PutsTo old at (x ++ y) new end
+PutsTo-then {old} {at} {x} {mid} {behind} {y} p q = record { puts = Puts-then p q.puts; end_is = omega (arith, p.end_is, q.end_is, length-append x y) }
 
 -- a text from the first byte to the last
 pub Puts-whole : {old text new : List ℕ} → Puts old 0 text new → length text ≡ length old → new ≡ text
@@ -64,11 +67,6 @@ Puts-whole {old} {text} {new} p e = p.new_is ∙ ap (λ (t : List ℕ). text ++ 
 pub flat_step : {X : Type 0} (f : X → List ℕ) (xs : List X) (i : ℕ) (x : X) → i < length xs → x ≡ get_or xs i x → flat_map f (take (i + 1) xs) ≡ flat_map f (take i xs) ++ f x
 flat_step f xs i x below e =
     ap (flat_map f) (take_more xs i x below ∙ ap (λ y. take i xs ++ y ∷ []) (sym e)) ∙ flat_map-append f (take i xs) (x ∷ []) ∙ ap (λ (t : List ℕ). flat_map f (take i xs) ++ t) (append-nil (f x))
-
-pub flat_part : {X : Type 0} (f : X → List ℕ) (xs : List X) (n : ℕ) → length (flat_map f (take n xs)) ≤ length (flat_map f xs)
-flat_part f xs n =
-    let whole : flat_map f xs ≡ flat_map f (take n xs) ++ flat_map f (drop n xs) = ap (flat_map f) (sym (take-append-drop n xs)) ∙ flat_map-append f (take n xs) (drop n xs) in
-    omega (arith, ap length whole, length-append (flat_map f (take n xs)) (flat_map f (drop n xs)))
 
 -- ---- a part of a Vec
 

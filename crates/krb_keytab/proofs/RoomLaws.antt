@@ -1,9 +1,9 @@
 -- The holes of a file to which entries are added one after another.
-use Rattle.std.proofs.Common.{◌≡◌, ℕ, ◌+◌, ◌<◌, List, [], ◌∷◌, ◌++◌, length, refl, sym, ap, subst, ◌∙◌, arith, append-nil, add-one, zero, suc, take, drop, get_or, drop-cons}
+use Rattle.std.proofs.Common.{◌≡◌, ℕ, ◌+◌, ◌<◌, List, [], ◌∷◌, ◌++◌, length, refl, sym, ap, subst, ◌∙◌, arith, append-nil, add-one, suc, take, drop, get_or, drop-cons}
 use Rattle.std.specs.List.{flat_map, AllByRecursion}
 use Rattle.std.specs.Prelude.{All}
-use Rattle.std.proofs.lemmas.List.{length-append, take_more, take-append-drop}
-use Rattle.std.proofs.lemmas.List.Elements.{recursion_from_All, All-from_recursion, All-push}
+use Rattle.std.proofs.lemmas.List.{length-append, take-append-drop}
+use Rattle.std.proofs.lemmas.List.Elements.{recursion_from_All, All-from_recursion}
 use Rattle.krb_keytab.specs.Format.{version, KeytabRecord, hole, entry, record_bytes}
 use Rattle.krb_keytab.specs.Entry.{KeytabEntry}
 use Rattle.krb_keytab.specs.Edit.{LacksRoom}
@@ -34,16 +34,6 @@ pub record StandsFor (at : ℕ) (records : List KeytabRecord) (front : List Hole
   pub front_is : holes_of at before ≡ front
   pub back_is : holes_of (one.from + one.size) after ≡ back
 
-head_of : {X : Type 0} (x y : X) (xs ys : List X) → x ∷ xs ≡ y ∷ ys → x ≡ y
-head_of x y xs ys e = cc
-
-tail_of : {X : Type 0} (x y : X) (xs ys : List X) → x ∷ xs ≡ y ∷ ys → xs ≡ ys
-tail_of x y xs ys e = cc
-
-none_split : {X : Type 0} (front : List X) (one : X) (back : List X) → [] ≡ front ++ one ∷ back → ⊥
-none_split [] one back e = cc
-none_split (x ∷ front) one back e = cc
-
 behind : {at : ℕ} {records : List KeytabRecord} {front : List Hole} {one : Hole} {back : List Hole} (first : KeytabRecord) (holes : List Hole)
     → ((before : List KeytabRecord) → holes_of (at + length (record_bytes first)) before ≡ front → holes_of at (first ∷ before) ≡ holes)
     → StandsFor (at + length (record_bytes first)) records front one back → StandsFor at (first ∷ records) holes one back
@@ -59,12 +49,13 @@ behind {at} first holes joins s = record {
 }
 
 pub stands_for : (at : ℕ) (records : List KeytabRecord) (front : List Hole) (one : Hole) (back : List Hole) → holes_of at records ≡ front ++ one ∷ back → StandsFor at records front one back
-stands_for at [] front one back e = absurd (none_split front one back e)
+stands_for at [] front one back e = absurd (omega (arith, ap length e, length-append front (one ∷ back)))
 stands_for at (entry e short_kvno rest ∷ records) front one back is =
     behind (entry e short_kvno rest) front (λ before joined. joined) (stands_for (at + length (record_bytes (entry e short_kvno rest))) records front one back is)
 stands_for at (hole ignored ∷ records) [] one back is =
     let there : ℕ = length (record_bytes (hole ignored)) in
-    let this : record { from = at; size = there } ≡ one = head_of _ one _ back is in
+    let this : record { from = at; size = there } ≡ one = cc in
+    let others : holes_of (at + there) records ≡ back = cc in
     let from : at ≡ one.from = ap (λ (h : Hole). h.from) this in
     let size : there ≡ one.size = ap (λ (h : Hole). h.size) this in
     record {
@@ -75,14 +66,15 @@ stands_for at (hole ignored ∷ records) [] one back is =
       from = omega (arith, from);
       size = sym size;
       front_is = refl;
-      back_is = ap (λ (n : ℕ). holes_of n records) (omega (arith, from, size)) ∙ tail_of _ one _ back is;
+      back_is = ap (λ (n : ℕ). holes_of n records) (omega (arith, from, size)) ∙ others;
     }
 stands_for at (hole ignored ∷ records) (first ∷ front) one back is =
     let there : ℕ = length (record_bytes (hole ignored)) in
-    let this : record { from = at; size = there } ≡ first = head_of _ first _ (front ++ one ∷ back) is in
+    let this : record { from = at; size = there } ≡ first = cc in
+    let others : holes_of (at + there) records ≡ front ++ one ∷ back = cc in
     behind (hole ignored) (first ∷ front)
     (λ before joined. ap (λ (h : Hole). h ∷ holes_of (at + there) before) this ∙ ap (λ (t : List Hole). first ∷ t) joined)
-    (stands_for (at + there) records front one back (tail_of _ first _ (front ++ one ∷ back) is))
+    (stands_for (at + there) records front one back others)
 
 -- holes that are too short are no room
 too_short : (size at : ℕ) (records : List KeytabRecord) → AllByRecursion (λ (h : Hole). h.size < size) (holes_of at records) → AllByRecursion (LacksRoom size) records
@@ -115,17 +107,3 @@ pub hole_at : (holes : List Hole) (at : ℕ) (one : Hole) → at < length holes 
 hole_at holes at one within is =
     sym (take-append-drop at holes) ∙ ap (λ (t : List Hole). take at holes ++ t)
     (drop-cons holes at one within ∙ ap (λ (h : Hole). h ∷ drop (suc at) holes) (sym is) ∙ ap (λ (n : ℕ). one ∷ drop n holes) (sym (add-one at)))
-
-same_there : (holes : List Hole) (at : ℕ) (one other : Hole) → at < length holes → get_or holes at one ≡ get_or holes at other
-same_there [] at one other within = absurd (omega arith)
-same_there (first ∷ holes) zero one other within = refl
-same_there (first ∷ holes) (suc at) one other within = same_there holes at one other (omega arith)
-
-pub one_hole : (holes : List Hole) (at : ℕ) (one other : Hole) → at < length holes → one ≡ get_or holes at one → other ≡ get_or holes at other → one ≡ other
-one_hole holes at one other within is that = is ∙ same_there holes at one other within ∙ sym that
-
-pub small_more : (size : ℕ) (holes : List Hole) (at : ℕ) (one : Hole) → at < length holes → one ≡ get_or holes at one → one.size < size
-    → All (λ (h : Hole). h.size < size) (take at holes) → All (λ (h : Hole). h.size < size) (take (at + 1) holes)
-small_more size holes at one within is short small =
-    subst (All (λ (h : Hole). h.size < size)) (sym (take_more holes at one within))
-    (All-push (λ (h : Hole). h.size < size) (take at holes) (get_or holes at one) small (subst (λ (h : Hole). h.size < size) is short))

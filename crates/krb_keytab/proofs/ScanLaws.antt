@@ -1,26 +1,22 @@
 -- Reading the records of a file to their end.
 use Rattle.std.proofs.Common.{◌≡◌, ℕ, ◌+◌, ◌<◌, ◌≤◌, List, [], ◌∷◌, ◌++◌, length, Some, Result, Ok, Err, refl, sym, ap, subst, ◌∙◌, append_assoc, append-nil, arith}
 use Rattle.std.specs.List.{flat_map}
-use Rattle.std.specs.Prelude.{◌≢◌, All, IfErr}
+use Rattle.std.specs.Prelude.{◌≢◌, All}
 use Rattle.std.proofs.lemmas.List.{length-append}
 use Rattle.std.proofs.lemmas.List.Elements.{All-push}
 use Rattle.krb_name.specs.Window.{AtHand}
 use Rattle.krb_keytab.specs.Entry.{KeytabEntry}
 use Rattle.krb_name.specs.File.{file_limit}
-use Rattle.krb_keytab.specs.Fault.{failed_reads}
-use Rattle.krb_keytab.specs.Format.{version, KeytabRecord, hole, entry, record_bytes, FitsRecord, entries_of, IsReached, IsEnd, IsFaultOf}
-use Rattle.krb_keytab.specs.Edit.{IsMadeOf}
-use Rattle.krb_keytab.specs.Inner.Feed.{nothing_of}
+use Rattle.krb_keytab.specs.Format.{version, KeytabRecord, hole, entry, record_bytes, FitsRecord, entries_of, IsReached, IsFaultOf}
 use Rattle.krb_keytab.specs.Inner.Finding.{LiesAt}
-use Rattle.krb_keytab.specs.Inner.Meeting.{Moves, IsWhole, MeetsLast, MeetsOne}
+use Rattle.krb_keytab.specs.Inner.Meeting.{nothing_of, Moves, IsWhole, MeetsLast, MeetsOne}
 use Rattle.krb_keytab.specs.declared.fault.KeytabFault.{KeytabFault}
-use Rattle.krb_keytab.specs.declared.fault.KeytabFault.TheVariants.{Version, Truncated, BadEntry, TooLong, NoSuchEntry, Read, OutOfMemory}
+use Rattle.krb_keytab.specs.declared.fault.KeytabFault.TheVariants.{Read, OutOfMemory}
 use Rattle.krb_keytab.specs.declared.found.Found.{Found}
-use Rattle.krb_keytab.specs.declared.found.Found.TheVariants.{End, Hole, Entry}
+use Rattle.krb_keytab.specs.declared.found.Found.TheVariants.{Hole, Entry}
 use Rattle.krb_keytab.proofs.FileLaws.{record_first, flat_push}
 use Rattle.krb_keytab.proofs.StandLaws.{failed_stands}
-use Rattle.krb_keytab.proofs.CollectLaws.{fault_of}
-use Rattle.krb_keytab.proofs.SourceLaws.{fault_whole}
+use Rattle.krb_keytab.proofs.ToldLaws.{fault_told}
 
 -- ---- the records that were read
 
@@ -86,18 +82,6 @@ module _ {bytes : List ℕ} {place : AtHand (List ℕ)} {records : List KeytabRe
       of_kind (hole ignored) fits is some limit = absurd cc
       of_kind (entry e short_kvno rest) fits is some limit = record { e = e; short_kvno = short_kvno; rest = rest; passes = pass after s (entry e short_kvno rest) m.piece fits is m.moves limit }
 
-  -- the records have ended
-  pub ended : Reads place after (Ok End) → IsMadeOf bytes records place.source
-  ended m =
-      let before : List ℕ = flat_map record_bytes records in
-      let last : place.source ≡ m.piece = m.moves.consumed ∙ ap (λ (t : List ℕ). m.piece ++ t) m.meets.all ∙ append-nil m.piece in
-      record {
-        limit = omega (arith, ap length s.bytes_are, length-append before place.source, s.at, ap length last, m.meets.limit);
-        fit = s.fit;
-        bytes_are = s.bytes_are;
-        is_end = subst IsEnd (sym last) m.meets.lacks;
-      }
-
   pub stopped : (fault : KeytabFault) → place.given ≤ file_limit → Reads place after (Err fault) → (fault ≢ OutOfMemory) × (fault ≢ Read) → IsFaultOf bytes fault
   stopped fault limit m content =
       let before : List ℕ = flat_map record_bytes records in
@@ -108,18 +92,4 @@ module _ {bytes : List ℕ} {place : AtHand (List ℕ)} {records : List KeytabRe
       let stands = failed_stands front entries reached (Some after.source) after.peak m.piece fault (omega (arith, here, limit)) (subst (λ (n : ℕ). MeetsLast (Some after.source) n m.piece (Some fault)) here m.meets) in
       let given : bytes ≡ (front ++ m.piece) ++ after.source =
       s.bytes_are ∙ sym (append_assoc version before place.source) ∙ ap (λ (t : List ℕ). front ++ t) m.moves.consumed ∙ sym (append_assoc front m.piece after.source) in
-      fault_whole (Some bytes) (Some after.source) fault (fault_of (Some bytes) (Some after.source) after.peak (front ++ m.piece) entries fault given stands) content.0 content.1
-
--- bytes in memory are there, and can be read
-pub content : {T : Type 0} (answer : Result T KeytabFault) → (answer ≡ Err OutOfMemory → ⊥) → 0 ≡ 0 + failed_reads answer → IfErr answer (λ fault. (fault ≢ OutOfMemory) × (fault ≢ Read))
-content (Ok x) memory failed = tt
-content (Err Version) memory failed = (λ e. cc, λ e. cc)
-content (Err (Truncated at)) memory failed = (λ e. cc, λ e. cc)
-content (Err (BadEntry at)) memory failed = (λ e. cc, λ e. cc)
-content (Err TooLong) memory failed = (λ e. cc, λ e. cc)
-content (Err NoSuchEntry) memory failed = (λ e. cc, λ e. cc)
-content (Err Read) memory failed = absurd (omega (arith, failed))
-content (Err OutOfMemory) memory failed = absurd (memory refl)
-
-pub further : {bytes : List ℕ} {place : AtHand (List ℕ)} {records : List KeytabRecord} {one : KeytabRecord} {after : AtHand (List ℕ)} → Passes bytes place records one after → place.given + 4 ≤ after.given
-further {bytes} {place} {records} {one} {after} p = omega (arith, p.lies.to, record_first one)
+      fault_told bytes (front ++ m.piece) (Some after.source) after.peak entries fault content.1 content.0 given stands

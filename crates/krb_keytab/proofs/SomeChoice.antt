@@ -1,20 +1,19 @@
 -- There is a choice for each list of entries.
-use Rattle.std.proofs.Common.{◌≡◌, ℕ, ℤ, pos, int_eq, Bool, true, false, List, [], ◌∷◌, ◌++◌, length, Option, Some, None, refl, sym, subst, inl, inr, append_assoc}
+use Rattle.std.proofs.Common.{◌≡◌, ℕ, ℤ, pos, Bool, true, false, List, [], ◌∷◌, ◌++◌, length, Option, Some, None, refl, sym, subst, inl, inr, append_assoc}
 use Rattle.std.specs.Prelude.{IfSome, ◌⊎◌}
 use Rattle.std.specs.Bool.{Decides}
 use Rattle.std.specs.Str.{bytes_eq}
 use Rattle.std.proofs.lemmas.Bool.{cases_lt, cases_eq}
-use Rattle.std.proofs.lemmas.Bool.Decides.{Decides-int_eq}
-use Rattle.std.proofs.lemmas.Slice.Eq.{bytes_eq-Decides}
+use Rattle.std.proofs.lemmas.Bool.Decides.{Decides-int_eq, Decides-eqb, Decides-and, Decides-or}
+use Rattle.std.proofs.lemmas.Slice.Eq.{bytes_eq-Decides, slice_eq-Decides}
 use Rattle.std.proofs.lemmas.List.{append-nil}
 use Rattle.std.proofs.lemmas.List.Elements.{All-nil}
 use Rattle.krb_name.specs.declared.principal.Principal.{Principal}
 use Rattle.krb_name.specs.Name.{SameName}
 use Rattle.krb_keytab.specs.Entry.{KeytabEntry}
-use Rattle.krb_keytab.specs.Usable.{IsUsable, IsUsableKey}
-use Rattle.krb_keytab.specs.Pick.{IsKeyOf, IsCandidate, IsChoice, Choice, chosen, no_name, no_key, no_version}
+use Rattle.krb_keytab.specs.Pick.{IsKeyOf, IsCandidate, IsChoice, Choice, chosen, no_name}
 use Rattle.krb_keytab.specs.Inner.Pick.{or_no_key, or_no_version}
-use Rattle.krb_keytab.proofs.PickLaws.{other_name, name_without_key, key_without_version, kept, replaced}
+use Rattle.krb_keytab.proofs.PickLaws.{other_name, name_without_key, key_without_version, chosen_more, replaced}
 
 -- ---- what is decided
 
@@ -22,60 +21,21 @@ decided_by : (P : Type 0) (b : Bool) → Decides b P → P ⊎ (P → ⊥)
 decided_by P true d = inl (d.0 refl)
 decided_by P false d = inr (λ p. let bad : false ≡ true = d.1 p in absurd cc)
 
-both_decided : (P Q : Type 0) → P ⊎ (P → ⊥) → Q ⊎ (Q → ⊥) → (P × Q) ⊎ (P × Q → ⊥)
-both_decided P Q (inl p) (inl q) = inl (p, q)
-both_decided P Q (inl p) (inr none) = inr (λ h. none h.1)
-both_decided P Q (inr none) other = inr (λ h. none h.0)
-
-either_decided : (P Q : Type 0) → P ⊎ (P → ⊥) → Q ⊎ (Q → ⊥) → (P ⊎ Q) ⊎ (P ⊎ Q → ⊥)
-either_decided P Q (inl p) other = inl (inl p)
-either_decided P Q (inr no_p) (inl q) = inl (inr q)
-either_decided P Q (inr no_p) (inr no_q) = inr (λ h. elim h [ inl p ↦ no_p p | inr q ↦ no_q q ])
-
-same_bytes : (one other : List ℕ) → (one ≡ other) ⊎ (one ≡ other → ⊥)
+pub same_bytes : (one other : List ℕ) → (one ≡ other) ⊎ (one ≡ other → ⊥)
 same_bytes one other = decided_by (one ≡ other) (bytes_eq one other) (bytes_eq-Decides one other)
-
-abbrev texts : List (List ℕ) → List (List ℕ)
-texts xs = xs
-
-heads : (x y : List ℕ) (xs ys : List (List ℕ)) → texts (x ∷ xs) ≡ texts (y ∷ ys) → x ≡ y
-heads x y xs ys e = cc
-
-tails : (x y : List ℕ) (xs ys : List (List ℕ)) → texts (x ∷ xs) ≡ texts (y ∷ ys) → xs ≡ ys
-tails x y xs ys e = cc
-
-same_cons : (x y : List ℕ) (xs ys : List (List ℕ)) → x ≡ y → xs ≡ ys → texts (x ∷ xs) ≡ texts (y ∷ ys)
-same_cons x y xs ys e f = cc
-
-same_components : (one other : List (List ℕ)) → (one ≡ other) ⊎ (one ≡ other → ⊥)
-same_components [] [] = inl refl
-same_components [] (y ∷ ys) = inr (λ e. cc)
-same_components (x ∷ xs) [] = inr (λ e. cc)
-same_components (x ∷ xs) (y ∷ ys) =
-    elim (both_decided (x ≡ y) (xs ≡ ys) (same_bytes x y) (same_components xs ys)) [
-      | inl same ↦ inl (same_cons x y xs ys same.0 same.1)
-      | inr differ ↦ inr (λ e. differ (heads x y xs ys e, tails x y xs ys e))
-    ]
 
 name_decided : (one other : Principal) → SameName one other ⊎ (SameName one other → ⊥)
 name_decided one other =
-    elim (both_decided (one.realm ≡ other.realm) (one.components ≡ other.components) (same_bytes one.realm other.realm) (same_components one.components other.components)) [
+    elim (decided_by _ _ (Decides-and _ _ (bytes_eq-Decides one.realm other.realm) (slice_eq-Decides bytes_eq-Decides one.components other.components _ refl))) [
       | inl same ↦ inl (record { realm = same.0; components = same.1 })
       | inr differ ↦ inr (λ h. differ (h.realm, h.components))
     ]
 
-same_number : (one other : ℤ) → (one ≡ other) ⊎ (one ≡ other → ⊥)
-same_number one other = decided_by (one ≡ other) (int_eq one other) (Decides-int_eq one other)
-
-usable_decided : (etype : ℤ) (bytes : List ℕ) → IsUsableKey etype bytes ⊎ (IsUsableKey etype bytes → ⊥)
-usable_decided etype bytes =
-    either_decided _ _
-    (both_decided _ _ (same_number etype (pos 19)) (cases_eq (length bytes) 16))
-    (both_decided _ _ (same_number etype (pos 20)) (cases_eq (length bytes) 32))
-
 key_decided : (name : Principal) (etype : ℤ) (e : KeytabEntry) → SameName e.principal name → IsKeyOf name etype e ⊎ (IsKeyOf name etype e → ⊥)
 key_decided name etype e same =
-    elim (both_decided (e.etype ≡ etype) (IsUsable e) (same_number e.etype etype) (usable_decided e.etype e.key)) [
+    let short = Decides-and _ _ (Decides-int_eq e.etype (pos 19)) (Decides-eqb (length e.key) 16) in
+    let long = Decides-and _ _ (Decides-int_eq e.etype (pos 20)) (Decides-eqb (length e.key) 32) in
+    elim (decided_by _ _ (Decides-and _ _ (Decides-int_eq e.etype etype) (Decides-or _ _ short long))) [
       | inl key ↦ inl (record { same_name = same; same_etype = key.0; usable = key.1 })
       | inr none ↦ inr (λ key. none (key.same_etype, key.usable))
     ]
@@ -91,11 +51,9 @@ unfoldable better : (entries : List KeytabEntry) (name : Principal) (etype : ℤ
 better entries name etype kvno e (chosen best) candidate h =
     elim (cases_lt best.kvno e.kvno) [
       | inl below ↦ (chosen e, replaced entries name etype kvno e (chosen best) candidate below h)
-      | inr least ↦ (chosen best, kept entries name etype kvno e best least h)
+      | inr least ↦ (chosen best, chosen_more entries name etype kvno best e h (λ _. least))
     ]
-better entries name etype kvno e no_name candidate h = (chosen e, replaced entries name etype kvno e no_name candidate tt h)
-better entries name etype kvno e no_key candidate h = (chosen e, replaced entries name etype kvno e no_key candidate tt h)
-better entries name etype kvno e no_version candidate h = (chosen e, replaced entries name etype kvno e no_version candidate tt h)
+better entries name etype kvno e choice candidate h = (chosen e, replaced entries name etype kvno e choice candidate tt h)
 
 one_entry_more : (entries : List KeytabEntry) (name : Principal) (etype : ℤ) (kvno : Option ℕ) (e : KeytabEntry) (choice : Choice) → IsChoice entries name etype kvno choice
     → (more : Choice) × IsChoice (entries ++ e ∷ []) name etype kvno more

@@ -13,9 +13,9 @@ use Rattle.krb_keytab.specs.Entry.{KeytabEntry}
 use Rattle.krb_name.specs.File.{file_limit}
 use Rattle.krb_keytab.specs.Format.{version, KeytabRecord, hole, entry, entry_bytes, record_bytes, FitsRecord, entries_of, IsReached}
 use Rattle.krb_keytab.specs.Items.{LacksVersion, LacksRecord, Stops, StopsSo, IsTooLong, Concludes, AreFirst, EndsWithEntry, StandsTo, IsPartOfRecord, HasMet, HasRead, EntriesRead, passed, stage_after, stage_passed, entries_after, GivesMore}
-use Rattle.krb_keytab.specs.Inner.Meeting.{Moves, Peaks, RanOut, OpensAt, MeetsVersion, IsWhole, IsLastAt, IsLongAt, MeetsLast, MeetsOne, PassesHoles, HasReached, IsFirst, MeetsBehind, MeetsNext, keeping, MeetsKept, MeetsFirst, IsWithin}
+use Rattle.krb_keytab.specs.Inner.Meeting.{Peaks, RanOut, OpensAt, MeetsVersion, IsWhole, IsLastAt, IsLongAt, MeetsLast, MeetsOne, Goes, PassesHoles, HasReached, IsFirst, MeetsBehind, MeetsNext, MeetsKept, MeetsFirst}
 use Rattle.krb_keytab.specs.declared.fault.KeytabFault.{KeytabFault}
-use Rattle.krb_keytab.specs.declared.fault.KeytabFault.TheVariants.{Version, Truncated, BadEntry, TooLong, NoSuchEntry, Read, OutOfMemory}
+use Rattle.krb_keytab.specs.declared.fault.KeytabFault.TheVariants.{Version, TooLong, Read, OutOfMemory}
 use Rattle.krb_keytab.specs.declared.found.Found.{Found}
 use Rattle.krb_keytab.specs.declared.found.Found.TheVariants.{End, Hole, Entry}
 use Rattle.krb_keytab.specs.declared.stage.Stage.{Stage}
@@ -52,16 +52,10 @@ module _ (bytes : List ℕ) (entries : List KeytabEntry) (reached : IsReached by
       }
 
   stops_so : (some : List ℕ) (last : Option KeytabFault) → Stops some entries last → StopsSo some entries last
-  stops_so some None s = s
-  stops_so some (Some (Truncated at)) s = s
-  stops_so some (Some (BadEntry at)) s = s
   stops_so some (Some Version) s = absurd s.lacks
-  stops_so some (Some TooLong) s = s
-  stops_so some (Some NoSuchEntry) s = s
-  stops_so some (Some Read) s = s
-  stops_so some (Some OutOfMemory) s = s
+  stops_so some _ s = s
 
-  stops_at : (piece : List ℕ) (last : Option KeytabFault) → LacksRecord (length bytes) last piece → StopsSo (bytes ++ piece) entries last
+  pub stops_at : (piece : List ℕ) (last : Option KeytabFault) → LacksRecord (length bytes) last piece → StopsSo (bytes ++ piece) entries last
   stops_at piece last lacks = stops_so (bytes ++ piece) last (record { at = length bytes; behind = piece; reached = reach_piece piece; lacks = lacks })
 
   concludes : (left : Option (List ℕ)) (piece : List ℕ) (last : Option KeytabFault) → IsLastAt left (length bytes) piece last → Concludes left (bytes ++ piece) entries last
@@ -78,16 +72,10 @@ module _ (bytes : List ℕ) (entries : List KeytabEntry) (reached : IsReached by
   first piece = inr (length bytes, piece, reach_piece piece)
 
   pub failed_stands : (left : Option (List ℕ)) (held : ℕ) (piece : List ℕ) (fault : KeytabFault) → length bytes ≤ file_limit → MeetsLast left (length bytes) piece (Some fault) → StandsTo left held (stage_after (Err fault)) (bytes ++ piece) entries
-  failed_stands left held piece Version within m = absurd m.lacks
-  failed_stands left held piece (Truncated at) within m = concludes left piece (Some (Truncated at)) m
-  failed_stands left held piece (BadEntry at) within m = concludes left piece (Some (BadEntry at)) m
   failed_stands left held piece TooLong within m = too_long piece within m
-  failed_stands left held piece NoSuchEntry within m = absurd m.lacks
   failed_stands left held piece Read within m = first piece
   failed_stands left held piece OutOfMemory within m = first piece
-
-  pub end_stands : (left : Option (List ℕ)) (held : ℕ) (piece : List ℕ) → MeetsLast left (length bytes) piece None → StandsTo left held (stage_after (Ok None)) (bytes ++ piece) entries
-  end_stands left held piece m = concludes left piece None m
+  failed_stands left held piece fault within m = concludes left piece (Some fault) m
 
   ends_with : (held : ℕ) (piece : List ℕ) (e : KeytabEntry) (one : KeytabRecord) → FitsRecord one → piece ≡ record_bytes one → e ∷ [] ≡ entries_of one → length piece ≤ 4 + held → EndsWithEntry held (bytes ++ piece) (entries ++ e ∷ [])
   ends_with held piece e (hole ignored) fits is are room = absurd cc
@@ -110,14 +98,14 @@ module _ (bytes : List ℕ) (entries : List KeytabEntry) (reached : IsReached by
   entry_stands left held piece e room m = (omega (arith, m.limit, length-append bytes piece), ends_with held piece e m.one m.fits m.piece_is m.entries_are room)
 
 -- an entry's record is a whole one
-pub ends_reached : (held : ℕ) (bytes : List ℕ) (entries : List KeytabEntry) → length bytes ≤ file_limit → EndsWithEntry held bytes entries → IsReached bytes (length bytes) entries []
-ends_reached held bytes entries limit w =
+pub ends_reached : (left : Option (List ℕ)) (held given : ℕ) (bytes : List ℕ) (entries : List KeytabEntry) → given ≡ length bytes → StandsTo left held Records bytes entries → HasReached given bytes entries
+ends_reached left held given bytes entries here s =
+    let w : EndsWithEntry held bytes entries = s.1 in
     let one : KeytabRecord = entry w.last w.short_kvno w.rest in
     let piece : List ℕ = record_bytes one in
     let more : List KeytabEntry = w.last ∷ [] in
-    let whole : IsWhole (length w.before) piece more = record { one = one; fits = w.fits; piece_is = refl; entries_are = refl; limit = omega (arith, limit, ap length w.bytes_are, length-append w.before piece) } in
-    subst (λ (t : List ℕ). IsReached t (length t) entries []) (sym w.bytes_are)
-    (subst (λ (k : List KeytabEntry). IsReached (w.before ++ piece) (length (w.before ++ piece)) k []) (sym w.entries_are) (reach_whole w.before w.earlier w.reached piece more whole))
+    let whole : IsWhole (length w.before) piece more = record { one = one; fits = w.fits; piece_is = refl; entries_are = refl; limit = omega (arith, s.0, ap length w.bytes_are, length-append w.before piece) } in
+    record { given_is = here; limit = s.0; reached = rw (w.bytes_are, w.entries_are) (reach_whole w.before w.earlier w.reached piece more whole) }
 
 -- ---- what is at hand
 
@@ -167,111 +155,106 @@ version_ran left given two later answer r g size lacks =
       ]
     ]
 
--- ---- holes, and then another answer
+-- ---- one step behind the other
 
-pub passes_none : {S : Type 0} (from : Option (List ℕ)) (window : AtHand S) → window.given ≤ file_limit → PassesHoles from from window window
-passes_none from window limit = record {
-  piece = [];
-  moves = record { consumed = Consumes-nil from; given = omega arith; limit = λ l. l };
-  limit = limit;
-  grows = omega arith;
-  low = λ l. l;
-  reaches = λ bytes entries given reached. subst (λ (t : List ℕ). IsReached t (length t) entries []) (sym (append-nil bytes)) reached;
-  met = λ bytes entries given reached m. subst (λ (t : List ℕ). HasMet t window.peak) (sym (append-nil bytes)) m;
+goes_then : {S : Type 0} {A B C : List ℕ → List KeytabEntry → Type 0} (from mid to : Option (List ℕ)) (old between new : AtHand S) → Goes A B from mid old between → Goes B C mid to between new → Goes A C from to old new
+goes_then {C = C} from mid to old between new p q = record {
+  piece = p.piece ++ q.piece;
+  moves = record { consumed = Consumes-trans from mid to p.piece q.piece p.moves.consumed q.moves.consumed; given = omega (arith, p.moves.given, q.moves.given, length-append p.piece q.piece); limit = λ l. q.moves.limit (p.moves.limit l) };
+  grows = omega (arith, p.grows, q.grows);
+  low = λ l. q.low (p.low l);
+  stands = λ bytes entries b. subst (λ (t : List ℕ). C t entries) (append_assoc bytes p.piece q.piece) (q.stands (bytes ++ p.piece) entries (p.stands bytes entries b));
+  met = λ bytes entries b was. subst (λ (t : List ℕ). HasMet t new.peak) (append_assoc bytes p.piece q.piece) (q.met (bytes ++ p.piece) entries (p.stands bytes entries b) (p.met bytes entries b was));
 }
 
-moves_on : {S : Type 0} (from mid to : Option (List ℕ)) (old between new : AtHand S) (p q : List ℕ) → Moves from mid old between p → Moves mid to between new q → Moves from to old new (p ++ q)
-moves_on from mid to old between new p q m n = record { consumed = Consumes-trans from mid to p q m.consumed n.consumed; given = omega (arith, m.given, n.given, length-append p q); limit = λ l. n.limit (m.limit l) }
+-- a record, or the end, or a fault
+goes_one : {S E : Type 0} {A : List ℕ → List KeytabEntry → Type 0} (of_entry : KeytabEntry → E) (from to : Option (List ℕ)) (old new : AtHand S) (found : Result (Found E) KeytabFault) (m : MeetsOne of_entry from to old new found)
+    → ((bytes : List ℕ) (entries : List KeytabEntry) → HasReached old.given bytes entries → A (bytes ++ m.piece) entries) → Goes (HasReached old.given) A from to old new
+goes_one of_entry from to old new found m stands = record {
+  piece = m.piece;
+  moves = m.moves;
+  grows = m.peaks.grows;
+  low = m.peaks.low;
+  stands = stands;
+  met = λ bytes entries b was. met_record bytes m.piece entries old.peak new.peak b.reached m.peaks was;
+}
 
-come : {S : Type 0} (from mid : Option (List ℕ)) (old between : AtHand S) (bytes p : List ℕ) → Moves from mid old between p → old.given ≡ length bytes → between.given ≡ length (bytes ++ p)
-come from mid old between bytes p m g = omega (arith, m.given, g, length-append bytes p)
+-- ---- holes, and then another answer
 
-pub passes_hole : {S E : Type 0} (of_entry : KeytabEntry → E) (from mid to : Option (List ℕ)) (old between new : AtHand S) → PassesHoles from mid old between → MeetsOne of_entry mid to between new (Ok Hole) → PassesHoles from to old new
-passes_hole of_entry from mid to old between new h m = record {
-  piece = h.piece ++ m.piece;
-  moves = moves_on from mid to old between new h.piece m.piece h.moves m.moves;
-  limit = omega (arith, m.meets.limit, m.moves.given);
-  grows = omega (arith, h.grows, m.peaks.grows);
-  low = λ l. m.peaks.low (h.low l);
-  reaches = λ bytes entries given reached.
-      let some : List ℕ = bytes ++ h.piece in
-      let whole = subst (λ (n : ℕ). IsWhole n m.piece []) (come from mid old between bytes h.piece h.moves given) m.meets in
-      let more = reach_whole some entries (h.reaches bytes entries given reached) m.piece [] whole in
-      subst (λ (t : List ℕ). IsReached t (length t) entries []) (append_assoc bytes h.piece m.piece) (subst (λ (e : List KeytabEntry). IsReached (some ++ m.piece) (length (some ++ m.piece)) e []) (append-nil entries) more);
-  met = λ bytes entries given reached was.
-      subst (λ (t : List ℕ). HasMet t new.peak) (append_assoc bytes h.piece m.piece)
-      (met_record (bytes ++ h.piece) m.piece entries between.peak new.peak (h.reaches bytes entries given reached) m.peaks (h.met bytes entries given reached was));
+pub passes_none : {S : Type 0} (from : Option (List ℕ)) (window : AtHand S) → PassesHoles from from window window
+passes_none from window = record {
+  piece = [];
+  moves = record { consumed = Consumes-nil from; given = omega arith; limit = λ l. l };
+  grows = omega arith;
+  low = λ l. l;
+  stands = λ bytes entries b. subst (λ (t : List ℕ). HasReached window.given t entries) (sym (append-nil bytes)) b;
+  met = λ bytes entries b m. subst (λ (t : List ℕ). HasMet t window.peak) (sym (append-nil bytes)) m;
 }
 
 abbrev said_of : {E : Type 0} → Result (Option E) KeytabFault → Result (Option E) KeytabFault
 said_of said = said
 
-abbrev told_of : Result Bool KeytabFault → Result Bool KeytabFault
-told_of told = told
-
-next_by : {S E : Type 0} (of_entry : KeytabEntry → E) (from mid to : Option (List ℕ)) (old between new : AtHand S) (found : Result (Found E) KeytabFault) (answer : Result (Option KeytabEntry) KeytabFault) (P : ℕ → Type 0) → PassesHoles from mid old between → (m : MeetsOne of_entry mid to between new found) → P between.given
-    → IsWithin (stage_after answer) new.given → GivesMore answer old.given new.given
-    → ((some : List ℕ) (entries : List KeytabEntry) → IsReached some (length some) entries [] → length some ≤ file_limit → P (length some) → StandsTo to new.peak (stage_after answer) (some ++ m.piece) (entries_after entries answer))
-    → MeetsNext from to old new answer
-next_by of_entry from mid to old between new found answer P h m meets within more ends = record {
-  piece = h.piece ++ m.piece;
-  moves = moves_on from mid to old between new h.piece m.piece h.moves m.moves;
-  grows = omega (arith, h.grows, m.peaks.grows);
-  low = λ l. m.peaks.low (h.low l);
-  within = within;
-  more = more;
-  stands = λ bytes entries b.
-      let some : List ℕ = bytes ++ h.piece in
-      let here = come from mid old between bytes h.piece h.moves b.given_is in
-      subst (λ (t : List ℕ). StandsTo to new.peak (stage_after answer) t (entries_after entries answer)) (append_assoc bytes h.piece m.piece)
-      (ends some entries (h.reaches bytes entries b.given_is b.reached) (omega (arith, here, h.limit)) (subst P here meets));
-  met = λ bytes entries b was.
-      subst (λ (t : List ℕ). HasMet t new.peak) (append_assoc bytes h.piece m.piece)
-      (met_record (bytes ++ h.piece) m.piece entries between.peak new.peak (h.reaches bytes entries b.given_is b.reached) m.peaks (h.met bytes entries b.given_is b.reached was));
-}
-
 module _ {S E : Type 0} (of_entry : KeytabEntry → E) (from mid to : Option (List ℕ)) (old between new : AtHand S) (h : PassesHoles from mid old between) where
-  pub next_end : MeetsOne of_entry mid to between new (Ok End) → MeetsKept of_entry from to old new (Ok None)
-  next_end m = record {
+  pub passes_hole : MeetsOne of_entry mid to between new (Ok Hole) → PassesHoles from to old new
+  passes_hole m = goes_then from mid to old between new h (goes_one of_entry mid to between new (Ok Hole) m (λ bytes entries b.
+      let whole : IsWhole (length bytes) m.piece [] = rw b.given_is at m.meets in
+      record {
+        given_is = omega (arith, m.moves.given, b.given_is, length-append bytes m.piece);
+        limit = omega (arith, whole.limit, length-append bytes m.piece);
+        reached = rw append-nil at (reach_whole bytes entries b.reached m.piece [] whole);
+      }))
+
+  pub next_end : between.given ≤ file_limit → MeetsOne of_entry mid to between new (Ok End) → MeetsKept of_entry from to old new (Ok None)
+  next_end limit m = record {
     answer = Ok None;
     said_is = refl;
-    meets = next_by of_entry from mid to old between new (Ok End) (Ok None) (λ (n : ℕ). MeetsLast to n m.piece None) h m m.meets (m.moves.limit (omega (arith, h.limit))) tt (λ some entries reached limit meets. end_stands some entries reached to new.peak m.piece meets);
+    meets = record {
+      goes = goes_then from mid to old between new h (goes_one of_entry mid to between new (Ok End) m (λ bytes entries b. concludes bytes entries b.reached to m.piece None (rw b.given_is at m.meets)));
+      within = m.moves.limit (omega (arith, limit));
+      more = tt;
+    };
   }
 
   pub next_kept : (kept : E) → MeetsOne of_entry mid to between new (Ok (Entry kept)) → MeetsKept of_entry from to old new (Ok (Some kept))
   next_kept kept m =
       let e = m.meets.0 in
-      let room : length m.piece ≤ 4 + new.peak = m.meets.2 in
       let whole : IsWhole between.given m.piece (e ∷ []) = m.meets.3 in
       record {
         answer = Ok (Some e);
         said_is = ap (λ (k : E). said_of (Ok (Some k))) m.meets.1;
-        meets = next_by of_entry from mid to old between new (Ok (Entry kept)) (Ok (Some e)) (λ (n : ℕ). IsWhole n m.piece (e ∷ [])) h m whole (omega (arith, whole.limit, m.moves.given))
-            (omega (arith, m.moves.given, h.moves.given, ap length whole.piece_is, record_first whole.one), omega (arith, whole.limit, m.moves.given)) (λ some entries reached limit meets. entry_stands some entries reached to new.peak m.piece e room meets);
+        meets = record {
+          goes = goes_then from mid to old between new h (goes_one of_entry mid to between new (Ok (Entry kept)) m (λ bytes entries b. entry_stands bytes entries b.reached to new.peak m.piece e m.meets.2 (rw b.given_is at whole)));
+          within = omega (arith, whole.limit, m.moves.given);
+          more = (omega (arith, m.moves.given, h.moves.given, ap length whole.piece_is, record_first whole.one), omega (arith, whole.limit, m.moves.given));
+        };
       }
 
-  pub next_fault : (fault : KeytabFault) → MeetsOne of_entry mid to between new (Err fault) → MeetsKept of_entry from to old new (Err fault)
-  next_fault fault m = record {
+  pub next_fault : between.given ≤ file_limit → (fault : KeytabFault) → MeetsOne of_entry mid to between new (Err fault) → MeetsKept of_entry from to old new (Err fault)
+  next_fault limit fault m = record {
     answer = Err fault;
     said_is = refl;
-    meets = next_by of_entry from mid to old between new (Err fault) (Err fault) (λ (n : ℕ). MeetsLast to n m.piece (Some fault)) h m m.meets (m.moves.limit (omega (arith, h.limit))) tt (λ some entries reached limit meets. failed_stands some entries reached to new.peak m.piece fault limit meets);
+    meets = record {
+      goes = goes_then from mid to old between new h (goes_one of_entry mid to between new (Err fault) m (λ bytes entries b. failed_stands bytes entries b.reached to new.peak m.piece fault b.limit (subst (λ (n : ℕ). MeetsLast to n m.piece (Some fault)) b.given_is m.meets)));
+      within = m.moves.limit (omega (arith, limit));
+      more = tt;
+    };
   }
 
--- ---- what was kept of an entry
-
-kept_whole : (answer : Result (Option KeytabEntry) KeytabFault) → keeping (λ e. e) answer ≡ answer
-kept_whole (Ok (Some e)) = refl
-kept_whole (Ok None) = refl
-kept_whole (Err fault) = refl
-
--- the entry itself
--- that there is one
 -- ---- the first answer
 
 more_after : (old between new : ℕ) (answer : Result (Option KeytabEntry) KeytabFault) → old ≤ between → GivesMore answer between new → GivesMore answer old new
 more_after old between new (Ok (Some e)) within more = (omega (arith, within, more.0), more.1)
-more_after old between new (Ok None) within more = tt
-more_after old between new (Err fault) within more = tt
+more_after old between new _ within more = tt
+
+goes_first : {S : Type 0} {A : List ℕ → List KeytabEntry → Type 0} (from to : Option (List ℕ)) (old new : AtHand S) (opened : Result Unit KeytabFault) (o : OpensAt from to old new opened) → A o.piece [] → Goes IsFirst A from to old new
+goes_first from to old new opened o stands = record {
+  piece = o.piece;
+  moves = o.moves;
+  grows = o.peaks.grows;
+  low = o.peaks.low;
+  stands = λ bytes entries none. rw (none.0, none.1) stands;
+  met = λ bytes entries none was. rw none.0 (met_version o.piece old.peak new.peak o.peaks (rw none.0 at was));
+}
 
 pub first_next : {S : Type 0} (from mid to : Option (List ℕ)) (old between new : AtHand S) (opened : Unit) (answer : Result (Option KeytabEntry) KeytabFault) → OpensAt from mid old between (Ok opened) → old.given ≡ 0
     → MeetsNext mid to between new answer → MeetsFirst from to old new answer
@@ -282,35 +265,23 @@ first_next from mid to old between new opened answer o start n =
       reached = subst (λ (t : List ℕ). IsReached t (length t) [] []) (sym o.meets) (reach_start version [] refl);
     } in
     record {
-      piece = o.piece ++ n.piece;
-      moves = moves_on from mid to old between new o.piece n.piece o.moves n.moves;
-      grows = omega (arith, o.peaks.grows, n.grows);
-      low = λ l. n.low (o.peaks.low l);
+      goes = goes_then from mid to old between new (goes_first from mid old between (Ok opened) o behind) n.goes;
       within = n.within;
       more = more_after old.given between.given new.given answer (omega (arith, start)) n.more;
-      stands = λ bytes entries none. rw (none.0, none.1) (n.stands o.piece [] behind);
-      met = λ bytes entries none was. rw none.0 (n.met o.piece [] behind (met_version o.piece old.peak between.peak o.peaks (rw none.0 at was)));
     }
 
 version_stands : (left : Option (List ℕ)) (held : ℕ) (piece : List ℕ) (fault : KeytabFault) → MeetsVersion left piece (Err fault) → StandsTo left held (stage_after (Err fault)) piece []
 version_stands left held piece Version m = record { limit = m.0; all = m.1; stops = (refl, m.2) }
-version_stands left held piece (Truncated at) m = absurd m
-version_stands left held piece (BadEntry at) m = absurd m
 version_stands left held piece TooLong m = record { long = m.0; last = Some Version; stops = (refl, m.1) }
-version_stands left held piece NoSuchEntry m = absurd m
 version_stands left held piece Read m = inl refl
 version_stands left held piece OutOfMemory m = inl refl
+version_stands left held piece _ m = absurd m
 
 pub first_fault : {S : Type 0} (from to : Option (List ℕ)) (old new : AtHand S) (fault : KeytabFault) → OpensAt from to old new (Err fault) → old.given ≡ 0 → MeetsFirst from to old new (Err fault)
 first_fault from to old new fault o start = record {
-  piece = o.piece;
-  moves = o.moves;
-  grows = o.peaks.grows;
-  low = o.peaks.low;
+  goes = goes_first from to old new (Err fault) o (version_stands to new.peak o.piece fault o.meets);
   within = o.moves.limit (omega (arith, start));
   more = tt;
-  stands = λ bytes entries none. rw (none.0, none.1) (version_stands to new.peak o.piece fault o.meets);
-  met = λ bytes entries none was. rw none.0 (met_version o.piece old.peak new.peak o.peaks (rw none.0 at was));
 }
 
 -- ---- what a reader has read
@@ -323,12 +294,12 @@ HasReadOn from to new answer bytes entries =
 read_behind : {S : Type 0} (CameBefore : List ℕ → List KeytabEntry → Type 0) (from to : Option (List ℕ)) (reader : EntriesRead S) (old new : AtHand S) (answer : Result (Option KeytabEntry) KeytabFault) → reader.held ≡ old.peak → MeetsBehind CameBefore from to old new answer
     → (bytes : List ℕ) (entries : List KeytabEntry) → CameBefore bytes entries → old.given ≡ length bytes → HasRead from reader bytes entries → HasReadOn from to new answer bytes entries
 read_behind CameBefore from to reader old new answer held m bytes entries before here r = (
-  m.piece,
-  m.moves.consumed,
+  m.goes.piece,
+  m.goes.moves.consumed,
   record {
-    given = omega (arith, m.moves.given, here, length-append bytes m.piece);
-    stands = m.stands bytes entries before;
-    held = m.met bytes entries before (subst (HasMet bytes) held r.held);
+    given = omega (arith, m.goes.moves.given, here, length-append bytes m.goes.piece);
+    stands = m.goes.stands bytes entries before;
+    held = m.goes.met bytes entries before (subst (HasMet bytes) held r.held);
   },
 )
 
@@ -343,8 +314,7 @@ pub read_next : {S : Type 0} (from to : Option (List ℕ)) (reader : EntriesRead
 read_next from to reader old new answer stage held given m bytes entries r =
     let stands = subst (λ (s : Stage). StandsTo from reader.held s bytes entries) stage r.stands in
     let here : old.given ≡ length bytes = sym given ∙ r.given in
-    let behind : HasReached old.given bytes entries = record { given_is = here; limit = stands.0; reached = ends_reached reader.held bytes entries stands.0 stands.1 } in
-    read_behind (HasReached old.given) from to reader old new answer held m bytes entries behind here r
+    read_behind (HasReached old.given) from to reader old new answer held m bytes entries (ends_reached from reader.held old.given bytes entries here stands) here r
 
 -- the same answer, and no byte more
 pub read_again : {S : Type 0} (left : Option (List ℕ)) (reader : EntriesRead S) (bytes : List ℕ) (entries : List KeytabEntry) → HasRead left reader bytes entries → (piece : List ℕ) × Consumes left left piece × HasRead left reader (bytes ++ piece) entries

@@ -1,94 +1,113 @@
--- What a reader answers last is what the whole file says.
-use Rattle.std.proofs.Common.{◌≡◌, ℕ, ◌<◌, ◌≤◌, List, [], ◌++◌, length, Option, Some, None, refl, sym, ap, subst, ◌∙◌, append_assoc, append-nil, arith, inl, inr}
+-- What a reader answers last is what the whole file says, and what it read to its end is a keytab.
+use Rattle.std.proofs.Common.{◌≡◌, ℕ, List, [], ◌++◌, length, take, Option, Some, None, Ok, Err, refl, sym, ap, subst, ◌∙◌, append_assoc, append-nil, arith, inl, inr, ◌∷◌, Result}
 use Rattle.std.specs.Prelude.{◌≢◌}
 use Rattle.std.specs.List.{flat_map}
-use Rattle.std.specs.Io.KnownBytes.{Consumes, IsAtEnd}
-use Rattle.std.proofs.lemmas.List.{length-append, append_cancel_left}
+use Rattle.std.specs.Io.KnownBytes.{Consumes}
+use Rattle.std.proofs.lemmas.List.{take-append-le, take_all, length-append}
 use Rattle.std.proofs.lemmas.List.Concat.{flat_map-append}
-use Rattle.std.proofs.lemmas.List.Elements.{recursion_from_All}
 use Rattle.krb_keytab.specs.Entry.{KeytabEntry}
-use Rattle.krb_name.specs.File.{file_limit}
-use Rattle.krb_keytab.specs.Format.{version, record_bytes, FitsRecord, entries_of, IsReached, IsKeytab, IsCutOff, HoldsNoEntry, StandsAt, IsFaultOf}
-use Rattle.krb_keytab.specs.Items.{Stops, AreFirst, StandsTo}
+use Rattle.krb_name.specs.File.{file_limit, TakesFile}
+use Rattle.krb_name.proofs.FileLaws.{answer_known}
+use Rattle.krb_keytab.specs.Format.{version, record_bytes, entries_of, IsReached, IsKeytab, IsFaultOf}
+use Rattle.krb_keytab.specs.Items.{StopsSo, AreFirst, StandsTo}
 use Rattle.krb_keytab.specs.declared.fault.KeytabFault.{KeytabFault}
-use Rattle.krb_keytab.specs.declared.fault.KeytabFault.TheVariants.{Version, Truncated, BadEntry, TooLong, NoSuchEntry, Read, OutOfMemory}
+use Rattle.krb_keytab.specs.declared.fault.KeytabFault.TheVariants.{Version, TooLong, Read, OutOfMemory}
 use Rattle.krb_keytab.specs.declared.stage.Stage.{Stage}
 use Rattle.krb_keytab.specs.declared.stage.Stage.TheVariants.{Start, Records, End, Failed}
-use Rattle.krb_keytab.proofs.OneSplit.{first_records}
+use Rattle.krb_keytab.proofs.OneRecord.{no_record}
+use Rattle.krb_keytab.proofs.OneSplit.{first_records, one_last}
+use Rattle.krb_keytab.proofs.OneAnswer.{keytab_answers, concluded, fault_of}
 use Rattle.krb_keytab.proofs.StandLaws.{ends_reached}
-
--- the bytes that came are all, where none is left
-pub all_came : (whole bytes : List ℕ) (left : Option (List ℕ)) → Consumes (Some whole) left bytes → IsAtEnd left → bytes ≡ whole
-all_came whole bytes None c end = absurd c
-all_came whole bytes (Some rest) c end = sym (c ∙ ap (λ (t : List ℕ). bytes ++ t) end ∙ append-nil bytes)
+use Rattle.std.proofs.KnownBytes.{Consumes-trans}
+use Rattle.krb_name.specs.Window.{AtHand}
+use Rattle.krb_keytab.specs.Inner.Meeting.{MeetsNext, HasTaken, IsFound, IsFaulty}
 
 pub end_told : (whole bytes : List ℕ) (left : Option (List ℕ)) (held : ℕ) (entries : List KeytabEntry) → Consumes (Some whole) left bytes → StandsTo left held End bytes entries → IsKeytab whole entries
 end_told whole bytes left held entries c s =
-    subst (λ (t : List ℕ). IsKeytab t entries) (all_came whole bytes left c s.all) (record { limit = s.limit; at = s.stops.at; behind = s.stops.behind; reached = s.stops.reached; end = s.stops.lacks })
-
-stands_there : (whole bytes : List ℕ) (entries : List KeytabEntry) (place at : ℕ) (behind : List ℕ) (IsFaulty : List ℕ → Type 0) → bytes ≡ whole → length bytes ≤ file_limit → IsReached bytes at entries behind → place ≡ at → IsFaulty behind → StandsAt whole place IsFaulty
-stands_there whole bytes entries place at behind IsFaulty same limit reached e faulty =
-    subst (λ (t : List ℕ). StandsAt t place IsFaulty) same (record { limit = limit; entries = entries; behind = behind; reached = subst (λ (n : ℕ). IsReached bytes n entries behind) (sym e) reached; faulty = faulty })
-
-long_told : (whole bytes : List ℕ) (left : Option (List ℕ)) → Consumes (Some whole) left bytes → file_limit < length bytes → file_limit < length whole
-long_told whole bytes None c long = absurd c
-long_told whole bytes (Some rest) c long = omega (arith, ap length c, length-append bytes rest, long)
+    let all = concluded (Some whole) left bytes entries None c s in
+    answer_known keytab_answers (Some whole) left all.0 (Ok entries) all.1 all.2
 
 pub fault_told : (whole bytes : List ℕ) (left : Option (List ℕ)) (held : ℕ) (entries : List KeytabEntry) (fault : KeytabFault) → fault ≢ Read → fault ≢ OutOfMemory → Consumes (Some whole) left bytes → StandsTo left held (Failed fault) bytes entries → IsFaultOf whole fault
-fault_told whole bytes left held entries Version p q c s = subst (λ (t : List ℕ). IsFaultOf t Version) (all_came whole bytes left c s.all) (s.limit, s.stops.1)
-fault_told whole bytes left held entries (Truncated place) p q c s = stands_there whole bytes entries place s.stops.at s.stops.behind IsCutOff (all_came whole bytes left c s.all) s.limit s.stops.reached s.stops.lacks.0 s.stops.lacks.1
-fault_told whole bytes left held entries (BadEntry place) p q c s = stands_there whole bytes entries place s.stops.at s.stops.behind HoldsNoEntry (all_came whole bytes left c s.all) s.limit s.stops.reached s.stops.lacks.0 s.stops.lacks.1
-fault_told whole bytes left held entries TooLong p q c s = long_told whole bytes left c (omega (arith, s.long))
-fault_told whole bytes left held entries NoSuchEntry p q c s = absurd s.stops.lacks
-fault_told whole bytes left held entries Read p q c s = absurd (p refl)
-fault_told whole bytes left held entries OutOfMemory p q c s = absurd (q refl)
+fault_told whole bytes left held entries fault p q c s =
+    let all = fault_of (Some whole) left held bytes entries fault c s q p in
+    answer_known keytab_answers (Some whole) left all.0 (Err fault) all.1 all.2
 
 -- ---- the first entries of a file
 
 abbrev pub Begins : List KeytabEntry → List KeytabEntry → Type 0
 Begins all entries = (others : List KeytabEntry) × (all ≡ entries ++ others)
 
-begins_reached : (whole : List ℕ) (all entries : List KeytabEntry) (at : ℕ) (behind : List ℕ) → IsKeytab whole all → IsReached whole at entries behind → Begins all entries
-begins_reached whole all entries at behind k r =
-    let m = first_records r.records k.reached.records behind k.behind (recursion_from_All FitsRecord r.records r.fit) (recursion_from_All FitsRecord k.reached.records k.reached.fit) (append_cancel_left version _ _ (sym r.bytes_are ∙ k.reached.bytes_are)) k.end in
-    (flat_map entries_of m.0, k.reached.entries_are ∙ ap (flat_map entries_of) m.1 ∙ flat_map-append entries_of r.records m.0 ∙ ap (λ (t : List KeytabEntry). t ++ flat_map entries_of m.0) (sym r.entries_are))
-
-further : (bytes rest : List ℕ) (entries : List KeytabEntry) (at : ℕ) (behind : List ℕ) → IsReached bytes at entries behind → IsReached (bytes ++ rest) at entries (behind ++ rest)
-further bytes rest entries at behind r =
-    let front : List ℕ = flat_map record_bytes r.records in
-    record {
-      records = r.records;
-      fit = r.fit;
-      bytes_are = ap (λ (t : List ℕ). t ++ rest) r.bytes_are ∙ ap (λ (t : List ℕ). version ++ t) (append_assoc front behind rest);
-      at_is = r.at_is;
-      entries_are = r.entries_are;
-    }
-
 begins : (whole bytes : List ℕ) (left : Option (List ℕ)) (all entries : List KeytabEntry) (at : ℕ) (behind : List ℕ) → Consumes (Some whole) left bytes → IsKeytab whole all → IsReached bytes at entries behind → Begins all entries
 begins whole bytes None all entries at behind c k r = absurd c
-begins whole bytes (Some rest) all entries at behind c k r = begins_reached whole all entries at (behind ++ rest) k (subst (λ (t : List ℕ). IsReached t at entries (behind ++ rest)) (sym c) (further bytes rest entries at behind r))
+begins whole bytes (Some rest) all entries at behind c k r =
+    let front : List ℕ = flat_map record_bytes r.records in
+    let parts : whole ≡ version ++ (front ++ (behind ++ rest)) = c ∙ ap (λ (t : List ℕ). t ++ rest) r.bytes_are ∙ ap (λ (t : List ℕ). version ++ t) (append_assoc front behind rest) in
+    let m = first_records r.records k.reached.records (behind ++ rest) k.behind r.fit k.reached.fit (sym parts ∙ k.reached.bytes_are) (no_record 0 None k.behind k.end) in
+    (flat_map entries_of m.0, k.reached.entries_are ∙ ap (flat_map entries_of) m.1 ∙ flat_map-append entries_of r.records m.0 ∙ ap (λ (t : List KeytabEntry). t ++ flat_map entries_of m.0) (sym r.entries_are))
 
 none_begins : (all entries : List KeytabEntry) → entries ≡ [] → Begins all entries
 none_begins all entries e = (all, sym (ap (λ (t : List KeytabEntry). t ++ all) e))
 
-begins_stop : (whole bytes : List ℕ) (left : Option (List ℕ)) (all entries : List KeytabEntry) (last : Option KeytabFault) → Consumes (Some whole) left bytes → IsKeytab whole all → Stops bytes entries last → Begins all entries
-begins_stop whole bytes left all entries last c k s = begins whole bytes left all entries s.at s.behind c k s.reached
-
 begins_first : (whole bytes : List ℕ) (left : Option (List ℕ)) (all entries : List KeytabEntry) → Consumes (Some whole) left bytes → IsKeytab whole all → AreFirst bytes entries → Begins all entries
-begins_first whole bytes left all entries c k f =
-    elim f [
-      | inl none ↦ none_begins all entries none
-      | inr reached ↦ begins whole bytes left all entries reached.0 reached.1 c k reached.2
-    ]
+begins_first whole bytes left all entries c k (inl none) = none_begins all entries none
+begins_first whole bytes left all entries c k (inr reached) = begins whole bytes left all entries reached.0 reached.1 c k reached.2
 
 pub first_told : (whole bytes : List ℕ) (left : Option (List ℕ)) (held : ℕ) (stage : Stage) (all entries : List KeytabEntry) → Consumes (Some whole) left bytes → StandsTo left held stage bytes entries → IsKeytab whole all → Begins all entries
 first_told whole bytes left held Start all entries c s k = none_begins all entries s.1
-first_told whole bytes left held Records all entries c s k = begins whole bytes left all entries (length bytes) [] c k (ends_reached held bytes entries s.0 s.1)
-first_told whole bytes left held End all entries c s k = begins_stop whole bytes left all entries None c k s.stops
+first_told whole bytes left held Records all entries c s k = begins whole bytes left all entries (length bytes) [] c k (ends_reached left held (length bytes) bytes entries refl s).reached
+first_told whole bytes left held End all entries c s k = begins whole bytes left all entries s.stops.at s.stops.behind c k s.stops.reached
 first_told whole bytes left held (Failed Version) all entries c s k = none_begins all entries s.stops.0
-first_told whole bytes left held (Failed (Truncated at)) all entries c s k = begins_stop whole bytes left all entries (Some (Truncated at)) c k s.stops
-first_told whole bytes left held (Failed (BadEntry at)) all entries c s k = begins_stop whole bytes left all entries (Some (BadEntry at)) c k s.stops
-first_told whole bytes left held (Failed TooLong) all entries c s k = let l = k.limit in let m = long_told whole bytes left c (omega (arith, s.long)) in absurd (omega arith)
-first_told whole bytes left held (Failed NoSuchEntry) all entries c s k = absurd s.stops.lacks
+first_told whole bytes left held (Failed TooLong) all entries c s k = let l = k.limit in let long = fault_told whole bytes left held entries TooLong (λ e. cc) (λ e. cc) c s in absurd (omega arith)
 first_told whole bytes left held (Failed Read) all entries c s k = begins_first whole bytes left all entries c k s
 first_told whole bytes left held (Failed OutOfMemory) all entries c s k = begins_first whole bytes left all entries c k s
+first_told whole bytes left held (Failed fault) all entries c s k = begins whole bytes left all entries s.stops.at s.stops.behind c k s.stops.reached
+
+-- ---- two readers of one file
+
+stopped : (whole bytes : List ℕ) (left : Option (List ℕ)) (held : ℕ) (entries : List KeytabEntry) (fault : KeytabFault) → fault ≢ Read → fault ≢ OutOfMemory → Consumes (Some whole) left bytes → StandsTo left held (Failed fault) bytes entries
+    → (last : Option KeytabFault) × StopsSo (take file_limit whole) entries last
+stopped whole bytes None held entries fault p q c s = absurd c
+stopped whole bytes (Some rest) held entries TooLong p q c s =
+    (s.last, subst (λ (t : List ℕ). StopsSo t entries s.last) (sym (ap (take file_limit) c ∙ take-append-le file_limit bytes rest (omega (arith, s.long)))) s.stops)
+stopped whole bytes (Some rest) held entries Read p q c s = absurd (p refl)
+stopped whole bytes (Some rest) held entries OutOfMemory p q c s = absurd (q refl)
+stopped whole bytes (Some rest) held entries fault p q c s =
+    let same : take file_limit whole ≡ bytes = ap (take file_limit) (c ∙ ap (λ (t : List ℕ). bytes ++ t) s.all ∙ append-nil bytes) ∙ take_all file_limit bytes s.limit in
+    (Some fault, subst (λ (t : List ℕ). StopsSo t entries (Some fault)) (sym same) s.stops)
+
+pub same_before : (whole bytes others : List ℕ) (left right : Option (List ℕ)) (held peak : ℕ) (entries more : List KeytabEntry) (fault other : KeytabFault) → fault ≢ Read → fault ≢ OutOfMemory → other ≢ Read → other ≢ OutOfMemory
+    → Consumes (Some whole) left bytes → StandsTo left held (Failed fault) bytes entries → Consumes (Some whole) right others → StandsTo right peak (Failed other) others more → entries ≡ more
+same_before whole bytes others left right held peak entries more fault other p q r s c a d b =
+    let one = stopped whole bytes left held entries fault p q c a in
+    let two = stopped whole others right peak more other r s d b in
+    (one_last (take file_limit whole) entries more one.0 two.0 one.1 two.1).0
+
+pub entry_taken : {S : Type 0} (from mid to : Option (List ℕ)) (old new : AtHand S) (entries more : List KeytabEntry) (e : KeytabEntry) → HasTaken from mid old.given entries → MeetsNext mid to old new (Ok (Some e)) → more ≡ entries ++ e ∷ []
+    → HasTaken from to new.given more
+entry_taken from mid to old new entries more e t m pushed =
+    let m = m.goes in
+    let all : List ℕ = t.bytes ++ m.piece in
+    record {
+      bytes = all;
+      taken = Consumes-trans from mid to t.bytes m.piece t.taken m.moves.consumed;
+      reached = rw pushed (ends_reached to new.peak new.given all (entries ++ e ∷ []) (omega (arith, m.moves.given, t.reached.given_is, length-append t.bytes m.piece)) (m.stands t.bytes entries t.reached));
+    }
+
+pub end_taken : {S : Type 0} (from mid to : Option (List ℕ)) (old new : AtHand S) (entries : List KeytabEntry) → HasTaken from mid old.given entries → MeetsNext mid to old new (Ok None) → IsFound from to entries
+end_taken from mid to old new entries t m =
+    concluded from to (t.bytes ++ m.goes.piece) entries None (Consumes-trans from mid to t.bytes m.goes.piece t.taken m.goes.moves.consumed) (m.goes.stands t.bytes entries t.reached)
+
+pub next_faulty : {S : Type 0} (from mid to : Option (List ℕ)) (old new : AtHand S) (entries : List KeytabEntry) (fault : KeytabFault) → HasTaken from mid old.given entries → MeetsNext mid to old new (Err fault) → IsFaulty from to fault
+next_faulty from mid to old new entries fault t m =
+    fault_of from to new.peak (t.bytes ++ m.goes.piece) entries fault (Consumes-trans from mid to t.bytes m.goes.piece t.taken m.goes.moves.consumed) (m.goes.stands t.bytes entries t.reached)
+
+-- how much the source gave
+pub next_takes : {S : Type 0} (from mid to : Option (List ℕ)) (old new : AtHand S) (entries : List KeytabEntry) (answer : Result (Option KeytabEntry) KeytabFault) → HasTaken from mid old.given entries → MeetsNext mid to old new answer → TakesFile from to
+next_takes from mid to old new entries answer t m =
+    let m = m.goes in
+    let here = t.reached in
+    record {
+      piece = t.bytes ++ m.piece;
+      taken = Consumes-trans from mid to t.bytes m.piece t.taken m.moves.consumed;
+      within = let l = m.moves.limit (omega (arith, here.given_is, here.limit)) in omega (arith, l, m.moves.given, here.given_is, length-append t.bytes m.piece);
+    }

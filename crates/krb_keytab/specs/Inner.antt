@@ -1,11 +1,7 @@
-pub mod Components
 pub mod Entry
-pub mod Feed
 pub mod Finding
-pub mod Hash
 pub mod Index
 pub mod Meeting
 pub mod Pick
 pub mod Putting
-pub mod Reading
 pub mod Room

@@ -79,6 +79,7 @@ impl EntryAdder {
     /// - `TooLong`: no hole is long enough, and the longer file would have more than 16,777,216
     ///   bytes.
     /// - `OutOfMemory`: no hole is long enough, and there is no memory for the longer file.
+    #[tactic(auto, using(crate::proofs::AddLaws::adds_gains))]
     pub fn add(&mut self, entry: &Entry) -> Result<(), KeytabFault>
         ensures ok { OnOk result (AddsEntry self.old entry.now self.new) }
         ensures list { OnOk result (GainsEntry self.old entry.now self.new) }
@@ -117,20 +118,11 @@ fn read_room(alloc: Global, bytes: &[u8]) -> Result<(Vec<Hole>, usize), KeytabFa
         fault ≢ KeytabFault.OutOfMemory → IsFaultOf bytes.now fault) }
     ensures faulty { (fault : KeytabFault) → IsFaultOf bytes.now fault → result ≡ Err fault }
 {
-    match find_holes(alloc, bytes) {
-        Ok(found) => Ok(found),
+    let mut holes = Vec::new(alloc);
+    match read_all(bytes, &mut holes) {
+        Ok(end) => Ok((holes, end)),
         Err(_) => Err(fault_of(bytes)),
     }
-}
-
-fn find_holes(alloc: Global, bytes: &[u8]) -> Result<(Vec<Hole>, usize), KeytabFault>
-    ensures room { IfOk result (λ found. KnowsRoom bytes.now found.0.items found.1) }
-    ensures fault { IfErr result (λ fault.
-        fault ≢ KeytabFault.OutOfMemory → IsFaultOf bytes.now fault) }
-{
-    let mut holes = Vec::new(alloc);
-    let end = read_all(bytes, &mut holes)?;
-    Ok((holes, end))
 }
 
 impl Gather for Vec<Hole> {

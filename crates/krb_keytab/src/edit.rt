@@ -63,6 +63,7 @@ impl Keytab {
     ///   file, and there is no memory for it.
     ///
     /// Source: MIT krb5, "Keytab file format".
+    #[tactic(auto, using(crate::proofs::AddLaws::adds_gains))]
     pub fn add_in(file: &mut Vec<u8>, entry: &Entry) -> Result<(), KeytabFault>
         ensures ok { OnOk result (AddsEntry file.old.items entry.now file.new.items) }
         ensures list { OnOk result (GainsEntry file.old.items entry.now file.new.items) }

@@ -5,7 +5,7 @@ ghost use Rattle.std.specs.Int.{w16};
 ghost use Rattle.std.specs.List.{flat_map};
 ghost use Rattle.krb_name.specs.Cursor.{data_bytes};
 ghost use Rattle.krb_keytab.specs.Entry.{KeytabEntry, LengthsFit, FitsEntry};
-ghost use Rattle.krb_keytab.specs.Inner.Hash.{hash_of};
+ghost use Rattle.krb_keytab.specs.Inner.Index.{hash_of};
 ghost use Rattle.krb_keytab.specs.Written.{record_length};
 
 use crate::hash::hash_of;

@@ -3,7 +3,6 @@
 ghost use Rattle.std.specs.Prelude.{◌≡◌, ◌+◌, ◌-◌, ◌++◌, ◌^◌, ◌<◌, ℕ, List, [], Option, Some, Err, ⊤, is_ok, length, min, if◌then◌else◌};
 ghost use Rattle.krb_name.specs.Flow.{failed_reads};
 ghost use Rattle.krb_name.specs.Window.{AtHand, Fills, Passes};
-ghost use Rattle.krb_keytab.specs.Inner.Feed.{emptied};
 
 use krb_name::{ReadFault, SliceSource, Source, SourceFailed, Window};
 use std::marker::Model;
@@ -42,7 +41,7 @@ pub(crate) trait Feed {
         requires reads { failure_count self.old < 2 ^ 64 - 1 }
         requires count { (at_hand self.old).given + count < 2 ^ 64 }
         ensures fills { Fills (remaining self.old) (remaining self.new)
-            (emptied (at_hand self.old)) (at_hand self.new) count result }
+            (record (at_hand self.old) { bytes = [] }) (at_hand self.new) count result }
         ensures memory { result ≡ Err ReadFault.OutOfMemory → allocates }
         ensures failed { failure_count self.new ≡ failure_count self.old + failed_reads result }
         ensures lent { lender self.new ≡ lender self.old };

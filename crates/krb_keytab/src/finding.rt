@@ -4,9 +4,8 @@ ghost use Rattle.std.specs.Prelude.{◌≡◌, ◌≢◌, ◌⊎◌, ◌≤◌, 
 ghost use Rattle.krb_name.specs.File.{file_limit};
 ghost use Rattle.krb_keytab.specs.Entry.{KeytabEntry};
 ghost use Rattle.krb_keytab.specs.Format.{version, KeytabRecord, hole, entry, IsFaultOf};
-ghost use Rattle.krb_keytab.specs.Inner.Feed.{nothing_of};
 ghost use Rattle.krb_keytab.specs.Inner.Finding.{LiesAt, HasGathered, KeepsEntry, KeepsHole, IsFoundEntry, IsFoundRoom};
-ghost use Rattle.krb_keytab.specs.Inner.Meeting.{MeetsOne};
+ghost use Rattle.krb_keytab.specs.Inner.Meeting.{MeetsOne, nothing_of};
 
 use crate::fault::KeytabFault;
 use crate::feed::{Feed, Slice};

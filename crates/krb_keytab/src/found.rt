@@ -2,7 +2,7 @@
 
 ghost use Rattle.std.specs.Prelude.{◌≡◌, ⊤, IfOk, OnErr};
 ghost use Rattle.krb_keytab.specs.Entry.{KeytabEntry};
-ghost use Rattle.krb_keytab.specs.Inner.Feed.{nothing_of};
+ghost use Rattle.krb_keytab.specs.Inner.Meeting.{nothing_of};
 
 use crate::entry::Entry;
 use crate::view::EntryView;

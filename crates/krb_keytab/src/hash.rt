@@ -1,13 +1,13 @@
 //! The hash of a name.
 
 ghost use Rattle.std.specs.Prelude.{◌≡◌};
-ghost use Rattle.krb_keytab.specs.Inner.Hash.{hash_of};
+ghost use Rattle.krb_keytab.specs.Inner.Index.{hash_of};
 
 use krb_name::Principal;
 use std::hash::{FoldHasher, Hasher};
 
 /// Returns a hash of the realm and the components. The name type isn't hashed.
-#[tactic(auto, unfolding(crate::specs::Inner::Hash::hash_of))]
+#[tactic(auto, unfolding(crate::specs::Inner::Index::hash_of))]
 pub(crate) fn hash_of(name: &Principal) -> u32
     ensures { result ≡ hash_of name.now }
 {

@@ -18,6 +18,7 @@ ghost use Rattle.krb_keytab.specs.declared.stage.Stage.TheVariants.{End, Failed,
 
 /// States that bytes either are a keytab, of one list of entries only, or have a fault, and only
 /// one.
+#[tactic(auto, using(crate::proofs::AnswerLaws::some_answer, crate::proofs::OneAnswer::same_answers))]
 pub fn each_file_has_one_answer()
     ensures some { (bytes : List ℕ) → IsBytes bytes
         → (answer : Result (List KeytabEntry) KeytabFault) × IsAnswerOf bytes answer }
@@ -27,12 +28,14 @@ pub fn each_file_has_one_answer()
 
 /// States that there is a choice for each name, encryption type and version number: an entry, or
 /// one of the three reasons why there is none.
+#[tactic(auto, using(crate::proofs::SomeChoice::some_choice))]
 pub fn a_choice_exists()
     ensures { (entries : List KeytabEntry) (name : Principal) (etype : ℤ) (kvno : Option ℕ)
         → (choice : Choice) × IsChoice entries name etype kvno choice }
 {}
 
 /// States that there is only one choice.
+#[tactic(auto, using(crate::proofs::ChoiceLaws::one_choice))]
 pub fn each_choice_is_one()
     ensures { (entries : List KeytabEntry) (name : Principal) (etype : ℤ) (kvno : Option ℕ)
         (one other : Choice) → IsChoice entries name etype kvno one
@@ -41,6 +44,7 @@ pub fn each_choice_is_one()
 
 /// States that a keytab consists of one list of records and one end only. So there is one first
 /// hole that is long enough, and one place where the records end.
+#[tactic(auto, using(crate::proofs::OneSplit::same_division))]
 pub fn each_keytab_is_divided_once()
     ensures { (bytes : List ℕ) (records others : List KeytabRecord) (end other_end : List ℕ)
         → IsMadeOf bytes records end → IsMadeOf bytes others other_end
@@ -49,12 +53,14 @@ pub fn each_keytab_is_divided_once()
 
 /// States that the entries of a keytab are those of its records, in their order. So an added entry
 /// comes after those of the records before its own.
+#[tactic(auto, using(crate::proofs::MadeLaws::made_keytab))]
 pub fn records_hold_the_entries()
     ensures { (bytes : List ℕ) (records : List KeytabRecord) (end : List ℕ)
         → IsMadeOf bytes records end → IsKeytab bytes (flat_map entries_of records) }
 {}
 
 /// States that the offset of a fault is that of one of the bytes, or their end.
+#[tactic(auto, using(crate::proofs::OneAnswer::fault_within))]
 pub fn each_fault_lies_within()
     ensures { (bytes : List ℕ) (fault : KeytabFault) → IsFaultOf bytes fault
         → IfSome (offset_of fault) (λ at. at ≤ length bytes) }
@@ -63,6 +69,7 @@ pub fn each_fault_lies_within()
 /// States that the last answer of a reader is right for all the bytes that its source had. If it is
 /// the end, the bytes are a keytab of the entries that it returned. If it is a fault of the
 /// content, the bytes have this fault.
+#[tactic(auto, using(crate::proofs::ToldLaws::end_told, crate::proofs::ToldLaws::fault_told))]
 pub fn a_reader_tells_the_file()
     ensures end { (whole bytes : List ℕ) (left : Option (List ℕ)) (held : ℕ) (entries : List KeytabEntry)
         → Consumes (Some whole) left bytes → StandsTo left held End bytes entries → IsKeytab whole entries }

@@ -3,8 +3,7 @@
 ghost use Rattle.std.specs.Prelude.{◌≡◌, IfOk, OnOk, OnErr, None, Some};
 ghost use Rattle.krb_keytab.specs.Entry.{KeytabEntry, LengthsFit};
 ghost use Rattle.krb_keytab.specs.Format.{full_kvno};
-ghost use Rattle.krb_keytab.specs.Inner.Components.{components_at, first_components, HasComponents, IsBehind};
-ghost use Rattle.krb_keytab.specs.Inner.Entry.{entry_at};
+ghost use Rattle.krb_keytab.specs.Inner.Entry.{components_at, first_components, HasComponents, IsBehind, entry_at};
 
 use crate::entry::Entry;
 use krb_name::{Bytes, Components, FileCursor, Principal, Short};

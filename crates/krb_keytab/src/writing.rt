@@ -8,10 +8,10 @@ ghost use Rattle.krb_name.specs.Cursor.{data_bytes};
 ghost use Rattle.krb_keytab.specs.Entry.{LengthsFit, FitsEntry};
 ghost use Rattle.krb_keytab.specs.Format.{record_bytes};
 ghost use Rattle.krb_keytab.specs.Written.{padded_record, written_record, record_length};
-ghost use Rattle.krb_keytab.specs.Edit.{zero_hole, AddsEntry, GainsEntry, WouldGrow, WouldPass, IsUnadded};
+ghost use Rattle.krb_keytab.specs.Edit.{zero_hole, AddsEntry, WouldGrow, WouldPass, IsUnadded};
 ghost use Rattle.krb_keytab.specs.Inner.Finding.{IsFoundRoom};
 ghost use Rattle.krb_keytab.specs.Inner.Room.{PutsIn};
-ghost use Rattle.krb_keytab.specs.Inner.Putting.{Puts, body_bytes};
+ghost use Rattle.krb_keytab.specs.Inner.Putting.{Puts, PutsTo, body_bytes};
 
 use crate::entry::Entry;
 use crate::fault::KeytabFault;
@@ -69,7 +69,6 @@ pub(crate) fn put_in(file: &mut Vec<u8>, room: Room, entry: &Entry) -> Result<()
     requires { IsFoundRoom file.old.items (record_length entry.now) room }
     ensures puts { PutsIn room entry.now file.old.items file.new.items result }
     ensures ok { OnOk result (AddsEntry file.old.items entry.now file.new.items) }
-    ensures list { OnOk result (GainsEntry file.old.items entry.now file.new.items) }
     ensures too_long { WouldPass file.old.items entry.now → result ≡ Err KeytabFault.TooLong }
     ensures unadded { IfErr result (IsUnadded file.old.items entry.now) }
     ensures memory { result ≡ Err KeytabFault.OutOfMemory
@@ -120,8 +119,7 @@ fn clear_record(out: &mut [u8])
 fn put_entry(out: &mut [u8], at: usize, entry: &Entry) -> usize
     requires lengths { LengthsFit entry.now.principal entry.now.key }
     requires room { at + length (body_bytes entry.now) ≤ length out.old }
-    ensures puts { Puts out.old at (body_bytes entry.now) out.new }
-    ensures behind { result ≡ at + length (body_bytes entry.now) }
+    ensures puts { PutsTo out.old at (body_bytes entry.now) out.new result }
     ensures fits { FitsEntry entry.now }
 {
     let name = entry.principal();
@@ -140,8 +138,7 @@ fn put_entry(out: &mut [u8], at: usize, entry: &Entry) -> usize
 fn put_components(out: &mut [u8], at: usize, components: &[Bytes]) -> usize
     requires short { All (λ component. length component < 2 ^ 16) components.now }
     requires room { at + length (flat_map (data_bytes w16) components.now) ≤ length out.old }
-    ensures puts { Puts out.old at (flat_map (data_bytes w16) components.now) out.new }
-    ensures behind { result ≡ at + length (flat_map (data_bytes w16) components.now) }
+    ensures { PutsTo out.old at (flat_map (data_bytes w16) components.now) out.new result }
 {
     let mut end = at;
     for component in components {
@@ -153,8 +150,7 @@ fn put_components(out: &mut [u8], at: usize, components: &[Bytes]) -> usize
 fn put_data16(out: &mut [u8], at: usize, bytes: &[u8]) -> usize
     requires short { length bytes.now < 2 ^ 16 }
     requires room { at + length (data_bytes w16 bytes.now) ≤ length out.old }
-    ensures puts { Puts out.old at (data_bytes w16 bytes.now) out.new }
-    ensures behind { result ≡ at + length (data_bytes w16 bytes.now) }
+    ensures { PutsTo out.old at (data_bytes w16 bytes.now) out.new result }
 {
     let from = put_number(out, at, bytes.len() as u32, 2);
     let to = from + bytes.len();
@@ -168,8 +164,7 @@ fn put_number(out: &mut [u8], at: usize, number: u32, count: usize) -> usize
     requires most { count ≤ 4 }
     requires fits { number < 256 ^ count }
     requires room { at + count ≤ length out.old }
-    ensures puts { Puts out.old at (bytes_high_first count number) out.new }
-    ensures behind { result ≡ at + count }
+    ensures { PutsTo out.old at (bytes_high_first count number) out.new result }
 {
     BigEndian::write_uint(&mut out[at..], u64::from(number), count);
     at + count

@@ -10,18 +10,25 @@ use Rattle.krb_keytab.specs.declared.finding.HoleFor.{HoleFor}
 use Rattle.krb_keytab.specs.declared.finding.Room.{Room}
 use Rattle.krb_keytab.specs.declared.finding.Room.TheVariants.{Hole, End}
 
+-- where records end
+abbrev pub end_of : List KeytabRecord → ℕ
+end_of records = length version + length (flat_map record_bytes records)
+
 -- a record behind others, and where it lies
 pub record LiesAt (before : List KeytabRecord) (one : KeytabRecord) (place : Extent) : Type 0 where
-  pub from : place.from ≡ length version + length (flat_map record_bytes before)
+  pub from : place.from ≡ end_of before
   pub to : place.to ≡ place.from + length (record_bytes one)
 
--- the records of a keytab end at an offset, and so much was gathered of them
-pub record HasGathered {G : Type 0} (Has : List KeytabRecord → G → Type 0) (bytes : List ℕ) (at : ℕ) (gathered : G) : Type 0 where
+-- bytes are a keytab, and this holds of its records
+pub record Divides (Holds : List KeytabRecord → Type 0) (bytes : List ℕ) : Type 0 where
   pub records : List KeytabRecord
   pub end : List ℕ
   pub is : IsMadeOf bytes records end
-  pub at_is : at ≡ length version + length (flat_map record_bytes records)
-  pub has : Has records gathered
+  pub holds : Holds records
+
+-- the records of a keytab end at an offset, and so much was gathered of them
+abbrev pub HasGathered : {G : Type 0} → (List KeytabRecord → G → Type 0) → List ℕ → ℕ → G → Type 0
+HasGathered Has bytes at gathered = Divides (λ records. (at ≡ end_of records) × Has records gathered) bytes
 
 -- ---- an entry
 
@@ -44,11 +51,8 @@ CountsTo records index count (Some place) = IsEntryAt records index place
 abbrev pub KeepsEntry : EntryAt → List KeytabRecord → EntryAt → Type 0
 KeepsEntry start records now = (now.index ≡ start.index) × CountsTo records start.index now.count now.found
 
-pub record HoldsIndex (bytes : List ℕ) (index : ℕ) (place : Extent) : Type 0 where
-  pub records : List KeytabRecord
-  pub end : List ℕ
-  pub is : IsMadeOf bytes records end
-  pub there : IsEntryAt records index place
+abbrev pub HoldsIndex : List ℕ → ℕ → Extent → Type 0
+HoldsIndex bytes index place = Divides (λ records. IsEntryAt records index place) bytes
 
 abbrev pub IsFoundEntry : List ℕ → ℕ → Option Extent → Type 0
 IsFoundEntry bytes index None = LacksEntry bytes index
@@ -73,18 +77,11 @@ HasHole records size (Some place) = IsFirstHole records size place
 abbrev pub KeepsHole : HoleFor → List KeytabRecord → HoleFor → Type 0
 KeepsHole start records now = (now.size ≡ start.size) × HasHole records start.size now.found
 
-pub record HasRoom (bytes : List ℕ) (size : ℕ) (place : Extent) : Type 0 where
-  pub records : List KeytabRecord
-  pub end : List ℕ
-  pub is : IsMadeOf bytes records end
-  pub there : IsFirstHole records size place
+abbrev pub HasRoom : List ℕ → ℕ → Extent → Type 0
+HasRoom bytes size place = Divides (λ records. IsFirstHole records size place) bytes
 
-pub record HasNone (bytes : List ℕ) (size at : ℕ) : Type 0 where
-  pub records : List KeytabRecord
-  pub end : List ℕ
-  pub is : IsMadeOf bytes records end
-  pub at_is : at ≡ length version + length (flat_map record_bytes records)
-  pub no_room : All (LacksRoom size) records
+abbrev pub HasNone : List ℕ → ℕ → ℕ → Type 0
+HasNone bytes size at = Divides (λ records. (at ≡ end_of records) × All (LacksRoom size) records) bytes
 
 abbrev pub IsFoundRoom : List ℕ → ℕ → Room → Type 0
 IsFoundRoom bytes size (Hole place) = HasRoom bytes size place

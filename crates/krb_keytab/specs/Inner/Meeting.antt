@@ -141,16 +141,16 @@ pub record MeetsBody {S E : Type 0} (of_entry : KeytabEntry → E) (from to : Op
   pub peaks : Peaks (λ part. length part ≤ kept_of size) piece old.peak new.peak
   pub meets : Meets of_entry to at (signed_bytes w32 size ++ piece) new.peak answer
 
--- ---- records up to an entry
+-- ---- from one place to another
 
-pub record PassesHoles {S : Type 0} (from to : Option (List ℕ)) (old new : AtHand S) : Type 0 where
+-- the source gave bytes behind all that came before, and what they reach; what was met grew with them
+pub record Goes {S : Type 0} (Before After : List ℕ → List KeytabEntry → Type 0) (from to : Option (List ℕ)) (old new : AtHand S) : Type 0 where
   pub piece : List ℕ
   pub moves : Moves from to old new piece
-  pub limit : new.given ≤ file_limit
   pub grows : old.peak ≤ new.peak
   pub low : old.peak ≤ file_limit → new.peak ≤ file_limit
-  pub reaches : (bytes : List ℕ) (entries : List KeytabEntry) → old.given ≡ length bytes → IsReached bytes (length bytes) entries [] → IsReached (bytes ++ piece) (length (bytes ++ piece)) entries []
-  pub met : (bytes : List ℕ) (entries : List KeytabEntry) → old.given ≡ length bytes → IsReached bytes (length bytes) entries [] → HasMet bytes old.peak → HasMet (bytes ++ piece) new.peak
+  pub stands : (bytes : List ℕ) (entries : List KeytabEntry) → Before bytes entries → After (bytes ++ piece) entries
+  pub met : (bytes : List ℕ) (entries : List KeytabEntry) → Before bytes entries → HasMet bytes old.peak → HasMet (bytes ++ piece) new.peak
 
 -- whole records of these entries came before, so many bytes
 pub record HasReached (given : ℕ) (bytes : List ℕ) (entries : List KeytabEntry) : Type 0 where
@@ -162,16 +162,14 @@ pub record HasReached (given : ℕ) (bytes : List ℕ) (entries : List KeytabEnt
 abbrev pub IsFirst : List ℕ → List KeytabEntry → Type 0
 IsFirst bytes entries = (bytes ≡ []) × (entries ≡ [])
 
+abbrev pub PassesHoles : {S : Type 0} → Option (List ℕ) → Option (List ℕ) → AtHand S → AtHand S → Type 0
+PassesHoles from to old new = Goes (HasReached old.given) (HasReached new.given) from to old new
+
 -- an answer about the entry that comes next, and how it stands behind all that came before
 pub record MeetsBehind {S : Type 0} (CameBefore : List ℕ → List KeytabEntry → Type 0) (from to : Option (List ℕ)) (old new : AtHand S) (answer : Result (Option KeytabEntry) KeytabFault) : Type 0 where
-  pub piece : List ℕ
-  pub moves : Moves from to old new piece
-  pub grows : old.peak ≤ new.peak
-  pub low : old.peak ≤ file_limit → new.peak ≤ file_limit
+  pub goes : Goes CameBefore (λ bytes entries. StandsTo to new.peak (stage_after answer) bytes (entries_after entries answer)) from to old new
   pub within : IsWithin (stage_after answer) new.given
   pub more : GivesMore answer old.given new.given
-  pub stands : (bytes : List ℕ) (entries : List KeytabEntry) → CameBefore bytes entries → StandsTo to new.peak (stage_after answer) (bytes ++ piece) (entries_after entries answer)
-  pub met : (bytes : List ℕ) (entries : List KeytabEntry) → CameBefore bytes entries → HasMet bytes old.peak → HasMet (bytes ++ piece) new.peak
 
 abbrev pub MeetsNext : {S : Type 0} → Option (List ℕ) → Option (List ℕ) → AtHand S → AtHand S → Result (Option KeytabEntry) KeytabFault → Type 0
 MeetsNext from to old new answer = MeetsBehind (HasReached old.given) from to old new answer
@@ -179,6 +177,10 @@ MeetsNext from to old new answer = MeetsBehind (HasReached old.given) from to ol
 -- the version is read first
 abbrev pub MeetsFirst : {S : Type 0} → Option (List ℕ) → Option (List ℕ) → AtHand S → AtHand S → Result (Option KeytabEntry) KeytabFault → Type 0
 MeetsFirst from to old new answer = MeetsBehind IsFirst from to old new answer
+
+-- nothing is kept of an entry
+abbrev pub nothing_of : KeytabEntry → Unit {0}
+nothing_of e = tt
 
 -- an answer with what is kept of an entry in place of it
 abbrev pub keeping : {E : Type 0} → (KeytabEntry → E) → Result (Option KeytabEntry) KeytabFault → Result (Option E) KeytabFault
@@ -203,8 +205,7 @@ pub record MeetsPast {S : Type 0} (from to : Option (List ℕ)) (old new : AtHan
 pub record HasTaken (from to : Option (List ℕ)) (given : ℕ) (entries : List KeytabEntry) : Type 0 where
   pub bytes : List ℕ
   pub taken : Consumes from to bytes
-  pub given_is : given ≡ length bytes
-  pub reached : IsReached bytes (length bytes) entries []
+  pub reached : HasReached given bytes entries
 
 -- what the source gave is a keytab of these entries
 abbrev pub IsFound : Option (List ℕ) → Option (List ℕ) → List KeytabEntry → Type 0

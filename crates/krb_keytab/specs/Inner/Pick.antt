@@ -5,15 +5,12 @@ use Rattle.krb_keytab.specs.Pick.{Choice, chosen, no_name, no_key, no_version}
 
 abbrev pub or_no_key : Choice → Choice
 or_no_key no_name = no_key
-or_no_key (chosen best) = chosen best
-or_no_key no_key = no_key
-or_no_key no_version = no_version
+or_no_key other = other
 
 abbrev pub or_no_version : Choice → Choice
 or_no_version no_name = no_version
 or_no_version no_key = no_version
-or_no_version (chosen best) = chosen best
-or_no_version no_version = no_version
+or_no_version other = other
 
 -- what was chosen has a lower version number, or nothing was
 abbrev pub IsBelow : Choice → KeytabEntry → Type 0

@@ -1,9 +1,9 @@
 -- What is known of the room in a file.
 use Rattle.std.specs.Prelude.{◌≡◌, ℕ, ◌+◌, ◌-◌, ◌<◌, ◌≤◌, List, [], ◌∷◌, ◌++◌, length, All, Result, Ok, Err, ⊤}
-use Rattle.std.specs.List.{flat_map}
-use Rattle.krb_keytab.specs.Edit.{IsMadeOf, Appends}
+use Rattle.krb_keytab.specs.Edit.{Appends}
 use Rattle.krb_keytab.specs.Entry.{KeytabEntry, FitsEntry}
 use Rattle.krb_keytab.specs.Format.{version, KeytabRecord, hole, entry, record_bytes}
+use Rattle.krb_keytab.specs.Inner.Finding.{Divides, end_of}
 use Rattle.krb_keytab.specs.Inner.Putting.{Puts}
 use Rattle.krb_keytab.specs.Written.{padded_record, record_length}
 use Rattle.krb_keytab.specs.declared.adder.Hole.{Hole}
@@ -19,12 +19,8 @@ holes_of at (hole ignored ∷ others) =
 holes_of at (entry e short_kvno rest ∷ others) = holes_of (at + length (record_bytes (entry e short_kvno rest))) others
 
 -- the holes of a keytab, and where its records end
-pub record KnowsRoom (bytes : List ℕ) (holes : List Hole) (at : ℕ) : Type 0 where
-  pub records : List KeytabRecord
-  pub end : List ℕ
-  pub is : IsMadeOf bytes records end
-  pub at_is : at ≡ length version + length (flat_map record_bytes records)
-  pub holes_are : holes ≡ holes_of (length version) records
+abbrev pub KnowsRoom : List ℕ → List Hole → ℕ → Type 0
+KnowsRoom bytes holes at = Divides (λ records. (at ≡ end_of records) × (holes ≡ holes_of (length version) records)) bytes
 
 -- the first hole of at least so many bytes was taken out
 pub record IsTaken (old : List Hole) (size : ℕ) (one : Hole) (new : List Hole) : Type 0 where

@@ -1,8 +1,9 @@
-use Rattle.std.proofs.Common.{◌≡◌, ◌<◌, ap, subst, arith, ◌≤◌, take, drop, length, ◌+◌}
-use Rattle.std.proofs.lemmas.List.{take_all}
+use Rattle.std.proofs.Common.{◌≡◌, ◌<◌, ap, subst, sym, ◌∙◌, arith, ◌≤◌, take, drop, length, ◌+◌}
+use Rattle.std.proofs.lemmas.List.{take_all, get_or_default}
+use Rattle.std.proofs.lemmas.List.Elements.{All-more}
 use Rattle.std.specs.Prelude.{All}
 use Rattle.krb_keytab.specs.declared.adder.Hole.{Hole}
-use Rattle.krb_keytab.proofs.RoomLaws.{hole_at, one_hole, small_more}
+use Rattle.krb_keytab.proofs.RoomLaws.{hole_at}
 use Rattle.krb_keytab.proofs.adder.take_hole.Goals as goal
 
 pub returns-then-size-index : goal.returns-then-size-index
@@ -19,7 +20,7 @@ returns-then-size-index c =
       old_is = hole_at old at c.remove.result within (rw kept at value);
       new_is = rw kept at c.remove.ensures.by_index.2;
       small = rw kept at c.loop-at.invariant.small;
-      room = subst (λ (h : Hole). size ≤ h.size) (one_hole c.loop-at.holes.items at c.index.result.now c.remove.result (omega (arith, ap length kept)) c.index.ensures value) c.if-size-index.true;
+      room = subst (λ (h : Hole). size ≤ h.size) (c.index.ensures ∙ get_or_default c.loop-at.holes.items at c.index.result.now c.remove.result (omega (arith, ap length kept)) ∙ sym value) c.if-size-index.true;
     }
 
 pub loop-at-preserved : goal.loop-at-preserved
@@ -30,7 +31,7 @@ loop-at-preserved c =
     let short : c.index.result.now.size < c.args.size = omega arith in
     record {
       kept = c.loop-at.invariant.kept;
-      small = small_more c.args.size holes at c.index.result.now within c.index.ensures short c.loop-at.invariant.small;
+      small = All-more (λ (hole : Hole). hole.size < c.args.size) holes at c.index.result.now within c.loop-at.invariant.small (subst (λ (hole : Hole). hole.size < c.args.size) c.index.ensures short);
     }
 
 pub returns : goal.returns

@@ -1,5 +1,4 @@
-use Rattle.std.proofs.Common.{◌≡◌, ℕ, pos, ◌+◌, List, ◌++◌, length, Some, Err, refl, subst, sym, ap, append_assoc, ◌∙◌, arith}
-use Rattle.std.proofs.KnownBytes.{Consumes-trans}
+use Rattle.std.proofs.Common.{◌≡◌, ℕ, pos, ◌+◌, List, ◌++◌, ◌≤◌, length, Some, Err, subst, sym, ap, append_assoc, ◌∙◌, arith}
 use Rattle.std.specs.Int.{w32}
 use Rattle.std.proofs.lemmas.List.{length-append}
 use Rattle.std.proofs.lemmas.Result.{err_from_is_err_and}
@@ -8,7 +7,7 @@ use Rattle.krb_name.specs.Field.{IsBytes}
 use Rattle.krb_keytab.specs.Inner.Entry.{entry_at}
 use Rattle.krb_keytab.specs.Inner.Meeting.{Meets}
 use Rattle.krb_keytab.specs.declared.fault.KeytabFault.TheVariants.{Truncated, BadEntry}
-use Rattle.krb_keytab.proofs.MeetLaws.{ran, cut_off, entry_whole, no_entry, peaks_at, body_met, body_lost}
+use Rattle.krb_keytab.proofs.MeetLaws.{ran, cut_off, entry_whole, no_entry, held_out, body_met, body_lost}
 use Rattle.krb_keytab.proofs.step.read_content.Goals as goal
 
 pub returns-in_err-hold-clause-meets : goal.returns-in_err-hold-clause-meets
@@ -59,14 +58,11 @@ returns-in-None-clause-meets g c =
     let first : List ℕ = word ++ fills.piece in
     let size : length first ≡ 4 + length fills.piece = length-append word fills.piece in
     let left = g.F.Feed.remaining c.conclude.new.feed in
+    let out = held_out (λ part. length part ≤ c.args.count) (g.F.Feed.at_hand c.args.feed.now) fills ran_out (omega (arith, came)) (omega (arith, came, c.requires.at, c.requires.limit)) in
     record {
       piece = fills.piece ++ ran_out.piece;
-      moves = record {
-        consumed = Consumes-trans _ _ _ fills.piece ran_out.piece fills.keeps.consumed ran_out.moves.consumed;
-        given = omega (arith, fills.keeps.given, ran_out.moves.given, length-append fills.piece ran_out.piece);
-        limit = λ l. ran_out.moves.limit (omega (arith, fills.keeps.given, came, c.requires.at, c.requires.limit));
-      };
-      peaks = peaks_at _ (fills.piece ++ ran_out.piece) fills.piece ran_out.piece _ _ (g.F.Feed.at_hand c.hold.new.self).bytes refl (omega (arith, came)) fills.keeps.bytes (omega (arith, came, c.requires.limit)) (ran_out.peak ∙ fills.keeps.peak);
+      moves = out.0;
+      peaks = out.1;
       meets = subst (λ (t : List ℕ). Meets of_entry left at t (g.F.Feed.at_hand c.conclude.new.feed).peak c.conclude.result) (append_assoc word fills.piece ran_out.piece)
           (ran (Meets of_entry left at (first ++ ran_out.piece) (g.F.Feed.at_hand c.conclude.new.feed).peak) (Err (BadEntry at)) c.conclude.result _ at _ first ran_out.piece (Some (BadEntry at)) ran_out.ran
           (omega (arith, size, came, c.requires.limit)) (omega (arith, ran_out.moves.given, fills.keeps.given, c.requires.at, size, length-append first ran_out.piece))

@@ -2,13 +2,13 @@ use Rattle.std.proofs.Common.{◌∙◌, add-zero, Option, Ok, subst}
 use Rattle.std.proofs.lemmas.Result.{err_from_is_err_and}
 use Rattle.krb_keytab.specs.Entry.{KeytabEntry}
 use Rattle.krb_keytab.specs.Inner.Meeting.{MeetsNext}
-use Rattle.krb_keytab.proofs.CollectLaws.{entry_taken, end_taken, next_faulty, next_takes}
+use Rattle.krb_keytab.proofs.ToldLaws.{entry_taken, end_taken, next_faulty, next_takes}
 use Rattle.krb_keytab.proofs.step.read_entries.Goals as goal
 
 pub returns-in_err-entry-clause-fault : goal.returns-in_err-entry-clause-fault
 returns-in_err-entry-clause-fault g c =
     let p = err_from_is_err_and c.from_residual-in_err-entry.result c.from_residual-in_err-entry.ensures.1 in
-    rw (p.1, p.2) (next_faulty _ _ _ _ _ c.loop-entries.entries.items c.in_err-entry.field-0.0 c.loop-entries.invariant.taken c.loop-entries.invariant.limit c.in_err-entry.ensures.meets)
+    rw (p.1, p.2) (next_faulty _ _ _ _ _ c.loop-entries.entries.items c.in_err-entry.field-0.0 c.loop-entries.invariant.taken c.in_err-entry.ensures.meets)
 
 pub loop-entries-preserved : goal.loop-entries-preserved
 loop-entries-preserved g c =
@@ -17,7 +17,7 @@ loop-entries-preserved g c =
     let to = g.F.Feed.remaining c.read_entry.new.feed in
     let meets = subst (λ (next : Option KeytabEntry). MeetsNext mid to (g.F.Feed.at_hand c.loop-entries.feed) (g.F.Feed.at_hand c.read_entry.new.feed) (Ok next)) c.in-Some.is c.in_ok-entry.ensures.meets in
     record {
-      taken = entry_taken from mid to (g.F.Feed.at_hand c.loop-entries.feed) (g.F.Feed.at_hand c.read_entry.new.feed) c.loop-entries.entries.items c.push.new.self.items c.in-Some.entry c.loop-entries.invariant.taken c.loop-entries.invariant.limit meets c.in_ok-push.ensures.items;
+      taken = entry_taken from mid to (g.F.Feed.at_hand c.loop-entries.feed) (g.F.Feed.at_hand c.read_entry.new.feed) c.loop-entries.entries.items c.push.new.self.items c.in-Some.entry c.loop-entries.invariant.taken meets c.in_ok-push.ensures.items;
       limit = meets.within;
       failures = rw add-zero at c.in_ok-entry.ensures.failed ∙ c.loop-entries.invariant.failures;
       lent = c.in_ok-entry.ensures.lent ∙ c.loop-entries.invariant.lent;
@@ -29,13 +29,13 @@ returns-clause-found g c =
     let mid = g.F.Feed.remaining c.loop-entries.feed in
     let to = g.F.Feed.remaining c.read_entry.new.feed in
     let meets = subst (λ (next : Option KeytabEntry). MeetsNext mid to (g.F.Feed.at_hand c.loop-entries.feed) (g.F.Feed.at_hand c.read_entry.new.feed) (Ok next)) c.in_default.is c.in_ok-entry.ensures.meets in
-    end_taken from mid to (g.F.Feed.at_hand c.loop-entries.feed) (g.F.Feed.at_hand c.read_entry.new.feed) c.loop-entries.entries.items c.loop-entries.invariant.taken c.loop-entries.invariant.limit meets
+    end_taken from mid to (g.F.Feed.at_hand c.loop-entries.feed) (g.F.Feed.at_hand c.read_entry.new.feed) c.loop-entries.entries.items c.loop-entries.invariant.taken meets
 
 pub returns-clause-taken : goal.returns-clause-taken
-returns-clause-taken g c = next_takes _ _ _ _ _ c.loop-entries.entries.items _ c.loop-entries.invariant.taken c.loop-entries.invariant.limit c.in_ok-entry.ensures.meets
+returns-clause-taken g c = next_takes _ _ _ _ _ c.loop-entries.entries.items _ c.loop-entries.invariant.taken c.in_ok-entry.ensures.meets
 
 pub returns-in_err-entry-clause-taken : goal.returns-in_err-entry-clause-taken
-returns-in_err-entry-clause-taken g c = next_takes _ _ _ _ _ c.loop-entries.entries.items _ c.loop-entries.invariant.taken c.loop-entries.invariant.limit c.in_err-entry.ensures.meets
+returns-in_err-entry-clause-taken g c = next_takes _ _ _ _ _ c.loop-entries.entries.items _ c.loop-entries.invariant.taken c.in_err-entry.ensures.meets
 
 pub returns-in_err-push-clause-taken : goal.returns-in_err-push-clause-taken
-returns-in_err-push-clause-taken g c = next_takes _ _ _ _ _ c.loop-entries.entries.items _ c.loop-entries.invariant.taken c.loop-entries.invariant.limit c.in_ok-entry.ensures.meets
+returns-in_err-push-clause-taken g c = next_takes _ _ _ _ _ c.loop-entries.entries.items _ c.loop-entries.invariant.taken c.in_ok-entry.ensures.meets

@@ -1,10 +1,8 @@
-use Rattle.std.proofs.Common.{◌≡◌, ℕ, ◌+◌, ◌<◌, ◌≤◌, List, [], ◌∷◌, ◌++◌, length, None, Ok, refl, subst, sym, ap, ◌∙◌, arith, inr}
-use Rattle.std.proofs.KnownBytes.{Consumes-trans}
-use Rattle.std.proofs.lemmas.List.{length-append}
+use Rattle.std.proofs.Common.{◌≡◌, ℕ, ◌+◌, ◌<◌, ◌≤◌, List, [], ◌∷◌, ◌++◌, length, None, Ok, subst, sym, ap, ◌∙◌, arith, inr}
 use Rattle.std.specs.Int.{w32, to_be_bytes}
 use Rattle.krb_name.specs.File.{file_limit}
 use Rattle.krb_keytab.specs.Inner.Meeting.{IsFewAt, MeetsSize}
-use Rattle.krb_keytab.proofs.MeetLaws.{ran, few_ran, peaks_at, fills_within}
+use Rattle.krb_keytab.proofs.MeetLaws.{ran, few_ran, held_out, fills_within}
 use Rattle.krb_keytab.proofs.step.read_size.Goals as goal
 
 pub returns-then-whole-clause-meets : goal.returns-then-whole-clause-meets
@@ -15,18 +13,13 @@ returns-then-whole-clause-meets g c =
     let few = subst (λ (n : ℕ). IsFewAt n fills.piece c.last_behind-last.result) c.given-at.ensures (subst (λ (t : List ℕ). IsFewAt c.given-at.result t c.last_behind-last.result) few_is c.last_behind-last.ensures) in
     let short : length fills.piece < 4 = omega (arith, c.in_default.ensures.short, ap length c.bytes.ensures, ap length fills.keeps.bytes) in
     let ran_out = c.conclude.ensures.runs_out in
-    let left = g.F.Feed.remaining c.conclude.new.feed in
     let full : (g.F.Feed.at_hand c.args.feed.now).given + length fills.piece ≡ file_limit = omega (arith, came, short, c.min.ensures, c.given-at.ensures, c.requires.limit) in
+    let out = held_out (λ part. length part ≤ 4) (g.F.Feed.at_hand c.args.feed.now) fills ran_out (omega (arith, short)) (omega (arith, full)) in
     record {
       piece = fills.piece ++ ran_out.piece;
-      moves = record {
-        consumed = Consumes-trans _ _ _ fills.piece ran_out.piece fills.keeps.consumed ran_out.moves.consumed;
-        given = omega (arith, fills.keeps.given, ran_out.moves.given, length-append fills.piece ran_out.piece);
-        limit = λ l. ran_out.moves.limit (omega (arith, fills.keeps.given, full));
-      };
-      peaks = peaks_at _ (fills.piece ++ ran_out.piece) fills.piece ran_out.piece _ _ (g.F.Feed.at_hand c.hold.new.self).bytes refl (omega (arith, short)) fills.keeps.bytes (omega (arith, short)) (ran_out.peak ∙ fills.keeps.peak);
-      meets = few_ran left (g.F.Feed.at_hand c.args.feed.now).given _ fills.piece ran_out.piece c.last_behind-last.result c.conclude.result few ran_out.ran full short
-          (omega (arith, fills.keeps.given, ran_out.moves.given, length-append fills.piece ran_out.piece));
+      moves = out.0;
+      peaks = out.1;
+      meets = few_ran (g.F.Feed.remaining c.conclude.new.feed) (g.F.Feed.at_hand c.args.feed.now).given _ fills.piece ran_out.piece c.last_behind-last.result c.conclude.result few ran_out.ran full short out.0.given;
     }
 
 pub returns-then-size-eq0-clause-meets : goal.returns-then-size-eq0-clause-meets
@@ -39,15 +32,12 @@ returns-then-size-eq0-clause-meets g c =
     let given = (g.F.Feed.at_hand c.args.feed.now).given in
     let size : length fills.piece ≡ 4 = ap length bytes_are in
     let zero : fills.piece ≡ 0 ∷ 0 ∷ 0 ∷ 0 ∷ [] = bytes_are ∙ ap (λ (n : ℕ). to_be_bytes w32 n) c.if-size-eq0.true in
+    let within : given + length fills.piece ≤ file_limit = omega (arith, came, c.min.ensures, c.given-at.ensures, c.requires.limit) in
+    let out = held_out (λ part. length part ≤ 4) (g.F.Feed.at_hand c.args.feed.now) fills ran_out (omega (arith, size)) within in
     record {
       piece = fills.piece ++ ran_out.piece;
-      moves = record {
-        consumed = Consumes-trans _ _ _ fills.piece ran_out.piece fills.keeps.consumed ran_out.moves.consumed;
-        given = omega (arith, fills.keeps.given, ran_out.moves.given, length-append fills.piece ran_out.piece);
-        limit = λ l. ran_out.moves.limit (omega (arith, fills.keeps.given, came, c.min.ensures, c.given-at.ensures, c.requires.limit));
-      };
-      peaks = peaks_at _ (fills.piece ++ ran_out.piece) fills.piece ran_out.piece _ _ (g.F.Feed.at_hand c.hold.new.self).bytes refl (omega (arith, size)) fills.keeps.bytes (omega (arith, size)) (ran_out.peak ∙ fills.keeps.peak);
-      meets = ran (MeetsSize left given (fills.piece ++ ran_out.piece)) (Ok None) c.conclude-then-size-eq0.result left given _ fills.piece ran_out.piece None ran_out.ran
-          (omega (arith, size, came, c.min.ensures, c.given-at.ensures, c.requires.limit)) (omega (arith, fills.keeps.given, ran_out.moves.given, length-append fills.piece ran_out.piece))
+      moves = out.0;
+      peaks = out.1;
+      meets = ran (MeetsSize left given (fills.piece ++ ran_out.piece)) (Ok None) c.conclude-then-size-eq0.result left given _ fills.piece ran_out.piece None ran_out.ran within out.0.given
           (λ more within. inr (more, ap (λ (t : List ℕ). t ++ more) zero)) (λ h. h) (λ h. h) tt;
     }

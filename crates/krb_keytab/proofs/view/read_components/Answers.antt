@@ -1,4 +1,4 @@
-use Rattle.krb_keytab.proofs.ComponentLaws.{goes_on, ends, is_done, first_is, none_is_not_some}
+use Rattle.krb_keytab.proofs.ComponentLaws.{goes_on, ends, is_done, first_is}
 use Rattle.krb_keytab.proofs.view.read_components.Goals as goal
 use Rattle.krb_keytab.proofs.view.read_components.Goals.{else-loop-test, then-loop-test+in_default}
 
@@ -12,5 +12,6 @@ returns c =
       | else-loop-test w ↦ first_is c.args.count c.args.bytes.now c.loop.components _ (is_done c.loop.components c.args.count c.loop.counter c.loop.cursor _ w.loop-test.false c.loop.invariant)
       | then-loop-test+in_default w ↦
           let none = ends c.loop.components c.args.count c.loop.counter c.loop.cursor _ w.loop-test.true w.in_default.ensures.short c.loop.invariant in
-          absurd (none_is_not_some _ _ none c.requires.1)
+          let some = c.requires.1 in
+          absurd cc
     ]

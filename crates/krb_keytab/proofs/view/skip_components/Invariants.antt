@@ -1,5 +1,5 @@
 use Rattle.std.proofs.Common.{◌≡◌, ℕ, ◌-◌, List}
-use Rattle.krb_keytab.specs.Inner.Components.{components_at}
+use Rattle.krb_keytab.specs.Inner.Entry.{components_at}
 use Rattle.krb_keytab.proofs.ComponentLaws.{with_front}
 use Rattle.krb_keytab.proofs.view.skip_components.Given as goal
 

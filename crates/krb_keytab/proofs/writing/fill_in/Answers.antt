@@ -2,7 +2,7 @@ use Rattle.std.proofs.Common.{◌≡◌, ◌-◌, ℕ, List, length, ap, ◌∙�
 use Rattle.krb_keytab.specs.Format.{record_bytes}
 use Rattle.krb_keytab.specs.Written.{padded_record, record_length}
 use Rattle.krb_keytab.proofs.PutLaws.{vec_puts, part_length}
-use Rattle.krb_keytab.proofs.WrittenLaws.{padded_length}
+use Rattle.krb_keytab.proofs.MadeLaws.{padded_length}
 use Rattle.krb_keytab.proofs.writing.fill_in.Goals as goal
 
 pub returns-clause-filled : goal.returns-clause-filled

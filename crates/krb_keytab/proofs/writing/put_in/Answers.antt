@@ -1,14 +1,11 @@
 use Rattle.std.proofs.Common.{arith, inl, inr}
-use Rattle.krb_keytab.proofs.AddLaws.{fills_hole, fill_gains, appends, append_gains, passing_no_room, passing_is_long}
+use Rattle.krb_keytab.proofs.AddLaws.{fills_hole, appends, passing_no_room, passing_is_long}
 use Rattle.krb_keytab.proofs.writing.put_in.Goals as goal
 
 -- ---- a hole has room
 
 pub returns-in-Hole-clause-ok : goal.returns-in-Hole-clause-ok
 returns-in-Hole-clause-ok c = inl (fills_hole c.args.entry.now (rw c.in-Hole.is at c.requires) c.fill_in.ensures.fits c.fill_in.ensures.filled)
-
-pub returns-in-Hole-clause-list : goal.returns-in-Hole-clause-list
-returns-in-Hole-clause-list c = fill_gains (fills_hole c.args.entry.now (rw c.in-Hole.is at c.requires) c.fill_in.ensures.fits c.fill_in.ensures.filled)
 
 pub returns-in-Hole-clause-too_long : goal.returns-in-Hole-clause-too_long
 returns-in-Hole-clause-too_long c = λ passes. absurd (passing_no_room passes (rw c.in-Hole.is at c.requires))
@@ -18,27 +15,21 @@ returns-in-Hole-clause-too_long c = λ passes. absurd (passing_no_room passes (r
 pub returns-in_err-put_record-in-End-clause-too_long : goal.returns-in_err-put_record-in-End-clause-too_long
 returns-in_err-put_record-in-End-clause-too_long c = λ passes.
     let none = rw c.in-End.is at c.requires in
-    absurd (passing_is_long c.in-End.end passes none (omega (arith, c.if-end-size.false, c.record_length-size.ensures.length, none.at_is)))
+    absurd (passing_is_long c.in-End.end passes none (omega (arith, c.if-end-size.false, c.record_length-size.ensures.length, none.holds.0)))
 
 pub returns-in_ok-put_record-in-End-clause-puts : goal.returns-in_ok-put_record-in-End-clause-puts
 returns-in_ok-put_record-in-End-clause-puts c =
     let none = rw c.in-End.is at c.requires in
     let put = c.in_ok-put_record-in-End.ensures in
-    rw c.in-End.is (appends c.args.entry.now c.in-End.end none (omega (arith, c.if-end-size.false, c.record_length-size.ensures.length, none.at_is)) put.fits put.ok)
+    rw c.in-End.is (appends c.args.entry.now c.in-End.end none (omega (arith, c.if-end-size.false, c.record_length-size.ensures.length, none.holds.0)) put.fits put.ok)
 
 pub returns-in_ok-put_record-in-End-clause-ok : goal.returns-in_ok-put_record-in-End-clause-ok
 returns-in_ok-put_record-in-End-clause-ok c =
     let none = rw c.in-End.is at c.requires in
     let put = c.in_ok-put_record-in-End.ensures in
-    inr (appends c.args.entry.now c.in-End.end none (omega (arith, c.if-end-size.false, c.record_length-size.ensures.length, none.at_is)) put.fits put.ok)
-
-pub returns-in_ok-put_record-in-End-clause-list : goal.returns-in_ok-put_record-in-End-clause-list
-returns-in_ok-put_record-in-End-clause-list c =
-    let none = rw c.in-End.is at c.requires in
-    let put = c.in_ok-put_record-in-End.ensures in
-    append_gains (appends c.args.entry.now c.in-End.end none (omega (arith, c.if-end-size.false, c.record_length-size.ensures.length, none.at_is)) put.fits put.ok)
+    inr (appends c.args.entry.now c.in-End.end none (omega (arith, c.if-end-size.false, c.record_length-size.ensures.length, none.holds.0)) put.fits put.ok)
 
 pub returns-in_ok-put_record-in-End-clause-too_long : goal.returns-in_ok-put_record-in-End-clause-too_long
 returns-in_ok-put_record-in-End-clause-too_long c = λ passes.
     let none = rw c.in-End.is at c.requires in
-    absurd (passing_is_long c.in-End.end passes none (omega (arith, c.if-end-size.false, c.record_length-size.ensures.length, none.at_is)))
+    absurd (passing_is_long c.in-End.end passes none (omega (arith, c.if-end-size.false, c.record_length-size.ensures.length, none.holds.0)))

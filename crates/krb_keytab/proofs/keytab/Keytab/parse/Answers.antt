@@ -1,6 +1,5 @@
-use Rattle.std.proofs.Common.{Err}
 use Rattle.krb_keytab.proofs.EditLaws.{no_fault}
-use Rattle.krb_keytab.proofs.OneEnd.{only_answer}
+use Rattle.krb_keytab.proofs.OneAnswer.{only_fault}
 use Rattle.krb_keytab.proofs.keytab.Keytab.parse.Goals as goal
 
 pub returns-in-Ok-clause-faulty : goal.returns-in-Ok-clause-faulty
@@ -9,4 +8,4 @@ returns-in-Ok-clause-faulty c =
     λ fault f. absurd (no_fault c.args.bytes.now c.in-Ok.keytab fault found f)
 
 pub returns-in-Err-clause-only : goal.returns-in-Err-clause-only
-returns-in-Err-clause-only c = λ answer a. only_answer c.args.bytes.now (Err c.fault_of.result) answer tt c.fault_of.ensures.fault a
+returns-in-Err-clause-only c = λ answer a. only_fault c.args.bytes.now c.fault_of.result answer c.fault_of.ensures.fault a

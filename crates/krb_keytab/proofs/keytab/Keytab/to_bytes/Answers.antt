@@ -1,12 +1,13 @@
-use Rattle.std.proofs.Common.{◌≡◌, ℕ, ◌+◌, ◌++◌, List, length, take, refl, ap, sym, subst, ◌∙◌, arith}
+use Rattle.std.proofs.Common.{◌≡◌, ℕ, ◌++◌, List, length, take, refl, ap, sym, subst, ◌∙◌, arith}
 use Rattle.std.specs.Prelude.{All}
 use Rattle.std.specs.List.{flat_map}
 use Rattle.std.proofs.lemmas.List.{length-append, take_all}
 use Rattle.std.proofs.lemmas.List.Elements.{All-more}
+use Rattle.std.proofs.lemmas.List.Folds.{length-flat_map-take}
 use Rattle.krb_keytab.specs.Entry.{KeytabEntry, FitsEntry}
 use Rattle.krb_keytab.specs.Format.{version, record_bytes}
 use Rattle.krb_keytab.specs.Written.{written_record, written}
-use Rattle.krb_keytab.proofs.PutLaws.{flat_step, flat_part}
+use Rattle.krb_keytab.proofs.PutLaws.{flat_step}
 use Rattle.krb_keytab.proofs.MadeLaws.{written_keytab}
 use Rattle.krb_keytab.proofs.keytab.Keytab.to_bytes.Goals as goal
 
@@ -19,9 +20,8 @@ returns-then-at-record_length-clause-fault c = λ _.
     let i = c.loop-entry.entry-index in
     let xs = c.entries-entry-items.result.now in
     let e = c.entry-item.result in
-    let size = length-append (flat_map writing (take i xs)) (writing e) in
-    let step = flat_step writing xs i e c.loop-entry-test.true c.entry-item.is in
-    (refl, omega (arith, now.limit, ap length now.written, ap length step, size, flat_part writing xs (i + 1), c.record_length.ensures.length, c.if-at-record_length.true, ap (λ ys. length (flat_map writing ys)) c.entries-entry-items.ensures))
+    let part = length-flat_map-take writing xs i e c.loop-entry-test.true in
+    (refl, omega (arith, now.limit, ap length now.written, part, ap (λ x. length (writing x)) c.entry-item.is, c.record_length.ensures.length, c.if-at-record_length.true, ap (λ ys. length (flat_map writing ys)) c.entries-entry-items.ensures))
 
 pub loop-entry-preserved : goal.loop-entry-preserved
 loop-entry-preserved c =

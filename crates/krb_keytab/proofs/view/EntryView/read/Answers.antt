@@ -1,7 +1,6 @@
 use Rattle.std.proofs.Common.{◌≡◌, rules, arith, Some}
 use Rattle.krb_keytab.specs.Entry.{KeytabEntry}
-use Rattle.krb_keytab.specs.Inner.Components.{first_components}
-use Rattle.krb_keytab.specs.Inner.Entry.{entry_at}
+use Rattle.krb_keytab.specs.Inner.Entry.{first_components, entry_at}
 use Rattle.krb_keytab.proofs.ComponentLaws.{has_components}
 use Rattle.krb_keytab.proofs.EntryLaws.{take_entry}
 use Rattle.krb_keytab.proofs.view.EntryView.read.Goals as goal
