@@ -6,14 +6,12 @@ use Rattle.std.proofs.lemmas.List.{take_at, drop_at, append-nil}
 use Rattle.krb_der.specs.declared.fault.EncodeFault.{EncodeFault}
 use Rattle.krb_der.specs.declared.fault.EncodeFault.TheVariants.{TooLong, OutOfMemory}
 use Rattle.krb_der.specs.Kind.{Kind, Fields, ValueOf, FieldsOf}
-use Rattle.krb_der.specs.Content.{Written}
 use Rattle.krb_der.specs.Spells.{IsElement, IsJoined, IfPresent, limit}
 use Rattle.krb_der.specs.Writing.{Appends, AppendsElement, Wraps, Writes, WritesFields, Encodes, IsEncoded}
 use Rattle.krb_der.specs.Inner.Limited.{limited_of, settled}
 use Rattle.krb_der.specs.Size.{element_size, size_if, fields_size, size_of}
-use Rattle.krb_der.proofs.Spellings.{written_spells}
-use Rattle.krb_der.proofs.LeafLaws.{written_sized}
-use Rattle.krb_der.proofs.Sizes.{HasSize, element_sized, present_sized, fields_sized, spelling_sized}
+use Rattle.krb_der.proofs.Sizes.{HasSize, element_sized}
+use Rattle.krb_der.proofs.Spelled.{spelled_is, fields_is, present_is}
 
 no_fault : {A : Type 0} (c d : EncodeFault) → ◌≡◌ {A = Result A EncodeFault} (Err c) (Err d) → c ≡ d
 no_fault c d e = cc
@@ -62,10 +60,13 @@ encodes-limited Part size sized (Ok u) r start old mid new at a kept l n =
           (record { ok = (a, le); too_long = λ t. absurd (ok_err tt TooLong t); kept = tt }))
     ]
 
-pub encodes-leaf : {E : Type 0} (k : Kind) (v : ValueOf k) (written : Result (Unit {0}) E) (r : Result (Unit {0}) EncodeFault) (start : ℕ) (old mid new : List ℕ)
+pub value_size : (k : Kind) (v : ValueOf k) → HasSize (Writes k v) (size_of k v)
+value_size k v = (spelled_is k v).sized
+
+pub encodes_leaf : {E : Type 0} (k : Kind) (v : ValueOf k) (written : Result (Unit {0}) E) (r : Result (Unit {0}) EncodeFault) (start : ℕ) (old mid new : List ℕ)
     → start ≡ length old → AppendsElement k v written old mid → r ≡ limited_of written mid → new ≡ settled r start mid → Encodes (Writes k v) (size_of k v) r old new
-encodes-leaf k v written r start old mid new at w l n =
-    encodes-limited (Writes k v) (size_of k v) (spelling_sized Written written_sized k v) written r start old mid new at w.ok (by written w.kept) l n
+encodes_leaf k v written r start old mid new at w l n =
+    encodes-limited (Writes k v) (size_of k v) (value_size k v) written r start old mid new at w.ok (by written w.kept) l n
   where
     by : {E : Type 0} (written : Result (Unit {0}) E) → OnErr written (mid ≡ old) → OnErr written (take start mid ≡ old)
     by (Ok u) e = tt
@@ -97,11 +98,8 @@ encodes-wrapped {E = E} tag start Part size sized (Ok u) r old mid end new at a 
 encodes-wrapped {E = E} tag start Part size sized (Err e) r old mid end new at a w kept l n =
     encodes-limited {E = E} (IsElement tag Part) (element_size size) (element_sized tag Part size sized) (Err e) r start old end new at tt (ap (take start) kept ∙ before_appended Part start old mid at a) l n
 
-pub value_size : (k : Kind) (v : ValueOf k) → HasSize (Writes k v) (size_of k v)
-value_size k v = spelling_sized Written written_sized k v
-
 pub row_size : (fs : Fields) (v : FieldsOf fs) → HasSize (WritesFields fs v) (fields_size fs v)
-row_size fs v = fields_sized Written written_sized fs v
+row_size fs v = (fields_is fs v).sized
 
 -- ---- one part and then others: mid has the first, end what the call for the others left
 pub encodes-joined : (First Rest : List ℕ → Type 0) (size others : ℕ) → HasSize First size → (written r : Result (Unit {0}) EncodeFault) (start : ℕ) (old mid end new : List ℕ)
@@ -154,7 +152,7 @@ joined-refused First Rest size others f old mid e =
     record { ok = tt; too_long = λ t. omega (arith, e.too_long t); kept = e.kept }
 
 pub present_size : (k : Kind) (o : Option (ValueOf k)) → HasSize (IfPresent (Writes k) o) (size_if (size_of k) o)
-present_size k o = present_sized (Writes k) (size_of k) (value_size k) o
+present_size k o = (present_is k o).sized
 
 -- ---- a whole message, from nothing
 pub encoded_ok : {Z : Type 0} (k : Kind) (v : ValueOf k) (made : Vec ℕ Z) (old new : List ℕ) → old ≡ [] → Appends (Writes k v) old new → length new ≤ limit → made.items ≡ new
@@ -165,7 +163,7 @@ encoded_ok k v made old new none a fits same =
     let written : Writes k v made.items = subst (Writes k v) (sym all) a.is in
     let size = value_size k v made.items written in
     record {
-      ok = record { spelled = written_spells k v made.items written; within = within };
+      ok = record { spelled = (spelled_is k v).written made.items written; within = within };
       written = written;
       size = size;
       fits = omega (arith, size, within);

@@ -31,9 +31,9 @@ fields_at-found fs v here e = fields_found Elementary content_of elementary_read
 pub fields_read_exactly : (fs : Fields) → are_clear fs ≡ true → (v : FieldsOf fs) (here : Place) → (fields_at fs here ≡ Ok v) ↔ SpellsFields Elementary fs v here.rest
 fields_read_exactly fs clear v here = (fields_at-found fs v here, fields_at-spelled fs v here clear)
 
-pub fields_at-fault : (fs : Fields) (here : Place) (f : Fault) → fields_at fs here ≡ Err f → IsFaulty Elementary fs here f
+pub fields_at_fault : (fs : Fields) (here : Place) (f : Fault) → fields_at fs here ≡ Err f → IsFaulty Elementary fs here f
 unfolding fields_at
-fields_at-fault fs here f e = fields_fault Elementary content_of elementary_read fs here fs here f start e
+fields_at_fault fs here f e = fields_fault Elementary content_of elementary_read fs here fs here f start e
 
 -- a call that checks a list
 pub reads-list : (k : Kind) (r : Result (Unit {0}) Fault) (here : Place) → is_clear k ≡ true → r ≡ checked (fields_at (each k) here) → ReadsList k r here
@@ -45,5 +45,5 @@ reads-list k r here clear e = subst (λ x. ReadsList k x here) (sym e) (by (fiel
         record {
           found = tt;
           only = λ ws s. absurd (no_value f ws (sym h ∙ fields_at-spelled (each k) ws here clear s));
-          faulty = fields_at-fault (each k) here f h;
+          faulty = fields_at_fault (each k) here f h;
         }

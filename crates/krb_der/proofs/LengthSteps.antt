@@ -1,10 +1,9 @@
 -- Reading lengths, step by step.
-use Rattle.std.proofs.Common.{◌≡◌, ℕ, ◌≤◌, false, cond, eqb, List, [], ◌∷◌, length, get_or, take, drop, Ok, Err, refl, ap, ◌∙◌, arith}
+use Rattle.std.proofs.Common.{◌≡◌, ℕ, ◌≤◌, false, eqb, List, [], ◌∷◌, length, get_or, take, drop, Ok, refl, arith}
 use Rattle.std.proofs.lemmas.Bool.{le-ltb, le-leb}
-use Rattle.krb_der.specs.declared.fault.FaultKind.TheVariants.{Truncated, Length}
 use Rattle.krb_der.specs.Whole.{AreBytes, number}
 use Rattle.krb_der.specs.Place.{begins}
-use Rattle.krb_der.specs.Computed.Read.{long_of, are_length}
+use Rattle.krb_der.specs.Computed.Read.{long_of}
 use Rattle.krb_der.proofs.Numbers.{are_bytes-true}
 
 -- a list that begins with another byte, or doesn't begin
@@ -19,9 +18,3 @@ unfolding long_of
 long_of-ok count bytes n rest enough are first digits behind big =
     let big' : 128 ≤ number (take count bytes) = omega (arith, digits) in
     rw (digits, behind, le-ltb (length bytes) count enough, are_bytes-true (take count bytes) are, first, le-leb 128 (number (take count bytes)) big') refl
-
-pub long_of-bad : (count : ℕ) (bytes : List ℕ) → count ≤ length bytes → are_length (take count bytes) ≡ false → long_of count bytes ≡ Err Length
-unfolding long_of
-long_of-bad count bytes enough bad =
-    ap (λ c. cond c (Err Truncated) (cond (are_length (take count bytes)) (Ok (number (take count bytes), drop count bytes)) (Err Length))) (le-ltb (length bytes) count enough)
-    ∙ ap (λ c. cond c (Ok (number (take count bytes), drop count bytes)) (Err Length)) bad

@@ -8,14 +8,13 @@ pub mod LengthLaws
 pub mod IntegerLaws
 pub mod ClockLaws
 pub mod ContentLaws
+pub mod PartLaws
 pub mod LeafLaws
 pub mod ElementSteps
 pub mod ElementRead
 pub mod ElementFound
 pub mod ElementLaws
 pub mod FaultLaws
-pub mod Unique
-pub mod Spellings
 pub mod Reading
 pub mod HeadLaws
 pub mod ShortestLaws

@@ -7,7 +7,7 @@ use Rattle.std.proofs.lemmas.List.{append-nil, take_at}
 use Rattle.krb_der.specs.declared.fault.Fault.{Fault}
 use Rattle.krb_der.specs.declared.fault.FaultKind.TheVariants.{TooLong}
 use Rattle.krb_der.specs.Kind.{Kind, ends, must, ValueOf}
-use Rattle.krb_der.specs.Content.{Elementary, Written, Negated}
+use Rattle.krb_der.specs.Content.{Elementary}
 use Rattle.krb_der.specs.Place.{Place, begin_at}
 use Rattle.krb_der.specs.Spells.{Spells, IsMessage, limit}
 use Rattle.krb_der.specs.Numbers.{SpellsNegative}
@@ -16,14 +16,14 @@ use Rattle.krb_der.specs.Fault.{IsFault, IsFaulty, too_long, faulty, start, afte
 use Rattle.krb_der.specs.Computed.Steps.{◌>>=◌}
 use Rattle.krb_der.specs.Clear.{is_clear}
 use Rattle.krb_der.specs.Computed.Read.{fault_at, element_at, content_of, finish_at, message_of, message_by}
-use Rattle.krb_der.proofs.LeafLaws.{elementary_read, is_leaf}
+use Rattle.krb_der.proofs.LeafLaws.{elementary_read}
 use Rattle.krb_der.proofs.LengthLaws.{no_value, same_error}
 use Rattle.krb_der.proofs.ElementSteps.{bind_ok, bind_err, bind_at, same_ok, finish_at-read, finish_at-fault, finish_at-end}
 use Rattle.krb_der.proofs.ElementFound.{answer}
 use Rattle.krb_der.proofs.ElementLaws.{element_read}
 use Rattle.krb_der.proofs.FaultLaws.{element_fault}
 use Rattle.krb_der.proofs.Reading.{element_at-found}
-use Rattle.krb_der.proofs.Unique.{spelling_unique}
+use Rattle.krb_der.proofs.Spelled.{spelled_is}
 use Rattle.krb_der.proofs.Offsets.{fault_within}
 
 -- what is spelled is read, whatever follows
@@ -44,10 +44,10 @@ pub one_value : (k : Kind) → is_clear k ≡ true → (v w : ValueOf k) (bytes 
 one_value k clear v w bytes s t = (no_prefix k clear v w bytes bytes [] [] s t refl).1
 
 pub one_written : (k : Kind) (v : ValueOf k) (a b : List ℕ) → Writes k v a → Writes k v b → a ≡ b
-one_written k v a b s t = spelling_unique Written (λ c. (is_leaf c).one) k v a b s t
+one_written k v a b s t = (spelled_is k v).one a b s t
 
 pub one_negative : (k : Kind) (v : ValueOf k) (a b : List ℕ) → SpellsNegative k v a → SpellsNegative k v b → a ≡ b
-one_negative k v a b s t = spelling_unique Negated (λ c. (is_leaf c).one_negative) k v a b s.0 t.0
+one_negative k v a b s t = (spelled_is k v).one_negative a b s.0 t.0
 
 -- ---- reading a whole message
 message-short : (k : Kind) (bytes : List ℕ) → length bytes ≤ limit → message_of k bytes ≡ (element_at k (begin_at bytes) >>= λ x. finish_at x.1 >>= λ _. Ok x.0)

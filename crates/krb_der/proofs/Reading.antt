@@ -33,9 +33,9 @@ element_at-found k v p after e =
     let t = element_found Elementary content_of elementary_read k p v after e in
     record { front = t.front; spelled = t.is; whole = t.whole; at_is = t.at_is }
 
-pub element_at-fault : (k : Kind) (p : Place) (f : Fault) → element_at k p ≡ Err f → IsElementFault Elementary k p f
+pub element_at_fault : (k : Kind) (p : Place) (f : Fault) → element_at k p ≡ Err f → IsElementFault Elementary k p f
 unfolding element_at
-element_at-fault k p f e = λ fs. element_fault Elementary content_of elementary_read (must k fs) p k fs p f start e
+element_at_fault k p f e = λ fs. element_fault Elementary content_of elementary_read (must k fs) p k fs p f start e
 
 pub reads : {X : Type 0} (k : Kind) (view : X → ValueOf k) (r : Result X Fault) (old new : Place) → is_clear k ≡ true
     → Gives view r old new (element_at k old) → Reads k view r old new
@@ -50,7 +50,7 @@ reads k view (Err f) old new clear e =
     record {
       found = tt;
       only = λ v after s. absurd (no_value f (v, after) (sym e.0 ∙ element_at-stands k v old after clear s));
-      faulty = element_at-fault k old f e.0;
+      faulty = element_at_fault k old f e.0;
       kept = e.1;
     }
 

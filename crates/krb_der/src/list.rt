@@ -48,6 +48,7 @@ impl<'a> Cursor<'a> {
     /// # Errors
     /// As of [`read`](Self::read), and the fault of one of the elements. The cursor is then
     /// unchanged.
+    #[tactic(auto, using(crate::proofs::Reading::reads))]
     pub fn list<T: Element<'a> + Drop>(&mut self) -> Result<Cursor<'a>, Fault>
         ensures reads { Reads (sequence (each T.kind)) (listed T.kind) result self.old self.new }
         ensures inside { IfOk result (λ content. HasHead 0x30 self.old content self.new) }
