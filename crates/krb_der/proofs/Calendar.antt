@@ -114,7 +114,7 @@ first_day : own.day_number 0 1 1 ≡ neg_ℤ (pos 719_528)
 unfolding own.days_before_year own.days_of_months
 first_day = refl
 
-clock_value : (d : ℤ) (n : ℕ) (s : ℤ) → pos n ≡ s +ℤ pos 62_167_219_200 → d +ℤ pos 4_371_587 ≡ pos (n / 86_400 + 3_652_059)
+pub clock_value : (d : ℤ) (n : ℕ) (s : ℤ) → pos n ≡ s +ℤ pos 62_167_219_200 → d +ℤ pos 4_371_587 ≡ pos (n / 86_400 + 3_652_059)
     → pos 86_400 *ℤ d +ℤ pos (3_600 * (n % 86_400 / 3_600) + 60 * (n % 86_400 / 60 % 60) + n % 86_400 % 60) ≡ s
 clock_value d n s from day = omega (arith, ints)
 

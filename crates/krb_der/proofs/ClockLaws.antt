@@ -6,11 +6,11 @@ use Rattle.std.proofs.lemmas.Int.{ints}
 use Rattle.jiff_core.specs.Calendar as jiff
 use Rattle.jiff_core.specs.declared.civil.date.Date.{Date}
 use Rattle.jiff_core.proofs.CalendarLemmas.{days_in_month_bounds}
-use Rattle.jiff_core.proofs.DateLemmas.{epoch_day_injective}
-use Rattle.krb_der.specs.Time.{Civil, IsCivil, IsTime, days_in_month, day_number, seconds_of, text_of, two}
+use Rattle.jiff_core.proofs.DateLemmas.{epoch_day_injective, epoch_day_range}
+use Rattle.krb_der.specs.Time.{Civil, IsCivil, IsTime, IsSeconds, days_in_month, day_number, seconds_of, text_of, two}
 use Rattle.krb_der.specs.Computed.Steps.{◌>>?◌}
 use Rattle.krb_der.specs.Computed.Clock.{is_digit, pair_of, pair_at, is_date, is_clock, day_of, clock_of, civil_of, seconds_if, time_of}
-use Rattle.krb_der.proofs.Calendar.{day_of-some, day_number_agree}
+use Rattle.krb_der.proofs.Calendar.{day_of-some, day_number_agree, day_number_low, seconds_range}
 use Rattle.krb_der.proofs.IntegerLaws.{bind_some, none_some, same_some}
 use Rattle.krb_der.proofs.LengthLaws.{chosen}
 
@@ -198,3 +198,10 @@ seconds_injective a b v w e =
 pub time_unique : (s : ℤ) (a b : List ℕ) → IsTime s a → IsTime s b → a ≡ b
 time_unique s a b h k =
     h.whole ∙ ap text_of (seconds_injective h.civil k.civil h.valid k.valid (h.value ∙ sym k.value)) ∙ sym k.whole
+
+pub civil_range : (t : Civil) → IsCivil t → IsSeconds (seconds_of t)
+civil_range t v =
+    let range = epoch_day_range (date_of t v) in
+    let same = day_number_agree t.year t.month t.day v.day.0 in
+    seconds_range (day_number t.year t.month t.day) (3_600 * t.hour + 60 * t.minute + t.second) (day_number_low t.year t.month t.day)
+    (omega (arith, ints, range.1, same)) (omega (arith, v.hour, v.minute, v.second))

@@ -1,17 +1,17 @@
 -- Writing within the limit.
-use Rattle.std.proofs.Common.{◌≡◌, inl, inr, ℕ, ◌+◌, ◌≤◌, cond, ltb, List, [], ◌++◌, length, take, drop, Option, None, Result, Ok, Err, refl, sym, ap, subst, ◌∙◌, arith, length-append, append_assoc}
+use Rattle.std.proofs.Common.{◌≡◌, inl, inr, ℕ, ◌+◌, ◌≤◌, cond, ltb, List, [], ◌++◌, length, take, drop, Result, Ok, Err, refl, sym, ap, subst, ◌∙◌, arith, length-append, append_assoc}
 use Rattle.std.specs.Prelude.{OnOk, OnErr, Vec}
 use Rattle.std.proofs.lemmas.Bool.{ltb-true, ltb-false, cases_Bool}
 use Rattle.std.proofs.lemmas.List.{take_at, drop_at, append-nil}
 use Rattle.krb_der.specs.declared.fault.EncodeFault.{EncodeFault}
 use Rattle.krb_der.specs.declared.fault.EncodeFault.TheVariants.{TooLong, OutOfMemory}
 use Rattle.krb_der.specs.Kind.{Kind, Fields, ValueOf, FieldsOf}
-use Rattle.krb_der.specs.Spells.{IsElement, IsJoined, IfPresent, limit}
+use Rattle.krb_der.specs.Spells.{IsElement, IsJoined, limit}
 use Rattle.krb_der.specs.Writing.{Appends, AppendsElement, Wraps, Writes, WritesFields, Encodes, IsEncoded}
 use Rattle.krb_der.specs.Inner.Limited.{limited_of, settled}
-use Rattle.krb_der.specs.Size.{element_size, size_if, fields_size, size_of}
+use Rattle.krb_der.specs.Size.{element_size, fields_size, size_of}
 use Rattle.krb_der.proofs.Sizes.{HasSize, element_sized}
-use Rattle.krb_der.proofs.Spelled.{spelled_is, fields_is, present_is}
+use Rattle.krb_der.proofs.Spelled.{spelled_is, fields_is}
 
 no_fault : {A : Type 0} (c d : EncodeFault) → ◌≡◌ {A = Result A EncodeFault} (Err c) (Err d) → c ≡ d
 no_fault c d e = cc
@@ -127,32 +127,6 @@ encodes-joined First Rest size others sized (Err f) r start old mid end new at a
       too_long = λ t. omega (arith, e.too_long t, ap length a.whole, length-append old a.bytes, sized a.bytes a.is);
       kept = n ∙ ap (λ x. settled x start end) same ∙ ap (take start) e.kept ∙ before_appended First start old mid at a;
     })
-
--- nothing before others
-pub encodes-absent : {V : Type 0} (Part : V → List ℕ → Type 0) (Rest : List ℕ → Type 0) (others : ℕ) (r : Result (Unit {0}) EncodeFault) (old new : List ℕ)
-    → Encodes Rest others r old new → Encodes (IsJoined (IfPresent Part None) Rest) (0 + others) r old new
-encodes-absent Part Rest others (Ok u) old new e =
-    let b = e.ok.0 in
-    record {
-      ok = (record { bytes = b.bytes; is = record { front = []; back = b.bytes; first = refl; rest = b.is; whole = refl }; whole = b.whole }, e.ok.1);
-      too_long = λ t. absurd (ok_err u TooLong t);
-      kept = tt;
-    }
-encodes-absent Part Rest others (Err f) old new e =
-    record {
-      ok = tt;
-      too_long = λ t. omega (arith, e.too_long t);
-      kept = e.kept;
-    }
-
--- a first part that is refused
-pub joined-refused : (First Rest : List ℕ → Type 0) (size others : ℕ) (f : EncodeFault) (old mid : List ℕ)
-    → Encodes First size (Err f) old mid → Encodes (IsJoined First Rest) (size + others) (Err f) old mid
-joined-refused First Rest size others f old mid e =
-    record { ok = tt; too_long = λ t. omega (arith, e.too_long t); kept = e.kept }
-
-pub present_size : (k : Kind) (o : Option (ValueOf k)) → HasSize (IfPresent (Writes k) o) (size_if (size_of k) o)
-present_size k o = (present_is k o).sized
 
 -- ---- a whole message, from nothing
 pub encoded_ok : {Z : Type 0} (k : Kind) (v : ValueOf k) (made : Vec ℕ Z) (old new : List ℕ) → old ≡ [] → Appends (Writes k v) old new → length new ≤ limit → made.items ≡ new

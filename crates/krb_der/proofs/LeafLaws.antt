@@ -13,9 +13,9 @@ use Rattle.krb_der.specs.Computed.Read.{content_of, LeafReader}
 use Rattle.krb_der.proofs.Numbers.{number_within}
 use Rattle.krb_der.proofs.IntegerLaws.{natural_unique, integer_unique, same_some}
 use Rattle.krb_der.proofs.ContentLaws.{flags_of-read, flags_read, flags_unique, below_found, below_only, int32_found, int32_only, seq_number_found, seq_number_only, constant_found, constant_only}
-use Rattle.krb_der.proofs.ClockLaws.{time_read, time_of-read, time_unique}
+use Rattle.krb_der.proofs.ClockLaws.{time_read, time_of-read, time_unique, civil_range}
 use Rattle.krb_der.proofs.ShortestLaws.{integer_be, flags_be}
-use Rattle.krb_der.proofs.Dates.{civil_range, time_made}
+use Rattle.krb_der.proofs.Dates.{time_made}
 use Rattle.krb_der.proofs.Sizes.{natural_sized, integer_sized}
 use Rattle.krb_der.proofs.PartLaws.{IsPart, Part, plain_is}
 

@@ -69,6 +69,3 @@ mutual
 
 pub spelled_is : (k : Kind) (v : ValueOf k) → IsPart (numbers_in k) (element (tag_of k) (content_part k v))
 spelled_is k = one_is k (content_is k)
-
-pub present_is : (k : Kind) (o : Option (ValueOf k)) → IsPart (numbers_in k) (option_part k o)
-present_is k = option_is k (content_is k)
