@@ -7,7 +7,7 @@ use Rattle.krb_der.specs.declared.fault.FaultKind.{FaultKind}
 use Rattle.krb_der.specs.declared.fault.FaultKind.TheVariants.{Truncated, Tag}
 use Rattle.krb_der.specs.Kind.{Kind, Fields, ends, must, tag_of}
 use Rattle.krb_der.specs.Place.{Place, end_of}
-use Rattle.krb_der.specs.Spells.{IsLength, Contents}
+use Rattle.krb_der.specs.Spells.{IsLength, IsElement, Contents}
 use Rattle.krb_der.specs.Fault.{HasHead, IsBroken, nothing, other_tag, cut_length, bad_length, cut_content, left_over}
 use Rattle.krb_der.specs.Computed.Steps.{◌>>=◌}
 use Rattle.krb_der.specs.Computed.Read.{fault_at, enter_at, sized_at, split_at, length_of, length_fault, finish_at, finish_from}
@@ -32,12 +32,15 @@ same_ok x y e = cc
 pub cons_nil : (b : ℕ) (bytes : List ℕ) → b ∷ bytes ≡ [] → ⊥
 cons_nil b bytes e = cc
 
--- a part that stands at a place, and what is behind it
-pub record Taken (Part : List ℕ → Type 0) (here after : Place) : Type 0 where
-  pub front : List ℕ
-  pub is : Part front
-  pub whole : here.rest ≡ front ++ after.rest
-  pub at_is : after.at ≡ here.at + length front
+-- the parts of an answer
+pub answer : {V : Type 0} (v w : V) (p q : Place) → ◌≡◌ {A = Result (V × Place) Fault} (Ok (v, p)) (Ok (w, q)) → (v ≡ w) × (p ≡ q)
+answer {V = V} v w p q e =
+    let same : ◌≡◌ {A = V × Place} (v, p) (w, q) = same_ok {E = Fault} (v, p) (w, q) e in
+    (ap (λ (x : V × Place). x.0) same, ap (λ (x : V × Place). x.1) same)
+
+-- an element has bytes
+pub element_some : (tag : ℕ) (IsContent : List ℕ → Type 0) (front : List ℕ) → IsElement tag IsContent front → 1 ≤ length front
+element_some tag IsContent front h = omega (arith, ap length h.whole)
 
 -- ---- heads
 pub enter_at-spelled : (tag at : ℕ) (size content rest : List ℕ) → IsLength (length content) size

@@ -3,13 +3,12 @@ use Rattle.std.proofs.Common.{◌≡◌, ◌⊎◌, inl, inr, ℕ, ◌^◌, ◌<
 use Rattle.std.specs.Prelude.{FitsSigned}
 use Rattle.std.specs.Int.{w32, to_be_bytes}
 use Rattle.std.proofs.lemmas.Int.{ints}
-use Rattle.krb_der.specs.Content.{Content, int32, uint32, seq_number, microseconds, constant, octets, string, flags, time, ContentValue, Leaf, natural_leaf, bytes_leaf, leaf_of, Elementary}
+use Rattle.krb_der.specs.Content.{Content, int32, uint32, seq_number, microseconds, constant, octets, string, flags, time, Leaf, natural_leaf, bytes_leaf, leaf_of}
 use Rattle.krb_der.specs.Whole.{IsNatural, IsInteger, IsUnsigned, IsNegative, IsSeqNumber}
 use Rattle.krb_der.specs.Time.{IsSeconds}
-use Rattle.krb_der.specs.Spells.{Contents}
 use Rattle.krb_der.specs.Computed.Steps.{◌>>?◌}
 use Rattle.krb_der.specs.Computed.Whole.{whole_of, natural_below}
-use Rattle.krb_der.specs.Computed.Read.{content_of, LeafReader}
+use Rattle.krb_der.specs.Computed.Read.{content_of}
 use Rattle.krb_der.proofs.Numbers.{number_within}
 use Rattle.krb_der.proofs.IntegerLaws.{natural_unique, integer_unique, same_some}
 use Rattle.krb_der.proofs.ContentLaws.{flags_of-read, flags_read, flags_unique, below_found, below_only, int32_found, int32_only, seq_number_found, seq_number_only, constant_found, constant_only}
@@ -18,11 +17,6 @@ use Rattle.krb_der.proofs.ShortestLaws.{integer_be, flags_be}
 use Rattle.krb_der.proofs.Dates.{time_made}
 use Rattle.krb_der.proofs.Sizes.{natural_sized, integer_sized}
 use Rattle.krb_der.proofs.PartLaws.{IsPart, Part, plain_is}
-
--- reading gives a value exactly where it is spelled
-pub record AreRead (Leaf : Contents) (read : LeafReader) : Type 0 where
-  pub found : (c : Content) (v : ContentValue c) (content : List ℕ) → read c content ≡ Some v → Leaf c v content
-  pub only : (c : Content) (v : ContentValue c) (content : List ℕ) → Leaf c v content → read c content ≡ Some v
 
 abbrev pub leaf_part : {V : Type 0} → Leaf V → V → Part
 leaf_part row v =
@@ -115,6 +109,3 @@ is_leaf time =
       only = time_read;
       is = λ s. plain_is (time_unique s) (λ content h. subst IsSeconds h.value (civil_range h.civil h.valid)) (λ content h. ap length h.whole) (time_made s);
     }
-
-pub elementary_read : AreRead Elementary content_of
-elementary_read = record { found = λ c. (is_leaf c).found; only = λ c. (is_leaf c).only }

@@ -12,9 +12,8 @@ pub mod PartLaws
 pub mod LeafLaws
 pub mod ElementSteps
 pub mod ElementRead
-pub mod ElementFound
 pub mod ElementLaws
-pub mod FaultLaws
+pub mod Outcomes
 pub mod Reading
 pub mod HeadLaws
 pub mod ShortestLaws

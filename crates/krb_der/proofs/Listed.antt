@@ -7,10 +7,9 @@ use Rattle.krb_der.specs.Place.{Place}
 use Rattle.krb_der.specs.Computed.Steps.{◌>>=◌}
 use Rattle.krb_der.specs.Computed.Gives.{checked}
 use Rattle.krb_der.specs.Computed.Listed.{AreListed, values_of, listed}
-use Rattle.krb_der.specs.Computed.Read.{enter_at, element_at, fields_at, element_by, sequence_at}
+use Rattle.krb_der.specs.Computed.Read.{enter_at, element_at, fields_at, sequence_at}
 use Rattle.krb_der.proofs.LengthLaws.{no_value}
-use Rattle.krb_der.proofs.ElementSteps.{bind_at}
-use Rattle.krb_der.proofs.ElementFound.{answer}
+use Rattle.krb_der.proofs.ElementSteps.{answer, bind_at}
 use Rattle.krb_der.proofs.Lists.{list_next, element_at-shrinks}
 
 checked-ok : {V : Type 0} (r : Result (List V) Fault) → checked r ≡ Ok tt → r ≡ Ok (values_of r)
@@ -36,7 +35,7 @@ sequence-err read p inside after f e g =
     bind_at (enter_at 0x30 p) (λ e. read e.0 >>= λ x. Ok (x, e.1)) (inside, after) e ∙ ap (λ r. r >>= λ x. Ok (x, after)) g
 
 sequence_is : (k : Kind) (p : Place) → element_at (sequence (each k)) p ≡ sequence_at (fields_at (each k)) p
-unfolding element_at fields_at element_by
+unfolding element_at
 sequence_is k p = refl
 
 pub list-ok : (k : Kind) (p inside after : Place) → enter_at 0x30 p ≡ Ok (inside, after) → checked (fields_at (each k) inside) ≡ Ok tt

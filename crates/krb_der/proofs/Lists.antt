@@ -8,9 +8,8 @@ use Rattle.krb_der.specs.Place.{Place}
 use Rattle.krb_der.specs.Spells.{SpellsContent}
 use Rattle.krb_der.specs.Computed.Steps.{◌>>=◌}
 use Rattle.krb_der.specs.Computed.Gives.{checked}
-use Rattle.krb_der.specs.Computed.Read.{each_from, each_at, element_at, fields_at, fields_by}
-use Rattle.krb_der.proofs.ElementSteps.{bind_ok, bind_at, same_ok}
-use Rattle.krb_der.proofs.ElementLaws.{element_some}
+use Rattle.krb_der.specs.Computed.Read.{each_from, each_at, element_at, fields_at}
+use Rattle.krb_der.proofs.ElementSteps.{bind_ok, bind_at, same_ok, element_some}
 use Rattle.krb_der.proofs.Reading.{element_at-found}
 
 bind_same : {A B E : Type 0} (r : Result A E) (f g : A → Result B E) → ((x : A) → r ≡ Ok x → f x ≡ g x) → (r >>= f) ≡ (r >>= g)
@@ -91,7 +90,7 @@ element_at-shrinks k p v q e =
     omega (arith, ap length s.whole, length-append s.front q.rest, element_some (tag_of k) (SpellsContent Elementary k v) s.front s.spelled)
 
 pub list_is : (k : Kind) (p : Place) → fields_at (each k) p ≡ each_at (element_at k) p
-unfolding fields_at element_at fields_by
+unfolding fields_at
 list_is k p = refl
 
 pub list_step : (k : Kind) (p : Place) (v : ValueOf k) (q : Place) → element_at k p ≡ Ok (v, q) → checked (fields_at (each k) q) ≡ checked (fields_at (each k) p)

@@ -12,30 +12,23 @@ use Rattle.krb_der.specs.Fault.{HasHead, IsElementFault, IsHeadFault, start}
 use Rattle.krb_der.specs.Reading.{Reads, Enters, MayEnter}
 use Rattle.krb_der.specs.Clear.{is_clear}
 use Rattle.krb_der.specs.Computed.Gives.{Gives}
-use Rattle.krb_der.specs.Computed.Read.{element_at, enter_at, may_enter, content_of}
-use Rattle.krb_der.proofs.LeafLaws.{elementary_read}
+use Rattle.krb_der.specs.Computed.Read.{element_at, enter_at, may_enter}
 use Rattle.krb_der.proofs.LengthLaws.{no_value}
-use Rattle.krb_der.proofs.ElementSteps.{bind_ok, bind_err, enter_at-spelled, enter_at-read, enter_at-fault}
-use Rattle.krb_der.proofs.ElementFound.{answer}
-use Rattle.krb_der.proofs.ElementLaws.{element_read, element_found}
-use Rattle.krb_der.proofs.FaultLaws.{element_fault}
+use Rattle.krb_der.proofs.ElementSteps.{answer, bind_ok, bind_err, enter_at-spelled, enter_at-read, enter_at-fault}
+use Rattle.krb_der.proofs.ElementLaws.{element_read}
+use Rattle.krb_der.proofs.Outcomes.{ElementOut, element_out}
 
 pub element_at-stands : (k : Kind) (v : ValueOf k) (p after : Place) → is_clear k ≡ true → StandsAt Elementary k v p after → element_at k p ≡ Ok (v, after)
-unfolding element_at
 element_at-stands k v p after clear s =
     ap (λ (l : List _). element_at k (record { at = p.at; rest = l })) s.whole
-    ∙ element_read Elementary content_of elementary_read k v s.front clear s.spelled p.at after.rest
+    ∙ element_read k v s.front clear s.spelled p.at after.rest
     ∙ ap (λ a. Ok (v, record { at = a; rest = after.rest })) (sym s.at_is)
 
 pub element_at-found : (k : Kind) (v : ValueOf k) (p after : Place) → element_at k p ≡ Ok (v, after) → StandsAt Elementary k v p after
-unfolding element_at
-element_at-found k v p after e =
-    let t = element_found Elementary content_of elementary_read k p v after e in
-    record { front = t.front; spelled = t.is; whole = t.whole; at_is = t.at_is }
+element_at-found k v p after e = subst (ElementOut k p) e (element_out k p)
 
 pub element_at_fault : (k : Kind) (p : Place) (f : Fault) → element_at k p ≡ Err f → IsElementFault Elementary k p f
-unfolding element_at
-element_at_fault k p f e = λ fs. element_fault Elementary content_of elementary_read (must k fs) p k fs p f start e
+element_at_fault k p f e = λ fs. subst (ElementOut k p) e (element_out k p) fs (must k fs) p start
 
 pub reads : {X : Type 0} (k : Kind) (view : X → ValueOf k) (r : Result X Fault) (old new : Place) → is_clear k ≡ true
     → Gives view r old new (element_at k old) → Reads k view r old new

@@ -59,7 +59,7 @@ impl<'a> Cursor<'a> {
         self.list_here::<T>()
     }
 
-    #[tactic(auto, unfolding(crate::specs::Computed::Read::element_at, crate::specs::Computed::Read::element_by))]
+    #[tactic(auto, unfolding(crate::specs::Computed::Read::element_at))]
     fn list_here<T: Element<'a> + Drop>(&mut self) -> Result<Cursor<'a>, Fault>
         ensures inside { IfOk result (λ content. HasHead 0x30 self.old content self.new) }
         ensures listed { IfOk result (AreListed T.kind) }

@@ -22,7 +22,7 @@ pub fn parse<'a, T: Message<'a> + Drop>(bytes: &'a [u8]) -> Result<T, Fault>
     all(bytes)
 }
 
-#[tactic(auto, unfolding(crate::specs::Computed::Read::message_of, crate::specs::Computed::Read::message_by, crate::specs::Computed::Read::element_at))]
+#[tactic(auto, unfolding(crate::specs::Computed::Read::message_of))]
 fn all<'a, T: Element<'a> + Drop>(bytes: &'a [u8]) -> Result<T, Fault>
     ensures { Fills T.view result (message_of T.kind bytes.entry.now) }
 {
