@@ -8,12 +8,12 @@ use Rattle.krb_der.specs.Kind.{Kind, leaf, wrapped, sequence, Fields, ends, must
 use Rattle.krb_der.specs.Content.{Content, ContentValue, leaf_of, Elementary}
 use Rattle.krb_der.specs.Place.{Place, begins}
 use Rattle.krb_der.specs.Spells.{SpellsContent, SpellsFields, SpellsBy, StandsAt}
-use Rattle.krb_der.specs.Fault.{HasHead, Reached, inside_wrapped, inside_sequence, after_element, is_there, is_absent, one_more, IsBroken, bad_content, IsFaulty}
+use Rattle.krb_der.specs.Fault.{HasHead, Reached, inside_wrapped, inside_sequence, after_element, is_there, is_absent, one_more, IsBroken, bad_content, left_over, IsFaulty}
 use Rattle.krb_der.specs.Computed.Steps.{◌>>=◌}
-use Rattle.krb_der.specs.Computed.Read.{enter_at, finish_at, content_of, value_or, each_from, element_at, fields_at}
+use Rattle.krb_der.specs.Computed.Read.{enter_at, finish_at, finish_from, content_of, value_or, each_from, element_at, fields_at}
 use Rattle.krb_der.proofs.LeafLaws.{is_leaf}
 use Rattle.krb_der.proofs.IntegerLaws.{none_some}
-use Rattle.krb_der.proofs.ElementSteps.{cons_nil, enter_at-read, enter_at-fault, finish_at-read, finish_at-fault, element_some}
+use Rattle.krb_der.proofs.ElementSteps.{cons_nil, HeadOut, head_out, element_some}
 
 -- a step, and what follows if it succeeds; its fault is handed on
 pub bind_by : {A B E : Type 0} (P : Result A E → Type 0) (Q : Result B E → Type 0) (r : Result A E) (f : A → Result B E)
@@ -28,10 +28,6 @@ Faults fs p f = (from : Fields) (begin : Place) → Reached Elementary from begi
 broken : (fs : Fields) (p : Place) (f : Fault) → IsBroken Elementary fs p f → Faults fs p f
 broken fs p f b = λ from begin r. record { expected = fs; here = p; reached = r; broken = b }
 
-abbrev HeadOut : ℕ → Place → Result (Place × Place) Fault → Type 0
-HeadOut tag p (Ok x) = HasHead tag p x.0 x.1
-HeadOut tag p (Err f) = (k : Kind) (fs : Fields) → tag_of k ≡ tag → Faults (must k fs) p f
-
 abbrev pub ElementOut : (k : Kind) → Place → Result (ValueOf k × Place) Fault → Type 0
 ElementOut k p (Ok x) = StandsAt Elementary k x.0 p x.1
 ElementOut k p (Err f) = (fs : Fields) → Faults (must k fs) p f
@@ -40,19 +36,13 @@ abbrev pub FieldsOut : (fs : Fields) → Place → Result (FieldsOf fs) Fault �
 FieldsOut fs p (Ok v) = SpellsFields Elementary fs v p.rest
 FieldsOut fs p (Err f) = Faults fs p f
 
-head_out : (tag : ℕ) (p : Place) → HeadOut tag p (enter_at tag p)
-head_out tag p = by (enter_at tag p) refl
-  where
-    by : (r : Result (Place × Place) Fault) → enter_at tag p ≡ r → HeadOut tag p r
-    by (Ok x) e = enter_at-read tag p x.0 x.1 e
-    by (Err f) e = λ k fs same. broken (must k fs) p f (enter_at-fault Elementary k fs p f (ap (λ t. enter_at t p) same ∙ e))
-
 pub end_out : (p : Place) → FieldsOut ends p (finish_at p)
-end_out p = by (finish_at p) refl
+unfolding finish_at
+end_out p = by p.rest refl
   where
-    by : (r : Result (Unit {0}) Fault) → finish_at p ≡ r → FieldsOut ends p r
-    by (Ok u) e = finish_at-read p u e
-    by (Err f) e = broken ends p f (finish_at-fault Elementary p f e)
+    by : (rest : List ℕ) → p.rest ≡ rest → FieldsOut ends p (finish_from p rest)
+    by [] e = e
+    by (b ∷ bytes) e = broken ends p _ (left_over (λ z. absurd (cons_nil b bytes (sym e ∙ z))))
 
 -- ---- one element, by its head
 stands : (k : Kind) (v : ValueOf k) (p inside after : Place) → HasHead (tag_of k) p inside after → SpellsContent Elementary k v inside.rest → StandsAt Elementary k v p after
@@ -98,7 +88,7 @@ mutual
   element_out (leaf c) p =
       bind_by (HeadOut (leaf_of c).tag p) (ElementOut (leaf c) p) (enter_at (leaf_of c).tag p) _ (head_out (leaf_of c).tag p)
       (λ e h. leaf_out c p e.0 e.1 h (content_of c e.0.rest) refl)
-      (λ f faults fs. faults (leaf c) fs refl)
+      (λ f faults fs. broken (must (leaf c) fs) p f (faults (leaf c) fs refl))
   element_out (wrapped tag k) p =
       bind_by (HeadOut tag p) (ElementOut (wrapped tag k) p) (enter_at tag p) _ (head_out tag p)
       (λ e h. bind_by (ElementOut k e.0) (ElementOut (wrapped tag k) p) (element_at k e.0) _ (element_out k e.0)
@@ -106,13 +96,13 @@ mutual
       (λ u end. stands (wrapped tag k) x.0 p e.0 e.1 h (alone k x.0 e.0 x.1 s end))
       (λ f faults fs from begin r. faults from begin (after_element x.0 (inside_wrapped r h) s)))
       (λ f faults fs from begin r. faults ends from begin (inside_wrapped r h)))
-      (λ f faults fs. faults (wrapped tag k) fs refl)
+      (λ f faults fs. broken (must (wrapped tag k) fs) p f (faults (wrapped tag k) fs refl))
   element_out (sequence gs) p =
       bind_by (HeadOut 0x30 p) (ElementOut (sequence gs) p) (enter_at 0x30 p) _ (head_out 0x30 p)
       (λ e h. bind_by (FieldsOut gs e.0) (ElementOut (sequence gs) p) (fields_at gs e.0) _ (fields_out gs e.0)
       (λ v s. stands (sequence gs) v p e.0 e.1 h s)
       (λ f faults fs from begin r. faults from begin (inside_sequence r h)))
-      (λ f faults fs. faults (sequence gs) fs refl)
+      (λ f faults fs. broken (must (sequence gs) fs) p f (faults (sequence gs) fs refl))
 
   pub fields_out : (fs : Fields) (p : Place) → FieldsOut fs p (fields_at fs p)
   fields_out ends p = end_out p

@@ -14,7 +14,7 @@ use Rattle.krb_der.specs.Clear.{is_clear}
 use Rattle.krb_der.specs.Computed.Gives.{Gives}
 use Rattle.krb_der.specs.Computed.Read.{element_at, enter_at, may_enter}
 use Rattle.krb_der.proofs.LengthLaws.{no_value}
-use Rattle.krb_der.proofs.ElementSteps.{answer, bind_ok, bind_err, enter_at-spelled, enter_at-read, enter_at-fault}
+use Rattle.krb_der.proofs.ElementSteps.{answer, bind_ok, bind_err, enter_at-spelled, enter_at-read, HeadOut, head_out}
 use Rattle.krb_der.proofs.ElementLaws.{element_read}
 use Rattle.krb_der.proofs.Outcomes.{ElementOut, element_out}
 
@@ -69,7 +69,7 @@ enters tag (Err f) old new e =
     record {
       found = tt;
       only = λ inside after h. absurd (no_value f (inside, after) (sym e.0 ∙ enter_at-head tag old inside after h));
-      faulty = λ k fs. enter_at-fault Elementary (wrapped tag k) fs old f e.0;
+      faulty = λ k fs. subst (HeadOut tag old) e.0 (head_out tag old) (wrapped tag k) fs refl;
       kept = e.1;
     }
 
@@ -123,7 +123,7 @@ may_enters tag (Err f) old new e =
     faults : IsHeadFault Elementary tag old f
     faults = elim (cases_Bool (begins tag old.rest)) [
       | inl b ↦ elim (bind_err (enter_at tag old) (λ x. Ok (Some x.0, x.1)) f (sym (may_enter-there tag old b) ∙ e.0)) [
-        | inl h ↦ λ k fs. enter_at-fault Elementary (wrapped tag k) fs old f h
+        | inl h ↦ λ k fs. subst (HeadOut tag old) h (head_out tag old) (wrapped tag k) fs refl
         | inr h ↦ absurd (no_value f _ (sym h.2))
       ]
       | inr b ↦ absurd (no_value f (None, old) (sym e.0 ∙ may_enter-absent tag old b))
