@@ -1,6 +1,6 @@
 -- The laws of each element without parts, a row for each.
 use Rattle.std.proofs.Common.{◌≡◌, ◌⊎◌, inl, inr, ℕ, ◌^◌, ◌<◌, ◌≤◌, ℤ, pos, negsuc, ◌-ℤ◌, List, length, Option, Some, refl, sym, ap, subst, ◌∙◌, arith, lit≤}
-use Rattle.std.specs.Prelude.{FitsSigned}
+use Rattle.std.specs.Prelude.{FitsSigned, IfSome}
 use Rattle.std.specs.Int.{w32, to_be_bytes}
 use Rattle.std.proofs.lemmas.Int.{ints}
 use Rattle.krb_der.specs.Content.{Content, int32, uint32, seq_number, microseconds, constant, octets, string, flags, time, Leaf, natural_leaf, bytes_leaf, leaf_of}
@@ -10,9 +10,9 @@ use Rattle.krb_der.specs.Computed.Steps.{◌>>?◌}
 use Rattle.krb_der.specs.Computed.Whole.{whole_of, natural_below}
 use Rattle.krb_der.specs.Computed.Read.{content_of}
 use Rattle.krb_der.proofs.Numbers.{number_within}
-use Rattle.krb_der.proofs.IntegerLaws.{natural_unique, integer_unique, same_some}
-use Rattle.krb_der.proofs.ContentLaws.{flags_of-read, flags_read, flags_unique, below_found, below_only, int32_found, int32_only, seq_number_found, seq_number_only, constant_found, constant_only}
-use Rattle.krb_der.proofs.ClockLaws.{time_read, time_of-read, time_unique, civil_range}
+use Rattle.krb_der.proofs.IntegerLaws.{natural_unique, integer_unique}
+use Rattle.krb_der.proofs.ContentLaws.{flags_found, flags_read, flags_unique, below_found, below_only, int32_found, int32_only, seq_number_found, seq_number_only, constant_found, constant_only}
+use Rattle.krb_der.proofs.ClockLaws.{time_read, time_found, time_unique, civil_range}
 use Rattle.krb_der.proofs.ShortestLaws.{integer_be, flags_be}
 use Rattle.krb_der.proofs.Dates.{time_made}
 use Rattle.krb_der.proofs.Sizes.{natural_sized, integer_sized}
@@ -23,7 +23,7 @@ leaf_part row v =
     record { Reads = row.Reads v; Writes = row.Writes v; Negative = row.ReadsNegative v; Fits = row.Fits v; IsHigh = row.IsHigh v; size = row.size v }
 
 pub record IsLeaf {V : Type 0} (row : Leaf V) (read : List ℕ → Option V) : Type 0 where
-  pub found : (v : V) (content : List ℕ) → read content ≡ Some v → row.Reads v content
+  pub found : (content : List ℕ) → IfSome (read content) (λ v. row.Reads v content)
   pub only : (v : V) (content : List ℕ) → row.Reads v content → read content ≡ Some v
   pub is : (v : V) → IsPart row.numbers (leaf_part row v)
 
@@ -47,7 +47,7 @@ natural_is bound small =
 bytes_is : (tag : ℕ) → IsLeaf (bytes_leaf tag) Some
 bytes_is tag =
     record {
-      found = λ v content e. same_some content v e;
+      found = λ content. refl;
       only = λ v content h. ap Some h;
       is = λ v. plain_is (λ a b h k. h ∙ sym k) (λ content h. tt) (λ content h. ap length h) (λ fits. (v, refl));
     }
@@ -97,7 +97,7 @@ is_leaf octets = bytes_is 0x04
 is_leaf string = bytes_is 0x1b
 is_leaf flags =
     record {
-      found = λ n content e. flags_of-read content n e;
+      found = flags_found;
       only = flags_read;
       is = λ n. plain_is (flags_unique n)
           (λ content h. omega (arith, h.value, number_within h.bits 4 h.bytes (omega (arith, h.four)))) (λ content h. ap length h.whole ∙ omega (arith, h.four))
@@ -105,7 +105,7 @@ is_leaf flags =
     }
 is_leaf time =
     record {
-      found = λ s content e. time_of-read content s e;
+      found = time_found;
       only = time_read;
       is = λ s. plain_is (time_unique s) (λ content h. subst IsSeconds h.value (civil_range h.civil h.valid)) (λ content h. ap length h.whole) (time_made s);
     }

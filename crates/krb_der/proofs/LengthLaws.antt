@@ -1,5 +1,5 @@
 -- A length is read exactly where one is spelled, and a number has one length.
-use Rattle.std.proofs.Common.{◌≡◌, ◌⊎◌, inl, inr, ℕ, suc, ◌+◌, ◌-◌, ◌*◌, ◌^◌, ◌<◌, ◌≤◌, Bool, true, false, not, ◌&&◌, cond, ltb, leb, eqb, List, [], ◌∷◌, ◌++◌, length, take, drop, Result, Ok, Err, refl, sym, ap, subst, ◌∙◌, arith, zero-le, lit<, length-append, length-take, take-append-drop}
+use Rattle.std.proofs.Common.{◌≡◌, ◌⊎◌, inl, inr, ℕ, suc, ◌+◌, ◌-◌, ◌*◌, ◌^◌, ◌<◌, ◌≤◌, Bool, true, false, not, ◌&&◌, ltb, leb, eqb, List, [], ◌∷◌, ◌++◌, length, take, drop, Result, Ok, Err, refl, sym, ap, subst, ◌∙◌, arith, zero-le, lit<, length-append, length-take, take-append-drop}
 use Rattle.std.proofs.lemmas.Bool.{le-ltb, lt-ltb, le-leb, ltb-true, ltb-false, leb-true, leb-false, eq-eqb, and_parts, and_cases, cases_lt, cases_eq, cond_both, not-true, true≢false}
 use Rattle.std.proofs.lemmas.List.{take_at, drop_at}
 use Rattle.std.proofs.lemmas.Nat.{same_from_place}
@@ -13,11 +13,6 @@ use Rattle.krb_der.specs.Computed.Read.{long_of, length_of, are_length, Sized}
 use Rattle.krb_der.specs.Computed.Whole.{are_bytes}
 use Rattle.krb_der.proofs.Numbers.{are_bytes-true, AreBytes-true, number_below}
 use Rattle.krb_der.proofs.LengthSteps.{long_of-ok}
-
--- which way a test went
-pub chosen : {A : Type 0} (b : Bool) (x y z : A) → cond b x y ≡ z → ((b ≡ true) × (x ≡ z)) ⊎ ((b ≡ false) × (y ≡ z))
-chosen true x y z e = inl (refl, e)
-chosen false x y z e = inr (refl, e)
 
 -- ---- numbers of digits
 -- lists of one length

@@ -1,5 +1,6 @@
 -- What reading gives, for all kinds at once: a value that is spelled there and the place after it, or a fault by the rules.
 use Rattle.std.proofs.Common.{◌≡◌, ◌≢◌, ℕ, zero, suc, ◌≤◌, List, [], ◌∷◌, ◌++◌, length, Option, Some, None, Result, Ok, Err, refl, sym, ap, subst, ◌∙◌, arith, length-append}
+use Rattle.std.specs.Prelude.{IfSome}
 use Rattle.std.proofs.lemmas.Bool.{cond_both}
 use Rattle.std.proofs.lemmas.List.{append-nil}
 use Rattle.std.proofs.Math.Nat.{le_refl}
@@ -60,7 +61,7 @@ alone k v p after s end =
 
 leaf_out : (c : Content) (p inside after : Place) → HasHead (leaf_of c).tag p inside after → (o : Option (ContentValue c)) → content_of c inside.rest ≡ o
     → ElementOut (leaf c) p (value_or o (leaf_of c).fault p.at >>= λ v. Ok (v, after))
-leaf_out c p inside after h (Some v) e = stands (leaf c) v p inside after h ((is_leaf c).found v inside.rest e)
+leaf_out c p inside after h (Some v) e = stands (leaf c) v p inside after h (subst (λ o. IfSome o (λ x. Elementary c x inside.rest)) e ((is_leaf c).found inside.rest))
 leaf_out c p inside after h None e =
     λ fs. broken (must (leaf c) fs) p _ (bad_content inside after h (λ v s. none_some v (sym e ∙ (is_leaf c).only v inside.rest s)))
 
