@@ -7,7 +7,7 @@ use Rattle.krb_der.specs.Place.{Place}
 use Rattle.krb_der.specs.Computed.Steps.{◌>>=◌}
 use Rattle.krb_der.specs.Computed.Gives.{checked}
 use Rattle.krb_der.specs.Computed.Listed.{AreListed, values_of, listed}
-use Rattle.krb_der.specs.Computed.Read.{enter_at, element_at, fields_at, sequence_at}
+use Rattle.krb_der.specs.Computed.Read.{enter_at, element_at, fields_at}
 use Rattle.krb_der.proofs.LengthLaws.{no_value}
 use Rattle.krb_der.proofs.ElementSteps.{answer, bind_at}
 use Rattle.krb_der.proofs.Lists.{list_next, element_at-shrinks}
@@ -24,17 +24,7 @@ is-ok : {V : Type 0} (r : Result (List V) Fault) → IsOk r → r ≡ Ok (values
 is-ok (Ok vs) e = refl
 is-ok (Err f) e = cc
 
-sequence-ok : {V : Type 0} (read : Place → Result V Fault) (p inside after : Place) (v : V)
-    → enter_at 0x30 p ≡ Ok (inside, after) → read inside ≡ Ok v → sequence_at read p ≡ Ok (v, after)
-sequence-ok read p inside after v e f =
-    bind_at (enter_at 0x30 p) (λ e. read e.0 >>= λ x. Ok (x, e.1)) (inside, after) e ∙ bind_at (read inside) (λ x. Ok (x, after)) v f
-
-sequence-err : {V : Type 0} (read : Place → Result V Fault) (p inside after : Place) (f : Fault)
-    → enter_at 0x30 p ≡ Ok (inside, after) → read inside ≡ Err f → sequence_at read p ≡ Err f
-sequence-err read p inside after f e g =
-    bind_at (enter_at 0x30 p) (λ e. read e.0 >>= λ x. Ok (x, e.1)) (inside, after) e ∙ ap (λ r. r >>= λ x. Ok (x, after)) g
-
-sequence_is : (k : Kind) (p : Place) → element_at (sequence (each k)) p ≡ sequence_at (fields_at (each k)) p
+sequence_is : (k : Kind) (p : Place) → element_at (sequence (each k)) p ≡ (enter_at 0x30 p >>= λ e. fields_at (each k) e.0 >>= λ vs. Ok (vs, e.1))
 unfolding element_at
 sequence_is k p = refl
 
@@ -42,12 +32,12 @@ pub list-ok : (k : Kind) (p inside after : Place) → enter_at 0x30 p ≡ Ok (in
     → (element_at (sequence (each k)) p ≡ Ok (listed k inside, after)) × AreListed k inside
 list-ok k p inside after e c =
     let f = checked-ok (fields_at (each k) inside) c in
-    (sequence_is k p ∙ sequence-ok (fields_at (each k)) p inside after (listed k inside) e f, ap is_ok f)
+    (sequence_is k p ∙ bind_at (enter_at 0x30 p) _ (inside, after) e ∙ bind_at (fields_at (each k) inside) (λ vs. Ok (vs, after)) (listed k inside) f, ap is_ok f)
 
 pub list-err : (k : Kind) (p inside after : Place) (f : Fault) → enter_at 0x30 p ≡ Ok (inside, after) → checked (fields_at (each k) inside) ≡ Err f
     → element_at (sequence (each k)) p ≡ Err f
 list-err k p inside after f e c =
-    sequence_is k p ∙ sequence-err (fields_at (each k)) p inside after f e (checked-err (fields_at (each k) inside) f c)
+    sequence_is k p ∙ bind_at (enter_at 0x30 p) _ (inside, after) e ∙ ap (λ r. r >>= λ vs. Ok (vs, after)) (checked-err (fields_at (each k) inside) f c)
 
 pub listed-end : (k : Kind) (p : Place) → AreListed k p → p.rest ≡ [] → listed k p ≡ []
 listed-end k p h none =

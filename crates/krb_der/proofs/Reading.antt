@@ -1,8 +1,6 @@
 -- A call that gives what reading gives reads an element.
-use Rattle.std.proofs.Common.{◌≡◌, inl, inr, Option, Some, None, subst, true, false, List, ℕ, Result, Ok, Err, refl, sym, ap, ◌∙◌, arith, length-append}
-use Rattle.std.specs.Prelude.{IsSomeAnd}
-use Rattle.std.proofs.lemmas.Bool.{cases_Bool, eq-eqb}
-use Rattle.krb_der.specs.Computed.Steps.{◌>>=◌}
+use Rattle.std.proofs.Common.{◌≡◌, Option, Some, None, subst, true, false, List, ℕ, Result, Ok, Err, refl, sym, ap, ◌∙◌, arith, length-append}
+use Rattle.std.proofs.lemmas.Bool.{cond_both, eq-eqb, true≢false}
 use Rattle.krb_der.specs.declared.fault.Fault.{Fault}
 use Rattle.krb_der.specs.Kind.{Kind, wrapped, ValueOf, must}
 use Rattle.krb_der.specs.Content.{Elementary}
@@ -14,9 +12,9 @@ use Rattle.krb_der.specs.Clear.{is_clear}
 use Rattle.krb_der.specs.Computed.Gives.{Gives}
 use Rattle.krb_der.specs.Computed.Read.{element_at, enter_at, may_enter}
 use Rattle.krb_der.proofs.LengthLaws.{no_value}
-use Rattle.krb_der.proofs.ElementSteps.{answer, bind_ok, bind_err, enter_at-spelled, enter_at-read, HeadOut, head_out}
+use Rattle.krb_der.proofs.ElementSteps.{answer, enter_at-spelled, enter_at-read, HeadOut, head_out}
 use Rattle.krb_der.proofs.ElementLaws.{element_read}
-use Rattle.krb_der.proofs.Outcomes.{ElementOut, element_out}
+use Rattle.krb_der.proofs.Outcomes.{bind_by, ElementOut, element_out}
 
 pub element_at-stands : (k : Kind) (v : ValueOf k) (p after : Place) → is_clear k ≡ true → StandsAt Elementary k v p after → element_at k p ≡ Ok (v, after)
 element_at-stands k v p after clear s =
@@ -74,57 +72,51 @@ enters tag (Err f) old new e =
     }
 
 -- ---- an element that may stand next
-may_enter-there : (tag : ℕ) (p : Place) → begins tag p.rest ≡ true → may_enter tag p ≡ (enter_at tag p >>= λ e. Ok (Some e.0, e.1))
-unfolding may_enter
-may_enter-there tag p b = rw b refl
-
-may_enter-absent : (tag : ℕ) (p : Place) → begins tag p.rest ≡ false → may_enter tag p ≡ Ok (None, p)
-unfolding may_enter
-may_enter-absent tag p b = rw b refl
-
 head_begins : (tag : ℕ) (p inside after : Place) → HasHead tag p inside after → begins tag p.rest ≡ true
 head_begins tag p inside after h = ap (begins tag) h.whole ∙ eq-eqb tag tag refl
 
 may_enter-head : (tag : ℕ) (p inside after : Place) → HasHead tag p inside after → may_enter tag p ≡ Ok (Some inside, after)
-may_enter-head tag p inside after h =
-    may_enter-there tag p (head_begins tag p inside after h) ∙ ap (λ r. r >>= λ e. Ok (Some e.0, e.1)) (enter_at-head tag p inside after h)
+unfolding may_enter
+may_enter-head tag p inside after h = rw (head_begins tag p inside after h, enter_at-head tag p inside after h) refl
 
-none_found : (tag : ℕ) (o : Option Place) (old new : Place) → begins tag old.rest ≡ false → may_enter tag old ≡ Ok (o, new)
-    → (◌≡◌ {A = Result (Option Place) Fault} (Ok o) (Ok None)) × (new ≡ old)
-none_found tag o old new b e =
-    let a = answer o None new old (sym e ∙ may_enter-absent tag old b) in
-    (ap Ok a.0, a.1)
+-- it is there with its head, or the next byte is another
+abbrev MayOut : ℕ → Place → Result (Option Place × Place) Fault → Type 0
+MayOut tag p (Ok (None, q)) = (begins tag p.rest ≡ false) × (q ≡ p)
+MayOut tag p (Ok (Some inside, q)) = HasHead tag p inside q
+MayOut tag p (Err f) = (begins tag p.rest ≡ true) × IsHeadFault Elementary tag p f
 
-some_found : (tag : ℕ) (o : Option Place) (old new : Place) → begins tag old.rest ≡ true → may_enter tag old ≡ Ok (o, new)
-    → IsSomeAnd o (λ inside. HasHead tag old inside new)
-some_found tag o old new b e =
-    let h = bind_ok (enter_at tag old) (λ x. Ok (Some x.0, x.1)) (o, new) (sym (may_enter-there tag old b) ∙ e) in
-    let a = answer (Some h.0.0) o h.0.1 new h.2 in
-    subst (λ x. IsSomeAnd x (λ inside. HasHead tag old inside new)) a.0 (subst (HasHead tag old h.0.0) a.1 (enter_at-read tag old h.0.0 h.0.1 h.1))
+may_out : (tag : ℕ) (p : Place) → MayOut tag p (may_enter tag p)
+unfolding may_enter
+may_out tag p =
+    cond_both (begins tag p.rest) _ _ (MayOut tag p)
+    (λ there. bind_by (HeadOut tag p) (MayOut tag p) (enter_at tag p) _ (head_out tag p) (λ e h. h) (λ f faults. (there, λ k fs. faults (wrapped tag k) fs refl)))
+    (λ absent. (absent, refl))
 
 pub may_enters : (tag : ℕ) (r : Result (Option Place) Fault) (old new : Place) → Gives (λ (o : Option Place). o) r old new (may_enter tag old) → MayEnter tag r old new
-may_enters tag (Ok o) old new e =
+may_enters tag (Ok None) old new e =
+    let h = subst (MayOut tag old) e (may_out tag old) in
     record {
-      absent = λ b. none_found tag o old new b e;
-      found = λ b. some_found tag o old new b e;
-      only = λ inside after h. answer o (Some inside) new after (sym e ∙ may_enter-head tag old inside after h);
+      absent = λ b. (refl, h.1);
+      found = λ b. absurd (true≢false (sym b ∙ h.0));
+      only = λ inside after k. absurd (true≢false (sym (head_begins tag old inside after k) ∙ h.0));
+      faulty = tt;
+      kept = tt;
+    }
+may_enters tag (Ok (Some x)) old new e =
+    let h : HasHead tag old x new = subst (MayOut tag old) e (may_out tag old) in
+    record {
+      absent = λ b. absurd (true≢false (sym (head_begins tag old x new h) ∙ b));
+      found = λ b. h;
+      only = λ inside after k. answer (Some x) (Some inside) new after (sym e ∙ may_enter-head tag old inside after k);
       faulty = tt;
       kept = tt;
     }
 may_enters tag (Err f) old new e =
+    let h = subst (MayOut tag old) e.0 (may_out tag old) in
     record {
-      absent = λ b. absurd (no_value f (None, old) (sym e.0 ∙ may_enter-absent tag old b));
+      absent = λ b. absurd (true≢false (sym h.0 ∙ b));
       found = λ b. tt;
-      only = λ inside after h. absurd (no_value f (Some inside, after) (sym e.0 ∙ may_enter-head tag old inside after h));
-      faulty = faults;
+      only = λ inside after k. absurd (no_value f (Some inside, after) (sym e.0 ∙ may_enter-head tag old inside after k));
+      faulty = h.1;
       kept = e.1;
     }
-  where
-    faults : IsHeadFault Elementary tag old f
-    faults = elim (cases_Bool (begins tag old.rest)) [
-      | inl b ↦ elim (bind_err (enter_at tag old) (λ x. Ok (Some x.0, x.1)) f (sym (may_enter-there tag old b) ∙ e.0)) [
-        | inl h ↦ λ k fs. subst (HeadOut tag old) h (head_out tag old) (wrapped tag k) fs refl
-        | inr h ↦ absurd (no_value f _ (sym h.2))
-      ]
-      | inr b ↦ absurd (no_value f (None, old) (sym e.0 ∙ may_enter-absent tag old b))
-    ]
