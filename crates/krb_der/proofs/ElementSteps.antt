@@ -1,5 +1,5 @@
 -- Reading elements and fields, one combinator at a time.
-use Rattle.std.proofs.Common.{◌≡◌, ◌⊎◌, inl, inr, ℕ, ◌+◌, ◌-◌, ◌≤◌, ltb, eqb, List, [], ◌∷◌, ◌++◌, length, take, drop, Result, Ok, Err, refl, sym, ap, subst, ◌∙◌, arith, length-append, append_assoc, length-take, take-append-drop}
+use Rattle.std.proofs.Common.{◌≡◌, inl, inr, ℕ, ◌+◌, ◌-◌, ◌≤◌, ltb, eqb, List, [], ◌∷◌, ◌++◌, length, take, drop, Result, Ok, Err, refl, sym, ap, subst, ◌∙◌, arith, length-append, append_assoc, length-take, take-append-drop}
 use Rattle.std.proofs.lemmas.Bool.{ltb-true, ltb-false, eqb-true, eqb-false, cond_both}
 use Rattle.std.proofs.lemmas.List.{take_at, drop_at}
 use Rattle.krb_der.specs.declared.fault.Fault.{Fault}
@@ -11,16 +11,12 @@ use Rattle.krb_der.specs.Fault.{HasHead, IsBroken, nothing, other_tag, cut_lengt
 use Rattle.krb_der.specs.Computed.Steps.{◌>>=◌}
 use Rattle.krb_der.specs.Computed.Read.{Sized, head_from, enter_at, sized_at, split_at, length_of, length_fault, finish_at}
 use Rattle.krb_der.proofs.CursorSteps.{enter_at-sized, split_at-ok}
-use Rattle.krb_der.proofs.LengthLaws.{length_of-spelled, LengthOut, length_out, no_value, same_error}
+use Rattle.krb_der.proofs.LengthLaws.{length_of-spelled, LengthOut, length_out, no_value}
 
 -- the value of a step that did not fail, and the step that failed
 pub bind_ok : {A B E : Type 0} (r : Result A E) (f : A → Result B E) (y : B) → (r >>= f) ≡ Ok y → (x : A) × (r ≡ Ok x) × (f x ≡ Ok y)
 bind_ok (Ok x) f y e = (x, refl, e)
 bind_ok (Err d) f y e = absurd (no_value d y e)
-
-pub bind_err : {A B E : Type 0} (r : Result A E) (f : A → Result B E) (d : E) → (r >>= f) ≡ Err d → (r ≡ Err d) ⊎ ((x : A) × (r ≡ Ok x) × (f x ≡ Err d))
-bind_err (Ok x) f d e = inr (x, refl, e)
-bind_err {B = B} (Err c) f d e = inl (ap Err (same_error {A = B} c d e))
 
 pub bind_at : {A B E : Type 0} (r : Result A E) (f : A → Result B E) (x : A) → r ≡ Ok x → (r >>= f) ≡ f x
 bind_at r f x e = ap (λ s. s >>= f) e

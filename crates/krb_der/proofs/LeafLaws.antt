@@ -10,12 +10,11 @@ use Rattle.krb_der.specs.Computed.Steps.{◌>>?◌}
 use Rattle.krb_der.specs.Computed.Whole.{whole_of, natural_below}
 use Rattle.krb_der.specs.Computed.Read.{content_of}
 use Rattle.krb_der.proofs.Numbers.{number_within}
-use Rattle.krb_der.proofs.IntegerLaws.{natural_unique, integer_unique}
 use Rattle.krb_der.proofs.ContentLaws.{flags_found, flags_read, flags_unique, below_found, below_only, int32_found, int32_only, seq_number_found, seq_number_only, constant_found, constant_only}
 use Rattle.krb_der.proofs.ClockLaws.{time_read, time_found, time_unique, civil_range}
 use Rattle.krb_der.proofs.ShortestLaws.{integer_be, flags_be}
 use Rattle.krb_der.proofs.Dates.{time_made}
-use Rattle.krb_der.proofs.Sizes.{natural_sized, integer_sized}
+use Rattle.krb_der.proofs.Sizes.{natural_sized, integer_sized, natural_unique, integer_unique}
 use Rattle.krb_der.proofs.PartLaws.{IsPart, Part, plain_is}
 
 abbrev pub leaf_part : {V : Type 0} → Leaf V → V → Part
@@ -40,7 +39,7 @@ natural_is bound small =
     record {
       found = below_found bound;
       only = λ n content h. below_only bound n content (omega (arith, small)) h;
-      is = λ n. plain_is (λ a b h k. natural_unique n a b h.1 k.1) (λ content h. h.0)
+      is = λ n. plain_is (λ a b h k. natural_unique n a b (omega (arith, small, h.0)) h.1 k.1) (λ content h. h.0)
           (λ content h. natural_sized n content h.1 (omega (arith, small, h.0))) (λ lt. natural_made bound n small lt);
     }
 
@@ -65,7 +64,7 @@ number_part n =
     let plain = (natural_is (2 ^ 32) (lit≤ tt)).is n in
     record {
       one = plain.one;
-      one_negative = λ a b h k. integer_unique (pos n -ℤ pos (2 ^ 32)) a b h.2 k.2;
+      one_negative = λ a b h k. integer_unique (pos n -ℤ pos (2 ^ 32)) a b (omega (arith, ints, h.0, h.1)) h.2 k.2;
       fits = number_fits n;
       sized = plain.sized;
       made = plain.made;
@@ -81,7 +80,7 @@ is_leaf int32 =
     record {
       found = int32_found;
       only = int32_only;
-      is = λ z. plain_is (λ a b h k. integer_unique z a b h.1 k.1) (λ content h. h.0) (λ content h. integer_sized z content h.1 h.0) (integer_made z);
+      is = λ z. plain_is (λ a b h k. integer_unique z a b h.0 h.1 k.1) (λ content h. h.0) (λ content h. integer_sized z content h.1 h.0) (integer_made z);
     }
 is_leaf uint32 = natural_is (2 ^ 32) (lit≤ tt)
 is_leaf seq_number = record { found = seq_number_found; only = seq_number_only; is = number_part }
@@ -90,7 +89,7 @@ is_leaf (constant n) =
     record {
       found = constant_found n;
       only = constant_only n;
-      is = λ v. plain_is (λ a b h k. natural_unique n a b h.1 k.1) (λ content h. h.0)
+      is = λ v. plain_is (λ a b h k. natural_unique n a b (omega (arith, h.0)) h.1 k.1) (λ content h. h.0)
           (λ content h. natural_sized n content h.1 (omega (arith, h.0))) (λ lt. natural_made (2 ^ 32) n (lit≤ tt) lt);
     }
 is_leaf octets = bytes_is 0x04

@@ -1,9 +1,9 @@
 -- A length is read exactly where one is spelled, and a number has one length.
-use Rattle.std.proofs.Common.{◌≡◌, ◌⊎◌, inl, inr, ℕ, suc, ◌+◌, ◌-◌, ◌*◌, ◌^◌, ◌<◌, ◌≤◌, Bool, true, false, not, ◌&&◌, ltb, leb, eqb, List, [], ◌∷◌, ◌++◌, length, take, drop, Result, Ok, Err, refl, sym, ap, subst, ◌∙◌, arith, zero-le, lit<, length-append, length-take, take-append-drop}
-use Rattle.std.proofs.lemmas.Bool.{le-ltb, lt-ltb, le-leb, ltb-true, ltb-false, leb-true, leb-false, eq-eqb, and_parts, and_cases, cases_lt, cases_eq, cond_both, not-true, true≢false}
+use Rattle.std.proofs.Common.{◌≡◌, ◌⊎◌, inl, inr, ℕ, ◌+◌, ◌-◌, ◌*◌, ◌^◌, ◌<◌, ◌≤◌, Bool, true, false, not, ◌&&◌, ltb, leb, eqb, List, [], ◌∷◌, ◌++◌, length, take, drop, Result, Ok, Err, refl, sym, ap, subst, ◌∙◌, arith, length-append, length-take, take-append-drop}
+use Rattle.std.proofs.lemmas.Bool.{le-ltb, lt-ltb, le-leb, ltb-true, ltb-false, leb-true, leb-false, eq-eqb, and_parts, and_cases, cases_eq, cond_both, not-true, true≢false}
 use Rattle.std.proofs.lemmas.List.{take_at, drop_at}
 use Rattle.std.proofs.lemmas.Nat.{same_from_place}
-use Rattle.std.proofs.Math.Nat.{mul-le-mul_right, pow-le-pow_right}
+use Rattle.std.proofs.Math.Nat.{mul-le-mul_right}
 use Rattle.krb_der.specs.declared.fault.FaultKind.TheVariants.{Truncated, Length}
 use Rattle.krb_der.specs.Whole.{AreBytes, number}
 use Rattle.krb_der.specs.Place.{begins}
@@ -41,37 +41,6 @@ number_least x xs first =
   where
     both : (b : Bool) → b ≡ true → b ≡ false → ⊥
     both b p q = cc
-
-pub number-shorter : (x y : ℕ) (xs ys : List ℕ) → AreBytes (x ∷ xs) → begins 0 (y ∷ ys) ≡ false → length xs < length ys → number (x ∷ xs) < number (y ∷ ys)
-number-shorter x y xs ys are first lt =
-    let wider : 256 ^ suc (length xs) ≤ 256 ^ length ys = pow-le-pow_right (lit< tt) lt in
-    omega (arith, number_below (x ∷ xs) are, number_least y ys first, wider)
-
-pub pow_some : (k : ℕ) → 1 ≤ 256 ^ k
-pow_some k = pow-le-pow_right (lit< tt) zero-le
-
--- digits without a leading 0
-pub digits_injective : (xs ys : List ℕ) → AreBytes xs → AreBytes ys → begins 0 xs ≡ false → begins 0 ys ≡ false → number xs ≡ number ys → xs ≡ ys
-digits_injective [] [] h k p q e = refl
-digits_injective [] (y ∷ ys) h k p q e = absurd (omega (arith, number_least y ys q, pow_some (length ys), e))
-digits_injective (x ∷ xs) [] h k p q e = absurd (omega (arith, number_least x xs p, pow_some (length xs), e))
-digits_injective (x ∷ xs) (y ∷ ys) h k p q e =
-    number_injective (x ∷ xs) (y ∷ ys) (ap suc (elim (cases_lt (length xs) (length ys)) [
-      | inl lt ↦ absurd (omega (arith, number-shorter x y xs ys h q lt, e))
-      | inr ge ↦ elim (cases_lt (length ys) (length xs)) [
-        | inl lt ↦ absurd (omega (arith, number-shorter y x ys xs k p lt, e))
-        | inr le ↦ omega arith
-      ]
-    ])) h k e
-
--- ---- one length
-pub IsLength-unique : (n : ℕ) (a b : List ℕ) → IsLength n a → IsLength n b → a ≡ b
-IsLength-unique n a b (short lt e) (short lt' e') = e ∙ sym e'
-IsLength-unique n a b (short lt e) (long ds w four are first big value) = absurd (omega arith)
-IsLength-unique n a b (long ds w four are first big value) (short lt e) = absurd (omega arith)
-IsLength-unique n a b (long ds w four are first big value) (long es w' four' are' first' big' value') =
-    let same : ds ≡ es = digits_injective ds es are are' first first' (value ∙ sym value') in
-    w ∙ ap (λ (xs : List ℕ). (0x80 + length xs) ∷ xs) same ∙ sym w'
 
 pub digits_nonempty : (ds : List ℕ) (n : ℕ) → number ds ≡ n → 128 ≤ n → 1 ≤ length ds
 digits_nonempty [] n e h = absurd (omega arith)

@@ -6,8 +6,7 @@ use Rattle.krb_der.specs.Spells.{IsLength, IsElement, IsJoined}
 use Rattle.krb_der.specs.Size.{element_size}
 use Rattle.krb_der.specs.Inner.HeadView.{IsHeadOf}
 use Rattle.krb_der.proofs.HeadLaws.{head-1, head-2, head-3, head-4, head-5}
-use Rattle.krb_der.proofs.LengthLaws.{IsLength-unique}
-use Rattle.krb_der.proofs.Sizes.{HasSize, element_sized, joined_sized}
+use Rattle.krb_der.proofs.Sizes.{IsLength-unique, HasSize, element_sized, joined_sized}
 
 -- A part with one value: which bytes are read as it, which are written, and which have its sequence
 -- numbers as negative numbers; whether its numbers are in range, and one of the sequence numbers above

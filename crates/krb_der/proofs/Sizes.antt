@@ -1,16 +1,16 @@
--- How long spellings are.
+-- How long spellings are, and that there is one.
 use Rattle.std.proofs.Common.{◌≡◌, ℕ, zero, suc, ◌+◌, ◌*◌, ◌^◌, ◌<◌, ◌≤◌, ℤ, pos, negsuc, List, [], ◌∷◌, length, refl, sym, ap, ◌∙◌, arith, length-append}
 use Rattle.std.specs.Prelude.{FitsSigned}
 use Rattle.std.specs.Int.{w32}
 use Rattle.std.proofs.lemmas.Bool.{le-ltb, lt-ltb}
 use Rattle.std.proofs.lemmas.Int.{ints}
 use Rattle.std.proofs.Math.Nat.{mul-le-mul_right}
-use Rattle.krb_der.specs.Whole.{AreBytes, number, IsShortest, IsNatural, IsInteger, natural_size, integer_size}
+use Rattle.krb_der.specs.Whole.{AreBytes, number, IsShortest, IsNatural, turned, IsInteger, natural_size, integer_size}
 use Rattle.krb_der.specs.Spells.{IsLength, short, long, IsElement, IsJoined}
 use Rattle.krb_der.specs.Size.{length_size, element_size}
 use Rattle.krb_der.proofs.Numbers.{number_below}
-use Rattle.krb_der.proofs.LengthLaws.{number_least}
-use Rattle.krb_der.proofs.IntegerLaws.{length-turned, natural_least, natural_few}
+use Rattle.krb_der.proofs.LengthLaws.{number_injective, number_least}
+use Rattle.krb_der.proofs.IntegerLaws.{length-turned, turned-turned, natural_least, natural_few}
 
 -- ---- lengths
 many_digits : (k n : ℕ) → k < 4 → 128 ≤ n → 256 ^ k ≤ n → n < 256 ^ suc k → length_size n ≡ 2 + k
@@ -29,6 +29,16 @@ length_sized n size (long (d ∷ ds) w four are first big value) =
     let few : length ds < 4 = omega (arith, four) in
     let many = many_digits (length ds) n few big (omega (arith, number_least d ds first, value)) (omega (arith, number_below (d ∷ ds) are, value)) in
     omega (arith, ap length w, many)
+
+pub IsLength-unique : (n : ℕ) (a b : List ℕ) → IsLength n a → IsLength n b → a ≡ b
+IsLength-unique n a b (short lt e) (short lt' e') = e ∙ sym e'
+IsLength-unique n a b (short lt e) (long ds w four are first big value) = absurd (omega arith)
+IsLength-unique n a b (long ds w four are first big value) (short lt e) = absurd (omega arith)
+IsLength-unique n a b (long ds w four are first big value) (long es w' four' are' first' big' value') =
+    let one = length_sized n a (long ds w four are first big value) in
+    let other = length_sized n b (long es w' four' are' first' big' value') in
+    let same = number_injective ds es (omega (arith, one, other, ap length w, ap length w')) are are' (value ∙ sym value') in
+    w ∙ ap (λ (xs : List ℕ). (0x80 + length xs) ∷ xs) same ∙ sym w'
 
 -- ---- whole numbers
 many_bytes : (k n : ℕ) → k < 4 → 128 * 256 ^ k ≤ n → n < 128 * 256 ^ suc k → natural_size n ≡ 2 + k
@@ -60,6 +70,14 @@ natural_sized n content h lt = by content h.bytes h.shortest h.value (natural_fe
 pub integer_sized : (z : ℤ) (content : List ℕ) → IsInteger z content → FitsSigned w32 z → length content ≡ integer_size z
 integer_sized (pos n) content h fits = natural_sized n content h (omega (arith, ints, fits))
 integer_sized (negsuc m) content h fits = sym (length-turned content) ∙ natural_sized m _ h.1 (omega (arith, ints, fits))
+
+pub natural_unique : (n : ℕ) (a b : List ℕ) → n < 2 ^ 39 → IsNatural n a → IsNatural n b → a ≡ b
+natural_unique n a b lt h k = number_injective a b (natural_sized n a h lt ∙ sym (natural_sized n b k lt)) h.bytes k.bytes (h.value ∙ sym k.value)
+
+pub integer_unique : (z : ℤ) (a b : List ℕ) → FitsSigned w32 z → IsInteger z a → IsInteger z b → a ≡ b
+integer_unique (pos n) a b fits h k = natural_unique n a b (omega (arith, ints, fits)) h k
+integer_unique (negsuc m) a b fits h k =
+    sym (turned-turned a h.0) ∙ ap turned (natural_unique m (turned a) (turned b) (omega (arith, ints, fits)) h.1 k.1) ∙ turned-turned b k.0
 
 -- ---- elements, and one part after another
 -- each spelling of a part has so many bytes
