@@ -9,7 +9,7 @@ use Rattle.krb_der.specs.Place.{Place}
 use Rattle.krb_der.specs.Spells.{IsLength, IsElement}
 use Rattle.krb_der.specs.Fault.{HasHead, IsBroken, nothing, other_tag, cut_length, bad_length, cut_content}
 use Rattle.krb_der.specs.Computed.Steps.{◌>>=◌}
-use Rattle.krb_der.specs.Computed.Read.{Sized, head_from, enter_at, sized_at, split_at, length_of, length_fault, finish_at}
+use Rattle.krb_der.specs.Computed.Read.{Sized, head_from, enter_at, sized_at, split_at, length_of, length_fault}
 use Rattle.krb_der.proofs.CursorSteps.{enter_at-sized, split_at-ok}
 use Rattle.krb_der.proofs.LengthLaws.{length_of-spelled, LengthOut, length_out, no_value}
 
@@ -58,6 +58,16 @@ enter_at-spelled tag at size content rest spelled =
         → ◌≡◌ {A = Result (Place × Place) Fault} (Ok (record { at = a; rest = content }, record { at = c; rest = rest })) (Ok (record { at = b; rest = content }, record { at = d; rest = rest }))
     same_split p q = λ i. Ok (record { at = p i; rest = content }, record { at = q i; rest = rest })
 
+pub enter_at-head : (tag : ℕ) (p inside after : Place) → HasHead tag p inside after → enter_at tag p ≡ Ok (inside, after)
+enter_at-head tag p inside after h =
+    ap (λ (l : List ℕ). enter_at tag (record { at = p.at; rest = l })) h.whole
+    ∙ enter_at-spelled tag p.at h.size inside.rest after.rest h.length_is
+    ∙ moved (sym h.inside_at) (omega (arith, h.after_at, h.inside_at, length-append h.size inside.rest))
+  where
+    moved : {a b c d : ℕ} → a ≡ b → c ≡ d
+        → ◌≡◌ {A = Result (Place × Place) Fault} (Ok (record { at = a; rest = inside.rest }, record { at = c; rest = after.rest })) (Ok (record { at = b; rest = inside.rest }, record { at = d; rest = after.rest }))
+    moved e f = λ i. Ok (record { at = e i; rest = inside.rest }, record { at = f i; rest = after.rest })
+
 -- what entering an element gives: its head, or a fault where a kind with this tag must come
 abbrev pub HeadOut : ℕ → Place → Result (Place × Place) Fault → Type 0
 HeadOut tag p (Ok x) = HasHead tag p x.0 x.1
@@ -97,8 +107,3 @@ head_out tag p = by p.rest refl
 
 pub enter_at-read : (tag : ℕ) (p inside after : Place) → enter_at tag p ≡ Ok (inside, after) → HasHead tag p inside after
 enter_at-read tag p inside after e = subst (HeadOut tag p) e (head_out tag p)
-
--- ---- the end
-pub finish_at-end : (at : ℕ) → finish_at (record { at = at; rest = [] }) ≡ Ok tt
-unfolding finish_at
-finish_at-end at = refl

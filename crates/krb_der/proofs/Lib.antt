@@ -11,7 +11,6 @@ pub mod ContentLaws
 pub mod PartLaws
 pub mod LeafLaws
 pub mod ElementSteps
-pub mod ElementRead
 pub mod ElementLaws
 pub mod Outcomes
 pub mod Reading

@@ -17,8 +17,8 @@ use Rattle.krb_der.specs.Computed.Steps.{◌>>=◌}
 use Rattle.krb_der.specs.Clear.{is_clear}
 use Rattle.krb_der.specs.Computed.Read.{fault_at, element_at, finish_at, message_of}
 use Rattle.krb_der.proofs.LengthLaws.{no_value, same_error}
-use Rattle.krb_der.proofs.ElementSteps.{answer, bind_at, same_ok, finish_at-end}
-use Rattle.krb_der.proofs.ElementLaws.{element_read}
+use Rattle.krb_der.proofs.ElementSteps.{answer, bind_at, same_ok}
+use Rattle.krb_der.proofs.ElementLaws.{element_read, finished}
 use Rattle.krb_der.proofs.Outcomes.{bind_by, ElementOut, FieldsOut, element_out, end_out, alone}
 use Rattle.krb_der.proofs.Spelled.{spelled_is}
 use Rattle.krb_der.proofs.Offsets.{fault_within}
@@ -27,7 +27,7 @@ use Rattle.krb_der.proofs.Offsets.{fault_within}
 reads : (k : Kind) (v : ValueOf k) (front rest : List ℕ) → is_clear k ≡ true → Spells k v front
     → element_at k (begin_at (front ++ rest)) ≡ Ok (v, record { at = length front; rest = rest })
 reads k v front rest clear s =
-    element_read k v front clear s 0 rest ∙ ap (λ a. Ok (v, record { at = a; rest = rest })) (omega arith)
+    element_read k clear v (begin_at (front ++ rest)) (record { at = length front; rest = rest }) (record { front = front; spelled = s; whole = refl; at_is = omega arith })
 
 pub no_prefix : (k : Kind) → is_clear k ≡ true → (v w : ValueOf k) (a b x y : List ℕ) → Spells k v a → Spells k w b → a ++ x ≡ b ++ y → (a ≡ b) × (v ≡ w)
 no_prefix k clear v w a b x y s t e =
@@ -58,7 +58,7 @@ pub message_only : (k : Kind) (v : ValueOf k) (bytes : List ℕ) → is_clear k 
 message_only k v bytes clear m =
     message-short k bytes m.within
     ∙ bind_at (element_at k (begin_at bytes)) _ _ (ap (λ (l : List ℕ). element_at k (begin_at l)) (sym (append-nil bytes)) ∙ reads k v bytes [] clear m.spelled)
-    ∙ bind_at (finish_at (record { at = length bytes; rest = [] })) (λ _. Ok v) _ (finish_at-end (length bytes))
+    ∙ bind_at (finish_at (record { at = length bytes; rest = [] })) (λ _. Ok v) _ (finished (record { at = length bytes; rest = [] }) refl)
 
 abbrev MessageOut : (k : Kind) → List ℕ → Result (ValueOf k) Fault → Type 0
 MessageOut k bytes (Ok v) = Spells k v bytes

@@ -1,5 +1,5 @@
 -- A call that gives what reading gives reads an element.
-use Rattle.std.proofs.Common.{◌≡◌, Option, Some, None, subst, true, false, List, ℕ, Result, Ok, Err, refl, sym, ap, ◌∙◌, arith, length-append}
+use Rattle.std.proofs.Common.{◌≡◌, Option, Some, None, subst, true, false, ℕ, Result, Ok, Err, refl, sym, ap, ◌∙◌}
 use Rattle.std.proofs.lemmas.Bool.{cond_both, eq-eqb, true≢false}
 use Rattle.krb_der.specs.declared.fault.Fault.{Fault}
 use Rattle.krb_der.specs.Kind.{Kind, wrapped, ValueOf, must}
@@ -12,15 +12,9 @@ use Rattle.krb_der.specs.Clear.{is_clear}
 use Rattle.krb_der.specs.Computed.Gives.{Gives}
 use Rattle.krb_der.specs.Computed.Read.{element_at, enter_at, may_enter}
 use Rattle.krb_der.proofs.LengthLaws.{no_value}
-use Rattle.krb_der.proofs.ElementSteps.{answer, enter_at-spelled, enter_at-read, HeadOut, head_out}
+use Rattle.krb_der.proofs.ElementSteps.{answer, enter_at-head, enter_at-read, HeadOut, head_out}
 use Rattle.krb_der.proofs.ElementLaws.{element_read}
 use Rattle.krb_der.proofs.Outcomes.{bind_by, ElementOut, element_out}
-
-pub element_at-stands : (k : Kind) (v : ValueOf k) (p after : Place) → is_clear k ≡ true → StandsAt Elementary k v p after → element_at k p ≡ Ok (v, after)
-element_at-stands k v p after clear s =
-    ap (λ (l : List _). element_at k (record { at = p.at; rest = l })) s.whole
-    ∙ element_read k v s.front clear s.spelled p.at after.rest
-    ∙ ap (λ a. Ok (v, record { at = a; rest = after.rest })) (sym s.at_is)
 
 pub element_at-found : (k : Kind) (v : ValueOf k) (p after : Place) → element_at k p ≡ Ok (v, after) → StandsAt Elementary k v p after
 element_at-found k v p after e = subst (ElementOut k p) e (element_out k p)
@@ -33,27 +27,17 @@ pub reads : {X : Type 0} (k : Kind) (view : X → ValueOf k) (r : Result X Fault
 reads k view (Ok x) old new clear e =
     record {
       found = element_at-found k (view x) old new e;
-      only = λ v after s. answer (view x) v new after (sym e ∙ element_at-stands k v old after clear s);
+      only = λ v after s. answer (view x) v new after (sym e ∙ element_read k clear v old after s);
       faulty = tt;
       kept = tt;
     }
 reads k view (Err f) old new clear e =
     record {
       found = tt;
-      only = λ v after s. absurd (no_value f (v, after) (sym e.0 ∙ element_at-stands k v old after clear s));
+      only = λ v after s. absurd (no_value f (v, after) (sym e.0 ∙ element_read k clear v old after s));
       faulty = element_at_fault k old f e.0;
       kept = e.1;
     }
-
-pub enter_at-head : (tag : ℕ) (p inside after : Place) → HasHead tag p inside after → enter_at tag p ≡ Ok (inside, after)
-enter_at-head tag p inside after h =
-    ap (λ (l : List ℕ). enter_at tag (record { at = p.at; rest = l })) h.whole
-    ∙ enter_at-spelled tag p.at h.size inside.rest after.rest h.length_is
-    ∙ moved (sym h.inside_at) (omega (arith, h.after_at, h.inside_at, length-append h.size inside.rest))
-  where
-    moved : {a b c d : ℕ} → a ≡ b → c ≡ d
-        → ◌≡◌ {A = Result (Place × Place) Fault} (Ok (record { at = a; rest = inside.rest }, record { at = c; rest = after.rest })) (Ok (record { at = b; rest = inside.rest }, record { at = d; rest = after.rest }))
-    moved e f = λ i. Ok (record { at = e i; rest = inside.rest }, record { at = f i; rest = after.rest })
 
 pub enters : (tag : ℕ) (r : Result Place Fault) (old new : Place) → Gives (λ (p : Place). p) r old new (enter_at tag old) → Enters tag r old new
 enters tag (Ok x) old new e =
