@@ -1,5 +1,5 @@
 -- A length is read exactly where one is spelled, and a number has one length.
-use Rattle.std.proofs.Common.{◌≡◌, ◌⊎◌, inl, inr, ℕ, ◌+◌, ◌-◌, ◌*◌, ◌^◌, ◌<◌, ◌≤◌, Bool, true, false, not, ◌&&◌, ltb, leb, eqb, List, [], ◌∷◌, ◌++◌, length, take, drop, Result, Ok, Err, refl, sym, ap, subst, ◌∙◌, arith, length-append, length-take, take-append-drop}
+use Rattle.std.proofs.Common.{◌≡◌, ◌⊎◌, inl, inr, ℕ, ◌+◌, ◌-◌, ◌*◌, ◌^◌, ◌<◌, ◌≤◌, Bool, true, false, not, ◌&&◌, ltb, leb, eqb, List, [], ◌∷◌, ◌++◌, length, take, drop, Result, Ok, Err, refl, sym, ap, subst, ◌∙◌, arith, length-append, length-take, take-append-drop, get_or}
 use Rattle.std.proofs.lemmas.Bool.{le-ltb, lt-ltb, le-leb, ltb-true, ltb-false, leb-true, leb-false, eq-eqb, and_parts, and_cases, cases_eq, cond_both, not-true, true≢false}
 use Rattle.std.proofs.lemmas.List.{take_at, drop_at}
 use Rattle.std.proofs.lemmas.Nat.{same_from_place}
@@ -12,7 +12,6 @@ use Rattle.krb_der.specs.Fault.{IsCutLength, IsBadLength, no_form, not_shortest}
 use Rattle.krb_der.specs.Computed.Read.{long_of, length_of, are_length, Sized}
 use Rattle.krb_der.specs.Computed.Whole.{are_bytes}
 use Rattle.krb_der.proofs.Numbers.{are_bytes-true, AreBytes-true, number_below}
-use Rattle.krb_der.proofs.LengthSteps.{long_of-ok}
 
 -- ---- numbers of digits
 -- lists of one length
@@ -45,6 +44,19 @@ number_least x xs first =
 pub digits_nonempty : (ds : List ℕ) (n : ℕ) → number ds ≡ n → 128 ≤ n → 1 ≤ length ds
 digits_nonempty [] n e h = absurd (omega arith)
 digits_nonempty (d ∷ ds) n e h = omega arith
+
+-- a list that begins with another byte, or doesn't begin
+pub begins-get_or : (tag : ℕ) (bytes : List ℕ) → 1 ≤ length bytes → begins tag bytes ≡ eqb (get_or bytes 0 0) tag
+begins-get_or tag [] h = absurd (omega arith)
+begins-get_or tag (b ∷ bytes) h = refl
+
+pub long_of-ok : (count : ℕ) (bytes : List ℕ) (n : ℕ) (rest : List ℕ) → count ≤ length bytes → AreBytes (take count bytes)
+    → begins 0 (take count bytes) ≡ false → n ≡ number (take count bytes) → rest ≡ drop count bytes → 128 ≤ n
+    → long_of count bytes ≡ Ok (n, rest)
+unfolding long_of
+long_of-ok count bytes n rest enough are first digits behind big =
+    let big' : 128 ≤ number (take count bytes) = omega (arith, digits) in
+    rw (digits, behind, le-ltb (length bytes) count enough, are_bytes-true (take count bytes) are, first, le-leb 128 (number (take count bytes)) big') refl
 
 length_of-short : (n : ℕ) (rest : List ℕ) → n < 128 → length_of (n ∷ rest) ≡ Ok (n, rest)
 unfolding length_of

@@ -2,8 +2,6 @@ pub mod Numbers
 pub mod WholeSteps
 pub mod Calendar
 pub mod Found
-pub mod LengthSteps
-pub mod CursorSteps
 pub mod LengthLaws
 pub mod IntegerLaws
 pub mod ClockLaws

@@ -27,14 +27,10 @@ module _ (k : Kind) where
       let s = element_at-found k v p q e in
       omega (arith, ap length s.whole, length-append s.front q.rest, element_some (tag_of k) (SpellsContent Elementary k v) s.front s.spelled)
 
-  each_nil : (n : ℕ) (p : Place) → each_from (element_at k) n p [] ≡ Ok []
-  each_nil zero p = refl
-  each_nil (suc n) p = refl
-
   -- more fuel than bytes makes no difference
   each_fuel : (n m : ℕ) (p : Place) (bytes : List ℕ) → p.rest ≡ bytes → length bytes ≤ n → length bytes ≤ m
       → each_from (element_at k) n p bytes ≡ each_from (element_at k) m p bytes
-  each_fuel n m p [] w a c = each_nil n p ∙ sym (each_nil m p)
+  each_fuel n m p [] w a c = refl
   each_fuel zero m p (b ∷ bytes) w a c = absurd (omega (arith, a))
   each_fuel (suc n) zero p (b ∷ bytes) w a c = absurd (omega (arith, c))
   each_fuel (suc n) (suc m) p (b ∷ bytes) w a c =

@@ -1,7 +1,7 @@
 use Rattle.std.proofs.Common.{sym, ap, ◌∙◌, Err}
 use Rattle.krb_der.specs.Computed.Read.{enter_at, sized_at}
 use Rattle.krb_der.specs.Place.{Place}
-use Rattle.krb_der.proofs.CursorSteps.{enter_at-empty, enter_at-other, enter_at-sized}
+use Rattle.krb_der.proofs.ElementSteps.{enter_at-empty, enter_at-other, enter_at-sized}
 use Rattle.krb_der.proofs.cursor.Cursor.head.Goals as goal
 
 pub returns-in_default : goal.returns-in_default

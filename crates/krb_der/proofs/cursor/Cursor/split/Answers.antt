@@ -1,6 +1,6 @@
 use Rattle.std.proofs.Common.{sym, ap, ◌∙◌}
 use Rattle.krb_der.specs.Computed.Read.{split_at}
-use Rattle.krb_der.proofs.CursorSteps.{split_at-cut, split_at-ok}
+use Rattle.krb_der.proofs.ElementSteps.{split_at-cut, split_at-ok}
 use Rattle.krb_der.proofs.cursor.Cursor.split.Goals as goal
 
 pub returns-then-rest-len : goal.returns-then-rest-len
