@@ -107,7 +107,7 @@ length-shortest (a ∷ b ∷ bytes) =
     cond_both (is_redundant (a ∷ b ∷ bytes)) (shortest_of (b ∷ bytes)) (a ∷ b ∷ bytes) (λ l. length l ≤ length (a ∷ b ∷ bytes)) (λ e. omega (arith, length-shortest (b ∷ bytes))) (λ e. omega arith)
 
 -- ---- flags
-number4 : (a b c d : ℕ) → number (a ∷ b ∷ c ∷ d ∷ []) ≡ from_be_bytes w32 (a ∷ b ∷ c ∷ d ∷ [])
+pub number4 : (a b c d : ℕ) → number (a ∷ b ∷ c ∷ d ∷ []) ≡ from_be_bytes w32 (a ∷ b ∷ c ∷ d ∷ [])
 number4 a b c d = omega arith
 
 pub flags_be : (n : ℕ) → n < 2 ^ 32 → (cells : List ℕ) → cells ≡ to_be_bytes w32 n → AreFlags n (0 ∷ get_or cells 0 0 ∷ get_or cells 1 0 ∷ get_or cells 2 0 ∷ get_or cells 3 0 ∷ [])

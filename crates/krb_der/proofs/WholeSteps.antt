@@ -1,6 +1,6 @@
 -- Reading whole numbers and flags, step by step.
-use Rattle.std.proofs.Common.{◌≡◌, ◌≢◌, ◌⊎◌, inl, inr, ℕ, ◌^◌, ◌≤◌, ℤ, pos, ◌-ℤ◌, Bool, true, false, not, ◌&&◌, ◌||◌, cond, eqb, leb, List, ◌∷◌, length, Option, Some, None, refl, sym, lit<}
-use Rattle.std.proofs.lemmas.Bool.{and_parts, leb-true, eq-eqb, ne_eqb}
+use Rattle.std.proofs.Common.{◌≡◌, ℕ, ◌^◌, ◌≤◌, ℤ, pos, ◌-ℤ◌, Bool, true, false, not, ◌&&◌, ◌||◌, cond, leb, List, ◌∷◌, length, Option, Some, None, refl, sym, lit<}
+use Rattle.std.proofs.lemmas.Bool.{and_parts, leb-true, eq-eqb}
 use Rattle.std.proofs.lemmas.Option.{cond_some}
 use Rattle.std.proofs.Math.Nat.{pow-le-pow_right}
 use Rattle.krb_der.specs.Whole.{AreBytes, number}
@@ -37,12 +37,3 @@ whole_of-some content all short bytes e = rw (short, are_bytes-true content byte
 pub flags_of-some : (bits : List ℕ) → length bits ≡ 4 → AreBytes bits → flags_of (0 ∷ bits) ≡ Some (number bits)
 unfolding flags_of
 flags_of-some bits four bytes = rw (eq-eqb (length bits) 4 four, are_bytes-true bits bytes) refl
-
-pub flags_of-used : (unused : ℕ) (bits : List ℕ) → (unused ≢ 0) ⊎ (length bits ≢ 4) → flags_of (unused ∷ bits) ≡ None
-unfolding flags_of
-flags_of-used unused bits (inl ne) = rw (ne_eqb unused 0 ne) refl
-flags_of-used unused bits (inr ne) = rw (ne_eqb (length bits) 4 ne) (go (eqb unused 0))
-  where
-    go : (b : Bool) → cond ((b && false) && are_bytes bits) (Some (number bits)) None ≡ None
-    go true = refl
-    go false = refl

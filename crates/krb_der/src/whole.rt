@@ -72,14 +72,14 @@ pub fn whole(content: &[u8]) -> Option<i64>
 }
 
 /// Returns the 32 bits of a content without unused bits.
+#[tactic(auto, using(crate::proofs::ShortestLaws::number4), unfolding(crate::specs::Computed::Whole::flags_of))]
 pub fn flags_in(content: &[u8]) -> Option<u32>
     ensures { result ≡ flags_of content.now }
 {
-    let (unused, bits) = content.split_first()?;
-    if *unused != 0 || bits.len() != 4 {
-        return None;
+    match content {
+        [0, a, b, c, d] => Some(u32::from_be_bytes([*a, *b, *c, *d])),
+        _ => None,
     }
-    Some(number(bits) as u32)
 }
 
 /// Returns the sequence number that the content is. A negative number stands for the one of the same 32 bits.
