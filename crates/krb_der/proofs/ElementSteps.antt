@@ -1,11 +1,11 @@
 -- Reading elements and fields, one combinator at a time.
-use Rattle.std.proofs.Common.{◌≡◌, ◌≢◌, inl, inr, ℕ, ◌+◌, ◌-◌, ◌<◌, ◌≤◌, cond, ltb, eqb, List, [], ◌∷◌, ◌++◌, length, take, drop, Result, Ok, Err, refl, sym, ap, subst, ◌∙◌, arith, length-append, append_assoc, length-take, take-append-drop}
-use Rattle.std.proofs.lemmas.Bool.{le-ltb, lt-ltb, eq-eqb, ne_eqb, ltb-true, ltb-false, eqb-true, eqb-false, cond_both}
-use Rattle.std.proofs.lemmas.List.{take_at, drop_at, nil_from_length}
+use Rattle.std.proofs.Common.{◌≡◌, inl, inr, ℕ, ◌+◌, ◌-◌, ◌≤◌, cond, ltb, eqb, List, [], ◌∷◌, ◌++◌, length, take, drop, Result, Ok, Err, refl, sym, ap, subst, ◌∙◌, arith, length-append, append_assoc, length-take, take-append-drop}
+use Rattle.std.proofs.lemmas.Bool.{le-ltb, eq-eqb, ltb-true, ltb-false, eqb-true, eqb-false, cond_both}
+use Rattle.std.proofs.lemmas.List.{take_at, drop_at}
 use Rattle.krb_der.specs.declared.fault.Fault.{Fault}
 use Rattle.krb_der.specs.Kind.{Kind, Fields, must, tag_of}
 use Rattle.krb_der.specs.Content.{Elementary}
-use Rattle.krb_der.specs.declared.fault.FaultKind.TheVariants.{Truncated, Tag}
+use Rattle.krb_der.specs.declared.fault.FaultKind.TheVariants.{Truncated}
 use Rattle.krb_der.specs.Place.{Place, end_of}
 use Rattle.krb_der.specs.Spells.{IsLength, IsElement}
 use Rattle.krb_der.specs.Fault.{HasHead, IsBroken, nothing, other_tag, cut_length, bad_length, cut_content}
@@ -38,10 +38,6 @@ pub element_some : (tag : ℕ) (IsContent : List ℕ → Type 0) (front : List �
 element_some tag IsContent front h = omega (arith, ap length h.whole)
 
 -- ---- heads, step by step
-pub split_at-cut : (p : Place) (n : ℕ) (bytes : List ℕ) → length bytes < n → split_at p n bytes ≡ fault_at Truncated (end_of p)
-unfolding split_at
-split_at-cut p n bytes lt = rw (lt-ltb (length bytes) n lt) refl
-
 abbrev split_in : Place → ℕ → List ℕ → List ℕ → List ℕ → Result (Place × Place) Fault
 split_in p n bytes front back =
     Ok (record { at = p.at + (length p.rest - length bytes); rest = front }, record { at = p.at + (length p.rest - length bytes) + n; rest = back })
@@ -52,14 +48,6 @@ unfolding split_at
 split_at-ok p n bytes front back le f b =
     ap (λ c. cond c (fault_at Truncated (end_of p)) (split_in p n bytes (take n bytes) (drop n bytes))) (le-ltb (length bytes) n le)
     ∙ ap (λ x. split_in p n bytes x (drop n bytes)) (sym f) ∙ ap (λ x. split_in p n bytes front x) (sym b)
-
-pub enter_at-empty : (tag : ℕ) (p : Place) → length p.rest ≡ 0 → enter_at tag p ≡ fault_at Truncated (end_of p)
-unfolding enter_at
-enter_at-empty tag p e = ap (head_from tag p) (nil_from_length p.rest e)
-
-pub enter_at-other : (tag : ℕ) (p : Place) (b : ℕ) (bytes : List ℕ) → p.rest ≡ b ∷ bytes → b ≢ tag → enter_at tag p ≡ fault_at Tag p.at
-unfolding enter_at
-enter_at-other tag p b bytes e ne = ap (head_from tag p) e ∙ rw (ne_eqb b tag ne) refl
 
 pub enter_at-sized : (tag : ℕ) (p : Place) (b : ℕ) (bytes : List ℕ) → p.rest ≡ b ∷ bytes → b ≡ tag → enter_at tag p ≡ sized_at p (length_of bytes)
 unfolding enter_at

@@ -1,6 +1,6 @@
 -- Whole messages.
 use Rattle.std.proofs.Common.{◌≡◌, ◌⊎◌, inl, inr, ℕ, ◌<◌, ◌≤◌, true, List, [], ◌++◌, length, take, Result, Ok, Err, refl, sym, ap, subst, ◌∙◌, arith}
-use Rattle.std.specs.Prelude.{◌↔◌, IfOk, IfErr, IsOkAnd}
+use Rattle.std.specs.Prelude.{◌↔◌}
 use Rattle.krb_der.specs.Computed.Gives.{Fills}
 use Rattle.std.proofs.lemmas.Bool.{le-ltb, lt-ltb, cases_lt}
 use Rattle.std.proofs.lemmas.List.{append-nil, take_at}
@@ -14,6 +14,7 @@ use Rattle.krb_der.specs.Numbers.{SpellsNegative}
 use Rattle.krb_der.specs.Writing.{Writes}
 use Rattle.krb_der.specs.Fault.{IsFault, IsFaulty, too_long, faulty, start, after_element}
 use Rattle.krb_der.specs.Computed.Steps.{◌>>=◌}
+use Rattle.krb_der.specs.Reading.{Parses}
 use Rattle.krb_der.specs.Clear.{is_clear}
 use Rattle.krb_der.specs.Computed.Read.{fault_at, element_at, finish_at, message_of}
 use Rattle.krb_der.proofs.LengthLaws.{no_value, same_error}
@@ -101,23 +102,22 @@ has_fault k clear bytes none = by (message_of k bytes) refl
     by (Ok v) e = absurd (none v (message_found k v bytes e))
     by (Err f) e = (f, message_fault k bytes f e)
 
--- ---- a call that gives what reading a message gives
-pub fills-found : {X : Type 0} (k : Kind) (view : X → ValueOf k) (r : Result X Fault) (bytes : List ℕ) → Fills view r (message_of k bytes) → IfOk r (λ x. IsMessage k (view x) bytes)
-fills-found k view (Ok x) bytes e = message_found k (view x) bytes e
-fills-found k view (Err f) bytes e = tt
-
-pub fills-only : {X : Type 0} (k : Kind) (view : X → ValueOf k) (r : Result X Fault) (bytes : List ℕ) → is_clear k ≡ true → Fills view r (message_of k bytes)
-    → (v : ValueOf k) → IsMessage k v bytes → IsOkAnd r (λ x. view x ≡ v)
-fills-only k view (Ok x) bytes clear e v m = same_ok {E = Fault} (view x) v (sym e ∙ message_only k v bytes clear m)
-fills-only k view (Err f) bytes clear e v m = absurd (no_value f v (sym e ∙ message_only k v bytes clear m))
-
-pub fills-faulty : {X : Type 0} (k : Kind) (view : X → ValueOf k) (r : Result X Fault) (bytes : List ℕ) → Fills view r (message_of k bytes) → IfErr r (IsFault k bytes)
-fills-faulty k view (Ok x) bytes e = tt
-fills-faulty k view (Err f) bytes e = message_fault k bytes f e
-
 pub message_read : (k : Kind) → is_clear k ≡ true → (v : ValueOf k) (bytes : List ℕ) → (message_of k bytes ≡ Ok v) ↔ IsMessage k v bytes
 message_read k clear v bytes = (message_found k v bytes, message_only k v bytes clear)
 
-pub fills-offset : {X : Type 0} (k : Kind) (view : X → ValueOf k) (r : Result X Fault) (bytes : List ℕ) → Fills view r (message_of k bytes) → IfErr r (λ f. f.at ≤ length bytes)
-fills-offset k view (Ok x) bytes e = tt
-fills-offset k view (Err f) bytes e = fault_within k bytes f (message_fault k bytes f e)
+-- ---- a call that gives what reading a message gives
+pub parses : {X : Type 0} (k : Kind) (view : X → ValueOf k) (r : Result X Fault) (bytes : List ℕ) → is_clear k ≡ true → Fills view r (message_of k bytes) → Parses k view r bytes
+parses k view (Ok x) bytes clear e =
+    record {
+      found = message_found k (view x) bytes e;
+      only = λ v m. same_ok {E = Fault} (view x) v (sym e ∙ message_only k v bytes clear m);
+      faulty = tt;
+      offset = tt;
+    }
+parses k view (Err f) bytes clear e =
+    record {
+      found = tt;
+      only = λ v m. absurd (no_value f v (sym e ∙ message_only k v bytes clear m));
+      faulty = message_fault k bytes f e;
+      offset = fault_within k bytes f (message_fault k bytes f e);
+    }

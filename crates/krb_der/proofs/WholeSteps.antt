@@ -1,15 +1,11 @@
 -- Reading whole numbers and flags, step by step.
-use Rattle.std.proofs.Common.{◌≡◌, ℕ, ◌^◌, ◌≤◌, ℤ, pos, ◌-ℤ◌, Bool, true, false, not, ◌&&◌, ◌||◌, cond, leb, List, ◌∷◌, length, Option, Some, None, refl, sym, lit<}
+use Rattle.std.proofs.Common.{◌≡◌, ℕ, ◌^◌, ◌≤◌, ℤ, pos, ◌-ℤ◌, false, ◌&&◌, cond, leb, List, ◌∷◌, length, Some, refl, sym, lit<}
 use Rattle.std.proofs.lemmas.Bool.{and_parts, leb-true, eq-eqb}
 use Rattle.std.proofs.lemmas.Option.{cond_some}
 use Rattle.std.proofs.Math.Nat.{pow-le-pow_right}
 use Rattle.krb_der.specs.Whole.{AreBytes, number}
-use Rattle.krb_der.specs.Computed.Whole.{are_bytes, is_redundant, is_negative, contents_of, whole_of, flags_of}
+use Rattle.krb_der.specs.Computed.Whole.{is_redundant, is_negative, contents_of, whole_of, flags_of}
 use Rattle.krb_der.proofs.Numbers.{are_bytes-true}
-
-same_cond : (b : Bool) (x : Option ℤ) → cond b x x ≡ x
-same_cond true x = refl
-same_cond false x = refl
 
 pub contents_of-some : (len : ℕ) (z : ℤ) → contents_of len ≡ Some z → (1 ≤ len) × (len ≤ 5) × (pos (256 ^ len) ≡ z)
 unfolding contents_of
@@ -23,11 +19,6 @@ pub contents_of-small : (len : ℕ) (z : ℤ) → contents_of len ≡ Some z →
 contents_of-small len z e =
     let p = contents_of-some len z e in
     (256 ^ len, sym p.2, pow-le-pow_right (lit< tt) p.1)
-
-pub whole_of-no_contents : (content : List ℕ) → contents_of (length content) ≡ None → whole_of content ≡ None
-unfolding whole_of
-whole_of-no_contents content e =
-    rw e (same_cond (is_redundant content || not (are_bytes content)) None)
 
 pub whole_of-some : (content : List ℕ) (all : ℤ) → is_redundant content ≡ false → AreBytes content → contents_of (length content) ≡ Some all
     → whole_of content ≡ Some (cond (is_negative content) (pos (number content) -ℤ all) (pos (number content)))

@@ -188,6 +188,7 @@ impl<'a> Cursor<'a> {
     }
 
     /// The content of the element with this tag that begins here, and what comes after the element.
+    #[tactic(auto, unfolding(crate::specs::Computed::Read::enter_at))]
     pub(crate) fn head(&self, tag: u8) -> Result<(Cursor<'a>, Cursor<'a>), Fault>
         ensures { result ≡ enter_at tag self.now }
     {
@@ -227,6 +228,7 @@ impl<'a> Cursor<'a> {
     }
 
     /// The first bytes of `rest`, which is what is left here, and those after them.
+    #[tactic(auto, unfolding(crate::specs::Computed::Read::split_at))]
     fn split(&self, len: usize, rest: &'a [u8]) -> Result<(Cursor<'a>, Cursor<'a>), Fault>
         requires { length rest.now ≤ length self.now.rest }
         ensures { result ≡ split_at self.now len rest.now }

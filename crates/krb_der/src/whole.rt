@@ -56,6 +56,7 @@ fn contents(len: usize) -> Option<i64>
 }
 
 /// Returns the whole number that the content is, if it has its shortest form and at most five bytes.
+#[tactic(auto, unfolding(crate::specs::Computed::Whole::whole_of, crate::specs::Computed::Whole::contents_of))]
 pub fn whole(content: &[u8]) -> Option<i64>
     ensures { result ≡ whole_of content.now }
 {
@@ -99,6 +100,7 @@ pub fn seq_number_in(content: &[u8]) -> Option<u32>
 }
 
 /// Returns the bytes without the leading ones that the whole number doesn't need.
+#[tactic(auto, using(crate::proofs::ShortestLaws::shortest_of_one), unfolding(crate::specs::Inner::Shortest::shortest_of))]
 pub fn shortest(bytes: &[u8]) -> &[u8]
     ensures value { result.now ≡ shortest_of bytes.now }
     ensures shorter { length result.now ≤ length bytes.now }
