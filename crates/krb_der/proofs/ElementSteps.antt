@@ -120,5 +120,5 @@ head_out tag p = by p.rest refl
         (λ is. sized_out tag p bytes (length_of bytes) (e ∙ ap (λ x. x ∷ bytes) (eqb-true b tag is)) (length_out bytes))
         (λ isnt k fs same. other_tag b bytes e (λ z. absurd (eqb-false b tag isnt (z ∙ same))))
 
-pub enter_at-read : (tag : ℕ) (p inside after : Place) → enter_at tag p ≡ Ok (inside, after) → HasHead tag p inside after
-enter_at-read tag p inside after e = subst (HeadOut tag p) e (head_out tag p)
+pub enter_at_read : (tag : ℕ) (p inside after : Place) → enter_at tag p ≡ Ok (inside, after) → HasHead tag p inside after
+enter_at_read tag p inside after e = subst (HeadOut tag p) e (head_out tag p)

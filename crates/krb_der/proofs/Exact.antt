@@ -14,10 +14,10 @@ use Rattle.krb_der.specs.Computed.Read.{element_at, fields_at}
 use Rattle.krb_der.proofs.LengthLaws.{no_value}
 use Rattle.krb_der.proofs.ElementLaws.{element_read as read_at, fields_read}
 use Rattle.krb_der.proofs.Outcomes.{FieldsOut, fields_out}
-use Rattle.krb_der.proofs.Reading.{element_at-found}
+use Rattle.krb_der.proofs.Reading.{element_at_found}
 
 pub element_read : (k : Kind) → is_clear k ≡ true → (v : ValueOf k) (here after : Place) → (element_at k here ≡ Ok (v, after)) ↔ StandsAt Elementary k v here after
-element_read k clear v here after = (element_at-found k v here after, read_at k clear v here after)
+element_read k clear v here after = (element_at_found k v here after, read_at k clear v here after)
 
 fields_at-found : (fs : Fields) (v : FieldsOf fs) (here : Place) → fields_at fs here ≡ Ok v → SpellsFields Elementary fs v here.rest
 fields_at-found fs v here e = subst (FieldsOut fs here) e (fields_out fs here)

@@ -58,9 +58,9 @@ pub element-head : (tag : ℕ) (content head : List ℕ) → IsHeadOf tag (lengt
 element-head tag content head h =
     record { size = h.size; content = content; length_is = h.length_is; content_is = refl; whole = ap (λ (l : List ℕ). l ++ content) h.whole }
 
-pub appends-element : (tag : ℕ) (content head old mid new : List ℕ) → IsHeadOf tag (length content) head → mid ≡ old ++ head → new ≡ mid ++ content
+pub appends_element : (tag : ℕ) (content head old mid new : List ℕ) → IsHeadOf tag (length content) head → mid ≡ old ++ head → new ≡ mid ++ content
     → Appends (IsElement tag (λ c. c ≡ content)) old new
-appends-element tag content head old mid new h m n =
+appends_element tag content head old mid new h m n =
     record { bytes = head ++ content; is = element-head tag content head h; whole = n ∙ ap (λ (l : List ℕ). l ++ content) m ∙ append_assoc old head content }
 
 -- ---- the end moved

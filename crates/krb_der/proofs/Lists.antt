@@ -10,7 +10,7 @@ use Rattle.krb_der.specs.Computed.Steps.{◌>>=◌}
 use Rattle.krb_der.specs.Computed.Gives.{checked}
 use Rattle.krb_der.specs.Computed.Read.{each_from, element_at, fields_at}
 use Rattle.krb_der.proofs.ElementSteps.{bind_ok, bind_at, same_ok, element_some}
-use Rattle.krb_der.proofs.Reading.{element_at-found}
+use Rattle.krb_der.proofs.Reading.{element_at_found}
 
 bind_same : {A B E : Type 0} (r : Result A E) (f g : A → Result B E) → ((x : A) → r ≡ Ok x → f x ≡ g x) → (r >>= f) ≡ (r >>= g)
 bind_same (Ok x) f g h = h x refl
@@ -22,9 +22,9 @@ checked_more v (Err f) = refl
 
 module _ (k : Kind) where
   -- each takes at least a byte
-  pub element_at-shrinks : (p : Place) (v : ValueOf k) (q : Place) → element_at k p ≡ Ok (v, q) → length q.rest < length p.rest
-  element_at-shrinks p v q e =
-      let s = element_at-found k v p q e in
+  pub element_at_shrinks : (p : Place) (v : ValueOf k) (q : Place) → element_at k p ≡ Ok (v, q) → length q.rest < length p.rest
+  element_at_shrinks p v q e =
+      let s = element_at_found k v p q e in
       omega (arith, ap length s.whole, length-append s.front q.rest, element_some (tag_of k) (SpellsContent Elementary k v) s.front s.spelled)
 
   -- more fuel than bytes makes no difference
@@ -36,7 +36,7 @@ module _ (k : Kind) where
   each_fuel (suc n) (suc m) p (b ∷ bytes) w a c =
       bind_same (element_at k p) _ _ (λ x e. ap (λ (r : Result (List (ValueOf k)) Fault). r >>= λ xs. Ok (x.0 ∷ xs))
       (each_fuel n m x.1 x.1.rest refl
-      (omega (arith, a, element_at-shrinks p x.0 x.1 e, ap length w)) (omega (arith, c, element_at-shrinks p x.0 x.1 e, ap length w))))
+      (omega (arith, a, element_at_shrinks p x.0 x.1 e, ap length w)) (omega (arith, c, element_at_shrinks p x.0 x.1 e, ap length w))))
 
   list_nil : (p : Place) → p.rest ≡ [] → fields_at (each k) p ≡ Ok []
   unfolding fields_at
@@ -49,13 +49,13 @@ module _ (k : Kind) where
       ap (λ (l : List ℕ). each_from (element_at k) (length l) p l) w
       ∙ bind_same (element_at k p) _ _ (λ x e. ap (λ (r : Result (List (ValueOf k)) Fault). r >>= λ xs. Ok (x.0 ∷ xs))
       (each_fuel (length bytes) (length x.1.rest) x.1 x.1.rest refl
-      (omega (arith, element_at-shrinks p x.0 x.1 e, ap length w)) (le_refl (length x.1.rest))))
+      (omega (arith, element_at_shrinks p x.0 x.1 e, ap length w)) (le_refl (length x.1.rest))))
 
   pub list_step : (p : Place) (v : ValueOf k) (q : Place) → element_at k p ≡ Ok (v, q) → checked (fields_at (each k) q) ≡ checked (fields_at (each k) p)
   list_step p v q e = by p.rest refl
     where
       by : (bytes : List ℕ) → p.rest ≡ bytes → checked (fields_at (each k) q) ≡ checked (fields_at (each k) p)
-      by [] w = absurd (omega (arith, element_at-shrinks p v q e, ap length w))
+      by [] w = absurd (omega (arith, element_at_shrinks p v q e, ap length w))
       by (b ∷ bytes) w = sym (ap checked (list_more p b bytes w ∙ bind_at (element_at k p) _ (v, q) e) ∙ checked_more v (fields_at (each k) q))
 
   pub list_fault : (p : Place) (f : Fault) → element_at k p ≡ Err f → 1 ≤ length p.rest → checked (fields_at (each k) p) ≡ Err f

@@ -12,12 +12,12 @@ use Rattle.krb_der.specs.Clear.{is_clear}
 use Rattle.krb_der.specs.Computed.Gives.{Gives}
 use Rattle.krb_der.specs.Computed.Read.{element_at, enter_at, may_enter}
 use Rattle.krb_der.proofs.LengthLaws.{no_value}
-use Rattle.krb_der.proofs.ElementSteps.{answer, enter_at-head, enter_at-read, HeadOut, head_out}
+use Rattle.krb_der.proofs.ElementSteps.{answer, enter_at-head, enter_at_read, HeadOut, head_out}
 use Rattle.krb_der.proofs.ElementLaws.{element_read}
 use Rattle.krb_der.proofs.Outcomes.{bind_by, ElementOut, element_out}
 
-pub element_at-found : (k : Kind) (v : ValueOf k) (p after : Place) → element_at k p ≡ Ok (v, after) → StandsAt Elementary k v p after
-element_at-found k v p after e = subst (ElementOut k p) e (element_out k p)
+pub element_at_found : (k : Kind) (v : ValueOf k) (p after : Place) → element_at k p ≡ Ok (v, after) → StandsAt Elementary k v p after
+element_at_found k v p after e = subst (ElementOut k p) e (element_out k p)
 
 pub element_at_fault : (k : Kind) (p : Place) (f : Fault) → element_at k p ≡ Err f → IsElementFault Elementary k p f
 element_at_fault k p f e = λ fs. subst (ElementOut k p) e (element_out k p) fs (must k fs) p start
@@ -26,7 +26,7 @@ pub reads : {X : Type 0} (k : Kind) (view : X → ValueOf k) (r : Result X Fault
     → Gives view r old new (element_at k old) → Reads k view r old new
 reads k view (Ok x) old new clear e =
     record {
-      found = element_at-found k (view x) old new e;
+      found = element_at_found k (view x) old new e;
       only = λ v after s. answer (view x) v new after (sym e ∙ element_read k clear v old after s);
       faulty = tt;
       kept = tt;
@@ -42,7 +42,7 @@ reads k view (Err f) old new clear e =
 pub enters : (tag : ℕ) (r : Result Place Fault) (old new : Place) → Gives (λ (p : Place). p) r old new (enter_at tag old) → Enters tag r old new
 enters tag (Ok x) old new e =
     record {
-      found = enter_at-read tag old x new e;
+      found = enter_at_read tag old x new e;
       only = λ inside after h. answer x inside new after (sym e ∙ enter_at-head tag old inside after h);
       faulty = tt;
       kept = tt;
