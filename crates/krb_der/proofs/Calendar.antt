@@ -1,12 +1,11 @@
 -- The calendar of the definitions is that of jiff.
-use Rattle.std.proofs.Common.{◌≡◌, ℕ, zero, suc, ◌+◌, ◌-◌, ◌<◌, ◌≤◌, ℤ, pos, ◌+ℤ◌, ◌-ℤ◌, ◌*ℤ◌, ◌≤ℤ◌, neg_ℤ, ◌*◌, ◌/◌, ◌%◌, refl, sym, ap, subst, ◌∙◌, arith, w16, w64, Fits, negsuc, to_z, of_z, add_assoc, lit≤, Some, Result, Ok, Err}
+use Rattle.std.proofs.Common.{◌≡◌, ℕ, zero, suc, ◌+◌, ◌-◌, ◌<◌, ◌≤◌, ℤ, pos, ◌+ℤ◌, ◌-ℤ◌, ◌*ℤ◌, ◌≤ℤ◌, neg_ℤ, ◌*◌, ◌/◌, ◌%◌, refl, sym, ap, subst, ◌∙◌, arith, w16, w64, Fits, negsuc, to_z, of_z, add_assoc, lit≤, Some}
 use Rattle.std.proofs.lemmas.Int.{ints, to_z-of_z, by_lt_z}
 use mir.Val.{SFits}
 use lib.Dec.{T}
 use lib.Signed.{non_neg}
 use lib.IntN.{nat_abs}
 use Rattle.std.proofs.lemmas.Bool.{le-leb}
-use Rattle.std.specs.Result.{result_ok}
 use Rattle.jiff_core.proofs.CalendarLemmas.{day_count-lt_year, days_from_civil-day_count}
 use Rattle.jiff_core.proofs.DateLemmas.{civil}
 use Rattle.krb_der.specs.Time as own
@@ -72,10 +71,6 @@ day_of-date date y m d year month day =
     let some = day_of-some y m d (omega (arith, date.month_in), omega (arith, date.month_in)) (omega (arith, date.day_in), omega (arith, date.day_in, length_is)) in
     some ∙ ap Some (sym (date_is date y m d year month day))
 
-pub result_ok_is : {A E : Type 0} (r : Result A E) (x : A) → result_ok r ≡ Some x → r ≡ Ok x
-result_ok_is (Ok y) x e = cc
-result_ok_is (Err d) x e = absurd cc
-
 pub epoch_count : own.day_count 1970 1 1 ≡ 719_528
 unfolding own.days_before_year own.days_of_months
 epoch_count = refl
@@ -114,7 +109,7 @@ first_day : own.day_number 0 1 1 ≡ neg_ℤ (pos 719_528)
 unfolding own.days_before_year own.days_of_months
 first_day = refl
 
-clock_value : (d : ℤ) (n : ℕ) (s : ℤ) → pos n ≡ s +ℤ pos 62_167_219_200 → d +ℤ pos 4_371_587 ≡ pos (n / 86_400 + 3_652_059)
+pub clock_value : (d : ℤ) (n : ℕ) (s : ℤ) → pos n ≡ s +ℤ pos 62_167_219_200 → d +ℤ pos 4_371_587 ≡ pos (n / 86_400 + 3_652_059)
     → pos 86_400 *ℤ d +ℤ pos (3_600 * (n % 86_400 / 3_600) + 60 * (n % 86_400 / 60 % 60) + n % 86_400 % 60) ≡ s
 clock_value d n s from day = omega (arith, ints)
 

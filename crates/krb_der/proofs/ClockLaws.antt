@@ -1,18 +1,16 @@
 -- A time is read exactly where one is spelled, and it has one content.
-use Rattle.std.proofs.Common.{◌≡◌, inl, inr, ℕ, ◌+◌, ◌-◌, ◌*◌, ◌/◌, ◌%◌, ◌<◌, ◌≤◌, ℤ, pos, ◌+ℤ◌, ◌*ℤ◌, true, ◌&&◌, ltb, leb, eqb, List, [], ◌∷◌, ◌++◌, length, get_or, Some, None, refl, sym, ap, subst, ◌∙◌, arith}
-use Rattle.std.proofs.lemmas.Bool.{lt-ltb, le-leb, ltb-true, leb-true, eqb-true, and_parts}
-use Rattle.std.proofs.lemmas.Option.{cond_some}
+use Rattle.std.proofs.Common.{◌≡◌, ℕ, ◌+◌, ◌-◌, ◌*◌, ◌/◌, ◌%◌, ◌<◌, ◌≤◌, ℤ, pos, ◌+ℤ◌, ◌*ℤ◌, true, ◌&&◌, ltb, leb, eqb, List, [], ◌∷◌, ◌++◌, length, get_or, Option, Some, None, refl, sym, ap, ◌∙◌, arith}
+use Rattle.std.specs.Prelude.{IfSome}
+use Rattle.std.proofs.lemmas.Bool.{lt-ltb, le-leb, ltb-true, leb-true, eqb-true, and_parts, cond_both}
 use Rattle.std.proofs.lemmas.Int.{ints}
 use Rattle.jiff_core.specs.Calendar as jiff
 use Rattle.jiff_core.specs.declared.civil.date.Date.{Date}
 use Rattle.jiff_core.proofs.CalendarLemmas.{days_in_month_bounds}
-use Rattle.jiff_core.proofs.DateLemmas.{epoch_day_injective}
-use Rattle.krb_der.specs.Time.{Civil, IsCivil, IsTime, days_in_month, day_number, seconds_of, text_of, two}
-use Rattle.krb_der.specs.Computed.Steps.{◌>>?◌}
+use Rattle.jiff_core.proofs.DateLemmas.{epoch_day_injective, epoch_day_range}
+use Rattle.krb_der.specs.Time.{Civil, IsCivil, IsTime, IsSeconds, days_in_month, day_number, seconds_of, text_of, two}
 use Rattle.krb_der.specs.Computed.Clock.{is_digit, pair_of, pair_at, is_date, is_clock, day_of, clock_of, civil_of, seconds_if, time_of}
-use Rattle.krb_der.proofs.Calendar.{day_of-some, day_number_agree}
-use Rattle.krb_der.proofs.IntegerLaws.{bind_some, none_some, same_some}
-use Rattle.krb_der.proofs.LengthLaws.{chosen}
+use Rattle.krb_der.proofs.Calendar.{day_of-some, day_number_agree, day_number_low, seconds_range}
+use Rattle.krb_der.proofs.IntegerLaws.{bind_found, only_found}
 
 -- ---- two digits
 pair_two : (n : ℕ) → n < 100 → pair_of (48 + n / 10 % 10) (48 + n % 10) ≡ Some n
@@ -32,15 +30,18 @@ pub record ArePair (tens ones n : ℕ) : Type 0 where
   pub digits : two n ≡ tens ∷ ones ∷ []
   pub small : n < 100
 
-pair_of-read : (tens ones n : ℕ) → pair_of tens ones ≡ Some n → ArePair tens ones n
-pair_of-read tens ones n e =
-    let p = cond_some (is_digit tens && is_digit ones) (10 * (tens - 48) + (ones - 48)) n e in
-    let q = and_parts (is_digit tens) (is_digit ones) p.0 in
+pair_found : (i : ℕ) (content : List ℕ) → IfSome (pair_at i content) (ArePair (get_or content i 0) (get_or content (i + 1) 0))
+pair_found i content =
+    let tens = get_or content i 0 in
+    let ones = get_or content (i + 1) 0 in
+    only_found _ (is_digit tens && is_digit ones) (10 * (tens - 48) + (ones - 48)) (λ e.
+    let q = and_parts (is_digit tens) (is_digit ones) e in
     let t = digit_is tens q.0 in
     let o = digit_is ones q.1 in
-    let high : 48 + n / 10 % 10 ≡ tens = omega (arith, p.1) in
-    let low : 48 + n % 10 ≡ ones = omega (arith, p.1) in
-    record { digits = cc; small = omega (arith, p.1) }
+    let n = 10 * (tens - 48) + (ones - 48) in
+    let high : 48 + n / 10 % 10 ≡ tens = omega arith in
+    let low : 48 + n % 10 ≡ ones = omega arith in
+    record { digits = cc; small = omega arith })
 
 -- ---- fifteen bytes
 cells15 : (xs : List ℕ) → length xs ≡ 15
@@ -90,28 +91,17 @@ pub record AreParts (content : List ℕ) (t : Civil) : Type 0 where
   pub n : ArePair (get_or content 10 0) (get_or content 11 0) t.minute
   pub s : ArePair (get_or content 12 0) (get_or content 13 0) t.second
 
-civil_of-read : (content : List ℕ) (t : Civil) → civil_of content ≡ Some t → AreParts content t
+civil_found : (content : List ℕ) → IfSome (civil_of content) (AreParts content)
 unfolding civil_of
-civil_of-read content t e =
-    let b0 = bind_some (pair_at 0 content) _ t e in
-    let b1 = bind_some (pair_at 2 content) _ t b0.2 in
-    let b2 = bind_some (pair_at 4 content) _ t b1.2 in
-    let b3 = bind_some (pair_at 6 content) _ t b2.2 in
-    let b4 = bind_some (pair_at 8 content) _ t b3.2 in
-    let b5 = bind_some (pair_at 10 content) _ t b4.2 in
-    let b6 = bind_some (pair_at 12 content) _ t b5.2 in
-    subst (AreParts content) (same_some _ t b6.2) (record {
-      century = b0.0;
-      year = b1.0;
-      year_is = refl;
-      c = pair_of-read _ _ b0.0 b0.1;
-      y = pair_of-read _ _ b1.0 b1.1;
-      m = pair_of-read _ _ b2.0 b2.1;
-      d = pair_of-read _ _ b3.0 b3.1;
-      h = pair_of-read _ _ b4.0 b4.1;
-      n = pair_of-read _ _ b5.0 b5.1;
-      s = pair_of-read _ _ b6.0 b6.1;
-    })
+civil_found content =
+    bind_found _ _ (pair_at 0 content) _ (pair_found 0 content) (λ century c.
+    bind_found _ _ (pair_at 2 content) _ (pair_found 2 content) (λ year y.
+    bind_found _ _ (pair_at 4 content) _ (pair_found 4 content) (λ month m.
+    bind_found _ _ (pair_at 6 content) _ (pair_found 6 content) (λ day d.
+    bind_found _ _ (pair_at 8 content) _ (pair_found 8 content) (λ hour h.
+    bind_found _ _ (pair_at 10 content) _ (pair_found 10 content) (λ minute n.
+    bind_found _ _ (pair_at 12 content) _ (pair_found 12 content) (λ second s.
+    record { century = century; year = year; year_is = refl; c = c; y = y; m = m; d = d; h = h; n = n; s = s })))))))
 
 joined : (a b c d e f g : List ℕ) (a0 a1 b0 b1 c0 c1 d0 d1 e0 e1 f0 f1 g0 g1 z : ℕ)
     → a ≡ a0 ∷ a1 ∷ [] → b ≡ b0 ∷ b1 ∷ [] → c ≡ c0 ∷ c1 ∷ [] → d ≡ d0 ∷ d1 ∷ [] → e ≡ e0 ∷ e1 ∷ [] → f ≡ f0 ∷ f1 ∷ [] → g ≡ g0 ∷ g1 ∷ [] → 0x5a ≡ z
@@ -129,44 +119,44 @@ text_of-parts content t len last p =
     ∙ ap (λ k. two p.century ++ two k ++ two t.month ++ two t.day ++ two t.hour ++ two t.minute ++ two t.second ++ 0x5a ∷ []) low in
     cells15 content len ∙ sym (text ∙ joined _ _ _ _ _ _ _ _ _ _ _ _ _ _ _ _ _ _ _ _ _ _ p.c.digits p.y.digits p.m.digits p.d.digits p.h.digits p.n.digits p.s.digits (sym last))
 
-seconds_if-read : (t : Civil) (s : ℤ) → t.year < 10_000 → seconds_if t ≡ Some s → IsCivil t × (seconds_of t ≡ s)
+day_found : (y m d : ℕ) → IfSome (day_of y m d) (λ day. (1 ≤ m) × (m ≤ 12) × (1 ≤ d) × (d ≤ days_in_month y m) × (day_number y m d ≡ day))
+day_found y m d =
+    only_found _ (is_date y m d) (day_number y m d) (λ e.
+    let d0 = and_parts (leb 1 m && leb m 12 && leb 1 d) (leb d (days_in_month y m)) e in
+    let d1 = and_parts (leb 1 m && leb m 12) (leb 1 d) d0.0 in
+    let d2 = and_parts (leb 1 m) (leb m 12) d1.0 in
+    (leb-true 1 m d2.0, leb-true m 12 d2.1, leb-true 1 d d1.1, leb-true d _ d0.1, refl))
+
+clock_found : (h n s : ℕ) → IfSome (clock_of h n s) (λ clock. (h < 24) × (n < 60) × (s < 60) × (3_600 * h + 60 * n + s ≡ clock))
+clock_found h n s =
+    only_found _ (is_clock h n s) (3_600 * h + 60 * n + s) (λ e.
+    let c0 = and_parts (ltb h 24 && ltb n 60) (ltb s 60) e in
+    let c1 = and_parts (ltb h 24) (ltb n 60) c0.0 in
+    (ltb-true h 24 c1.0, ltb-true n 60 c1.1, ltb-true s 60 c0.1, refl))
+
+seconds_found : (t : Civil) → t.year < 10_000 → IfSome (seconds_if t) (λ s. IsCivil t × (seconds_of t ≡ s))
 unfolding seconds_if
-seconds_if-read t s year e =
-    let p = bind_some (day_of t.year t.month t.day) (λ day. clock_of t.hour t.minute t.second >>? λ clock. Some (pos 86_400 *ℤ day +ℤ pos clock)) s e in
-    let q = bind_some (clock_of t.hour t.minute t.second) (λ clock. Some (pos 86_400 *ℤ p.0 +ℤ pos clock)) s p.2 in
-    let day = cond_some (is_date t.year t.month t.day) (day_number t.year t.month t.day) p.0 p.1 in
-    let clock = cond_some (is_clock t.hour t.minute t.second) (3_600 * t.hour + 60 * t.minute + t.second) q.0 q.1 in
-    let d0 = and_parts (leb 1 t.month && leb t.month 12 && leb 1 t.day) (leb t.day (days_in_month t.year t.month)) day.0 in
-    let d1 = and_parts (leb 1 t.month && leb t.month 12) (leb 1 t.day) d0.0 in
-    let d2 = and_parts (leb 1 t.month) (leb t.month 12) d1.0 in
-    let c0 = and_parts (ltb t.hour 24 && ltb t.minute 60) (ltb t.second 60) clock.0 in
-    let c1 = and_parts (ltb t.hour 24) (ltb t.minute 60) c0.0 in (
-      record {
-        year = year;
-        month = (leb-true 1 t.month d2.0, leb-true t.month 12 d2.1);
-        day = (leb-true 1 t.day d1.1, leb-true t.day _ d0.1);
-        hour = ltb-true t.hour 24 c1.0;
-        minute = ltb-true t.minute 60 c1.1;
-        second = ltb-true t.second 60 c0.1;
-      },
-      ap (λ z. pos 86_400 *ℤ z +ℤ pos (3_600 * t.hour + 60 * t.minute + t.second)) day.1 ∙ ap (λ k. pos 86_400 *ℤ p.0 +ℤ pos k) clock.1 ∙ same_some _ _ q.2,
-    )
+seconds_found t year =
+    bind_found _ _ (day_of t.year t.month t.day) _ (day_found t.year t.month t.day) (λ day d.
+    bind_found _ _ (clock_of t.hour t.minute t.second) _ (clock_found t.hour t.minute t.second) (λ clock c.
+    (record { year = year; month = (d.0, d.1); day = (d.2, d.3); hour = c.0; minute = c.1; second = c.2 }, ap (λ z. pos 86_400 *ℤ z +ℤ pos (3_600 * t.hour + 60 * t.minute + t.second)) d.4 ∙ ap (λ k. pos 86_400 *ℤ day +ℤ pos k) c.3)))
 
 year_small : (content : List ℕ) (t : Civil) → AreParts content t → t.year < 10_000
 year_small content t p = omega (arith, p.year_is, p.c.small, p.y.small)
 
-pub time_of-read : (content : List ℕ) (s : ℤ) → time_of content ≡ Some s → IsTime s content
+pub time_found : (content : List ℕ) → IfSome (time_of content) (λ s. IsTime s content)
 unfolding time_of
-time_of-read content s e =
-    elim (chosen (eqb (length content) 15 && eqb (get_or content 14 0) 0x5a) (civil_of content >>? seconds_if) None (Some s) e) [
-      | inl p ↦
-          let q = and_parts (eqb (length content) 15) (eqb (get_or content 14 0) 0x5a) p.0 in
-          let b = bind_some (civil_of content) seconds_if s p.1 in
-          let parts = civil_of-read content b.0 b.1 in
-          let value = seconds_if-read b.0 s (year_small content b.0 parts) b.2 in
-          record { civil = b.0; valid = value.0; value = value.1; whole = text_of-parts content b.0 (eqb-true _ 15 q.0) (eqb-true _ 0x5a q.1) parts }
-      | inr p ↦ absurd (none_some s p.1)
-    ]
+time_found content =
+    cond_both (eqb (length content) 15 && eqb (get_or content 14 0) 0x5a) _ _ (λ o. IfSome o (λ s. IsTime s content))
+    (λ e.
+    let q = and_parts (eqb (length content) 15) (eqb (get_or content 14 0) 0x5a) e in
+    bind_found _ _ (civil_of content) seconds_if (civil_found content) (λ t parts.
+    found t (text_of-parts content t (eqb-true _ 15 q.0) (eqb-true _ 0x5a q.1) parts) (seconds_if t) (seconds_found t (year_small content t parts))))
+    (λ e. tt)
+  where
+    found : (t : Civil) → content ≡ text_of t → (o : Option ℤ) → IfSome o (λ s. IsCivil t × (seconds_of t ≡ s)) → IfSome o (λ s. IsTime s content)
+    found t text (Some s) h = record { civil = t; valid = h.0; value = h.1; whole = text }
+    found t text None h = tt
 
 -- ---- one content
 year_in : (t : Civil) → IsCivil t → jiff.IsYear (pos t.year)
@@ -198,3 +188,10 @@ seconds_injective a b v w e =
 pub time_unique : (s : ℤ) (a b : List ℕ) → IsTime s a → IsTime s b → a ≡ b
 time_unique s a b h k =
     h.whole ∙ ap text_of (seconds_injective h.civil k.civil h.valid k.valid (h.value ∙ sym k.value)) ∙ sym k.whole
+
+pub civil_range : (t : Civil) → IsCivil t → IsSeconds (seconds_of t)
+civil_range t v =
+    let range = epoch_day_range (date_of t v) in
+    let same = day_number_agree t.year t.month t.day v.day.0 in
+    seconds_range (day_number t.year t.month t.day) (3_600 * t.hour + 60 * t.minute + t.second) (day_number_low t.year t.month t.day)
+    (omega (arith, ints, range.1, same)) (omega (arith, v.hour, v.minute, v.second))

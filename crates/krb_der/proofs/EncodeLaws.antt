@@ -1,19 +1,17 @@
 -- Writing within the limit.
-use Rattle.std.proofs.Common.{◌≡◌, inl, inr, ℕ, ◌+◌, ◌≤◌, cond, ltb, List, [], ◌++◌, length, take, drop, Option, None, Result, Ok, Err, refl, sym, ap, subst, ◌∙◌, arith, length-append, append_assoc}
+use Rattle.std.proofs.Common.{◌≡◌, ℕ, ◌+◌, ◌≤◌, ltb, List, [], ◌++◌, length, take, drop, Result, Ok, Err, refl, sym, ap, subst, ◌∙◌, arith, length-append, append_assoc}
 use Rattle.std.specs.Prelude.{OnOk, OnErr, Vec}
-use Rattle.std.proofs.lemmas.Bool.{ltb-true, ltb-false, cases_Bool}
+use Rattle.std.proofs.lemmas.Bool.{ltb-true, ltb-false, cond_both}
 use Rattle.std.proofs.lemmas.List.{take_at, drop_at, append-nil}
 use Rattle.krb_der.specs.declared.fault.EncodeFault.{EncodeFault}
 use Rattle.krb_der.specs.declared.fault.EncodeFault.TheVariants.{TooLong, OutOfMemory}
 use Rattle.krb_der.specs.Kind.{Kind, Fields, ValueOf, FieldsOf}
-use Rattle.krb_der.specs.Content.{Written}
-use Rattle.krb_der.specs.Spells.{IsElement, IsJoined, IfPresent, limit}
+use Rattle.krb_der.specs.Spells.{IsElement, IsJoined, limit}
 use Rattle.krb_der.specs.Writing.{Appends, AppendsElement, Wraps, Writes, WritesFields, Encodes, IsEncoded}
 use Rattle.krb_der.specs.Inner.Limited.{limited_of, settled}
-use Rattle.krb_der.specs.Size.{element_size, size_if, fields_size, size_of}
-use Rattle.krb_der.proofs.Spellings.{written_spells}
-use Rattle.krb_der.proofs.LeafLaws.{written_sized}
-use Rattle.krb_der.proofs.Sizes.{HasSize, element_sized, present_sized, fields_sized, spelling_sized}
+use Rattle.krb_der.specs.Size.{element_size, fields_size, size_of}
+use Rattle.krb_der.proofs.Sizes.{HasSize, element_sized}
+use Rattle.krb_der.proofs.Spelled.{spelled_is, fields_is}
 
 no_fault : {A : Type 0} (c d : EncodeFault) → ◌≡◌ {A = Result A EncodeFault} (Err c) (Err d) → c ≡ d
 no_fault c d e = cc
@@ -32,40 +30,34 @@ before_same : (start : ℕ) (old mid : List ℕ) → start ≡ length old → mi
 before_same start old mid at e = ap (take start) (e ∙ sym (append-nil old)) ∙ take_at old [] start (sym at)
 
 -- what was written from start on, and the limit
+limited_at : {E : Type 0} (Part : List ℕ → Type 0) (size : ℕ) → HasSize Part size → (written : Result (Unit {0}) E) (start : ℕ) (old mid : List ℕ)
+    → start ≡ length old → OnOk written (Appends Part old mid) → OnErr written (take start mid ≡ old)
+    → Encodes Part size (limited_of written mid) old (settled (limited_of written mid) start mid)
+limited_at Part size sized (Err e) start old mid at a kept =
+    record { ok = tt; too_long = λ t. absurd (memory (no_fault {A = Unit {0}} OutOfMemory TooLong t)); kept = kept }
+limited_at Part size sized (Ok u) start old mid at a kept =
+    cond_both (ltb limit (length mid)) _ _ (λ r. Encodes Part size r old (settled r start mid))
+    (λ long. record {
+      ok = tt;
+      too_long = λ t. omega (arith, ltb-true limit (length mid) long, ap length a.whole, length-append old a.bytes, sized a.bytes a.is);
+      kept = before_appended Part start old mid at a;
+    })
+    (λ fits. record { ok = (a, ltb-false limit (length mid) fits); too_long = λ t. absurd (ok_err tt TooLong t); kept = tt })
+
 pub encodes-limited : {E : Type 0} (Part : List ℕ → Type 0) (size : ℕ) → HasSize Part size → (written : Result (Unit {0}) E) (r : Result (Unit {0}) EncodeFault) (start : ℕ) (old mid new : List ℕ)
     → start ≡ length old → OnOk written (Appends Part old mid) → OnErr written (take start mid ≡ old) → r ≡ limited_of written mid → new ≡ settled r start mid
     → Encodes Part size r old new
-encodes-limited Part size sized (Err e) r start old mid new at a kept l n =
+encodes-limited Part size sized written r start old mid new at a kept l n =
     subst (λ x. Encodes Part size x old new) (sym l)
-    (record {
-      ok = tt;
-      too_long = λ t. absurd (memory (no_fault {A = Unit {0}} OutOfMemory TooLong t));
-      kept = n ∙ ap (λ x. settled x start mid) l ∙ kept;
-    })
-encodes-limited Part size sized (Ok u) r start old mid new at a kept l n =
-    elim (cases_Bool (ltb limit (length mid))) [
-      | inl long ↦
-          let lt = ltb-true limit (length mid) long in
-          let answer = l ∙ ap (λ b. cond b (Err TooLong) (Ok tt)) long in
-          subst (λ x. Encodes Part size x old new) (sym answer)
-          (record {
-            ok = tt;
-            too_long = λ t. omega (arith, lt, ap length a.whole, length-append old a.bytes, sized a.bytes a.is);
-            kept = n ∙ ap (λ x. settled x start mid) answer ∙ before_appended Part start old mid at a;
-          })
-      | inr fits ↦
-          let le = ltb-false limit (length mid) fits in
-          let answer = l ∙ ap (λ b. cond b (Err TooLong) (Ok tt)) fits in
-          let same : new ≡ mid = n ∙ ap (λ x. settled x start mid) answer in
-          subst (λ x. Encodes Part size x old new) (sym answer)
-          (subst (λ x. Encodes Part size (Ok tt) old x) (sym same)
-          (record { ok = (a, le); too_long = λ t. absurd (ok_err tt TooLong t); kept = tt }))
-    ]
+    (subst (λ x. Encodes Part size (limited_of written mid) old x) (sym (n ∙ ap (λ x. settled x start mid) l)) (limited_at Part size sized written start old mid at a kept))
 
-pub encodes-leaf : {E : Type 0} (k : Kind) (v : ValueOf k) (written : Result (Unit {0}) E) (r : Result (Unit {0}) EncodeFault) (start : ℕ) (old mid new : List ℕ)
+pub value_size : (k : Kind) (v : ValueOf k) → HasSize (Writes k v) (size_of k v)
+value_size k v = (spelled_is k v).sized
+
+pub encodes_leaf : {E : Type 0} (k : Kind) (v : ValueOf k) (written : Result (Unit {0}) E) (r : Result (Unit {0}) EncodeFault) (start : ℕ) (old mid new : List ℕ)
     → start ≡ length old → AppendsElement k v written old mid → r ≡ limited_of written mid → new ≡ settled r start mid → Encodes (Writes k v) (size_of k v) r old new
-encodes-leaf k v written r start old mid new at w l n =
-    encodes-limited (Writes k v) (size_of k v) (spelling_sized Written written_sized k v) written r start old mid new at w.ok (by written w.kept) l n
+encodes_leaf k v written r start old mid new at w l n =
+    encodes-limited (Writes k v) (size_of k v) (value_size k v) written r start old mid new at w.ok (by written w.kept) l n
   where
     by : {E : Type 0} (written : Result (Unit {0}) E) → OnErr written (mid ≡ old) → OnErr written (take start mid ≡ old)
     by (Ok u) e = tt
@@ -97,64 +89,33 @@ encodes-wrapped {E = E} tag start Part size sized (Ok u) r old mid end new at a 
 encodes-wrapped {E = E} tag start Part size sized (Err e) r old mid end new at a w kept l n =
     encodes-limited {E = E} (IsElement tag Part) (element_size size) (element_sized tag Part size sized) (Err e) r start old end new at tt (ap (take start) kept ∙ before_appended Part start old mid at a) l n
 
-pub value_size : (k : Kind) (v : ValueOf k) → HasSize (Writes k v) (size_of k v)
-value_size k v = spelling_sized Written written_sized k v
-
 pub row_size : (fs : Fields) (v : FieldsOf fs) → HasSize (WritesFields fs v) (fields_size fs v)
-row_size fs v = fields_sized Written written_sized fs v
+row_size fs v = (fields_is fs v).sized
 
 -- ---- one part and then others: mid has the first, end what the call for the others left
-pub encodes-joined : (First Rest : List ℕ → Type 0) (size others : ℕ) → HasSize First size → (written r : Result (Unit {0}) EncodeFault) (start : ℕ) (old mid end new : List ℕ)
-    → start ≡ length old → Appends First old mid → Encodes Rest others written mid end → r ≡ written → new ≡ settled r start end → Encodes (IsJoined First Rest) (size + others) r old new
-encodes-joined First Rest size others sized (Ok u) r start old mid end new at a e same n =
+joined_at : (First Rest : List ℕ → Type 0) (size others : ℕ) → HasSize First size → (written : Result (Unit {0}) EncodeFault) (start : ℕ) (old mid end : List ℕ)
+    → start ≡ length old → Appends First old mid → Encodes Rest others written mid end → Encodes (IsJoined First Rest) (size + others) written old (settled written start end)
+joined_at First Rest size others sized (Ok u) start old mid end at a e =
     let b = e.ok.0 in
-    let left : new ≡ end = n ∙ ap (λ x. settled x start end) same in
-    subst (λ x. Encodes (IsJoined First Rest) (size + others) x old new) (sym same)
-    (record {
-      ok = (
-        record {
-          bytes = a.bytes ++ b.bytes;
-          is = record { front = a.bytes; back = b.bytes; first = a.is; rest = b.is; whole = refl };
-          whole = left ∙ b.whole ∙ ap (λ (l : List ℕ). l ++ b.bytes) a.whole ∙ append_assoc old a.bytes b.bytes;
-        },
-        subst (λ (l : List ℕ). length l ≤ limit) (sym left) e.ok.1,
-      );
-      too_long = λ t. absurd (ok_err u TooLong t);
-      kept = tt;
-    })
-encodes-joined First Rest size others sized (Err f) r start old mid end new at a e same n =
-    subst (λ x. Encodes (IsJoined First Rest) (size + others) x old new) (sym same)
-    (record {
+    let both : Appends (IsJoined First Rest) old end = record {
+      bytes = a.bytes ++ b.bytes;
+      is = record { front = a.bytes; back = b.bytes; first = a.is; rest = b.is; whole = refl };
+      whole = b.whole ∙ ap (λ (l : List ℕ). l ++ b.bytes) a.whole ∙ append_assoc old a.bytes b.bytes;
+    } in
+    record { ok = (both, e.ok.1); too_long = λ t. absurd (ok_err u TooLong t); kept = tt }
+joined_at First Rest size others sized (Err f) start old mid end at a e =
+    record {
       ok = tt;
       too_long = λ t. omega (arith, e.too_long t, ap length a.whole, length-append old a.bytes, sized a.bytes a.is);
-      kept = n ∙ ap (λ x. settled x start end) same ∙ ap (take start) e.kept ∙ before_appended First start old mid at a;
-    })
-
--- nothing before others
-pub encodes-absent : {V : Type 0} (Part : V → List ℕ → Type 0) (Rest : List ℕ → Type 0) (others : ℕ) (r : Result (Unit {0}) EncodeFault) (old new : List ℕ)
-    → Encodes Rest others r old new → Encodes (IsJoined (IfPresent Part None) Rest) (0 + others) r old new
-encodes-absent Part Rest others (Ok u) old new e =
-    let b = e.ok.0 in
-    record {
-      ok = (record { bytes = b.bytes; is = record { front = []; back = b.bytes; first = refl; rest = b.is; whole = refl }; whole = b.whole }, e.ok.1);
-      too_long = λ t. absurd (ok_err u TooLong t);
-      kept = tt;
-    }
-encodes-absent Part Rest others (Err f) old new e =
-    record {
-      ok = tt;
-      too_long = λ t. omega (arith, e.too_long t);
-      kept = e.kept;
+      kept = ap (take start) e.kept ∙ before_appended First start old mid at a;
     }
 
--- a first part that is refused
-pub joined-refused : (First Rest : List ℕ → Type 0) (size others : ℕ) (f : EncodeFault) (old mid : List ℕ)
-    → Encodes First size (Err f) old mid → Encodes (IsJoined First Rest) (size + others) (Err f) old mid
-joined-refused First Rest size others f old mid e =
-    record { ok = tt; too_long = λ t. omega (arith, e.too_long t); kept = e.kept }
-
-pub present_size : (k : Kind) (o : Option (ValueOf k)) → HasSize (IfPresent (Writes k) o) (size_if (size_of k) o)
-present_size k o = present_sized (Writes k) (size_of k) (value_size k) o
+pub encodes-joined : (First Rest : List ℕ → Type 0) (size others : ℕ) → HasSize First size → (written r : Result (Unit {0}) EncodeFault) (start : ℕ) (old mid end new : List ℕ)
+    → start ≡ length old → Appends First old mid → Encodes Rest others written mid end → r ≡ written → new ≡ settled r start end → Encodes (IsJoined First Rest) (size + others) r old new
+encodes-joined First Rest size others sized written r start old mid end new at a e same n =
+    subst (λ x. Encodes (IsJoined First Rest) (size + others) x old new) (sym same)
+    (subst (λ x. Encodes (IsJoined First Rest) (size + others) written old x) (sym (n ∙ ap (λ x. settled x start end) same))
+    (joined_at First Rest size others sized written start old mid end at a e))
 
 -- ---- a whole message, from nothing
 pub encoded_ok : {Z : Type 0} (k : Kind) (v : ValueOf k) (made : Vec ℕ Z) (old new : List ℕ) → old ≡ [] → Appends (Writes k v) old new → length new ≤ limit → made.items ≡ new
@@ -165,7 +126,7 @@ encoded_ok k v made old new none a fits same =
     let written : Writes k v made.items = subst (Writes k v) (sym all) a.is in
     let size = value_size k v made.items written in
     record {
-      ok = record { spelled = written_spells k v made.items written; within = within };
+      ok = record { spelled = (spelled_is k v).written made.items written; within = within };
       written = written;
       size = size;
       fits = omega (arith, size, within);

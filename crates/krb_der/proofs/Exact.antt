@@ -10,30 +10,23 @@ use Rattle.krb_der.specs.Fault.{IsFaulty, start}
 use Rattle.krb_der.specs.Reading.{ReadsList}
 use Rattle.krb_der.specs.Clear.{is_clear, are_clear}
 use Rattle.krb_der.specs.Computed.Gives.{checked}
-use Rattle.krb_der.specs.Computed.Read.{element_at, fields_at, content_of}
-use Rattle.krb_der.proofs.LeafLaws.{elementary_read}
+use Rattle.krb_der.specs.Computed.Read.{element_at, fields_at}
 use Rattle.krb_der.proofs.LengthLaws.{no_value}
-use Rattle.krb_der.proofs.ElementLaws.{fields_read, fields_found}
-use Rattle.krb_der.proofs.FaultLaws.{fields_fault}
-use Rattle.krb_der.proofs.Reading.{element_at-found, element_at-stands}
+use Rattle.krb_der.proofs.ElementLaws.{element_read as read_at, fields_read}
+use Rattle.krb_der.proofs.Outcomes.{FieldsOut, fields_out}
+use Rattle.krb_der.proofs.Reading.{element_at_found}
 
 pub element_read : (k : Kind) → is_clear k ≡ true → (v : ValueOf k) (here after : Place) → (element_at k here ≡ Ok (v, after)) ↔ StandsAt Elementary k v here after
-element_read k clear v here after = (element_at-found k v here after, element_at-stands k v here after clear)
-
-fields_at-spelled : (fs : Fields) (v : FieldsOf fs) (here : Place) → are_clear fs ≡ true → SpellsFields Elementary fs v here.rest → fields_at fs here ≡ Ok v
-unfolding fields_at
-fields_at-spelled fs v here clear s = fields_read Elementary content_of elementary_read fs v here.rest clear s here.at
+element_read k clear v here after = (element_at_found k v here after, read_at k clear v here after)
 
 fields_at-found : (fs : Fields) (v : FieldsOf fs) (here : Place) → fields_at fs here ≡ Ok v → SpellsFields Elementary fs v here.rest
-unfolding fields_at
-fields_at-found fs v here e = fields_found Elementary content_of elementary_read fs here v e
+fields_at-found fs v here e = subst (FieldsOut fs here) e (fields_out fs here)
 
 pub fields_read_exactly : (fs : Fields) → are_clear fs ≡ true → (v : FieldsOf fs) (here : Place) → (fields_at fs here ≡ Ok v) ↔ SpellsFields Elementary fs v here.rest
-fields_read_exactly fs clear v here = (fields_at-found fs v here, fields_at-spelled fs v here clear)
+fields_read_exactly fs clear v here = (fields_at-found fs v here, fields_read fs clear v here)
 
-pub fields_at-fault : (fs : Fields) (here : Place) (f : Fault) → fields_at fs here ≡ Err f → IsFaulty Elementary fs here f
-unfolding fields_at
-fields_at-fault fs here f e = fields_fault Elementary content_of elementary_read fs here fs here f start e
+pub fields_at_fault : (fs : Fields) (here : Place) (f : Fault) → fields_at fs here ≡ Err f → IsFaulty Elementary fs here f
+fields_at_fault fs here f e = subst (FieldsOut fs here) e (fields_out fs here) fs here start
 
 -- a call that checks a list
 pub reads-list : (k : Kind) (r : Result (Unit {0}) Fault) (here : Place) → is_clear k ≡ true → r ≡ checked (fields_at (each k) here) → ReadsList k r here
@@ -44,6 +37,6 @@ reads-list k r here clear e = subst (λ x. ReadsList k x here) (sym e) (by (fiel
     by (Err f) h =
         record {
           found = tt;
-          only = λ ws s. absurd (no_value f ws (sym h ∙ fields_at-spelled (each k) ws here clear s));
-          faulty = fields_at-fault (each k) here f h;
+          only = λ ws s. absurd (no_value f ws (sym h ∙ fields_read (each k) clear ws here s));
+          faulty = fields_at_fault (each k) here f h;
         }

@@ -1,16 +1,15 @@
 -- A whole number is read exactly where one is spelled, and it has one content.
-use Rattle.std.proofs.Common.{◌≡◌, ◌≢◌, inl, inr, ℕ, zero, suc, ◌+◌, ◌-◌, ◌*◌, ◌^◌, ◌<◌, ◌≤◌, ℤ, pos, negsuc, ◌-ℤ◌, true, false, not, ◌&&◌, ◌||◌, cond, ltb, leb, eqb, List, [], ◌∷◌, length, Option, Some, None, refl, sym, ap, subst, ◌∙◌, arith, lit<}
-use Rattle.std.proofs.lemmas.Bool.{le-ltb, lt-leb, le-leb, ltb-false, leb-true, leb-false, ne_eqb, or_parts, cases_lt, cases_eq, cases_Bool, and_cases, eqb-false, not-false, true≢false}
+use Rattle.std.proofs.Common.{◌≡◌, ◌≢◌, inl, inr, ℕ, zero, suc, ◌+◌, ◌-◌, ◌*◌, ◌^◌, ◌<◌, ◌≤◌, pos, negsuc, ◌-ℤ◌, Bool, true, false, not, ◌&&◌, ◌||◌, cond, ltb, leb, eqb, List, [], ◌∷◌, length, Option, Some, None, refl, sym, ap, subst, ◌∙◌, arith, lit<}
+use Rattle.std.specs.Prelude.{IfSome}
+use Rattle.std.proofs.lemmas.Bool.{le-ltb, lt-leb, le-leb, ltb-false, leb-true, leb-false, ne_eqb, or_parts, cases_lt, cases_eq, cond_both, and_cases, eqb-false, not-false, true≢false}
 use Rattle.std.proofs.lemmas.List.{length-map}
 use Rattle.std.proofs.lemmas.Int.{ints}
 use Rattle.std.proofs.Math.Nat.{mul-le-mul_right, pow-le-pow_right}
 use Rattle.krb_der.specs.Whole.{AreBytes, number, IsShortest, IsNatural, turned, IsInteger}
-use Rattle.krb_der.specs.Place.{begins}
-use Rattle.krb_der.specs.Computed.Steps.{◌>>?◌}
+use Rattle.krb_der.specs.Computed.Steps.{◌>>?◌, only_if}
 use Rattle.krb_der.specs.Computed.Whole.{are_bytes, is_redundant, is_negative, contents_of, whole_of}
 use Rattle.krb_der.proofs.Numbers.{AreBytes-true, pow_step}
-use Rattle.krb_der.proofs.WholeSteps.{contents_of-some, whole_of-some}
-use Rattle.krb_der.proofs.LengthLaws.{chosen, digits_injective}
+use Rattle.krb_der.proofs.WholeSteps.{whole_of-some}
 
 -- ---- turned bits
 pub length-turned : (bytes : List ℕ) → length (turned bytes) ≡ length bytes
@@ -37,66 +36,6 @@ turned-turned (b ∷ bytes) h =
     let first : 255 - (255 - b) ≡ b = omega (arith, h.0) in
     let rest = turned-turned bytes h.1 in
     cc
-
--- ---- one content
--- without a leading 0
-strip : List ℕ → List ℕ
-strip [] = []
-strip (zero ∷ xs) = xs
-strip (suc x ∷ xs) = suc x ∷ xs
-
-number-strip : (xs : List ℕ) → number (strip xs) ≡ number xs
-unfolding strip
-number-strip [] = refl
-number-strip (zero ∷ xs) = omega arith
-number-strip (suc x ∷ xs) = refl
-
-AreBytes-strip : (xs : List ℕ) → AreBytes xs → AreBytes (strip xs)
-unfolding strip
-AreBytes-strip [] h = tt
-AreBytes-strip (zero ∷ xs) h = h.1
-AreBytes-strip (suc x ∷ xs) h = h
-
-begins-high : (x : ℕ) (xs : List ℕ) → 128 ≤ x → begins 0 (x ∷ xs) ≡ false
-begins-high x xs h = ne_eqb x 0 (λ e. absurd (omega arith))
-
-begins-strip : (xs : List ℕ) → IsShortest xs → begins 0 (strip xs) ≡ false
-unfolding strip
-begins-strip [] h = refl
-begins-strip (zero ∷ []) h = refl
-begins-strip (zero ∷ y ∷ ys) h = begins-high y ys (h.1 refl)
-begins-strip (suc x ∷ xs) h = ne_eqb (suc x) 0 (λ e. absurd (omega arith))
-
-low : (y : ℕ) (ys : List ℕ) → IsShortest (suc y ∷ ys) → suc y < 128
-low y [] h = h
-low y (z ∷ ys) h = h.0
-
-apart : (x y : ℕ) (xs ys : List ℕ) → 128 ≤ x → suc y < 128 → ◌≡◌ {A = List ℕ} (x ∷ xs) (suc y ∷ ys) → ⊥
-apart x y xs ys h k e = let same : x ≡ suc y = cc in omega arith
-
--- a shortest form is known without its leading 0
-strip_injective : (xs ys : List ℕ) → IsShortest xs → IsShortest ys → strip xs ≡ strip ys → xs ≡ ys
-unfolding strip
-strip_injective [] ys h k e = absurd h
-strip_injective (zero ∷ xs) [] h k e = absurd k
-strip_injective (suc x ∷ xs) [] h k e = absurd k
-strip_injective (zero ∷ xs) (zero ∷ ys) h k e = ap (λ (l : List ℕ). 0 ∷ l) e
-strip_injective (zero ∷ []) (suc y ∷ ys) h k e = absurd cc
-strip_injective (zero ∷ x ∷ xs) (suc y ∷ ys) h k e = absurd (apart x y xs ys (h.1 refl) (low y ys k) e)
-strip_injective (suc x ∷ xs) (zero ∷ []) h k e = absurd cc
-strip_injective (suc x ∷ xs) (zero ∷ y ∷ ys) h k e = absurd (apart y x ys xs (k.1 refl) (low x xs h) (sym e))
-strip_injective (suc x ∷ xs) (suc y ∷ ys) h k e = e
-
-pub natural_unique : (n : ℕ) (a b : List ℕ) → IsNatural n a → IsNatural n b → a ≡ b
-natural_unique n a b h k =
-    strip_injective a b h.shortest k.shortest
-    (digits_injective (strip a) (strip b) (AreBytes-strip a h.bytes) (AreBytes-strip b k.bytes) (begins-strip a h.shortest) (begins-strip b k.shortest)
-    (number-strip a ∙ h.value ∙ sym (number-strip b ∙ k.value)))
-
-pub integer_unique : (z : ℤ) (a b : List ℕ) → IsInteger z a → IsInteger z b → a ≡ b
-integer_unique (pos n) a b h k = natural_unique n a b h k
-integer_unique (negsuc m) a b h k =
-    sym (turned-turned a h.0) ∙ ap turned (natural_unique m (turned a) (turned b) h.1 k.1) ∙ turned-turned b k.0
 
 -- ---- few bytes
 pub natural_least : (x y : ℕ) (ys : List ℕ) → IsShortest (x ∷ y ∷ ys) → 128 * 256 ^ length ys ≤ number (x ∷ y ∷ ys)
@@ -179,15 +118,17 @@ negative_read m content h lt =
     ∙ ap Some (negative_value (number content) (256 ^ length content) m (omega (arith, number-turned content h.0, h.1.value)))
 
 -- ---- what is read is spelled
-pub bind_some : {A B : Type 0} (o : Option A) (f : A → Option B) (y : B) → (o >>? f) ≡ Some y → (x : A) × (o ≡ Some x) × (f x ≡ Some y)
-bind_some (Some x) f y e = (x, refl, e)
-bind_some None f y e = absurd cc
+-- a step that may find nothing, and what follows
+pub bind_found : {A B : Type 0} (P : A → Type 0) (Q : B → Type 0) (o : Option A) (f : A → Option B) → IfSome o P → ((x : A) → P x → IfSome (f x) Q) → IfSome (o >>? f) Q
+bind_found P Q (Some x) f h next = next x h
+bind_found P Q None f h next = tt
+
+pub only_found : {A : Type 0} (P : A → Type 0) (b : Bool) (x : A) → (b ≡ true → P x) → IfSome (only_if b x) P
+only_found P true x h = h refl
+only_found P false x h = tt
 
 pub none_some : {A : Type 0} (x : A) → ◌≡◌ {A = Option A} None (Some x) → ⊥
 none_some x e = cc
-
-pub same_some : {A : Type 0} (x y : A) → ◌≡◌ {A = Option A} (Some x) (Some y) → x ≡ y
-same_some x y e = cc
 
 pub shortest_kept : (content : List ℕ) → is_redundant content ≡ false → is_negative content ≡ false → IsShortest content
 shortest_kept [] r n = true≢false r
@@ -214,23 +155,20 @@ shortest_turned (a ∷ b ∷ bytes) h r n =
       ],
     )
 
-pub whole_of-read : (content : List ℕ) (z : ℤ) → whole_of content ≡ Some z → IsInteger z content
+contents_found : (len : ℕ) → IfSome (contents_of len) (λ all. pos (256 ^ len) ≡ all)
+unfolding contents_of
+contents_found len = only_found _ (leb 1 len && leb len 5) (pos (256 ^ len)) (λ e. refl)
+
+pub whole_found : (content : List ℕ) → IfSome (whole_of content) (λ z. IsInteger z content)
 unfolding whole_of
-whole_of-read content z e =
-    elim (chosen (is_redundant content || not (are_bytes content)) None (contents_of (length content) >>? λ all. Some (cond (is_negative content) (pos (number content) -ℤ all) (pos (number content)))) (Some z) e) [
-      | inl p ↦ absurd (none_some z p.1)
-      | inr p ↦
-          let q = or_parts (is_redundant content) (not (are_bytes content)) p.0 in
-          let r = bind_some (contents_of (length content)) (λ all. Some (cond (is_negative content) (pos (number content) -ℤ all) (pos (number content)))) z p.1 in
-          let all = contents_of-some (length content) r.0 r.1 in
-          let bytes = AreBytes-true content (not-false (are_bytes content) q.1) in
-          let value = same_some (cond (is_negative content) (pos (number content) -ℤ r.0) (pos (number content))) z r.2 in
-          elim (cases_Bool (is_negative content)) [
-            | inl n ↦ subst (λ (w : ℤ). IsInteger w content) (sym (ap (λ b. cond b (pos (number content) -ℤ r.0) (pos (number content))) n) ∙ value)
-                (subst (λ (w : ℤ). IsInteger (pos (number content) -ℤ w) content) all.2
-                (subst (λ (w : ℤ). IsInteger w content) (sym (negative_value (number content) (256 ^ length content) (number (turned content)) (number-turned content bytes)))
-                (bytes, record { bytes = AreBytes-turned content; shortest = shortest_turned content bytes q.0 n; value = refl })))
-            | inr n ↦ subst (λ (w : ℤ). IsInteger w content) (sym (ap (λ b. cond b (pos (number content) -ℤ r.0) (pos (number content))) n) ∙ value)
-                (record { bytes = bytes; shortest = shortest_kept content q.0 n; value = refl })
-          ]
-    ]
+whole_found content =
+    cond_both (is_redundant content || not (are_bytes content)) _ _ (λ o. IfSome o (λ z. IsInteger z content)) (λ e. tt)
+    (λ e.
+    let q = or_parts (is_redundant content) (not (are_bytes content)) e in
+    let bytes = AreBytes-true content (not-false (are_bytes content) q.1) in
+    bind_found _ _ (contents_of (length content)) _ (contents_found (length content)) (λ all is.
+    cond_both (is_negative content) _ _ (λ z. IsInteger z content)
+    (λ n. subst (λ w. IsInteger w content)
+    (sym (negative_value (number content) (256 ^ length content) (number (turned content)) (number-turned content bytes)) ∙ ap (λ w. pos (number content) -ℤ w) is)
+    (bytes, record { bytes = AreBytes-turned content; shortest = shortest_turned content bytes q.0 n; value = refl }))
+    (λ n. record { bytes = bytes; shortest = shortest_kept content q.0 n; value = refl })))

@@ -7,11 +7,10 @@ use Rattle.krb_der.specs.Place.{Place}
 use Rattle.krb_der.specs.Computed.Steps.{◌>>=◌}
 use Rattle.krb_der.specs.Computed.Gives.{checked}
 use Rattle.krb_der.specs.Computed.Listed.{AreListed, values_of, listed}
-use Rattle.krb_der.specs.Computed.Read.{enter_at, element_at, fields_at, element_by, sequence_at}
+use Rattle.krb_der.specs.Computed.Read.{enter_at, element_at, fields_at}
 use Rattle.krb_der.proofs.LengthLaws.{no_value}
-use Rattle.krb_der.proofs.ElementSteps.{bind_at}
-use Rattle.krb_der.proofs.ElementFound.{answer}
-use Rattle.krb_der.proofs.Lists.{list_next, element_at-shrinks}
+use Rattle.krb_der.proofs.ElementSteps.{answer, bind_at}
+use Rattle.krb_der.proofs.Lists.{list_next, element_at_shrinks}
 
 checked-ok : {V : Type 0} (r : Result (List V) Fault) → checked r ≡ Ok tt → r ≡ Ok (values_of r)
 checked-ok (Ok vs) e = refl
@@ -25,50 +24,40 @@ is-ok : {V : Type 0} (r : Result (List V) Fault) → IsOk r → r ≡ Ok (values
 is-ok (Ok vs) e = refl
 is-ok (Err f) e = cc
 
-sequence-ok : {V : Type 0} (read : Place → Result V Fault) (p inside after : Place) (v : V)
-    → enter_at 0x30 p ≡ Ok (inside, after) → read inside ≡ Ok v → sequence_at read p ≡ Ok (v, after)
-sequence-ok read p inside after v e f =
-    bind_at (enter_at 0x30 p) (λ e. read e.0 >>= λ x. Ok (x, e.1)) (inside, after) e ∙ bind_at (read inside) (λ x. Ok (x, after)) v f
-
-sequence-err : {V : Type 0} (read : Place → Result V Fault) (p inside after : Place) (f : Fault)
-    → enter_at 0x30 p ≡ Ok (inside, after) → read inside ≡ Err f → sequence_at read p ≡ Err f
-sequence-err read p inside after f e g =
-    bind_at (enter_at 0x30 p) (λ e. read e.0 >>= λ x. Ok (x, e.1)) (inside, after) e ∙ ap (λ r. r >>= λ x. Ok (x, after)) g
-
-sequence_is : (k : Kind) (p : Place) → element_at (sequence (each k)) p ≡ sequence_at (fields_at (each k)) p
-unfolding element_at fields_at element_by
+sequence_is : (k : Kind) (p : Place) → element_at (sequence (each k)) p ≡ (enter_at 0x30 p >>= λ e. fields_at (each k) e.0 >>= λ vs. Ok (vs, e.1))
+unfolding element_at
 sequence_is k p = refl
 
-pub list-ok : (k : Kind) (p inside after : Place) → enter_at 0x30 p ≡ Ok (inside, after) → checked (fields_at (each k) inside) ≡ Ok tt
+pub list_ok : (k : Kind) (p inside after : Place) → enter_at 0x30 p ≡ Ok (inside, after) → checked (fields_at (each k) inside) ≡ Ok tt
     → (element_at (sequence (each k)) p ≡ Ok (listed k inside, after)) × AreListed k inside
-list-ok k p inside after e c =
+list_ok k p inside after e c =
     let f = checked-ok (fields_at (each k) inside) c in
-    (sequence_is k p ∙ sequence-ok (fields_at (each k)) p inside after (listed k inside) e f, ap is_ok f)
+    (sequence_is k p ∙ bind_at (enter_at 0x30 p) _ (inside, after) e ∙ bind_at (fields_at (each k) inside) (λ vs. Ok (vs, after)) (listed k inside) f, ap is_ok f)
 
-pub list-err : (k : Kind) (p inside after : Place) (f : Fault) → enter_at 0x30 p ≡ Ok (inside, after) → checked (fields_at (each k) inside) ≡ Err f
+pub list_err : (k : Kind) (p inside after : Place) (f : Fault) → enter_at 0x30 p ≡ Ok (inside, after) → checked (fields_at (each k) inside) ≡ Err f
     → element_at (sequence (each k)) p ≡ Err f
-list-err k p inside after f e c =
-    sequence_is k p ∙ sequence-err (fields_at (each k)) p inside after f e (checked-err (fields_at (each k) inside) f c)
+list_err k p inside after f e c =
+    sequence_is k p ∙ bind_at (enter_at 0x30 p) _ (inside, after) e ∙ ap (λ r. r >>= λ vs. Ok (vs, after)) (checked-err (fields_at (each k) inside) f c)
 
-pub listed-end : (k : Kind) (p : Place) → AreListed k p → p.rest ≡ [] → listed k p ≡ []
-listed-end k p h none =
+pub listed_end : (k : Kind) (p : Place) → AreListed k p → p.rest ≡ [] → listed k p ≡ []
+listed_end k p h none =
     elim (list_next k p (listed k p) (is-ok (fields_at (each k) p) h)) [
       | inl e ↦ e.1
-      | inr e ↦ absurd (omega (arith, element_at-shrinks k p e.0 e.1 e.4, ap length none))
+      | inr e ↦ absurd (omega (arith, element_at_shrinks k p e.0 e.1 e.4, ap length none))
     ]
 
-pub listed-next : (k : Kind) (p : Place) (v : ValueOf k) (q : Place) → AreListed k p → element_at k p ≡ Ok (v, q) → (listed k p ≡ v ∷ listed k q) × AreListed k q
-listed-next k p v q h e =
+pub listed_next : (k : Kind) (p : Place) (v : ValueOf k) (q : Place) → AreListed k p → element_at k p ≡ Ok (v, q) → (listed k p ≡ v ∷ listed k q) × AreListed k q
+listed_next k p v q h e =
     elim (list_next k p (listed k p) (is-ok (fields_at (each k) p) h)) [
-      | inl n ↦ absurd (omega (arith, element_at-shrinks k p v q e, ap length n.0))
+      | inl n ↦ absurd (omega (arith, element_at_shrinks k p v q e, ap length n.0))
       | inr n ↦
           let a = answer n.0 v n.1 q (sym n.4 ∙ e) in
           let rest : fields_at (each k) q ≡ Ok n.2 = ap (fields_at (each k)) (sym a.1) ∙ n.5 in
           (n.3 ∙ ap (λ x. x ∷ n.2) a.0 ∙ ap (λ (l : List (ValueOf k)). v ∷ l) (sym (ap values_of rest)), ap is_ok rest)
     ]
 
-pub listed-some : (k : Kind) (p : Place) (f : Fault) → AreListed k p → element_at k p ≡ Err f → p.rest ≡ []
-listed-some k p f h e =
+pub listed_some : (k : Kind) (p : Place) (f : Fault) → AreListed k p → element_at k p ≡ Err f → p.rest ≡ []
+listed_some k p f h e =
     elim (list_next k p (listed k p) (is-ok (fields_at (each k) p) h)) [
       | inl n ↦ n.0
       | inr n ↦ absurd (no_value f (n.0, n.1) (sym e ∙ n.4))

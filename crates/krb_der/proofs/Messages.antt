@@ -1,37 +1,34 @@
 -- Whole messages.
 use Rattle.std.proofs.Common.{◌≡◌, ◌⊎◌, inl, inr, ℕ, ◌<◌, ◌≤◌, true, List, [], ◌++◌, length, take, Result, Ok, Err, refl, sym, ap, subst, ◌∙◌, arith}
-use Rattle.std.specs.Prelude.{◌↔◌, IfOk, IfErr, IsOkAnd}
+use Rattle.std.specs.Prelude.{◌↔◌}
 use Rattle.krb_der.specs.Computed.Gives.{Fills}
 use Rattle.std.proofs.lemmas.Bool.{le-ltb, lt-ltb, cases_lt}
 use Rattle.std.proofs.lemmas.List.{append-nil, take_at}
 use Rattle.krb_der.specs.declared.fault.Fault.{Fault}
 use Rattle.krb_der.specs.declared.fault.FaultKind.TheVariants.{TooLong}
 use Rattle.krb_der.specs.Kind.{Kind, ends, must, ValueOf}
-use Rattle.krb_der.specs.Content.{Elementary, Written, Negated}
+use Rattle.krb_der.specs.Content.{Elementary}
 use Rattle.krb_der.specs.Place.{Place, begin_at}
 use Rattle.krb_der.specs.Spells.{Spells, IsMessage, limit}
 use Rattle.krb_der.specs.Numbers.{SpellsNegative}
 use Rattle.krb_der.specs.Writing.{Writes}
 use Rattle.krb_der.specs.Fault.{IsFault, IsFaulty, too_long, faulty, start, after_element}
 use Rattle.krb_der.specs.Computed.Steps.{◌>>=◌}
+use Rattle.krb_der.specs.Reading.{Parses}
 use Rattle.krb_der.specs.Clear.{is_clear}
-use Rattle.krb_der.specs.Computed.Read.{fault_at, element_at, content_of, finish_at, message_of, message_by}
-use Rattle.krb_der.proofs.LeafLaws.{elementary_read, is_leaf}
+use Rattle.krb_der.specs.Computed.Read.{fault_at, element_at, finish_at, message_of}
 use Rattle.krb_der.proofs.LengthLaws.{no_value, same_error}
-use Rattle.krb_der.proofs.ElementSteps.{bind_ok, bind_err, bind_at, same_ok, finish_at-read, finish_at-fault, finish_at-end}
-use Rattle.krb_der.proofs.ElementFound.{answer}
-use Rattle.krb_der.proofs.ElementLaws.{element_read}
-use Rattle.krb_der.proofs.FaultLaws.{element_fault}
-use Rattle.krb_der.proofs.Reading.{element_at-found}
-use Rattle.krb_der.proofs.Unique.{spelling_unique}
+use Rattle.krb_der.proofs.ElementSteps.{answer, bind_at, same_ok}
+use Rattle.krb_der.proofs.ElementLaws.{element_read, finished}
+use Rattle.krb_der.proofs.Outcomes.{bind_by, ElementOut, FieldsOut, element_out, end_out, alone}
+use Rattle.krb_der.proofs.Spelled.{spelled_is}
 use Rattle.krb_der.proofs.Offsets.{fault_within}
 
 -- what is spelled is read, whatever follows
 reads : (k : Kind) (v : ValueOf k) (front rest : List ℕ) → is_clear k ≡ true → Spells k v front
     → element_at k (begin_at (front ++ rest)) ≡ Ok (v, record { at = length front; rest = rest })
-unfolding element_at
 reads k v front rest clear s =
-    element_read Elementary content_of elementary_read k v front clear s 0 rest ∙ ap (λ a. Ok (v, record { at = a; rest = rest })) (omega arith)
+    element_read k clear v (begin_at (front ++ rest)) (record { at = length front; rest = rest }) (record { front = front; spelled = s; whole = refl; at_is = omega arith })
 
 pub no_prefix : (k : Kind) → is_clear k ≡ true → (v w : ValueOf k) (a b x y : List ℕ) → Spells k v a → Spells k w b → a ++ x ≡ b ++ y → (a ≡ b) × (v ≡ w)
 no_prefix k clear v w a b x y s t e =
@@ -44,60 +41,50 @@ pub one_value : (k : Kind) → is_clear k ≡ true → (v w : ValueOf k) (bytes 
 one_value k clear v w bytes s t = (no_prefix k clear v w bytes bytes [] [] s t refl).1
 
 pub one_written : (k : Kind) (v : ValueOf k) (a b : List ℕ) → Writes k v a → Writes k v b → a ≡ b
-one_written k v a b s t = spelling_unique Written (λ c. (is_leaf c).one) k v a b s t
+one_written k v a b s t = (spelled_is k v).one a b s t
 
 pub one_negative : (k : Kind) (v : ValueOf k) (a b : List ℕ) → SpellsNegative k v a → SpellsNegative k v b → a ≡ b
-one_negative k v a b s t = spelling_unique Negated (λ c. (is_leaf c).one_negative) k v a b s.0 t.0
+one_negative k v a b s t = (spelled_is k v).one_negative a b s.0 t.0
 
 -- ---- reading a whole message
 message-short : (k : Kind) (bytes : List ℕ) → length bytes ≤ limit → message_of k bytes ≡ (element_at k (begin_at bytes) >>= λ x. finish_at x.1 >>= λ _. Ok x.0)
-unfolding message_of message_by element_at
+unfolding message_of
 message-short k bytes le = rw (le-ltb limit (length bytes) le) refl
 
 message-long : (k : Kind) (bytes : List ℕ) → limit < length bytes → message_of k bytes ≡ fault_at TooLong 0
-unfolding message_of message_by
+unfolding message_of
 message-long k bytes lt = rw (lt-ltb limit (length bytes) lt) refl
 
 pub message_only : (k : Kind) (v : ValueOf k) (bytes : List ℕ) → is_clear k ≡ true → IsMessage k v bytes → message_of k bytes ≡ Ok v
 message_only k v bytes clear m =
     message-short k bytes m.within
     ∙ bind_at (element_at k (begin_at bytes)) _ _ (ap (λ (l : List ℕ). element_at k (begin_at l)) (sym (append-nil bytes)) ∙ reads k v bytes [] clear m.spelled)
-    ∙ bind_at (finish_at (record { at = length bytes; rest = [] })) (λ _. Ok v) _ (finish_at-end (length bytes))
+    ∙ bind_at (finish_at (record { at = length bytes; rest = [] })) (λ _. Ok v) _ (finished (record { at = length bytes; rest = [] }) refl)
+
+abbrev MessageOut : (k : Kind) → List ℕ → Result (ValueOf k) Fault → Type 0
+MessageOut k bytes (Ok v) = Spells k v bytes
+MessageOut k bytes (Err f) = IsFaulty Elementary (must k ends) (begin_at bytes) f
+
+message_out : (k : Kind) (bytes : List ℕ) → MessageOut k bytes (element_at k (begin_at bytes) >>= λ x. finish_at x.1 >>= λ _. Ok x.0)
+message_out k bytes =
+    bind_by (ElementOut k (begin_at bytes)) (MessageOut k bytes) (element_at k (begin_at bytes)) _ (element_out k (begin_at bytes))
+    (λ x s. bind_by (FieldsOut ends x.1) (MessageOut k bytes) (finish_at x.1) _ (end_out x.1)
+    (λ u end. alone k x.0 (begin_at bytes) x.1 s end)
+    (λ f faults. faults (must k ends) (begin_at bytes) (after_element x.0 start s)))
+    (λ f faults. faults ends (must k ends) (begin_at bytes) start)
 
 pub message_found : (k : Kind) (v : ValueOf k) (bytes : List ℕ) → message_of k bytes ≡ Ok v → IsMessage k v bytes
 message_found k v bytes e =
     elim (cases_lt limit (length bytes)) [
       | inl long ↦ absurd (no_value _ v (sym (message-long k bytes long) ∙ e))
-      | inr fits ↦
-          let b = bind_ok (element_at k (begin_at bytes)) (λ x. finish_at x.1 >>= λ _. Ok x.0) v (sym (message-short k bytes fits) ∙ e) in
-          let c = bind_ok (finish_at b.0.1) (λ _. Ok b.0.0) v b.2 in
-          let s = element_at-found k b.0.0 (begin_at bytes) b.0.1 b.1 in
-          let all : bytes ≡ s.front = s.whole ∙ ap (λ (l : List ℕ). s.front ++ l) (finish_at-read b.0.1 c.0 c.1) ∙ append-nil s.front in
-          record { spelled = subst (λ u. Spells k u bytes) (same_ok {E = Fault} b.0.0 v c.2) (subst (Spells k b.0.0) (sym all) s.spelled); within = fits }
-    ]
-
-message_broken : (k : Kind) (bytes : List ℕ) (f : Fault) → (element_at k (begin_at bytes) >>= λ x. finish_at x.1 >>= λ _. Ok x.0) ≡ Err f
-    → IsFaulty Elementary (must k ends) (begin_at bytes) f
-unfolding element_at
-message_broken k bytes f e =
-    elim (bind_err (element_at k (begin_at bytes)) (λ x. finish_at x.1 >>= λ _. Ok x.0) f e) [
-      | inl h ↦ element_fault Elementary content_of elementary_read (must k ends) (begin_at bytes) k ends (begin_at bytes) f start h
-      | inr h ↦ elim (bind_err (finish_at h.0.1) (λ _. Ok h.0.0) f h.2) [
-        | inl g ↦ record {
-          expected = ends;
-          here = h.0.1;
-          reached = after_element h.0.0 start (element_at-found k h.0.0 (begin_at bytes) h.0.1 h.1);
-          broken = finish_at-fault Elementary h.0.1 f g;
-        }
-        | inr g ↦ absurd (no_value f _ (sym g.2))
-      ]
+      | inr fits ↦ record { spelled = subst (MessageOut k bytes) (sym (message-short k bytes fits) ∙ e) (message_out k bytes); within = fits }
     ]
 
 pub message_fault : (k : Kind) (bytes : List ℕ) (f : Fault) → message_of k bytes ≡ Err f → IsFault k bytes f
 message_fault k bytes f e =
     elim (cases_lt limit (length bytes)) [
       | inl long ↦ too_long long (sym (same_error {A = ValueOf k} _ f (sym (message-long k bytes long) ∙ e)))
-      | inr fits ↦ faulty fits (message_broken k bytes f (sym (message-short k bytes fits) ∙ e))
+      | inr fits ↦ faulty fits (subst (MessageOut k bytes) (sym (message-short k bytes fits) ∙ e) (message_out k bytes))
     ]
 
 -- ---- decided
@@ -115,23 +102,22 @@ has_fault k clear bytes none = by (message_of k bytes) refl
     by (Ok v) e = absurd (none v (message_found k v bytes e))
     by (Err f) e = (f, message_fault k bytes f e)
 
--- ---- a call that gives what reading a message gives
-pub fills-found : {X : Type 0} (k : Kind) (view : X → ValueOf k) (r : Result X Fault) (bytes : List ℕ) → Fills view r (message_of k bytes) → IfOk r (λ x. IsMessage k (view x) bytes)
-fills-found k view (Ok x) bytes e = message_found k (view x) bytes e
-fills-found k view (Err f) bytes e = tt
-
-pub fills-only : {X : Type 0} (k : Kind) (view : X → ValueOf k) (r : Result X Fault) (bytes : List ℕ) → is_clear k ≡ true → Fills view r (message_of k bytes)
-    → (v : ValueOf k) → IsMessage k v bytes → IsOkAnd r (λ x. view x ≡ v)
-fills-only k view (Ok x) bytes clear e v m = same_ok {E = Fault} (view x) v (sym e ∙ message_only k v bytes clear m)
-fills-only k view (Err f) bytes clear e v m = absurd (no_value f v (sym e ∙ message_only k v bytes clear m))
-
-pub fills-faulty : {X : Type 0} (k : Kind) (view : X → ValueOf k) (r : Result X Fault) (bytes : List ℕ) → Fills view r (message_of k bytes) → IfErr r (IsFault k bytes)
-fills-faulty k view (Ok x) bytes e = tt
-fills-faulty k view (Err f) bytes e = message_fault k bytes f e
-
 pub message_read : (k : Kind) → is_clear k ≡ true → (v : ValueOf k) (bytes : List ℕ) → (message_of k bytes ≡ Ok v) ↔ IsMessage k v bytes
 message_read k clear v bytes = (message_found k v bytes, message_only k v bytes clear)
 
-pub fills-offset : {X : Type 0} (k : Kind) (view : X → ValueOf k) (r : Result X Fault) (bytes : List ℕ) → Fills view r (message_of k bytes) → IfErr r (λ f. f.at ≤ length bytes)
-fills-offset k view (Ok x) bytes e = tt
-fills-offset k view (Err f) bytes e = fault_within k bytes f (message_fault k bytes f e)
+-- ---- a call that gives what reading a message gives
+pub parses : {X : Type 0} (k : Kind) (view : X → ValueOf k) (r : Result X Fault) (bytes : List ℕ) → is_clear k ≡ true → Fills view r (message_of k bytes) → Parses k view r bytes
+parses k view (Ok x) bytes clear e =
+    record {
+      found = message_found k (view x) bytes e;
+      only = λ v m. same_ok {E = Fault} (view x) v (sym e ∙ message_only k v bytes clear m);
+      faulty = tt;
+      offset = tt;
+    }
+parses k view (Err f) bytes clear e =
+    record {
+      found = tt;
+      only = λ v m. absurd (no_value f v (sym e ∙ message_only k v bytes clear m));
+      faulty = message_fault k bytes f e;
+      offset = fault_within k bytes f (message_fault k bytes f e);
+    }

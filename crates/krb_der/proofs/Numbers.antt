@@ -1,9 +1,7 @@
 -- Bytes, and the numbers that they are.
-use Rattle.std.proofs.Common.{◌≡◌, ℕ, zero, suc, ◌+◌, ◌*◌, ◌^◌, ◌<◌, ◌≤◌, true, List, [], ◌∷◌, ◌++◌, length, get_or, take, refl, ap, ◌∙◌, arith, lit<, length-append, length-take}
+use Rattle.std.proofs.Common.{◌≡◌, ℕ, zero, suc, ◌*◌, ◌^◌, ◌<◌, ◌≤◌, true, List, [], ◌∷◌, length, get_or, take, refl, arith, lit<, length-take}
 use Rattle.std.proofs.lemmas.Bool.{and_from, and_parts, lt-ltb, ltb-true}
-use Rattle.std.proofs.lemmas.List.{take_more}
 use Rattle.std.proofs.Math.Nat.{pow-succ', mul-le-mul_right, pow-le-pow_right}
-use Rattle.std.proofs.lemmas.Nat.{pow-add}
 use Rattle.krb_der.specs.Whole.{AreBytes, number}
 use Rattle.krb_der.specs.Computed.Whole.{are_bytes}
 
@@ -18,10 +16,6 @@ are_bytes-true (b ∷ bytes) h = and_from _ _ (lt-ltb b 256 h.0) (are_bytes-true
 pub AreBytes-true : (bytes : List ℕ) → are_bytes bytes ≡ true → AreBytes bytes
 AreBytes-true [] e = tt
 AreBytes-true (b ∷ bytes) e = let p = and_parts _ _ e in (ltb-true b 256 p.0, AreBytes-true bytes p.1)
-
-pub AreBytes-append : (xs ys : List ℕ) → AreBytes xs → AreBytes ys → AreBytes (xs ++ ys)
-AreBytes-append [] ys h k = k
-AreBytes-append (x ∷ xs) ys h k = (h.0, AreBytes-append xs ys h.1 k)
 
 pub AreBytes-take : (n : ℕ) (xs : List ℕ) → AreBytes xs → AreBytes (take n xs)
 AreBytes-take zero xs h = tt
@@ -38,17 +32,6 @@ number_below (b ∷ bytes) h =
     let small : b ≤ 255 = omega (arith, h.0) in
     let first : b * 256 ^ length bytes ≤ 255 * 256 ^ length bytes = mul-le-mul_right (256 ^ length bytes) small in
     omega (arith, pow_step (length bytes))
-
-pub number-append : (xs ys : List ℕ) → number (xs ++ ys) ≡ number xs * 256 ^ length ys + number ys
-number-append [] ys = omega arith
-number-append (x ∷ xs) ys =
-    let ih = number-append xs ys in
-    let e : 256 ^ length (xs ++ ys) ≡ 256 ^ length xs * 256 ^ length ys = rw length-append (pow-add 256 (length xs) (length ys)) in
-    rw e (omega (arith, ih))
-
-pub number_more : (bytes : List ℕ) (i : ℕ) → i < length bytes → number (take (i + 1) bytes) ≡ number (take i bytes) * 256 + get_or bytes i 0
-number_more bytes i h =
-    ap number (take_more bytes i 0 h) ∙ number-append (take i bytes) (get_or bytes i 0 ∷ []) ∙ omega arith
 
 -- at most k bytes
 pub number_within : (bytes : List ℕ) (k : ℕ) → AreBytes bytes → length bytes ≤ k → number bytes < 256 ^ k

@@ -1,8 +1,6 @@
 -- A call that gives what reading gives reads an element.
-use Rattle.std.proofs.Common.{◌≡◌, inl, inr, Option, Some, None, subst, true, false, List, ℕ, Result, Ok, Err, refl, sym, ap, ◌∙◌, arith, length-append}
-use Rattle.std.specs.Prelude.{IsSomeAnd}
-use Rattle.std.proofs.lemmas.Bool.{cases_Bool, eq-eqb}
-use Rattle.krb_der.specs.Computed.Steps.{◌>>=◌}
+use Rattle.std.proofs.Common.{◌≡◌, Option, Some, None, subst, true, false, ℕ, Result, Ok, Err, refl, sym, ap, ◌∙◌}
+use Rattle.std.proofs.lemmas.Bool.{cond_both, eq-eqb, true≢false}
 use Rattle.krb_der.specs.declared.fault.Fault.{Fault}
 use Rattle.krb_der.specs.Kind.{Kind, wrapped, ValueOf, must}
 use Rattle.krb_der.specs.Content.{Elementary}
@@ -12,62 +10,39 @@ use Rattle.krb_der.specs.Fault.{HasHead, IsElementFault, IsHeadFault, start}
 use Rattle.krb_der.specs.Reading.{Reads, Enters, MayEnter}
 use Rattle.krb_der.specs.Clear.{is_clear}
 use Rattle.krb_der.specs.Computed.Gives.{Gives}
-use Rattle.krb_der.specs.Computed.Read.{element_at, enter_at, may_enter, content_of}
-use Rattle.krb_der.proofs.LeafLaws.{elementary_read}
+use Rattle.krb_der.specs.Computed.Read.{element_at, enter_at, may_enter}
 use Rattle.krb_der.proofs.LengthLaws.{no_value}
-use Rattle.krb_der.proofs.ElementSteps.{bind_ok, bind_err, enter_at-spelled, enter_at-read, enter_at-fault}
-use Rattle.krb_der.proofs.ElementFound.{answer}
-use Rattle.krb_der.proofs.ElementLaws.{element_read, element_found}
-use Rattle.krb_der.proofs.FaultLaws.{element_fault}
+use Rattle.krb_der.proofs.ElementSteps.{answer, enter_at-head, enter_at_read, HeadOut, head_out}
+use Rattle.krb_der.proofs.ElementLaws.{element_read}
+use Rattle.krb_der.proofs.Outcomes.{bind_by, ElementOut, element_out}
 
-pub element_at-stands : (k : Kind) (v : ValueOf k) (p after : Place) → is_clear k ≡ true → StandsAt Elementary k v p after → element_at k p ≡ Ok (v, after)
-unfolding element_at
-element_at-stands k v p after clear s =
-    ap (λ (l : List _). element_at k (record { at = p.at; rest = l })) s.whole
-    ∙ element_read Elementary content_of elementary_read k v s.front clear s.spelled p.at after.rest
-    ∙ ap (λ a. Ok (v, record { at = a; rest = after.rest })) (sym s.at_is)
+pub element_at_found : (k : Kind) (v : ValueOf k) (p after : Place) → element_at k p ≡ Ok (v, after) → StandsAt Elementary k v p after
+element_at_found k v p after e = subst (ElementOut k p) e (element_out k p)
 
-pub element_at-found : (k : Kind) (v : ValueOf k) (p after : Place) → element_at k p ≡ Ok (v, after) → StandsAt Elementary k v p after
-unfolding element_at
-element_at-found k v p after e =
-    let t = element_found Elementary content_of elementary_read k p v after e in
-    record { front = t.front; spelled = t.is; whole = t.whole; at_is = t.at_is }
-
-pub element_at-fault : (k : Kind) (p : Place) (f : Fault) → element_at k p ≡ Err f → IsElementFault Elementary k p f
-unfolding element_at
-element_at-fault k p f e = λ fs. element_fault Elementary content_of elementary_read (must k fs) p k fs p f start e
+pub element_at_fault : (k : Kind) (p : Place) (f : Fault) → element_at k p ≡ Err f → IsElementFault Elementary k p f
+element_at_fault k p f e = λ fs. subst (ElementOut k p) e (element_out k p) fs (must k fs) p start
 
 pub reads : {X : Type 0} (k : Kind) (view : X → ValueOf k) (r : Result X Fault) (old new : Place) → is_clear k ≡ true
     → Gives view r old new (element_at k old) → Reads k view r old new
 reads k view (Ok x) old new clear e =
     record {
-      found = element_at-found k (view x) old new e;
-      only = λ v after s. answer (view x) v new after (sym e ∙ element_at-stands k v old after clear s);
+      found = element_at_found k (view x) old new e;
+      only = λ v after s. answer (view x) v new after (sym e ∙ element_read k clear v old after s);
       faulty = tt;
       kept = tt;
     }
 reads k view (Err f) old new clear e =
     record {
       found = tt;
-      only = λ v after s. absurd (no_value f (v, after) (sym e.0 ∙ element_at-stands k v old after clear s));
-      faulty = element_at-fault k old f e.0;
+      only = λ v after s. absurd (no_value f (v, after) (sym e.0 ∙ element_read k clear v old after s));
+      faulty = element_at_fault k old f e.0;
       kept = e.1;
     }
-
-pub enter_at-head : (tag : ℕ) (p inside after : Place) → HasHead tag p inside after → enter_at tag p ≡ Ok (inside, after)
-enter_at-head tag p inside after h =
-    ap (λ (l : List ℕ). enter_at tag (record { at = p.at; rest = l })) h.whole
-    ∙ enter_at-spelled tag p.at h.size inside.rest after.rest h.length_is
-    ∙ moved (sym h.inside_at) (omega (arith, h.after_at, h.inside_at, length-append h.size inside.rest))
-  where
-    moved : {a b c d : ℕ} → a ≡ b → c ≡ d
-        → ◌≡◌ {A = Result (Place × Place) Fault} (Ok (record { at = a; rest = inside.rest }, record { at = c; rest = after.rest })) (Ok (record { at = b; rest = inside.rest }, record { at = d; rest = after.rest }))
-    moved e f = λ i. Ok (record { at = e i; rest = inside.rest }, record { at = f i; rest = after.rest })
 
 pub enters : (tag : ℕ) (r : Result Place Fault) (old new : Place) → Gives (λ (p : Place). p) r old new (enter_at tag old) → Enters tag r old new
 enters tag (Ok x) old new e =
     record {
-      found = enter_at-read tag old x new e;
+      found = enter_at_read tag old x new e;
       only = λ inside after h. answer x inside new after (sym e ∙ enter_at-head tag old inside after h);
       faulty = tt;
       kept = tt;
@@ -76,62 +51,56 @@ enters tag (Err f) old new e =
     record {
       found = tt;
       only = λ inside after h. absurd (no_value f (inside, after) (sym e.0 ∙ enter_at-head tag old inside after h));
-      faulty = λ k fs. enter_at-fault Elementary (wrapped tag k) fs old f e.0;
+      faulty = λ k fs. subst (HeadOut tag old) e.0 (head_out tag old) (wrapped tag k) fs refl;
       kept = e.1;
     }
 
 -- ---- an element that may stand next
-may_enter-there : (tag : ℕ) (p : Place) → begins tag p.rest ≡ true → may_enter tag p ≡ (enter_at tag p >>= λ e. Ok (Some e.0, e.1))
-unfolding may_enter
-may_enter-there tag p b = rw b refl
-
-may_enter-absent : (tag : ℕ) (p : Place) → begins tag p.rest ≡ false → may_enter tag p ≡ Ok (None, p)
-unfolding may_enter
-may_enter-absent tag p b = rw b refl
-
 head_begins : (tag : ℕ) (p inside after : Place) → HasHead tag p inside after → begins tag p.rest ≡ true
 head_begins tag p inside after h = ap (begins tag) h.whole ∙ eq-eqb tag tag refl
 
 may_enter-head : (tag : ℕ) (p inside after : Place) → HasHead tag p inside after → may_enter tag p ≡ Ok (Some inside, after)
-may_enter-head tag p inside after h =
-    may_enter-there tag p (head_begins tag p inside after h) ∙ ap (λ r. r >>= λ e. Ok (Some e.0, e.1)) (enter_at-head tag p inside after h)
+unfolding may_enter
+may_enter-head tag p inside after h = rw (head_begins tag p inside after h, enter_at-head tag p inside after h) refl
 
-none_found : (tag : ℕ) (o : Option Place) (old new : Place) → begins tag old.rest ≡ false → may_enter tag old ≡ Ok (o, new)
-    → (◌≡◌ {A = Result (Option Place) Fault} (Ok o) (Ok None)) × (new ≡ old)
-none_found tag o old new b e =
-    let a = answer o None new old (sym e ∙ may_enter-absent tag old b) in
-    (ap Ok a.0, a.1)
+-- it is there with its head, or the next byte is another
+abbrev MayOut : ℕ → Place → Result (Option Place × Place) Fault → Type 0
+MayOut tag p (Ok (None, q)) = (begins tag p.rest ≡ false) × (q ≡ p)
+MayOut tag p (Ok (Some inside, q)) = HasHead tag p inside q
+MayOut tag p (Err f) = (begins tag p.rest ≡ true) × IsHeadFault Elementary tag p f
 
-some_found : (tag : ℕ) (o : Option Place) (old new : Place) → begins tag old.rest ≡ true → may_enter tag old ≡ Ok (o, new)
-    → IsSomeAnd o (λ inside. HasHead tag old inside new)
-some_found tag o old new b e =
-    let h = bind_ok (enter_at tag old) (λ x. Ok (Some x.0, x.1)) (o, new) (sym (may_enter-there tag old b) ∙ e) in
-    let a = answer (Some h.0.0) o h.0.1 new h.2 in
-    subst (λ x. IsSomeAnd x (λ inside. HasHead tag old inside new)) a.0 (subst (HasHead tag old h.0.0) a.1 (enter_at-read tag old h.0.0 h.0.1 h.1))
+may_out : (tag : ℕ) (p : Place) → MayOut tag p (may_enter tag p)
+unfolding may_enter
+may_out tag p =
+    cond_both (begins tag p.rest) _ _ (MayOut tag p)
+    (λ there. bind_by (HeadOut tag p) (MayOut tag p) (enter_at tag p) _ (head_out tag p) (λ e h. h) (λ f faults. (there, λ k fs. faults (wrapped tag k) fs refl)))
+    (λ absent. (absent, refl))
 
 pub may_enters : (tag : ℕ) (r : Result (Option Place) Fault) (old new : Place) → Gives (λ (o : Option Place). o) r old new (may_enter tag old) → MayEnter tag r old new
-may_enters tag (Ok o) old new e =
+may_enters tag (Ok None) old new e =
+    let h = subst (MayOut tag old) e (may_out tag old) in
     record {
-      absent = λ b. none_found tag o old new b e;
-      found = λ b. some_found tag o old new b e;
-      only = λ inside after h. answer o (Some inside) new after (sym e ∙ may_enter-head tag old inside after h);
+      absent = λ b. (refl, h.1);
+      found = λ b. absurd (true≢false (sym b ∙ h.0));
+      only = λ inside after k. absurd (true≢false (sym (head_begins tag old inside after k) ∙ h.0));
+      faulty = tt;
+      kept = tt;
+    }
+may_enters tag (Ok (Some x)) old new e =
+    let h : HasHead tag old x new = subst (MayOut tag old) e (may_out tag old) in
+    record {
+      absent = λ b. absurd (true≢false (sym (head_begins tag old x new h) ∙ b));
+      found = λ b. h;
+      only = λ inside after k. answer (Some x) (Some inside) new after (sym e ∙ may_enter-head tag old inside after k);
       faulty = tt;
       kept = tt;
     }
 may_enters tag (Err f) old new e =
+    let h = subst (MayOut tag old) e.0 (may_out tag old) in
     record {
-      absent = λ b. absurd (no_value f (None, old) (sym e.0 ∙ may_enter-absent tag old b));
+      absent = λ b. absurd (true≢false (sym h.0 ∙ b));
       found = λ b. tt;
-      only = λ inside after h. absurd (no_value f (Some inside, after) (sym e.0 ∙ may_enter-head tag old inside after h));
-      faulty = faults;
+      only = λ inside after k. absurd (no_value f (Some inside, after) (sym e.0 ∙ may_enter-head tag old inside after k));
+      faulty = h.1;
       kept = e.1;
     }
-  where
-    faults : IsHeadFault Elementary tag old f
-    faults = elim (cases_Bool (begins tag old.rest)) [
-      | inl b ↦ elim (bind_err (enter_at tag old) (λ x. Ok (Some x.0, x.1)) f (sym (may_enter-there tag old b) ∙ e.0)) [
-        | inl h ↦ λ k fs. enter_at-fault Elementary (wrapped tag k) fs old f h
-        | inr h ↦ absurd (no_value f _ (sym h.2))
-      ]
-      | inr b ↦ absurd (no_value f (None, old) (sym e.0 ∙ may_enter-absent tag old b))
-    ]

@@ -1,7 +1,7 @@
 -- What is written of a whole number is its content.
-use Rattle.std.proofs.Common.{◌≡◌, ◌⊎◌, inl, inr, ℕ, suc, ◌-◌, ◌*◌, ◌/◌, ◌%◌, ◌^◌, ◌<◌, ◌≤◌, ℤ, pos, negsuc, true, false, ◌&&◌, cond, ltb, leb, eqb, List, [], ◌∷◌, length, get_or, drop, w32, refl, sym, ap, subst, ◌∙◌, arith, w64, of_z}
+use Rattle.std.proofs.Common.{◌≡◌, ◌⊎◌, inl, inr, ℕ, suc, ◌-◌, ◌*◌, ◌/◌, ◌%◌, ◌^◌, ◌<◌, ◌≤◌, ℤ, pos, negsuc, true, false, ◌&&◌, cond, ltb, leb, eqb, List, [], ◌∷◌, length, get_or, w32, refl, sym, ap, subst, ◌∙◌, arith, w64, of_z}
 use Rattle.std.specs.Int.{to_be_bytes, from_be_bytes}
-use Rattle.std.proofs.lemmas.Bool.{ltb-true, leb-true, eqb-true, and_parts, or_cases, cases_Bool, cond_both, true≢false, le-leb, lt-leb}
+use Rattle.std.proofs.lemmas.Bool.{ltb-true, leb-true, eqb-true, and_parts, or_cases, cases_Bool, true≢false, le-leb, lt-leb}
 use Rattle.std.proofs.lemmas.Int.{ints}
 use Rattle.std.proofs.lemmas.Nat.{from_be_bytes-to_be_bytes_4, from_be_bytes-to_be_bytes_8}
 use mir.Val.{SFits}
@@ -80,34 +80,14 @@ signed_be (negsuc m) fits =
 pub integer_be : (z : ℤ) → SFits w64 z → IsInteger z (shortest_of (to_be_bytes w64 (of_z w64 z)))
 integer_be z fits = shortest_integer z (to_be_bytes w64 (of_z w64 z)) (omega arith) (AreBytes-be (of_z w64 z)) (signed_be z fits)
 
--- ---- one byte less at a time
-pub shortest_of-step : (bytes : List ℕ) → 1 < length bytes → is_redundant bytes ≡ true → shortest_of (drop 1 bytes) ≡ shortest_of bytes
+pub shortest_of_one : (bytes : List ℕ) → length bytes ≤ 1 → shortest_of bytes ≡ bytes
 unfolding shortest_of
-shortest_of-step [] some red = absurd (omega arith)
-shortest_of-step (a ∷ []) some red = absurd (omega arith)
-shortest_of-step (a ∷ b ∷ bytes) some red = sym (ap (λ c. cond c (shortest_of (b ∷ bytes)) (a ∷ b ∷ bytes)) red)
-
-pub shortest_of-one : (bytes : List ℕ) → length bytes ≤ 1 → shortest_of bytes ≡ bytes
-unfolding shortest_of
-shortest_of-one [] few = refl
-shortest_of-one (a ∷ []) few = refl
-shortest_of-one (a ∷ b ∷ bytes) few = absurd (omega arith)
-
-pub shortest_of-kept : (bytes : List ℕ) → is_redundant bytes ≡ false → shortest_of bytes ≡ bytes
-unfolding shortest_of
-shortest_of-kept [] kept = refl
-shortest_of-kept (a ∷ []) kept = refl
-shortest_of-kept (a ∷ b ∷ bytes) kept = ap (λ c. cond c (shortest_of (b ∷ bytes)) (a ∷ b ∷ bytes)) kept
-
-pub length-shortest : (bytes : List ℕ) → length (shortest_of bytes) ≤ length bytes
-unfolding shortest_of
-length-shortest [] = omega arith
-length-shortest (a ∷ []) = omega arith
-length-shortest (a ∷ b ∷ bytes) =
-    cond_both (is_redundant (a ∷ b ∷ bytes)) (shortest_of (b ∷ bytes)) (a ∷ b ∷ bytes) (λ l. length l ≤ length (a ∷ b ∷ bytes)) (λ e. omega (arith, length-shortest (b ∷ bytes))) (λ e. omega arith)
+shortest_of_one [] few = refl
+shortest_of_one (a ∷ []) few = refl
+shortest_of_one (a ∷ b ∷ bytes) few = absurd (omega arith)
 
 -- ---- flags
-number4 : (a b c d : ℕ) → number (a ∷ b ∷ c ∷ d ∷ []) ≡ from_be_bytes w32 (a ∷ b ∷ c ∷ d ∷ [])
+pub number4 : (a b c d : ℕ) → number (a ∷ b ∷ c ∷ d ∷ []) ≡ from_be_bytes w32 (a ∷ b ∷ c ∷ d ∷ [])
 number4 a b c d = omega arith
 
 pub flags_be : (n : ℕ) → n < 2 ^ 32 → (cells : List ℕ) → cells ≡ to_be_bytes w32 n → AreFlags n (0 ∷ get_or cells 0 0 ∷ get_or cells 1 0 ∷ get_or cells 2 0 ∷ get_or cells 3 0 ∷ [])

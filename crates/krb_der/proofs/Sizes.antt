@@ -1,18 +1,16 @@
--- How long spellings are, for all kinds at once.
-use Rattle.std.proofs.Common.{◌≡◌, ℕ, zero, suc, ◌+◌, ◌*◌, ◌^◌, ◌<◌, ◌≤◌, ℤ, pos, negsuc, List, [], ◌∷◌, length, Option, Some, None, refl, sym, ap, ◌∙◌, arith, length-append}
+-- How long spellings are, and that there is one.
+use Rattle.std.proofs.Common.{◌≡◌, ℕ, zero, suc, ◌+◌, ◌*◌, ◌^◌, ◌<◌, ◌≤◌, ℤ, pos, negsuc, List, [], ◌∷◌, length, refl, sym, ap, ◌∙◌, arith, length-append}
 use Rattle.std.specs.Prelude.{FitsSigned}
 use Rattle.std.specs.Int.{w32}
 use Rattle.std.proofs.lemmas.Bool.{le-ltb, lt-ltb}
 use Rattle.std.proofs.lemmas.Int.{ints}
 use Rattle.std.proofs.Math.Nat.{mul-le-mul_right}
-use Rattle.krb_der.specs.Kind.{Kind, leaf, wrapped, sequence, Fields, ends, must, may, each, tag_of, ValueOf, FieldsOf}
-use Rattle.krb_der.specs.Content.{Content, ContentValue, leaf_of}
-use Rattle.krb_der.specs.Whole.{AreBytes, number, IsShortest, IsNatural, IsInteger, natural_size, integer_size}
-use Rattle.krb_der.specs.Spells.{IsLength, short, long, IsElement, IsJoined, IfPresent, ForEach, Contents, SpellsContent, SpellsFields, SpellsBy}
-use Rattle.krb_der.specs.Size.{length_size, element_size, size_if, sizes_of, content_size, fields_size, size_of}
+use Rattle.krb_der.specs.Whole.{AreBytes, number, IsShortest, IsNatural, turned, IsInteger, natural_size, integer_size}
+use Rattle.krb_der.specs.Spells.{IsLength, short, long, IsElement, IsJoined}
+use Rattle.krb_der.specs.Size.{length_size, element_size}
 use Rattle.krb_der.proofs.Numbers.{number_below}
-use Rattle.krb_der.proofs.LengthLaws.{number_least}
-use Rattle.krb_der.proofs.IntegerLaws.{length-turned, natural_least, natural_few}
+use Rattle.krb_der.proofs.LengthLaws.{number_injective, number_least}
+use Rattle.krb_der.proofs.IntegerLaws.{length-turned, turned-turned, natural_least, natural_few}
 
 -- ---- lengths
 many_digits : (k n : ℕ) → k < 4 → 128 ≤ n → 256 ^ k ≤ n → n < 256 ^ suc k → length_size n ≡ 2 + k
@@ -31,6 +29,16 @@ length_sized n size (long (d ∷ ds) w four are first big value) =
     let few : length ds < 4 = omega (arith, four) in
     let many = many_digits (length ds) n few big (omega (arith, number_least d ds first, value)) (omega (arith, number_below (d ∷ ds) are, value)) in
     omega (arith, ap length w, many)
+
+pub IsLength-unique : (n : ℕ) (a b : List ℕ) → IsLength n a → IsLength n b → a ≡ b
+IsLength-unique n a b (short lt e) (short lt' e') = e ∙ sym e'
+IsLength-unique n a b (short lt e) (long ds w four are first big value) = absurd (omega arith)
+IsLength-unique n a b (long ds w four are first big value) (short lt e) = absurd (omega arith)
+IsLength-unique n a b (long ds w four are first big value) (long es w' four' are' first' big' value') =
+    let one = length_sized n a (long ds w four are first big value) in
+    let other = length_sized n b (long es w' four' are' first' big' value') in
+    let same = number_injective ds es (omega (arith, one, other, ap length w, ap length w')) are are' (value ∙ sym value') in
+    w ∙ ap (λ (xs : List ℕ). (0x80 + length xs) ∷ xs) same ∙ sym w'
 
 -- ---- whole numbers
 many_bytes : (k n : ℕ) → k < 4 → 128 * 256 ^ k ≤ n → n < 128 * 256 ^ suc k → natural_size n ≡ 2 + k
@@ -63,11 +71,15 @@ pub integer_sized : (z : ℤ) (content : List ℕ) → IsInteger z content → F
 integer_sized (pos n) content h fits = natural_sized n content h (omega (arith, ints, fits))
 integer_sized (negsuc m) content h fits = sym (length-turned content) ∙ natural_sized m _ h.1 (omega (arith, ints, fits))
 
--- ---- contents
-abbrev pub AreSized : Contents → Type 0
-AreSized Leaf = (c : Content) (v : ContentValue c) (content : List ℕ) → Leaf c v content → length content ≡ (leaf_of c).size v
+pub natural_unique : (n : ℕ) (a b : List ℕ) → n < 2 ^ 39 → IsNatural n a → IsNatural n b → a ≡ b
+natural_unique n a b lt h k = number_injective a b (natural_sized n a h lt ∙ sym (natural_sized n b k lt)) h.bytes k.bytes (h.value ∙ sym k.value)
 
--- ---- elements and fields
+pub integer_unique : (z : ℤ) (a b : List ℕ) → FitsSigned w32 z → IsInteger z a → IsInteger z b → a ≡ b
+integer_unique (pos n) a b fits h k = natural_unique n a b (omega (arith, ints, fits)) h k
+integer_unique (negsuc m) a b fits h k =
+    sym (turned-turned a h.0) ∙ ap turned (natural_unique m (turned a) (turned b) (omega (arith, ints, fits)) h.1 k.1) ∙ turned-turned b k.0
+
+-- ---- elements, and one part after another
 -- each spelling of a part has so many bytes
 abbrev pub HasSize : (List ℕ → Type 0) → ℕ → Type 0
 HasSize Part n = (bytes : List ℕ) → Part bytes → length bytes ≡ n
@@ -81,33 +93,3 @@ element_sized tag IsContent n sized bytes h =
 pub joined_sized : (First Rest : List ℕ → Type 0) (m n : ℕ) → HasSize First m → HasSize Rest n → HasSize (IsJoined First Rest) (m + n)
 joined_sized First Rest m n one rest bytes h =
     omega (arith, ap length h.whole, length-append h.front h.back, one h.front h.first, rest h.back h.rest)
-
-pub present_sized : {V : Type 0} (Part : V → List ℕ → Type 0) (size : V → ℕ) → ((v : V) → HasSize (Part v) (size v)) → (o : Option V) → HasSize (IfPresent Part o) (size_if size o)
-present_sized Part size one None bytes h = ap length h
-present_sized Part size one (Some v) bytes h = one v bytes h
-
-pub each_sized : {V : Type 0} (Part : V → List ℕ → Type 0) (size : V → ℕ) → ((v : V) → HasSize (Part v) (size v)) → (vs : List V) → HasSize (ForEach Part vs) (sizes_of size vs)
-each_sized Part size one [] bytes h = ap length h
-each_sized Part size one (v ∷ vs) bytes h = joined_sized (Part v) (ForEach Part vs) (size v) (sizes_of size vs) (one v) (each_sized Part size one vs) bytes h
-
-module _ (Leaf : Contents) (leaves : AreSized Leaf) where
-  mutual
-    pub content_sized : (k : Kind) (v : ValueOf k) → HasSize (SpellsContent Leaf k v) (content_size k v)
-    content_sized (leaf c) v bytes h = leaves c v bytes h
-    content_sized (wrapped tag e) v bytes h = element_sized (tag_of e) (SpellsContent Leaf e v) (content_size e v) (λ x p. content_sized e v x p) bytes h
-    content_sized (sequence fs) v bytes h = fields_sized fs v bytes h
-
-    pub fields_sized : (fs : Fields) (v : FieldsOf fs) → HasSize (SpellsFields Leaf fs v) (fields_size fs v)
-    fields_sized ends v bytes h = ap length h
-    fields_sized (must e fs) v bytes h =
-        joined_sized (SpellsBy Leaf e v.0) (SpellsFields Leaf fs v.1) (size_of e v.0) (fields_size fs v.1)
-        (element_sized (tag_of e) (SpellsContent Leaf e v.0) (content_size e v.0) (λ x p. content_sized e v.0 x p)) (λ x p. fields_sized fs v.1 x p) bytes h
-    fields_sized (may e fs) v bytes h =
-        joined_sized (IfPresent (SpellsBy Leaf e) v.0) (SpellsFields Leaf fs v.1) (size_if (size_of e) v.0) (fields_size fs v.1)
-        (present_sized (SpellsBy Leaf e) (size_of e) (λ w. element_sized (tag_of e) (SpellsContent Leaf e w) (content_size e w) (λ x p. content_sized e w x p)) v.0)
-        (λ x p. fields_sized fs v.1 x p) bytes h
-    fields_sized (each e) v bytes h =
-        each_sized (SpellsBy Leaf e) (size_of e) (λ w. element_sized (tag_of e) (SpellsContent Leaf e w) (content_size e w) (λ x p. content_sized e w x p)) v bytes h
-
-  pub spelling_sized : (k : Kind) (v : ValueOf k) → HasSize (SpellsBy Leaf k v) (size_of k v)
-  spelling_sized k v = element_sized (tag_of k) (SpellsContent Leaf k v) (content_size k v) (content_sized k v)

@@ -1,15 +1,11 @@
 -- Reading whole numbers and flags, step by step.
-use Rattle.std.proofs.Common.{◌≡◌, ◌≢◌, ◌⊎◌, inl, inr, ℕ, ◌^◌, ◌≤◌, ℤ, pos, ◌-ℤ◌, Bool, true, false, not, ◌&&◌, ◌||◌, cond, eqb, leb, List, ◌∷◌, length, Option, Some, None, refl, sym, lit<}
-use Rattle.std.proofs.lemmas.Bool.{and_parts, leb-true, eq-eqb, ne_eqb}
+use Rattle.std.proofs.Common.{◌≡◌, ℕ, ◌^◌, ◌≤◌, ℤ, pos, ◌-ℤ◌, false, ◌&&◌, cond, leb, List, ◌∷◌, length, Some, refl, sym, lit<}
+use Rattle.std.proofs.lemmas.Bool.{and_parts, leb-true, eq-eqb}
 use Rattle.std.proofs.lemmas.Option.{cond_some}
 use Rattle.std.proofs.Math.Nat.{pow-le-pow_right}
 use Rattle.krb_der.specs.Whole.{AreBytes, number}
-use Rattle.krb_der.specs.Computed.Whole.{are_bytes, is_redundant, is_negative, contents_of, whole_of, flags_of}
+use Rattle.krb_der.specs.Computed.Whole.{is_redundant, is_negative, contents_of, whole_of, flags_of}
 use Rattle.krb_der.proofs.Numbers.{are_bytes-true}
-
-same_cond : (b : Bool) (x : Option ℤ) → cond b x x ≡ x
-same_cond true x = refl
-same_cond false x = refl
 
 pub contents_of-some : (len : ℕ) (z : ℤ) → contents_of len ≡ Some z → (1 ≤ len) × (len ≤ 5) × (pos (256 ^ len) ≡ z)
 unfolding contents_of
@@ -24,11 +20,6 @@ contents_of-small len z e =
     let p = contents_of-some len z e in
     (256 ^ len, sym p.2, pow-le-pow_right (lit< tt) p.1)
 
-pub whole_of-no_contents : (content : List ℕ) → contents_of (length content) ≡ None → whole_of content ≡ None
-unfolding whole_of
-whole_of-no_contents content e =
-    rw e (same_cond (is_redundant content || not (are_bytes content)) None)
-
 pub whole_of-some : (content : List ℕ) (all : ℤ) → is_redundant content ≡ false → AreBytes content → contents_of (length content) ≡ Some all
     → whole_of content ≡ Some (cond (is_negative content) (pos (number content) -ℤ all) (pos (number content)))
 unfolding whole_of
@@ -37,12 +28,3 @@ whole_of-some content all short bytes e = rw (short, are_bytes-true content byte
 pub flags_of-some : (bits : List ℕ) → length bits ≡ 4 → AreBytes bits → flags_of (0 ∷ bits) ≡ Some (number bits)
 unfolding flags_of
 flags_of-some bits four bytes = rw (eq-eqb (length bits) 4 four, are_bytes-true bits bytes) refl
-
-pub flags_of-used : (unused : ℕ) (bits : List ℕ) → (unused ≢ 0) ⊎ (length bits ≢ 4) → flags_of (unused ∷ bits) ≡ None
-unfolding flags_of
-flags_of-used unused bits (inl ne) = rw (ne_eqb unused 0 ne) refl
-flags_of-used unused bits (inr ne) = rw (ne_eqb (length bits) 4 ne) (go (eqb unused 0))
-  where
-    go : (b : Bool) → cond ((b && false) && are_bytes bits) (Some (number bits)) None ≡ None
-    go true = refl
-    go false = refl

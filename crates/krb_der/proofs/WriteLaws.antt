@@ -5,9 +5,10 @@ use Rattle.krb_der.specs.Kind.{Kind, ValueOf, tag_of}
 use Rattle.krb_der.specs.Content.{Written}
 use Rattle.krb_der.specs.Spells.{IsElement, SpellsContent}
 use Rattle.krb_der.specs.Writing.{Writes, Appends, AppendsElement}
+use Rattle.krb_der.proofs.PartLaws.{with_content}
 
 pub element-map : (tag : ℕ) (P Q : List ℕ → Type 0) → ((c : List ℕ) → P c → Q c) → (bytes : List ℕ) → IsElement tag P bytes → IsElement tag Q bytes
-element-map tag P Q f bytes h = record { size = h.size; content = h.content; length_is = h.length_is; content_is = f h.content h.content_is; whole = h.whole }
+element-map tag P Q f bytes h = with_content h (f h.content h.content_is)
 
 pub appends-map : (P Q : List ℕ → Type 0) → ((b : List ℕ) → P b → Q b) → (old new : List ℕ) → Appends P old new → Appends Q old new
 appends-map P Q f old new h = record { bytes = h.bytes; is = f h.bytes h.is; whole = h.whole }

@@ -2,8 +2,6 @@
 
 ghost use Rattle.krb_der.specs.Kind.{leaf, int32, uint32, seq_number, microseconds, constant, octets, string, flags, time};
 ghost use Rattle.krb_der.specs.Reading.{Reads};
-ghost use Rattle.krb_der.specs.Computed.Gives.{Gives};
-ghost use Rattle.krb_der.specs.Computed.Read.{element_at};
 
 use crate::{
     Constant, Cursor, Element, Fault, Flags, Microseconds, Octets, Seconds, SeqNumber, Text,
@@ -35,14 +33,10 @@ impl<'a> Cursor<'a> {
     pub fn seq_number(&mut self) -> Result<u32, Fault>
         ensures { Reads (leaf seq_number) (λ n. n) result self.old self.new }
     {
-        self.seq_number_here()
-    }
-
-    fn seq_number_here(&mut self) -> Result<u32, Fault>
-        ensures { Gives (λ n. n) result self.old self.new (element_at (leaf seq_number) self.old) }
-    {
-        let number = SeqNumber::read(self)?;
-        Ok(number.0)
+        match self.read::<SeqNumber>() {
+            Ok(number) => Ok(number.0),
+            Err(fault) => Err(fault),
+        }
     }
 
     /// Reads a whole number from 0 to 999,999 (RFC 4120, section 5.2.4). Errors as of
@@ -66,14 +60,10 @@ impl<'a> Cursor<'a> {
     pub fn octets(&mut self) -> Result<&'a [u8], Fault>
         ensures { Reads (leaf octets) (λ s. s.now) result self.old self.new }
     {
-        self.octets_here()
-    }
-
-    fn octets_here(&mut self) -> Result<&'a [u8], Fault>
-        ensures { Gives (λ s. s.now) result self.old self.new (element_at (leaf octets) self.old) }
-    {
-        let octets = Octets::read(self)?;
-        Ok(octets.0)
+        match self.read::<Octets>() {
+            Ok(octets) => Ok(octets.0),
+            Err(fault) => Err(fault),
+        }
     }
 
     /// Reads a GeneralString of any bytes, and returns a slice of the input. Errors as of
@@ -81,14 +71,10 @@ impl<'a> Cursor<'a> {
     pub fn string(&mut self) -> Result<&'a [u8], Fault>
         ensures { Reads (leaf string) (λ s. s.now) result self.old self.new }
     {
-        self.string_here()
-    }
-
-    fn string_here(&mut self) -> Result<&'a [u8], Fault>
-        ensures { Gives (λ s. s.now) result self.old self.new (element_at (leaf string) self.old) }
-    {
-        let text = Text::read(self)?;
-        Ok(text.0)
+        match self.read::<Text>() {
+            Ok(text) => Ok(text.0),
+            Err(fault) => Err(fault),
+        }
     }
 
     /// Reads a BIT STRING of 32 bits (RFC 4120, section 5.2.8).

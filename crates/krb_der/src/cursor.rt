@@ -96,6 +96,7 @@ impl<'a> Cursor<'a> {
     ///
     /// # Errors
     /// A fault of the element, by the rules of `specs::Fault`. The cursor is then unchanged.
+    #[tactic(auto, using(crate::proofs::Reading::reads))]
     pub fn read<T: Element<'a>>(&mut self) -> Result<T, Fault>
         ensures { Reads T.kind T.view result self.old self.new }
     {
@@ -111,6 +112,7 @@ impl<'a> Cursor<'a> {
     ///   content is cut off.
     /// - `Tag` here: the next byte is another.
     /// - `Length` after the tag: the length is invalid, or not in its shortest form.
+    #[tactic(auto, using(crate::proofs::Reading::enters))]
     pub fn enter(&mut self, tag: u8) -> Result<Cursor<'a>, Fault>
         ensures { Enters tag result self.old self.new }
     {
@@ -143,6 +145,7 @@ impl<'a> Cursor<'a> {
     ///
     /// # Errors
     /// Those of [`enter`](Self::enter), if the tag is the next byte.
+    #[tactic(auto, using(crate::proofs::Reading::may_enters))]
     pub fn optional(&mut self, tag: u8) -> Result<Option<Cursor<'a>>, Fault>
         ensures { MayEnter tag result self.old self.new }
     {
@@ -185,6 +188,7 @@ impl<'a> Cursor<'a> {
     }
 
     /// The content of the element with this tag that begins here, and what comes after the element.
+    #[tactic(auto, unfolding(crate::specs::Computed::Read::enter_at))]
     pub(crate) fn head(&self, tag: u8) -> Result<(Cursor<'a>, Cursor<'a>), Fault>
         ensures { result ≡ enter_at tag self.now }
     {
@@ -224,6 +228,7 @@ impl<'a> Cursor<'a> {
     }
 
     /// The first bytes of `rest`, which is what is left here, and those after them.
+    #[tactic(auto, unfolding(crate::specs::Computed::Read::split_at))]
     fn split(&self, len: usize, rest: &'a [u8]) -> Result<(Cursor<'a>, Cursor<'a>), Fault>
         requires { length rest.now ≤ length self.now.rest }
         ensures { result ≡ split_at self.now len rest.now }

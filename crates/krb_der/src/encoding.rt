@@ -98,6 +98,7 @@ impl Encode for Flags {
 
     ghost view = { λ f. f.0 };
 
+    #[tactic(auto, using(crate::proofs::EncodeLaws::encodes_leaf))]
     fn write(&self, out: &mut Writer) -> Result<(), EncodeFault> {
         let start = out.len();
         let written = out.flags(*self);
@@ -110,6 +111,7 @@ impl Encode for Seconds {
 
     ghost view = { λ s. s };
 
+    #[tactic(auto, using(crate::proofs::EncodeLaws::encodes_leaf))]
     fn write(&self, out: &mut Writer) -> Result<(), EncodeFault> {
         let start = out.len();
         let written = out.time(*self);

@@ -73,16 +73,28 @@ impl EncodeRow for () {
     }
 }
 
+/// Writes an element with this tag around the value, and then the rest of the row.
+fn write_first<T: Encode, R: EncodeRow>(
+    value: &T,
+    tag: u8,
+    rest: &R,
+    out: &mut Writer,
+) -> Result<(), EncodeFault>
+    ensures { EncodesFields (must (wrapped tag T.kind) R.fields) (T.view value.now, R.view rest.now) result out.old out.new }
+{
+    let start = out.len();
+    write_wrapped(value, tag, out)?;
+    let written = rest.write_row(out);
+    out.settle(start, written)
+}
+
 impl<const TAG: u8, T: Encode, R: EncodeRow> EncodeRow for (Field<TAG, T>, R) {
     ghost fields = { must (wrapped TAG T.kind) R.fields };
 
     ghost view = { λ r. (T.view r.0.0, R.view r.1) };
 
     fn write_row(&self, out: &mut Writer) -> Result<(), EncodeFault> {
-        let start = out.len();
-        write_wrapped(&self.0.0, TAG, out)?;
-        let written = self.1.write_row(out);
-        out.settle(start, written)
+        write_first(&self.0.0, TAG, &self.1, out)
     }
 }
 
@@ -96,12 +108,7 @@ fn write_maybe<T: Encode, R: EncodeRow>(
     ensures { EncodesFields (may (wrapped tag T.kind) R.fields) (option_map T.view maybe.now, R.view rest.now) result out.old out.new }
 {
     match maybe {
-        Some(value) => {
-            let start = out.len();
-            write_wrapped(value, tag, out)?;
-            let written = rest.write_row(out);
-            out.settle(start, written)
-        }
+        Some(value) => write_first(value, tag, rest, out),
         None => rest.write_row(out),
     }
 }

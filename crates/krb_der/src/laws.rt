@@ -63,6 +63,7 @@ pub fn decided()
 {}
 
 /// Bytes that aren't a message of a kind have a fault by the rules.
+#[tactic(auto, using(crate::proofs::Messages::has_fault))]
 pub fn faulty()
     ensures { (k : Kind) → is_clear k ≡ true → (bytes : List ℕ)
         → ((v : ValueOf k) → IsMessage k v bytes → ⊥) → (fault : Fault) × IsFault k bytes fault }
@@ -97,6 +98,7 @@ pub fn element_read()
 {}
 
 /// Otherwise it gives a fault of that element by the rules.
+#[tactic(auto, using(crate::proofs::Reading::element_at_fault))]
 pub fn element_refused()
     ensures { (k : Kind) (here : Place) (fault : Fault)
         → element_at k here ≡ Err fault → IsElementFault Elementary k here fault }
@@ -104,12 +106,14 @@ pub fn element_refused()
 
 /// Reading fields, as `specs::Computed` has it, gives their values exactly if everything that is
 /// left spells them.
+#[tactic(auto, using(crate::proofs::Exact::fields_read_exactly))]
 pub fn fields_read()
     ensures { (fs : Fields) → are_clear fs ≡ true → (v : FieldsOf fs) (here : Place)
         → (fields_at fs here ≡ Ok v) ↔ SpellsFields Elementary fs v here.rest }
 {}
 
 /// Otherwise it gives a fault of what is left by the rules.
+#[tactic(auto, using(crate::proofs::Exact::fields_at_fault))]
 pub fn fields_refused()
     ensures { (fs : Fields) (here : Place) (fault : Fault)
         → fields_at fs here ≡ Err fault → IsFaulty Elementary fs here fault }
@@ -123,12 +127,14 @@ pub fn message_read()
 {}
 
 /// Otherwise it gives a fault of the bytes by the rules.
+#[tactic(auto, using(crate::proofs::Messages::message_fault))]
 pub fn message_refused()
     ensures { (k : Kind) (bytes : List ℕ) (fault : Fault)
         → message_of k bytes ≡ Err fault → IsFault k bytes fault }
 {}
 
 /// What is left as elements of one kind is either nothing, or one element and others.
+#[tactic(auto, using(crate::proofs::Lists::list_next))]
 pub fn list_next()
     ensures { (k : Kind) (here : Place) (vs : List (ValueOf k)) → fields_at (each k) here ≡ Ok vs
         → ((here.rest ≡ []) × (vs ≡ [])) ⊎ ((v : ValueOf k) × (after : Place) × (ws : List (ValueOf k))

@@ -36,7 +36,7 @@ impl<'a, L: Leaf<'a>> Element<'a> for L {
 
     ghost clear = { refl };
 
-    #[tactic(auto, unfolding(crate::specs::Computed::Read::element_at, crate::specs::Computed::Read::element_by))]
+    #[tactic(auto, unfolding(crate::specs::Computed::Read::element_at))]
     fn read(cursor: &mut Cursor<'a>) -> Result<L, Fault> {
         let (tag, fault) = L::rule();
         let (inside, after) = cursor.head(tag)?;

@@ -29,6 +29,7 @@ impl<'a> Cursor<'a> {
         self.check_each_here::<T>()
     }
 
+    #[tactic(auto, using(crate::proofs::Lists::list_step, crate::proofs::Lists::list_fault, crate::proofs::Lists::list_end, crate::proofs::Lists::element_at_shrinks))]
     fn check_each_here<T: Element<'a> + Drop>(&self) -> Result<(), Fault>
         ensures { result ≡ checked (fields_at (each T.kind) self.now) }
     {
@@ -48,6 +49,7 @@ impl<'a> Cursor<'a> {
     /// # Errors
     /// As of [`read`](Self::read), and the fault of one of the elements. The cursor is then
     /// unchanged.
+    #[tactic(auto, using(crate::proofs::Reading::reads))]
     pub fn list<T: Element<'a> + Drop>(&mut self) -> Result<Cursor<'a>, Fault>
         ensures reads { Reads (sequence (each T.kind)) (listed T.kind) result self.old self.new }
         ensures inside { IfOk result (λ content. HasHead 0x30 self.old content self.new) }
@@ -58,7 +60,7 @@ impl<'a> Cursor<'a> {
         self.list_here::<T>()
     }
 
-    #[tactic(auto, unfolding(crate::specs::Computed::Read::element_at, crate::specs::Computed::Read::element_by))]
+    #[tactic(auto, using(crate::proofs::Listed::list_ok, crate::proofs::Listed::list_err, crate::proofs::ElementSteps::enter_at_read), unfolding(crate::specs::Computed::Read::element_at))]
     fn list_here<T: Element<'a> + Drop>(&mut self) -> Result<Cursor<'a>, Fault>
         ensures inside { IfOk result (λ content. HasHead 0x30 self.old content self.new) }
         ensures listed { IfOk result (AreListed T.kind) }
@@ -72,6 +74,7 @@ impl<'a> Cursor<'a> {
 
     /// Reads the next element of a [`list`](Self::list) and moves past it; returns `None` at the
     /// end.
+    #[tactic(auto, using(crate::proofs::Listed::listed_end, crate::proofs::Listed::listed_next, crate::proofs::Listed::listed_some, crate::proofs::Reading::element_at_found))]
     pub fn next<T: Element<'a>>(&mut self) -> Option<T>
         requires { AreListed T.kind self.old }
         ensures end { IfNone result ((listed T.kind self.old ≡ []) × (self.new ≡ self.old)) }

@@ -15,6 +15,7 @@ pub trait Message<'a>: Element<'a> {}
 /// # Errors
 /// `TooLong` at offset 0 above 1,048,576 bytes. Otherwise a fault by the rules of `specs::Fault`,
 /// at its offset.
+#[tactic(auto, using(crate::proofs::Messages::parses))]
 pub fn parse<'a, T: Message<'a> + Drop>(bytes: &'a [u8]) -> Result<T, Fault>
     ensures { Parses T.kind T.view result bytes.entry.now }
 {
@@ -22,7 +23,7 @@ pub fn parse<'a, T: Message<'a> + Drop>(bytes: &'a [u8]) -> Result<T, Fault>
     all(bytes)
 }
 
-#[tactic(auto, unfolding(crate::specs::Computed::Read::message_of, crate::specs::Computed::Read::message_by, crate::specs::Computed::Read::element_at))]
+#[tactic(auto, unfolding(crate::specs::Computed::Read::message_of))]
 fn all<'a, T: Element<'a> + Drop>(bytes: &'a [u8]) -> Result<T, Fault>
     ensures { Fills T.view result (message_of T.kind bytes.entry.now) }
 {

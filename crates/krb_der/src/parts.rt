@@ -20,7 +20,7 @@ impl<'a> Cursor<'a> {
         self.sequence_here()
     }
 
-    #[tactic(auto, unfolding(crate::specs::Computed::Read::element_at, crate::specs::Computed::Read::fields_at, crate::specs::Computed::Read::element_by))]
+    #[tactic(auto, unfolding(crate::specs::Computed::Read::element_at))]
     fn sequence_here<R: Row<'a> + Drop>(&mut self) -> Result<R, Fault>
         ensures { Gives R.view result self.old self.new (element_at (sequence R.fields) self.old) }
     {
@@ -39,7 +39,7 @@ impl<'a> Cursor<'a> {
         self.application_here(tag)
     }
 
-    #[tactic(auto, unfolding(crate::specs::Computed::Read::element_at, crate::specs::Computed::Read::element_by))]
+    #[tactic(auto, unfolding(crate::specs::Computed::Read::element_at))]
     fn application_here<R: Row<'a> + Drop>(&mut self, tag: u8) -> Result<R, Fault>
         ensures { Gives R.view result self.old self.new (element_at (wrapped tag (sequence R.fields)) self.old) }
     {
@@ -59,7 +59,7 @@ impl<'a> Cursor<'a> {
         self.wrapped_here(tag)
     }
 
-    #[tactic(auto, unfolding(crate::specs::Computed::Read::element_at, crate::specs::Computed::Read::element_by))]
+    #[tactic(auto, unfolding(crate::specs::Computed::Read::element_at))]
     pub(crate) fn wrapped_here<T: Element<'a> + Drop>(&mut self, tag: u8) -> Result<T, Fault>
         ensures { Gives T.view result self.old self.new (element_at (wrapped tag T.kind) self.old) }
     {

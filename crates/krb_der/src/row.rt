@@ -56,7 +56,7 @@ impl<'a> Row<'a> for () {
 
     ghost view = { λ _. tt };
 
-    #[tactic(auto, unfolding(crate::specs::Computed::Read::fields_at, crate::specs::Computed::Read::element_by))]
+    #[tactic(auto, unfolding(crate::specs::Computed::Read::element_at))]
     fn read_row(content: Cursor<'a>) -> Result<(), Fault> {
         content.finish_here()
     }
@@ -80,7 +80,7 @@ impl<'a, const TAG: u8, T: Element<'a> + Drop, R: Row<'a>> Row<'a> for (Field<TA
 
     ghost view = { λ r. (T.view r.0.0, R.view r.1) };
 
-    #[tactic(auto, unfolding(crate::specs::Computed::Read::fields_at, crate::specs::Computed::Read::element_at, crate::specs::Computed::Read::element_by))]
+    #[tactic(auto, unfolding(crate::specs::Computed::Read::element_at))]
     fn read_row(content: Cursor<'a>) -> Result<(Field<TAG, T>, R), Fault> {
         let mut content = content;
         let value = content.wrapped_here(TAG)?;
@@ -94,7 +94,7 @@ impl<'a, const TAG: u8, T: Element<'a> + Drop, R: Row<'a>> Row<'a> for (Maybe<TA
 
     ghost view = { λ r. (option_map T.view r.0.0, R.view r.1) };
 
-    #[tactic(auto, unfolding(crate::specs::Computed::Read::fields_at, crate::specs::Computed::Read::element_at, crate::specs::Computed::Read::element_by))]
+    #[tactic(auto, unfolding(crate::specs::Computed::Read::element_at))]
     fn read_row(content: Cursor<'a>) -> Result<(Maybe<TAG, T>, R), Fault> {
         let mut content = content;
         if !content.begins(TAG) {

@@ -114,8 +114,10 @@ fn day(year: u16, month: u8, day: u8) -> Option<i32>
     ensures value { result ≡ day_of year month day }
     ensures range { IfSome result (IsBetween (neg_ℤ (pos 719_528)) (pos 2_932_896)) }
 {
-    let date = Date::new(year as i16, month as i8, day as i8).ok()?;
-    Some(date.to_unix_epoch_day())
+    match Date::new(year as i16, month as i8, day as i8) {
+        Ok(date) => Some(date.to_unix_epoch_day()),
+        Err(_) => None,
+    }
 }
 
 /// The seconds of a time of day, if there is such a time.

@@ -35,6 +35,7 @@ impl Flags {
     }
 
     /// Returns flags with only the bit of this number set, 0 to 31; from 32 on with none.
+    #[tactic(auto, using(crate::proofs::FlagLaws::only_flag, crate::proofs::FlagLaws::shifted))]
     pub fn only(bit: u32) -> Self
         ensures value { bit < 32 → result.0 ≡ weight bit }
         ensures set { (n : ℕ) → HasBit result.0 n ↔ ((n ≡ bit) × (n < 32)) }

@@ -56,6 +56,7 @@ fn contents(len: usize) -> Option<i64>
 }
 
 /// Returns the whole number that the content is, if it has its shortest form and at most five bytes.
+#[tactic(auto, unfolding(crate::specs::Computed::Whole::whole_of, crate::specs::Computed::Whole::contents_of))]
 pub fn whole(content: &[u8]) -> Option<i64>
     ensures { result ≡ whole_of content.now }
 {
@@ -72,14 +73,14 @@ pub fn whole(content: &[u8]) -> Option<i64>
 }
 
 /// Returns the 32 bits of a content without unused bits.
+#[tactic(auto, using(crate::proofs::ShortestLaws::number4), unfolding(crate::specs::Computed::Whole::flags_of))]
 pub fn flags_in(content: &[u8]) -> Option<u32>
     ensures { result ≡ flags_of content.now }
 {
-    let (unused, bits) = content.split_first()?;
-    if *unused != 0 || bits.len() != 4 {
-        return None;
+    match content {
+        [0, a, b, c, d] => Some(u32::from_be_bytes([*a, *b, *c, *d])),
+        _ => None,
     }
-    Some(number(bits) as u32)
 }
 
 /// Returns the sequence number that the content is. A negative number stands for the one of the same 32 bits.
@@ -99,6 +100,7 @@ pub fn seq_number_in(content: &[u8]) -> Option<u32>
 }
 
 /// Returns the bytes without the leading ones that the whole number doesn't need.
+#[tactic(auto, using(crate::proofs::ShortestLaws::shortest_of_one), unfolding(crate::specs::Inner::Shortest::shortest_of))]
 pub fn shortest(bytes: &[u8]) -> &[u8]
     ensures value { result.now ≡ shortest_of bytes.now }
     ensures shorter { length result.now ≤ length bytes.now }

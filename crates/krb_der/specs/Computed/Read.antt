@@ -116,34 +116,20 @@ each_from read (suc fuel) p (b ∷ bytes) = read p >>= λ x. each_from read fuel
 abbrev pub each_at : {A : Type 0} → (Place → Result (A × Place) Fault) → Place → Result (List A) Fault
 each_at read p = each_from read (length p.rest) p p.rest
 
--- how contents of elements without parts are read
-abbrev pub LeafReader : Type 0
-LeafReader = (c : Content) → List ℕ → Option (ContentValue c)
+unfoldable mutual
+  pub element_at : (k : Kind) → Place → Result (ValueOf k × Place) Fault
+  element_at (leaf c) = leaf_at (leaf_of c).tag (content_of c) (leaf_of c).fault
+  element_at (wrapped tag k) = wrapped_at tag (element_at k)
+  element_at (sequence fs) = sequence_at (fields_at fs)
 
-module _ (read : LeafReader) where
-  unfoldable mutual
-    pub element_by : (k : Kind) → Place → Result (ValueOf k × Place) Fault
-    element_by (leaf c) = leaf_at (leaf_of c).tag (read c) (leaf_of c).fault
-    element_by (wrapped tag k) = wrapped_at tag (element_by k)
-    element_by (sequence fs) = sequence_at (fields_by fs)
+  pub fields_at : (fs : Fields) → Place → Result (FieldsOf fs) Fault
+  fields_at ends = finish_at
+  fields_at (must k fs) = must_at (element_at k) (fields_at fs)
+  fields_at (may k fs) = may_at (tag_of k) (element_at k) (fields_at fs)
+  fields_at (each k) = each_at (element_at k)
 
-    pub fields_by : (fs : Fields) → Place → Result (FieldsOf fs) Fault
-    fields_by ends = finish_at
-    fields_by (must k fs) = must_at (element_by k) (fields_by fs)
-    fields_by (may k fs) = may_at (tag_of k) (element_by k) (fields_by fs)
-    fields_by (each k) = each_at (element_by k)
-
-  -- a whole message
-  unfoldable pub message_by : (k : Kind) → List ℕ → Result (ValueOf k) Fault
-  message_by k bytes =
-      if nat_lt limit (length bytes) then fault_at TooLong 0
-      else (element_by k (begin_at bytes) >>= λ x. finish_at x.1 >>= λ _. Ok x.0)
-
-unfoldable pub element_at : (k : Kind) → Place → Result (ValueOf k × Place) Fault
-element_at k p = element_by content_of k p
-
-unfoldable pub fields_at : (fs : Fields) → Place → Result (FieldsOf fs) Fault
-fields_at fs p = fields_by content_of fs p
-
+-- a whole message
 unfoldable pub message_of : (k : Kind) → List ℕ → Result (ValueOf k) Fault
-message_of k bytes = message_by content_of k bytes
+message_of k bytes =
+    if nat_lt limit (length bytes) then fault_at TooLong 0
+    else (element_at k (begin_at bytes) >>= λ x. finish_at x.1 >>= λ _. Ok x.0)

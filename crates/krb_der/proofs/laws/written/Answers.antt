@@ -1,19 +1,15 @@
-use Rattle.krb_der.specs.Content.{Written}
-use Rattle.krb_der.proofs.Messages.{one_written}
-use Rattle.krb_der.proofs.LeafLaws.{written_sized}
-use Rattle.krb_der.proofs.Sizes.{spelling_sized}
-use Rattle.krb_der.proofs.Spelled.{written_exists}
-use Rattle.krb_der.proofs.Spellings.{written_spells}
+use Rattle.std.proofs.Common.{arith}
+use Rattle.krb_der.proofs.Spelled.{spelled_is}
 use Rattle.krb_der.proofs.laws.written.Goals as goal
 
 pub returns-clause-exists : goal.returns-clause-exists
-returns-clause-exists c = written_exists
+returns-clause-exists c = λ k v fits small. (spelled_is k v).made fits (omega (arith, small))
 
 pub returns-clause-one : goal.returns-clause-one
-returns-clause-one c = one_written
+returns-clause-one c = λ k v. (spelled_is k v).one
 
 pub returns-clause-spells : goal.returns-clause-spells
-returns-clause-spells c = written_spells
+returns-clause-spells c = λ k v. (spelled_is k v).written
 
 pub returns-clause-size : goal.returns-clause-size
-returns-clause-size c = spelling_sized Written written_sized
+returns-clause-size c = λ k v. (spelled_is k v).sized

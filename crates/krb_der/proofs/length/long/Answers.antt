@@ -3,7 +3,7 @@ use Rattle.std.proofs.lemmas.Bool.{ne_eqb}
 use Rattle.krb_der.specs.Whole.{AreBytes, number}
 use Rattle.krb_der.specs.Place.{begins}
 use Rattle.krb_der.proofs.Numbers.{AreBytes-from, AreBytes-take}
-use Rattle.krb_der.proofs.LengthSteps.{long_of-ok, begins-get_or}
+use Rattle.krb_der.proofs.LengthLaws.{long_of-ok, begins-get_or}
 use Rattle.krb_der.proofs.length.long.Goals as goal
 
 pub returns-clause-value : goal.returns-clause-value

@@ -1,16 +1,8 @@
-use Rattle.std.proofs.Common.{◌≡◌, sym, ap, subst, ◌∙◌, Some, arith}
+use Rattle.std.proofs.Common.{◌≡◌, sym, ap, ◌∙◌, Some, arith}
 use Rattle.std.proofs.lemmas.Int.{ints}
-use Rattle.krb_der.specs.Time.{IsSeconds}
 use Rattle.krb_der.specs.Inner.CivilView.{plain_civil}
-use Rattle.krb_der.proofs.Calendar.{seconds_if-some, seconds_value, seconds_range}
+use Rattle.krb_der.proofs.Calendar.{seconds_if-some, seconds_value}
 use Rattle.krb_der.proofs.time.seconds_of.Goals as goal
-
-pub invariant_of-result : goal.invariant_of-result
-invariant_of-result c =
-    let r = c.in_ok-day.ensures.range in
-    let is : c.from-day.result ≡ c.in_ok-day.field-0 = omega (arith, ints, c.from-day.ensures, r.0, r.1) in
-    let value = seconds_value _ _ c.in_ok-day.field-0 c.in_ok-clock.field-0 is r.0 r.1 c.from-clock.ensures c.in_ok-clock.ensures.small in
-    subst IsSeconds (sym value) (seconds_range c.in_ok-day.field-0 c.in_ok-clock.field-0 r.0 r.1 c.in_ok-clock.ensures.small)
 
 pub returns : goal.returns
 returns c =

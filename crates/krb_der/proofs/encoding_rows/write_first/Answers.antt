@@ -2,12 +2,13 @@ use Rattle.krb_der.specs.Kind.{wrapped}
 use Rattle.krb_der.specs.Size.{fields_size, size_of}
 use Rattle.krb_der.specs.Writing.{Writes, WritesFields}
 use Rattle.krb_der.proofs.EncodeLaws.{encodes-joined, value_size}
-use Rattle.krb_der.proofs.encoding_rows.Tuple2FieldEncodeRow.write_row.Goals as goal
+use Rattle.krb_der.proofs.encoding_rows.write_first.Goals as goal
 
 pub returns : goal.returns
 returns g c =
-    let kind = wrapped g.row.TAG g.T.Encode.kind in
-    let value = g.T.Encode.view c.args.self.now.0.0 in
-    encodes-joined (Writes kind value) (WritesFields g.R.EncodeRow.fields (g.R.EncodeRow.view c.args.self.now.1)) (size_of kind value) (fields_size g.R.EncodeRow.fields (g.R.EncodeRow.view c.args.self.now.1)) (value_size kind value)
+    let kind = wrapped c.args.tag g.T.Encode.kind in
+    let value = g.T.Encode.view c.args.value.now in
+    let others = g.R.EncodeRow.view c.args.rest.now in
+    encodes-joined (Writes kind value) (WritesFields g.R.EncodeRow.fields others) (size_of kind value) (fields_size g.R.EncodeRow.fields others) (value_size kind value)
     c.write_row-written.result c.settle.result c.len-start.result c.args.out.now c.write_wrapped.new.out c.write_row-written.new.out c.settle.new.self
     c.len-start.ensures c.in_ok-write_wrapped.ensures.ok.0 c.write_row-written.ensures c.settle.ensures.answer c.settle.ensures.left
