@@ -1,4 +1,6 @@
-/* Times MIT krb5's krb5_c_encrypt and krb5_c_decrypt: mit_crypto seal|open ETYPE SIZE COUNT prints nanoseconds a call. */
+/* Times MIT krb5's krb5_c_encrypt and krb5_c_decrypt: mit_crypto seal|open ETYPE SIZE COUNT prints nanoseconds of processor time for each call.
+ * Both are called once before, so that all memory has been used.
+ */
 #include <krb5.h>
 #include <stdio.h>
 #include <stdlib.h>
@@ -8,7 +10,7 @@
 static double now(void)
 {
     struct timespec t;
-    clock_gettime(CLOCK_MONOTONIC, &t);
+    clock_gettime(CLOCK_PROCESS_CPUTIME_ID, &t);
     return t.tv_sec * 1e9 + t.tv_nsec;
 }
 
@@ -40,6 +42,9 @@ int main(int argc, char **argv)
     krb5_data in = {.length = size, .data = plain};
     krb5_enc_data out = {.enctype = etype, .ciphertext = {.length = sealed_size, .data = sealed}};
     must(krb5_c_encrypt(context, &key, 2, NULL, &in, &out));
+    in.length = sealed_size;
+    must(krb5_c_decrypt(context, &key, 2, NULL, &out, &in));
+    in.length = size;
 
     double start = now();
     for (long i = 0; i < count; i++) {

@@ -2,7 +2,7 @@
  *
  *   texts TYPE SIZE COUNT      prints two numbers: nanoseconds of processor time for each fevstunik_seal, and for each fevstunik_open
  *
- * The plain text has SIZE bytes, and each call is made COUNT times.
+ * The plain text has SIZE bytes, and each call is made COUNT times. Both are made once before, so that all memory has been used.
  */
 #include <stdio.h>
 #include <stdlib.h>
@@ -20,31 +20,47 @@ static double processor_time(void)
     return t.tv_sec * 1e9 + t.tv_nsec;
 }
 
+static const uint8_t key[32], confounder[16];
+static int type;
+static uint8_t *plain, *sealed, *opened;
+static size_t size, sealed_size, opened_size;
+
+static size_t size_of(fevstunik_answer answer)
+{
+    if (answer.code != FEVSTUNIK_OK) exit(1);
+    return answer.size;
+}
+
+static void seal(void)
+{
+    sealed_size = size_of(fevstunik_seal(type, key, type == 19 ? 16 : 32, USAGE, confounder, sizeof confounder, plain, size, sealed, size + MORE));
+}
+
+static void open_sealed(void)
+{
+    opened_size = size_of(fevstunik_open(type, key, type == 19 ? 16 : 32, USAGE, sealed, sealed_size, opened, size + MORE));
+}
+
 int main(int argc, char **argv)
 {
-    static const uint8_t key[32], confounder[16];
     if (argc != 4) return 2;
-    int type = atoi(argv[1]);
-    size_t size = strtoul(argv[2], NULL, 10), key_size = type == 19 ? 16 : 32;
+    type = atoi(argv[1]);
+    size = strtoul(argv[2], NULL, 10);
     long count = strtol(argv[3], NULL, 10);
-    uint8_t *plain = calloc(1, size), *sealed = malloc(size + MORE), *opened = malloc(size + MORE);
+    plain = malloc(size), sealed = malloc(size + MORE), opened = malloc(size + MORE);
     if (!plain || !sealed || !opened) return 1;
     memset(plain, 7, size);
+    seal();
+    open_sealed();
 
-    fevstunik_answer answer = {0};
     double start = processor_time();
-    for (long i = 0; i < count; i++) {
-        answer = fevstunik_seal(type, key, key_size, USAGE, confounder, sizeof confounder, plain, size, sealed, size + MORE);
-        if (answer.code != FEVSTUNIK_OK) return 1;
-    }
+    for (long i = 0; i < count; i++)
+        seal();
     double between = processor_time();
-    size_t sealed_size = answer.size;
-    for (long i = 0; i < count; i++) {
-        answer = fevstunik_open(type, key, key_size, USAGE, sealed, sealed_size, opened, size + MORE);
-        if (answer.code != FEVSTUNIK_OK) return 1;
-    }
+    for (long i = 0; i < count; i++)
+        open_sealed();
     double end = processor_time();
-    if (answer.size != size || memcmp(plain, opened, size)) return 1;
+    if (opened_size != size || memcmp(plain, opened, size)) return 1;
     printf("%.0f %.0f\n", (between - start) / count, (end - between) / count);
     return 0;
 }
