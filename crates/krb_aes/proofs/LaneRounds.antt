@@ -47,7 +47,7 @@ kept_none s is = state_of-at s is.size
 
 -- ---- sums in another order
 
--- the sum of four terms, of which the first stands at place i
+-- the sum of four terms, from the one at place i on
 abbrev four_from : ℕ → Sum
 four_from i = plus (plus (plus (term i) (term ((i + 1) % 4))) (term ((i + 2) % 4))) (term ((i + 3) % 4))
 

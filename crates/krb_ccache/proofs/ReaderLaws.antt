@@ -154,7 +154,7 @@ module _ {S : Type 0} (left : S → Option (List ℕ)) where
       reached = subst (λ (n : ℕ). IsReached layout (h.bytes ++ one.bytes) n (with_credential cache one.credential) []) (sym c.given) (reached_more layout h.bytes old.given cache h.reached one c.fits);
     }
 
-    -- no bytes came, where it is told that no part did
+    -- no bytes came, if no part did
     all_came : (new : AtHand S) (at : ℕ) → Tells left new (BadItem at) (BadItem at) → IsAtEnd (left new.source) × (new.given ≤ file_limit)
     all_came new at tells =
         elim tells [

@@ -17,7 +17,7 @@ use Rattle.krb_keytab.specs.Edit.{IsMadeOf}
 use Rattle.krb_keytab.specs.Inner.Putting.{Puts, PutsTo, body_bytes}
 use Rattle.krb_keytab.proofs.PutLaws.{Puts-then, PutsTo-then, Puts-whole}
 
--- the fields one behind the other
+-- the fields one after the other
 pub puts_body : (e : KeytabEntry) {s0 s1 s2 s3 s4 s5 s6 s7 s8 s9 : List ℕ} {a0 a1 a2 a3 a4 a5 a6 a7 a8 a9 : ℕ} → PutsTo s0 a0 (number_bytes w16 (length e.principal.components)) s1 a1 → PutsTo s1 a1 (data_bytes w16 e.principal.realm) s2 a2
     → PutsTo s2 a2 (flat_map (data_bytes w16) e.principal.components) s3 a3 → PutsTo s3 a3 (signed_bytes w32 e.principal.name_type) s4 a4 → PutsTo s4 a4 (number_bytes w32 e.timestamp) s5 a5 → PutsTo s5 a5 (number_bytes w8 (e.kvno % 2 ^ 8)) s6 a6
     → PutsTo s6 a6 (signed_bytes w16 e.etype) s7 a7 → PutsTo s7 a7 (data_bytes w16 e.key) s8 a8 → PutsTo s8 a8 (number_bytes w32 e.kvno) s9 a9 → PutsTo s0 a0 (body_bytes e) s9 a9
@@ -33,7 +33,7 @@ record IsJoined (whole front behind : List ℕ) : Type 0 where
 more : (a : List ℕ) {t u y : List ℕ} → IsJoined t u y → IsJoined (a ++ t) (a ++ u) y
 more a {t} {u} {y} p = record { is = ap (λ (x : List ℕ). a ++ x) p.is ∙ sym (append_assoc a u y) }
 
--- what lies behind the fields may be said apart
+-- what follows the fields may be said apart
 pub body_more : (e : KeytabEntry) (short_kvno : ℕ) (rest others : List ℕ) → entry_bytes e short_kvno (rest ++ others) ≡ entry_bytes e short_kvno rest ++ others
 body_more e short_kvno rest others =
     let name = e.principal in

@@ -181,7 +181,7 @@ came_within (Err fault) count piece to came = omega (arith, came)
 pub fills_within : {S : Type 0} (from to : Option (List ℕ)) (old new : AtHand S) (count : ℕ) (answer : Result Bool ReadFault) (f : Fills from to old new count answer) → length f.piece ≤ count
 fills_within from to old new count answer f = came_within answer count f.piece to f.came
 
--- what was held, and what came behind it until the source ran out
+-- what was held, and what came after it until the source ran out
 pub held_out : {S T : Type 0} (IsPart : List ℕ → Type 0) {from mid to : Option (List ℕ)} (old : AtHand S) {between new : AtHand S} {count : ℕ} {came : Result Bool ReadFault} {last answer : Result T KeytabFault}
     (f : Fills from mid (record old { bytes = [] }) between count came) (r : RunsOutTo mid to between new last answer) → IsPart f.piece → old.given + length f.piece ≤ file_limit
     → Moves from to old new (f.piece ++ r.piece) × Peaks IsPart (f.piece ++ r.piece) old.peak new.peak

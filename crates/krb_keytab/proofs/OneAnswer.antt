@@ -96,7 +96,7 @@ pub only_fault : (bytes : List ℕ) (fault : KeytabFault) (answer : Result (List
 only_fault bytes OutOfMemory answer is a = inr refl
 only_fault bytes fault answer is a = inl (same_answers bytes (Err fault) answer (is (λ e. cc)) a)
 
--- whole records end at one of the bytes, or behind the last
+-- whole records end at one of the bytes, or after the last
 stands_within : (bytes : List ℕ) (at : ℕ) (IsFaulty : List ℕ → Type 0) → StandsAt bytes at IsFaulty → at ≤ length bytes
 stands_within bytes at IsFaulty s =
     let front = flat_map record_bytes s.reached.records in

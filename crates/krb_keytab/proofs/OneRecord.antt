@@ -29,7 +29,7 @@ same_parts a b x y long e = (
   sym (drop_at a x (length a) refl) ∙ ap (drop (length a)) e ∙ drop_at b y (length a) (sym long),
 )
 
--- bytes begin with a size, and have so many others behind it
+-- bytes begin with a size, and have so many others after it
 record IsSized (bytes : List ℕ) (size : ℤ) (body behind : List ℕ) : Type 0 where
   bytes_are : bytes ≡ signed_bytes w32 size ++ (body ++ behind)
   fits : FitsSigned w32 size

@@ -16,7 +16,7 @@ use Rattle.krb_keytab.proofs.OneRecord.{same_first, NoRecord, no_record, same_la
 pub first_is : (one : KeytabRecord) (ones : List KeytabRecord) (b : List ℕ) → flat_map record_bytes (one ∷ ones) ++ b ≡ record_bytes one ++ (flat_map record_bytes ones ++ b)
 first_is one ones b = ap (λ (t : List ℕ). t ++ b) (flat_map-cons record_bytes one ones) ∙ append_assoc (record_bytes one) (flat_map record_bytes ones) b
 
--- records that lie before others are the first of all, where no more follow
+-- records that come before others are the first of all, if no more follow
 first_among : (ones others : List KeytabRecord) (b c : List ℕ) → AllByRecursion FitsRecord ones → AllByRecursion FitsRecord others → flat_map record_bytes ones ++ b ≡ flat_map record_bytes others ++ c → NoRecord c → (more : List KeytabRecord) × (others ≡ ones ++ more)
 first_among [] others b c p q e none = (others, refl)
 first_among (one ∷ ones) [] b c p q e none = absurd (none one (flat_map record_bytes ones ++ b) p.0 (sym e ∙ first_is one ones b))

@@ -155,7 +155,7 @@ version_ran left given two later answer r g size lacks =
       ]
     ]
 
--- ---- one step behind the other
+-- ---- one step after the other
 
 goes_then : {S : Type 0} {A B C : List ℕ → List KeytabEntry → Type 0} (from mid to : Option (List ℕ)) (old between new : AtHand S) → Goes A B from mid old between → Goes B C mid to between new → Goes A C from to old new
 goes_then {C = C} from mid to old between new p q = record {

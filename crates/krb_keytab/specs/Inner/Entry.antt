@@ -25,7 +25,7 @@ first_components count bytes = listed (components_at count (record { at = 0; res
 abbrev pub HasComponents : ℕ → List ℕ → Type 0
 HasComponents count bytes = (read : List (List ℕ) × Place) × (components_at count (record { at = 0; rest = bytes }) ≡ Some read)
 
--- a place behind what was read
+-- a place after what was read
 abbrev pub IsBehind : {X : Type 0} → Option (X × Place) → Place → Type 0
 IsBehind {X} read place = (x : X) × (read ≡ Some (x, place))
 

@@ -143,7 +143,7 @@ pub record MeetsBody {S E : Type 0} (of_entry : KeytabEntry → E) (from to : Op
 
 -- ---- from one place to another
 
--- the source gave bytes behind all that came before, and what they reach; what was met grew with them
+-- the source gave bytes after all that came before, and what they reach; what was met grew with them
 pub record Goes {S : Type 0} (Before After : List ℕ → List KeytabEntry → Type 0) (from to : Option (List ℕ)) (old new : AtHand S) : Type 0 where
   pub piece : List ℕ
   pub moves : Moves from to old new piece
