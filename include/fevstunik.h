@@ -987,22 +987,22 @@ void fevstunik_pending_free(fevstunik_pending *pending);
 /* Seals a plain text under a key (16 bytes for type 19, 32 for type 20) for a usage (RFC 4120,
  * section 7.5.1; those from 1024 to 2047 are for applications). `confounder` is 16 random bytes,
  * new for each call. The sealed text is 32 bytes (type 19) or 40 bytes (type 20) longer than the
- * plain text.
+ * plain text. The call allocates no memory.
  *
  * Returns FEVSTUNIK_OK or FEVSTUNIK_SHORT_BUFFER; or writes nothing and returns the first that
- * applies: FEVSTUNIK_KEY_TYPE, FEVSTUNIK_KEY_LENGTH, FEVSTUNIK_BAD_CONFOUNDER or
- * FEVSTUNIK_OUT_OF_MEMORY.
+ * applies: FEVSTUNIK_KEY_TYPE, FEVSTUNIK_KEY_LENGTH or FEVSTUNIK_BAD_CONFOUNDER.
  *
  *     answer = fevstunik_seal(19, key, 16, 1024, confounder, 16, text, text_size, buffer, sizeof buffer);
  */
 fevstunik_answer fevstunik_seal(int32_t key_type, const uint8_t *key, size_t key_size, uint32_t usage, const uint8_t *confounder,
                                 size_t confounder_size, const uint8_t *plain, size_t plain_size, uint8_t *buffer, size_t buffer_size);
 
-/* Opens a text that was sealed under a key for a usage, and returns the plain text.
+/* Opens a text that was sealed under a key for a usage, and returns the plain text. The call
+ * allocates no memory.
  *
  * Returns FEVSTUNIK_OK or FEVSTUNIK_SHORT_BUFFER; or writes nothing and returns the first that
- * applies: FEVSTUNIK_KEY_TYPE, FEVSTUNIK_KEY_LENGTH, FEVSTUNIK_TEXT_SHORT, FEVSTUNIK_TEXT_INTEGRITY
- * or FEVSTUNIK_OUT_OF_MEMORY.
+ * applies: FEVSTUNIK_KEY_TYPE, FEVSTUNIK_KEY_LENGTH, FEVSTUNIK_TEXT_SHORT or
+ * FEVSTUNIK_TEXT_INTEGRITY.
  *
  *     answer = fevstunik_open(19, key, 16, 1024, sealed, sealed_size, buffer, sizeof buffer);
  */

@@ -68,6 +68,17 @@ def usages():
         yield f"the keys of usage {usage}", lines, answers
 
 
+def into_slices(call, arguments, written):
+    """What is written into slices of bytes a5: of 3 bytes more, of its length, and of a byte less if there is one."""
+    size = len(written) // 2
+    lines = [f"{call} {size + 3} {arguments}", f"{call} {size} {arguments}"]
+    answers = [f"{size} {written}a5a5a5", f"{size} {written or '-'}"]
+    if size > 0:
+        lines.append(f"{call} {size - 1} {arguments}")
+        answers.append(f"ShortSlice {{ needed: {size} }} {'a5' * (size - 1) or '-'}")
+    return lines, answers
+
+
 def lengths(usage, confounder, step):
     """Texts of each length to 64 are sealed and opened."""
     for etype, key in BASE.items():
@@ -77,20 +88,26 @@ def lengths(usage, confounder, step):
             text = sealed(etype, key, usage, confounder, plain).hex()
             lines += [f"enc seal {usage} {confounder.hex()} {plain.hex() or '-'}", f"enc open {usage} {text}", f"enc usage-open {text}"]
             answers += [text, plain.hex() or "-", plain.hex() or "-"]
+            for call, arguments, written in (("seal", f"{confounder.hex()} {plain.hex() or '-'}", text), ("open", text, plain.hex())):
+                into, as_written = into_slices(f"enc usage-{call}-to", arguments, written)
+                lines, answers = lines + into, answers + as_written
         yield f"each length to 64, type {etype}, usage {usage}", lines, answers
 
 
 def changed(etype, key, confounder, plain=b""):
     """Each byte of a sealed text counts, and so does its length."""
     text = sealed(etype, key, 2, confounder, plain)
-    lines, answers = [f"enc key {etype} {key.hex()}", f"enc open 2 {text.hex()}"], [f"Key({etype})", plain.hex() or "-"]
+    lines = [f"enc key {etype} {key.hex()}", "enc usage 2", f"enc open 2 {text.hex()}"]
+    answers = [f"Key({etype})", "kept", plain.hex() or "-"]
     for at in range(len(text)):
-        lines.append(f"enc open 2 {text[:at].hex()}{text[at] ^ 1:02x}{text[at + 1:].hex()}")
-        answers.append("Integrity")
+        bent = f"{text[:at].hex()}{text[at] ^ 1:02x}{text[at + 1:].hex()}"
+        lines += [f"enc open 2 {bent}", f"enc usage-open-to 3 {bent}"]
+        answers += ["Integrity", "Integrity a5a5a5"]
     least = 16 + TYPES[etype][2]
     for size in range(len(text)):
-        lines.append(f"enc open 2 {text[:size].hex() or '-'}")
-        answers.append("Short" if size < least else "Integrity")
+        fault = "Short" if size < least else "Integrity"
+        lines += [f"enc open 2 {text[:size].hex() or '-'}", f"enc usage-open-to 3 {text[:size].hex() or '-'}"]
+        answers += [fault, f"{fault} a5a5a5"]
     return f"each byte of {len(text)} changed, type {etype}", lines, answers
 
 

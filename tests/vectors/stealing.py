@@ -33,12 +33,12 @@ def stolen(key, text):
 
 
 def drawn():
-    """The cases of tests/library.py: texts of each length from 16 to 220, both ways, under keys of both sizes."""
+    """The cases of tests/library.py: texts of each length from 16 to 220, both ways and without the first 16 bytes, under keys of both sizes."""
     for size, wanted in PUBLISHED:
         assert stolen(b"chicken teriyaki", SOUP[:size]).hex() == wanted, size
     text = bytes(7 * i % 256 for i in range(220))
     for key in (bytes(range(32)), bytes(range(16))):
         for size in range(16, 221):
             plain, cipher = text[:size].hex(), stolen(key, text[:size]).hex()
-            lines = [f"cts encrypt {key.hex()} {plain}", f"cts decrypt {key.hex()} {cipher}"]
-            yield "krb_calls_wire", f"stealing: {size} bytes, a key of {len(key)}", lines, [cipher, plain]
+            lines = [f"cts {call} {key.hex()} {it}" for call, it in (("encrypt", plain), ("decrypt", cipher), ("after-first", cipher))]
+            yield "krb_calls_wire", f"stealing: {size} bytes, a key of {len(key)}", lines, [cipher, plain, plain[32:] or "-"]

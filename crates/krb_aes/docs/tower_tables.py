@@ -81,6 +81,12 @@ def unaffine_form(b):
     return tower(LINEAR.index(b))
 
 
+def tripled_form(form):
+    """That of 03 times the byte whose form it is, both without the constant."""
+    byte = next(b for b in range(256) if unaffine_form(b) == form)
+    return unaffine_form(product(3, byte))
+
+
 def over(a, k):
     return small_product(a, SMALL_INVERSE[k]) if k else INFINITY
 
@@ -131,6 +137,7 @@ TABLES = {
 for c in (0x09, 0x04, 0x02, 0x01):
     TABLES[f"INV_{c:02X}_IO"] = from_io(lambda x: unaffine_form(product(c, x)))
     TABLES[f"INV_{c:02X}_JO"] = from_jo(lambda x: unaffine_form(product(c, x)))
+TABLES["INV_THRICE_LOW"], TABLES["INV_THRICE_HIGH"] = nibbles(tripled_form)
 for c in (0x0E, 0x0B, 0x0D, 0x09):
     low, high = nibbles(lambda x: product(c, x))
     TABLES[f"TIMES_{c:02X}_LOW"], TABLES[f"TIMES_{c:02X}_HIGH"] = low, high
@@ -161,6 +168,7 @@ def check():
         form = half("INV_FORM", s)
         io, jo = inverted(form >> 4, form & 15)
         assert look("INV_SUB_IO", io) ^ look("INV_SUB_JO", jo) == x
+        assert half("INV_THRICE", unaffine_form(x)) == unaffine_form(product(3, x))
         for c in (0x09, 0x04, 0x02, 0x01):
             times = look(f"INV_{c:02X}_IO", io) ^ look(f"INV_{c:02X}_JO", jo)
             assert times == half("INV_FORM", product(c, x)) ^ half("INV_FORM", 0)

@@ -111,6 +111,16 @@ listed_places (x ∷ xs) = ap (λ t. x ∷ t) (listed_places xs)
 pub state_of-at : (s : List ℕ) → length s ≡ 16 → state_of (at s) ≡ s
 state_of-at s size = rw size at (listed_places s)
 
+-- four blocks are those at their places
+pub four_listed : (blocks : List (List ℕ)) → length blocks ≡ 4 →
+    get_or blocks 0 [] ∷ get_or blocks 1 [] ∷ get_or blocks 2 [] ∷ get_or blocks 3 [] ∷ [] ≡ blocks
+four_listed (a ∷ b ∷ c ∷ d ∷ []) size = refl
+four_listed (a ∷ b ∷ c ∷ d ∷ e ∷ more) size = absurd (omega arith)
+four_listed (a ∷ b ∷ c ∷ []) size = absurd (omega arith)
+four_listed (a ∷ b ∷ []) size = absurd (omega arith)
+four_listed (a ∷ []) size = absurd (omega arith)
+four_listed [] size = absurd (omega arith)
+
 -- states with the same bytes
 pub same_state : (f g : ℕ → ℕ → ℕ) → ((r c : ℕ) → r < 4 → f r c ≡ g r c) → state_of f ≡ state_of g
 same_state f g e = λ i.

@@ -8,18 +8,17 @@ use Rattle.krb_aes.specs.SBox.{s_box}
 use Rattle.krb_aes.specs.State.{at, state_of, row_times_column, mix, sub_bytes, shift_rows, mix_columns, add_round_key}
 use Rattle.krb_aes.specs.Cipher.{IsBlock}
 use Rattle.krb_aes.specs.Inner.Schedule.{kept, three_rows, form_of_key}
-use Rattle.krb_aes.specs.Inner.Tower.{LanesBelow, read_from, substituted_of, tower_form}
+use Rattle.krb_aes.specs.Inner.Tower.{read_from, substituted_of, tower_form}
 use Rattle.krb_aes.specs.declared.tower.TheConstants.{ONCE_IO, ONCE_JO, THRICE_IO, THRICE_JO}
 use Rattle.krb_aes.specs.declared.lanes.TheConstants.{NEXT_ROWS, OPPOSITE_ROWS}
 use Rattle.krb_aes.proofs.ByteTests.{same_below}
-use Rattle.krb_aes.proofs.Bytes.{AreBytes, byte_tests, place, row_byte, s_box_byte, state_of-at, same_state}
+use Rattle.krb_aes.proofs.Bytes.{AreBytes, place, row_byte, s_box_byte, state_of-at, same_state}
 use Rattle.krb_aes.proofs.ProductRules.{product_by_03}
 use Rattle.krb_aes.proofs.Sums.{term, plus, value, same_sum, linear_sum}
 use Rattle.krb_aes.proofs.MixLaws.{row_times_column-xor}
 use Rattle.krb_aes.proofs.StateLaws.{mix_small}
-use Rattle.krb_aes.proofs.LaneRules.{map_below}
 use Rattle.krb_aes.proofs.LaneTests.{tower_columns, tower_part, tower_form_is, sub_is, once_is, thrice_is}
-use Rattle.krb_aes.proofs.LaneRounds.{lanes_of_block, of_block, mixed_lane, turned_lanes, mixed_lane_is, IsBlock-kept, by_row, shifted_twice, picked, at_16}
+use Rattle.krb_aes.proofs.LaneRounds.{of_block, mixed_lane, turned_lanes, mixed_lane_is, IsBlock-kept, by_row, shifted_twice, picked, at_16}
 
 -- ---- one lane
 
@@ -164,11 +163,3 @@ last_round_lanes form key once block size once_is is form_is =
     zip2 bit_xor (picked (map s_box (kept 1 t)) shifted_twice) (chunk 0 16 k) ≡ add_round_key (shift_rows (sub_bytes t)) k in
     let lanes = of_block tower_form substituted_of s_box sub_is _ form once (IsBlock-kept 1 block is) form_is once_is in
     (λ i. zip2 bit_xor (picked (lanes i) shifted_twice) (chunk 0 16 key)) ∙ at_16 P block key is.size size refl
-
-pub tower_form_byte : (x : ℕ) → x < 256 → tower_form x < 256
-unfolding tower_form
-tower_form_byte = byte_tests tower_form refl
-
-pub lanes_of_tower_form : (block form : List ℕ) → IsBlock block → form ≡ map tower_form block → LanesBelow 256 form
-lanes_of_tower_form block form is form_is =
-    subst (LanesBelow 256) (sym form_is) (map_below tower_form tower_form_byte block (lanes_of_block block is))

@@ -8,15 +8,14 @@ use Rattle.krb_aes.specs.SBox.{inv_s_box}
 use Rattle.krb_aes.specs.State.{at, state_of, row_times_column, inv_mix, inv_sub_bytes, inv_shift_rows, inv_mix_columns, add_round_key}
 use Rattle.krb_aes.specs.Cipher.{IsBlock}
 use Rattle.krb_aes.specs.Inner.Schedule.{kept, inv_form_of_key}
-use Rattle.krb_aes.specs.Inner.Tower.{LanesBelow, read_from, inv_form, inv_by_09, inv_by_0b, inv_by_0d, inv_by_0e}
+use Rattle.krb_aes.specs.Inner.Tower.{read_from, inv_form, inv_by_09, inv_by_0b, inv_by_0d, inv_by_0e}
 use Rattle.krb_aes.specs.declared.tower.TheConstants.{INV_SUB_IO, INV_SUB_JO}
 use Rattle.krb_aes.specs.declared.lanes.TheConstants.{NEXT_ROWS, OPPOSITE_ROWS, PREVIOUS_ROWS}
-use Rattle.krb_aes.proofs.Bytes.{AreBytes, byte_tests, place, row_byte, inv_s_box_byte, state_of-at, same_state}
+use Rattle.krb_aes.proofs.Bytes.{AreBytes, place, row_byte, inv_s_box_byte, state_of-at, same_state}
 use Rattle.krb_aes.proofs.FieldLaws.{linear-xor}
 use Rattle.krb_aes.proofs.StateLaws.{inv_mix_small, inv_mix_columns-added}
 use Rattle.krb_aes.proofs.LaneTests.{inv_columns, inv_part, inv_form_is, inv_sub_is, inv_0e_is, inv_0b_is, inv_0d_is, inv_09_is}
-use Rattle.krb_aes.proofs.LaneRules.{map_below}
-use Rattle.krb_aes.proofs.LaneRounds.{lanes_of_block, of_block, inv_mixed_lane_is, IsBlock-kept, by_row, turned_lanes, shifted_twice, picked, at_16}
+use Rattle.krb_aes.proofs.LaneRounds.{of_block, inv_mixed_lane_is, IsBlock-kept, by_row, turned_lanes, shifted_twice, picked, at_16}
 
 -- ---- one lane
 
@@ -65,8 +64,12 @@ products_of m s key =
     inv_round_of m (product_lanes 0x0e s) (product_lanes 0x0b s) (product_lanes 0x0d s) (product_lanes 0x09 s) key
 
 -- the column from which a lane of the next block comes
-abbrev inv_column_of : List ℕ → ℕ → ℕ → ℕ
+abbrev pub inv_column_of : List ℕ → ℕ → ℕ → ℕ
 inv_column_of block c j = inv_s_box (at block j ((c + 4 - j) % 4))
+
+-- the column of the lane at row r and column c
+abbrev pub kept_column : ℕ → ℕ → ℕ → ℕ
+kept_column n r c = (c + 3 * n * r) % 4
 
 inv_round_block : (m : ℕ) (block round_key : List ℕ) → m < 4 → IsBlock block → AreBytes round_key →
     products_of m (kept ((m + 1) % 4) block) (inv_form_of_key m round_key)
@@ -77,7 +80,6 @@ inv_round_block m block round_key small is key_is =
     products_of m (kept ((m + 1) % 4) t) (inv_form_of_key m round_key)
     ≡ map inv_form (kept m (add_round_key (inv_mix_columns (inv_sub_bytes (inv_shift_rows t))) (inv_mix_columns round_key))) in
     let s = state_of (at block) in
-    let kept_column : ℕ → ℕ → ℕ → ℕ = λ q r c. (c + 3 * q * r) % 4 in
     let key : ℕ → ℕ → ℕ = λ r c. row_times_column inv_mix r (λ k. at round_key k c) in
     let lanes : ℕ → ℕ → ℕ → ℕ = λ q r c. inv_round_lane r (inv_column_of block (kept_column q r c)) (key r (kept_column q r c)) in
     let bytes_of : ℕ → ℕ → ℕ → ℕ = λ q r c.
@@ -118,12 +120,3 @@ inv_last_round_lanes form key once block is size form_is once_is =
     zip2 bit_xor (picked (map inv_s_box (kept 3 t)) shifted_twice) (chunk 0 16 k) ≡ add_round_key (inv_sub_bytes (inv_shift_rows t)) k in
     let lanes = of_block inv_form (read_from INV_SUB_IO INV_SUB_JO) inv_s_box inv_sub_is _ form once (IsBlock-kept 3 block is) form_is once_is in
     (λ i. zip2 bit_xor (picked (lanes i) shifted_twice) (chunk 0 16 key)) ∙ at_16 P block key is.size size refl
-
--- the forms of bytes are bytes
-inv_form_byte : (x : ℕ) → x < 256 → inv_form x < 256
-unfolding inv_form
-inv_form_byte = byte_tests inv_form refl
-
-pub lanes_of_inv_form : (block form : List ℕ) → IsBlock block → form ≡ map inv_form block → LanesBelow 256 form
-lanes_of_inv_form block form is form_is =
-    subst (LanesBelow 256) (sym form_is) (map_below inv_form inv_form_byte block (lanes_of_block block is))

@@ -4,11 +4,10 @@ use Rattle.krb_aes.specs.State.{inv_sub_bytes, inv_shift_rows, inv_mix_columns, 
 use Rattle.krb_aes.specs.KeyExpansion.{IsKey, key_expansion, round_count, round_key}
 use Rattle.krb_aes.specs.Cipher.{IsBlock, inv_rounds, inv_cipher}
 use Rattle.krb_aes.specs.Inner.Schedule.{kept, inv_form_of_key, inv_round_key}
-use Rattle.krb_aes.specs.Inner.Tower.{LanesBelow, inv_form}
+use Rattle.krb_aes.specs.Inner.Tower.{inv_form}
 use Rattle.krb_aes.proofs.Bytes.{AreBytes, round_key_bytes}
 use Rattle.krb_aes.proofs.ExpansionRules.{rounds_of_four}
-use Rattle.krb_aes.proofs.LaneRounds.{IsBlock-kept, kept_none}
-use Rattle.krb_aes.proofs.InvRounds.{lanes_of_inv_form}
+use Rattle.krb_aes.proofs.LaneRounds.{kept_none}
 use Rattle.krb_aes.proofs.RoundRules.{inv_rounds_before}
 use Rattle.krb_aes.proofs.StateLaws.{IsBlock-add_round_key, IsBlock-inv_mix_columns, IsBlock-restored}
 
@@ -19,9 +18,6 @@ pub record IsUnderWay (key block form : List ℕ) (at : ℕ) : Type 0 where
   pub is_block : IsBlock state
   pub has_form : form ≡ map inv_form (kept ((at + 2) % 4) state)
   pub left : inv_rounds (round_key (key_expansion key)) (at - 1) state ≡ inv_cipher key block
-
-pub lanes_of_form : (key block form : List ℕ) (at : ℕ) → IsUnderWay key block form at → LanesBelow 256 form
-lanes_of_form key block form at u = lanes_of_inv_form _ form (IsBlock-kept ((at + 2) % 4) u.state u.is_block) u.has_form
 
 pub begun : (key block form first : List ℕ) (last : ℕ) → IsKey key → IsBlock block → last ≡ round_count key →
     first ≡ round_key (key_expansion key) last → form ≡ map inv_form (add_round_key block first) → IsUnderWay key block form last

@@ -2,7 +2,6 @@
 use Rattle.std.proofs.Common.{◌≡◌, ℕ, zero, suc, ◌+◌, ◌*◌, ◌%◌, ◌<◌, List, [], ◌∷◌, ◌++◌, get_or, length, map, replicate, refl, lit<, sym, ap, ◌∙◌, subst, arith, bit_xor}
 use Rattle.std.specs.Prelude.{slice_index}
 use Rattle.std.specs.Simd.Lanes.{zip2, pick_l, chunk}
-use Rattle.std.proofs.lemmas.Nat.{xor_of_8}
 use Rattle.std.proofs.lemmas.Simd.{Each1-from_get_or}
 use Rattle.krb_aes.specs.Field.{product}
 use Rattle.krb_aes.specs.State.{at, state_of, row_times_column, mix, inv_mix, inv_mix_columns, add_round_key}
@@ -10,7 +9,7 @@ use Rattle.krb_aes.specs.Cipher.{IsBlock}
 use Rattle.krb_aes.specs.Inner.Schedule.{kept, three_rows}
 use Rattle.krb_aes.specs.Inner.Tower.{LanesBelow, looked_up}
 use Rattle.krb_aes.specs.declared.lanes.TheConstants.{KEPT}
-use Rattle.krb_aes.proofs.Bytes.{AreBytes, place, IsBlock-state_of, state_of-at, same_state}
+use Rattle.krb_aes.proofs.Bytes.{place, IsBlock-state_of, state_of-at, same_state}
 use Rattle.krb_aes.proofs.LaneRules.{map_after}
 use Rattle.krb_aes.proofs.Sums.{Sum, term, plus, value, terms, same_sum}
 use Rattle.krb_aes.proofs.ProductRules.{product_by_01, product_by_03}
@@ -119,16 +118,16 @@ pub at_16 : (P : List ℕ → List ℕ → Type 0) (s key : List ℕ) → length
 at_16 P s key s_size key_size h =
     subst (λ t. P t key) (state_of-at s s_size) (subst (λ t. P (state_of (at s)) t) (state_of-at key key_size) h)
 
-pub inv_mix_lanes : (s e b d n : List ℕ) → IsBlock s →
+pub inv_mix_lanes : (s e b d n : List ℕ) → length s ≡ 16 →
     e ≡ map (product 0x0e) s → b ≡ map (product 0x0b) s → d ≡ map (product 0x0d) s → n ≡ map (product 0x09) s →
     zip2 bit_xor (zip2 bit_xor e (picked b turned_1)) (zip2 bit_xor (picked d turned_2) (picked n turned_3)) ≡ inv_mix_columns s
 unfolding inv_mix_columns
-inv_mix_lanes s e b d n block e_is b_is d_is n_is =
+inv_mix_lanes s e b d n size e_is b_is d_is n_is =
     let P : List ℕ → Type 0 = λ t.
     zip2 bit_xor (zip2 bit_xor (map (product 0x0e) t) (picked (map (product 0x0b) t) turned_1))
     (zip2 bit_xor (picked (map (product 0x0d) t) turned_2) (picked (map (product 0x09) t) turned_3)) ≡ inv_mix_columns t in
     (λ i. zip2 bit_xor (zip2 bit_xor (e_is i) (picked (b_is i) turned_1)) (zip2 bit_xor (picked (d_is i) turned_2) (picked (n_is i) turned_3)))
-    ∙ subst P (state_of-at s block.size)
+    ∙ subst P (state_of-at s size)
     (same_state (λ r c. inv_mixed_lane r (λ j. at s j c)) (λ r c. row_times_column inv_mix r (λ j. at s j c))
     (λ r c small. inv_mixed_lane_is r (λ j. at s j c) small))
 
@@ -143,14 +142,6 @@ unfolding add_round_key three_rows
 three_rows_lanes key size =
     subst (λ k. zip2 bit_xor (keyed_lanes k) (zip2 bit_xor (picked (keyed_lanes k) turned_1) (picked (keyed_lanes k) turned_2))
     ≡ three_rows (add_round_key (replicate 16 0x63) k)) (state_of-at key size) refl
-
-pub IsBlock-three_rows : (key : List ℕ) → AreBytes key → IsBlock (three_rows (add_round_key (replicate 16 0x63) key))
-unfolding add_round_key three_rows
-IsBlock-three_rows key bytes =
-    let keyed : ℕ → ℕ → ℕ = λ r c. bit_xor 0x63 (at key r c) in
-    let is : IsBlock (state_of keyed) = IsBlock-state_of keyed (λ r c. xor_of_8 0x63 _ (lit< tt) (place key (r + 4 * c) bytes)) in
-    let byte : (r c : ℕ) → at (state_of keyed) r c < 256 = λ r c. place (state_of keyed) (r + 4 * c) is.bytes in
-    IsBlock-state_of _ (λ r c. xor_of_8 _ _ (byte r c) (xor_of_8 _ _ (byte ((r + 1) % 4) c) (byte ((r + 2) % 4) c)))
 
 abbrev pub turned_lanes : List (List ℕ) → ℕ → List ℕ → List ℕ
 turned_lanes places n s = map (looked_up s) (get_or places n [])

@@ -1,9 +1,9 @@
 -- Look-ups on 16 lanes, lane by lane.
-use Rattle.std.proofs.Common.{◌≡◌, ℕ, suc, ◌+◌, ◌*◌, ◌/◌, ◌^◌, ◌<◌, ◌≤◌, ◌||◌, Bool, true, T, IsTrue, List, [], ◌∷◌, length, map, replicate, refl, sym, ap, ◌∙◌, subst, arith, bit_and, bit_xor, nat_le, nat_lt, w8}
+use Rattle.std.proofs.Common.{◌≡◌, Fits, ℕ, suc, ◌+◌, ◌*◌, ◌/◌, ◌^◌, ◌<◌, ◌≤◌, ◌||◌, Bool, true, T, IsTrue, List, [], ◌∷◌, length, map, replicate, refl, sym, ap, ◌∙◌, subst, arith, bit_and, bit_xor, nat_le, nat_lt, w8}
 use Rattle.std.specs.Simd.Lanes.{Each1, zip2}
 use Rattle.std.proofs.lemmas.Bool.{agree_below, agree_below_at, or_right, lt-ltb, ltb-true}
 use Rattle.std.proofs.lemmas.Float.{T_from_true}
-use Rattle.std.proofs.lemmas.Simd.{swz_l, SwzOk, SwzOk-from_Each1, Each1-weaker, Each1-zip2, Each2-of, length-zip2, zip2_splat, zip2_of_maps}
+use Rattle.std.proofs.lemmas.Simd.{swz_l, SwzOk, SwzOk-from_Each1, below_from_Fits, Each1-weaker, Each1-zip2, Each2-of, length-zip2, zip2_splat, zip2_of_maps}
 use Rattle.krb_aes.specs.State.{at, state_of}
 use Rattle.krb_aes.specs.Inner.Tower.{ArePlaces, LanesBelow, looked_up, by_nibbles, io_of, jo_of, io_at, jo_at, read_from}
 use Rattle.krb_aes.specs.declared.tower.TheConstants.{INVERSES, A_OVER}
@@ -28,6 +28,10 @@ swz_is_map table ps are = looked_up_lanes table ps 0 (omega (arith, are.size))
 
 -- ---- lanes below a bound
 
+-- a vector of 16 bytes
+pub bytes_in_lanes : (v : List ℕ) → (length v ≡ 16) × Each1 (Fits w8) v → LanesBelow 256 v
+bytes_in_lanes v is = record { size = is.0; each = below_from_Fits w8 v is.1 }
+
 pub places_below : (ps : List ℕ) → LanesBelow 16 ps → ArePlaces ps
 places_below ps below = record {
   size = below.size;
@@ -41,12 +45,9 @@ below_by_test p g ok [] bytes = tt
 below_by_test p g ok (x ∷ xs) bytes =
     (agree_below_at (λ y. p (g y)) (λ _. true) 256 x ok bytes.0, below_by_test p g ok xs bytes.1)
 
-pub length-map_lanes : (g : ℕ → ℕ) (v : List ℕ) → length (map g v) ≡ length v
+length-map_lanes : (g : ℕ → ℕ) (v : List ℕ) → length (map g v) ≡ length v
 length-map_lanes g [] = refl
 length-map_lanes g (x ∷ xs) = ap suc (length-map_lanes g xs)
-
-pub sum_size : (xs ys : List ℕ) → length xs ≡ 16 → length ys ≡ 16 → length (zip2 bit_xor xs ys) ≡ 16
-sum_size xs ys xs_size ys_size = length-zip2 bit_xor xs ys (xs_size ∙ sym ys_size) ∙ xs_size
 
 pub places_of_bytes : (g : ℕ → ℕ) → agree_below (λ x. is_place (g x)) (λ _. true) 256 ≡ true → (v : List ℕ) → LanesBelow 256 v → ArePlaces (map g v)
 places_of_bytes g ok v below = record {
@@ -89,13 +90,6 @@ pub map_after : (g f h : ℕ → ℕ) → ((x : ℕ) → x < 256 → f (g x) ≡
     map f (map g v) ≡ map h v
 map_after g f h same [] bytes = refl
 map_after g f h same (x ∷ xs) bytes = λ i. same x bytes.0 i ∷ map_after g f h same xs bytes.1 i
-
-each_below : (g : ℕ → ℕ) → ((x : ℕ) → x < 256 → g x < 256) → (v : List ℕ) → Each1 (λ x. x < 256) v → Each1 (λ x. x < 256) (map g v)
-each_below g below [] bytes = tt
-each_below g below (x ∷ xs) bytes = (below x bytes.0, each_below g below xs bytes.1)
-
-pub map_below : (g : ℕ → ℕ) → ((x : ℕ) → x < 256 → g x < 256) → (v : List ℕ) → LanesBelow 256 v → LanesBelow 256 (map g v)
-map_below g below v lanes = record { size = length-map_lanes g v ∙ lanes.size; each = each_below g below v lanes.each }
 
 pub by_nibbles_lanes : (low high v p q : List ℕ) → length v ≡ 16 →
     p ≡ map (looked_up low) (zip2 bit_and v (replicate 16 15)) →

@@ -3,7 +3,7 @@ use Rattle.std.proofs.Common.{◌≡◌, ℕ, ◌<◌, List, [], ◌∷◌, refl
 use Rattle.krb_aes.specs.Field.{carryless, remainder, product, inverse, number_with}
 use Rattle.krb_aes.specs.SBox.{affine, s_box, inv_s_box}
 use Rattle.krb_aes.specs.Inner.Tower.{by_nibbles, read_from, substituted_of, tower_form, inv_form, inv_by_09, inv_by_0b, inv_by_0d, inv_by_0e}
-use Rattle.krb_aes.specs.declared.tower.TheConstants.{ONCE_IO, ONCE_JO, THRICE_IO, THRICE_JO, INV_SUB_IO, INV_SUB_JO, TIMES_0E_LOW, TIMES_0E_HIGH, TIMES_0B_LOW, TIMES_0B_HIGH, TIMES_0D_LOW, TIMES_0D_HIGH, TIMES_09_LOW, TIMES_09_HIGH}
+use Rattle.krb_aes.specs.declared.tower.TheConstants.{ONCE_IO, ONCE_JO, THRICE_IO, THRICE_JO, INV_SUB_IO, INV_SUB_JO, INV_04_IO, INV_04_JO, INV_01_IO, INV_01_JO, INV_THRICE_LOW, INV_THRICE_HIGH, TIMES_0E_LOW, TIMES_0E_HIGH, TIMES_0B_LOW, TIMES_0B_HIGH, TIMES_0D_LOW, TIMES_0D_HIGH, TIMES_09_LOW, TIMES_09_HIGH}
 use Rattle.krb_aes.proofs.ByteTests.{same_below}
 use Rattle.krb_aes.proofs.FieldLaws.{linear}
 
@@ -51,6 +51,21 @@ inv_form_is = same_below inv_form (λ x. bit_xor (inv_part x) 0x2c) 256 refl
 pub inv_sub_is : (x : ℕ) → x < 256 → read_from INV_SUB_IO INV_SUB_JO (inv_form x) ≡ inv_s_box x
 unfolding carryless remainder product inverse number_with affine s_box inv_s_box inv_form
 inv_sub_is = same_below (λ x. read_from INV_SUB_IO INV_SUB_JO (inv_form x)) inv_s_box 256 refl
+
+pub inv_01_is : (x : ℕ) → x < 256 → read_from INV_01_IO INV_01_JO (inv_form x) ≡ inv_part (inv_s_box x)
+unfolding carryless remainder product inverse number_with affine s_box inv_s_box linear inv_form
+inv_01_is =
+    same_below (λ x. read_from INV_01_IO INV_01_JO (inv_form x)) (λ x. inv_part (inv_s_box x)) 256 refl
+
+pub inv_04_is : (x : ℕ) → x < 256 → read_from INV_04_IO INV_04_JO (inv_form x) ≡ inv_part (product 0x04 (inv_s_box x))
+unfolding carryless remainder product inverse number_with affine s_box inv_s_box linear inv_form
+inv_04_is =
+    same_below (λ x. read_from INV_04_IO INV_04_JO (inv_form x)) (λ x. inv_part (product 0x04 (inv_s_box x))) 256 refl
+
+pub inv_thrice_is : (x : ℕ) → x < 256 → by_nibbles INV_THRICE_LOW INV_THRICE_HIGH (inv_part x) ≡ inv_part (product 0x03 x)
+unfolding carryless remainder product linear
+inv_thrice_is =
+    same_below (λ x. by_nibbles INV_THRICE_LOW INV_THRICE_HIGH (inv_part x)) (λ x. inv_part (product 0x03 x)) 256 refl
 
 pub inv_0e_is : (x : ℕ) → x < 256 → inv_by_0e (inv_form x) ≡ inv_part (product 0x0e (inv_s_box x))
 unfolding carryless remainder product inverse number_with affine s_box inv_s_box linear inv_form

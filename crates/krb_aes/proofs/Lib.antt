@@ -15,5 +15,6 @@ pub mod LaneRules
 pub mod LaneTests
 pub mod LaneRounds
 pub mod InvRounds
+pub mod SeveralRounds
 pub mod InvSteps
 pub mod FormRounds

@@ -1,10 +1,10 @@
--- The matrix of InvMixColumns is the inverse of that of MixColumns, over the field of the bytes.
+-- Products of matrices over the field of the bytes: that of InvMixColumns is the inverse of that of MixColumns.
 use Rattle.std.proofs.Common.{◌≡◌, ℕ, zero, suc, ◌+◌, ◌<◌, [], ◌∷◌, Bool, true, eqb, cond, refl, ap, ◌∙◌, lit<, arith, bit_xor}
 use Rattle.std.specs.Prelude.{slice_index}
 use Rattle.std.specs.Int.Bits.{xor_zero_r}
 use Rattle.std.proofs.lemmas.Bool.{agree_below, agree_below_at}
 use Rattle.krb_aes.specs.Field.{carryless, remainder, product}
-use Rattle.krb_aes.specs.State.{row_times_column, mix, inv_mix}
+use Rattle.krb_aes.specs.State.{circulant, row_times_column, mix, inv_mix}
 use Rattle.krb_aes.proofs.ByteTests.{same_on, same_below}
 use Rattle.krb_aes.proofs.FieldLaws.{xor_zero_l, product-xor}
 use Rattle.krb_aes.proofs.Sums.{Sum, term, plus, same_sum}
@@ -45,18 +45,32 @@ product-sum4 c f =
 abbrev entry : (ℕ → ℕ → ℕ) → (ℕ → ℕ → ℕ) → ℕ → ℕ → ℕ → ℕ
 entry m n r k x = sum4 (λ j. product (m r j) (product (n j k) x))
 
+-- whether an entry of the product of two matrices, times a byte, is always what e gives
+abbrev has_entries : (m n : ℕ → ℕ → ℕ) (e : ℕ → ℕ → ℕ → ℕ) → Bool
+has_entries m n e = agree_below (λ r. agree_below (λ k. same_on (entry m n r k) (e r k) 256) (λ _. true) 4) (λ _. true) 4
+
+entry_is : (m n : ℕ → ℕ → ℕ) (e : ℕ → ℕ → ℕ → ℕ) → has_entries m n e ≡ true → (r k x : ℕ) → r < 4 → k < 4 → x < 256 →
+    entry m n r k x ≡ e r k x
+entry_is m n e ok r k x r_small k_small x_byte =
+    let row = agree_below_at (λ a. agree_below (λ b. same_on (entry m n a b) (e a b) 256) (λ _. true) 4) (λ _. true) 4 r ok r_small in
+    let cell = agree_below_at (λ b. same_on (entry m n r b) (e r b) 256) (λ _. true) 4 k row k_small in
+    same_below (entry m n r k) (e r k) 256 cell x x_byte
+
+row_of_product : (m n : ℕ → ℕ → ℕ) (e : ℕ → ℕ → ℕ → ℕ) → has_entries m n e ≡ true →
+    (r : ℕ) (column : ℕ → ℕ) → r < 4 → ((k : ℕ) → column k < 256) →
+    row_times_column m r (λ j. row_times_column n j column) ≡ sum4 (λ k. e r k (column k))
+row_of_product m n e ok r column r_small bytes =
+    let p : (j : ℕ) → product (m r j) (sum4 (λ k. product (n j k) (column k))) ≡ sum4 (λ k. product (m r j) (product (n j k) (column k))) =
+    λ j. product-sum4 (m r j) (λ k. product (n j k) (column k)) in
+    let q : (k : ℕ) → k < 4 → entry m n r k (column k) ≡ e r k (column k) =
+    λ k k_small. entry_is m n e ok r k (column k) r_small k_small (bytes k) in
+    (λ i. bit_xor (bit_xor (bit_xor (p 0 i) (p 1 i)) (p 2 i)) (p 3 i))
+    ∙ transposed (λ j k. product (m r j) (product (n j k) (column k)))
+    ∙ (λ i. bit_xor (bit_xor (bit_xor (q 0 (lit< tt) i) (q 1 (lit< tt) i)) (q 2 (lit< tt) i)) (q 3 (lit< tt) i))
+
 -- the entry of the unit matrix, times a byte
 abbrev unit : ℕ → ℕ → ℕ → ℕ
 unit r k x = cond (eqb r k) x 0
-
-abbrev undoes : (ℕ → ℕ → ℕ) → (ℕ → ℕ → ℕ) → Bool
-undoes m n = agree_below (λ r. agree_below (λ k. same_on (entry m n r k) (unit r k) 256) (λ _. true) 4) (λ _. true) 4
-
-entry_is_unit : (m n : ℕ → ℕ → ℕ) → undoes m n ≡ true → (r k x : ℕ) → r < 4 → k < 4 → x < 256 → entry m n r k x ≡ unit r k x
-entry_is_unit m n ok r k x r_small k_small x_byte =
-    let row = agree_below_at (λ a. agree_below (λ b. same_on (entry m n a b) (unit a b) 256) (λ _. true) 4) (λ _. true) 4 r ok r_small in
-    let cell = agree_below_at (λ b. same_on (entry m n r b) (unit r b) 256) (λ _. true) 4 k row k_small in
-    same_below (entry m n r k) (unit r k) 256 cell x x_byte
 
 unit_row : (r : ℕ) (column : ℕ → ℕ) → r < 4 → sum4 (λ k. unit r k (column k)) ≡ column r
 unit_row zero column r_small =
@@ -68,17 +82,9 @@ unit_row (suc (suc zero)) column r_small =
 unit_row (suc (suc (suc zero))) column r_small = xor_zero_l (column 3)
 unit_row (suc (suc (suc (suc r)))) column r_small = absurd (omega arith)
 
-row_undone : (m n : ℕ → ℕ → ℕ) → undoes m n ≡ true → (r : ℕ) (column : ℕ → ℕ) → r < 4 → ((k : ℕ) → column k < 256) →
+row_undone : (m n : ℕ → ℕ → ℕ) → has_entries m n unit ≡ true → (r : ℕ) (column : ℕ → ℕ) → r < 4 → ((k : ℕ) → column k < 256) →
     row_times_column m r (λ j. row_times_column n j column) ≡ column r
-row_undone m n ok r column r_small bytes =
-    let e : (j : ℕ) → product (m r j) (sum4 (λ k. product (n j k) (column k))) ≡ sum4 (λ k. product (m r j) (product (n j k) (column k))) =
-    λ j. product-sum4 (m r j) (λ k. product (n j k) (column k)) in
-    let f : (k : ℕ) → k < 4 → entry m n r k (column k) ≡ unit r k (column k) =
-    λ k k_small. entry_is_unit m n ok r k (column k) r_small k_small (bytes k) in
-    (λ i. bit_xor (bit_xor (bit_xor (e 0 i) (e 1 i)) (e 2 i)) (e 3 i))
-    ∙ transposed (λ j k. product (m r j) (product (n j k) (column k)))
-    ∙ (λ i. bit_xor (bit_xor (bit_xor (f 0 (lit< tt) i) (f 1 (lit< tt) i)) (f 2 (lit< tt) i)) (f 3 (lit< tt) i))
-    ∙ unit_row r column r_small
+row_undone m n ok r column r_small bytes = row_of_product m n unit ok r column r_small bytes ∙ unit_row r column r_small
 
 pub inv_mix_undoes_mix : (r : ℕ) (column : ℕ → ℕ) → r < 4 → ((k : ℕ) → column k < 256) →
     row_times_column inv_mix r (λ j. row_times_column mix j column) ≡ column r
@@ -89,3 +95,12 @@ pub mix_undoes_inv_mix : (r : ℕ) (column : ℕ → ℕ) → r < 4 → ((k : �
     row_times_column mix r (λ j. row_times_column inv_mix j column) ≡ column r
 unfolding carryless remainder product
 mix_undoes_inv_mix = row_undone mix inv_mix refl
+
+-- MixColumns after the matrix with this first row is InvMixColumns
+abbrev pub opposites : ℕ → ℕ → ℕ
+opposites = circulant (0x05 ∷ 0x00 ∷ 0x04 ∷ 0x00 ∷ [])
+
+pub mix_of_opposites : (r : ℕ) (column : ℕ → ℕ) → r < 4 → ((k : ℕ) → column k < 256) →
+    row_times_column mix r (λ j. row_times_column opposites j column) ≡ row_times_column inv_mix r column
+unfolding carryless remainder product
+mix_of_opposites = row_of_product mix opposites (λ r k. product (inv_mix r k)) refl

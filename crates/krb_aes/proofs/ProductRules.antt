@@ -10,6 +10,14 @@ pub product_by_01 : (x : ℕ) → x < 256 → product 0x01 x ≡ x
 unfolding carryless remainder product
 product_by_01 = same_below (product 0x01) (λ x. x) 256 refl
 
+pub product_by_00 : (x : ℕ) → x < 256 → product 0x00 x ≡ 0
+unfolding carryless remainder product
+product_by_00 = same_below (product 0x00) (λ _. 0) 256 refl
+
+pub product_by_05 : (x : ℕ) → x < 256 → product 0x05 x ≡ bit_xor x (product 0x04 x)
+unfolding carryless remainder product
+product_by_05 = same_below (product 0x05) (λ x. bit_xor x (product 0x04 x)) 256 refl
+
 pub product_by_03 : (x : ℕ) → x < 256 → product 0x03 x ≡ bit_xor (double x) x
 unfolding carryless remainder product
 product_by_03 = same_below (product 0x03) (λ x. bit_xor (double x) x) 256 refl

@@ -1,4 +1,4 @@
-ghost use Rattle.std.specs.Prelude.{◌≡◌, ◌+◌, ◌*◌, ◌/◌, ◌<◌, ◌≤◌, List, ℕ, length, take};
+ghost use Rattle.std.specs.Prelude.{◌≡◌, ◌+◌, ◌*◌, ◌/◌, ◌<◌, ◌≤◌, List, ℕ, length, map, take};
 ghost use Rattle.krb_aes.specs.KeyExpansion.{IsKey, key_expansion, round_count, round_key};
 ghost use Rattle.krb_aes.specs.Cipher.{cipher, inv_cipher};
 ghost use Rattle.krb_aes.specs.Inner.Schedule.{IsSchedule, form_round_key, inv_round_key};
@@ -102,6 +102,18 @@ impl KeySchedule {
         ensures other_undone { cipher self.now other.new ≡ other.old }
     {
         lanes::decrypt_two_blocks(self, one, other);
+    }
+
+    /// Decrypts four blocks in place, each as `decrypt_block` does. This is faster than two calls for two blocks.
+    ///
+    /// Source: FIPS 197, section 5.3.
+    pub fn decrypt_four_blocks(&self, blocks: &mut [[u8; 16]; 4])
+        ensures key { IsKey self.now }
+        ensures blocks { blocks.new ≡ map (inv_cipher self.now) blocks.old }
+        // Encryption gives the old blocks back.
+        ensures undone { map (cipher self.now) blocks.new ≡ blocks.old }
+    {
+        lanes::decrypt_four_blocks(self, blocks);
     }
 
     // The number of rounds.

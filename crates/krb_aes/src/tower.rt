@@ -7,7 +7,7 @@ ghost use Rattle.std.specs.Simd.Lanes.{zip2};
 ghost use Rattle.krb_aes.specs.Field.{product};
 ghost use Rattle.krb_aes.specs.SBox.{s_box};
 ghost use Rattle.krb_aes.specs.Inner.Tower.{ArePlaces, LanesBelow, looked_up, by_nibbles, io_of, jo_of, io_at, jo_at, read_from, substituted_of, tower_form, inv_form, inv_by_09, inv_by_0b, inv_by_0d, inv_by_0e};
-ghost use Rattle.krb_aes.specs.declared.tower.TheConstants.{ONCE_IO, ONCE_JO, THRICE_IO, THRICE_JO, INV_SUB_IO, INV_SUB_JO};
+ghost use Rattle.krb_aes.specs.declared.tower.TheConstants.{ONCE_IO, ONCE_JO, THRICE_IO, THRICE_JO, INV_SUB_IO, INV_SUB_JO, INV_04_IO, INV_04_JO, INV_01_IO, INV_01_JO, INV_THRICE_LOW, INV_THRICE_HIGH};
 
 use std::simd::prelude::*;
 
@@ -99,6 +99,14 @@ static INV_01_JO: [u8; 16] = [
     0x00, 0x73, 0xc3, 0x06, 0xc1, 0x77, 0xc5, 0xb6, 0x75, 0xb4, 0xb2, 0x71, 0x04, 0x02, 0xc7, 0xb0,
 ];
 
+static INV_THRICE_LOW: [u8; 16] = [
+    0x00, 0x1d, 0x46, 0x5b, 0x93, 0x8e, 0xd5, 0xc8, 0x82, 0x9f, 0xc4, 0xd9, 0x11, 0x0c, 0x57, 0x4a,
+];
+
+static INV_THRICE_HIGH: [u8; 16] = [
+    0x00, 0x20, 0x06, 0x26, 0xf7, 0xd7, 0xf1, 0xd1, 0xc1, 0xe1, 0xc7, 0xe7, 0x36, 0x16, 0x30, 0x10,
+];
+
 static TIMES_0E_LOW: [u8; 16] = [
     0x00, 0x0e, 0x1c, 0x12, 0x38, 0x36, 0x24, 0x2a, 0x70, 0x7e, 0x6c, 0x62, 0x48, 0x46, 0x54, 0x5a,
 ];
@@ -143,7 +151,6 @@ pub(crate) fn looked_up(table: &[u8; 16], places: u8x16) -> u8x16
 // The sum of an entry for each byte's low half and one for its high half.
 #[inline(always)]
 fn by_nibbles(low: &[u8; 16], high: &[u8; 16], bytes: u8x16) -> u8x16
-    requires { LanesBelow 256 bytes }
     ensures { result ≡ map (by_nibbles low.now high.now) bytes }
 {
     looked_up(low, bytes & u8x16::splat(0x0f)) ^ looked_up(high, bytes >> u8x16::splat(4))
@@ -167,7 +174,6 @@ fn inverted(i: u8x16, k: u8x16) -> (u8x16, u8x16)
 // Each byte in the form that encryption keeps: as 16 * i + k.
 #[inline(always)]
 pub(crate) fn formed(bytes: u8x16) -> u8x16
-    requires { LanesBelow 256 bytes }
     ensures { result ≡ map tower_form bytes }
 {
     by_nibbles(&TOWER_LOW, &TOWER_HIGH, bytes)
@@ -176,7 +182,6 @@ pub(crate) fn formed(bytes: u8x16) -> u8x16
 // Each byte in the form that decryption keeps: as 16 * i + k, with the affine transformation undone.
 #[inline(always)]
 pub(crate) fn inv_formed(bytes: u8x16) -> u8x16
-    requires { LanesBelow 256 bytes }
     ensures { result ≡ map inv_form bytes }
 {
     by_nibbles(&INV_FORM_LOW, &INV_FORM_HIGH, bytes)
@@ -185,7 +190,6 @@ pub(crate) fn inv_formed(bytes: u8x16) -> u8x16
 // The two values from which the inverse of each k + i * s is read, where a lane is 16 * i + k.
 #[inline(always)]
 fn inverted_form(form: u8x16) -> (u8x16, u8x16)
-    requires { LanesBelow 256 form }
     ensures io { result.0 ≡ map io_at form }
     ensures jo { result.1 ≡ map jo_at form }
     ensures io_places { ArePlaces result.0 }
@@ -207,7 +211,6 @@ fn read(io_table: &[u8; 16], jo_table: &[u8; 16], values: (u8x16, u8x16)) -> u8x
 // SBox of each byte in the form that encryption keeps.
 #[inline(always)]
 pub(crate) fn substituted_form(form: u8x16) -> u8x16
-    requires { LanesBelow 256 form }
     ensures { result ≡ map substituted_of form }
 {
     read(&SUB_IO, &SUB_JO, inverted_form(form)) ^ u8x16::splat(0x63)
@@ -216,7 +219,6 @@ pub(crate) fn substituted_form(form: u8x16) -> u8x16
 // SBox of each byte.
 #[inline(always)]
 pub(crate) fn substituted(bytes: u8x16) -> u8x16
-    requires { LanesBelow 256 bytes }
     ensures { result ≡ map s_box bytes }
 {
     substituted_form(formed(bytes))
@@ -225,7 +227,6 @@ pub(crate) fn substituted(bytes: u8x16) -> u8x16
 // SBox of each byte in the form that encryption keeps, without the constant 63, and 03 times that: both in this form.
 #[inline(always)]
 pub(crate) fn products(form: u8x16) -> (u8x16, u8x16)
-    requires { LanesBelow 256 form }
     ensures once { result.0 ≡ map (read_from ONCE_IO ONCE_JO) form }
     ensures tripled { result.1 ≡ map (read_from THRICE_IO THRICE_JO) form }
 {
@@ -239,7 +240,6 @@ pub(crate) fn products(form: u8x16) -> (u8x16, u8x16)
 // InvSBox of each byte in the form that decryption keeps.
 #[inline(always)]
 pub(crate) fn inv_substituted(form: u8x16) -> u8x16
-    requires { LanesBelow 256 form }
     ensures { result ≡ map (read_from INV_SUB_IO INV_SUB_JO) form }
 {
     read(&INV_SUB_IO, &INV_SUB_JO, inverted_form(form))
@@ -256,7 +256,6 @@ pub(crate) struct InvProducts {
 // By sums of four products. Of two look-ups that one permutation alone waits for, the compiler would permute each.
 #[inline(always)]
 pub(crate) fn inv_products(form: u8x16) -> InvProducts
-    requires { LanesBelow 256 form }
     ensures by_0e { result.by_0e ≡ map inv_by_0e form }
     ensures by_0b { result.by_0b ≡ map inv_by_0b form }
     ensures by_0d { result.by_0d ≡ map inv_by_0d form }
@@ -276,9 +275,29 @@ pub(crate) fn inv_products(form: u8x16) -> InvProducts
     }
 }
 
+// InvSBox of each byte in the form that decryption keeps, and 04 times that: both in this form but for its constant.
+#[inline(always)]
+pub(crate) fn inv_by_01_and_04(form: u8x16) -> (u8x16, u8x16)
+    ensures by_01 { result.0 ≡ map (read_from INV_01_IO INV_01_JO) form }
+    ensures by_04 { result.1 ≡ map (read_from INV_04_IO INV_04_JO) form }
+{
+    let values = inverted_form(form);
+    (
+        read(&INV_01_IO, &INV_01_JO, values),
+        read(&INV_04_IO, &INV_04_JO, values),
+    )
+}
+
+// 03 times each byte: both in the form that decryption keeps but for its constant.
+#[inline(always)]
+pub(crate) fn inv_thrice(form: u8x16) -> u8x16
+    ensures { result ≡ map (by_nibbles INV_THRICE_LOW INV_THRICE_HIGH) form }
+{
+    by_nibbles(&INV_THRICE_LOW, &INV_THRICE_HIGH, form)
+}
+
 #[inline(always)]
 pub(crate) fn times_0e(bytes: u8x16) -> u8x16
-    requires { LanesBelow 256 bytes }
     ensures { result ≡ map (product 0x0e) bytes }
 {
     by_nibbles(&TIMES_0E_LOW, &TIMES_0E_HIGH, bytes)
@@ -286,7 +305,6 @@ pub(crate) fn times_0e(bytes: u8x16) -> u8x16
 
 #[inline(always)]
 pub(crate) fn times_0b(bytes: u8x16) -> u8x16
-    requires { LanesBelow 256 bytes }
     ensures { result ≡ map (product 0x0b) bytes }
 {
     by_nibbles(&TIMES_0B_LOW, &TIMES_0B_HIGH, bytes)
@@ -294,7 +312,6 @@ pub(crate) fn times_0b(bytes: u8x16) -> u8x16
 
 #[inline(always)]
 pub(crate) fn times_0d(bytes: u8x16) -> u8x16
-    requires { LanesBelow 256 bytes }
     ensures { result ≡ map (product 0x0d) bytes }
 {
     by_nibbles(&TIMES_0D_LOW, &TIMES_0D_HIGH, bytes)
@@ -302,7 +319,6 @@ pub(crate) fn times_0d(bytes: u8x16) -> u8x16
 
 #[inline(always)]
 pub(crate) fn times_09(bytes: u8x16) -> u8x16
-    requires { LanesBelow 256 bytes }
     ensures { result ≡ map (product 0x09) bytes }
 {
     by_nibbles(&TIMES_09_LOW, &TIMES_09_HIGH, bytes)

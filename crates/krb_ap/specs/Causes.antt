@@ -1,7 +1,7 @@
 -- Why a service refuses an arrival: a table of causes. The first that holds is the answer. The
 -- order is our own; the codes are of RFC 4120, section 7.5.9.
 use Rattle.std.specs.Prelude.{◌≡◌, ◌≢◌, ◌<◌, ◌≤◌, ℕ, ℤ, pos, Bool, true, false, IsTrue, List, ◌∷◌, length, Option, Some, None, IfSome, codes}
-use Rattle.krb_der.specs.Kind.{ValueOf}
+use Rattle.krb_der.specs.Kind.{ValueOf, tag_of}
 use Rattle.krb_der.specs.Spells.{IsMessage}
 use Rattle.krb_der.specs.Fault.{IsFault}
 use Rattle.krb_der.specs.Flags.{HasBit}
@@ -95,7 +95,7 @@ kerberos code = Some (pos code)
 -- for a missing key is the RFC's own (3.2.3).
 abbrev pub row : Refusal → Row
 -- KRB_AP_ERR_MSG_TYPE
-row MessageType = row_of 100 (codes "MessageType") (kerberos 40) false (λ setup history call. BeginsOtherwise 0x6e call.bytes)
+row MessageType = row_of 100 (codes "MessageType") (kerberos 40) false (λ setup history call. BeginsOtherwise (tag_of ap_req) call.bytes)
 -- KRB_ERR_GENERIC
 row (Malformed fault) = row_of 200 (codes "Malformed") (kerberos 60) false
     (λ setup history call. ((request : ValueOf ap_req) → ¬ IsMessage ap_req request call.bytes) × IsFault ap_req call.bytes fault)

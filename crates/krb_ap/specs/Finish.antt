@@ -3,7 +3,7 @@
 use Rattle.std.specs.Prelude.{◌≡◌, ◌≢◌, ◌<◌, ℕ, ℤ, List, Option, Some, None}
 use Rattle.std.specs.Option.{option_map}
 use Rattle.krb_name.specs.declared.principal.Principal.{Principal}
-use Rattle.krb_der.specs.Kind.{ValueOf, leaf, octets}
+use Rattle.krb_der.specs.Kind.{ValueOf, leaf, octets, tag_of}
 use Rattle.krb_der.specs.Fault.{IsFault}
 use Rattle.krb_der.specs.Spells.{IsMessage}
 use Rattle.krb_enc.specs.Key.{KeyValue}
@@ -93,7 +93,7 @@ pub record IsOfAnother (awaited : Awaited) (bytes : List ℕ) : Type 0 where
   pub other : repeated_at part ≢ awaited.at
 
 abbrev pub FinishHolds : Awaited → List ℕ → FinishFault → Type 0
-FinishHolds awaited bytes MessageType = BeginsOtherwise 0x6f bytes
+FinishHolds awaited bytes MessageType = BeginsOtherwise (tag_of ap_rep) bytes
 FinishHolds awaited bytes (Malformed fault) = ((reply : ValueOf ap_rep) → ¬ IsMessage ap_rep reply bytes) × IsFault ap_rep bytes fault
 FinishHolds awaited bytes Integrity = IsReplyShut awaited bytes
 FinishHolds awaited bytes Mismatch = IsOfAnother awaited bytes

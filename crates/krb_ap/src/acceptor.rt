@@ -10,6 +10,7 @@ ghost use Rattle.krb_ap.specs.Service.{SameMemory, Stands};
 ghost use Rattle.krb_ap.specs.Taken.{Accept, Taken};
 ghost use Rattle.krb_ap.specs.Causes.{Cause, TellsPlaceWithin, place};
 ghost use Rattle.krb_ap.specs.Inner.GoingOn.{GoesOn};
+ghost use Rattle.krb_ap.specs.Inner.Judging.{IsNamed, IsPlacedWithin, JudgedBy};
 ghost use Rattle.krb_ap.specs.Answer.{Answers, MemoryWantedByRequests, Served, TellsPlacesWithin, after, arrival_of, taken_of};
 ghost use Rattle.krb_ap.specs.Once.{TakesAmong, TakesOnce};
 ghost use Rattle.krb_ap.specs.declared.refusal.Refusal.TheVariants.{OutOfMemory};
@@ -17,10 +18,9 @@ ghost use Rattle.krb_ap.specs.declared.refusal.Refusal.TheVariants.{OutOfMemory}
 use crate::accepted::Accepted;
 use crate::call::{Call, Outcome};
 use crate::inner_laws::facts;
+use crate::judging::{Judge, Judged, State};
 use crate::laws::no_stamp_twice;
-use crate::ready_key::ReadyKey;
 use crate::refusal::Refusal;
-use crate::service_key::ServiceKey;
 use krb_keytab::Keytab;
 use krb_msg::Moment;
 use krb_replay::{ReplayMemory, Skew, Tuple};
@@ -37,15 +37,7 @@ use std::marker::Model;
 /// depends on what is cached.
 #[derive(Drop)]
 pub struct Acceptor<M> {
-    pub(crate) keytab: Keytab,
-    pub(crate) skew: Skew,
-    pub(crate) memory: M,
-    // When it was started again, if it had an earlier life.
-    pub(crate) start: Option<Moment>,
-    // The service key that was used last, with its keys for tickets and the ticket that it opened last, for the next request.
-    pub(crate) ready: Option<ServiceKey>,
-    // The session key that was used last, with its keys for authenticators, for the next request with that ticket.
-    pub(crate) session: Option<ReadyKey>,
+    pub(crate) state: State<M>,
 }
 
 impl<M> Model for Acceptor<M> {
@@ -53,7 +45,7 @@ impl<M> Model for Acceptor<M> {
 
     ghost Value = { Service M };
 
-    ghost view = { λ a. record { setup = record { entries = a.keytab; skew = a.skew; start = a.start }; memory = a.memory } };
+    ghost view = { λ a. a.state.judge };
 }
 
 impl<M: ReplayMemory> Acceptor<M> {
@@ -101,13 +93,14 @@ impl<M: ReplayMemory> Acceptor<M> {
         ensures setup { result.setup ≡ record { entries = keytab; skew = skew; start = start } }
         ensures memory { result.memory ≡ memory }
     {
-        Acceptor {
+        let judge = Judge {
             keytab,
             skew,
             memory,
             start,
-            ready: None,
-            session: None,
+        };
+        Acceptor {
+            state: State::new(judge),
         }
     }
 
@@ -115,7 +108,7 @@ impl<M: ReplayMemory> Acceptor<M> {
     pub fn memory(&self) -> &M
         ensures { result.now ≡ self.now.memory }
     {
-        &self.memory
+        &self.state.judge.memory
     }
 
     /// Decides whether a request is accepted (RFC 4120, section 3.2.3), and remembers what it must
@@ -252,11 +245,23 @@ impl<M: ReplayMemory> Acceptor<M> {
         }
     }
 
+    fn judge(&mut self, alloc: Global, bytes: &[u8], now: Moment) -> Result<Judged, Refusal>
+        ensures same { self.new ≡ self.old }
+        ensures judged { JudgedBy M.has M.newest self.old bytes.now now result }
+        ensures named { IsNamed result }
+        ensures placed { IsPlacedWithin bytes.now result }
+        ensures asks { IfOk result (λ _. IsOrdinary bytes.now) }
+        ensures memory { IsErrOf result OutOfMemory → IsOrdinary bytes.now }
+        ensures service { IfOk result (λ j. IfOk j.answer (λ x. AsksFor bytes.now x.service)) }
+    {
+        self.state.judge(alloc, bytes, now)
+    }
+
     // The moment that counts.
     fn effective(&self, now: Moment) -> Moment
         ensures { result ≡ later_of (M.newest self.now.memory) now }
     {
-        match self.memory.latest() {
+        match self.state.judge.memory.latest() {
             Some(latest) if now <= latest => latest,
             _ => now,
         }
@@ -268,7 +273,7 @@ impl<M: ReplayMemory> Acceptor<M> {
         ensures ok { OnOk result (AddsStamp (M.has self.old.memory) (M.has self.new.memory) tuple) }
         ensures err { OnErr result (SameStamps (M.has self.old.memory) (M.has self.new.memory)) }
     {
-        self.memory.remember(tuple)
+        self.state.judge.memory.remember(tuple)
     }
 
     fn advance(&mut self, now: Moment)
@@ -281,7 +286,7 @@ impl<M: ReplayMemory> Acceptor<M> {
         ensures forgets { IsTrue M.FORGETS → (stamp : Stamp) → M.has self.new.memory stamp
             → IsRecent (later_of (M.newest self.old.memory) now) self.old.setup.skew stamp }
     {
-        self.memory.advance(now, self.skew);
+        self.state.judge.memory.advance(now, self.state.judge.skew);
     }
 }
 

@@ -15,23 +15,23 @@ ghost use Rattle.krb_ap.specs.Inner.Stages.{ready_key};
 ghost use Rattle.krb_ap.specs.declared.refusal.Refusal.TheVariants.{OutOfMemory};
 
 use crate::accepted::Accepted;
-use crate::acceptor::Acceptor;
 use crate::inner_laws::facts;
-use crate::keys::owned_key;
+use crate::keys::{is_usable, owned_key};
 use crate::opening::{is_of_type, is_same_client, open_under, read_request, service};
 use crate::ready_key::ReadyKey;
 use crate::refusal::Refusal;
 use crate::service_key::ServiceKey;
-use crate::session_keys::session_key;
-use crate::ticket_keys::{chosen_entry, keys_of};
+use crate::ticket_keys::{is_key_of, ticket_key};
 use crate::times::{is_near, is_past, refusal_of_times};
 use krb_enc::Key;
+use krb_keytab::Keytab;
 use krb_msg::{
     ApReqRef, AuthenticatorRef, EncTicketRef, MUTUAL_REQUIRED, Moment, Principal, Typed,
     TypedListRef, TypedRef,
 };
-use krb_replay::{ReplayMemory, Tuple};
+use krb_replay::{ReplayMemory, Skew, Tuple};
 use std::alloc::{AllocError, Global};
+use std::marker::Model;
 
 /// A request that is to be remembered, and the answer to it.
 #[derive(Drop)]
@@ -40,7 +40,46 @@ pub(crate) struct Judged {
     pub(crate) answer: Result<Accepted, Refusal>,
 }
 
-impl<M: ReplayMemory> Acceptor<M> {
+/// What a service decides by, and its memory of seen requests.
+#[derive(Drop)]
+pub(crate) struct Judge<M> {
+    pub(crate) keytab: Keytab,
+    pub(crate) skew: Skew,
+    pub(crate) memory: M,
+    // When the service was started again, if it had an earlier life.
+    pub(crate) start: Option<Moment>,
+}
+
+impl<M> Model for Judge<M> {
+    ghost use Rattle.krb_ap.specs.Service.{Service};
+
+    ghost Value = { Service M };
+
+    ghost view = { λ j. record { setup = record { entries = j.keytab; skew = j.skew; start = j.start }; memory = j.memory } };
+}
+
+/// What a service decides by, and the keys that it keeps for the next request.
+#[derive(Drop)]
+pub(crate) struct State<M> {
+    pub(crate) judge: Judge<M>,
+    // The service key that was used last, with its keys for tickets and the ticket that it opened last.
+    pub(crate) ready: Option<ServiceKey>,
+    // The session key that was used last, with its keys for authenticators.
+    pub(crate) session: Option<ReadyKey>,
+}
+
+impl<M: ReplayMemory> State<M> {
+    /// Keeps no keys yet.
+    pub(crate) fn new(judge: Judge<M>) -> State<M>
+        ensures { result.judge ≡ judge }
+    {
+        State {
+            judge,
+            ready: None,
+            session: None,
+        }
+    }
+
     /// What to remember of a request, and the answer to it; or why it is refused without being
     /// remembered. `now` is the moment that counts.
     pub(crate) fn judge(
@@ -49,8 +88,8 @@ impl<M: ReplayMemory> Acceptor<M> {
         bytes: &[u8],
         now: Moment,
     ) -> Result<Judged, Refusal>
-        ensures same { self.new ≡ self.old }
-        ensures judged { JudgedBy M.has M.newest self.old bytes.now now result }
+        ensures same { self.new.judge ≡ self.old.judge }
+        ensures judged { JudgedBy M.has M.newest self.old.judge bytes.now now result }
         ensures named { IsNamed result }
         ensures placed { IsPlacedWithin bytes.now result }
         ensures asks { IfOk result (λ _. IsOrdinary bytes.now) }
@@ -64,27 +103,42 @@ impl<M: ReplayMemory> Acceptor<M> {
             Ok(server) => server,
             Err(_) => return Err(Refusal::OutOfMemory),
         };
-        let entry = chosen_entry(&self.keytab, &server, &request.ticket.enc_part)?;
-        // The opened ticket is borrowed from the cached service key, so that is taken out meanwhile.
-        let mut ready = keys_of(alloc, self.ready.take(), entry);
-        let judged = self.judge_sealed(alloc, &mut ready, server, &request, now);
+        let entry = self.judge.chosen_entry(&server, &request.ticket.enc_part)?;
+        if let Some(ready) = &mut self.ready {
+            if is_key_of(ready, entry) {
+                return self
+                    .judge
+                    .judge_sealed(alloc, ready, &mut self.session, server, &request, now);
+            }
+        }
+        let mut ready = ticket_key(alloc, entry);
+        let judged = self.judge.judge_sealed(
+            alloc,
+            &mut ready,
+            &mut self.session,
+            server,
+            &request,
+            now,
+        );
         self.ready = Some(ready);
         judged
     }
+}
 
+impl<M: ReplayMemory> Judge<M> {
     fn judge_sealed(
-        &mut self,
+        &self,
         alloc: Global,
         ready: &mut ServiceKey,
+        session: &mut Option<ReadyKey>,
         server: Principal,
         request: &ApReqRef,
         now: Moment,
     ) -> Result<Judged, Refusal>
-        ensures same { self.new ≡ self.old }
         ensures sound { IsSoundFor (service_of (ap_req_of request.now)) result }
-        ensures judged { (bytes : List ℕ) (entry : KeytabEntry) → Keyed self.old.setup bytes (ap_req_of request.now) entry
+        ensures judged { (bytes : List ℕ) (entry : KeytabEntry) → Keyed self.now.setup bytes (ap_req_of request.now) entry
             → ready.old.keys ≡ ready_key (entry_key entry) → server ≡ service_of (ap_req_of request.now)
-            → JudgedBy M.has M.newest self.old bytes now result }
+            → JudgedBy M.has M.newest self.now bytes now result }
     {
         facts();
         ready.open(alloc, request.ticket.enc_part.cipher)?;
@@ -92,9 +146,17 @@ impl<M: ReplayMemory> Acceptor<M> {
             Ok(part) => part,
             Err(_) => return Err(Refusal::TicketIntegrity),
         };
-        let key = session_key(&mut self.session, &part.key)?;
+        if !is_usable(&part.key) {
+            return Err(Refusal::SessionKey);
+        }
+        if let Some(key) = session {
+            if key.is_in_message(&part.key) {
+                return self.judge_ticket(alloc, server, key, request, &part, now);
+            }
+        }
+        let key = ReadyKey::in_message(&part.key);
         let judged = self.judge_ticket(alloc, server, &key, request, &part, now);
-        self.session = Some(key);
+        *session = Some(key);
         judged
     }
 

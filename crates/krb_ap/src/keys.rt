@@ -1,11 +1,12 @@
 //! Copies of keys, and sealing under a key.
 
-ghost use Rattle.std.specs.Prelude.{◌≡◌, ◌≤◌, ◌+◌, None, IfOk, IfSome, OnOk, length};
+ghost use Rattle.std.specs.Prelude.{◌≡◌, ◌↔◌, ◌≤◌, ◌+◌, None, IfOk, IfSome, IsTrue, OnOk, length};
 ghost use Rattle.krb_enc.specs.Key.{IsUsable};
 ghost use Rattle.krb_msg.specs.Borrowed.{key_of};
 ghost use Rattle.std.specs.Option.{option_map};
 ghost use Rattle.krb_msg.specs.Fields.{encrypted_value};
 ghost use Rattle.krb_msg.specs.Owned.{owned_encrypted_of, owned_key_of};
+ghost use Rattle.krb_ap.specs.Inner.Stages.{key_in};
 ghost use Rattle.krb_ap.specs.Written.{IsSealed, key_value};
 
 use krb_enc::{Key, UsageKey};
@@ -44,6 +45,14 @@ pub(crate) fn own_key(key: &Option<Key>) -> Option<Key>
         Some(key) => Some(key.copy()),
         None => None,
     }
+}
+
+/// Returns whether a message's key has one of the two types, and the length of that type's keys. It
+/// allocates no memory.
+pub(crate) fn is_usable(key: &KeyRef) -> bool
+    ensures { IsTrue result ↔ IsUsable (key_in key.now) }
+{
+    Key::is_usable(key.etype, key.bytes)
 }
 
 /// The key of this type and these bytes. It allocates no memory.

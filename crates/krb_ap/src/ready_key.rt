@@ -3,12 +3,13 @@
 ghost use Rattle.std.specs.Prelude.{◌≡◌, ◌↔◌, IsTrue};
 ghost use Rattle.krb_enc.specs.Key.{IsUsable};
 ghost use Rattle.krb_ap.specs.Credentials.{credential_key};
+ghost use Rattle.krb_ap.specs.Inner.Stages.{key_in};
 ghost use Rattle.krb_ap.specs.Opened.{authenticator_usage};
 
 use crate::keys::usable_key;
 use krb_ccache::Credential;
 use krb_enc::{Key, UsageKey};
-use krb_msg::usage;
+use krb_msg::{KeyRef, usage};
 use std::marker::Model;
 
 /// A session key, and the keys that seal and open authenticators under it.
@@ -53,6 +54,21 @@ impl ReadyKey {
     {
         let etype = i32::from(credential.etype);
         self.is_for(etype, credential.key.as_slice())
+    }
+
+    /// Derives the keys from a message's key.
+    pub(crate) fn in_message(key: &KeyRef) -> ReadyKey
+        requires { IsUsable (key_in key.now) }
+        ensures { result ≡ key_in key.now }
+    {
+        ReadyKey::new(usable_key(key.etype, key.bytes))
+    }
+
+    /// Returns whether this is the message's key.
+    pub(crate) fn is_in_message(&self, key: &KeyRef) -> bool
+        ensures { IsTrue result ↔ (self.now ≡ key_in key.now) }
+    {
+        self.is_for(key.etype, key.bytes)
     }
 
     /// Returns whether this is the key of type `etype` with the bytes `key`.

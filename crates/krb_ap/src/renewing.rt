@@ -38,7 +38,7 @@ impl<M: ReplayMemory> Acceptor<M> {
         ensures memory { self.new.memory ≡ self.old.memory }
         ensures old { result ≡ self.old.setup.entries }
     {
-        self.ready = None;
-        mem::replace(&mut self.keytab, keytab)
+        self.state.ready = None;
+        mem::replace(&mut self.state.judge.keytab, keytab)
     }
 }

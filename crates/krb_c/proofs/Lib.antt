@@ -5,3 +5,4 @@ mod Making
 mod Requests
 mod Truth
 mod Remembered
+pub mod HandedOut

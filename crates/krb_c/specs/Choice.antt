@@ -63,8 +63,7 @@ pub record SealsTo (key : KeyValue) (usage : ℕ) (confounder plain_text text : 
 -- why there is no sealed text: the first that holds
 abbrev pub IsSealFault : KeyValue → List ℕ → Answer → Type 0
 IsSealFault key confounder answer =
-    IsKeyFault key.etype key.bytes answer
-    ⊎ (IsUsable key × (IsConfounderFault confounder answer ⊎ ((length confounder ≡ 16) × (answer ≡ plain out_of_memory))))
+    IsKeyFault key.etype key.bytes answer ⊎ (IsUsable key × IsConfounderFault confounder answer)
 
 -- an opened text, and why a text isn't opened: the first that holds
 abbrev pub OpensTo : KeyValue → ℕ → List ℕ → List ℕ → Type 0
@@ -73,8 +72,7 @@ OpensTo key usage text plain_text = IsUsable key × Opens (profile_of key) key.b
 abbrev pub IsOpenFault : KeyValue → ℕ → List ℕ → Answer → Type 0
 IsOpenFault key usage text answer =
     IsKeyFault key.etype key.bytes answer ⊎ (IsUsable key × ((IsShort (profile_of key) text × (answer ≡ plain text_short))
-    ⊎ ((¬ IsShort (profile_of key) text) × (((¬ HasTag (profile_of key) key.bytes usage text) × (answer ≡ plain text_integrity))
-    ⊎ (HasTag (profile_of key) key.bytes usage text × (answer ≡ plain out_of_memory))))))
+    ⊎ ((¬ IsShort (profile_of key) text) × ((¬ HasTag (profile_of key) key.bytes usage text) × (answer ≡ plain text_integrity)))))
 
 -- a tag is the checksum of a text, or it isn't
 abbrev pub IsChecked : KeyValue → ℕ → List ℕ → List ℕ → Answer → Type 0

@@ -1,8 +1,9 @@
 -- The codes that calls answer. A number never changes: a cause that comes between two others gets
 -- one of the numbers between theirs.
-use Rattle.std.specs.Prelude.{ℕ}
+use Rattle.std.specs.Prelude.{ℕ, ◌+◌, ◌/◌}
 use Rattle.krb_ap.specs.declared.refusal.Refusal.{Refusal}
-use Rattle.krb_ap.specs.declared.refusal.Refusal.TheVariants.{MessageType, Malformed, UserToUser, TicketEtype, NotUs, NoKey, BadKeyVersion, TicketIntegrity, SessionKey, AuthenticatorIntegrity, BadMatch, Skew, JustStarted, Repeat, NotYetValid, Expired, Transited, Authorization, OutOfMemory}
+use Rattle.krb_ap.specs.declared.refusal.Refusal.TheVariants.{OutOfMemory}
+use Rattle.krb_ap.specs.Causes.{place}
 
 abbrev pub ok : ℕ
 ok = 0
@@ -136,27 +137,11 @@ context_bindings = 931
 abbrev pub context_delegation : ℕ
 context_delegation = 932
 
--- why a request is refused, in the order of krb_ap's table
+-- why a request is refused: a tenth of the place in krb_ap's table, and 90. Places are multiples of
+-- 10, so no two causes have one code.
 abbrev pub cause_code : Refusal → ℕ
-cause_code MessageType = 100
-cause_code (Malformed fault) = 110
-cause_code UserToUser = 120
-cause_code TicketEtype = 130
-cause_code NotUs = 140
-cause_code NoKey = 150
-cause_code BadKeyVersion = 160
-cause_code TicketIntegrity = 170
-cause_code SessionKey = 180
-cause_code AuthenticatorIntegrity = 190
-cause_code BadMatch = 200
-cause_code Skew = 210
-cause_code JustStarted = 215
-cause_code Repeat = 220
-cause_code NotYetValid = 230
-cause_code Expired = 240
-cause_code Transited = 250
-cause_code Authorization = 260
 cause_code OutOfMemory = out_of_memory
+cause_code refusal = 90 + place refusal / 10
 
 -- the library's version: the major number, the minor number and the patch number, with two digits
 -- for each of the last two

@@ -2,7 +2,10 @@
 
 ghost use Rattle.std.specs.Prelude.{◌≡◌, length};
 
-use krb_enc::{Enctype, Key, KeyFault, OpenFault, Sha256Aes128, Sha384Aes256, UsageKey};
+use krb_enc::{
+    Enctype, Key, KeyFault, OpenFault, OpenToFault, Sha256Aes128, Sha384Aes256, ShortSlice,
+    UsageKey,
+};
 use krb_kdf::{HmacSha256, HmacSha384};
 use krb_words::{Answer, Words, bytes_of};
 use std::alloc::{AllocError, Global};
@@ -41,6 +44,8 @@ impl Kept {
 /// enc usage USAGE                            keeps the keys of a usage of the key: kept
 /// enc usage-seal CONFOUNDER PLAIN            as `seal`, by those
 /// enc usage-open TEXT                        as `open`, by those
+/// enc usage-seal-to SIZE CONFOUNDER PLAIN    seals into a slice of so many bytes a5: the size or the fault, and the whole slice
+/// enc usage-open-to SIZE TEXT                as `open`, into such a slice
 /// enc usage-for ETYPE BYTES USAGE            whether those are of this key and usage
 /// enc types                                  number, length of a key and length of a tag of both types
 /// enc type tag|checksum|open ETYPE BYTES USAGE TEXT             a type's own calls
@@ -57,6 +62,8 @@ pub(crate) fn answer(kept: &mut Kept, words: &mut Words, out: &mut Answer) -> Op
         "usage" => keep_usage(kept, words, out),
         "usage-seal" => usage_seal(kept, words, out),
         "usage-open" => usage_open(kept, words, out),
+        "usage-seal-to" => usage_seal_to(kept.usage_key.as_ref()?, words, out),
+        "usage-open-to" => usage_open_to(kept, words, out),
         "usage-for" => usage_for(kept.usage_key.as_ref()?, words, out),
         "types" => show_types(out),
         "type" => call_of_type(words, out),
@@ -180,6 +187,33 @@ fn usage_open(kept: &Kept, words: &mut Words, out: &mut Answer) -> Option<()> {
     )
 }
 
+fn usage_seal_to(key: &UsageKey, words: &mut Words, out: &mut Answer) -> Option<()> {
+    let mut text = room(words)?;
+    let confounder = words.block()?;
+    let plain = words.bytes()?;
+    match key.seal_to(&confounder, &plain, &mut text) {
+        Ok(size) => out.shown(size)?,
+        Err(fault) => out.word(format!(in words.alloc; "{fault:?}").ok()?.as_str())?,
+    }
+    out.bytes(&text)
+}
+
+fn usage_open_to(kept: &Kept, words: &mut Words, out: &mut Answer) -> Option<()> {
+    let mut plain = room(words)?;
+    let text = text(kept, words)?;
+    match kept.usage_key.as_ref()?.open_to(&text, &mut plain) {
+        Ok(size) => out.shown(size)?,
+        Err(fault) => out.word(format!(in words.alloc; "{fault:?}").ok()?.as_str())?,
+    }
+    out.bytes(&plain)
+}
+
+/// A slice of so many bytes a5.
+fn room(words: &mut Words) -> Option<Vec<u8>> {
+    let size = usize::try_from(words.uint32()?).ok()?;
+    vec![in words.alloc; 0xa5u8; size].ok()
+}
+
 fn show_opened(opened: Result<Vec<u8>, OpenFault>, words: &Words, out: &mut Answer) -> Option<()> {
     match opened {
         Ok(plain) => out.bytes(&plain),
@@ -259,6 +293,10 @@ fn fault(words: &mut Words, out: &mut Answer) -> Option<()> {
         "Short" => format!(in alloc; "{}", OpenFault::Short),
         "Integrity" => format!(in alloc; "{}", OpenFault::Integrity),
         "OutOfMemory" => format!(in alloc; "{}", OpenFault::OutOfMemory),
+        "to-Short" => format!(in alloc; "{}", OpenToFault::Short),
+        "to-Integrity" => format!(in alloc; "{}", OpenToFault::Integrity),
+        "to-ShortSlice" => format!(in alloc; "{}", OpenToFault::ShortSlice { needed: 7 }),
+        "seal-ShortSlice" => format!(in alloc; "{}", ShortSlice { needed: 56 }),
         _ => return None,
     };
     out.word(text.ok()?.as_str())

@@ -67,6 +67,12 @@ same_cache one other e f g =
     ap (λ (header : List HeaderField). record one { header = header }) e ∙ ap (λ (n : Principal). record { header = other.header; default_principal = n; credentials = one.credentials }) f
     ∙ ap (λ (cs : List Credential). record other { credentials = cs }) g
 
+-- the first credentials of a cache are all, if they are as many
+first_same : (one other : Cache) → IsFirstOf one other → length one.credentials ≡ length other.credentials → one ≡ other
+first_same one other first same =
+    let none : first.others ≡ [] = nil_from_length first.others (omega (arith, ap length first.credentials, length-append one.credentials first.others, same)) in
+    same_cache one other first.header first.default_principal (sym (first.credentials ∙ ap (λ (cs : List Credential). one.credentials ++ cs) none ∙ append-nil one.credentials))
+
 -- nothing more is there, or no credential
 abbrev pub Ends : Layout → List ℕ → Type 0
 Ends layout behind = (behind ≡ []) ⊎ IsMissing bytes_of (Spells layout) behind
@@ -84,64 +90,47 @@ module _ (bytes : List ℕ) where
   reached_start layout at cache behind r = record { fits = r.header_fits; bytes_are = r.bytes_are }
 
   -- with one layout
-  same_in : (layout : Layout) (one other : Cache) (at here : ℕ) (a b : List ℕ) → IsReached layout bytes at one a → IsReached layout bytes here other b → Ends layout a → Ends layout b → Same one at a other here b
-  same_in layout one other at here a b p q ends too =
-      let start = same_start bytes layout layout one.header other.header _ _ (reached_start layout at one a p) (reached_start layout here other b q) in
-      let name = same_front name_at name_bytes FitsName IsField-name one.default_principal other.default_principal (after_name p.spelled a) (after_name q.spelled b) p.name_fits q.name_fits start.behinds in
-      let items = same_things (spelled_at layout) bytes_of (Spells layout) (IsField-spelled layout) (spelled_bytes_some layout) p.spelled q.spelled a b (recursion_from_All (Spells layout) p.spelled p.spell)
-      (recursion_from_All (Spells layout) q.spelled q.spell) ends too name.1 in
-      let credentials : one.credentials ≡ other.credentials = p.credentials_are ∙ ap (map credential_in) items.0 ∙ sym q.credentials_are in
-      record {
-        cache = same_cache one other start.headers name.0 credentials;
-        offset = omega (
-          arith,
-          p.at_is,
-          q.at_is,
-          ap (λ (header : List HeaderField). length (start_bytes layout header)) start.headers,
-          ap (λ (n : Principal). length (name_bytes n)) name.0,
-          ap (λ (ones : List Spelled). length (flat_map bytes_of ones)) items.0,
-        );
-        behind = items.1;
-      }
-
-  pub same_reached : (layout also : Layout) (one other : Cache) (at here : ℕ) (a b : List ℕ) → IsReached layout bytes at one a → IsReached also bytes here other b → Ends layout a → Ends also b → Same one at a other here b
-  same_reached layout also one other at here a b p q ends too =
-      let start = same_start bytes layout also one.header other.header _ _ (reached_start layout at one a p) (reached_start also here other b q) in
-      same_in layout one other at here a b p (subst (λ (l : Layout). IsReached l bytes here other b) (sym start.layouts) q) ends (subst (λ (l : Layout). Ends l b) (sym start.layouts) too)
-
--- ---- the first credentials
-
-module _ (bytes : List ℕ) where
-  -- with one layout
-  first_in : (layout : Layout) (one other : Cache) (at here : ℕ) (a b : List ℕ) → IsReached layout bytes at one a → IsReached layout bytes here other b → (length one.credentials ≤ length other.credentials) ⊎ (b ≡ []) → IsFirstOf one other × (one ≡ other → at ≡ here)
+  first_in : (layout : Layout) (one other : Cache) (at here : ℕ) (a b : List ℕ) → IsReached layout bytes at one a → IsReached layout bytes here other b → (length one.credentials ≤ length other.credentials) ⊎ Ends layout b → IsFirstOf one other × (one ≡ other → (at ≡ here) × (a ≡ b))
   first_in layout one other at here a b p q ends =
-      let start = same_start bytes layout layout one.header other.header _ _ (reached_start bytes layout at one a p) (reached_start bytes layout here other b q) in
+      let start = same_start bytes layout layout one.header other.header _ _ (reached_start layout at one a p) (reached_start layout here other b q) in
       let name = same_front name_at name_bytes FitsName IsField-name one.default_principal other.default_principal (after_name p.spelled a) (after_name q.spelled b) p.name_fits q.name_fits start.behinds in
       let first = first_things (spelled_at layout) bytes_of (Spells layout) (IsField-spelled layout) (spelled_bytes_some layout) p.spelled q.spelled a b (recursion_from_All (Spells layout) p.spelled p.spell) (recursion_from_All (Spells layout) q.spelled q.spell) (fewer ends) name.1 in
       let credentials = q.credentials_are ∙ ap (map credential_in) first.1 ∙ map-append credential_in p.spelled first.0 ∙ ap (λ (cs : List Credential). cs ++ map credential_in first.0) (sym p.credentials_are) in (
         record { header = start.headers; default_principal = name.0; others = map credential_in first.0; credentials = credentials },
         λ same.
             let none : first.0 ≡ [] = nil_from_length first.0 (omega (arith, length-map first.0 credential_in, ap length credentials, length-append one.credentials (map credential_in first.0), ap (λ (cache : Cache). length cache.credentials) same)) in
-            let spelled : q.spelled ≡ p.spelled = first.1 ∙ ap (λ (t : List Spelled). p.spelled ++ t) none ∙ append-nil p.spelled in
-            omega (
-              arith,
-              p.at_is,
-              q.at_is,
-              ap (λ (header : List HeaderField). length (start_bytes layout header)) start.headers,
-              ap (λ (n : Principal). length (name_bytes n)) name.0,
-              ap (λ (ones : List Spelled). length (flat_map bytes_of ones)) spelled,
+            let spelled : q.spelled ≡ p.spelled = first.1 ∙ ap (λ (t : List Spelled). p.spelled ++ t) none ∙ append-nil p.spelled in (
+              omega (
+                arith,
+                p.at_is,
+                q.at_is,
+                ap (λ (header : List HeaderField). length (start_bytes layout header)) start.headers,
+                ap (λ (n : Principal). length (name_bytes n)) name.0,
+                ap (λ (ones : List Spelled). length (flat_map bytes_of ones)) spelled,
+              ),
+              first.2 ∙ ap (λ (t : List Spelled). flat_map bytes_of t ++ b) none,
             ),
       )
     where
-      fewer : (length one.credentials ≤ length other.credentials) ⊎ (b ≡ []) → (length p.spelled ≤ length q.spelled) ⊎ (b ≡ [])
+      fewer : (length one.credentials ≤ length other.credentials) ⊎ Ends layout b → (length p.spelled ≤ length q.spelled) ⊎ Ends layout b
       fewer (inl few) = inl (omega (arith, few, ap length p.credentials_are, ap length q.credentials_are, length-map p.spelled credential_in, length-map q.spelled credential_in))
-      fewer (inr none) = inr none
+      fewer (inr end) = inr end
 
-  pub first_reached : (layout also : Layout) (one other : Cache) (at here : ℕ) (a b : List ℕ) → IsReached layout bytes at one a → IsReached also bytes here other b → (length one.credentials ≤ length other.credentials) ⊎ (b ≡ [])
-      → IsFirstOf one other × (one ≡ other → at ≡ here)
+  pub first_reached : (layout also : Layout) (one other : Cache) (at here : ℕ) (a b : List ℕ) → IsReached layout bytes at one a → IsReached also bytes here other b → (length one.credentials ≤ length other.credentials) ⊎ Ends also b
+      → IsFirstOf one other × (one ≡ other → (at ≡ here) × (a ≡ b))
   first_reached layout also one other at here a b p q ends =
-      let start = same_start bytes layout also one.header other.header _ _ (reached_start bytes layout at one a p) (reached_start bytes also here other b q) in
-      first_in layout one other at here a b p (subst (λ (l : Layout). IsReached l bytes here other b) (sym start.layouts) q) ends
+      let start = same_start bytes layout also one.header other.header _ _ (reached_start layout at one a p) (reached_start also here other b q) in
+      first_in layout one other at here a b p (subst (λ (l : Layout). IsReached l bytes here other b) (sym start.layouts) q)
+      (subst (λ (l : Layout). (length one.credentials ≤ length other.credentials) ⊎ Ends l b) (sym start.layouts) ends)
+
+  -- there is one way to read to the end
+  pub same_reached : (layout also : Layout) (one other : Cache) (at here : ℕ) (a b : List ℕ) → IsReached layout bytes at one a → IsReached also bytes here other b → Ends layout a → Ends also b → Same one at a other here b
+  same_reached layout also one other at here a b p q ends too =
+      let first = first_reached layout also one other at here a b p q (inr too) in
+      let back = first_reached also layout other one here at b a q p (inr ends) in
+      let same = first_same one other first.0 (omega (arith, ap length first.0.credentials, ap length back.0.credentials, length-append one.credentials first.0.others, length-append other.credentials back.0.others)) in
+      let more = first.1 same in
+      record { cache = same; offset = more.0; behind = more.1 }
 
 -- all that a reader has taken of these bytes is at their front
 taken_reached : (whole : List ℕ) (left : Option (List ℕ)) (layout : Layout) (at : ℕ) (cache : Cache) → HasTaken layout (Some whole) left at cache → (rest : List ℕ) × IsReached layout whole at cache rest
@@ -151,17 +140,15 @@ taken_reached whole (Some rest) layout at cache h = (rest, subst (λ (t : List �
 pub taken_first : (whole : List ℕ) (left : Option (List ℕ)) (layout : Layout) (at : ℕ) (cache all : Cache) → HasTaken layout (Some whole) left at cache → IsCache whole all → IsFirstOf cache all
 taken_first whole left layout at cache all h k =
     let r = taken_reached whole left layout at cache h in
-    (first_reached whole layout k.layout cache all at k.at r.0 [] r.1 k.reached (inr refl)).0
+    (first_reached whole layout k.layout cache all at k.at r.0 [] r.1 k.reached (inr (inl refl))).0
 
 pub taken_same : (whole : List ℕ) (left right : Option (List ℕ)) (layout also : Layout) (at here : ℕ) (one other : Cache) → HasTaken layout (Some whole) left at one → HasTaken also (Some whole) right here other → length one.credentials ≡ length other.credentials → (one ≡ other) × (at ≡ here)
 taken_same whole left right layout also at here one other h k same =
     let r = taken_reached whole left layout at one h in
     let t = taken_reached whole right also here other k in
     let first = first_reached whole layout also one other at here r.0 t.0 r.1 t.1 (inl (omega (arith, same))) in
-    let none : first.0.others ≡ [] = nil_from_length first.0.others (omega (arith, ap length first.0.credentials, length-append one.credentials first.0.others, same)) in
-    let credentials : one.credentials ≡ other.credentials = sym (first.0.credentials ∙ ap (λ (cs : List Credential). one.credentials ++ cs) none ∙ append-nil one.credentials) in
-    let caches : one ≡ other = same_cache one other first.0.header first.0.default_principal credentials in
-    (caches, first.1 caches)
+    let caches = first_same one other first.0 same in
+    (caches, (first.1 caches).0)
 
 -- a header, a principal and whole credentials, and what that says of the file
 record Ran (bytes : List ℕ) (answer : Result Cache CacheFault) : Type 0 where

@@ -40,29 +40,27 @@ module _ {X : Type 0} (r : Place → Option (X × Place)) (s : X → List ℕ) (
     parts_of : (x : X) (xs : List X) (bytes : List ℕ) → flat_map s (x ∷ xs) ++ bytes ≡ s x ++ (flat_map s xs ++ bytes)
     parts_of x xs bytes = append_assoc (s x) (flat_map s xs) bytes
 
-    -- there is one way to read to the end
-    pub same_things : (xs ys : List X) (a b : List ℕ) → AllByRecursion P xs → AllByRecursion P ys → Ends a → Ends b → flat_map s xs ++ a ≡ flat_map s ys ++ b → (xs ≡ ys) × (a ≡ b)
-    same_things [] [] a b p q ends also e = (refl, e)
-    same_things [] (y ∷ ys) a b p q ends also e = absurd (not_ended y (flat_map s ys ++ b) a q.0 ends (e ∙ parts_of y ys b))
-    same_things (x ∷ xs) [] a b p q ends also e = absurd (not_ended x (flat_map s xs ++ a) b p.0 also (sym e ∙ parts_of x xs a))
-    same_things (x ∷ xs) (y ∷ ys) a b p q ends also e =
-        let first = same_front x y (flat_map s xs ++ a) (flat_map s ys ++ b) p.0 q.0 (sym (parts_of x xs a) ∙ e ∙ parts_of y ys b) in
-        let others = same_things xs ys a b p.1 q.1 ends also first.1 in
-        (ap (λ (k : X). k ∷ xs) first.0 ∙ ap (λ (k : List X). y ∷ k) others.0, others.1)
-
     -- what was read before is the first of what is read to the end, or of as many and more
-    pub first_things : (xs ys : List X) (a b : List ℕ) → AllByRecursion P xs → AllByRecursion P ys → (length xs ≤ length ys) ⊎ (b ≡ []) → flat_map s xs ++ a ≡ flat_map s ys ++ b → (zs : List X) × (ys ≡ xs ++ zs)
-    first_things [] ys a b p q ends e = (ys, refl)
+    pub first_things : (xs ys : List X) (a b : List ℕ) → AllByRecursion P xs → AllByRecursion P ys → (length xs ≤ length ys) ⊎ Ends b → flat_map s xs ++ a ≡ flat_map s ys ++ b → (zs : List X) × (ys ≡ xs ++ zs) × (a ≡ flat_map s zs ++ b)
+    first_things [] ys a b p q ends e = (ys, refl, e)
     first_things (x ∷ xs) [] a b p q (inl few) e = absurd (omega (arith, few))
-    first_things (x ∷ xs) [] a b p q (inr none) e = let some_bytes : 0 < length (s x) = some x p.0 in absurd (omega (arith, ap length (sym (parts_of x xs a) ∙ e ∙ none), length-append (s x) (flat_map s xs ++ a)))
+    first_things (x ∷ xs) [] a b p q (inr end) e = absurd (not_ended x (flat_map s xs ++ a) b p.0 end (sym e ∙ parts_of x xs a))
     first_things (x ∷ xs) (y ∷ ys) a b p q ends e =
         let first = same_front x y (flat_map s xs ++ a) (flat_map s ys ++ b) p.0 q.0 (sym (parts_of x xs a) ∙ e ∙ parts_of y ys b) in
         let others = first_things xs ys a b p.1 q.1 (fewer ends) first.1 in
-        (others.0, ap (λ (k : X). k ∷ ys) (sym first.0) ∙ ap (λ (k : List X). x ∷ k) others.1)
+        (others.0, ap (λ (k : X). k ∷ ys) (sym first.0) ∙ ap (λ (k : List X). x ∷ k) others.1, others.2)
       where
-        fewer : (length (x ∷ xs) ≤ length (y ∷ ys)) ⊎ (b ≡ []) → (length xs ≤ length ys) ⊎ (b ≡ [])
+        fewer : (length (x ∷ xs) ≤ length (y ∷ ys)) ⊎ Ends b → (length xs ≤ length ys) ⊎ Ends b
         fewer (inl few) = inl (omega (arith, few))
-        fewer (inr none) = inr none
+        fewer (inr end) = inr end
+
+    -- there is one way to read to the end
+    pub same_things : (xs ys : List X) (a b : List ℕ) → AllByRecursion P xs → AllByRecursion P ys → Ends a → Ends b → flat_map s xs ++ a ≡ flat_map s ys ++ b → (xs ≡ ys) × (a ≡ b)
+    same_things xs ys a b p q ends also e =
+        let one = first_things xs ys a b p q (inr also) e in
+        let other = first_things ys xs b a q p (inr ends) (sym e) in
+        let none : one.0 ≡ [] = nil_from_length one.0 (omega (arith, ap length one.1, ap length other.1, length-append xs one.0, length-append ys other.0)) in
+        (sym (one.1 ∙ ap (λ (k : List X). xs ++ k) none ∙ append-nil xs), one.2 ∙ ap (λ (k : List X). flat_map s k ++ b) none)
 
   -- ---- one more
 

@@ -1,5 +1,5 @@
 -- What a walk took of a source, in the words of a spelling; and what it took of bytes in memory.
-use Rattle.std.proofs.Common.{◌≡◌, ℕ, ◌+◌, ◌-◌, ◌%◌, ◌^◌, ◌<◌, ◌≤◌, ◌∷◌, Result, Ok, Err, Bool, true, false, List, [], ◌++◌, length, take, drop, Option, Some, None, refl, sym, ap, subst, ◌∙◌, append-nil, arith, inl, inr}
+use Rattle.std.proofs.Common.{◌≡◌, ℕ, ◌+◌, ◌-◌, ◌%◌, ◌<◌, ◌≤◌, ◌∷◌, Result, Ok, Err, Bool, true, false, List, [], ◌++◌, length, take, drop, Option, Some, None, refl, sym, ap, subst, ◌∙◌, append-nil, arith, inl, inr}
 use Rattle.std.specs.Int.{w8, w16}
 use Rattle.std.specs.Prelude.{IfErr, OnOk}
 use Rattle.std.specs.Io.KnownBytes.{Consumes}
@@ -12,19 +12,20 @@ use Rattle.std.proofs.KnownBytes.{Consumes-nil}
 use Rattle.krb_name.specs.Cursor.{Place, ◌>>=◌, bytes_at, data_at, number_bytes}
 use Rattle.krb_name.specs.Field.{IsBytes, IsField}
 use Rattle.krb_name.proofs.CursorLaws.{some_is, IsField-bytes, IsField-data16}
-use Rattle.krb_ccache.specs.Types.{Principal, HeaderField, Credential, Layout, Version3, Version4}
+use Rattle.krb_ccache.specs.Types.{Principal, HeaderField, Layout, Version3, Version4}
 use Rattle.krb_ccache.specs.declared.walking.TakeFault.{TakeFault}
 use Rattle.krb_ccache.specs.declared.walking.TakeFault.TheVariants as stop
 use Rattle.krb_ccache.specs.Spelling.{fields_bytes, header_bytes, name_bytes, marked_bytes}
 use Rattle.krb_ccache.specs.Value.{FitsHeader, FitsName}
 use Rattle.krb_ccache.specs.Format.{version_of, head_bytes, FitsHead, Spelled, Spells}
 use Rattle.krb_ccache.specs.Inner.Reading.{name_at}
+use Rattle.krb_ccache.specs.Inner.Row.{row_at}
 use Rattle.krb_ccache.specs.Inner.Stepping.{Any, Stands, cleared}
 use Rattle.krb_ccache.specs.Inner.Standing.{bytes_of, IsMissing}
 use Rattle.krb_ccache.specs.Inner.Walking.{Hand, window_hand, window_within, window_lacks, bytes_hand, bytes_within, bytes_lacks, Pass, passed_at, skip_at, pass_none, pass_if, Goes, Stops, IsWhole, IsTaken, Taken, TookFewer, Spans, Wants, Walks, Halts, Marked, FitsKeyed, whole}
-use Rattle.krb_ccache.proofs.PartLaws.{IsField-name}
+use Rattle.krb_ccache.proofs.PartLaws.{IsField-name, IsField-row}
 use Rattle.krb_ccache.proofs.WalkLaws.{shorter_front, bytes_goes, bytes_stops}
-use Rattle.krb_ccache.proofs.CredentialLaws.{passed_lies, passed_missing, parts_at, IsField-parts, parts_of, fits_parts, flag_byte, flag_known}
+use Rattle.krb_ccache.proofs.CredentialLaws.{fields, passed_lies, passed_missing, parts_of, parts_bytes, fits_parts, marked, whole_is}
 
 -- ---- a spelling is passed over
 
@@ -44,18 +45,15 @@ pub version_passes : (layout : Layout) → Any layout → Passes (skip_at 2) (ve
 version_passes Version3 a = field_passes (IsField-bytes 2) (version_of Version3) refl
 version_passes Version4 a = field_passes (IsField-bytes 2) (version_of Version4) refl
 
-pub whole_passes : (layout : Layout) (m : Marked) → FitsKeyed layout m → Passes (passed_at (parts_at false layout)) (whole m)
+pub whole_passes : (layout : Layout) (m : Marked) → FitsKeyed layout m → Passes (passed_at (row_at fields false layout)) (whole m)
 whole_passes layout m fits =
-    let small : m.mark % 256 < 2 ^ 8 = omega arith in
+    let small : Marked = record m { mark = m.mark % 256 } in
     let same : number_bytes w8 (m.mark % 256) ≡ number_bytes w8 m.mark = ap (λ (n : ℕ). n ∷ []) (omega arith) in
-    subst (Passes (passed_at (parts_at false layout))) (ap (marked_bytes m.credential m.second) same)
-    (field_passes (IsField-parts false layout) (parts_of false layout m.credential m.second (m.mark % 256)) (fits_parts false layout m.credential m.second (m.mark % 256) fits.0 fits.1 (small, refl)))
+    subst (Passes (passed_at (row_at fields false layout))) (parts_bytes small ∙ ap (marked_bytes m.credential m.second) same)
+    (field_passes (IsField-row fields false layout) (parts_of small) (fits_parts layout false small fits (omega arith, refl)))
 
-pub spelled_passes : (layout : Layout) (one : Spelled) → Spells layout one → Passes (passed_at (parts_at false layout)) one.bytes
-spelled_passes layout one h =
-    let c : Credential = one.credential in
-    let same : marked_bytes c h.second (number_bytes w8 (flag_byte c.is_skey)) ≡ one.bytes = ap (marked_bytes c h.second) (flag_known c.is_skey).1.0 ∙ sym h.bytes_are in
-    subst (Passes (passed_at (parts_at false layout))) same (whole_passes layout (record { credential = c; second = h.second; mark = flag_byte c.is_skey }) (h.fits, h.size))
+pub spelled_passes : (layout : Layout) (one : Spelled) → Spells layout one → Passes (passed_at (row_at fields false layout)) one.bytes
+spelled_passes layout one h = subst (Passes (passed_at (row_at fields false layout))) (whole_is layout one h) (whole_passes layout (marked layout one h) (h.fits, h.size))
 
 -- ---- of a source
 
@@ -133,11 +131,11 @@ module _ {S : Type 0} (left : S → Option (List ℕ)) (old new : AtHand S) wher
 
 -- a credential: its bytes, and those of one with any byte for its flag
 module _ (layout : Layout) {S : Type 0} (left : S → Option (List ℕ)) (old new : AtHand S) where
-  pub one_walks : Goes (passed_at (parts_at false layout)) pass_none window_within (window_hand left old) (window_hand left new) → Walks bytes_of (Spells layout) left old new × Walks whole (FitsKeyed layout) left old new
-  one_walks w = (walks_of (passed_at (parts_at false layout)) bytes_of (Spells layout) (spelled_passes layout) left old new w, walks_of (passed_at (parts_at false layout)) whole (FitsKeyed layout) (whole_passes layout) left old new w)
+  pub one_walks : Goes (passed_at (row_at fields false layout)) pass_none window_within (window_hand left old) (window_hand left new) → Walks bytes_of (Spells layout) left old new × Walks whole (FitsKeyed layout) left old new
+  one_walks w = (walks_of (passed_at (row_at fields false layout)) bytes_of (Spells layout) (spelled_passes layout) left old new w, walks_of (passed_at (row_at fields false layout)) whole (FitsKeyed layout) (whole_passes layout) left old new w)
 
-  pub one_halts : (stop : TakeFault) → Stops (passed_at (parts_at false layout)) window_within window_lacks (window_hand left old) (window_hand left new) stop → Halts bytes_of (Spells layout) left old new stop × Halts whole (FitsKeyed layout) left old new stop
-  one_halts stop h = (halts_of (passed_at (parts_at false layout)) bytes_of (Spells layout) (spelled_passes layout) left old new stop h, halts_of (passed_at (parts_at false layout)) whole (FitsKeyed layout) (whole_passes layout) left old new stop h)
+  pub one_halts : (stop : TakeFault) → Stops (passed_at (row_at fields false layout)) window_within window_lacks (window_hand left old) (window_hand left new) stop → Halts bytes_of (Spells layout) left old new stop × Halts whole (FitsKeyed layout) left old new stop
+  one_halts stop h = (halts_of (passed_at (row_at fields false layout)) bytes_of (Spells layout) (spelled_passes layout) left old new stop h, halts_of (passed_at (row_at fields false layout)) whole (FitsKeyed layout) (whole_passes layout) left old new stop h)
 
 -- what was asked of a source
 module _ {S : Type 0} (left : S → Option (List ℕ)) (old new : AtHand S) (count : ℕ) where
@@ -151,14 +149,14 @@ module _ {S : Type 0} (left : S → Option (List ℕ)) (old new : AtHand S) (cou
   }
 
 -- a credential whose bytes were taken, and whose flag is one or not
-module _ (layout : Layout) {S : Type 0} (left : S → Option (List ℕ)) (old start new : AtHand S) (good : Bool) (clear : start ≡ cleared old) (g : Goes (passed_at (parts_at true layout)) (pass_if good) window_within (window_hand left start) (window_hand left new)) where
+module _ (layout : Layout) {S : Type 0} (left : S → Option (List ℕ)) (old start new : AtHand S) (good : Bool) (clear : start ≡ cleared old) (g : Goes (passed_at (row_at fields true layout)) (pass_if good) window_within (window_hand left start) (window_hand left new)) where
   abbrev at_hand : Place
   at_hand = record { at = 0; rest = new.bytes }
 
-  all_passed : (b : Bool) → good ≡ b → passed_at (parts_at true layout) at_hand ≡ pass_if b (record { at = 0 + length g.piece; rest = [] })
+  all_passed : (b : Bool) → good ≡ b → passed_at (row_at fields true layout) at_hand ≡ pass_if b (record { at = 0 + length g.piece; rest = [] })
   all_passed b flag =
       let is : new.bytes ≡ g.piece ++ [] = g.keeps.bytes ∙ ap (λ (hand : AtHand _). hand.bytes ++ g.piece) clear ∙ sym (append-nil g.piece) in
-      ap (λ (t : List ℕ). passed_at (parts_at true layout) (record { at = 0; rest = t })) is ∙ g.same 0 [] ∙ ap (λ (x : Bool). pass_if x (record { at = 0 + length g.piece; rest = [] })) flag
+      ap (λ (t : List ℕ). passed_at (row_at fields true layout) (record { at = 0; rest = t })) is ∙ g.same 0 [] ∙ ap (λ (x : Bool). pass_if x (record { at = 0 + length g.piece; rest = [] })) flag
 
   pub one_stands : good ≡ true → IsBytes new.bytes → (one : Spelled) × Stands bytes_of (Spells layout) new.bytes one
   one_stands flag fits =

@@ -1,12 +1,11 @@
 -- How a walk goes over the parts of a cache.
-use Rattle.std.proofs.Common.{◌≡◌, ℕ, zero, suc, ◌+◌, ◌≤◌, ℤ, Bool, true, false, cond, List, ◌∷◌, Option, Some, None, Result, Ok, Err, IfOk, length, refl, sym, ap, subst, ◌∙◌}
+use Rattle.std.proofs.Common.{◌≡◌, ℕ, zero, suc, ◌+◌, ◌≤◌, Bool, true, false, cond, List, ◌∷◌, Option, Some, None, Result, Ok, Err, IfOk, length, refl, sym, ap, subst, ◌∙◌}
 use Rattle.std.specs.Prelude.{◌&&◌}
 use Rattle.std.specs.Int.{Width, w8, w16, w32, byte_len, from_be_bytes, cast_signed}
 use Rattle.krb_name.specs.Cursor.{Place, ◌>>=◌, bytes_at, number_at, signed_at, data_at, times_at}
 use Rattle.krb_ccache.specs.declared.walking.TakeFault.{TakeFault}
 use Rattle.krb_ccache.specs.declared.walking.Left.{Left}
-use Rattle.krb_ccache.specs.Types.{Principal}
-use Rattle.krb_ccache.specs.Inner.Reading.{both_at, made_at, name_at, is_flag, allowed, byte_at, typed_of, typed_at, list_at}
+use Rattle.krb_ccache.specs.Inner.Reading.{then_at, both_at, made_at, name_of, name_at, is_flag, allowed, byte_at, typed_of, typed_at, list_at}
 use Rattle.krb_ccache.specs.Inner.Walking.{Hand, Pass, passed_at, skip_at, and_then, pass_none, pass_if, pass_number, pass_times, pass_data, left_at, Same, Goes, Stops, IsWalk, Taken, TookFewer, IsTaken, last_number}
 use Rattle.krb_ccache.proofs.Fields.{bind_assoc, bind_same}
 use Rattle.krb_ccache.proofs.WalkLaws.{also, grouped, same_both, same_then, none_skipped, skip_zero, skip_both, skip_more, goes_none, goes_guarded, bytes_goes, goes_same, goes_then, goes_more, goes_if, stops_same, stops_then, stops_more, stops_if, stops_guarded, bytes_stops, walk_same, walk_then, bytes_walk, number_goes, number_stops, pair_stops}
@@ -25,6 +24,13 @@ pair_passed make (Some x) other = bind_assoc (other x.1) (λ y. Some (make x.0 y
 pub both_passed : {X Y : Type 0} (one : Place → Option (X × Place)) (other : Place → Option (Y × Place)) → Same (passed_at (both_at one other)) (and_then (passed_at one) (passed_at other))
 both_passed {X} {Y} one other place = pair_passed (λ (x : X) (y : Y). (x, y)) (one place) other
 
+number_then : {Y : Type 0} (w : Width) (other : ℕ → Place → Option (Y × Place)) → Same (passed_at (then_at (number_at w) other)) (pass_number w (λ n. passed_at (other n)))
+number_then {Y} w other place = from_number (number_at w place)
+  where
+    from_number : (o : Option (ℕ × Place)) → ((o >>= λ n. other n.0 n.1 >>= λ y. Some ((n.0, y.0), y.1)) >>= behind {X = ℕ × Y}) ≡ (o >>= λ n. passed_at (other n.0) n.1)
+    from_number None = refl
+    from_number (Some n) = bind_assoc (other n.0 n.1) (λ y. Some ((n.0, y.0), y.1)) (behind {X = ℕ × Y})
+
 made_passed : {X Y : Type 0} (make : X → Y) (read : Place → Option (X × Place)) → Same (passed_at (made_at make read)) (passed_at read)
 made_passed make read place = bind_assoc (read place) (λ x. Some (make x.0, x.1)) behind
 
@@ -38,6 +44,9 @@ number_passed w = made_passed (from_be_bytes w) (bytes_at (byte_len w))
 pub signed_passed : (w : Width) → Same (passed_at (signed_at w)) (skip_at (byte_len w))
 unfolding signed_at
 signed_passed w = also _ _ _ (made_passed (cast_signed w) (number_at w)) (number_passed w)
+
+pub key_type_passed : (count : ℕ) → Same (passed_at (both_at (signed_at w16) (bytes_at count))) (skip_at (2 + count))
+key_type_passed count = also _ _ _ (both_as (signed_at w16) (skip_at 2) (signed_passed w16) (bytes_at count) (skip_at count) (λ place. refl)) (λ place. sym (skip_both 2 count place))
 
 number_same : (w : Width) (p q : ℕ → Pass) → ((n : ℕ) → Same (p n) (q n)) → Same (pass_number w p) (pass_number w q)
 number_same w p q e place = bind_same (number_at w place) (λ n. p n.0 n.1) (λ n. q n.0 n.1) (λ n. e n.0 n.1)
@@ -65,33 +74,22 @@ strings_passed count =
     let one = also _ _ _ (data_passed w32) (λ place. sym (none_skipped (pass_number w32 skip_at) place)) in
     also _ _ _ (same_both (passed_at (data_at w32)) (pass_number w32 skip_at) _ _ (data_passed w32) (times_passed (data_at w32) (pass_data 0) one count)) (λ place. bind_assoc (number_at w32 place) (λ n. skip_at n.0 n.1) (pass_times count (pass_data 0)))
 
-abbrev named : ℤ → List ℕ → List (List ℕ) → Principal
-named t realm components = record { realm = realm; name_type = t; components = components }
-
 name_passed : Same (passed_at name_at) (and_then (skip_at 4) (pass_number w32 from_count))
 unfolding name_at
-name_passed place = from_type (signed_at w32 place) ∙ same_both (passed_at (signed_at w32)) (skip_at 4) _ _ (signed_passed w32) (number_same w32 _ from_count strings_passed) place
-  where
-    from_start : (t : ℤ) (next : Place) → ((number_at w32 next >>= λ count. data_at w32 count.1 >>= λ realm. times_at (data_at w32) count.0 realm.1 >>= λ components. Some (named t realm.0 components.0, components.1)) >>= behind)
-        ≡ pass_number w32 (λ count. and_then (passed_at (data_at w32)) (passed_at (times_at (data_at w32) count))) next
-    from_start t next =
-        bind_assoc (number_at w32 next) _ behind ∙ bind_same (number_at w32 next) _ _ (λ count. pair_passed (named t) (data_at w32 count.1) (times_at (data_at w32) count.0))
-
-    from_type : (o : Option (ℤ × Place)) → ((o >>= λ t. number_at w32 t.1 >>= λ count. data_at w32 count.1 >>= λ realm. times_at (data_at w32) count.0 realm.1 >>= λ components. Some (named t.0 realm.0 components.0, components.1)) >>= behind)
-        ≡ ((o >>= behind) >>= pass_number w32 (λ count. and_then (passed_at (data_at w32)) (passed_at (times_at (data_at w32) count))))
-    from_type None = refl
-    from_type (Some t) = from_start t.0 t.1
+name_passed =
+    let names = λ (count : ℕ). also _ _ _ (both_passed (data_at w32) (times_at (data_at w32) count)) (strings_passed count) in
+    also _ _ _ (made_passed name_of _) (both_as (signed_at w32) (skip_at 4) (signed_passed w32) _ _ (also _ _ _ (number_then w32 (λ count. both_at (data_at w32) (times_at (data_at w32) count))) (number_same w32 _ from_count names)))
 
 typed_passed : Same (passed_at typed_at) (pass_data 2)
 unfolding typed_at
 typed_passed = also _ _ _ (made_passed typed_of (both_at (number_at w16) (data_at w32))) (both_as (number_at w16) (skip_at 2) (number_passed w16) (data_at w32) (pass_number w32 skip_at) (data_passed w32))
 
-abbrev from_length : ℕ → Pass
+abbrev pub from_length : ℕ → Pass
 from_length count = pass_times count (pass_data 2)
 
-list_passed : Same (passed_at list_at) (pass_number w32 from_length)
+pub list_passed : Same (passed_at list_at) (pass_number w32 from_length)
 unfolding list_at
-list_passed place = bind_assoc (number_at w32 place) (λ n. times_at typed_at n.0 n.1) behind ∙ number_same w32 _ from_length (times_passed typed_at (pass_data 2) typed_passed) place
+list_passed = also _ _ _ (made_passed (λ counted. counted.1) _) (also _ _ _ (number_then w32 (times_at typed_at)) (number_same w32 _ from_length (times_passed typed_at (pass_data 2) typed_passed)))
 
 pub passed_some : {X : Type 0} (o : Option (X × Place)) (behind : Place) → (o >>= λ x. Some x.1) ≡ Some behind → (x : X) × (o ≡ Some (x, behind))
 passed_some None behind e = absurd cc
@@ -133,18 +131,17 @@ module _ (Within : Hand → Type 0) (Lacks : TakeFault → Hand → ℕ → Type
       left_walk old new (Ok next) good g = subst (λ (b : Bool). Goes (and_then (left_at strict left) p) (left_at strict (record { skip = next.skip; good = b })) Within old new) (sym good) (left_goes next.skip old new g)
       left_walk old new (Err stop) good h = left_stops old new stop h
 
+    -- a number, and what it says comes after it
+
+    pub number_first : (p : Pass) (w : Width) (others : ℕ → Pass) → Same p (pass_number w others) → (old new : Hand) (stop : TakeFault) → TookFewer Within Lacks (left.skip + byte_len w) old new stop → Stops (and_then (left_at strict left) p) Within Lacks old new stop
+    number_first p w others e old new stop t = left_stops p _ e old new stop (number_stops Within Lacks w left.skip others old new stop t)
+
     -- bytes after their length
 
     pub data_goes : (last : ℕ) (old new : Hand) → Taken Within (left.skip + 4) old new → last ≡ last_number w32 left.skip old.bytes new.bytes → Goes (and_then (left_at strict left) (passed_at (data_at w32))) (left_at strict (behind_part last)) Within old new
     data_goes last old new t is = left_goes _ _ (data_passed w32) last old new (number_goes Within w32 left.skip skip_at old new last t is)
 
-    pub data_stops : (old new : Hand) (stop : TakeFault) → TookFewer Within Lacks (left.skip + 4) old new stop → Stops (and_then (left_at strict left) (passed_at (data_at w32))) Within Lacks old new stop
-    data_stops old new stop t = left_stops _ _ (data_passed w32) old new stop (number_stops Within Lacks w32 left.skip skip_at old new stop t)
-
     -- a list: its count, and its elements
-
-    pub list_first : (old new : Hand) (stop : TakeFault) → TookFewer Within Lacks (left.skip + 4) old new stop → Stops (and_then (left_at strict left) (passed_at list_at)) Within Lacks old new stop
-    list_first old new stop t = left_stops _ _ list_passed old new stop (number_stops Within Lacks w32 left.skip from_length old new stop t)
 
     module _ (old middle new : Hand) (count : ℕ) (t : Taken Within (left.skip + 4) old middle) (is : count ≡ last_number w32 left.skip old.bytes middle.bytes) where
       counted : Goes (and_then (skip_at left.skip) (pass_number w32 from_length)) (and_then (skip_at 0) (from_length count)) Within old middle
@@ -174,10 +171,10 @@ module _ (Within : Hand → Type 0) (Lacks : TakeFault → Hand → ℕ → Type
 
     -- the byte of a flag
 
-    abbrev tested : ℕ → Pass
+    abbrev pub tested : ℕ → Pass
     tested byte = pass_if (allowed strict (is_flag byte))
 
-    byte_passed : Same (passed_at (byte_at strict)) (pass_number w8 tested)
+    pub byte_passed : Same (passed_at (byte_at strict)) (pass_number w8 tested)
     byte_passed place = from_number (number_at w8 place)
       where
         by_test : (n : ℕ × Place) (b : Bool) → (cond b (Some n) None >>= behind) ≡ pass_if b n.1
@@ -204,9 +201,6 @@ module _ (Within : Hand → Type 0) (Lacks : TakeFault → Hand → ℕ → Type
     flag_goes byte old new t is =
         goes_same Within _ _ _ _ old new (same_then (left_at strict left) _ _ byte_passed) (both_tested (is_flag byte))
         (goes_guarded Within passes (skip_at left.skip) (pass_number w8 tested) (tested byte) old new (number_goes Within w8 left.skip tested old new byte t is))
-
-    pub flag_stops : (old new : Hand) (stop : TakeFault) → TookFewer Within Lacks (left.skip + 1) old new stop → Stops (and_then (left_at strict left) (passed_at (byte_at strict))) Within Lacks old new stop
-    flag_stops old new stop t = left_stops _ _ byte_passed old new stop (number_stops Within Lacks w8 left.skip tested old new stop t)
 
     -- so many bytes, of which none is taken yet
     pub size_goes : (size : ℕ) (old : Hand) → length old.bytes ≤ old.peak → Within old → (p : Pass) → Same p (skip_at size) → Goes (and_then (left_at strict left) p) (left_at strict (behind_part (left.skip + size))) Within old old

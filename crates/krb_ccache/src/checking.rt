@@ -8,6 +8,7 @@ ghost use Rattle.krb_ccache.specs.Spelling.{header_bytes};
 ghost use Rattle.krb_ccache.specs.Value.{Cache, FitsHeader};
 ghost use Rattle.krb_ccache.specs.Format.{head_bytes, FitsHead, Spelled, Spells, IsCache, IsFaultOf};
 ghost use Rattle.krb_ccache.specs.Inner.Standing.{bytes_of, Lies, Reaches, IsMissing, Fills, StopsBy};
+ghost use Rattle.krb_ccache.specs.Inner.Row.{row_at, most_left};
 ghost use Rattle.krb_ccache.specs.Inner.Walking.{passed_at};
 
 use crate::credential::Row;
@@ -102,9 +103,9 @@ fn check_credentials(layout: Layout, cursor: &mut FileCursor<'_>) -> Result<(), 
 
 // Moves past the field that begins here. If there is none, the position is unspecified.
 fn skip<F: Field>(layout: Layout, cursor: &mut FileCursor<'_>) -> Result<(), Short>
-    requires { 2 ^ 32 + F.most < 2 ^ 64 }
-    ensures ok { OnOk result (passed_at (F.raw_at true layout) cursor.old ≡ Some cursor.new) }
-    ensures short { OnErr result (passed_at (F.raw_at true layout) cursor.old ≡ None) }
+    requires { 2 ^ 32 + most_left F.fields < 2 ^ 64 }
+    ensures ok { OnOk result (passed_at (row_at F.fields true layout) cursor.old ≡ Some cursor.new) }
+    ensures short { OnErr result (passed_at (row_at F.fields true layout) cursor.old ≡ None) }
 {
     let mut passing = Passing::new(cursor.rest());
     if !take_all::<F, _>(layout, &mut passing)? {

@@ -1,13 +1,16 @@
 //! A credential of a cache, and a field of its header.
 
-ghost use Rattle.std.specs.Prelude.{◌≡◌, Some};
-ghost use Rattle.krb_ccache.specs.Inner.Reading.{Parts, credential_of};
+ghost use Rattle.std.specs.Prelude.{◌≡◌, ℕ, true, List, Some};
+ghost use Rattle.krb_ccache.specs.Types.{Credential as CredentialValue, Layout as LayoutValue};
+ghost use Rattle.krb_ccache.specs.Format.{Spells};
+ghost use Rattle.krb_ccache.specs.Inner.Row.{Row as RowShape, Raw, row_bytes, FitsRow, ◌▸◌};
+ghost use Rattle.krb_ccache.specs.Inner.Standing.{spelled_as};
 ghost use Rattle.krb_ccache.specs.Spelling.{credential_bytes};
 ghost use Rattle.krb_ccache.specs.Value.{HasCredentialLengths, FitsCredential};
 
 use crate::field::Field;
+use crate::key_type::KeyType;
 use crate::part::Part;
-use crate::second_type::SecondType;
 use crate::typed::TypedList;
 use krb_name::{Bytes, Principal};
 use std::fmt;
@@ -63,7 +66,7 @@ pub struct Credential {
 type RowOf<N, B, L> = (N, (N, KeyAnd<B, TimesAnd<FlagsAnd<(L, (L, (B, B)))>>>));
 
 // The encryption type, and the key.
-type KeyAnd<B, R> = (i16, (SecondType, (B, R)));
+type KeyAnd<B, R> = (KeyType, (B, R));
 
 // `authtime`, `starttime`, `endtime` and `renew_till`.
 type TimesAnd<R> = (u32, (u32, (u32, (u32, R))));
@@ -77,6 +80,23 @@ pub(crate) type Row = RowOf<Principal, Bytes, TypedList>;
 /// The same, by reference.
 type RowRef<'a> = RowOf<&'a Principal, &'a Bytes, &'a TypedList>;
 
+/// A value whose fields stand in a row, as proofs see it.
+pub(crate) trait HasRow {
+    /// Which fields these are.
+    ghost fields: { RowShape };
+
+    /// What their bytes say, with these after the encryption type and this one for `is_skey`.
+    ghost parts: { CredentialValue → List ℕ → ℕ → Raw fields };
+}
+
+impl HasRow for Credential {
+    ghost fields = { ⟦<Row as Field>⟧.fields };
+
+    ghost parts = { λ c second mark. c.client ▸ c.server ▸ (c.etype ▸ second) ▸ c.key
+        ▸ c.authtime ▸ c.starttime ▸ c.endtime ▸ c.renew_till ▸ mark ▸ c.ticket_flags
+        ▸ c.addresses ▸ c.authdata ▸ c.ticket ▸ c.second_ticket };
+}
+
 impl Credential {
     /// Returns the fields, in the order of the file.
     pub(crate) fn row(&self) -> RowRef<'_>
@@ -89,15 +109,18 @@ impl Credential {
         let flags = (self.is_skey, (self.ticket_flags, lists));
         let ends = (self.endtime, (self.renew_till, flags));
         let times = (self.authtime, (self.starttime, ends));
-        let key = (self.etype, (SecondType, (&self.key, times)));
+        let etype = self.etype;
+        let key = (KeyType { etype }, (&self.key, times));
         (&self.client, (&self.server, key))
     }
 
     /// Makes the credential of these fields.
     pub(crate) fn from_row(row: Row) -> Credential
-        ensures { (parts : Parts) → row ≡ ⟦<Row as Field>⟧.value parts → result ≡ credential_of parts }
+        ensures { (layout : LayoutValue) (raw : Raw (⟦<Credential as HasRow>⟧.fields)) → row ≡ ⟦<Row as Field>⟧.value raw
+            → FitsRow (⟦<Credential as HasRow>⟧.fields) true layout raw
+            → Spells layout (spelled_as (row_bytes (⟦<Credential as HasRow>⟧.fields) raw) result) }
     {
-        let (client, (server, (etype, (_, (key, times))))) = row;
+        let (client, (server, (KeyType { etype }, (key, times)))) = row;
         let (authtime, (starttime, (endtime, (renew_till, flags)))) = times;
         let (is_skey, (ticket_flags, (addresses, (authdata, tickets)))) = flags;
         let (ticket, second_ticket) = tickets;

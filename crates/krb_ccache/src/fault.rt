@@ -3,7 +3,6 @@
 ghost use Rattle.std.specs.Prelude.{◌≡◌};
 ghost use Rattle.krb_ccache.specs.Types.{OutOfMemory};
 
-use krb_name::ReadFault;
 use std::alloc::{AllocError, AllocFailed};
 use thiserror::Error;
 
@@ -65,18 +64,5 @@ impl<T: Drop> From<AllocFailed<T>> for CacheFault {
 
     fn from(_: AllocFailed<T>) -> CacheFault {
         CacheFault::OutOfMemory
-    }
-}
-
-impl From<ReadFault> for CacheFault {
-    ghost use Rattle.krb_ccache.specs.Fault.{source_fault};
-
-    ghost from_gives = { λ read fault. fault ≡ source_fault read };
-
-    fn from(fault: ReadFault) -> CacheFault {
-        match fault {
-            ReadFault::Read => CacheFault::Read,
-            ReadFault::OutOfMemory => CacheFault::OutOfMemory,
-        }
     }
 }

@@ -1,14 +1,12 @@
 //! Fields that stand one after another: how they are read, and how their bytes are taken.
 
-ghost use Rattle.std.specs.Prelude.{◌≡◌, ◌==◌, ◌+◌, ◌-◌, ◌≤◌, ◌<◌, ◌^◌, ℕ, ℤ, Bool, true, max, List, Option, Some, None, IfOk};
-ghost use Rattle.std.specs.Int.{w16, w32};
-ghost use Rattle.krb_ccache.specs.Types.{Principal as PrincipalValue, Layout as LayoutValue, TypedBytes as TypedBytesValue};
-ghost use Rattle.krb_name.specs.Cursor.{Place, number_at, signed_at, data_at};
-ghost use Rattle.krb_ccache.specs.Inner.Reading.{both_at, made_at, name_at, list_at, allowed, byte_at};
+ghost use Rattle.std.specs.Prelude.{◌≡◌, ◌==◌, ◌+◌, ◌-◌, ◌≤◌, ◌<◌, ◌^◌, Bool, true, max, Some, None, IfOk};
+ghost use Rattle.krb_ccache.specs.Inner.Reading.{made_at, allowed};
+ghost use Rattle.krb_ccache.specs.Inner.Row.{Row, name_field, data_field, list_field, flag_field, number_field, both_fields, Raw, row_at, most_left};
 ghost use Rattle.krb_ccache.specs.Inner.Walking.{IsWalk, passed_at, and_then, pass_if, left_at, stopped_reads};
 
 use crate::item_fault::ItemFault;
-use crate::items::{read_data, read_elements, read_name};
+use crate::items::{read_components, read_data, read_elements};
 use crate::layout::Layout;
 use crate::taker::Taker;
 use crate::typed::TypedList;
@@ -24,33 +22,27 @@ const KIND: usize = 2;
 
 /// A field, or a row of fields in nested pairs.
 pub(crate) trait Field: Sized {
-    /// What its bytes say.
-    ghost Raw: { Type 0 };
+    /// Which field it is, or which fields.
+    ghost fields: { Row };
 
-    /// The value that they mean.
-    ghost value: { Raw → Self };
-
-    /// How it is read, with its flags checked or not.
-    ghost raw_at: { Bool → LayoutValue → Place → Option (Raw × Place) };
-
-    /// At most so many bytes beyond those that were left, and beyond a length, are left after it.
-    ghost most: { ℕ };
+    /// The value that its bytes mean.
+    ghost value: { Raw fields → Self };
 
     /// Reads the field that begins here, copies it and moves past it. On an error the position is
     /// unspecified.
     fn read(alloc: Global, layout: Layout, cursor: &mut FileCursor<'_>) -> Result<Self, ItemFault>
         ensures read { IfOk result (λ field.
-            made_at value (raw_at true layout) cursor.old ≡ Some (field, cursor.new)) }
+            made_at value (row_at fields true layout) cursor.old ≡ Some (field, cursor.new)) }
         ensures missing { result ≡ Err ItemFault.Missing
-            → made_at value (raw_at true layout) cursor.old ≡ None };
+            → made_at value (row_at fields true layout) cursor.old ≡ None };
 
     /// Takes what is left of the fields before it, and then this field except for its last bytes.
     fn take<T: Taker>(layout: Layout, taker: &mut T, left: Left) -> Result<Left, TakeFault>
-        requires few { max left.skip (2 ^ 32) + most < 2 ^ 64 }
+        requires few { max left.skip (2 ^ 32) + most_left fields < 2 ^ 64 }
         requires reads { T.failures taker.old < 2 ^ 64 - 1 }
         requires within { T.Within (T.hand taker.old) }
-        ensures few { IfOk result (λ next. next.skip ≤ max left.skip (2 ^ 32) + most) }
-        ensures walk { (strict : Bool) → IsWalk (and_then (left_at strict left) (passed_at (raw_at strict layout))) (left_at strict)
+        ensures few { IfOk result (λ next. next.skip ≤ max left.skip (2 ^ 32) + most_left fields) }
+        ensures walk { (strict : Bool) → IsWalk (and_then (left_at strict left) (passed_at (row_at fields strict layout))) (left_at strict)
             T.Within T.Lacks (T.hand taker.old) (T.hand taker.new) result }
         ensures failed { T.failures taker.new ≡ T.failures taker.old + stopped_reads result }
         ensures lent { T.lender taker.new ≡ T.lender taker.old };
@@ -58,10 +50,10 @@ pub(crate) trait Field: Sized {
 
 /// Takes all bytes of a field, and returns whether its flags are flags.
 pub(crate) fn take_all<F: Field, T: Taker>(layout: Layout, taker: &mut T) -> Result<bool, TakeFault>
-    requires few { 2 ^ 32 + F.most < 2 ^ 64 }
+    requires few { 2 ^ 32 + most_left F.fields < 2 ^ 64 }
     requires reads { T.failures taker.old < 2 ^ 64 - 1 }
     requires within { T.Within (T.hand taker.old) }
-    ensures walk { (strict : Bool) → IsWalk (passed_at (F.raw_at strict layout)) (λ good. pass_if (allowed strict good))
+    ensures walk { (strict : Bool) → IsWalk (passed_at (row_at F.fields strict layout)) (λ good. pass_if (allowed strict good))
         T.Within T.Lacks (T.hand taker.old) (T.hand taker.new) result }
     ensures failed { T.failures taker.new ≡ T.failures taker.old + stopped_reads result }
     ensures lent { T.lender taker.new ≡ T.lender taker.old }
@@ -72,13 +64,9 @@ pub(crate) fn take_all<F: Field, T: Taker>(layout: Layout, taker: &mut T) -> Res
 }
 
 impl<A: Field + Drop, B: Field + Drop> Field for (A, B) {
-    ghost Raw = { A.Raw × B.Raw };
+    ghost fields = { both_fields A.fields B.fields };
 
     ghost value = { λ raw. (A.value raw.0, B.value raw.1) };
-
-    ghost raw_at = { λ strict layout. both_at (A.raw_at strict layout) (B.raw_at strict layout) };
-
-    ghost most = { A.most + B.most };
 
     fn read(
         alloc: Global,
@@ -97,16 +85,21 @@ impl<A: Field + Drop, B: Field + Drop> Field for (A, B) {
 }
 
 impl Field for Principal {
-    ghost Raw = { PrincipalValue };
+    ghost fields = { name_field };
 
     ghost value = { λ name. name };
 
-    ghost raw_at = { λ strict layout. name_at };
-
-    ghost most = { 12 };
-
+    #[tactic(auto, unfolding(crate::specs::Inner::Reading::name_at))]
     fn read(alloc: Global, _: Layout, cursor: &mut FileCursor<'_>) -> Result<Principal, ItemFault> {
-        read_name(alloc, cursor)
+        let name_type = cursor.read_i32()?;
+        let count = cursor.read_u32()?;
+        let realm = read_data(alloc, cursor)?;
+        let components = read_components(alloc, cursor, count)?;
+        Ok(Principal {
+            realm,
+            name_type,
+            components,
+        })
     }
 
     fn take<T: Taker>(_: Layout, taker: &mut T, left: Left) -> Result<Left, TakeFault> {
@@ -118,13 +111,9 @@ impl Field for Principal {
 }
 
 impl Field for Bytes {
-    ghost Raw = { List ℕ };
+    ghost fields = { data_field };
 
     ghost value = { λ bytes. bytes };
-
-    ghost raw_at = { λ strict layout. data_at w32 };
-
-    ghost most = { 4 };
 
     fn read(alloc: Global, _: Layout, cursor: &mut FileCursor<'_>) -> Result<Bytes, ItemFault> {
         read_data(alloc, cursor)
@@ -140,13 +129,9 @@ impl Field for Bytes {
 }
 
 impl Field for TypedList {
-    ghost Raw = { List TypedBytesValue };
+    ghost fields = { list_field };
 
     ghost value = { λ list. list };
-
-    ghost raw_at = { λ strict layout. list_at };
-
-    ghost most = { 4 };
 
     #[tactic(auto, unfolding(crate::specs::Inner::Reading::list_at))]
     fn read(alloc: Global, _: Layout, cursor: &mut FileCursor<'_>) -> Result<TypedList, ItemFault> {
@@ -161,13 +146,9 @@ impl Field for TypedList {
 }
 
 impl Field for bool {
-    ghost Raw = { ℕ };
+    ghost fields = { flag_field };
 
     ghost value = { λ byte. byte == 1 };
-
-    ghost raw_at = { λ strict layout. byte_at strict };
-
-    ghost most = { 1 };
 
     fn read(_: Global, _: Layout, cursor: &mut FileCursor<'_>) -> Result<bool, ItemFault> {
         let byte = cursor.read_u8()?;
@@ -187,13 +168,9 @@ impl Field for bool {
 }
 
 impl Field for u32 {
-    ghost Raw = { ℕ };
+    ghost fields = { number_field };
 
     ghost value = { λ number. number };
-
-    ghost raw_at = { λ strict layout. number_at w32 };
-
-    ghost most = { 4 };
 
     fn read(_: Global, _: Layout, cursor: &mut FileCursor<'_>) -> Result<u32, ItemFault> {
         Ok(cursor.read_u32()?)
@@ -202,24 +179,5 @@ impl Field for u32 {
     #[tactic(auto, using(crate::proofs::WalkParts::number_passed))]
     fn take<T: Taker>(_: Layout, taker: &mut T, left: Left) -> Result<Left, TakeFault> {
         Ok(leave(taker, left, 4))
-    }
-}
-
-impl Field for i16 {
-    ghost Raw = { ℤ };
-
-    ghost value = { λ number. number };
-
-    ghost raw_at = { λ strict layout. signed_at w16 };
-
-    ghost most = { 2 };
-
-    fn read(_: Global, _: Layout, cursor: &mut FileCursor<'_>) -> Result<i16, ItemFault> {
-        Ok(cursor.read_i16()?)
-    }
-
-    #[tactic(auto, using(crate::proofs::WalkParts::signed_passed))]
-    fn take<T: Taker>(_: Layout, taker: &mut T, left: Left) -> Result<Left, TakeFault> {
-        Ok(leave(taker, left, 2))
     }
 }

@@ -6,14 +6,14 @@ ghost use Rattle.krb_name.specs.Cursor.{data_at, times_at};
 ghost use Rattle.krb_name.specs.Field.{IsBytes};
 ghost use Rattle.krb_ccache.specs.Format.{Spells};
 ghost use Rattle.krb_ccache.specs.Inner.Standing.{bytes_of, LiesOne, IsMissing};
-ghost use Rattle.krb_ccache.specs.Inner.Reading.{name_at, typed_at};
+ghost use Rattle.krb_ccache.specs.Inner.Reading.{typed_at};
 
 use crate::credential::{Credential, Row};
 use crate::field::Field;
 use crate::item_fault::ItemFault;
 use crate::layout::Layout;
 use crate::typed::{TypedBytes, TypedList};
-use krb_name::{Bytes, Components, FileCursor, Principal};
+use krb_name::{Bytes, Components, FileCursor};
 use std::alloc::Global;
 
 // Each call reads the part that begins here, copies it and moves past it. On an error the position
@@ -27,24 +27,8 @@ pub(crate) fn read_data(alloc: Global, cursor: &mut FileCursor<'_>) -> Result<By
     Ok(Bytes::from_slice(alloc, bytes)?)
 }
 
-#[tactic(auto, unfolding(crate::specs::Inner::Reading::name_at))]
-pub(crate) fn read_name(alloc: Global, cursor: &mut FileCursor<'_>) -> Result<Principal, ItemFault>
-    ensures read { IfOk result (λ name. name_at cursor.old ≡ Some (name, cursor.new)) }
-    ensures missing { result ≡ Err ItemFault.Missing → name_at cursor.old ≡ None }
-{
-    let name_type = cursor.read_i32()?;
-    let count = cursor.read_u32()?;
-    let realm = read_data(alloc, cursor)?;
-    let components = read_components(alloc, cursor, count)?;
-    Ok(Principal {
-        realm,
-        name_type,
-        components,
-    })
-}
-
 #[tactic(auto, using(krb_name::proofs::Repeated::times_goes_on, krb_name::proofs::Repeated::times_stops, krb_name::proofs::Repeated::times_done))]
-fn read_components(
+pub(crate) fn read_components(
     alloc: Global,
     cursor: &mut FileCursor<'_>,
     count: u32,

@@ -13,10 +13,9 @@ ghost use Rattle.krb_ccache.specs.Inner.Stepping.{Any};
 ghost use Rattle.krb_ccache.specs.Inner.Walking.{Walks, Halts, stopped_reads};
 
 use crate::credential::HeaderField;
-use crate::field::take_all;
+use crate::field::{Field, take_all};
 use crate::header::read_head;
 use crate::item_fault::ItemFault;
-use crate::items::read_name;
 use crate::layout::{Layout, read_layout};
 use crate::taker::Taker;
 use crate::walking::{TakeFault, take_header};
@@ -116,7 +115,11 @@ impl Leading for Principal {
         Ok(())
     }
 
-    fn read(alloc: Global, _: Layout, cursor: &mut FileCursor<'_>) -> Result<Principal, ItemFault> {
-        read_name(alloc, cursor)
+    fn read(
+        alloc: Global,
+        layout: Layout,
+        cursor: &mut FileCursor<'_>,
+    ) -> Result<Principal, ItemFault> {
+        <Principal as Field>::read(alloc, layout, cursor)
     }
 }

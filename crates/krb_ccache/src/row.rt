@@ -1,12 +1,12 @@
 //! Parts that are written one after another, in nested pairs.
 
-ghost use Rattle.std.specs.Prelude.{◌<◌, ◌^◌, ◌++◌, ℕ, FitsSigned};
-ghost use Rattle.std.specs.Int.{w16, w32};
-ghost use Rattle.krb_name.specs.Cursor.{number_bytes, signed_bytes};
+ghost use Rattle.std.specs.Prelude.{◌<◌, ◌^◌, ◌++◌};
+ghost use Rattle.std.specs.Int.{w32};
+ghost use Rattle.krb_name.specs.Cursor.{number_bytes};
 ghost use Rattle.krb_ccache.specs.Spelling.{flag_bytes};
 
 use crate::part::Part;
-use crate::writing::{write_i16, write_u32};
+use crate::writing::write_u32;
 use std::alloc::AllocError;
 
 impl<A: Part, B: Part> Part for (A, B) {
@@ -48,28 +48,6 @@ impl<T: Part> Part for &T {
 
     fn write(&self, out: &mut Vec<u8>) -> Result<(), AllocError> {
         (**self).write(out)
-    }
-}
-
-impl Part for i16 {
-    ghost spelled = { signed_bytes w16 };
-
-    ghost Fits = { λ _. Unit {0} };
-
-    ghost InRange = { FitsSigned w16 };
-
-    fn fits(&self) -> bool {
-        let _number = *self;
-        true
-    }
-
-    #[tactic(auto, using(crate::proofs::RoomLaws::sizes))]
-    fn behind(&self, left: usize) -> Option<usize> {
-        left.checked_sub(2)
-    }
-
-    fn write(&self, out: &mut Vec<u8>) -> Result<(), AllocError> {
-        write_i16(out, *self)
     }
 }
 

@@ -5,7 +5,7 @@ ghost use Rattle.krb_ccache.specs.Inner.Walking.{Hand, IsTaken, stopped_reads, w
 ghost use Rattle.krb_ccache.specs.declared.walking.TakeFault.{TakeFault as TakeFaultValue};
 
 use crate::walking::TakeFault;
-use krb_name::{FILE_LIMIT, Source, Window};
+use krb_name::{FILE_LIMIT, ReadFault, Source, Window};
 use std::marker::Model;
 
 /// What the bytes of a part are taken from.
@@ -60,7 +60,8 @@ impl<S: Source> Taker for Window<S> {
         match self.fill(count) {
             Ok(true) => Ok(()),
             Ok(false) => Err(TakeFault::End),
-            Err(fault) => Err(TakeFault::from(fault)),
+            Err(ReadFault::Read) => Err(TakeFault::Read),
+            Err(ReadFault::OutOfMemory) => Err(TakeFault::OutOfMemory),
         }
     }
 

@@ -7,7 +7,7 @@ ghost use Rattle.krb_name.specs.Cursor.{data_at};
 ghost use Rattle.krb_ccache.specs.Inner.Walking.{Goes, IsTaken, IsWalk, IsWhole, Pass, Same, passed_at, skip_at, and_then, left_at, pass_times, pass_data, stopped_reads};
 
 use crate::taker::Taker;
-use krb_name::{ReadFault, Short};
+use krb_name::Short;
 
 /// What is left of the parts that were taken so far.
 #[derive(Clone, Copy)]
@@ -41,19 +41,6 @@ pub(crate) enum TakeFault {
     Read,
     /// There is no memory for them.
     OutOfMemory,
-}
-
-impl From<ReadFault> for TakeFault {
-    ghost use Rattle.krb_ccache.specs.Inner.Walking.{stop_of};
-
-    ghost from_gives = { λ read stop. stop ≡ stop_of read };
-
-    fn from(fault: ReadFault) -> TakeFault {
-        match fault {
-            ReadFault::Read => TakeFault::Read,
-            ReadFault::OutOfMemory => TakeFault::OutOfMemory,
-        }
-    }
 }
 
 impl From<TakeFault> for Short {

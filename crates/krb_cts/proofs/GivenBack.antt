@@ -61,7 +61,7 @@ chained_is key old back j g (suc i) le =
           ∙ ap (λ (n : ℕ). chained_block key old (suc n)) (sym same)
     ]
 
-same_joined : (f g : ℕ → List ℕ) (n : ℕ) → ((i : ℕ) → i < n → f (suc i) ≡ g (suc i)) → joined f n ≡ joined g n
+pub same_joined : (f g : ℕ → List ℕ) (n : ℕ) → ((i : ℕ) → i < n → f (suc i) ≡ g (suc i)) → joined f n ≡ joined g n
 unfolding joined
 same_joined f g zero same = refl
 same_joined f g (suc n) same = ap₂ (λ (a b : List ℕ). a ++ b) (same_joined f g n (λ i lt. same i (omega arith))) (same n (omega arith))

@@ -7,6 +7,7 @@ pub mod Stolen
 pub mod GivenBack
 pub mod Bytes
 pub mod Lengths
+pub mod AfterFirst
 pub mod Encrypted
 pub mod Undone
 pub mod Redone

@@ -51,7 +51,7 @@ pub fn decrypt(schedule: &KeySchedule, text: &mut [u8])
 }
 
 // Where the last block of a text begins.
-fn last_block(text: &[u8]) -> usize
+pub(crate) fn last_block(text: &[u8]) -> usize
     requires { 16 ≤ length text.now }
     ensures start { result ≡ 16 * ((length text.now + 15) / 16 - 1) }
     ensures text { IsText text.now }
@@ -88,10 +88,27 @@ fn give_back(schedule: &KeySchedule, text: &mut [u8], at: usize)
         text.new ≡ take (at - 16) text.old ++ chained ++ take (length text.old - at) (xor last chained) }
 {
     let left = text.len() - at;
+    let (chained, plain) = undo_last_two(schedule, text, at);
+    put_block(text, at - BLOCK_LEN, &chained);
+    text[at..].copy_from_slice(&plain[..left]);
+}
+
+// The block that was chained before the last one, whole again, and the last block as it was before
+// it was chained, with what padded it. The last block of the text begins at `at`.
+pub(crate) fn undo_last_two(schedule: &KeySchedule, text: &[u8], at: usize) -> (Block, Block)
+    requires before { 16 ≤ at }
+    requires last { at < length text.now }
+    requires end { length text.now ≤ at + 16 }
+    ensures chained { let last = inv_cipher schedule.now (take 16 (drop (at - 16) text.now)) in
+        result.0 ≡ drop at text.now ++ drop (length text.now - at) last }
+    ensures plain { let last = inv_cipher schedule.now (take 16 (drop (at - 16) text.now)) in
+        result.1 ≡ xor last (drop at text.now ++ drop (length text.now - at) last) }
+{
+    let left = text.len() - at;
     let mut last = block_at(text, at - BLOCK_LEN);
     schedule.decrypt_block(&mut last);
     let mut chained = last;
     chained[..left].copy_from_slice(&text[at..]);
-    put_block(text, at - BLOCK_LEN, &chained);
-    text[at..].copy_from_slice(&xor(&last, &chained)[..left]);
+    let plain = xor(&last, &chained);
+    (chained, plain)
 }

@@ -2,6 +2,7 @@ pub mod Sealed
 pub mod Opens
 pub mod Backwards
 pub mod Key
+pub mod Written
 pub use Rattle.krb_kdf.specs.Hmac
 pub use Rattle.krb_kdf.specs.Kdf
 pub use Rattle.krb_cts.specs.Stealing

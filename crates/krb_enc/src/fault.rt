@@ -2,6 +2,7 @@
 
 ghost use Rattle.std.specs.Prelude.{◌≡◌};
 ghost use Rattle.krb_enc.specs.declared.fault.OpenFault.TheVariants.{OutOfMemory};
+ghost use Rattle.krb_enc.specs.Inner.Refused.{fault_of, slice_fault_of};
 
 use std::alloc::AllocError;
 use thiserror::Error;
@@ -29,6 +30,60 @@ pub enum OpenFault {
     /// There is no memory for the plain text.
     #[error("out of memory")]
     OutOfMemory,
+}
+
+/// Why a sealed text can't be opened into a slice.
+#[derive(Clone, Copy, Debug, PartialEq, Eq, Error)]
+pub enum OpenToFault {
+    /// The text is shorter than a sealed empty text: 32 bytes (type 19) or 40 (type 20).
+    #[error("the sealed text is too short")]
+    Short,
+    /// The last bytes aren't the tag of the rest.
+    #[error("the tag is wrong")]
+    Integrity,
+    /// The slice is shorter than the plain text, which has this many bytes.
+    #[error("the slice has fewer than {needed} bytes")]
+    ShortSlice {
+        /// The length of the plain text.
+        needed: usize,
+    },
+}
+
+/// The slice that a sealed text is to be written to is too short.
+#[derive(Clone, Copy, Debug, PartialEq, Eq, Error)]
+#[error("the slice has fewer than {needed} bytes")]
+pub struct ShortSlice {
+    /// The length of the sealed text.
+    pub needed: usize,
+}
+
+// Why a text has no body that can be decrypted.
+#[derive(Clone, Copy)]
+pub(crate) enum Refused {
+    Short,
+    Integrity,
+}
+
+impl From<Refused> for OpenFault {
+    ghost from_gives = { λ refused fault. fault ≡ fault_of refused };
+
+    fn from(refused: Refused) -> OpenFault {
+        match refused {
+            Refused::Short => OpenFault::Short,
+            Refused::Integrity => OpenFault::Integrity,
+        }
+    }
+}
+
+impl From<Refused> for OpenToFault {
+    ghost from_gives = { λ refused fault. fault ≡ slice_fault_of refused };
+
+    fn from(refused: Refused) -> OpenToFault {
+        match refused {
+            Refused::Short => OpenToFault::Short,
+            Refused::Integrity => OpenToFault::Integrity,
+        }
+    }
 }
 
 impl From<AllocError> for OpenFault {

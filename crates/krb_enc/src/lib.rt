@@ -11,6 +11,10 @@
 //! let tickets = key.for_usage(2);
 //! let sealed = tickets.seal(alloc, &confounder, b"plain")?;
 //! let plain = tickets.open(alloc, &sealed)?;
+//!
+//! // Into slices, without allocating memory.
+//! let sealed_len = tickets.seal_to(&confounder, b"plain", &mut text)?;
+//! let plain_len = tickets.open_to(&text[..sealed_len], &mut buffer)?;
 //! ```
 //!
 //! The number before the confounder or the text is the key usage (RFC 4120, section 7.5.1). The
@@ -33,7 +37,7 @@ mod texts;
 mod usage_key;
 
 pub use enctype::Enctype;
-pub use fault::{KeyFault, OpenFault};
+pub use fault::{KeyFault, OpenFault, OpenToFault, ShortSlice};
 pub use key::Key;
 pub use profiles::{Sha256Aes128, Sha384Aes256};
 pub use tag::Tag;

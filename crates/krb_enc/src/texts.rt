@@ -31,28 +31,32 @@ pub(crate) fn encrypted(
     Ok(text)
 }
 
-// Decrypts a text, and takes its confounder away.
+// Encrypts a confounder and a plain text into a slice of their length.
+pub(crate) fn encrypt_to(
+    schedule: &KeySchedule,
+    confounder: &[u8; CONFOUNDER_LEN],
+    plain: &[u8],
+    text: &mut [u8],
+)
+    requires { length text.old ≡ 16 + length plain.now }
+    ensures { text.new ≡ cts schedule.now (confounder.now ++ plain.now) }
+{
+    let (first, rest) = text.split_at_mut(CONFOUNDER_LEN);
+    rest.copy_from_slice(plain);
+    first.copy_from_slice(confounder);
+    krb_cts::encrypt(schedule, text);
+}
+
+// Decrypts a text, without its confounder.
 pub(crate) fn decrypted(
     alloc: Global,
     schedule: &KeySchedule,
     text: &[u8],
 ) -> Result<Vec<u8>, AllocError>
     requires { 16 ≤ length text.now }
-    ensures plain { IfOk result (λ plain. plain.items ≡ drop 16 (undo schedule.now text.now)) }
-    ensures length { IfOk result (λ _. length (undo schedule.now text.now) ≡ length text.now) }
+    ensures { IfOk result (λ plain. plain.items ≡ drop 16 (undo schedule.now text.now)) }
 {
-    let mut plain = Vec::from_slice(alloc, text)?;
-    krb_cts::decrypt(schedule, &mut plain);
-    drop_front(&mut plain, CONFOUNDER_LEN);
+    let mut plain = vec![in alloc; 0; text.len() - CONFOUNDER_LEN]?;
+    krb_cts::decrypt_after_first(schedule, text, &mut plain);
     Ok(plain)
-}
-
-// Takes the first bytes away.
-fn drop_front(bytes: &mut Vec<u8>, count: usize)
-    requires { count ≤ vec_len bytes.old }
-    ensures { bytes.new.items ≡ drop count bytes.old.items }
-{
-    let kept = bytes.len() - count;
-    bytes.copy_within(count.., 0);
-    bytes.truncate(kept);
 }

@@ -1,17 +1,19 @@
 //! Keys of one usage.
 
-ghost use Rattle.std.specs.Prelude.{◌≡◌, ◌↔◌, ◌⊎◌, ◌≤◌, ◌<◌, ◌+◌, ℕ, List, length, vec_len, pos, IfOk, IsErrOf, IsTrue, MatchResult};
+ghost use Rattle.std.specs.Prelude.{◌≡◌, ◌↔◌, ◌⊎◌, ◌≤◌, ◌<◌, ◌+◌, ℕ, List, length, take, drop, vec_len, pos, IfOk, IfErr, IsErrOf, IsTrue, MatchResult};
 ghost use Rattle.krb_kdf.specs.Hmac.{sha256_hash, sha384_hash, block_key};
 ghost use Rattle.krb_enc.specs.Key.{KeyValue, UsageKeyValue, profile_of};
 ghost use Rattle.krb_enc.specs.Sealed.{encryption_key, tag_of, sealed};
 ghost use Rattle.krb_enc.specs.Opens.{IsShort, HasTag, Opens, OpensOnlyTo, OpensToNothing};
+ghost use Rattle.krb_cts.specs.Undo.{undo};
+ghost use Rattle.krb_enc.specs.Written.{IsWritten};
 ghost use Rattle.krb_enc.specs.Inner.KeyBytes.{value_of, IsReadyFor};
 
 use crate::etype::{AES128_CTS_HMAC_SHA256_128, AES256_CTS_HMAC_SHA384_192};
-use crate::fault::OpenFault;
+use crate::fault::{OpenFault, OpenToFault, Refused, ShortSlice};
 use crate::key::KeyBytes;
 use crate::tag::{Tag, are_same};
-use crate::texts::{CONFOUNDER_LEN, INITIAL_VECTOR, decrypted, encrypted};
+use crate::texts::{CONFOUNDER_LEN, INITIAL_VECTOR, decrypted, encrypt_to, encrypted};
 use krb_aes::KeySchedule;
 use krb_kdf::{HmacSha256, HmacSha384, MacPurpose, Purpose};
 use std::alloc::{AllocError, Global};
@@ -109,6 +111,39 @@ impl UsageKey {
         Ok(text)
     }
 
+    /// Seals `plain` as `seal` does, writes the sealed text to the start of `text` and returns its
+    /// length. The rest of `text` is unchanged. Allocates no memory.
+    ///
+    /// # Errors
+    /// `ShortSlice`: the sealed text is longer than `text`, which is unchanged.
+    ///
+    /// Source: RFC 8009, section 5.
+    pub fn seal_to(
+        &self,
+        confounder: &[u8; 16],
+        plain: &[u8],
+        text: &mut [u8],
+    ) -> Result<usize, ShortSlice>
+        ensures sealed { IsWritten ShortSlice (λ needed. record { needed = needed })
+            (sealed (profile_of self.now.key) self.now.key.bytes self.now.usage confounder.now plain.now)
+            text.old text.new result }
+        ensures length { IfOk result (λ size.
+            size ≡ 16 + length plain.now + (profile_of self.now.key).tag_len) }
+        ensures opens { IfOk result (λ size.
+            OpensOnlyTo (profile_of self.now.key) self.now.key.bytes self.now.usage (take size text.new) plain.now) }
+    {
+        let body_len = CONFOUNDER_LEN + plain.len();
+        let tag_len = self.tag_len();
+        let needed = body_len + tag_len;
+        if text.len() < needed {
+            return Err(ShortSlice { needed });
+        }
+        let (body, rest) = text.split_at_mut(body_len);
+        encrypt_to(self.schedule(), confounder, plain, body);
+        rest[..tag_len].copy_from_slice(self.tag(body).as_slice());
+        Ok(needed)
+    }
+
     /// Opens `text`, which was sealed under the base key for the usage, and returns the plain text.
     ///
     /// The tag is checked before anything is decrypted.
@@ -139,15 +174,74 @@ impl UsageKey {
             → (16 + (profile_of self.now.key).tag_len ≤ length text.now)
             × HasTag (profile_of self.now.key) self.now.key.bytes self.now.usage text.now }
     {
+        let body = self.body(text)?;
+        Ok(decrypted(alloc, self.schedule(), body)?)
+    }
+
+    /// Opens `text` as `open` does, writes the plain text to the start of `plain` and returns its
+    /// length. The rest of `plain` is unchanged. Allocates no memory.
+    ///
+    /// # Errors
+    /// The first that applies. In each case `plain` is unchanged, and nothing is decrypted.
+    /// - `Short`: there are fewer than 32 bytes (type 19) or 40 (type 20).
+    /// - `Integrity`: the last 16 or 24 bytes aren't the tag of the rest.
+    /// - `ShortSlice`: the plain text is longer than `plain`.
+    ///
+    /// Source: RFC 8009, section 5.
+    pub fn open_to(&self, text: &[u8], plain: &mut [u8]) -> Result<usize, OpenToFault>
+        // What a text opens to is written, if there is room.
+        ensures found { (opened : List ℕ)
+            → Opens (profile_of self.now.key) self.now.key.bytes self.now.usage text.now opened
+            → IsWritten OpenToFault OpenToFault.ShortSlice opened plain.old plain.new result }
+        ensures opened { IfOk result (λ size.
+            Opens (profile_of self.now.key) self.now.key.bytes self.now.usage text.now (take size plain.new)) }
+        // Short or Integrity is answered exactly if nothing opens.
+        ensures refused { (IsErrOf result OpenToFault.Short ⊎ IsErrOf result OpenToFault.Integrity)
+            ↔ OpensToNothing (profile_of self.now.key) self.now.key.bytes self.now.usage text.now }
+        ensures short { IsErrOf result OpenToFault.Short ↔ IsShort (profile_of self.now.key) text.now }
+        ensures integrity { IsErrOf result OpenToFault.Integrity
+            ↔ ((16 + (profile_of self.now.key).tag_len ≤ length text.now)
+            × (HasTag (profile_of self.now.key) self.now.key.bytes self.now.usage text.now → ⊥)) }
+        ensures room { (needed : ℕ) → IsErrOf result (OpenToFault.ShortSlice needed)
+            → (opened : List ℕ) × (needed ≡ length opened)
+            × Opens (profile_of self.now.key) self.now.key.bytes self.now.usage text.now opened }
+        ensures unchanged { IfErr result (λ _. plain.new ≡ plain.old) }
+    {
+        let body = self.body(text)?;
+        let needed = body.len() - CONFOUNDER_LEN;
+        if plain.len() < needed {
+            return Err(OpenToFault::ShortSlice { needed });
+        }
+        krb_cts::decrypt_after_first(self.schedule(), body, &mut plain[..needed]);
+        Ok(needed)
+    }
+
+    // What comes before the tag of a text that has its tag.
+    fn body<'t>(&self, text: &'t [u8]) -> Result<&'t [u8], Refused>
+        ensures opens { IfOk result (λ body.
+            Opens (profile_of self.now.key) self.now.key.bytes self.now.usage text.now
+            (drop 16 (undo (encryption_key (profile_of self.now.key) self.now.key.bytes self.now.usage) body.now))) }
+        ensures confounder { IfOk result (λ body. 16 ≤ length body.now) }
+        ensures long { IfOk result (λ _. 16 + (profile_of self.now.key).tag_len ≤ length text.now) }
+        ensures tagged { IfOk result (λ _.
+            HasTag (profile_of self.now.key) self.now.key.bytes self.now.usage text.now) }
+        ensures refused { IfErr result (λ _.
+            OpensToNothing (profile_of self.now.key) self.now.key.bytes self.now.usage text.now) }
+        ensures short { IsErrOf result Refused.Short ↔ IsShort (profile_of self.now.key) text.now }
+        ensures integrity { IsErrOf result Refused.Integrity
+            ↔ ((16 + (profile_of self.now.key).tag_len ≤ length text.now)
+            × (HasTag (profile_of self.now.key) self.now.key.bytes self.now.usage text.now → ⊥)) }
+    {
         let tag_len = self.tag_len();
         if text.len() < CONFOUNDER_LEN + tag_len {
-            return Err(OpenFault::Short);
+            return Err(Refused::Short);
         }
         let (body, end) = text.split_at(text.len() - tag_len);
-        if !self.tag(body).is(end) {
-            return Err(OpenFault::Integrity);
+        if self.tag(body).is(end) {
+            Ok(body)
+        } else {
+            Err(Refused::Integrity)
         }
-        Ok(decrypted(alloc, self.schedule(), body)?)
     }
 
     fn schedule(&self) -> &KeySchedule

@@ -11,11 +11,12 @@ use Rattle.krb_keytab.specs.Entry.{KeytabEntry}
 use Rattle.krb_name.specs.File.{file_limit}
 use Rattle.krb_keytab.specs.Format.{version, IsReached, IsAnswerOf}
 use Rattle.krb_keytab.specs.Items.{LacksRecord, LacksVersion}
-use Rattle.krb_keytab.specs.Inner.Entry.{entry_at}
+use Rattle.krb_keytab.specs.Inner.Entry.{HoldsEntry, HoldsNone}
 use Rattle.krb_keytab.specs.Inner.Meeting.{IsWhole}
 use Rattle.krb_keytab.specs.declared.fault.KeytabFault.{KeytabFault}
 use Rattle.krb_keytab.specs.declared.fault.KeytabFault.TheVariants.{Version, Truncated, BadEntry, TooLong}
 use Rattle.krb_name.proofs.ShortLaws.{short_signed}
+use Rattle.krb_keytab.proofs.EntryLaws.{some_holds}
 use Rattle.krb_keytab.proofs.FileLaws.{reach_start, record_first}
 use Rattle.krb_keytab.proofs.MeetLaws.{cut_off, hole_whole, entry_whole, no_entry}
 use Rattle.krb_keytab.proofs.StandLaws.{reach_whole, stops_at}
@@ -48,18 +49,18 @@ module _ (at : ℕ) (rest : List ℕ) (bytes : IsBytes rest) where
   room : (size : ℤ) (n : ℕ) → n ≤ length rest → at + length (signed_bytes w32 size ++ rest) ≤ file_limit → at + 4 + n ≤ file_limit
   room size n enough limit = omega (arith, enough, limit, length-append (signed_bytes w32 size) rest)
 
-  made : (n : ℕ) → 0 < n → n ≤ length rest → at + length (signed_bytes w32 (pos n) ++ rest) ≤ file_limit → (read : Option KeytabEntry) → entry_at (take n rest) ≡ read → Kind at (signed_bytes w32 (pos n) ++ rest)
-  made n some enough limit None e =
-      inr (Some (BadEntry at), subst (LacksRecord at (Some (BadEntry at))) (sym (split (signed_bytes w32 (pos n)) n)) (no_entry at n (take n rest) (drop n rest) some (room (pos n) n enough limit) (omega (arith, length-take n rest, enough)) e))
-  made n some enough limit (Some one) e =
-      there (pos n) n (one ∷ []) (entry_whole at n (take n rest) one (room (pos n) n enough limit) (IsBytes-take n rest bytes) (omega (arith, length-take n rest, enough)) e)
+  made : (n : ℕ) → 0 < n → n ≤ length rest → at + length (signed_bytes w32 (pos n) ++ rest) ≤ file_limit → ((e : KeytabEntry) × HoldsEntry (take n rest) e) ⊎ HoldsNone (take n rest) → Kind at (signed_bytes w32 (pos n) ++ rest)
+  made n some enough limit (inr none) =
+      inr (Some (BadEntry at), subst (LacksRecord at (Some (BadEntry at))) (sym (split (signed_bytes w32 (pos n)) n)) (no_entry at n (take n rest) (drop n rest) some (room (pos n) n enough limit) (omega (arith, length-take n rest, enough)) none))
+  made n some enough limit (inl (one, holds)) =
+      there (pos n) n (one ∷ []) (entry_whole at n (take n rest) one (room (pos n) n enough limit) (omega (arith, length-take n rest, enough)) holds)
 
   sized : (size : ℤ) → FitsSigned w32 size → at + length (signed_bytes w32 size ++ rest) ≤ file_limit → Kind at (signed_bytes w32 size ++ rest)
   sized (pos zero) fits limit = inr (None, inr (rest, refl))
   sized (pos (suc n)) fits limit =
       elim (cases_lt (length rest) (suc n)) [
         | inl short ↦ inr (Some (Truncated at), cut_off at (pos (suc n)) rest fits short)
-        | inr enough ↦ made (suc n) (omega arith) enough limit (entry_at (take (suc n) rest)) refl
+        | inr enough ↦ made (suc n) (omega arith) enough limit (some_holds (take (suc n) rest) (IsBytes-take (suc n) rest bytes))
       ]
   sized (negsuc n) fits limit =
       elim (cases_lt (length rest) (suc n)) [

@@ -1,97 +1,110 @@
 -- An entry is read as it is spelled.
-use Rattle.std.proofs.Common.{◌≡◌, ℕ, ◌+◌, ◌<◌, ◌^◌, Bool, true, false, cond, leb, eqb, not, ◌&&◌, List, ◌++◌, length, take, Option, Some, refl, sym, ap, subst, ◌∙◌, arith}
-use Rattle.std.specs.Int.{w8, w16, w32, from_be_bytes}
-use Rattle.std.specs.List.{flat_map}
-use Rattle.std.specs.Prelude.{FitsSigned}
+use Rattle.std.proofs.Common.{◌≡◌, ◌⊎◌, ℕ, ◌+◌, ◌<◌, ◌^◌, Bool, true, false, cond, leb, eqb, not, ◌&&◌, List, ◌++◌, length, take, Option, Some, None, refl, sym, ap, subst, ◌∙◌, inl, inr, arith, append_assoc}
+use Rattle.std.specs.Int.{w32, from_be_bytes}
 use Rattle.std.proofs.lemmas.List.Elements.{All-from_recursion, recursion_from_All}
-use Rattle.krb_name.specs.Cursor.{Place, ◌>>=◌, number_at, signed_at, data_at, number_bytes, signed_bytes, data_bytes}
-use Rattle.krb_name.specs.Field.{IsBytes, IsField}
-use Rattle.krb_name.proofs.CursorLaws.{bind_some, some_is, IsBytes-take, IsField-u8, IsField-u16, IsField-u32, IsField-i16, IsField-i32, IsField-data16}
+use Rattle.krb_name.specs.Cursor.{Place}
+use Rattle.krb_name.specs.Field.{IsBytes, Takes}
+use Rattle.krb_name.proofs.CursorLaws.{some_is, IsBytes-take}
+use Rattle.krb_name.proofs.Rows.{Spelling}
 use Rattle.krb_keytab.specs.Entry.{KeytabEntry}
-use Rattle.krb_keytab.specs.Format.{entry_bytes, full_kvno, IsEntry}
-use Rattle.krb_keytab.specs.Inner.Entry.{components_at, entry_at}
-use Rattle.krb_keytab.proofs.ComponentLaws.{Short16, AreComponents, IsField-components}
+use Rattle.krb_keytab.specs.Format.{entry, entry_bytes, full_kvno, IsEntry}
+use Rattle.krb_keytab.specs.Inner.Entry.{HoldsEntry, HoldsNone}
+use Rattle.krb_keytab.specs.contracts.layout.EntryViewLaid.TheImpl.{ghosts}
 
--- a field was read, and then others: what follows of it follows
-field_then : {X B : Type 0} (read : Place → Option (X × Place)) (spelled : X → List ℕ) (InRange : X → Type 0) → IsField read spelled InRange
-    → (place : Place) (others : X × Place → Option B) (y : B) (Claim : Type 0) → IsBytes place.rest → (read place >>= others) ≡ Some y
-    → ((x : X) (behind : Place) → place.rest ≡ spelled x ++ behind.rest → InRange x → IsBytes behind.rest → others (x, behind) ≡ Some y → Claim) → Claim
-field_then read spelled InRange field place others y Claim fits e claimed =
-    let b = bind_some (read place) others y e in
-    let t = field.takes place b.0.0 b.0.1 fits b.1 in
-    claimed b.0.0 b.0.1 t.0.parts t.1 t.0.rest_fits b.2
+abbrev values : {X : Type 0} → Spelling X → Type 0
+values {X} way = X
 
-pub record HoldsEntry (body : List ℕ) (e : KeytabEntry) : Type 0 where
-  pub short_kvno : ℕ
-  pub rest : List ℕ
-  pub body_is : body ≡ entry_bytes e short_kvno rest
-  pub is_entry : IsEntry e short_kvno rest
+-- the values of a row
+abbrev pub Row : Type 0
+Row = values ghosts.way
+
+-- the row of an entry, and the entry of a row
+abbrev pub row_of : KeytabEntry → ℕ → Row
+row_of e short_kvno = (length e.principal.components, (e.principal.realm, (e.principal.components, (e.principal.name_type, (e.timestamp, (short_kvno, (e.etype, e.key)))))))
+
+abbrev pub entry_of : Row → List ℕ → KeytabEntry
+entry_of (count, (realm, (components, (name_type, (timestamp, (short_kvno, (etype, key))))))) rest = record {
+  principal = record { realm = realm; name_type = name_type; components = components };
+  timestamp = timestamp;
+  kvno = full_kvno short_kvno rest;
+  etype = etype;
+  key = key;
+}
+
+abbrev pub row_at : List ℕ → Option (Row × Place)
+row_at body = ghosts.way.read (record { at = 0; rest = body })
+
+abbrev pub row_bytes : KeytabEntry → ℕ → List ℕ
+row_bytes e short_kvno = ghosts.way.bytes (row_of e short_kvno)
+
+-- a row is spelled as its entry is
+pub row_spelled : (e : KeytabEntry) (short_kvno : ℕ) (rest : List ℕ) → row_bytes e short_kvno ++ rest ≡ entry_bytes e short_kvno rest
+row_spelled e short_kvno rest = simp append_assoc
+
+-- ---- what is read is spelled
 
 chosen_below : (b : Bool) (x y : ℕ) → x < 2 ^ 32 → y < 2 ^ 32 → cond b x y < 2 ^ 32
 chosen_below true x y p q = p
 chosen_below false x y p q = q
 
-four_bytes_below : (bytes : List ℕ) → IsBytes bytes → from_be_bytes w32 bytes < 2 ^ 32
-four_bytes_below bytes h = omega (arith, h 0, h 1, h 2, h 3)
-
 full_kvno_fits : (short_kvno : ℕ) (rest : List ℕ) → short_kvno < 2 ^ 8 → IsBytes rest → full_kvno short_kvno rest < 2 ^ 32
 full_kvno_fits short_kvno rest short_fits fits =
-    let small : short_kvno < 2 ^ 32 = omega arith in
-    chosen_below (leb 4 (length rest) && not (eqb (from_be_bytes w32 (take 4 rest)) 0)) (from_be_bytes w32 (take 4 rest)) short_kvno (four_bytes_below (take 4 rest) (IsBytes-take 4 rest fits)) small
+    let four = IsBytes-take 4 rest fits in
+    let below : from_be_bytes w32 (take 4 rest) < 2 ^ 32 = omega (arith, four 0, four 1, four 2, four 3) in
+    chosen_below (leb 4 (length rest) && not (eqb (from_be_bytes w32 (take 4 rest)) 0)) (from_be_bytes w32 (take 4 rest)) short_kvno below (omega arith)
 
-pub take_entry : (body : List ℕ) (e : KeytabEntry) → IsBytes body → entry_at body ≡ Some e → HoldsEntry body e
-unfolding entry_at
-take_entry body e fits read =
-    field_then (number_at w16) (number_bytes w16) (λ n. n < 2 ^ 16) IsField-u16 (record { at = 0; rest = body }) _ e (HoldsEntry body e) fits read (λ count b1 p1 q1 f1 e1.
-    field_then (data_at w16) (data_bytes w16) (λ text. length text < 2 ^ 16) IsField-data16 b1 _ e (HoldsEntry body e) f1 e1 (λ realm b2 p2 q2 f2 e2.
-    field_then (components_at count) (flat_map (data_bytes w16)) (AreComponents count) (IsField-components count) (record { at = 0; rest = b2.rest }) _ e (HoldsEntry body e) f2 e2 (λ components b3 p3 q3 f3 e3.
-    field_then (signed_at w32) (signed_bytes w32) (FitsSigned w32) IsField-i32 b3 _ e (HoldsEntry body e) f3 e3 (λ name_type b4 p4 q4 f4 e4.
-    field_then (number_at w32) (number_bytes w32) (λ n. n < 2 ^ 32) IsField-u32 b4 _ e (HoldsEntry body e) f4 e4 (λ timestamp b5 p5 q5 f5 e5.
-    field_then (number_at w8) (number_bytes w8) (λ n. n < 2 ^ 8) IsField-u8 b5 _ e (HoldsEntry body e) f5 e5 (λ short_kvno b6 p6 q6 f6 e6.
-    field_then (signed_at w16) (signed_bytes w16) (FitsSigned w16) IsField-i16 b6 _ e (HoldsEntry body e) f6 e6 (λ etype b7 p7 q7 f7 e7.
-    field_then (data_at w16) (data_bytes w16) (λ text. length text < 2 ^ 16) IsField-data16 b7 _ e (HoldsEntry body e) f7 e7 (λ key b8 p8 q8 f8 e8.
-    let made : KeytabEntry = record {
-      principal = record { realm = realm; name_type = name_type; components = components };
-      timestamp = timestamp;
-      kvno = full_kvno short_kvno b8.rest;
-      etype = etype;
-      key = key;
-    } in
-    let counted : body ≡ number_bytes w16 (length components) ++ b1.rest = p1 ∙ ap (λ (n : ℕ). number_bytes w16 n ++ b1.rest) (sym q3.0) in
-    subst (HoldsEntry body) (some_is made e e8) (record {
+pub row_holds : (x : Row) (rest : List ℕ) → ghosts.way.InRange x → IsBytes rest → HoldsEntry (ghosts.way.bytes x ++ rest) (entry_of x rest)
+row_holds (count, (realm, (components, (name_type, (timestamp, (short_kvno, (etype, key))))))) rest (count_fits, (realm_fits, (listed, (name_type_fits, (timestamp_fits, (short_fits, (etype_fits, key_fits))))))) fits =
+    let x : Row = (count, (realm, (components, (name_type, (timestamp, (short_kvno, (etype, key))))))) in
+    let e : KeytabEntry = entry_of x rest in
+    record {
       short_kvno = short_kvno;
-      rest = b8.rest;
-      body_is = rw (counted, p2, p3, p4, p5, p6, p7, p8) refl;
+      rest = rest;
+      body_is = subst (λ (n : ℕ). ghosts.way.bytes (n, x.1) ++ rest ≡ entry_bytes e short_kvno rest) listed.0 (row_spelled e short_kvno rest);
       is_entry = record {
         fits = record {
-          lengths = record { count = subst (λ (n : ℕ). n < 2 ^ 16) (sym q3.0) q1; realm = q2; components = All-from_recursion Short16 components q3.1; key_length = q8 };
-          name_type = q4;
-          timestamp = q5;
-          kvno = full_kvno_fits short_kvno b8.rest q6 f8;
-          etype = q7;
+          lengths = record { count = subst (λ (n : ℕ). n < 2 ^ 16) (sym listed.0) count_fits; realm = realm_fits; components = All-from_recursion _ components listed.1; key_length = key_fits };
+          name_type = name_type_fits;
+          timestamp = timestamp_fits;
+          kvno = full_kvno_fits short_kvno rest short_fits fits;
+          etype = etype_fits;
         };
-        short_fits = q6;
+        short_fits = short_fits;
         kvno = refl;
       };
-    })))))))))
+    }
 
--- a field is read where it is spelled, and then the others are
-field_again : {X B : Type 0} {read : Place → Option (X × Place)} {spelled : X → List ℕ} {InRange : X → Type 0} → IsField read spelled InRange → (at : ℕ) (x : X) (rest : List ℕ) (others : X × Place → Option B) → InRange x
-    → (read (record { at = at; rest = spelled x ++ rest }) >>= others) ≡ others (x, record { at = at + length (spelled x); rest = rest })
-field_again field at x rest others fits = rw (field.again at x rest fits) refl
+pub row_taken : (body : List ℕ) (x : Row) (behind : Place) → IsBytes body → row_at body ≡ Some (x, behind) → Takes (record { at = 0; rest = body }) (ghosts.way.bytes x) behind × ghosts.way.InRange x
+row_taken body x behind fits read = ghosts.way.field.takes (record { at = 0; rest = body }) x behind fits read
 
-pub again_entry : (e : KeytabEntry) (short_kvno : ℕ) (rest : List ℕ) → IsEntry e short_kvno rest → entry_at (entry_bytes e short_kvno rest) ≡ Some e
-unfolding entry_at
-again_entry e short_kvno rest h =
+-- ---- what is spelled is read
+
+row_fits : (e : KeytabEntry) (short_kvno : ℕ) (rest : List ℕ) → IsEntry e short_kvno rest → ghosts.way.InRange (row_of e short_kvno)
+row_fits e short_kvno rest h =
     let fits = h.fits in
-    let name = e.principal in
-    let components = recursion_from_All Short16 name.components fits.lengths.components in
-    field_again IsField-u16 0 (length name.components) _ _ fits.lengths.count
-    ∙ field_again IsField-data16 _ name.realm _ _ fits.lengths.realm
-    ∙ field_again (IsField-components (length name.components)) _ name.components _ _ (refl, components)
-    ∙ field_again IsField-i32 _ name.name_type _ _ fits.name_type
-    ∙ field_again IsField-u32 _ e.timestamp _ _ fits.timestamp
-    ∙ field_again IsField-u8 _ short_kvno _ _ h.short_fits
-    ∙ field_again IsField-i16 _ e.etype _ _ fits.etype
-    ∙ field_again IsField-data16 _ e.key rest _ fits.lengths.key_length
-    ∙ ap (λ (kvno : ℕ). Some (record e { kvno = kvno })) (sym h.kvno)
+    (fits.lengths.count, (fits.lengths.realm, ((refl, recursion_from_All _ e.principal.components fits.lengths.components), (fits.name_type, (fits.timestamp, (h.short_fits, (fits.etype, fits.lengths.key_length)))))))
+
+row_again : (e : KeytabEntry) (short_kvno : ℕ) (rest : List ℕ) → IsEntry e short_kvno rest → row_at (entry_bytes e short_kvno rest) ≡ Some (row_of e short_kvno, record { at = 0 + length (row_bytes e short_kvno); rest = rest })
+row_again e short_kvno rest h = ap row_at (sym (row_spelled e short_kvno rest)) ∙ ghosts.way.field.again 0 (row_of e short_kvno) rest (row_fits e short_kvno rest h)
+
+pub none_holds : (body : List ℕ) → row_at body ≡ None → HoldsNone body
+none_holds body none e short_kvno rest is_entry same = let again = ap row_at same ∙ row_again e short_kvno rest is_entry in cc
+
+pub some_holds : (body : List ℕ) → IsBytes body → ((e : KeytabEntry) × HoldsEntry body e) ⊎ HoldsNone body
+some_holds body fits = told (row_at body) refl
+  where
+    told : (read : Option (Row × Place)) → row_at body ≡ read → ((e : KeytabEntry) × HoldsEntry body e) ⊎ HoldsNone body
+    told None e = inr (none_holds body e)
+    told (Some (x, behind)) e =
+        let t = row_taken body x behind fits e in
+        inl (entry_of x behind.rest, subst (λ (b : List ℕ). HoldsEntry b (entry_of x behind.rest)) (sym t.0.parts) (row_holds x behind.rest t.1 t.0.rest_fits))
+
+-- ---- bytes hold one entry
+
+pub same_entry : (e f : KeytabEntry) (s t : ℕ) (rest other : List ℕ) → IsEntry e s rest → IsEntry f t other → entry_bytes e s rest ≡ entry_bytes f t other → entry e s rest ≡ entry f t other
+same_entry e f s t rest other p q same =
+    let both = some_is (row_of e s, record { at = 0 + length (row_bytes e s); rest = rest }) (row_of f t, record { at = 0 + length (row_bytes f t); rest = other }) (sym (row_again e s rest p) ∙ ap row_at same ∙ row_again f t other q) in
+    let rows : row_of e s ≡ row_of f t = ap (λ (k : Row × Place). k.0) both in
+    let rests : rest ≡ other = ap (λ (k : Row × Place). k.1.rest) both in
+    let entries : e ≡ f = ap (λ (n : ℕ). record e { kvno = n }) p.kvno ∙ ap (λ (x : Row). entry_of x rest) rows ∙ ap (entry_of (row_of f t)) rests ∙ ap (λ (n : ℕ). record f { kvno = n }) (sym q.kvno) in
+    ap (λ (k : Row). entry e k.1.1.1.1.1.0 rest) rows ∙ ap (λ (g : KeytabEntry). entry g t rest) entries ∙ ap (λ (x : List ℕ). entry f t x) rests

@@ -1,4 +1,3 @@
-pub mod ComponentLaws
 pub mod EntryLaws
 pub mod FileLaws
 pub mod PickLaws

@@ -1,6 +1,6 @@
 -- A keytab as its records and its end, and what is written of it.
-use Rattle.std.proofs.Common.{◌≡◌, ℕ, zero, suc, ◌+◌, ◌%◌, ◌^◌, ◌<◌, ◌≤◌, Bool, true, cond, not, eqb, leb, ◌&&◌, List, [], ◌∷◌, ◌++◌, length, map, replicate, refl, sym, ap, subst, ◌∙◌, append-nil, arith, inl, pos, append_assoc}
-use Rattle.std.specs.Int.{w32, from_be_bytes, w8, w16}
+use Rattle.std.proofs.Common.{◌≡◌, ℕ, zero, suc, ◌+◌, ◌%◌, ◌*◌, ◌^◌, ◌<◌, ◌≤◌, Bool, true, cond, not, eqb, leb, ◌&&◌, List, [], ◌∷◌, ◌++◌, length, map, replicate, refl, sym, ap, subst, ◌∙◌, append-nil, arith, inl, pos, append_assoc}
+use Rattle.std.specs.Int.{w32, from_be_bytes, w16}
 use Rattle.std.specs.List.{flat_map, AllByRecursion}
 use Rattle.std.specs.Prelude.{All}
 use Rattle.std.proofs.Math.Nat.{mod-lt}
@@ -9,42 +9,34 @@ use Rattle.std.proofs.lemmas.Nat.{from_be_bytes-to_be_bytes_4}
 use Rattle.std.proofs.lemmas.List.{length-append, length-replicate}
 use Rattle.std.proofs.lemmas.List.Elements.{All-from_recursion, recursion_from_All}
 use Rattle.krb_name.specs.Cursor.{number_bytes, signed_bytes, data_bytes}
-use Rattle.krb_keytab.specs.Entry.{KeytabEntry, FitsEntry}
+use Rattle.krb_keytab.specs.Entry.{KeytabEntry, LengthsFit, FitsEntry}
 use Rattle.krb_name.specs.File.{file_limit}
 use Rattle.krb_keytab.specs.Format.{version, full_kvno, KeytabRecord, record_bytes, FitsRecord, entries_of, IsKeytab, entry_bytes}
 use Rattle.krb_keytab.specs.Written.{padded_record, written_record, record_length, written}
 use Rattle.krb_keytab.specs.Edit.{IsMadeOf}
 use Rattle.krb_keytab.specs.Inner.Putting.{Puts, PutsTo, body_bytes}
-use Rattle.krb_keytab.proofs.PutLaws.{Puts-then, PutsTo-then, Puts-whole}
+use Rattle.krb_keytab.proofs.EntryLaws.{row_bytes, row_spelled}
+use Rattle.krb_keytab.proofs.PutLaws.{Puts-then, Puts-whole}
 
--- the fields one after the other
-pub puts_body : (e : KeytabEntry) {s0 s1 s2 s3 s4 s5 s6 s7 s8 s9 : List ℕ} {a0 a1 a2 a3 a4 a5 a6 a7 a8 a9 : ℕ} → PutsTo s0 a0 (number_bytes w16 (length e.principal.components)) s1 a1 → PutsTo s1 a1 (data_bytes w16 e.principal.realm) s2 a2
-    → PutsTo s2 a2 (flat_map (data_bytes w16) e.principal.components) s3 a3 → PutsTo s3 a3 (signed_bytes w32 e.principal.name_type) s4 a4 → PutsTo s4 a4 (number_bytes w32 e.timestamp) s5 a5 → PutsTo s5 a5 (number_bytes w8 (e.kvno % 2 ^ 8)) s6 a6
-    → PutsTo s6 a6 (signed_bytes w16 e.etype) s7 a7 → PutsTo s7 a7 (data_bytes w16 e.key) s8 a8 → PutsTo s8 a8 (number_bytes w32 e.kvno) s9 a9 → PutsTo s0 a0 (body_bytes e) s9 a9
-puts_body e count realm components name_type timestamp short_kvno etype key kvno =
-    PutsTo-then count (PutsTo-then realm (PutsTo-then components (PutsTo-then name_type (PutsTo-then timestamp (PutsTo-then short_kvno (PutsTo-then etype (PutsTo-then key kvno)))))))
+-- how long it is at most
+
+listed_short : (components : List (List ℕ)) → AllByRecursion (λ component. length component < 2 ^ 16) components → length (flat_map (data_bytes w16) components) ≤ length components * 65537
+listed_short [] short = omega arith
+listed_short (x ∷ xs) short = omega (arith, short.0, listed_short xs short.1, length-append (data_bytes w16 x) (flat_map (data_bytes w16) xs))
+
+pub body_short : (e : KeytabEntry) → LengthsFit e.principal e.key → length (body_bytes e) < 2 ^ 40
+body_short e fits =
+    let components = listed_short e.principal.components (recursion_from_All _ e.principal.components fits.components) in
+    let long : length (body_bytes e) ≡ 21 + (length e.principal.realm + (length (flat_map (data_bytes w16) e.principal.components) + length e.key)) = simp length-append (omega arith) in
+    omega (arith, long, components, fits.count, fits.realm, fits.key_length)
 
 -- ---- a record
-
--- a text in two parts
-record IsJoined (whole front behind : List ℕ) : Type 0 where
-  is : whole ≡ front ++ behind
-
-more : (a : List ℕ) {t u y : List ℕ} → IsJoined t u y → IsJoined (a ++ t) (a ++ u) y
-more a {t} {u} {y} p = record { is = ap (λ (x : List ℕ). a ++ x) p.is ∙ sym (append_assoc a u y) }
 
 -- what follows the fields may be said apart
 pub body_more : (e : KeytabEntry) (short_kvno : ℕ) (rest others : List ℕ) → entry_bytes e short_kvno (rest ++ others) ≡ entry_bytes e short_kvno rest ++ others
 body_more e short_kvno rest others =
-    let name = e.principal in
-    let behind : IsJoined (rest ++ others) rest others = record { is = refl } in
-    (more (number_bytes w16 (length name.components)) (
-    more (data_bytes w16 name.realm) (
-    more (flat_map (data_bytes w16) name.components) (
-    more (signed_bytes w32 name.name_type) (more (number_bytes w32 e.timestamp) (more (number_bytes w8 short_kvno) (more (signed_bytes w16 e.etype) (more (data_bytes w16 e.key) behind))))
-    )
-    )
-    )).is
+    let row : List ℕ = row_bytes e short_kvno in
+    sym (row_spelled e short_kvno (rest ++ others)) ∙ sym (append_assoc row rest others) ∙ ap (λ (t : List ℕ). t ++ others) (row_spelled e short_kvno rest)
 
 pub filled : {old s1 s2 s3 : List ℕ} {at : ℕ} (e : KeytabEntry) (size zeros : ℕ) → PutsTo old 0 (signed_bytes w32 (pos size)) s1 4 → PutsTo s1 4 (body_bytes e) s2 at → Puts s2 at (replicate zeros 0) s3
     → length old ≡ size + 4 → length old ≡ record_length e + zeros → s3 ≡ record_bytes (padded_record e zeros)

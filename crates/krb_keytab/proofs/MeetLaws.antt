@@ -19,12 +19,11 @@ use Rattle.krb_name.specs.File.{file_limit}
 use Rattle.krb_keytab.specs.Fault.{source_fault}
 use Rattle.krb_keytab.specs.Format.{hole, entry, entry_bytes}
 use Rattle.krb_keytab.specs.Items.{LacksRecord, IsPartOfRecord}
-use Rattle.krb_keytab.specs.Inner.Entry.{entry_at}
+use Rattle.krb_keytab.specs.Inner.Entry.{HoldsEntry, HoldsNone}
 use Rattle.krb_keytab.specs.Inner.Meeting.{Moves, Peaks, RanOut, RunsOutTo, IsWhole, IsLastAt, IsLongAt, IsFewAt, kept_of, MeetsLast, MeetsSize, MeetsSizeAt, MeetsBody, MeetsOne, Meets}
 use Rattle.krb_keytab.specs.declared.fault.KeytabFault.{KeytabFault}
 use Rattle.krb_keytab.specs.declared.fault.KeytabFault.TheVariants.{Truncated, BadEntry, TooLong, Read}
 use Rattle.krb_keytab.specs.declared.found.Found.{Found}
-use Rattle.krb_keytab.proofs.EntryLaws.{take_entry, again_entry}
 use Rattle.krb_name.proofs.ShortLaws.{short_signed}
 use Rattle.krb_name.specs.declared.cursor.Short.{Short}
 
@@ -89,9 +88,8 @@ hole_whole at count body some limit e = record {
   limit = omega (arith, e, limit, length-append (signed_bytes w32 (neg_ℤ (pos count))) body);
 }
 
-pub entry_whole : (at count : ℕ) (body : List ℕ) (e : KeytabEntry) → at + 4 + count ≤ file_limit → IsBytes body → length body ≡ count → entry_at body ≡ Some e → IsWhole at (signed_bytes w32 (pos count) ++ body) (e ∷ [])
-entry_whole at count body e limit bytes l read =
-    let held = take_entry body e bytes read in
+pub entry_whole : (at count : ℕ) (body : List ℕ) (e : KeytabEntry) → at + 4 + count ≤ file_limit → length body ≡ count → HoldsEntry body e → IsWhole at (signed_bytes w32 (pos count) ++ body) (e ∷ [])
+entry_whole at count body e limit l held =
     let size : pos count ≡ pos (length (entry_bytes e held.short_kvno held.rest)) = ap (λ (k : ℕ). pos k) (sym l ∙ ap length held.body_is) in
     record {
       one = entry e held.short_kvno held.rest;
@@ -101,8 +99,8 @@ entry_whole at count body e limit bytes l read =
       limit = omega (arith, l, limit, length-append (signed_bytes w32 (pos count)) body);
     }
 
-pub no_entry : (at count : ℕ) (body more : List ℕ) → 0 < count → at + 4 + count ≤ file_limit → length body ≡ count → entry_at body ≡ None → LacksRecord at (Some (BadEntry at)) ((signed_bytes w32 (pos count) ++ body) ++ more)
-no_entry at count body more some limit l read = (
+pub no_entry : (at count : ℕ) (body more : List ℕ) → 0 < count → at + 4 + count ≤ file_limit → length body ≡ count → HoldsNone body → LacksRecord at (Some (BadEntry at)) ((signed_bytes w32 (pos count) ++ body) ++ more)
+no_entry at count body more some limit l none = (
   refl,
   record {
     body = body;
@@ -110,7 +108,7 @@ no_entry at count body more some limit l read = (
     behind_is = append_assoc (signed_bytes w32 (pos count)) body more ∙ ap (λ (k : ℕ). signed_bytes w32 (pos k) ++ (body ++ more)) (sym l);
     size = omega (arith, l, some);
     size_fits = omega (arith, l, limit);
-    no_entry = λ made short_kvno rest is_entry same. let again = ap entry_at same ∙ again_entry made short_kvno rest is_entry in cc;
+    no_entry = none;
   },
 )
 

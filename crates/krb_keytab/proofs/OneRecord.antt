@@ -1,19 +1,15 @@
 -- What bytes begin with: one record alone, or what is no record.
-use Rattle.std.proofs.Common.{◌≡◌, ◌⊎◌, ℕ, zero, suc, ℤ, pos, negsuc, neg_ℤ, ◌%◌, ◌^◌, ◌<◌, List, [], ◌∷◌, ◌++◌, length, take, drop, Option, Some, None, refl, sym, ap, ◌∙◌, append_assoc, arith, rules, inl, inr}
-use Rattle.std.specs.Int.{w16, w32}
+use Rattle.std.proofs.Common.{◌≡◌, ◌⊎◌, ℕ, zero, suc, ℤ, pos, negsuc, neg_ℤ, ◌<◌, List, [], ◌∷◌, ◌++◌, length, take, drop, Option, Some, None, refl, sym, ap, ◌∙◌, append_assoc, arith, rules, inl, inr}
+use Rattle.std.specs.Int.{w32}
 use Rattle.std.specs.Prelude.{FitsSigned, unsigned_abs}
-use Rattle.std.specs.List.{flat_map}
-use Rattle.std.proofs.Math.Nat.{mod-eq_of_lt}
-use Rattle.std.proofs.lemmas.List.{append_cancel_left, length-append, take_at, drop_at}
-use Rattle.krb_name.specs.Cursor.{Place, signed_at, number_bytes, signed_bytes, data_bytes}
+use Rattle.std.proofs.lemmas.List.{length-append, take_at, drop_at}
+use Rattle.krb_name.specs.Cursor.{Place, signed_at, signed_bytes}
 use Rattle.krb_name.proofs.CursorLaws.{some_is, IsField-i32}
-use Rattle.krb_keytab.specs.Entry.{KeytabEntry}
 use Rattle.krb_keytab.specs.Format.{KeytabRecord, hole, entry, entry_bytes, record_bytes, FitsRecord, IsEnd, IsCutOff, HoldsNoEntry}
 use Rattle.krb_keytab.specs.Items.{LacksRecord}
-use Rattle.krb_keytab.specs.Inner.Entry.{entry_at}
 use Rattle.krb_keytab.specs.declared.fault.KeytabFault.{KeytabFault}
 use Rattle.krb_keytab.specs.declared.fault.KeytabFault.TheVariants.{Truncated, BadEntry}
-use Rattle.krb_keytab.proofs.EntryLaws.{again_entry}
+use Rattle.krb_keytab.proofs.EntryLaws.{same_entry}
 use Rattle.krb_keytab.proofs.FileLaws.{entry_size}
 
 -- ---- a size and what follows it
@@ -61,29 +57,6 @@ sized (entry e short_kvno rest) bytes behind fits is = record {
 
 -- ---- one record
 
--- the 8-bit number and the rest of an entry's record
-same_rest : (e : KeytabEntry) (s t : ℕ) (rest other : List ℕ) → s < 2 ^ 8 → t < 2 ^ 8 → entry_bytes e s rest ≡ entry_bytes e t other → (s ≡ t) × (rest ≡ other)
-same_rest e s t rest other p q same =
-    let name = e.principal in
-    let named = cut (flat_map (data_bytes w16) name.components) (cut (data_bytes w16 name.realm) (cut (number_bytes w16 (length name.components)) same)) in
-    let dated = cut (number_bytes w32 e.timestamp) (cut (signed_bytes w32 name.name_type) named) in
-    let low : s % 256 ≡ t % 256 = head_is _ _ _ _ dated in
-    (sym (mod-eq_of_lt p) ∙ low ∙ mod-eq_of_lt q, cut (data_bytes w16 e.key) (cut (signed_bytes w16 e.etype) (tail_is _ _ _ _ dated)))
-  where
-    cut : (front : List ℕ) {x y : List ℕ} → front ++ x ≡ front ++ y → x ≡ y
-    cut front {x} {y} e = append_cancel_left front x y e
-
-    head_is : (x y : ℕ) (xs ys : List ℕ) → x ∷ xs ≡ y ∷ ys → x ≡ y
-    head_is x y xs ys e = cc
-
-    tail_is : (x y : ℕ) (xs ys : List ℕ) → x ∷ xs ≡ y ∷ ys → xs ≡ ys
-    tail_is x y xs ys e = cc
-
-same_entry : (e f : KeytabEntry) (s t : ℕ) (rest other : List ℕ) → s < 2 ^ 8 → t < 2 ^ 8 → e ≡ f → entry_bytes e s rest ≡ entry_bytes f t other → entry e s rest ≡ entry f t other
-same_entry e f s t rest other p q same bytes =
-    let r = same_rest f s t rest other p q (ap (λ (g : KeytabEntry). entry_bytes g s rest) (sym same) ∙ bytes) in
-    ap (λ (g : KeytabEntry). entry g s rest) same ∙ ap (λ (n : ℕ). entry f n rest) r.0 ∙ ap (λ (x : List ℕ). entry f t x) r.1
-
 not_both : (n m : ℕ) → 0 < n → neg_ℤ (pos n) ≡ pos m → ⊥
 not_both zero m some e = omega arith
 not_both (suc n) m some e = cc
@@ -92,8 +65,7 @@ same_record : (one other : KeytabRecord) → FitsRecord one → FitsRecord other
 same_record (hole x) (hole y) p q size body = ap (λ (t : List ℕ). hole t) body
 same_record (hole x) (entry f t w) p q size body = absurd (not_both (length x) _ p.0 size)
 same_record (entry d s r) (hole y) p q size body = absurd (not_both (length y) _ q.0 (sym size))
-same_record (entry d s r) (entry f t w) p q size body =
-    same_entry d f s t r w p.0.short_fits q.0.short_fits (some_is d f (sym (again_entry d s r p.0) ∙ ap entry_at body ∙ again_entry f t w q.0)) body
+same_record (entry d s r) (entry f t w) p q size body = same_entry d f s t r w p.0 q.0 body
 
 -- bytes begin with one record, and what follows it is the same
 pub same_first : (one other : KeytabRecord) (x y : List ℕ) → FitsRecord one → FitsRecord other → record_bytes one ++ x ≡ record_bytes other ++ y → (one ≡ other) × (x ≡ y)

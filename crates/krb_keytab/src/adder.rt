@@ -92,10 +92,10 @@ impl EntryAdder {
             Some(hole) => {
                 let to = hole.from + hole.size;
                 let from = hole.from;
-                put_in(&mut self.file, Room::Hole(Extent { from, to }), entry)
+                put_in(&mut self.file, Room::Hole(Extent { from, to }), size, entry)
             }
             None => {
-                put_in(&mut self.file, Room::End(self.end), entry)?;
+                put_in(&mut self.file, Room::End(self.end), size, entry)?;
                 self.end += size;
                 Ok(())
             }

@@ -77,7 +77,8 @@ impl Keytab {
             → WouldGrow file.old.items entry.now (λ count. vec_capacity file.old < count) }
         ensures err { OnErr result (VecUnchanged file.old file.new) }
     {
-        let room = find_room(file, entry.record_length())?;
-        put_in(file, room, entry)
+        let size = entry.record_length();
+        let room = find_room(file, size)?;
+        put_in(file, room, size, entry)
     }
 }

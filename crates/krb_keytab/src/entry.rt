@@ -1,14 +1,13 @@
 //! An entry of a keytab.
 
 ghost use Rattle.std.specs.Prelude.{◌≡◌, ◌↔◌, ◌<◌, ◌≤◌, ◌*◌, ◌^◌, length, All, IsTrue, SomeIff, Some};
-ghost use Rattle.std.specs.Int.{w16};
-ghost use Rattle.std.specs.List.{flat_map};
-ghost use Rattle.krb_name.specs.Cursor.{data_bytes};
 ghost use Rattle.krb_keytab.specs.Entry.{KeytabEntry, LengthsFit, FitsEntry};
 ghost use Rattle.krb_keytab.specs.Inner.Index.{hash_of};
 ghost use Rattle.krb_keytab.specs.Written.{record_length};
 
 use crate::hash::hash_of;
+use crate::part::Part;
+use crate::step::SIZE_LENGTH;
 use krb_name::{Bytes, Principal};
 use std::fmt;
 use std::marker::Model;
@@ -147,14 +146,8 @@ impl Entry {
         ensures length { result ≡ record_length self.now }
         ensures lengths { LengthsFit self.now.principal self.now.key }
     {
-        let name = &self.principal;
-        // The size, the count of components, and after them name type, timestamp, version number
-        // of 8 bits and encryption type; the version number of 32 bits.
-        let fixed = 4 + 2 + 4 + 4 + 1 + 2 + 4;
-        fixed
-            + data_length(name.realm.as_slice())
-            + components_length(name.components.as_slice())
-            + data_length(self.key.as_slice())
+        let _key = &self.key;
+        SIZE_LENGTH + self.body().size()
     }
 
     /// Returns the bytes of the key.
@@ -175,27 +168,6 @@ impl fmt::Debug for Entry {
         let etype = self.etype();
         write!(f, "Entry(kvno {kvno}, etype {etype})")
     }
-}
-
-// How many bytes a text or a key takes after its length, a number of 16 bits, with that number.
-fn data_length(bytes: &[u8]) -> usize
-    requires { length bytes.now < 2 ^ 16 }
-    ensures { result ≡ length (data_bytes w16 bytes.now) }
-{
-    2 + bytes.len()
-}
-
-fn components_length(components: &[Bytes]) -> usize
-    requires count { length components.now < 2 ^ 16 }
-    requires each { All (λ component. length component < 2 ^ 16) components.now }
-    ensures length { result ≡ length (flat_map (data_bytes w16) components.now) }
-    ensures most { result ≤ 65_535 * 65_537 }
-{
-    let mut sum = 0;
-    for component in components {
-        sum += data_length(component.as_slice());
-    }
-    sum
 }
 
 fn lengths_fit(principal: &Principal, key: &[u8]) -> bool

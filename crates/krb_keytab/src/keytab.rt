@@ -161,10 +161,11 @@ impl Keytab {
         let mut bytes = Vec::from_slice(alloc, &VERSION)?;
         for entry in self.entries() {
             let at = bytes.len();
-            if FILE_LIMIT - at < entry.record_length() {
+            let size = entry.record_length();
+            if FILE_LIMIT - at < size {
                 return Err(KeytabFault::TooLong);
             }
-            put_record(&mut bytes, at, entry)?;
+            put_record(&mut bytes, at, size, entry)?;
         }
         Ok(bytes)
     }

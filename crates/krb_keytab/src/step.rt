@@ -3,9 +3,8 @@
 ghost use Rattle.std.specs.Prelude.{◌≡◌, ◌≢◌, ◌⊎◌, ◌+◌, ◌-◌, ◌^◌, ◌<◌, ◌≤◌, pos, neg_ℤ, true, false, FitsSigned, unsigned_abs, length, IfOk, IfErr, OnErr, MatchOption, None, Some, Err};
 ghost use Rattle.std.specs.Int.{w32};
 ghost use Rattle.krb_name.specs.Cursor.{signed_bytes};
-ghost use Rattle.krb_name.specs.Field.{IsBytes};
 ghost use Rattle.krb_keytab.specs.Entry.{KeytabEntry};
-ghost use Rattle.krb_keytab.specs.Inner.Entry.{entry_at};
+ghost use Rattle.krb_keytab.specs.Inner.Entry.{HoldsEntry, HoldsNone};
 ghost use Rattle.krb_keytab.specs.Items.{LacksVersion};
 ghost use Rattle.krb_keytab.specs.Fault.{failed_reads};
 ghost use Rattle.krb_name.specs.File.{file_limit, TakesFile};
@@ -23,8 +22,8 @@ use std::alloc::{AllocError, Global};
 /// The version of the format that is read and written. A keytab begins with it.
 pub(crate) const VERSION: [u8; 2] = [0x05, 0x02];
 
-// How many bytes the size of a record has.
-const SIZE_LENGTH: usize = 4;
+/// How many bytes the size of a record has.
+pub(crate) const SIZE_LENGTH: usize = 4;
 
 /// Reads the version of a file.
 pub(crate) fn read_version<F: Feed>(feed: &mut F) -> Result<(), KeytabFault>
@@ -241,9 +240,8 @@ fn read_content<F: Feed, K: Keep>(
 
 // What is kept of the entry at the front of the bytes of a record, if there is one.
 fn keep_of<K: Keep>(body: &[u8], keep: &K) -> Result<Option<K::Kept>, AllocError>
-    ensures bytes { IsBytes body.now }
-    ensures kept { IfOk result (λ kept. MatchOption kept (entry_at body.now ≡ None) (λ one.
-        (entry : KeytabEntry) × (entry_at body.now ≡ Some entry) × (one ≡ K.kept_of entry))) }
+    ensures kept { IfOk result (λ kept. MatchOption kept (HoldsNone body.now) (λ one.
+        (entry : KeytabEntry) × HoldsEntry body.now entry × (one ≡ K.kept_of entry))) }
     ensures memory { OnErr result K.allocates }
 {
     match EntryView::read(body) {

@@ -12,5 +12,7 @@ pub mod NameStops
 pub mod NamesBack
 pub mod OneAnswer
 pub mod Repeated
+pub mod Rows
+pub mod Moved
 pub mod WindowLaws
 pub mod FileLaws

@@ -1,12 +1,18 @@
 -- What is read of the parts of a cache, and the place after it; nothing, if they aren't there.
-use Rattle.std.specs.Prelude.{ℕ, ◌==◌, ◌&&◌, not, Bool, true, ℤ, List, length, Option, Some, None, nat_le, if◌then◌else◌}
+use Rattle.std.specs.Prelude.{ℕ, ◌==◌, ◌&&◌, ◌||◌, not, Bool, true, ℤ, List, length, Option, Some, None, nat_le, if◌then◌else◌}
 use Rattle.std.specs.Int.{w8, w16, w32}
 use Rattle.krb_name.specs.Cursor.{Place, ◌>>=◌, number_at, signed_at, data_at, times_at}
-use Rattle.krb_ccache.specs.Types.{Principal, TypedBytes, HeaderField, Credential, Layout, Version3, Version4}
+use Rattle.krb_ccache.specs.Types.{Principal, TypedBytes, HeaderField, Layout, Version3, Version4}
 
 -- ---- ways to join readings
 
--- one thing and another after it
+-- one thing, and another after it that depends on it
+abbrev pub then_at : {X Y : Type 0} → (Place → Option (X × Place)) → (X → Place → Option (Y × Place)) → Place → Option ((X × Y) × Place)
+then_at first second place = do
+  x ← first place
+  y ← second x.0 x.1
+  Some ((x.0, y.0), y.1)
+
 abbrev pub both_at : {X Y : Type 0} → (Place → Option (X × Place)) → (Place → Option (Y × Place)) → Place → Option ((X × Y) × Place)
 both_at first second place = do
   x ← first place
@@ -25,22 +31,17 @@ passing_at test read place = do
   x ← read place
   if test x.0 then Some x else None
 
--- a count, and so many things
-abbrev pub counted_at : {X : Type 0} → (Place → Option (X × Place)) → Place → Option (List X × Place)
-counted_at read place = do
-  count ← number_at w32 place
-  times_at read count.0 count.1
-
 -- ---- the parts
 
-abbrev pub layout_of : ℕ → Option Layout
-layout_of number = if number == 0x0503 then Some Version3 else (if number == 0x0504 then Some Version4 else None)
+-- whether a number is that of a version
+abbrev pub is_layout : ℕ → Bool
+is_layout number = number == 0x0503 || number == 0x0504
+
+abbrev pub layout_of : ℕ → Layout
+layout_of number = if number == 0x0503 then Version3 else Version4
 
 unfoldable pub layout_at : Place → Option (Layout × Place)
-layout_at place = do
-  number ← number_at w16 place
-  layout ← layout_of number.0
-  Some (layout, number.1)
+layout_at place = made_at layout_of (passing_at is_layout (number_at w16)) place
 
 abbrev pub field_of : ℕ × List ℕ → HeaderField
 field_of parts = record { tag = parts.0; value = parts.1 }
@@ -52,13 +53,11 @@ is_field field = not (field.tag == 1 && not (length field.value == 8))
 unfoldable pub field_at : Place → Option (HeaderField × Place)
 field_at place = passing_at is_field (made_at field_of (both_at (number_at w16) (data_at w16))) place
 
+abbrev pub name_of : ℤ × (ℕ × (List ℕ × List (List ℕ))) → Principal
+name_of (name_type, (count, (realm, components))) = record { realm = realm; name_type = name_type; components = components }
+
 unfoldable pub name_at : Place → Option (Principal × Place)
-name_at place = do
-  name_type ← signed_at w32 place
-  count ← number_at w32 name_type.1
-  realm ← data_at w32 count.1
-  components ← times_at (data_at w32) count.0 realm.1
-  Some (record { realm = realm.0; name_type = name_type.0; components = components.0 }, components.1)
+name_at place = made_at name_of (both_at (signed_at w32) (then_at (number_at w32) (λ count. both_at (data_at w32) (times_at (data_at w32) count)))) place
 
 -- the byte of a flag; where it is checked, it is 0 or 1
 abbrev pub is_flag : ℕ → Bool
@@ -78,28 +77,4 @@ unfoldable pub typed_at : Place → Option (TypedBytes × Place)
 typed_at place = made_at typed_of (both_at (number_at w16) (data_at w32)) place
 
 unfoldable pub list_at : Place → Option (List TypedBytes × Place)
-list_at place = counted_at typed_at place
-
--- a credential's fields in their order, with the bytes that come after its encryption type, and the
--- byte of `is_skey`
-abbrev pub Parts : Type 0
-Parts =
-    Principal × (Principal × (ℤ × (List ℕ × (List ℕ × (ℕ × (ℕ × (ℕ × (ℕ × (ℕ × (ℕ × (List TypedBytes × (List TypedBytes × (List ℕ × List ℕ)))))))))))))
-
-abbrev pub credential_of : Parts → Credential
-credential_of (client, (server, (etype, (second, (key, (authtime, (starttime, (endtime, (renew_till, (is_skey, (ticket_flags, (addresses, (authdata, (ticket, second_ticket)))))))))))))) = record {
-  client = client;
-  server = server;
-  etype = etype;
-  key = key;
-  authtime = authtime;
-  starttime = starttime;
-  endtime = endtime;
-  renew_till = renew_till;
-  is_skey = is_skey == 1;
-  ticket_flags = ticket_flags;
-  addresses = addresses;
-  authdata = authdata;
-  ticket = ticket;
-  second_ticket = second_ticket;
-}
+list_at place = made_at (λ counted. counted.1) (then_at (number_at w32) (times_at typed_at)) place

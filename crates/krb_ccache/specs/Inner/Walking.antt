@@ -4,8 +4,6 @@ use Rattle.std.specs.Int.{Width, w8, w32, from_be_bytes}
 use Rattle.std.specs.Io.KnownBytes.{IsAtEnd}
 use Rattle.krb_name.specs.Cursor.{Place, ◌>>=◌, bytes_at, number_at, number_bytes}
 use Rattle.krb_name.specs.Window.{AtHand, Keeps}
-use Rattle.krb_name.specs.declared.reading.ReadFault.{ReadFault}
-use Rattle.krb_name.specs.declared.reading.ReadFault.TheVariants as source
 use Rattle.krb_ccache.specs.Types.{Credential, Layout}
 use Rattle.krb_ccache.specs.Spelling.{marked_bytes}
 use Rattle.krb_ccache.specs.Format.{second_size}
@@ -13,7 +11,7 @@ use Rattle.krb_ccache.specs.Value.{FitsCredential}
 use Rattle.krb_name.specs.File.{file_limit}
 use Rattle.krb_ccache.specs.declared.walking.Left.{Left}
 use Rattle.krb_ccache.specs.declared.walking.TakeFault.{TakeFault}
-use Rattle.krb_ccache.specs.declared.walking.TakeFault.TheVariants.{End, Long, Read, OutOfMemory}
+use Rattle.krb_ccache.specs.declared.walking.TakeFault.TheVariants.{End, Long, Read}
 use Rattle.krb_ccache.specs.Inner.Reading.{allowed}
 
 -- ---- what is taken
@@ -143,10 +141,6 @@ IsTaken Within Lacks count old new (Err stop) = TookFewer Within Lacks count old
 -- the number that the last bytes at hand are, after so many others
 abbrev pub last_number : Width → ℕ → List ℕ → List ℕ → ℕ
 last_number w skip before now = from_be_bytes w (drop (length before + skip) now)
-
-abbrev pub stop_of : ReadFault → TakeFault
-stop_of source.Read = Read
-stop_of source.OutOfMemory = OutOfMemory
 
 -- how many failed reads an answer reports
 abbrev pub stop_reads : TakeFault → ℕ

@@ -1,28 +1,16 @@
 use Rattle.std.proofs.Common.{arith}
-use Rattle.krb_aes.proofs.Bytes.{block_of_array}
-use Rattle.krb_aes.proofs.InvSteps.{lanes_of_form, begun, gone_on, ended}
+use Rattle.krb_aes.proofs.InvSteps.{begun, gone_on, ended}
 use Rattle.krb_aes.proofs.RoundLaws.{cipher-inv_cipher}
 use Rattle.krb_aes.proofs.lanes.decrypt_two_blocks.Goals as goal
 
-pub inv_round-next_one-requires-clause-form : goal.inv_round-next_one-requires-clause-form
-inv_round-next_one-requires-clause-form c = lanes_of_form _ _ _ _ c.loop-round.invariant.one
-
-pub inv_round-next_other-requires-clause-form : goal.inv_round-next_other-requires-clause-form
-inv_round-next_other-requires-clause-form c = lanes_of_form _ _ _ _ c.loop-round.invariant.other
-
-pub inv_last_round-requires-clause-form : goal.inv_last_round-requires-clause-form
-inv_last_round-requires-clause-form c = lanes_of_form _ _ _ _ c.loop-round.invariant.one
-
 pub loop-round-init : goal.loop-round-init
 loop-round-init c =
-    let one = block_of_array c.args.one.now c.told-one c.fits-one in
-    let other = block_of_array c.args.other.now c.told-other c.fits-other in
     let key = c.args.schedule.now in
     record {
-      one = begun key c.args.one.now _ _ _ c.rounds-last.ensures.key one c.rounds-last.ensures.count
-          c.round_key-first_key.ensures.value c.inv_first_round-one_form.ensures;
-      other = begun key c.args.other.now _ _ _ c.rounds-last.ensures.key other c.rounds-last.ensures.count
-          c.round_key-first_key.ensures.value c.inv_first_round-other_form.ensures;
+      one = begun key c.args.one.now _ _ _ c.rounds-last.ensures.key c.inv_first_round-one_form.ensures.block c.rounds-last.ensures.count
+          c.round_key-first_key.ensures.value c.inv_first_round-one_form.ensures.form;
+      other = begun key c.args.other.now _ _ _ c.rounds-last.ensures.key c.inv_first_round-other_form.ensures.block c.rounds-last.ensures.count
+          c.round_key-first_key.ensures.value c.inv_first_round-other_form.ensures.form;
     }
 
 pub loop-round-preserved : goal.loop-round-preserved
@@ -30,9 +18,9 @@ loop-round-preserved c =
     let key = c.args.schedule.now in
     record {
       one = gone_on key c.args.one.now _ _ _ c.loop-round.round c.rounds-last.ensures.key (omega arith) c.loop-round.invariant.one
-          c.inv_key-key.ensures.value c.inv_round-next_one.ensures;
+          c.inv_key-key.ensures.value c.inv_round_of_several-next_one.ensures;
       other = gone_on key c.args.other.now _ _ _ c.loop-round.round c.rounds-last.ensures.key (omega arith) c.loop-round.invariant.other
-          c.inv_key-key.ensures.value c.inv_round-next_other.ensures;
+          c.inv_key-key.ensures.value c.inv_round_of_several-next_other.ensures;
     }
 
 pub returns-clause-one : goal.returns-clause-one
@@ -47,10 +35,10 @@ returns-clause-other c =
 
 pub returns-clause-one_undone : goal.returns-clause-one_undone
 returns-clause-one_undone c =
-    let block = block_of_array c.args.one.now c.told-one c.fits-one in
-    rw (returns-clause-one c) (cipher-inv_cipher c.args.schedule.now c.args.one.now c.rounds-last.ensures.key block)
+    rw (returns-clause-one c)
+    (cipher-inv_cipher c.args.schedule.now c.args.one.now c.rounds-last.ensures.key c.inv_first_round-one_form.ensures.block)
 
 pub returns-clause-other_undone : goal.returns-clause-other_undone
 returns-clause-other_undone c =
-    let block = block_of_array c.args.other.now c.told-other c.fits-other in
-    rw (returns-clause-other c) (cipher-inv_cipher c.args.schedule.now c.args.other.now c.rounds-last.ensures.key block)
+    rw (returns-clause-other c)
+    (cipher-inv_cipher c.args.schedule.now c.args.other.now c.rounds-last.ensures.key c.inv_first_round-other_form.ensures.block)

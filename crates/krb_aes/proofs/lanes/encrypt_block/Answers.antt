@@ -6,20 +6,11 @@ use Rattle.krb_aes.specs.Inner.Schedule.{kept}
 use Rattle.krb_aes.specs.Inner.Tower.{tower_form}
 use Rattle.krb_aes.proofs.Bytes.{block_of_array, round_key_bytes}
 use Rattle.krb_aes.proofs.ExpansionRules.{rounds_of_four}
-use Rattle.krb_aes.proofs.LaneRounds.{IsBlock-kept, kept_none}
-use Rattle.krb_aes.proofs.FormRounds.{lanes_of_tower_form}
+use Rattle.krb_aes.proofs.LaneRounds.{kept_none}
 use Rattle.krb_aes.proofs.StateLaws.{IsBlock-add_round_key, IsBlock-mix_columns, IsBlock-shifted}
 use Rattle.krb_aes.proofs.RoundLaws.{inv_cipher-cipher}
 use Rattle.krb_aes.proofs.RoundRules.{rounds_after}
 use Rattle.krb_aes.proofs.lanes.encrypt_block.Goals as goal
-
-pub round-next-requires-clause-form : goal.round-next-requires-clause-form
-round-next-requires-clause-form c =
-    lanes_of_tower_form _ c.loop-at.form (IsBlock-kept _ _ c.loop-at.invariant.is_block) c.loop-at.invariant.form
-
-pub last_round-requires-clause-form : goal.last_round-requires-clause-form
-last_round-requires-clause-form c =
-    lanes_of_tower_form _ c.loop-at.form (IsBlock-kept _ _ c.loop-at.invariant.is_block) c.loop-at.invariant.form
 
 pub loop-at-init : goal.loop-at-init
 unfolding rounds

@@ -1,7 +1,7 @@
 use Rattle.std.proofs.Common.{◌∙◌}
-use Rattle.krb_aes.proofs.LaneRules.{map_same}
+use Rattle.krb_aes.proofs.LaneRules.{bytes_in_lanes, map_same}
 use Rattle.krb_aes.proofs.LaneTests.{times_09_is}
 use Rattle.krb_aes.proofs.tower.times_09.Goals as goal
 
 pub returns : goal.returns
-returns c = c.by_nibbles.ensures ∙ map_same _ _ times_09_is c.args.bytes c.requires.each
+returns c = c.by_nibbles.ensures ∙ map_same _ _ times_09_is c.args.bytes (bytes_in_lanes c.args.bytes c.fits-bytes).each

@@ -1,10 +1,9 @@
-use Rattle.std.proofs.Common.{◌≡◌, ℕ, pos, ◌+◌, List, ◌++◌, ◌≤◌, length, Some, Err, subst, sym, ap, append_assoc, ◌∙◌, arith}
+use Rattle.std.proofs.Common.{◌≡◌, ℕ, pos, ◌+◌, List, ◌++◌, ◌≤◌, length, Some, Err, subst, ap, append_assoc, ◌∙◌, arith}
 use Rattle.std.specs.Int.{w32}
 use Rattle.std.proofs.lemmas.List.{length-append}
 use Rattle.std.proofs.lemmas.Result.{err_from_is_err_and}
 use Rattle.krb_name.specs.Cursor.{signed_bytes}
-use Rattle.krb_name.specs.Field.{IsBytes}
-use Rattle.krb_keytab.specs.Inner.Entry.{entry_at}
+use Rattle.krb_keytab.specs.Inner.Entry.{HoldsEntry, HoldsNone}
 use Rattle.krb_keytab.specs.Inner.Meeting.{Meets}
 use Rattle.krb_keytab.specs.declared.fault.KeytabFault.TheVariants.{Truncated, BadEntry}
 use Rattle.krb_keytab.proofs.MeetLaws.{ran, cut_off, entry_whole, no_entry, held_out, body_met, body_lost}
@@ -42,7 +41,7 @@ returns-in-Some-clause-meets g c =
       kept.0,
       kept.2,
       omega (arith, length-append (signed_bytes w32 (pos c.args.count)) fills.piece, fills.keeps.peak, ap length fills.keeps.bytes),
-      entry_whole c.args.at c.args.count fills.piece kept.0 c.requires.limit (subst IsBytes body_is c.keep_of.ensures.bytes) came (ap entry_at (sym body_is) ∙ kept.1),
+      entry_whole c.args.at c.args.count fills.piece kept.0 c.requires.limit came (subst (λ (body : List ℕ). HoldsEntry body kept.0) body_is kept.1),
     )
 
 pub returns-in-None-clause-meets : goal.returns-in-None-clause-meets
@@ -54,7 +53,7 @@ returns-in-None-clause-meets g c =
     let at = c.args.at in
     let word = signed_bytes w32 (pos c.args.count) in
     let ran_out = c.conclude.ensures.runs_out in
-    let read = ap entry_at (sym body_is) ∙ rw c.in-None.is at c.in_ok-kept.ensures.kept in
+    let none = subst HoldsNone body_is (rw c.in-None.is at c.in_ok-kept.ensures.kept) in
     let first : List ℕ = word ++ fills.piece in
     let size : length first ≡ 4 + length fills.piece = length-append word fills.piece in
     let left = g.F.Feed.remaining c.conclude.new.feed in
@@ -66,6 +65,6 @@ returns-in-None-clause-meets g c =
       meets = subst (λ (t : List ℕ). Meets of_entry left at t (g.F.Feed.at_hand c.conclude.new.feed).peak c.conclude.result) (append_assoc word fills.piece ran_out.piece)
           (ran (Meets of_entry left at (first ++ ran_out.piece) (g.F.Feed.at_hand c.conclude.new.feed).peak) (Err (BadEntry at)) c.conclude.result _ at _ first ran_out.piece (Some (BadEntry at)) ran_out.ran
           (omega (arith, size, came, c.requires.limit)) (omega (arith, ran_out.moves.given, fills.keeps.given, c.requires.at, size, length-append first ran_out.piece))
-          (λ more within. no_entry at c.args.count fills.piece more c.requires.some c.requires.limit came read)
+          (λ more within. no_entry at c.args.count fills.piece more c.requires.some c.requires.limit came none)
           (λ h. h) (λ h. h) tt);
     }

@@ -1,4 +1,4 @@
-use Rattle.std.proofs.Common.{◌≡◌, ◌<◌, ◌^◌, ◌-◌, ℕ, length, replicate, take, drop, ap, sym, ◌∙◌, arith, w32}
+use Rattle.std.proofs.Common.{◌≡◌, ◌-◌, ℕ, length, replicate, take, drop, ap, sym, ◌∙◌, arith, ◌<◌, ◌^◌, w32}
 use Rattle.std.proofs.lemmas.Int.{of_z-to_z}
 use Rattle.std.proofs.lemmas.List.{length-replicate, length-drop, take_rest}
 use Rattle.krb_keytab.specs.Written.{record_length}
@@ -13,14 +13,14 @@ returns-clause-filled c =
     let zeros = length out - record_length e in
     let size = length out - 4 in
     let small : size < 2 ^ 32 = omega (arith, c.requires.most) in
-    let first = rw (c.cast_unsigned.ensures, of_z-to_z w32 size small) at c.put_number-at.ensures in
-    let start : c.put_number-at.result ≡ 4 = first.end_is in
-    let second = rw start at c.put_entry-behind.ensures.puts in
-    let at = c.put_entry-behind.result in
-    let long : length c.put_entry-behind.new.out ≡ length out = omega (arith, Puts-length second.puts, Puts-length first.puts) in
-    let left : length c.put_entry-behind.new.out - at ≡ zeros = omega (arith, long, second.end_is) in
+    let first = rw (of_z-to_z w32 size small) at c.put-at.ensures in
+    let start : c.put-at.result ≡ 4 = first.end_is in
+    let second = rw (c.body.ensures.spelled, start) at c.put-end.ensures in
+    let end = c.put-end.result in
+    let long : length c.put-end.new.out ≡ length out = omega (arith, Puts-length second.puts, Puts-length first.puts) in
+    let left : length c.put-end.new.out - end ≡ zeros = omega (arith, long, second.end_is) in
     let count = length-replicate {A = ℕ} zeros 0 in
-    let rest : length (take (length c.put_entry-behind.new.out - at) (drop at c.put_entry-behind.new.out)) ≡ zeros = ap length (take_rest c.put_entry-behind.new.out at) ∙ length-drop at c.put_entry-behind.new.out ∙ left in
+    let rest : length (take (length c.put-end.new.out - end) (drop end c.put-end.new.out)) ≡ zeros = ap length (take_rest c.put-end.new.out end) ∙ length-drop end c.put-end.new.out ∙ left in
     let filling : c.fill.new.self ≡ replicate zeros 0 = c.fill.ensures.after (λ y h. h) ∙ ap (λ n. replicate n 0) rest in
-    let third = puts_mid c.put_entry-behind.new.out at (length c.put_entry-behind.new.out - at) (replicate zeros 0) c.fill.new.self (omega (arith, count, long, second.end_is, c.requires.room)) (left ∙ sym count) filling in
+    let third = puts_mid c.put-end.new.out end (length c.put-end.new.out - end) (replicate zeros 0) c.fill.new.self (omega (arith, count, long, second.end_is, c.requires.room)) (left ∙ sym count) filling in
     filled {old = out} e size zeros (rw start at first) second third (omega (arith, c.requires.room)) (omega (arith, c.requires.room))

@@ -14,14 +14,14 @@ use Rattle.krb_keytab.proofs.keytab.Keytab.to_bytes.Goals as goal
 abbrev writing : KeytabEntry → List ℕ
 writing e = record_bytes (written_record e)
 
-pub returns-then-at-record_length-clause-fault : goal.returns-then-at-record_length-clause-fault
-returns-then-at-record_length-clause-fault c = λ _.
+pub returns-then-at-size-clause-fault : goal.returns-then-at-size-clause-fault
+returns-then-at-size-clause-fault c = λ _.
     let now = c.loop-entry.invariant in
     let i = c.loop-entry.entry-index in
     let xs = c.entries-entry-items.result.now in
     let e = c.entry-item.result in
     let part = length-flat_map-take writing xs i e c.loop-entry-test.true in
-    (refl, omega (arith, now.limit, ap length now.written, part, ap (λ x. length (writing x)) c.entry-item.is, c.record_length.ensures.length, c.if-at-record_length.true, ap (λ ys. length (flat_map writing ys)) c.entries-entry-items.ensures))
+    (refl, omega (arith, now.limit, ap length now.written, part, ap (λ x. length (writing x)) c.entry-item.is, c.record_length-size.ensures.length, c.if-at-size.true, ap (λ ys. length (flat_map writing ys)) c.entries-entry-items.ensures))
 
 pub loop-entry-preserved : goal.loop-entry-preserved
 loop-entry-preserved c =
@@ -36,7 +36,7 @@ loop-entry-preserved c =
     let step = flat_step writing xs i e c.loop-entry-test.true c.entry-item.is in
     record {
       written = added ∙ ap (λ (t : List ℕ). t ++ writing e) now.written ∙ ap (λ (t : List ℕ). version ++ t) (sym step);
-      limit = omega (arith, now.limit, ap length added, length-append old (writing e), c.record_length.ensures.length, c.if-at-record_length.false);
+      limit = omega (arith, now.limit, ap length added, length-append old (writing e), c.record_length-size.ensures.length, c.if-at-size.false);
       fit = All-more FitsEntry xs i e c.loop-entry-test.true now.fit (subst FitsEntry c.entry-item.is put.fits);
     }
 

@@ -1,22 +1,19 @@
-use Rattle.std.proofs.Common.{◌≡◌, rules, arith, Some}
-use Rattle.krb_keytab.specs.Entry.{KeytabEntry}
-use Rattle.krb_keytab.specs.Inner.Entry.{first_components, entry_at}
-use Rattle.krb_keytab.proofs.ComponentLaws.{has_components}
-use Rattle.krb_keytab.proofs.EntryLaws.{take_entry}
+use Rattle.std.proofs.Common.{List, ℕ, sym, subst, arith}
+use Rattle.std.proofs.lemmas.Result.{err_from_is_err_and}
+use Rattle.krb_keytab.specs.Inner.Entry.{HoldsEntry}
+use Rattle.krb_keytab.proofs.EntryLaws.{row_taken, none_holds}
 use Rattle.krb_keytab.proofs.view.EntryView.read.Goals as goal
 
-pub invariant_of-result : goal.invariant_of-result
-unfolding entry_at
-invariant_of-result c =
-    let made : KeytabEntry = record {
-      principal = record { realm = c.in_ok-realm.realm.now; name_type = c.in_ok-name_type.name_type; components = first_components c.in_ok-component_count.component_count c.rest-components.result.now };
-      timestamp = c.in_ok-timestamp.timestamp;
-      kvno = c.counting_kvno-kvno.result;
-      etype = c.in_ok-etype.etype;
-      key = c.in_ok-key.key.now;
-    } in
-    let whole : entry_at c.args.body.now ≡ Some made = search rules in
-    let lengths = (take_entry c.args.body.now made (λ i. omega (arith, c.type_inv.body i)) whole).is_entry.fits.lengths in (
-      has_components c.in_ok-component_count.component_count c.rest-components.result.now c.new-tail.result _ c.new-tail.ensures c.in_ok-skip_components.ensures.ok,
-      record { count = lengths.count; realm = lengths.realm; components = lengths.components; key_length = lengths.key_length },
-    )
+pub returns-in_err-row-clause-short : goal.returns-in_err-row-clause-short
+returns-in_err-row-clause-short c =
+    let p = err_from_is_err_and c.from_residual.result c.from_residual.ensures.1 in
+    rw p.1 (none_holds c.args.body.now (rw c.new-cursor.ensures at c.in_err-row.ensures.short))
+
+pub from_row-requires : goal.from_row-requires
+from_row-requires c =
+    (row_taken c.args.body.now c.in_ok-row.row c.read.new.cursor (λ i. omega (arith, c.type_inv.body i)) (rw c.new-cursor.ensures at c.in_ok-row.ensures.read)).1
+
+pub returns-clause-read : goal.returns-clause-read
+returns-clause-read c =
+    let taken = row_taken c.args.body.now c.in_ok-row.row c.read.new.cursor (λ i. omega (arith, c.type_inv.body i)) (rw c.new-cursor.ensures at c.in_ok-row.ensures.read) in
+    subst (λ (body : List ℕ). HoldsEntry body c.from_row.result) (sym taken.0.parts) (rw c.rest.ensures at c.from_row.ensures)

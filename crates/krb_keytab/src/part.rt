@@ -1,0 +1,171 @@
+//! Parts of a record: how many bytes they take, and how they are written over existing bytes.
+
+ghost use Rattle.std.specs.Prelude.{◌≡◌, ◌+◌, ◌<◌, ◌≤◌, ◌^◌, ◌++◌, ℕ, ⊤, List, All, length};
+ghost use Rattle.std.specs.Int.{w8, w16, w32};
+ghost use Rattle.std.specs.List.{flat_map};
+ghost use Rattle.krb_name.specs.Cursor.{number_bytes, signed_bytes, data_bytes};
+ghost use Rattle.krb_keytab.specs.Inner.Putting.{PutsTo};
+
+use crate::field::{Counted, Data};
+use byteorder::{BigEndian, ByteOrder};
+use krb_name::Bytes;
+
+/// A part of a record, or a row of parts in nested pairs.
+pub(crate) trait Part {
+    /// What is written of it.
+    ghost spelled: { Self → List ℕ };
+
+    /// Whether its lengths fit into the format.
+    ghost Fits: { Self → Type 0 } = { λ _. ⊤ };
+
+    /// Returns how many bytes it takes.
+    fn size(&self) -> usize
+        requires { length (spelled self.now) < 2 ^ 64 }
+        ensures { result ≡ length (spelled self.now) };
+
+    /// Writes it from an offset on, and returns the offset after it.
+    fn put(&self, out: &mut [u8], at: usize) -> usize
+        requires fits { Fits self.now }
+        requires room { at + length (spelled self.now) ≤ length out.old }
+        ensures { PutsTo out.old at (spelled self.now) out.new result };
+}
+
+impl<A: Part, B: Part> Part for (A, B) {
+    ghost spelled = { λ pair. A.spelled pair.0 ++ B.spelled pair.1 };
+
+    ghost Fits = { λ pair. A.Fits pair.0 × B.Fits pair.1 };
+
+    #[tactic(auto, using(crate::proofs::PutLaws::sizes))]
+    fn size(&self) -> usize {
+        self.0.size() + self.1.size()
+    }
+
+    fn put(&self, out: &mut [u8], at: usize) -> usize {
+        let next = self.0.put(out, at);
+        self.1.put(out, next)
+    }
+}
+
+impl<R: Part> Part for Counted<R> {
+    ghost spelled = { λ row. number_bytes w16 row.0 ++ R.spelled row.1 };
+
+    ghost Fits = { λ row. R.Fits row.1 };
+
+    fn size(&self) -> usize {
+        2 + self.others.size()
+    }
+
+    fn put(&self, out: &mut [u8], at: usize) -> usize {
+        let next = put_u16(out, at, self.count);
+        self.others.put(out, next)
+    }
+}
+
+impl Part for Data<'_> {
+    ghost spelled = { data_bytes w16 };
+
+    ghost Fits = { λ bytes. length bytes < 2 ^ 16 };
+
+    fn size(&self) -> usize {
+        2 + self.bytes.len()
+    }
+
+    fn put(&self, out: &mut [u8], at: usize) -> usize {
+        let next = put_u16(out, at, self.bytes.len() as u16);
+        put_bytes(out, next, self.bytes)
+    }
+}
+
+impl Part for &[Bytes] {
+    ghost spelled = { λ components. flat_map (data_bytes w16) components.now };
+
+    ghost Fits = { λ components. All (λ component. length component < 2 ^ 16) components.now };
+
+    fn size(&self) -> usize {
+        let mut sum = 0;
+        for component in *self {
+            let bytes = component.as_slice();
+            sum += Data { bytes }.size();
+        }
+        sum
+    }
+
+    fn put(&self, out: &mut [u8], at: usize) -> usize {
+        let mut end = at;
+        for component in *self {
+            let bytes = component.as_slice();
+            end = Data { bytes }.put(out, end);
+        }
+        end
+    }
+}
+
+impl Part for i32 {
+    ghost spelled = { signed_bytes w32 };
+
+    fn size(&self) -> usize {
+        4
+    }
+
+    fn put(&self, out: &mut [u8], at: usize) -> usize {
+        self.cast_unsigned().put(out, at)
+    }
+}
+
+impl Part for u32 {
+    ghost spelled = { number_bytes w32 };
+
+    fn size(&self) -> usize {
+        4
+    }
+
+    fn put(&self, out: &mut [u8], at: usize) -> usize {
+        let mut bytes = [0u8; 4];
+        BigEndian::write_u32(&mut bytes, *self);
+        put_bytes(out, at, &bytes)
+    }
+}
+
+impl Part for u8 {
+    ghost spelled = { number_bytes w8 };
+
+    fn size(&self) -> usize {
+        1
+    }
+
+    fn put(&self, out: &mut [u8], at: usize) -> usize {
+        put_bytes(out, at, &self.to_be_bytes())
+    }
+}
+
+impl Part for i16 {
+    ghost spelled = { signed_bytes w16 };
+
+    fn size(&self) -> usize {
+        2
+    }
+
+    fn put(&self, out: &mut [u8], at: usize) -> usize {
+        put_u16(out, at, self.cast_unsigned())
+    }
+}
+
+// Writes a number of 16 bits from an offset on, and returns the offset after it.
+fn put_u16(out: &mut [u8], at: usize, number: u16) -> usize
+    requires { at + 2 ≤ length out.old }
+    ensures { PutsTo out.old at (number_bytes w16 number) out.new result }
+{
+    let mut bytes = [0u8; 2];
+    BigEndian::write_u16(&mut bytes, number);
+    put_bytes(out, at, &bytes)
+}
+
+// Writes bytes from an offset on, and returns the offset after them.
+fn put_bytes(out: &mut [u8], at: usize, bytes: &[u8]) -> usize
+    requires { at + length bytes.now ≤ length out.old }
+    ensures { PutsTo out.old at bytes.now out.new result }
+{
+    let end = at + bytes.len();
+    out[at..end].copy_from_slice(bytes);
+    end
+}
