@@ -16,7 +16,8 @@
  *  - Only one call at a time may use a handle, even if the call takes a pointer to const: such a
  *    call may write to the handle, too. So put a lock around calls that share a handle, and never
  *    define a handle as const. Any thread may make a call. Two handles share nothing, in one
- *    process or in two. After a fork, the child must not use its copies.
+ *    process or in two. After a fork, the child must not use its copies: no call reports it, and
+ *    each process would accept the same request.
  *  - Pointers are valid. A pointer to bytes whose size is 0 isn't read: it may be NULL (this is
  *    tested, not proved), or point anywhere.
  *  - What a call writes to (its handle, its buffer, its other results) overlaps nothing else that
@@ -34,10 +35,10 @@
  * allocates what a handle holds, and the handle's function whose name ends in _free frees it. There
  * is nothing else to free. Files have at most 16,777,216 bytes, and requests, replies and errors at
  * most 1,048,576: anything longer is a fault. Other sizes are limited by memory alone, unless a
- * limit is named. If memory runs out, a call may return FEVSTUNIK_OUT_OF_MEMORY in place of another
- * fault, unless it found that fault before it allocated memory. A fault of a keytab or a cache is
- * returned even then, except by fevstunik_keytab_add and fevstunik_keytab_remove, which copy the
- * file first.
+ * limit is named. If memory runs out, a call may return FEVSTUNIK_OUT_OF_MEMORY even if an argument
+ * has a fault. Two kinds of faults are still returned: those that a call finds before it allocates
+ * memory, and those of a keytab or a cache. (But fevstunik_keytab_add and fevstunik_keytab_remove
+ * copy the file first. They may return FEVSTUNIK_OUT_OF_MEMORY for a file with a fault.)
  *
  * A function that returns bytes writes them to the start of the caller's buffer, and leaves the
  * rest of the buffer unchanged. If the buffer is too short, the code is FEVSTUNIK_SHORT_BUFFER,
@@ -308,7 +309,7 @@ static inline const char *fevstunik_code_text(uint32_t code)
 /* The answer of a call. Numbers that don't belong to the code are 0. */
 typedef struct fevstunik_answer {
     uint32_t code;    /* a fevstunik_code */
-    int32_t kerberos; /* the error code of RFC 4120, section 7.5.9, that belongs to it */
+    int32_t kerberos; /* the error code of RFC 4120, section 7.5.9, or 0 if the code has none (0 isn't success) */
     size_t at;        /* the place of a fault, in bytes from the start of the argument */
     size_t size;      /* the number of bytes that were written, or are needed */
 } fevstunik_answer;
@@ -400,7 +401,7 @@ typedef struct fevstunik_key_parts {
 /* A credential of a cache. The spans are places in the buffer of the call. */
 typedef struct fevstunik_cache_entry {
     fevstunik_span client; /* whose ticket it is, as text */
-    fevstunik_span server; /* the ticket's service, as text; a configuration entry has the realm X-CACHECONF: */
+    fevstunik_span server; /* the ticket's service, as text; that of a configuration entry ends with `@X-CACHECONF:` */
     fevstunik_span key;    /* the session key */
     fevstunik_span ticket; /* the bytes of the ticket, or the value of a configuration entry */
     uint32_t authtime;     /* when the client was authenticated, in seconds */
@@ -599,9 +600,10 @@ void fevstunik_cache_free(fevstunik_cache *cache);
  * has more than 65,535 parts, or a part of it or the key has more than 65,535 bytes;
  * FEVSTUNIK_TOO_LONG, _FILE_VERSION, _FILE_TRUNCATED or _FILE_BAD_ITEM for the keytab;
  * FEVSTUNIK_TOO_LONG for the new file. FEVSTUNIK_OUT_OF_MEMORY may be returned instead of any of
- * these.
+ * these. The parts in the example are a time, a
+ * version number, a name type and a key type.
  *
- *     fevstunik_key_parts parts = {1700000000, 3, 3, 19};
+ *     fevstunik_key_parts parts = {1700000000, 4, 3, 19};
  *     answer = fevstunik_keytab_add(file, file_size, (const uint8_t *)"host/web@EX", 11, key, 16, &parts, buffer, sizeof buffer);
  */
 fevstunik_answer fevstunik_keytab_add(const uint8_t *keytab, size_t keytab_size, const uint8_t *name, size_t name_size, const uint8_t *key,
@@ -653,12 +655,13 @@ fevstunik_answer fevstunik_name_check(const uint8_t *name, size_t name_size);
  * `service` is the text of the one name that is served, such as host/web@EX: a ticket for any other
  * name is refused with NOT_US, if no cause before it applies. The name isn't compared with the
  * keytab at the start: if the keytab has no entry of it, every ticket is refused in this way. If
- * `service_size` is 0, each name of the keytab is served. Name the service if the keytab has keys
- * of several names (docs/OPERATING.md, "Keys", says why).
+ * `service_size` is 0, each name of the keytab is served, and no code reports it: refuse an empty
+ * name from a configuration. Name the service if the keytab has keys of several names
+ * (docs/OPERATING.md, "Keys", says why).
  *
  * After a restart use fevstunik_acceptor_started: a service that has forgotten its requests may
- * accept one of them again. Use this function only if no service has used this name and these keys
- * before, or over a store of stamps (fevstunik_accepted_stamp) that has lost nothing
+ * accept one of them again. Use this function only if no service has used this name with any key of
+ * the keytab before, or over a store of stamps (fevstunik_accepted_stamp) that has lost nothing
  * (docs/OPERATING.md, "Restarts", has the exact conditions).
  *
  * Returns FEVSTUNIK_OK; or leaves the handle unchanged and returns the first that applies:
@@ -673,12 +676,13 @@ fevstunik_answer fevstunik_acceptor_new(fevstunik_acceptor *handle, const uint8_
                                         const uint8_t *service, size_t service_size);
 
 /* Makes a service as fevstunik_acceptor_new does, for a service that is started again and has
- * forgotten what it accepted before. `start` is its clock at this start. Until its clock and the
- * client's are both later than `start` by more than the skew, it refuses requests with
- * JUST_STARTED. So no request that was accepted before is accepted again. This holds on two
- * conditions: `start` is no earlier than any moment that was given before, and the skew is no
- * smaller than it was (docs/ACCEPTANCE.md has the argument). If you have the start in whole
- * seconds, add one.
+ * forgotten what it accepted before. `start` is its clock at this start: the clock that `now` is
+ * read from (CLOCK_REALTIME). No code reports a start that is too early, such as zero or a time of
+ * CLOCK_MONOTONIC: the pause is then missing. Until its clock and the client's are both later than
+ * `start` by more than the skew, it refuses requests with JUST_STARTED. So no request that was
+ * accepted before is accepted again. This holds on two conditions: `start` is no earlier than any
+ * moment that was given before, and the skew is no smaller than it was (docs/ACCEPTANCE.md has the
+ * argument). If you have the start in whole seconds, add one.
  *
  * Returns FEVSTUNIK_OK; or leaves the handle unchanged and returns the first that applies:
  * FEVSTUNIK_BAD_MOMENT for `start`; FEVSTUNIK_BAD_SKEW; FEVSTUNIK_TOO_LONG, _FILE_VERSION,
@@ -854,7 +858,8 @@ void fevstunik_accepted_free(fevstunik_accepted *accepted);
  * fevstunik_acceptor_accept refused a request. `service` has the service's name as text, such as
  * host/web@EX. `name_type` is the type of that name (RFC 4120, section 6.2; 3 for a service on a
  * host). `now` is the service's time. The error contains these and the refusal's code, and nothing
- * else. It isn't sealed: anyone can write such an error.
+ * else. It isn't sealed: anyone can write such an error. If threads share the service, use
+ * fevstunik_error: another thread's request may be refused between the two calls.
  *
  * Returns FEVSTUNIK_OK or FEVSTUNIK_SHORT_BUFFER; or writes nothing and returns the first that
  * applies: FEVSTUNIK_EMPTY_HANDLE; FEVSTUNIK_NOTHING_THERE; FEVSTUNIK_NOT_UTF8, _BAD_TEXT or
@@ -887,7 +892,7 @@ fevstunik_answer fevstunik_error(uint32_t code, const uint8_t *service, size_t s
 size_t fevstunik_acceptor_count(const fevstunik_acceptor *handle);
 
 /* Reads the latest moment that fevstunik_acceptor_accept was given so far. The service decides by
- * it. Calls that returned OUT_OF_MEMORY or BAD_MOMENT don't count.
+ * it. Calls that returned OUT_OF_MEMORY, BAD_MOMENT or EMPTY_HANDLE don't count.
  *
  * Returns FEVSTUNIK_OK; or writes nothing and returns FEVSTUNIK_EMPTY_HANDLE or
  * FEVSTUNIK_NOTHING_THERE.
@@ -987,7 +992,9 @@ void fevstunik_pending_free(fevstunik_pending *pending);
 /* Seals a plain text under a key (16 bytes for type 19, 32 for type 20) for a usage (RFC 4120,
  * section 7.5.1; those from 1024 to 2047 are for applications). `confounder` is 16 random bytes,
  * new for each call. The sealed text is 32 bytes (type 19) or 40 bytes (type 20) longer than the
- * plain text. The call allocates no memory.
+ * plain text. The buffer must not overlap the plain text: the call can't seal in place. It
+ * allocates no memory. A sealed text can be sent again, to either side, as long as the key is used:
+ * put a number into each text, and use a usage of its own for each direction.
  *
  * Returns FEVSTUNIK_OK or FEVSTUNIK_SHORT_BUFFER; or writes nothing and returns the first that
  * applies: FEVSTUNIK_KEY_TYPE, FEVSTUNIK_KEY_LENGTH or FEVSTUNIK_BAD_CONFOUNDER.
@@ -997,8 +1004,8 @@ void fevstunik_pending_free(fevstunik_pending *pending);
 fevstunik_answer fevstunik_seal(int32_t key_type, const uint8_t *key, size_t key_size, uint32_t usage, const uint8_t *confounder,
                                 size_t confounder_size, const uint8_t *plain, size_t plain_size, uint8_t *buffer, size_t buffer_size);
 
-/* Opens a text that was sealed under a key for a usage, and returns the plain text. The call
- * allocates no memory.
+/* Opens a text that was sealed under a key for a usage, and returns the plain text. The buffer must
+ * not overlap the sealed text: the call can't open in place. It allocates no memory.
  *
  * Returns FEVSTUNIK_OK or FEVSTUNIK_SHORT_BUFFER; or writes nothing and returns the first that
  * applies: FEVSTUNIK_KEY_TYPE, FEVSTUNIK_KEY_LENGTH, FEVSTUNIK_TEXT_SHORT or
@@ -1037,7 +1044,7 @@ fevstunik_answer fevstunik_checksum_check(int32_t key_type, const uint8_t *key, 
 /* Opens the first token of a client, and returns the request. The token is a Kerberos token alone
  * (RFC 4121, section 4.1), or a negotiation (SPNEGO; RFC 4178, section 4.2.1) whose first mechanism
  * is Kerberos. `wrapped` is filled on FEVSTUNIK_OK and FEVSTUNIK_SHORT_BUFFER: pass it to the call
- * that wraps the answer. The call allocates no memory.
+ * that wraps the answer. The buffer must not overlap the token. The call allocates no memory.
  *
  * Returns FEVSTUNIK_OK or FEVSTUNIK_SHORT_BUFFER; or writes nothing and returns one of the codes
  * from FEVSTUNIK_NOT_A_TOKEN to FEVSTUNIK_NESTED_NEGOTIATION.
@@ -1104,8 +1111,9 @@ fevstunik_answer fevstunik_token_answer(const uint8_t *token, size_t token_size,
  * call can't. The bindings, the delegation and the extensions are written to the buffer. `context`
  * is filled on FEVSTUNIK_OK and FEVSTUNIK_SHORT_BUFFER: on the latter the places lie in the longer
  * buffer that you need. The call compares the bindings with nothing: if you know your channel's
- * bindings, compare their MD5 hash with these bytes. 16 zeros mean that the client bound nothing;
- * decide whether you accept that.
+ * bindings, compare these bytes with their hash, which is the MD5 of the structure in RFC 4121,
+ * section 4.1.1.2, not of the bindings alone. 16 zeros mean that the client bound nothing; decide
+ * whether you accept that.
  *
  * Returns FEVSTUNIK_OK or FEVSTUNIK_SHORT_BUFFER; or writes nothing and returns
  * FEVSTUNIK_CONTEXT_TRUNCATED, FEVSTUNIK_CONTEXT_BINDINGS, FEVSTUNIK_CONTEXT_DELEGATION or

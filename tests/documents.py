@@ -221,12 +221,11 @@ def unknown_names(part):
 
 
 def toolchain():
-    """README and CONTRIBUTING name the toolchain that is used here."""
+    """README names the toolchain that is used here."""
     version = subprocess.run(["rt", "version"], capture_output=True, text=True).stdout.strip()
     kit, _, logic = version.partition(" ")
     names = lambda text: (f"`{kit}`" in text or f"`-{kit.rpartition('-')[2]}`" in text) and f"`{logic}`" in text
-    other = [it for it in ("README.md", "CONTRIBUTING.md") if not names(" ".join(text_of(it).split()))]
-    return f"{other} don't name {version!r}" if other or not logic else None
+    return None if logic and names(" ".join(text_of("README.md").split())) else f"it doesn't name {version!r}"
 
 
 def names():
@@ -244,7 +243,7 @@ def checks(program):
     yield "README.md: its C compiles", c_code("README.md")
     yield "README.md: its Python is Python", python_code("README.md")
     yield "docs/PROOFS.md: what is proved has these names", names()
-    yield "README.md and CONTRIBUTING.md: the toolchain", toolchain()
+    yield "README.md: the toolchain", toolchain()
     yield "the manual and KRBTOOL.md: commands and options", options(program)
     yield "docs/man/fevstunik.3: what its script makes", manual()
     yield "packaging/completion: what its script makes", completions(program)

@@ -78,7 +78,7 @@ class Keytab:
 
     @property
     def data(self) -> bytes:
-        """The bytes of the file, with its keys.
+        """The bytes of the file, with its keys. Write them only to a file of mode 0600.
 
         >>> Keytab(bytes.fromhex("0502")).data
         b'\\x05\\x02'
@@ -155,7 +155,7 @@ class Credential:
     """A credential of a cache. `repr` leaves out its key and its ticket.
 
     client      whose ticket it is
-    server      the ticket's service; a configuration entry has the realm X-CACHECONF:
+    server      the ticket's service; that of a configuration entry ends with ``@X-CACHECONF:``
     key         the session key, of any type
     ticket      the bytes of the ticket, or the value of a configuration entry
     authtime    when the client was authenticated, in seconds

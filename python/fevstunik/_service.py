@@ -245,10 +245,9 @@ class Acceptor:
     service  the name that is served, as ``host/web@EX``, or None for each name of the keytab. Name it if the keytab has keys of several
              names: docs/OPERATING.md says why. If the keytab has no entry of this name, that is no fault: then every ticket is refused
     skew     by how many seconds clocks may differ
-    started  the service's clock at this start, as time.time(). A restarted service has forgotten what it accepted. So it refuses requests
-             with the cause JUST_STARTED until its clock and the client's are both later than this start by more than the skew. Pass None
-             only if no service has used this name and these keys before, with this or any other software, or if all instances share a
-             store that has been in use since the first start of any service with this name and these keys, and has lost nothing. The
+    started  the service's clock at this start, as time.time() (not time.monotonic(): a start that is too early isn't reported). A restarted
+             service has forgotten what it accepted. So it refuses requests with the cause JUST_STARTED until its clock and the client's
+             are both later than this start by more than the skew. Pass None only in the two cases of docs/OPERATING.md, "Restarts": the
              service then accepts at once, and would accept again what an earlier run accepted
 
     Make one and keep it. Any thread may call it. A lock lets one decision run at a time; what was accepted is read without that lock. An

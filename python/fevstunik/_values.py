@@ -167,6 +167,9 @@ class Key:
     def seal(self, usage: int, plain: Bytes) -> bytes:
         """Seal a plain text with a new random confounder, and return the sealed bytes.
 
+        A sealed text can be sent again, to either side, as long as the key is used: put a number into each text, and use a usage of its
+        own for each direction.
+
         >>> len(Key.random(19).seal(1024, b"hello"))
         37
         """
