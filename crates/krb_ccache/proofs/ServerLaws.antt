@@ -1,21 +1,12 @@
 -- A credential is found by its server's name: none before it has the name.
-use Rattle.std.proofs.Common.{◌≡◌, ℕ, suc, ◌+◌, ◌<◌, ◌≤◌, List, [], ◌∷◌, ◌++◌, length, map, take, drop, get_or, sym, ap, subst, ◌∙◌, arith}
+use Rattle.std.proofs.Common.{◌≡◌, ℕ, suc, ◌+◌, ◌<◌, ◌≤◌, List, [], ◌∷◌, ◌++◌, length, take, drop, get_or, sym, ap, subst, ◌∙◌, arith}
 use Rattle.std.specs.Prelude.{All}
 use Rattle.std.proofs.Math.Seq.{drop-cons}
-use Rattle.std.proofs.lemmas.List.{take_more, take_all, drop_all, take-append-drop, length-take, map-append, drop-append-le}
+use Rattle.std.proofs.lemmas.List.{take_more, take_all, drop_all, take-append-drop, length-take, drop-append-le}
 use Rattle.std.proofs.lemmas.List.Elements.{All-nil, All-cons, All-append}
-use Rattle.krb_name.specs.Name.{SameName, name_hash}
+use Rattle.krb_name.specs.Name.{SameName}
 use Rattle.krb_ccache.specs.Types.{Principal, Credential}
 use Rattle.krb_ccache.specs.Server.{IsForOther, IsFound}
-
-abbrev pub server_hash : Credential → ℕ
-server_hash one = name_hash one.server
-
-pub one_hashed : (xs : List Credential) (i : ℕ) (x : Credential) → i < length xs → x ≡ get_or xs i x → map server_hash (take (i + 1) xs) ≡ map server_hash (take i xs) ++ server_hash x ∷ []
-one_hashed xs i x within is = ap (map server_hash) (take_more xs i x within ∙ ap (λ y. take i xs ++ y ∷ []) (sym is)) ∙ map-append server_hash (take i xs) (x ∷ [])
-
-pub all_hashed : (xs : List Credential) (i : ℕ) → length xs ≤ i → map server_hash (take i xs) ≡ map server_hash xs
-all_hashed xs i end = ap (map server_hash) (take_all i xs end)
 
 module _ (xs : List Credential) (server : Principal) (from : ℕ) where
   -- so far none was found

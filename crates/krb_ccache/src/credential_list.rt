@@ -47,7 +47,8 @@ impl CredentialList {
     ) -> Result<CredentialList, AllocError>
         ensures { IfOk result (λ list. list ≡ items.items) }
     {
-        let hashes = Some(hashes_of(alloc, items.as_slice())?);
+        let names = items.iter().map(|one| one.server.name_hash());
+        let hashes = Some(names.collect(alloc)?);
         Ok(CredentialList { items, hashes })
     }
 
@@ -87,16 +88,4 @@ impl CredentialList {
             None => true,
         }
     }
-}
-
-// The hashes of the servers' names.
-#[tactic(auto, using(crate::proofs::ServerLaws::one_hashed, crate::proofs::ServerLaws::all_hashed))]
-fn hashes_of(alloc: Global, credentials: &[Credential]) -> Result<Vec<u32>, AllocError>
-    ensures { IfOk result (λ hashes. hashes.items ≡ map (λ one. name_hash one.server) credentials.now) }
-{
-    let mut hashes = Vec::with_capacity(alloc, credentials.len())?;
-    for credential in credentials {
-        hashes.push(credential.server.name_hash())?;
-    }
-    Ok(hashes)
 }
