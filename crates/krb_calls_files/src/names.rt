@@ -27,6 +27,7 @@ fn name_laws() {
     krb_name::laws::repeated_data_are_fields();
     krb_name::laws::a_text_has_one_answer();
     krb_name::laws::a_text_has_one_name();
+    krb_name::laws::the_same_names_have_one_hash();
 }
 
 fn keytab_laws() {
@@ -59,6 +60,7 @@ pub(crate) fn name(alloc: Global, words: &[&str]) -> Option<String> {
     match *words {
         ["text", name] => text_told(alloc, name),
         ["same", one, other] => are_same(alloc, one, other),
+        ["hash", one, other] => have_one_hash(alloc, one, other),
         ["clone", name] => cloned(alloc, name),
         _ => None,
     }
@@ -74,6 +76,12 @@ fn are_same(alloc: Global, one: &str, other: &str) -> Option<String> {
     let first = name_of(alloc, one)?;
     let second = name_of(alloc, other)?;
     truth(alloc, first.same_name(&second))
+}
+
+fn have_one_hash(alloc: Global, one: &str, other: &str) -> Option<String> {
+    let first = name_of(alloc, one)?;
+    let second = name_of(alloc, other)?;
+    truth(alloc, first.name_hash() == second.name_hash())
 }
 
 fn cloned(alloc: Global, word: &str) -> Option<String> {

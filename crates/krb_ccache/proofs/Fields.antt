@@ -1,10 +1,10 @@
 -- Fields that are joined of others are read as they are spelled.
-use Rattle.std.proofs.Common.{◌≡◌, ℕ, ◌+◌, Bool, true, cond, List, ◌++◌, length, Option, Some, None, refl, sym, ap, subst, ◌∙◌, append_assoc, arith}
-use Rattle.std.proofs.lemmas.List.{length-append}
+use Rattle.std.proofs.Common.{◌≡◌, ℕ, ◌+◌, Bool, true, cond, List, ◌++◌, length, Option, Some, None, refl, sym, ap, subst, ◌∙◌}
 use Rattle.std.proofs.lemmas.Option.{cond_some}
 use Rattle.krb_name.specs.Cursor.{Place, ◌>>=◌}
 use Rattle.krb_name.specs.Field.{IsBytes, Takes, IsField}
-use Rattle.krb_name.proofs.CursorLaws.{bind_some, some_is, Takes-then}
+use Rattle.krb_name.proofs.CursorLaws.{bind_some, some_is}
+use Rattle.krb_name.proofs.Rows.{spelling, followed}
 use Rattle.krb_ccache.specs.Inner.Reading.{then_at, both_at, made_at, passing_at}
 
 -- ---- one read after another
@@ -27,27 +27,9 @@ nothing_made (Some x) = refl
 
 -- ---- one behind the other
 
-module _ {X Y : Type 0} {read_one : Place → Option (X × Place)} {bytes_one : X → List ℕ} {IsOne : X → Type 0} (one : IsField read_one bytes_one IsOne) {read_other : X → Place → Option (Y × Place)} {bytes_other : Y → List ℕ} {IsOther : X → Y → Type 0} (other : (x : X) → IsField (read_other x) bytes_other (IsOther x)) where
-  then_take : (place : Place) (x : X × Y) (behind : Place) → IsBytes place.rest → then_at read_one read_other place ≡ Some (x, behind) → Takes place (bytes_one x.0 ++ bytes_other x.1) behind × (IsOne x.0 × IsOther x.0 x.1)
-  then_take place x behind fits e =
-      let a = bind_some (read_one place) (λ p. read_other p.0 p.1 >>= λ q. Some ((p.0, q.0), q.1)) (x, behind) e in
-      let b = bind_some (read_other a.0.0 a.0.1) (λ q. Some ((a.0.0, q.0), q.1)) (x, behind) a.2 in
-      let t = one.takes place a.0.0 a.0.1 fits a.1 in
-      let u = (other a.0.0).takes a.0.1 b.0.0 b.0.1 t.0.rest_fits b.1 in
-      subst (λ (p : (X × Y) × Place). Takes place (bytes_one p.0.0 ++ bytes_other p.0.1) p.1 × (IsOne p.0.0 × IsOther p.0.0 p.0.1)) (some_is ((a.0.0, b.0.0), b.0.1) (x, behind) b.2)
-      (Takes-then place (bytes_one a.0.0) a.0.1 (bytes_other b.0.0) b.0.1 t.0 u.0, (t.1, u.1))
-
-  then_again : (at : ℕ) (x : X × Y) (rest : List ℕ) → IsOne x.0 × IsOther x.0 x.1
-      → then_at read_one read_other (record { at = at; rest = (bytes_one x.0 ++ bytes_other x.1) ++ rest }) ≡ Some (x, record { at = at + length (bytes_one x.0 ++ bytes_other x.1); rest = rest })
-  then_again at x rest h =
-      let grouped : (bytes_one x.0 ++ bytes_other x.1) ++ rest ≡ bytes_one x.0 ++ (bytes_other x.1 ++ rest) = append_assoc (bytes_one x.0) (bytes_other x.1) rest in
-      let first = one.again at x.0 (bytes_other x.1 ++ rest) h.0 in
-      let second = (other x.0).again (at + length (bytes_one x.0)) x.1 rest h.1 in
-      let place : (at + length (bytes_one x.0)) + length (bytes_other x.1) ≡ at + length (bytes_one x.0 ++ bytes_other x.1) = omega (arith, length-append (bytes_one x.0) (bytes_other x.1)) in
-      rw (grouped, first, second, place) refl
-
-  pub IsField-then : IsField (then_at read_one read_other) (λ x. bytes_one x.0 ++ bytes_other x.1) (λ x. IsOne x.0 × IsOther x.0 x.1)
-  IsField-then = record { takes = then_take; again = then_again }
+pub IsField-then : {X Y : Type 0} {read_one : Place → Option (X × Place)} {bytes_one : X → List ℕ} {IsOne : X → Type 0} {read_other : X → Place → Option (Y × Place)} {bytes_other : Y → List ℕ} {IsOther : X → Y → Type 0} → IsField read_one bytes_one IsOne → ((x : X) → IsField (read_other x) bytes_other (IsOther x))
+    → IsField (then_at read_one read_other) (λ x. bytes_one x.0 ++ bytes_other x.1) (λ x. IsOne x.0 × IsOther x.0 x.1)
+IsField-then one other = (followed (spelling one) (λ x. spelling (other x))).field
 
 pub IsField-both : {X Y : Type 0} {read_one : Place → Option (X × Place)} {bytes_one : X → List ℕ} {IsOne : X → Type 0} {read_other : Place → Option (Y × Place)} {bytes_other : Y → List ℕ} {IsOther : Y → Type 0} → IsField read_one bytes_one IsOne → IsField read_other bytes_other IsOther
     → IsField (both_at read_one read_other) (λ x. bytes_one x.0 ++ bytes_other x.1) (λ x. IsOne x.0 × IsOther x.1)

@@ -4,6 +4,7 @@ pub mod Repeats
 pub mod HeaderLaws
 pub mod FileLaws
 pub mod AnswerLaws
+pub mod ServerLaws
 pub mod SourceLaws
 pub mod OffsetLaws
 pub mod ComputedOffset

@@ -6,4 +6,5 @@ pub mod Configuration
 pub mod Offset
 pub mod Fault
 pub mod Reader
+pub mod Server
 pub mod Inner

@@ -1,6 +1,6 @@
 //! A credential cache.
 
-ghost use Rattle.std.specs.Prelude.{◌≡◌, ◌≢◌, ◌⊎◌, ◌≤◌, ◌<◌, ◌^◌, ◌-◌, ◌+◌, List, [], All, IsTrue, ◌↔◌, IfOk, IfErr, IfSome, OnOk, OnErr, Some, Ok, Err, Result, SomeIff, None, length, map};
+ghost use Rattle.std.specs.Prelude.{◌≡◌, ◌≢◌, ◌⊎◌, ◌≤◌, ◌<◌, ◌^◌, ◌-◌, ◌+◌, List, [], All, IsTrue, ◌↔◌, IfOk, IfErr, IfSome, IfNone, OnOk, OnErr, Some, Ok, Err, Result, SomeIff, None, length, map, drop};
 ghost use Rattle.krb_name.specs.Field.{IsBytes};
 ghost use Rattle.krb_ccache.specs.Spelling.{name_bytes};
 ghost use Rattle.krb_ccache.specs.Value.{Cache, cache_of, HasLengths, Fits, FitsName, FitsCredential};
@@ -10,11 +10,13 @@ ghost use Rattle.krb_ccache.specs.Fault.{offset_of, failed_reads};
 ghost use Rattle.krb_name.specs.File.{file_limit, ReadsFile};
 ghost use Rattle.krb_ccache.specs.Format.{written, Spelled, Spells, IsCache, IsFaultOf, IsAnswerOf};
 ghost use Rattle.krb_ccache.specs.Offset.{IsOffsetOf};
+ghost use Rattle.krb_ccache.specs.Server.{IsFound, IsForOther};
 ghost use Rattle.krb_ccache.specs.Inner.Standing.{bytes_of, Lies, Reaches, IsMissing, StopsBy, Leaves};
 
 use crate::checking::check;
 use crate::configuration::{is_entry, offset_in};
 use crate::credential::{Credential, HeaderField};
+use crate::credential_list::CredentialList;
 use crate::fault::CacheFault;
 use crate::header::{open, read_head};
 use crate::item_fault::ItemFault;
@@ -36,7 +38,7 @@ use std::marker::Model;
 pub struct CCache {
     header: Vec<HeaderField>,
     default_principal: Principal,
-    credentials: Vec<Credential>,
+    credentials: CredentialList,
 }
 
 impl Model for CCache {
@@ -45,13 +47,13 @@ impl Model for CCache {
     ghost view = { λ c. record {
       header = c.header.items;
       default_principal = c.default_principal;
-      credentials = c.credentials.items;
+      credentials = c.credentials;
     } };
 
     ghost invariant = { λ c. Fits (record {
       header = c.header.items;
       default_principal = c.default_principal;
-      credentials = c.credentials.items;
+      credentials = c.credentials;
     }) };
 }
 
@@ -78,14 +80,15 @@ impl CCache {
         Some(CCache {
             header,
             default_principal,
-            credentials,
+            credentials: CredentialList::plain(credentials),
         })
     }
 
     /// Parses the bytes of a file.
     ///
     /// Checks all bytes before it allocates memory. Memory is allocated as parts are read, and
-    /// never because of a count or a length that the bytes don't bear out.
+    /// never because of a count or a length that the bytes don't bear out. After the last
+    /// credential it allocates 4 bytes for each, for `find_server`.
     ///
     /// # Errors
     /// `OutOfMemory` if the bytes are a cache and there is no memory for a part; else the first
@@ -119,6 +122,8 @@ impl CCache {
     }
 
     /// Reads a source to its end, or to one byte past 16,777,216, and parses what it gave.
+    ///
+    /// After the last credential it allocates 4 bytes for each, as `parse` does.
     ///
     /// Condition: fewer than 18,446,744,073,709,551,615 reads of the source have failed so far.
     ///
@@ -160,7 +165,7 @@ impl CCache {
         Ok(CCache {
             header,
             default_principal,
-            credentials,
+            credentials: CredentialList::hashed(alloc, credentials)?,
         })
     }
 
@@ -180,7 +185,7 @@ impl CCache {
         Ok(CCache {
             header,
             default_principal,
-            credentials,
+            credentials: CredentialList::hashed(alloc, credentials)?,
         })
     }
 
@@ -260,6 +265,19 @@ impl CCache {
         ensures { result.now ≡ self.now.credentials }
     {
         self.credentials.as_slice()
+    }
+
+    /// Returns the index of the first credential, from the index `from` on, whose server has the
+    /// name `server`. Returns `None` if there is none. Name types aren't compared.
+    ///
+    /// In a cache that was parsed or read, a name is compared only if its hash is that of `server`.
+    /// In a cache that was made by `from_parts` each is compared.
+    pub fn find_server(&self, server: &Principal, from: usize) -> Option<usize>
+        ensures found { IfSome result (IsFound self.now.credentials server.now from) }
+        ensures within { IfSome result (λ at. at < length self.now.credentials) }
+        ensures none { IfNone result (All (IsForOther server.now) (drop from self.now.credentials)) }
+    {
+        self.credentials.find_server(server, from)
     }
 }
 

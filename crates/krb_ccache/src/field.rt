@@ -6,7 +6,7 @@ ghost use Rattle.krb_ccache.specs.Inner.Row.{Row, name_field, data_field, list_f
 ghost use Rattle.krb_ccache.specs.Inner.Walking.{IsWalk, passed_at, and_then, pass_if, left_at, stopped_reads};
 
 use crate::item_fault::ItemFault;
-use crate::items::{read_components, read_data, read_elements};
+use crate::items::{read_data, read_list};
 use crate::layout::Layout;
 use crate::taker::Taker;
 use crate::typed::TypedList;
@@ -94,7 +94,7 @@ impl Field for Principal {
         let name_type = cursor.read_i32()?;
         let count = cursor.read_u32()?;
         let realm = read_data(alloc, cursor)?;
-        let components = read_components(alloc, cursor, count)?;
+        let components = read_list(alloc, cursor, count)?;
         Ok(Principal {
             realm,
             name_type,
@@ -136,7 +136,7 @@ impl Field for TypedList {
     #[tactic(auto, unfolding(crate::specs::Inner::Reading::list_at))]
     fn read(alloc: Global, _: Layout, cursor: &mut FileCursor<'_>) -> Result<TypedList, ItemFault> {
         let count = cursor.read_u32()?;
-        read_elements(alloc, cursor, count)
+        read_list(alloc, cursor, count)
     }
 
     fn take<T: Taker>(_: Layout, taker: &mut T, left: Left) -> Result<Left, TakeFault> {

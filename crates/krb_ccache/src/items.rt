@@ -1,20 +1,18 @@
 //! Reading the parts of a cache from a cursor.
 
-ghost use Rattle.std.specs.Prelude.{◌≡◌, None, Some, IfOk};
+ghost use Rattle.std.specs.Prelude.{◌≡◌, ℕ, List, [], ◌∷◌, ◌++◌, Option, None, Some, IfOk, OnOk};
 ghost use Rattle.std.specs.Int.{w32};
-ghost use Rattle.krb_name.specs.Cursor.{data_at, times_at};
+ghost use Rattle.krb_name.specs.Cursor.{Place, data_at, times_at};
 ghost use Rattle.krb_name.specs.Field.{IsBytes};
 ghost use Rattle.krb_ccache.specs.Format.{Spells};
 ghost use Rattle.krb_ccache.specs.Inner.Standing.{bytes_of, LiesOne, IsMissing};
-ghost use Rattle.krb_ccache.specs.Inner.Reading.{typed_at};
 
 use crate::credential::{Credential, Row};
 use crate::field::Field;
 use crate::item_fault::ItemFault;
 use crate::layout::Layout;
-use crate::typed::{TypedBytes, TypedList};
 use krb_name::{Bytes, Components, FileCursor};
-use std::alloc::Global;
+use std::alloc::{AllocError, Global};
 
 // Each call reads the part that begins here, copies it and moves past it. On an error the position
 // is unspecified.
@@ -27,50 +25,60 @@ pub(crate) fn read_data(alloc: Global, cursor: &mut FileCursor<'_>) -> Result<By
     Ok(Bytes::from_slice(alloc, bytes)?)
 }
 
-#[tactic(auto, using(krb_name::proofs::Repeated::times_goes_on, krb_name::proofs::Repeated::times_stops, krb_name::proofs::Repeated::times_done))]
-pub(crate) fn read_components(
-    alloc: Global,
-    cursor: &mut FileCursor<'_>,
-    count: u32,
-) -> Result<Components, ItemFault>
-    ensures read { IfOk result (λ components.
-        times_at (data_at w32) count cursor.old ≡ Some (components, cursor.new)) }
-    ensures missing { result ≡ Err ItemFault.Missing
-        → times_at (data_at w32) count cursor.old ≡ None }
-{
-    let mut components = Components::with_room(alloc, count as usize)?;
-    for _ in 0..count {
-        components.push(read_data(alloc, cursor)?)?;
-    }
-    Ok(components)
-}
+/// A list whose elements stand one after another.
+pub(crate) trait Listed: Sized {
+    /// What an element means.
+    ghost Element: { Type 0 };
 
-#[tactic(auto, unfolding(crate::specs::Inner::Reading::typed_at))]
-fn read_typed(alloc: Global, cursor: &mut FileCursor<'_>) -> Result<TypedBytes, ItemFault>
-    ensures read { IfOk result (λ element. typed_at cursor.old ≡ Some (element, cursor.new)) }
-    ensures missing { result ≡ Err ItemFault.Missing → typed_at cursor.old ≡ None }
-{
-    let kind = cursor.read_u16()?;
-    let bytes = read_data(alloc, cursor)?;
-    Ok(TypedBytes { kind, bytes })
+    /// How an element is read.
+    ghost element: { Place → Option (Element × Place) };
+
+    /// The elements.
+    ghost elements: { Self → List Element };
+
+    /// Makes an empty list with room for `count` elements.
+    fn with_room(alloc: Global, count: usize) -> Result<Self, AllocError>
+        ensures { IfOk result (λ list. elements list ≡ []) };
+
+    /// Reads the element that begins here, and appends a copy of it.
+    fn read_next(&mut self, alloc: Global, cursor: &mut FileCursor<'_>) -> Result<(), ItemFault>
+        ensures read { OnOk result ((one : Element) × (element cursor.old ≡ Some (one, cursor.new))
+            × (elements self.new ≡ elements self.old ++ one ∷ [])) }
+        ensures missing { result ≡ Err ItemFault.Missing → element cursor.old ≡ None };
 }
 
 #[tactic(auto, using(krb_name::proofs::Repeated::times_goes_on, krb_name::proofs::Repeated::times_stops, krb_name::proofs::Repeated::times_done))]
-pub(crate) fn read_elements(
+pub(crate) fn read_list<L: Listed + Drop>(
     alloc: Global,
     cursor: &mut FileCursor<'_>,
     count: u32,
-) -> Result<TypedList, ItemFault>
+) -> Result<L, ItemFault>
     ensures read { IfOk result (λ list.
-        times_at typed_at count cursor.old ≡ Some (list, cursor.new)) }
+        times_at L.element count cursor.old ≡ Some (L.elements list, cursor.new)) }
     ensures missing { result ≡ Err ItemFault.Missing
-        → times_at typed_at count cursor.old ≡ None }
+        → times_at L.element count cursor.old ≡ None }
 {
-    let mut list = TypedList::with_room(alloc, count as usize)?;
+    let mut list = L::with_room(alloc, count as usize)?;
     for _ in 0..count {
-        list.push(read_typed(alloc, cursor)?)?;
+        list.read_next(alloc, cursor)?;
     }
     Ok(list)
+}
+
+impl Listed for Components {
+    ghost Element = { List ℕ };
+
+    ghost element = { data_at w32 };
+
+    ghost elements = { λ components. components };
+
+    fn with_room(alloc: Global, count: usize) -> Result<Components, AllocError> {
+        Components::with_room(alloc, count)
+    }
+
+    fn read_next(&mut self, alloc: Global, cursor: &mut FileCursor<'_>) -> Result<(), ItemFault> {
+        Ok(self.push(read_data(alloc, cursor)?)?)
+    }
 }
 
 pub(crate) fn read_credential(

@@ -3,7 +3,9 @@
 ghost use Rattle.std.specs.Prelude.{◌≡◌, ◌==◌, List, [], ◌∷◌, ◌++◌, length, IfOk, OnErr, OnOk};
 ghost use Rattle.krb_ccache.specs.declared.typed.TypedBytes.{TypedBytes as TypedBytesValue};
 
-use krb_name::Bytes;
+use crate::item_fault::ItemFault;
+use crate::items::{Listed, read_data};
+use krb_name::{Bytes, FileCursor};
 use std::alloc::{AllocError, Global};
 use std::marker::Model;
 
@@ -39,15 +41,6 @@ impl TypedList {
         }
     }
 
-    /// Makes an empty list with room for `count` elements.
-    pub(crate) fn with_room(alloc: Global, count: usize) -> Result<Self, AllocError>
-        ensures { IfOk result (λ list. list ≡ []) }
-    {
-        Ok(TypedList {
-            items: Vec::with_capacity(alloc, count)?,
-        })
-    }
-
     /// Returns the elements, in their order.
     pub fn as_slice(&self) -> &[TypedBytes]
         ensures { result.now ≡ self.now }
@@ -75,5 +68,28 @@ impl TypedList {
         ensures err { OnErr result (self.new ≡ self.old) }
     {
         Ok(self.items.push(element)?)
+    }
+}
+
+impl Listed for TypedList {
+    ghost use Rattle.krb_ccache.specs.Inner.Reading.{typed_at};
+
+    ghost Element = { TypedBytesValue };
+
+    ghost element = { typed_at };
+
+    ghost elements = { λ list. list };
+
+    fn with_room(alloc: Global, count: usize) -> Result<TypedList, AllocError> {
+        Ok(TypedList {
+            items: Vec::with_capacity(alloc, count)?,
+        })
+    }
+
+    #[tactic(auto, unfolding(crate::specs::Inner::Reading::typed_at))]
+    fn read_next(&mut self, alloc: Global, cursor: &mut FileCursor<'_>) -> Result<(), ItemFault> {
+        let kind = cursor.read_u16()?;
+        let bytes = read_data(alloc, cursor)?;
+        Ok(self.push(TypedBytes { kind, bytes })?)
     }
 }

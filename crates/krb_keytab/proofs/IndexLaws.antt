@@ -1,18 +1,17 @@
 -- An index of entries by name is made from the last entry to the first, and passes over entries of
 -- other names alone.
-use Rattle.std.proofs.Common.{◌≡◌, ℕ, zero, suc, ◌+◌, ◌-◌, ◌<◌, ◌≤◌, ◌%◌, ◌^◌, ℤ, pos, subst, List, [], length, take, get_or, Option, sym, ap, ◌∙◌, inl, inr, arith}
+use Rattle.std.proofs.Common.{◌≡◌, ℕ, zero, suc, ◌+◌, ◌-◌, ◌<◌, ◌≤◌, ◌%◌, ℤ, pos, subst, List, [], length, take, get_or, Option, sym, ap, ◌∙◌, inl, inr, arith}
 use Rattle.std.specs.Prelude.{◌≢◌, slice_index, slice_set}
-use Rattle.std.specs.List.{fold}
-use Rattle.std.specs.Hash.FoldHasher.{initial, write, finish}
 use Rattle.std.proofs.lemmas.Bool.{cases_eq, cases_lt}
 use Rattle.std.proofs.Math.Nat.{mod-lt}
 use Rattle.std.proofs.lemmas.List.Elements.{All-nil}
 use Rattle.std.proofs.lemmas.List.{length-map, get_or-map, get_or-set_same, get_or-set_other, take_more, take_all, length-set}
 use Rattle.krb_name.specs.declared.principal.Principal.{Principal}
-use Rattle.krb_name.specs.Name.{SameName}
+use Rattle.krb_name.specs.Name.{SameName, name_hash}
+use Rattle.krb_name.proofs.Names.{same_hash}
 use Rattle.krb_keytab.specs.Entry.{KeytabEntry}
 use Rattle.krb_keytab.specs.Pick.{IsChoice, Choice, choice_of, IsPicked}
-use Rattle.krb_keytab.specs.Inner.Index.{hash_of, bucket_of, buckets_of, LeadsTo, IsLinkedFrom}
+use Rattle.krb_keytab.specs.Inner.Index.{bucket_of, buckets_of, LeadsTo, IsLinkedFrom}
 use Rattle.krb_keytab.specs.declared.pick.Picked.{Picked}
 use Rattle.krb_keytab.specs.declared.pick.Picked.TheVariants.{NoName}
 use Rattle.krb_keytab.proofs.PickLaws.{other_name}
@@ -55,12 +54,6 @@ one_linked buckets firsts nexts count place bucket within small here h = record 
 }
 
 -- ---- names and buckets
-
-pub same_hash : (one other : Principal) → SameName one other → hash_of one ≡ hash_of other
-unfolding hash_of
-same_hash one other same =
-    ap (λ (realm : List ℕ). finish (fold write (write initial realm) one.components) % 2 ^ 32) same.realm
-    ∙ ap (λ (components : List (List ℕ)). finish (fold write (write initial other.realm) components) % 2 ^ 32) same.components
 
 pub bucket_at : (count : ℕ) (entries : List KeytabEntry) (k : ℕ) (e : KeytabEntry) → k < length entries → slice_index (buckets_of count entries) k ≡ bucket_of count (get_or entries k e).principal
 bucket_at count entries k e lt = get_or-map (λ entry. bucket_of count entry.principal) entries k e 0 lt
@@ -113,7 +106,7 @@ leads_on entries count name from to h = record {
 pub first_leads : (entries : List KeytabEntry) (count : ℕ) (name : Principal) (firsts nexts : List ℕ) (to : ℕ) → 0 < count → IsLinkedFrom (buckets_of count entries) count 0 firsts nexts → to ≡ slice_index firsts (bucket_of count name)
     → LeadsOn entries count name 0 to
 first_leads entries count name firsts nexts to some linked is =
-    leads_on entries count name 0 to (subst (LeadsTo (buckets_of count entries) (bucket_of count name) 0) (sym is) (linked.first (bucket_of count name) (mod-lt (hash_of name) some)))
+    leads_on entries count name 0 to (subst (LeadsTo (buckets_of count entries) (bucket_of count name) 0) (sym is) (linked.first (bucket_of count name) (mod-lt (name_hash name) some)))
 
 pub next_leads : (entries : List KeytabEntry) (count : ℕ) (name : Principal) (firsts nexts : List ℕ) (at to : ℕ) → at < length entries → slice_index (buckets_of count entries) at ≡ bucket_of count name → IsLinkedFrom (buckets_of count entries) count 0 firsts nexts → to ≡ slice_index nexts at
     → LeadsOn entries count name (at + 1) to

@@ -6,7 +6,8 @@ use Rattle.std.proofs.lemmas.List.{length-map, get_or_default}
 use Rattle.krb_keytab.specs.Entry.{KeytabEntry}
 use Rattle.krb_keytab.specs.SameKey.{IsSameKey}
 use Rattle.krb_keytab.specs.Inner.Index.{bucket_of, buckets_of, LeadsTo}
-use Rattle.krb_keytab.proofs.IndexLaws.{bucket_at, same_hash}
+use Rattle.krb_name.proofs.Names.{same_hash}
+use Rattle.krb_keytab.proofs.IndexLaws.{bucket_at}
 
 -- the first entries have other keys
 abbrev pub OtherKeys : List KeytabEntry → KeytabEntry → ℕ → Type 0

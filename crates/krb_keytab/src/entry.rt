@@ -1,11 +1,10 @@
 //! An entry of a keytab.
 
 ghost use Rattle.std.specs.Prelude.{◌≡◌, ◌↔◌, ◌<◌, ◌≤◌, ◌*◌, ◌^◌, length, All, IsTrue, SomeIff, Some};
+ghost use Rattle.krb_name.specs.Name.{name_hash};
 ghost use Rattle.krb_keytab.specs.Entry.{KeytabEntry, LengthsFit, FitsEntry};
-ghost use Rattle.krb_keytab.specs.Inner.Index.{hash_of};
 ghost use Rattle.krb_keytab.specs.Written.{record_length};
 
-use crate::hash::hash_of;
 use crate::part::Part;
 use crate::step::SIZE_LENGTH;
 use krb_name::{Bytes, Principal};
@@ -39,7 +38,7 @@ impl Model for Entry {
       key = e.key.items;
     } };
 
-    ghost invariant = { λ e. LengthsFit e.principal e.key.items × (e.hash ≡ hash_of e.principal) };
+    ghost invariant = { λ e. LengthsFit e.principal e.key.items × (e.hash ≡ name_hash e.principal) };
 }
 
 // The greatest count, and the greatest length in bytes, of a field of 16 bits.
@@ -90,7 +89,7 @@ impl Entry {
         } }
     {
         Entry {
-            hash: hash_of(&principal),
+            hash: principal.name_hash(),
             principal,
             timestamp,
             kvno,
@@ -136,7 +135,7 @@ impl Entry {
 
     // The hash of the principal's name.
     pub(crate) fn hash(&self) -> u32
-        ensures { result ≡ hash_of self.now.principal }
+        ensures { result ≡ name_hash self.now.principal }
     {
         self.hash
     }
@@ -159,7 +158,8 @@ impl Entry {
 }
 
 impl fmt::Debug for Entry {
-    ghost use Rattle.krb_keytab.specs.Entry.{shown};
+    ghost use Rattle.krb_name.specs.Name.{name_hash};
+ghost use Rattle.krb_keytab.specs.Entry.{shown};
 
     ghost debug_output = { λ entry. Some (shown entry) };
 

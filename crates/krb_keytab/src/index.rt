@@ -4,7 +4,6 @@ ghost use Rattle.std.specs.Prelude.{◌≡◌, ◌<◌, ◌≤◌, ◌%◌, IfOk
 ghost use Rattle.krb_keytab.specs.Inner.Index.{bucket_of, buckets_of, IsLinkedFrom, IsIndexOf};
 
 use crate::entry::Entry;
-use crate::hash::hash_of;
 use krb_name::Principal;
 use std::alloc::{AllocError, Global};
 
@@ -38,7 +37,7 @@ impl NameIndex {
         ensures { result ≡ slice_index self.now.firsts.items
             (bucket_of (length self.now.firsts.items) name.now) }
     {
-        self.firsts[bucket_of(hash_of(name), self.firsts.len())]
+        self.firsts[bucket_of(name.name_hash(), self.firsts.len())]
     }
 
     /// Returns the next place after `at` at which there may be an entry of the same name.

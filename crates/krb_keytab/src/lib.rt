@@ -23,7 +23,6 @@ mod feed;
 mod field;
 mod finding;
 mod found;
-mod hash;
 mod index;
 mod keytab;
 pub mod laws;

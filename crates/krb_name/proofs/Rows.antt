@@ -1,4 +1,4 @@
--- Fields in a row, of which the first may say how the others are read.
+-- Fields in a row. The first may say how the others are read.
 use Rattle.std.proofs.Common.{◌≡◌, ℕ, ◌+◌, List, ◌++◌, length, Option, Some, refl, subst, append_assoc, arith}
 use Rattle.std.proofs.lemmas.List.{length-append}
 use Rattle.krb_name.specs.Cursor.{Place, ◌>>=◌}

@@ -4,7 +4,7 @@
 ghost use Rattle.std.specs.Prelude.{◌≡◌, ◌<◌, ◌^◌, ℕ, List, [], ◌∷◌, Result, length, FitsSigned};
 ghost use Rattle.std.specs.Int.{w8, w16, w32};
 ghost use Rattle.std.specs.List.{flat_map};
-ghost use Rattle.krb_name.specs.Name.{SameName};
+ghost use Rattle.krb_name.specs.Name.{SameName, name_hash};
 ghost use Rattle.krb_name.specs.Text.{text_of};
 ghost use Rattle.krb_name.specs.Reading.{AreComponents, IsReadAs, SameAnswer};
 ghost use Rattle.krb_name.specs.Cursor.{times_at, bytes_at, number_at, signed_at, data_at, number_bytes, signed_bytes, data_bytes};
@@ -64,6 +64,11 @@ pub fn a_text_has_one_name()
     ensures empty { (principal : Principal)
         → text_of (record principal { components = [] })
         ≡ text_of (record principal { components = [] ∷ [] }) }
+{}
+
+/// States that the same names have the same hash.
+pub fn the_same_names_have_one_hash()
+    ensures { (one other : Principal) → SameName one other → name_hash one ≡ name_hash other }
 {}
 
 /// States that `FILE_LIMIT` is the limit that the definitions of files use.

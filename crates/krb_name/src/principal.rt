@@ -8,6 +8,7 @@ use crate::text::{write_components, write_escaped};
 use crate::text_cursor::TextCursor;
 use crate::text_fault::TextFault;
 use std::alloc::{AllocError, Global};
+use std::hash::{FoldHasher, Hasher};
 
 /// A principal: a realm, and a name of a type and some components (RFC 4120, sections 5.2.2 and 6).
 ///
@@ -24,7 +25,7 @@ pub struct Principal {
 }
 
 impl Principal {
-    ghost use Rattle.krb_name.specs.Name.{SameName};
+    ghost use Rattle.krb_name.specs.Name.{SameName, name_hash};
     ghost use Rattle.krb_name.specs.Text.{text_of};
 
     /// Returns whether `self` and `other` name the same principal: the realms and the components
@@ -33,6 +34,22 @@ impl Principal {
         ensures { IsTrue result ↔ SameName self.now other.now }
     {
         self.realm == other.realm && self.components == other.components
+    }
+
+    /// Returns a hash of the realm and the components, for looking names up.
+    ///
+    /// The same names have the same hash. The name type isn't hashed. The value may differ between
+    /// versions of this library.
+    #[tactic(auto, unfolding(crate::specs::Name::name_hash))]
+    pub fn name_hash(&self) -> u32
+        ensures { result ≡ name_hash self.now }
+    {
+        let mut hasher = FoldHasher::default();
+        hasher.write(self.realm.as_slice());
+        for component in self.components.as_slice() {
+            hasher.write(component.as_slice());
+        }
+        (hasher.finish() % (1 << 32)) as u32
     }
 
     /// Writes the name as text: the components with a `/` between each two, then `@` and the realm.

@@ -1,18 +1,13 @@
 -- An index of entries by name: each name falls into a bucket by its hash, and the entries of a bucket are
 -- linked by their places, from first to last. Names that are the same have the same hash.
-use Rattle.std.specs.Prelude.{◌≡◌, ◌≢◌, ℕ, ◌+◌, ◌%◌, ◌<◌, ◌≤◌, List, length, map, slice_index, ◌^◌}
+use Rattle.std.specs.Prelude.{◌≡◌, ◌≢◌, ℕ, ◌+◌, ◌%◌, ◌<◌, ◌≤◌, List, length, map, slice_index}
+use Rattle.krb_name.specs.Name.{name_hash}
 use Rattle.krb_name.specs.declared.principal.Principal.{Principal}
 use Rattle.krb_keytab.specs.Entry.{KeytabEntry}
 use Rattle.krb_keytab.specs.declared.index.NameIndex.{NameIndex}
-use Rattle.std.specs.List.{fold}
-use Rattle.std.specs.Hash.FoldHasher.{initial, write, finish}
-
--- the low 32 bits of that of the realm and the components; the name type isn't hashed
-unfoldable pub hash_of : Principal → ℕ
-hash_of name = finish (fold write (write initial name.realm) name.components) % 2 ^ 32
 
 abbrev pub bucket_of : ℕ → Principal → ℕ
-bucket_of count name = hash_of name % count
+bucket_of count name = name_hash name % count
 
 -- the bucket of each entry, among so many
 abbrev pub buckets_of : ℕ → List KeytabEntry → List ℕ

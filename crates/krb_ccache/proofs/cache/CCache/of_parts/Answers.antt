@@ -23,5 +23,5 @@ returns-clause-found c =
     let opened = c.in_ok-layout in
     let start = header_read opened.layout c.args.bytes.now opened.cursor c.in-Ok.header.items c.read_head.new.cursor opened.ensures.opened c.in-Ok.ensures.read in
     let so_far = c.in_ok-credentials.ensures.read in
-    all_read opened.layout c.args.bytes.now c.in-Ok.header.items c.read_head.new.cursor c.in_ok-default_principal.default_principal c.read_default.new.cursor c.in_ok-credentials.credentials.items c.read_credentials.new.cursor start
-    c.in_ok-default_principal.ensures.read (record { spelled = so_far.0; reaches = so_far.1; are = so_far.2 }) c.in_ok-credentials.ensures.end
+    rw c.in_ok-hashed.ensures (all_read opened.layout c.args.bytes.now c.in-Ok.header.items c.read_head.new.cursor c.in_ok-default_principal.default_principal c.read_default.new.cursor c.in_ok-credentials.credentials.items c.read_credentials.new.cursor start
+    c.in_ok-default_principal.ensures.read (record { spelled = so_far.0; reaches = so_far.1; are = so_far.2 }) c.in_ok-credentials.ensures.end)

@@ -15,7 +15,7 @@ returns-clause-written c =
     let header = wrote_same (header_bytes cache.header) (ap header_bytes header_is) (wrote c.write_u16.new.out.items (header_bytes c.as_slice.result.now) c.write_header.new.out.items c.in_ok-write_header.ensures) in
     let name_is = ap (λ (k : Cache). k.default_principal) c.self.view_is in
     let name = wrote_same (name_bytes cache.default_principal) (ap name_bytes name_is) (wrote c.write_header.new.out.items (name_bytes c.self.inside.default_principal) c.write.new.out.items c.in_ok-write.ensures) in
-    let credentials_is = c.as_slice-2.ensures.value ∙ ap (λ (k : Cache). k.credentials) c.self.view_is in
+    let credentials_is = c.as_slice-2.ensures ∙ ap (λ (k : Cache). k.credentials) c.self.view_is in
     let credentials =
     wrote_same (flat_map credential_bytes cache.credentials) (ap (flat_map credential_bytes) credentials_is) (wrote c.write.new.out.items (flat_map credential_bytes c.as_slice-2.result.now) c.write_each.new.out.items c.in_ok-write_each.ensures) in
     (then_wrote (then_wrote first header) (then_wrote name credentials)).is
