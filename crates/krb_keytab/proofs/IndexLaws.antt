@@ -4,7 +4,6 @@ use Rattle.std.proofs.Common.{◌≡◌, ℕ, zero, suc, ◌+◌, ◌-◌, ◌<�
 use Rattle.std.specs.Prelude.{◌≢◌, slice_index, slice_set}
 use Rattle.std.proofs.lemmas.Bool.{cases_eq, cases_lt}
 use Rattle.std.proofs.Math.Nat.{mod-lt}
-use Rattle.std.proofs.lemmas.List.Elements.{All-nil}
 use Rattle.std.proofs.lemmas.List.{length-map, get_or-map, get_or-set_same, get_or-set_other, take_more, take_all, length-set}
 use Rattle.krb_name.specs.declared.principal.Principal.{Principal}
 use Rattle.krb_name.specs.Name.{SameName, name_hash}
@@ -13,7 +12,6 @@ use Rattle.krb_keytab.specs.Entry.{KeytabEntry}
 use Rattle.krb_keytab.specs.Pick.{IsChoice, Choice, choice_of, IsPicked}
 use Rattle.krb_keytab.specs.Inner.Index.{bucket_of, buckets_of, LeadsTo, IsLinkedFrom}
 use Rattle.krb_keytab.specs.declared.pick.Picked.{Picked}
-use Rattle.krb_keytab.specs.declared.pick.Picked.TheVariants.{NoName}
 use Rattle.krb_keytab.proofs.PickLaws.{other_name}
 
 -- ---- linking
@@ -114,6 +112,3 @@ next_leads entries count name firsts nexts at to within here linked is =
     leads_on entries count name (at + 1) to (subst (LeadsTo (buckets_of count entries) (bucket_of count name) (at + 1)) (sym is)
     (subst (λ b. LeadsTo (buckets_of count entries) b (at + 1) (slice_index nexts at)) here
     (linked.next at (omega arith) (subst (λ n. at < n) (sym (length-map entries (λ (entry : KeytabEntry). bucket_of count entry.principal))) within))))
-
-pub none_seen : (entries : List KeytabEntry) (name : Principal) (etype : ℤ) (kvno : Option ℕ) → IsPicked (take 0 entries) name etype kvno NoName
-none_seen entries name etype kvno = All-nil (λ e. ¬ SameName e.principal name)

@@ -32,9 +32,6 @@ use Rattle.krb_name.specs.declared.cursor.Short.{Short}
 pub cut_behind : (first later : List ℕ) (room : ℕ) → length first ≤ room → take room (first ++ later) ≡ first ++ take (room - length first) later
 cut_behind first later room fits = ap (λ (n : ℕ). take n (first ++ later)) (omega arith) ∙ take-append-add first later (room - length first)
 
-pub cut_length : (first later : List ℕ) (room : ℕ) → length first ≤ room → length (first ++ take (room - length first) later) ≤ room
-cut_length first later room fits = omega (arith, length-append first (take (room - length first) later), length-take (room - length first) later)
-
 -- no record stands behind, whatever came after the first bytes
 pub ran : {T : Type 0} (P : Result T KeytabFault → Type 0) (last answer : Result T KeytabFault) (left : Option (List ℕ)) (at given : ℕ) (first later : List ℕ) (why : Option KeytabFault)
     → RanOut last answer left given → at + length first ≤ file_limit → given ≡ at + length (first ++ later) → ((more : List ℕ) → at + length (first ++ more) ≤ file_limit → LacksRecord at why (first ++ more))
@@ -47,7 +44,7 @@ ran P last answer left at given first later why r fits g lacks ok long failed =
         | inl past ↦ subst P (sym past.0) (long (record {
           long = omega (arith, g, past.1);
           last = why;
-          lacks = subst (LacksRecord at why) (sym (cut_behind first later (file_limit - at) room)) (lacks (take (file_limit - at - length first) later) (omega (arith, fits, cut_length first later (file_limit - at) room)));
+          lacks = subst (LacksRecord at why) (sym (cut_behind first later (file_limit - at) room)) (lacks (take (file_limit - at - length first) later) (omega (arith, fits, room, length-append first (take (file_limit - at - length first) later), length-take (file_limit - at - length first) later)));
         }))
         | inr read ↦ subst P (sym read) failed
       ]

@@ -80,9 +80,6 @@ vec_puts items slice part text from to len same size order within is count =
     let whole : take len (made ++ drop (length made) items) ≡ made = ap (λ (t : List ℕ). take len (made ++ t)) none ∙ ap (take len) (append-nil made) ∙ take_all len made (omega (arith, long, size)) in
     subst (Puts items from text) (sym whole) (subst (λ (t : List ℕ). Puts t from text made) same puts)
 
-pub part_length : (slice : List ℕ) (from to : ℕ) → to ≤ length slice → length (take (to - from) (drop from slice)) ≡ to - from
-part_length slice from to within = length-take-le (to - from) (drop from slice) (omega (arith, length-drop from slice))
-
 -- how long a text in two parts is
 pub sizes : (x y : List ℕ) → length (x ++ y) ≡ length x + length y
 sizes x y = length-append x y

@@ -68,13 +68,10 @@ module _ (bytes : List ℕ) (entries : List KeytabEntry) (reached : IsReached by
     stops = subst (λ (t : List ℕ). StopsSo t entries l.last) (sym (cut_behind bytes piece file_limit within)) (stops_at (take (file_limit - length bytes) piece) l.last l.lacks);
   }
 
-  first : (piece : List ℕ) → AreFirst (bytes ++ piece) entries
-  first piece = inr (length bytes, piece, reach_piece piece)
-
   pub failed_stands : (left : Option (List ℕ)) (held : ℕ) (piece : List ℕ) (fault : KeytabFault) → length bytes ≤ file_limit → MeetsLast left (length bytes) piece (Some fault) → StandsTo left held (stage_after (Err fault)) (bytes ++ piece) entries
   failed_stands left held piece TooLong within m = too_long piece within m
-  failed_stands left held piece Read within m = first piece
-  failed_stands left held piece OutOfMemory within m = first piece
+  failed_stands left held piece Read within m = inr (length bytes, piece, reach_piece piece)
+  failed_stands left held piece OutOfMemory within m = inr (length bytes, piece, reach_piece piece)
   failed_stands left held piece fault within m = concludes left piece (Some fault) m
 
   ends_with : (held : ℕ) (piece : List ℕ) (e : KeytabEntry) (one : KeytabRecord) → FitsRecord one → piece ≡ record_bytes one → e ∷ [] ≡ entries_of one → length piece ≤ 4 + held → EndsWithEntry held (bytes ++ piece) (entries ++ e ∷ [])

@@ -45,18 +45,15 @@ begins whole bytes (Some rest) all entries at behind c k r =
     let m = first_records r.records k.reached.records (behind ++ rest) k.behind r.fit k.reached.fit (sym parts ∙ k.reached.bytes_are) (no_record 0 None k.behind k.end) in
     (flat_map entries_of m.0, k.reached.entries_are ∙ ap (flat_map entries_of) m.1 ∙ flat_map-append entries_of r.records m.0 ∙ ap (λ (t : List KeytabEntry). t ++ flat_map entries_of m.0) (sym r.entries_are))
 
-none_begins : (all entries : List KeytabEntry) → entries ≡ [] → Begins all entries
-none_begins all entries e = (all, sym (ap (λ (t : List KeytabEntry). t ++ all) e))
-
 begins_first : (whole bytes : List ℕ) (left : Option (List ℕ)) (all entries : List KeytabEntry) → Consumes (Some whole) left bytes → IsKeytab whole all → AreFirst bytes entries → Begins all entries
-begins_first whole bytes left all entries c k (inl none) = none_begins all entries none
+begins_first whole bytes left all entries c k (inl none) = (all, sym (ap (λ (t : List KeytabEntry). t ++ all) none))
 begins_first whole bytes left all entries c k (inr reached) = begins whole bytes left all entries reached.0 reached.1 c k reached.2
 
 pub first_told : (whole bytes : List ℕ) (left : Option (List ℕ)) (held : ℕ) (stage : Stage) (all entries : List KeytabEntry) → Consumes (Some whole) left bytes → StandsTo left held stage bytes entries → IsKeytab whole all → Begins all entries
-first_told whole bytes left held Start all entries c s k = none_begins all entries s.1
+first_told whole bytes left held Start all entries c s k = (all, sym (ap (λ (t : List KeytabEntry). t ++ all) s.1))
 first_told whole bytes left held Records all entries c s k = begins whole bytes left all entries (length bytes) [] c k (ends_reached left held (length bytes) bytes entries refl s).reached
 first_told whole bytes left held End all entries c s k = begins whole bytes left all entries s.stops.at s.stops.behind c k s.stops.reached
-first_told whole bytes left held (Failed Version) all entries c s k = none_begins all entries s.stops.0
+first_told whole bytes left held (Failed Version) all entries c s k = (all, sym (ap (λ (t : List KeytabEntry). t ++ all) s.stops.0))
 first_told whole bytes left held (Failed TooLong) all entries c s k = let l = k.limit in let long = fault_told whole bytes left held entries TooLong (λ e. cc) (λ e. cc) c s in absurd (omega arith)
 first_told whole bytes left held (Failed Read) all entries c s k = begins_first whole bytes left all entries c k s
 first_told whole bytes left held (Failed OutOfMemory) all entries c s k = begins_first whole bytes left all entries c k s

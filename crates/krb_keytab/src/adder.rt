@@ -142,6 +142,7 @@ impl Gather for Vec<Hole> {
         })?)
     }
 
+    #[tactic(auto, using(crate::proofs::RoomLaws::entry_more))]
     fn entry(&mut self, _place: Extent) -> Result<(), AllocError> {
         Ok(())
     }

@@ -158,8 +158,7 @@ impl Entry {
 }
 
 impl fmt::Debug for Entry {
-    ghost use Rattle.krb_name.specs.Name.{name_hash};
-ghost use Rattle.krb_keytab.specs.Entry.{shown};
+    ghost use Rattle.krb_keytab.specs.Entry.{shown};
 
     ghost debug_output = { λ entry. Some (shown entry) };
 

@@ -1,10 +1,10 @@
 //! Why bytes aren't a keytab, or no keytab can be returned.
 
 ghost use Rattle.std.specs.Prelude.{◌≡◌};
-ghost use Rattle.krb_keytab.specs.declared.fault.KeytabFault.TheVariants.{OutOfMemory, Read as ReadFailed};
+ghost use Rattle.krb_keytab.specs.declared.fault.KeytabFault.TheVariants.{OutOfMemory};
 
-use krb_name::{ReadFault, SourceFailed};
-use std::alloc::{AllocError, AllocFailed};
+use krb_name::ReadFault;
+use std::alloc::AllocError;
 use thiserror::Error;
 
 /// Why bytes aren't a keytab, or no keytab can be returned.
@@ -44,32 +44,10 @@ pub enum KeytabFault {
     OutOfMemory,
 }
 
-impl KeytabFault {
-    ghost use Rattle.krb_keytab.specs.Fault.{offset_of};
-
-    /// Returns the offset of the faulty record, in bytes: that of `Truncated` and `BadEntry`.
-    pub fn at(&self) -> Option<usize>
-        ensures { result ≡ offset_of self.now }
-    {
-        match *self {
-            KeytabFault::Truncated { at } | KeytabFault::BadEntry { at } => Some(at),
-            _ => None,
-        }
-    }
-}
-
 impl From<AllocError> for KeytabFault {
     ghost from_gives = { λ _ fault. fault ≡ OutOfMemory };
 
     fn from(_: AllocError) -> KeytabFault {
-        KeytabFault::OutOfMemory
-    }
-}
-
-impl<T: Drop> From<AllocFailed<T>> for KeytabFault {
-    ghost from_gives = { λ _ fault. fault ≡ OutOfMemory };
-
-    fn from(_: AllocFailed<T>) -> KeytabFault {
         KeytabFault::OutOfMemory
     }
 }
@@ -87,10 +65,16 @@ impl From<ReadFault> for KeytabFault {
     }
 }
 
-impl From<SourceFailed> for KeytabFault {
-    ghost from_gives = { λ _ fault. fault ≡ ReadFailed };
+impl KeytabFault {
+    ghost use Rattle.krb_keytab.specs.Fault.{offset_of};
 
-    fn from(_: SourceFailed) -> KeytabFault {
-        KeytabFault::Read
+    /// Returns the offset of the faulty record, in bytes: that of `Truncated` and `BadEntry`.
+    pub fn at(&self) -> Option<usize>
+        ensures { result ≡ offset_of self.now }
+    {
+        match *self {
+            KeytabFault::Truncated { at } | KeytabFault::BadEntry { at } => Some(at),
+            _ => None,
+        }
     }
 }

@@ -31,6 +31,14 @@ impl<'a, A: Field<'a> + Drop, B: Field<'a> + Drop> Field<'a> for (A, B) {
     }
 }
 
+impl<'a> Field<'a> for u8 {
+    ghost way = { λ _. spelling IsField-u8 };
+
+    fn read(cursor: &mut FileCursor<'a>, _: u16) -> Result<u8, Short> {
+        cursor.read_u8()
+    }
+}
+
 /// A count, and a row of fields of which one has so many parts.
 #[derive(Drop)]
 pub(crate) struct Counted<R> {
@@ -92,14 +100,6 @@ impl<'a> Field<'a> for u32 {
 
     fn read(cursor: &mut FileCursor<'a>, _: u16) -> Result<u32, Short> {
         cursor.read_u32()
-    }
-}
-
-impl<'a> Field<'a> for u8 {
-    ghost way = { λ _. spelling IsField-u8 };
-
-    fn read(cursor: &mut FileCursor<'a>, _: u16) -> Result<u8, Short> {
-        cursor.read_u8()
     }
 }
 

@@ -107,8 +107,7 @@ impl Keytab {
         requires { S.failure_count source.old < 2 ^ 64 - 1 }
         ensures reads { ReadsFile IsAnswerOf KeytabFault.OutOfMemory KeytabFault.Read
             (S.remaining source.old) (S.remaining source.new) result }
-        ensures failed { S.failure_count source.new
-            ≡ S.failure_count source.old + failed_reads result }
+        ensures failed { S.failure_count source.new ≡ S.failure_count source.old + failed_reads result }
     {
         let mut window = Window::new(alloc, source);
         let answer = Keytab::read_from(alloc, &mut window);

@@ -1,12 +1,12 @@
 //! Parts of a record: how many bytes they take, and how they are written over existing bytes.
 
 ghost use Rattle.std.specs.Prelude.{◌≡◌, ◌+◌, ◌<◌, ◌≤◌, ◌^◌, ◌++◌, ℕ, ⊤, List, All, length};
-ghost use Rattle.std.specs.Int.{w8, w16, w32};
+ghost use Rattle.std.specs.Int.{w16, w32};
 ghost use Rattle.std.specs.List.{flat_map};
-ghost use Rattle.krb_name.specs.Cursor.{number_bytes, signed_bytes, data_bytes};
+ghost use Rattle.krb_name.specs.Cursor.{number_bytes, data_bytes};
 ghost use Rattle.krb_keytab.specs.Inner.Putting.{PutsTo};
 
-use crate::field::{Counted, Data};
+use crate::field::Data;
 use byteorder::{BigEndian, ByteOrder};
 use krb_name::Bytes;
 
@@ -46,21 +46,6 @@ impl<A: Part, B: Part> Part for (A, B) {
     }
 }
 
-impl<R: Part> Part for Counted<R> {
-    ghost spelled = { λ row. number_bytes w16 row.0 ++ R.spelled row.1 };
-
-    ghost Fits = { λ row. R.Fits row.1 };
-
-    fn size(&self) -> usize {
-        2 + self.others.size()
-    }
-
-    fn put(&self, out: &mut [u8], at: usize) -> usize {
-        let next = put_u16(out, at, self.count);
-        self.others.put(out, next)
-    }
-}
-
 impl Part for Data<'_> {
     ghost spelled = { data_bytes w16 };
 
@@ -71,7 +56,7 @@ impl Part for Data<'_> {
     }
 
     fn put(&self, out: &mut [u8], at: usize) -> usize {
-        let next = put_u16(out, at, self.bytes.len() as u16);
+        let next = bytes_of_u16(self.bytes.len() as u16).put(out, at);
         put_bytes(out, next, self.bytes)
     }
 }
@@ -100,64 +85,34 @@ impl Part for &[Bytes] {
     }
 }
 
-impl Part for i32 {
-    ghost spelled = { signed_bytes w32 };
+impl<const N: usize> Part for [u8; N] {
+    ghost spelled = { λ bytes. bytes };
 
     fn size(&self) -> usize {
-        4
+        N
     }
 
     fn put(&self, out: &mut [u8], at: usize) -> usize {
-        self.cast_unsigned().put(out, at)
+        put_bytes(out, at, self)
     }
 }
 
-impl Part for u32 {
-    ghost spelled = { number_bytes w32 };
-
-    fn size(&self) -> usize {
-        4
-    }
-
-    fn put(&self, out: &mut [u8], at: usize) -> usize {
-        let mut bytes = [0u8; 4];
-        BigEndian::write_u32(&mut bytes, *self);
-        put_bytes(out, at, &bytes)
-    }
-}
-
-impl Part for u8 {
-    ghost spelled = { number_bytes w8 };
-
-    fn size(&self) -> usize {
-        1
-    }
-
-    fn put(&self, out: &mut [u8], at: usize) -> usize {
-        put_bytes(out, at, &self.to_be_bytes())
-    }
-}
-
-impl Part for i16 {
-    ghost spelled = { signed_bytes w16 };
-
-    fn size(&self) -> usize {
-        2
-    }
-
-    fn put(&self, out: &mut [u8], at: usize) -> usize {
-        put_u16(out, at, self.cast_unsigned())
-    }
-}
-
-// Writes a number of 16 bits from an offset on, and returns the offset after it.
-fn put_u16(out: &mut [u8], at: usize, number: u16) -> usize
-    requires { at + 2 ≤ length out.old }
-    ensures { PutsTo out.old at (number_bytes w16 number) out.new result }
+/// Returns the bytes of a number of 16 bits.
+pub(crate) fn bytes_of_u16(number: u16) -> [u8; 2]
+    ensures { result ≡ number_bytes w16 number }
 {
     let mut bytes = [0u8; 2];
     BigEndian::write_u16(&mut bytes, number);
-    put_bytes(out, at, &bytes)
+    bytes
+}
+
+/// Returns the bytes of a number of 32 bits.
+pub(crate) fn bytes_of_u32(number: u32) -> [u8; 4]
+    ensures { result ≡ number_bytes w32 number }
+{
+    let mut bytes = [0u8; 4];
+    BigEndian::write_u32(&mut bytes, number);
+    bytes
 }
 
 // Writes bytes from an offset on, and returns the offset after them.

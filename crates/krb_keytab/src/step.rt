@@ -59,7 +59,9 @@ pub(crate) fn read_entries<F: Feed>(alloc: Global, feed: &mut F) -> Result<Vec<E
     read_version(feed)?;
     let mut entries = Vec::new(alloc);
     while let Some(entry) = read_entry(alloc, feed)? {
-        entries.push(entry)?;
+        let Ok(()) = entries.push(entry) else {
+            return Err(KeytabFault::OutOfMemory);
+        };
     }
     Ok(entries)
 }
@@ -206,10 +208,11 @@ fn pass_hole<F: Feed, E: Drop>(
     ensures failed { F.failure_count feed.new ≡ F.failure_count feed.old + failed_reads result }
     ensures lent { F.lender feed.new ≡ F.lender feed.old }
 {
-    if !feed.skip(count)? {
-        return Err(KeytabFault::Truncated { at });
+    match feed.skip(count) {
+        Ok(true) => Ok(Found::Hole),
+        Ok(false) => Err(KeytabFault::Truncated { at }),
+        Err(SourceFailed) => Err(KeytabFault::Read),
     }
-    Ok(Found::Hole)
 }
 
 // Reads the `count` bytes of an entry.

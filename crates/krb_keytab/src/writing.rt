@@ -16,7 +16,7 @@ ghost use Rattle.krb_keytab.specs.Inner.Putting.{Puts, PutsTo, body_bytes};
 use crate::entry::Entry;
 use crate::fault::KeytabFault;
 use crate::finding::Room;
-use crate::part::Part;
+use crate::part::{Part, bytes_of_u32};
 use crate::step::SIZE_LENGTH;
 use krb_name::FILE_LIMIT;
 use std::alloc::AllocError;
@@ -113,8 +113,8 @@ fn fill_record(out: &mut [u8], entry: &Entry)
     ensures filled { out.new ≡ record_bytes (padded_record entry.now (length out.old - record_length entry.now)) }
     ensures fits { FitsEntry entry.now }
 {
-    let size = (out.len() - SIZE_LENGTH) as i32;
-    let at = size.put(out, 0);
+    let size = (out.len() - SIZE_LENGTH) as u32;
+    let at = bytes_of_u32(size).put(out, 0);
     let end = entry.body().put(out, at);
     out[end..].fill(0);
 }
@@ -126,6 +126,6 @@ fn clear_record(out: &mut [u8])
     ensures { out.new ≡ record_bytes (zero_hole (length out.old - 4)) }
 {
     let size = (out.len() - SIZE_LENGTH) as i32;
-    let at = (-size).put(out, 0);
+    let at = bytes_of_u32((-size).cast_unsigned()).put(out, 0);
     out[at..].fill(0);
 }

@@ -1,8 +1,10 @@
 use Rattle.std.proofs.Common.{refl, ◌+◌, ◌<◌, ◌≤◌, length, take, arith, w32, to_z, of_z}
 use Rattle.std.proofs.lemmas.Int.{to_z-of_z}
+use Rattle.std.proofs.lemmas.List.Elements.{All-nil}
+use Rattle.krb_name.specs.Name.{SameName}
 use Rattle.krb_keytab.specs.declared.pick.Picked.TheVariants.{NoName}
 use Rattle.krb_keytab.proofs.PickLaws.{one_more, all_seen}
-use Rattle.krb_keytab.proofs.IndexLaws.{first_leads, next_leads, passed_over, none_seen}
+use Rattle.krb_keytab.proofs.IndexLaws.{first_leads, next_leads, passed_over}
 use Rattle.krb_keytab.proofs.pick.pick_indexed.Goals as goal
 
 pub loop-at-init : goal.loop-at-init
@@ -13,7 +15,7 @@ loop-at-init c =
     let etype = to_z w32 (of_z w32 c.args.etype) in
     let on = first_leads entries (length index.firsts.items) name index.firsts.items index.nexts.items c.first-at.result c.requires.some c.requires.linked c.first-at.ensures in
     record {
-      picked = passed_over entries name etype c.args.kvno NoName (length index.firsts.items) 0 c.first-at.result on.leads (none_seen entries name etype c.args.kvno);
+      picked = passed_over entries name etype c.args.kvno NoName (length index.firsts.items) 0 c.first-at.result on.leads (All-nil (λ e. ¬ SameName e.principal name));
       lands = on.lands;
     }
 

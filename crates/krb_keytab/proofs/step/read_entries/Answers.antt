@@ -17,7 +17,7 @@ loop-entries-preserved g c =
     let to = g.F.Feed.remaining c.read_entry.new.feed in
     let meets = subst (λ (next : Option KeytabEntry). MeetsNext mid to (g.F.Feed.at_hand c.loop-entries.feed) (g.F.Feed.at_hand c.read_entry.new.feed) (Ok next)) c.in-Some.is c.in_ok-entry.ensures.meets in
     record {
-      taken = entry_taken from mid to (g.F.Feed.at_hand c.loop-entries.feed) (g.F.Feed.at_hand c.read_entry.new.feed) c.loop-entries.entries.items c.push.new.self.items c.in-Some.entry c.loop-entries.invariant.taken meets c.in_ok-push.ensures.items;
+      taken = entry_taken from mid to (g.F.Feed.at_hand c.loop-entries.feed) (g.F.Feed.at_hand c.read_entry.new.feed) c.loop-entries.entries.items c.push.new.self.items c.in-Some.entry c.loop-entries.invariant.taken meets c.in-Ok.ensures.items;
       limit = meets.within;
       failures = rw add-zero at c.in_ok-entry.ensures.failed ∙ c.loop-entries.invariant.failures;
       lent = c.in_ok-entry.ensures.lent ∙ c.loop-entries.invariant.lent;
@@ -37,5 +37,5 @@ returns-clause-taken g c = next_takes _ _ _ _ _ c.loop-entries.entries.items _ c
 pub returns-in_err-entry-clause-taken : goal.returns-in_err-entry-clause-taken
 returns-in_err-entry-clause-taken g c = next_takes _ _ _ _ _ c.loop-entries.entries.items _ c.loop-entries.invariant.taken c.in_err-entry.ensures.meets
 
-pub returns-in_err-push-clause-taken : goal.returns-in_err-push-clause-taken
-returns-in_err-push-clause-taken g c = next_takes _ _ _ _ _ c.loop-entries.entries.items _ c.loop-entries.invariant.taken c.in_ok-entry.ensures.meets
+pub returns-in_default-push-clause-taken : goal.returns-in_default-push-clause-taken
+returns-in_default-push-clause-taken g c = next_takes _ _ _ _ _ c.loop-entries.entries.items _ c.loop-entries.invariant.taken c.in_ok-entry.ensures.meets

@@ -1,5 +1,4 @@
-use Rattle.std.proofs.Common.{◌≡◌, ◌-◌, ℕ, length, replicate, take, drop, ap, sym, ◌∙◌, arith, ◌<◌, ◌^◌, w32}
-use Rattle.std.proofs.lemmas.Int.{of_z-to_z}
+use Rattle.std.proofs.Common.{◌≡◌, ◌-◌, ℕ, length, replicate, take, drop, ap, sym, ◌∙◌, arith}
 use Rattle.std.proofs.lemmas.List.{length-replicate, length-drop, take_rest}
 use Rattle.krb_keytab.specs.Written.{record_length}
 use Rattle.krb_keytab.proofs.PutLaws.{puts_mid, Puts-length}
@@ -12,8 +11,7 @@ returns-clause-filled c =
     let out = c.args.out.now in
     let zeros = length out - record_length e in
     let size = length out - 4 in
-    let small : size < 2 ^ 32 = omega (arith, c.requires.most) in
-    let first = rw (of_z-to_z w32 size small) at c.put-at.ensures in
+    let first = rw c.bytes_of_u32.ensures at c.put-at.ensures in
     let start : c.put-at.result ≡ 4 = first.end_is in
     let second = rw (c.body.ensures.spelled, start) at c.put-end.ensures in
     let end = c.put-end.result in
