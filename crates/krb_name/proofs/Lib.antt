@@ -1,4 +1,5 @@
 pub mod Names
+pub mod NamedLaws
 pub mod TextLaws
 pub mod Moves
 pub mod CursorLaws

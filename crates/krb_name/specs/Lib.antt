@@ -1,4 +1,5 @@
 pub mod Name
+pub mod Named
 pub mod Flow
 pub mod Cursor
 pub mod Field

@@ -1,0 +1,19 @@
+-- Finding a thing in a list by its name.
+use Rattle.std.specs.Prelude.{◌≡◌, ℕ, ◌≤◌, List, ◌∷◌, ◌++◌, length, drop, All}
+use Rattle.krb_name.specs.Name.{SameName}
+use Rattle.krb_name.specs.declared.principal.Principal.{Principal}
+
+-- a thing, whose name is given by name_of, has another name
+abbrev pub HasOtherName : {X : Type 0} → (X → Principal) → Principal → X → Type 0
+HasOtherName name_of name one = ¬ SameName (name_of one) name
+
+-- the first from an index on that has the name
+pub record IsFirstNamed {X : Type 0} (name_of : X → Principal) (items : List X) (name : Principal) (from at : ℕ) : Type 0 where
+  pub before : List X
+  pub one : X
+  pub after : List X
+  pub items_are : items ≡ before ++ one ∷ after
+  pub at_is : at ≡ length before
+  pub forward : from ≤ at
+  pub same : SameName (name_of one) name
+  pub others : All (HasOtherName name_of name) (drop from before)
