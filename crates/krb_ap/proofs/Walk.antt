@@ -1,35 +1,60 @@
--- A walk over a list: what is before an element, and what holds of all so far.
-use Rattle.std.proofs.Common.{◌≡◌, ℕ, ◌<◌, ◌≤◌, ◌+◌, suc, List, [], ◌∷◌, ◌++◌, ap, sym, ◌∙◌, length, take, drop, get_or}
-use Rattle.std.specs.Prelude.{All, Any}
+-- A walk over the credentials of a cache that are for a service: none before has been wanted.
+use Rattle.std.proofs.Common.{◌≡◌, ℕ, ◌+◌, List, [], ◌∷◌, ◌++◌, ap, sym, subst, ◌∙◌, take, drop, get_or, arith}
+use Rattle.std.specs.Prelude.{All}
+use Rattle.std.proofs.Math.Seq.{get_or-append_seam, take-append-add}
+use Rattle.std.proofs.lemmas.List.{take-append-drop, take-append-le}
+use Rattle.std.proofs.lemmas.List.Elements.{All-nil, All-cons, All-append}
+use Rattle.krb_name.specs.Name.{SameName}
+use Rattle.krb_name.specs.declared.principal.Principal.{Principal}
+use Rattle.krb_ccache.specs.Value.{Cache}
+use Rattle.krb_ccache.specs.Server.{IsForOther, IsFound}
 use Rattle.krb_ccache.specs.declared.credential.Credential.{Credential}
-use Rattle.krb_ap.specs.Credentials.{HasCredential}
-use Rattle.std.proofs.lemmas.List.{get_or_default, take_more, take_all, take-append-drop}
-use Rattle.std.proofs.Math.Seq.{drop-cons}
-use Rattle.std.proofs.lemmas.List.Elements.{All-nil, All-cons, All-append, All-same}
+use Rattle.krb_ap.specs.Inner.Wanted.{IsWanted, IsFirst}
+use Rattle.krb_ap.specs.declared.credentials.Wanted.{Wanted}
+use Rattle.krb_ap.specs.declared.credentials.Wanted.TheVariants.{Any, Usable, Fit}
 
--- the list is what is before the element, the element, and what is behind it
-pub parted : {X : Type 0} (xs : List X) (i : ℕ) (x : X) → i < length xs → x ≡ get_or xs i x → xs ≡ take i xs ++ x ∷ drop (suc i) xs
-parted xs i x below is = sym (take-append-drop i xs) ∙ ap (λ y. take i xs ++ y) (drop-cons xs i x below)
-    ∙ ap (λ y. take i xs ++ y ∷ drop (suc i) xs) (sym is)
+serves : (cache : Cache) (service : Principal) (wanted : Wanted) (one : Credential) → IsWanted cache service wanted one → SameName one.server service
+serves cache service Any one is = is.server
+serves cache service Usable one is = is.is_for.server
+serves cache service (Fit at) one is = is.usable_for.is_for.server
 
-pub one_more : {X : Type 0} (P : X → Type 0) (xs : List X) (i : ℕ) (x : X) → i < length xs → x ≡ get_or xs i x
-    → All P (take i xs) → P x → All P (take (i + 1) xs)
-one_more P xs i x below is all p = All-same P (take (i + 1) xs) (take i xs ++ x ∷ [])
-    (take_more xs i x below ∙ ap (λ y. take i xs ++ y ∷ []) (sym is))
-    (All-append P (take i xs) (x ∷ []) all (All-cons P x [] p (All-nil P)))
+module _ (cache : Cache) (service : Principal) (wanted : Wanted) where
+  -- it isn't wanted
+  abbrev pub Unwanted : Credential → Type 0
+  Unwanted one = ¬ IsWanted cache service wanted one
 
-pub at_end : {X : Type 0} (P : X → Type 0) (xs : List X) (i : ℕ) → length xs ≤ i → All P (take i xs) → All P xs
-at_end P xs i behind all = All-same P xs (take i xs) (sym (take_all i xs behind)) all
+  others_unwanted : (xs : List Credential) → All (IsForOther service) xs → All Unwanted xs
+  others_unwanted xs others k d within is = others k d within (serves cache service wanted _ is)
 
--- some credential is so, or none is
-pub some_of : (P : Credential → Type 0) (credentials : List Credential) → Any P credentials → HasCredential P credentials
-some_of P credentials h = record {
-  before = take h.0 credentials;
-  credential = h.1;
-  after = drop (suc h.0) credentials;
-  credentials_are = parted credentials h.0 h.1 h.2 (sym h.3);
-  holds = h.4;
-}
+  parts_unwanted : (from : ℕ) (xs : List Credential) → All Unwanted (take from xs) → All (IsForOther service) (drop from xs) → All Unwanted xs
+  parts_unwanted from xs so_far others =
+      subst (All Unwanted) (take-append-drop from xs) (All-append Unwanted (take from xs) (drop from xs) so_far (others_unwanted (drop from xs) others))
 
-pub none_of : {X : Type 0} (P : X → Type 0) (xs : List X) → ¬ Any P xs → All (λ x. ¬ P x) xs
-none_of P xs none = λ i d below p. none (i, get_or xs i d, below, get_or_default xs i (get_or xs i d) d below, p)
+  module _ (from : ℕ) (so_far : All Unwanted (take from cache.credentials)) where
+    pub none_wanted : All (IsForOther service) (drop from cache.credentials) → All Unwanted cache.credentials
+    none_wanted others = parts_unwanted from cache.credentials so_far others
+
+    module _ (at : ℕ) (f : IsFound cache.credentials service from at) where
+      none_before : All Unwanted f.before
+      none_before =
+          let same : take from cache.credentials ≡ take from f.before = ap (take from) f.credentials_are ∙ take-append-le from f.before (f.credential ∷ f.after) (omega (arith, f.forward, f.at_is)) in
+          parts_unwanted from f.before (subst (All Unwanted) same so_far) f.others
+
+      module _ (one : Credential) (is : one ≡ get_or cache.credentials at one) where
+        one_is : one ≡ f.credential
+        one_is = is ∙ ap (λ (xs : List Credential). get_or xs at one) f.credentials_are ∙ ap (λ (n : ℕ). get_or (f.before ++ f.credential ∷ f.after) n one) f.at_is ∙ get_or-append_seam f.before f.credential f.after one
+
+        pub first_wanted : IsWanted cache service wanted one → IsFirst (IsWanted cache service wanted) cache.credentials one
+        first_wanted holds = record {
+          before = f.before;
+          after = f.after;
+          credentials_are = f.credentials_are ∙ ap (λ (x : Credential). f.before ++ x ∷ f.after) (sym one_is);
+          holds = holds;
+          others = none_before;
+        }
+
+        pub none_more : Unwanted one → All Unwanted (take (at + 1) cache.credentials)
+        none_more not =
+            let more : take (at + 1) cache.credentials ≡ f.before ++ one ∷ [] =
+            ap (take (at + 1)) f.credentials_are ∙ ap (λ (n : ℕ). take (n + 1) (f.before ++ f.credential ∷ f.after)) f.at_is ∙ take-append-add f.before (f.credential ∷ f.after) 1 ∙ ap (λ (x : Credential). f.before ++ x ∷ []) (sym one_is) in
+            subst (All Unwanted) (sym more) (All-append Unwanted f.before (one ∷ []) none_before (All-cons Unwanted one [] not (All-nil Unwanted)))

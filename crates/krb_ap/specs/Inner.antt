@@ -5,3 +5,4 @@ pub mod Judging
 pub mod GoingOn
 pub mod Decisions
 pub mod Requests
+pub mod Wanted

@@ -1,12 +1,24 @@
 //! The choice of a credential of a cache. It allocates no memory.
 
-ghost use Rattle.std.specs.Prelude.{◌↔◌, All, Any, IsTrue, IfOk, IfErr, IfSome, IfNone};
+ghost use Rattle.std.specs.Prelude.{◌↔◌, All, IsTrue, IfOk, IfErr, IfSome, IfNone};
 ghost use Rattle.krb_ap.specs.Credentials.{IsFor, IsUsableFor, IsFit, IsUsed, IsWanting};
+ghost use Rattle.krb_ap.specs.Inner.Wanted.{IsWanted, IsFirst};
 
 use crate::request_fault::RequestFault;
 use krb_ccache::{CCache, Credential};
 use krb_enc::Key;
 use krb_msg::{Moment, Principal};
+
+/// Which credentials for a service are looked for.
+#[derive(Drop)]
+pub(crate) enum Wanted {
+    /// Any.
+    Any,
+    /// Those with a usable session key.
+    Usable,
+    /// Those that fit at this moment.
+    Fit(Moment),
+}
 
 /// The credential that is used for a service at a moment, or what is missing.
 pub(crate) fn used<'a>(
@@ -17,42 +29,44 @@ pub(crate) fn used<'a>(
     ensures used { IfOk result (λ credential. IsUsed cache.now service.now at credential.now) }
     ensures wanting { IfErr result (IsWanting cache.now service.now at) }
 {
-    if let Some(credential) = first_fit(cache, service, at) {
+    if let Some(credential) = first(cache, service, &Wanted::Fit(at)) {
         return Ok(credential);
     }
-    if has_usable(cache, service) {
+    if let Some(_) = first(cache, service, &Wanted::Usable) {
         return Err(RequestFault::Expired);
     }
-    if has_any(cache, service) {
+    if let Some(_) = first(cache, service, &Wanted::Any) {
         return Err(RequestFault::NoUsableKey);
     }
     Err(RequestFault::NoCredential)
 }
 
-fn first_fit<'a>(cache: &'a CCache, service: &Principal, at: Moment) -> Option<&'a Credential>
-    ensures some { IfSome result (λ credential. IsUsed cache.now service.now at credential.now) }
-    ensures none { IfNone result (All (λ one. ¬ IsFit cache.now service.now at one) cache.now.credentials) }
+// The first credential for a service that is wanted.
+fn first<'a>(cache: &'a CCache, service: &Principal, wanted: &Wanted) -> Option<&'a Credential>
+    ensures some { IfSome result (λ credential.
+        IsFirst (IsWanted cache.now service.now wanted.now) cache.now.credentials credential.now) }
+    ensures none { IfNone result
+        (All (λ one. ¬ IsWanted cache.now service.now wanted.now one) cache.now.credentials) }
 {
-    for credential in cache.credentials() {
-        if is_fit(cache, service, at, credential) {
+    let mut next = 0;
+    while let Some(place) = cache.find_server(service, next) {
+        let credential = &cache.credentials()[place];
+        if is_wanted(cache, service, wanted, credential) {
             return Some(credential);
         }
+        next = place + 1;
     }
     None
 }
 
-fn has_usable(cache: &CCache, service: &Principal) -> bool
-    ensures { IsTrue result ↔ Any (IsUsableFor cache.now service.now) cache.now.credentials }
+fn is_wanted(cache: &CCache, service: &Principal, wanted: &Wanted, credential: &Credential) -> bool
+    ensures { IsTrue result ↔ IsWanted cache.now service.now wanted.now credential.now }
 {
-    let mut credentials = cache.credentials().iter();
-    credentials.any(|credential| is_usable_for(cache, service, credential))
-}
-
-fn has_any(cache: &CCache, service: &Principal) -> bool
-    ensures { IsTrue result ↔ Any (IsFor cache.now service.now) cache.now.credentials }
-{
-    let mut credentials = cache.credentials().iter();
-    credentials.any(|credential| is_for(cache, service, credential))
+    match *wanted {
+        Wanted::Any => is_for(cache, service, credential),
+        Wanted::Usable => is_usable_for(cache, service, credential),
+        Wanted::Fit(at) => is_fit(cache, service, at, credential),
+    }
 }
 
 fn is_fit(cache: &CCache, service: &Principal, at: Moment, credential: &Credential) -> bool
@@ -72,7 +86,7 @@ fn is_usable_for(cache: &CCache, service: &Principal, credential: &Credential) -
 fn is_for(cache: &CCache, service: &Principal, credential: &Credential) -> bool
     ensures { IsTrue result ↔ IsFor cache.now service.now credential.now }
 {
-    !CCache::is_configuration(credential)
+    credential.server.same_name(service)
         && credential.client.same_name(cache.default_principal())
-        && credential.server.same_name(service)
+        && !CCache::is_configuration(credential)
 }

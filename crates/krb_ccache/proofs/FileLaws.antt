@@ -1,23 +1,22 @@
 -- What is read of a file, part by part, is what the file says.
-use Rattle.std.proofs.Common.{◌≡◌, ℕ, ◌<◌, ◌≤◌, List, [], ◌∷◌, ◌++◌, length, map, Some, None, sym, ap, subst, ◌∙◌, append_assoc, arith, inl, inr}
-use Rattle.std.specs.Prelude.{All, IfSome}
+use Rattle.std.proofs.Common.{◌≡◌, ℕ, ◌<◌, ◌≤◌, List, [], ◌++◌, length, Some, None, sym, ap, subst, ◌∙◌, append_assoc, arith, inl, inr}
+use Rattle.std.specs.Prelude.{IfSome}
 use Rattle.std.specs.List.{flat_map}
 use Rattle.std.proofs.lemmas.List.{length-append}
-use Rattle.std.proofs.lemmas.List.Elements.{recursion_from_All}
 use Rattle.krb_name.specs.Cursor.{Place}
 use Rattle.krb_name.specs.Field.{IsBytes}
-use Rattle.krb_ccache.specs.Types.{Principal, HeaderField, Credential, Layout, CacheFault, Version, Header, BadItem, TooLong, Read, OutOfMemory}
+use Rattle.krb_ccache.specs.Types.{Principal, HeaderField, Layout, CacheFault, Version, Header, BadItem, TooLong, Read, OutOfMemory}
 use Rattle.krb_ccache.specs.Spelling.{name_bytes}
-use Rattle.krb_ccache.specs.Value.{Cache, FitsName, FitsCredential}
+use Rattle.krb_ccache.specs.Value.{Cache, FitsName}
 use Rattle.krb_ccache.specs.Fault.{offset_of}
 use Rattle.krb_name.specs.File.{file_limit}
 use Rattle.krb_ccache.specs.Format.{version_of, head_bytes, FitsHead, start_bytes, Spelled, Spells, IsReached, IsCache, IsFaultOf}
 use Rattle.krb_ccache.specs.Inner.Reading.{name_at}
-use Rattle.krb_ccache.specs.Inner.Standing.{Opened, bytes_of, spelled_as, Lies, LiesOne, Reaches, IsMissing, StopsBy}
+use Rattle.krb_ccache.specs.Inner.Standing.{Opened, bytes_of, Lies, Reaches, IsMissing, StopsBy}
 use Rattle.krb_ccache.proofs.PartLaws.{IsField-name}
 use Rattle.krb_ccache.proofs.CredentialLaws.{spelled_at, IsField-spelled}
 use Rattle.krb_ccache.proofs.Repeats.{lies_where, missing_where, reach_none, Goes, goes}
-use Rattle.krb_ccache.proofs.LayoutLaws.{version_length, grouped, credential_some, credential_in, all_fit, map_more, read_cache, is_reached, reached_within}
+use Rattle.krb_ccache.proofs.LayoutLaws.{version_length, grouped, credential_some, read_cache, is_reached, reached_within}
 
 -- ---- the default principal
 
@@ -42,26 +41,6 @@ credential_goes layout start place spelled one behind reaches lies = goes _ _ _ 
 pub stops : (layout : Layout) (start place : Place) (spelled : List Spelled) (fault : CacheFault) → Reaches bytes_of (Spells layout) start spelled place → (place.rest ≡ [] → ⊥)
     → (fault ≡ BadItem place.at) × IsMissing bytes_of (Spells layout) place.rest → StopsBy layout start fault
 stops layout start place spelled fault reaches more h = record { credentials = spelled; behind = place; reaches = reaches; fault_is = h.0; more = more; missing = h.1 }
-
--- the credentials so far, with their spellings
-pub record ReadTo (layout : Layout) (start place : Place) (credentials : List Credential) : Type 0 where
-  pub spelled : List Spelled
-  pub reaches : Reaches bytes_of (Spells layout) start spelled place
-  pub are : credentials ≡ map credential_in spelled
-
-pub read_none : (layout : Layout) (start place : Place) (credentials : List Credential) → IsBytes start.rest → place ≡ start → credentials ≡ [] → ReadTo layout start place credentials
-read_none layout start place credentials fits e none = record { spelled = []; reaches = none_reached layout start place fits e; are = none }
-
-pub read_more : (layout : Layout) (start place : Place) (credentials : List Credential) (credential : Credential) (behind : Place) → ReadTo layout start place credentials
-    → LiesOne layout place credential behind → ReadTo layout start behind (credentials ++ credential ∷ [])
-read_more layout start place credentials credential behind so_far lies =
-    let one : Spelled = spelled_as lies.0 credential in
-    let goes = credential_goes layout start place so_far.spelled one behind so_far.reaches lies.1 in
-    record { spelled = so_far.spelled ++ one ∷ []; reaches = goes.reaches; are = ap (λ (t : List Credential). t ++ credential ∷ []) so_far.are ∙ sym (map_more so_far.spelled one) }
-
-pub read_fit : (layout : Layout) (start place : Place) (credentials : List Credential) → ReadTo layout start place credentials → All FitsCredential credentials
-read_fit layout start place credentials so_far =
-    subst (All FitsCredential) (sym so_far.are) (all_fit layout so_far.spelled (recursion_from_All (Spells layout) so_far.spelled so_far.reaches.fit))
 
 -- ---- the file so far
 
@@ -92,13 +71,6 @@ module _ (layout : Layout) where
 
   pub cache_found : (bytes : List ℕ) (at : ℕ) (cache : Cache) (rest : List ℕ) → length bytes ≤ file_limit → IsReached layout bytes at cache rest → rest ≡ [] → IsCache bytes cache
   cache_found bytes at cache rest limit reached end = record { limit = limit; layout = layout; at = at; reached = subst (IsReached layout bytes at cache) end reached }
-
-  -- the whole file, with the credentials that were read
-  pub all_read : (bytes : List ℕ) (header : List HeaderField) (place : Place) (name : Principal) (middle : Place) (credentials : List Credential) (behind : Place) → HasStart layout bytes header place
-      → Lies name_bytes FitsName place name middle → ReadTo layout middle behind credentials → behind.rest ≡ [] → IsCache bytes (record { header = header; default_principal = name; credentials = credentials })
-  all_read bytes header place name middle credentials behind start lies so_far end =
-      let has = cache_read bytes header place name middle so_far.spelled behind start lies so_far.reaches in
-      subst (λ (cs : List Credential). IsCache bytes (record { header = header; default_principal = name; credentials = cs })) (sym so_far.are) (cache_found bytes behind.at (read_cache header name so_far.spelled) behind.rest start.limit has end)
 
   pub header_fault : (bytes : List ℕ) (place : Place) → Opened layout bytes place → IsMissing (head_bytes layout) (FitsHead layout) place.rest → IsFaultOf bytes Header
   header_fault bytes place begun missing = record { limit = begun.limit; layout = layout; behind = place.rest; bytes_are = begun.rest; missing = missing }

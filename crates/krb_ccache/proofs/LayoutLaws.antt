@@ -46,10 +46,6 @@ credential_some credential second = simp length-append (omega arith)
 abbrev pub credential_in : Spelled → Credential
 credential_in one = one.credential
 
-pub all_fit : (layout : Layout) (ones : List Spelled) → AllByRecursion (Spells layout) ones → All FitsCredential (map credential_in ones)
-all_fit layout [] h = All-nil FitsCredential
-all_fit layout (one ∷ ones) h = All-cons FitsCredential one.credential (map credential_in ones) h.0.fits (all_fit layout ones h.1)
-
 pub map_more : (ones : List Spelled) (one : Spelled) → map credential_in (ones ++ one ∷ []) ≡ map credential_in ones ++ one.credential ∷ []
 map_more [] one = refl
 map_more (first ∷ ones) one = ap (λ (t : List Credential). first.credential ∷ t) (map_more ones one)

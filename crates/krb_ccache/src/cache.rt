@@ -1,32 +1,26 @@
 //! A credential cache.
 
 ghost use Rattle.std.specs.Prelude.{◌≡◌, ◌≢◌, ◌⊎◌, ◌≤◌, ◌<◌, ◌^◌, ◌-◌, ◌+◌, List, [], All, IsTrue, ◌↔◌, IfOk, IfErr, IfSome, IfNone, OnOk, OnErr, Some, Ok, Err, Result, SomeIff, None, length, map, drop};
-ghost use Rattle.krb_name.specs.Field.{IsBytes};
-ghost use Rattle.krb_ccache.specs.Spelling.{name_bytes};
-ghost use Rattle.krb_ccache.specs.Value.{Cache, cache_of, HasLengths, Fits, FitsName, FitsCredential};
+ghost use Rattle.krb_ccache.specs.Value.{Cache, cache_of, HasLengths, Fits};
 ghost use Rattle.krb_ccache.specs.Types.{CacheFault as CacheFaultValue};
 ghost use Rattle.krb_ccache.specs.Configuration.{IsConfiguration};
 ghost use Rattle.krb_ccache.specs.Fault.{offset_of, failed_reads};
 ghost use Rattle.krb_name.specs.File.{file_limit, ReadsFile};
-ghost use Rattle.krb_ccache.specs.Format.{written, Spelled, Spells, IsCache, IsFaultOf, IsAnswerOf};
+ghost use Rattle.krb_ccache.specs.Format.{written, IsCache, IsFaultOf, IsAnswerOf};
 ghost use Rattle.krb_ccache.specs.Offset.{IsOffsetOf};
 ghost use Rattle.krb_ccache.specs.Server.{IsFound, IsForOther};
-ghost use Rattle.krb_ccache.specs.Inner.Standing.{bytes_of, Lies, Reaches, IsMissing, StopsBy, Leaves};
+ghost use Rattle.krb_ccache.specs.Inner.Standing.{Leaves};
 
 use crate::checking::check;
 use crate::configuration::{is_entry, offset_in};
 use crate::credential::{Credential, HeaderField};
 use crate::credential_list::CredentialList;
 use crate::fault::CacheFault;
-use crate::header::{open, read_head};
-use crate::item_fault::ItemFault;
-use crate::items::read_credential;
-use crate::layout::{Layout, VERSION_4};
-use crate::leading::Leading;
+use crate::layout::VERSION_4;
 use crate::part::{Part, behind_each, fits_each, write_each};
 use crate::stepping::{Start, begin, steps};
 use crate::writing::{behind_header, header_fits, write_header, write_u16};
-use krb_name::{FILE_LIMIT, FileCursor, Principal, Source, Window};
+use krb_name::{FILE_LIMIT, Principal, SliceSource, Source, Window};
 use std::alloc::{AllocError, Global};
 use std::marker::Model;
 
@@ -86,9 +80,9 @@ impl CCache {
 
     /// Parses the bytes of a file.
     ///
-    /// Checks all bytes before it allocates memory. Memory is allocated as parts are read, and
-    /// never because of a count or a length that the bytes don't bear out. After the last
-    /// credential it allocates 4 bytes for each, for `find_server`.
+    /// Allocates memory as parts are read, and never because of a count or a length that the bytes
+    /// don't bear out. Beside the parts it holds a copy of the bytes of one at a time. After the
+    /// last credential it allocates 4 bytes or more for each, for `find_server`.
     ///
     /// # Errors
     /// `OutOfMemory` if the bytes are a cache and there is no memory for a part; else the first
@@ -117,13 +111,17 @@ impl CCache {
         ensures offset { IfErr result (λ fault.
             IfSome (offset_of fault) (λ at. at ≤ length bytes.now)) }
     {
+        if let Ok(cache) = CCache::read(alloc, &mut SliceSource::new(bytes)) {
+            return Ok(cache);
+        }
+        // A fault goes before lack of memory.
         check(bytes)?;
-        CCache::of_parts(alloc, bytes)
+        Err(CacheFault::OutOfMemory)
     }
 
     /// Reads a source to its end, or to one byte past 16,777,216, and parses what it gave.
     ///
-    /// After the last credential it allocates 4 bytes for each, as `parse` does.
+    /// Allocates memory as `parse` does.
     ///
     /// Condition: fewer than 18,446,744,073,709,551,615 reads of the source have failed so far.
     ///
@@ -162,26 +160,6 @@ impl CCache {
             default_principal,
         } = begin(alloc, window)?;
         let credentials = steps(alloc, layout, window)?;
-        Ok(CCache {
-            header,
-            default_principal,
-            credentials: CredentialList::hashed(alloc, credentials)?,
-        })
-    }
-
-    fn of_parts(alloc: Global, bytes: &[u8]) -> Result<CCache, CacheFault>
-        ensures found { IfOk result (λ cache. IsCache bytes.now cache) }
-        ensures fault { IfErr result (λ fault.
-            fault ≢ CacheFault.OutOfMemory → IsFaultOf bytes.now fault) }
-    {
-        let (layout, mut cursor) = open(bytes)?;
-        let header = match read_head(alloc, layout, &mut cursor) {
-            Ok(header) => header,
-            Err(ItemFault::Missing) => return Err(CacheFault::Header),
-            Err(ItemFault::OutOfMemory) => return Err(CacheFault::OutOfMemory),
-        };
-        let default_principal = read_default(alloc, layout, &mut cursor)?;
-        let credentials = read_credentials(alloc, layout, &mut cursor)?;
         Ok(CCache {
             header,
             default_principal,
@@ -279,51 +257,4 @@ impl CCache {
     {
         self.credentials.find_server(server, from)
     }
-}
-
-// Reads the principal that begins here, and moves past it.
-fn read_default(
-    alloc: Global,
-    layout: Layout,
-    cursor: &mut FileCursor<'_>,
-) -> Result<Principal, CacheFault>
-    requires { IsBytes cursor.old.rest }
-    ensures read { IfOk result (λ name. Lies name_bytes FitsName cursor.old name cursor.new) }
-    ensures missing { IfErr result (λ fault. fault ≢ CacheFault.OutOfMemory
-        → (fault ≡ CacheFault.BadItem cursor.old.at) × IsMissing name_bytes FitsName cursor.old.rest) }
-{
-    let at = cursor.at();
-    match Leading::read(alloc, layout, cursor) {
-        Ok(name) => Ok(name),
-        Err(ItemFault::Missing) => Err(CacheFault::BadItem { at }),
-        Err(ItemFault::OutOfMemory) => Err(CacheFault::OutOfMemory),
-    }
-}
-
-// Reads the credentials from here to the end.
-#[tactic(auto, using(crate::proofs::FileLaws::credential_goes, crate::proofs::FileLaws::stops, crate::proofs::FileLaws::read_none, crate::proofs::FileLaws::read_more))]
-fn read_credentials(
-    alloc: Global,
-    layout: Layout,
-    cursor: &mut FileCursor<'_>,
-) -> Result<Vec<Credential>, CacheFault>
-    requires { IsBytes cursor.old.rest }
-    ensures read { IfOk result (λ credentials. (spelled : List Spelled)
-        × Reaches bytes_of (Spells layout) cursor.old spelled cursor.new
-        × (credentials.items ≡ map (λ one. one.credential) spelled)) }
-    ensures fits { IfOk result (λ credentials. All FitsCredential credentials.items) }
-    ensures end { OnOk result (cursor.new.rest ≡ []) }
-    ensures missing { IfErr result (λ fault.
-        fault ≢ CacheFault.OutOfMemory → StopsBy layout cursor.old fault) }
-{
-    let mut credentials = Vec::new(alloc);
-    while !cursor.is_at_end() {
-        let start = cursor.at();
-        match read_credential(alloc, layout, cursor) {
-            Ok(credential) => credentials.push(credential)?,
-            Err(ItemFault::Missing) => return Err(CacheFault::BadItem { at: start }),
-            Err(ItemFault::OutOfMemory) => return Err(CacheFault::OutOfMemory),
-        }
-    }
-    Ok(credentials)
 }

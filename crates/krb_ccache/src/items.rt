@@ -3,14 +3,8 @@
 ghost use Rattle.std.specs.Prelude.{◌≡◌, ℕ, List, [], ◌∷◌, ◌++◌, Option, None, Some, IfOk, OnOk};
 ghost use Rattle.std.specs.Int.{w32};
 ghost use Rattle.krb_name.specs.Cursor.{Place, data_at, times_at};
-ghost use Rattle.krb_name.specs.Field.{IsBytes};
-ghost use Rattle.krb_ccache.specs.Format.{Spells};
-ghost use Rattle.krb_ccache.specs.Inner.Standing.{bytes_of, LiesOne, IsMissing};
 
-use crate::credential::{Credential, Row};
-use crate::field::Field;
 use crate::item_fault::ItemFault;
-use crate::layout::Layout;
 use krb_name::{Bytes, Components, FileCursor};
 use std::alloc::{AllocError, Global};
 
@@ -79,18 +73,4 @@ impl Listed for Components {
     fn read_next(&mut self, alloc: Global, cursor: &mut FileCursor<'_>) -> Result<(), ItemFault> {
         Ok(self.push(read_data(alloc, cursor)?)?)
     }
-}
-
-pub(crate) fn read_credential(
-    alloc: Global,
-    layout: Layout,
-    cursor: &mut FileCursor<'_>,
-) -> Result<Credential, ItemFault>
-    requires { IsBytes cursor.old.rest }
-    ensures read { IfOk result (λ credential. LiesOne layout cursor.old credential cursor.new) }
-    ensures missing { result ≡ Err ItemFault.Missing
-        → IsMissing bytes_of (Spells layout) cursor.old.rest }
-{
-    let row = Row::read(alloc, layout, cursor)?;
-    Ok(Credential::from_row(row))
 }

@@ -15,9 +15,8 @@ ghost use Rattle.krb_ccache.specs.Inner.Stepping.{Stands, Comes, IsTold, IsNone,
 
 use crate::credential::{Credential, HeaderField, Row};
 use crate::fault::CacheFault;
-use crate::field::take_all;
+use crate::field::{Field, take_all};
 use crate::item_fault::ItemFault;
-use crate::items::read_credential;
 use crate::layout::Layout;
 use crate::leading::Leading;
 use crate::walking::TakeFault;
@@ -41,8 +40,8 @@ fn credential_of(alloc: Global, layout: Layout, bytes: &[u8]) -> Result<Credenti
         → IfOk result (λ made. made ≡ one.credential) }
 {
     let mut cursor = FileCursor::new(bytes);
-    match read_credential(alloc, layout, &mut cursor) {
-        Ok(credential) => Ok(credential),
+    match Row::read(alloc, layout, &mut cursor) {
+        Ok(row) => Ok(Credential::from_row(row)),
         Err(ItemFault::Missing) => unreachable!(),
         Err(ItemFault::OutOfMemory) => Err(AllocError),
     }

@@ -1,7 +1,11 @@
-use Rattle.std.specs.Prelude.{All, take}
-use Rattle.krb_ap.specs.Credentials.{IsFit}
-use Rattle.krb_ap.proofs.credentials.first_fit.Given as goal
+use Rattle.std.proofs.Common.{◌-◌, length, take}
+use Rattle.std.specs.Prelude.{All}
+use Rattle.krb_ap.proofs.Walk.{Unwanted}
+use Rattle.krb_ap.proofs.credentials.first.Given as goal
 
--- none so far is so
-abbrev pub invariant-loop-credential : goal.invariant-loop-credential
-invariant-loop-credential l = All (λ one. ¬ IsFit l.cache l.service l.at one) (take l.credential-index l.credential-items)
+-- none so far is wanted
+abbrev pub invariant-loop-place : goal.invariant-loop-place
+invariant-loop-place l = All (Unwanted l.cache l.service l.wanted) (take l.next l.cache.credentials)
+
+abbrev pub decreases-loop-place : goal.decreases-loop-place
+decreases-loop-place l = length l.cache.credentials - l.next

@@ -1,5 +1,6 @@
-use Rattle.std.proofs.Common.{Err, inl}
+use Rattle.std.proofs.Common.{ℕ, List, Err, subst, inl}
 use Rattle.std.proofs.lemmas.Result.{err_from_is_err_and}
+use Rattle.krb_ccache.specs.Format.{IsCache}
 use Rattle.krb_ccache.proofs.AnswerLaws.{one_answer, no_fault}
 use Rattle.krb_ccache.proofs.cache.CCache.parse.Goals as goal
 
@@ -12,3 +13,8 @@ pub returns-in_err-check-clause-only : goal.returns-in_err-check-clause-only
 returns-in_err-check-clause-only c = λ answer a.
     let p = err_from_is_err_and c.from_residual.result c.from_residual.ensures.1 in
     rw (p.1, p.2) (inl (one_answer c.args.bytes.now (Err c.in_err-check.field-0.0) answer c.in_err-check.ensures.fault a))
+
+pub returns-in-Ok-clause-faulty : goal.returns-in-Ok-clause-faulty
+returns-in-Ok-clause-faulty c = λ fault faulty.
+    let found = subst (λ (t : List ℕ). IsCache t c.in-Ok.cache) c.new.ensures c.in-Ok.ensures.reads.found in
+    absurd (no_fault c.args.bytes.now c.in-Ok.cache fault found faulty)
