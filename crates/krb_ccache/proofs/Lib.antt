@@ -4,7 +4,6 @@ pub mod Repeats
 pub mod HeaderLaws
 pub mod FileLaws
 pub mod AnswerLaws
-pub mod ServerLaws
 pub mod SourceLaws
 pub mod OffsetLaws
 pub mod ComputedOffset

@@ -6,5 +6,4 @@ pub mod Configuration
 pub mod Offset
 pub mod Fault
 pub mod Reader
-pub mod Server
 pub mod Inner

@@ -14,6 +14,10 @@ pub record Cache : Type 0 where
 abbrev pub cache_of : List HeaderField → Principal → List Credential → Cache
 cache_of header default_principal credentials = record { header = header; default_principal = default_principal; credentials = credentials }
 
+-- the service whose ticket a credential is
+abbrev pub server_of : Credential → Principal
+server_of credential = credential.server
+
 -- what is shown of a printed credential: the encryption type of its key, and no byte
 abbrev pub shown : ℤ → List ℕ
 shown etype = codes "Credential(etype " ++ (signed_decimal etype ++ codes ")")

@@ -1,26 +1,25 @@
 //! A credential cache.
 
 ghost use Rattle.std.specs.Prelude.{◌≡◌, ◌≢◌, ◌⊎◌, ◌≤◌, ◌<◌, ◌^◌, ◌-◌, ◌+◌, List, [], All, IsTrue, ◌↔◌, IfOk, IfErr, IfSome, IfNone, OnOk, OnErr, Some, Ok, Err, Result, SomeIff, None, length, map, drop};
-ghost use Rattle.krb_ccache.specs.Value.{Cache, cache_of, HasLengths, Fits};
+ghost use Rattle.krb_ccache.specs.Value.{Cache, cache_of, server_of, HasLengths, Fits};
 ghost use Rattle.krb_ccache.specs.Types.{CacheFault as CacheFaultValue};
 ghost use Rattle.krb_ccache.specs.Configuration.{IsConfiguration};
 ghost use Rattle.krb_ccache.specs.Fault.{offset_of, failed_reads};
 ghost use Rattle.krb_name.specs.File.{file_limit, ReadsFile};
+ghost use Rattle.krb_name.specs.Named.{IsFirstNamed, HasOtherName};
 ghost use Rattle.krb_ccache.specs.Format.{written, IsCache, IsFaultOf, IsAnswerOf};
 ghost use Rattle.krb_ccache.specs.Offset.{IsOffsetOf};
-ghost use Rattle.krb_ccache.specs.Server.{IsFound, IsForOther};
 ghost use Rattle.krb_ccache.specs.Inner.Standing.{Leaves};
 
 use crate::checking::check;
 use crate::configuration::{is_entry, offset_in};
 use crate::credential::{Credential, HeaderField};
-use crate::credential_list::CredentialList;
 use crate::fault::CacheFault;
 use crate::layout::VERSION_4;
 use crate::part::{Part, behind_each, fits_each, write_each};
 use crate::stepping::{Start, begin, steps};
 use crate::writing::{behind_header, header_fits, write_header, write_u16};
-use krb_name::{FILE_LIMIT, Principal, SliceSource, Source, Window};
+use krb_name::{FILE_LIMIT, NamedList, Principal, SliceSource, Source, Window};
 use std::alloc::{AllocError, Global};
 use std::marker::Model;
 
@@ -32,7 +31,7 @@ use std::marker::Model;
 pub struct CCache {
     header: Vec<HeaderField>,
     default_principal: Principal,
-    credentials: CredentialList,
+    credentials: NamedList<Credential>,
 }
 
 impl Model for CCache {
@@ -74,7 +73,7 @@ impl CCache {
         Some(CCache {
             header,
             default_principal,
-            credentials: CredentialList::plain(credentials),
+            credentials: NamedList::plain(credentials),
         })
     }
 
@@ -163,7 +162,7 @@ impl CCache {
         Ok(CCache {
             header,
             default_principal,
-            credentials: CredentialList::hashed(alloc, credentials)?,
+            credentials: NamedList::hashed(alloc, credentials)?,
         })
     }
 
@@ -251,10 +250,10 @@ impl CCache {
     /// In a cache that was parsed or read, a name is compared only if its hash is that of `server`.
     /// In a cache that was made by `from_parts` each is compared.
     pub fn find_server(&self, server: &Principal, from: usize) -> Option<usize>
-        ensures found { IfSome result (IsFound self.now.credentials server.now from) }
+        ensures found { IfSome result (IsFirstNamed server_of self.now.credentials server.now from) }
         ensures within { IfSome result (λ at. at < length self.now.credentials) }
-        ensures none { IfNone result (All (IsForOther server.now) (drop from self.now.credentials)) }
+        ensures none { IfNone result (All (HasOtherName server_of server.now) (drop from self.now.credentials)) }
     {
-        self.credentials.find_server(server, from)
+        self.credentials.find(server, from)
     }
 }

@@ -6,13 +6,13 @@ ghost use Rattle.krb_ccache.specs.Format.{Spells};
 ghost use Rattle.krb_ccache.specs.Inner.Row.{Row as RowShape, Raw, row_bytes, FitsRow, ◌▸◌};
 ghost use Rattle.krb_ccache.specs.Inner.Standing.{spelled_as};
 ghost use Rattle.krb_ccache.specs.Spelling.{credential_bytes};
-ghost use Rattle.krb_ccache.specs.Value.{HasCredentialLengths, FitsCredential};
+ghost use Rattle.krb_ccache.specs.Value.{server_of, HasCredentialLengths, FitsCredential};
 
 use crate::field::Field;
 use crate::key_type::KeyType;
 use crate::part::Part;
 use crate::typed::TypedList;
-use krb_name::{Bytes, Principal};
+use krb_name::{Bytes, Named, Principal};
 use std::fmt;
 
 /// A field of a cache's header. Tag 1 has the KDC's clock offset, in 8 bytes. Other tags are kept
@@ -140,6 +140,14 @@ impl Credential {
             ticket,
             second_ticket,
         }
+    }
+}
+
+impl Named for Credential {
+    ghost name_of = { server_of };
+
+    fn name(&self) -> &Principal {
+        &self.server
     }
 }
 

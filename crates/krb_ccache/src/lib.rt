@@ -24,7 +24,6 @@ mod cache;
 mod checking;
 mod configuration;
 mod credential;
-mod credential_list;
 mod fault;
 mod field;
 mod header;

@@ -26,6 +26,10 @@ use Rattle.krb_keytab.proofs.MadeLaws.{padded_length}
 abbrev pub place_of : Hole → Extent
 place_of one = record { from = one.from; to = one.from + one.size }
 
+-- what is known of a length, of one that is the same
+pub at_length : {holes others : List Hole} {one : Hole} {size other : ℕ} → size ≡ other → IsTaken holes size one others → IsTaken holes other one others
+at_length {holes} {others} {one} e t = subst (λ (n : ℕ). IsTaken holes n one others) e t
+
 pub has_room : {bytes : List ℕ} {holes : List Hole} {at size : ℕ} {one : Hole} {others : List Hole} → KnowsRoom bytes holes at → IsTaken holes size one others → HasRoom bytes size (place_of one)
 has_room {bytes} {holes} {at} {size} {one} k t =
     let s = stands_for (length version) k.records t.before one t.after (sym k.holds.1 ∙ t.old_is) in

@@ -1,5 +1,5 @@
 use Rattle.std.proofs.Common.{arith}
-use Rattle.krb_keytab.proofs.AdderLaws.{place_of, has_room, has_none, filled_always, knows_filled, knows_appended, ends_within}
+use Rattle.krb_keytab.proofs.AdderLaws.{place_of, at_length, has_room, has_none, filled_always, knows_filled, knows_appended, ends_within}
 use Rattle.krb_keytab.proofs.adder.EntryAdder.add.Goals as goal
 
 pub overflow_add-to : goal.overflow_add-to
@@ -8,12 +8,12 @@ overflow_add-to c =
     omega (arith, ends.0, ends.1)
 
 pub put_in-requires-clause-room : goal.put_in-requires-clause-room
-put_in-requires-clause-room c = has_room c.self.invariant (rw c.record_length-size.ensures.length at c.in-Some.ensures)
+put_in-requires-clause-room c = has_room c.self.invariant (at_length c.record_length-size.ensures.length c.in-Some.ensures)
 
 pub invariant_of-self : goal.invariant_of-self
 invariant_of-self c =
     let filled = filled_always (place_of c.in-Some.hole) c.args.entry.now c.self.inside.file.items c.put_in.new.file.items c.put_in.result c.put_in.ensures.puts in
-    knows_filled c.args.entry.now c.self.invariant (rw c.record_length-size.ensures.length at c.in-Some.ensures) filled.0 filled.1
+    knows_filled c.args.entry.now c.self.invariant (at_length c.record_length-size.ensures.length c.in-Some.ensures) filled.0 filled.1
 
 pub put_in-requires-in-None-clause-room : goal.put_in-requires-in-None-clause-room
 put_in-requires-in-None-clause-room c = rw c.record_length-size.ensures.length at (has_none c.record_length-size.result c.self.invariant c.in-None.ensures.0)
