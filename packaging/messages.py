@@ -15,6 +15,7 @@ import sys
 import tempfile
 import textwrap
 import tomllib
+from collections import Counter
 from dataclasses import dataclass
 
 ROOT = pathlib.Path(__file__).resolve().parent.parent
@@ -25,6 +26,8 @@ MADE = "Made from messages.toml by packaging/messages.py. Don't edit this file."
 # Rows of more fields are read, and written, with a tail that has a type of its own: else a proof takes too many steps.
 LONGEST_READ, LONGEST_WRITTEN = 8, 11
 LONGEST_TAIL, SHORTEST_HEAD = 7, 3
+# The calls that a row which is written is made by.
+CALLS = re.compile(r"\b(as_slice|[a-z_]+_in)\(")
 
 
 @dataclass(frozen=True)
@@ -520,10 +523,28 @@ class Message:
         names = ["rest"] * (len(values) - 1) + ["row"]
         return "\n".join(f"let {name} = ({it}, {end if place == 0 else 'rest'});" for place, (name, it) in enumerate(zip(names, values)))
 
-    def tactic(self, rows):
-        """What the proof of a writing call needs: that the value of an optional number is that number."""
-        plain = any(it.optional and it.of.owned_value == "{}" and it.of.written_optional[0] == "MaybeRef" for it in rows)
-        return "#[tactic(auto, using(std::proofs::lemmas::Iterator::Adapters::option_map_id))]\n" if plain else ""
+    def equations(self, rows):
+        """What the proof of a writing call has to know: what its calls return, and that an optional number is the number itself."""
+        calls = Counter()
+        for it in reversed(rows):
+            for word in CALLS.findall(self.written(it, "self")):
+                calls[word] += 1
+                place = f"-{calls[word]}" if calls[word] > 1 else ""
+                # `Vec::as_slice` has two clauses.
+                clause = ".value" if word == "as_slice" and it.of.owned == "Vec<u8>" else ""
+                yield f"c.{word}{place}.ensures{clause}"
+        if any(it.optional and it.of.owned_value == "{}" and it.of.written_optional[0] == "MaybeRef" for it in rows):
+            yield "option_map_id"
+
+    def answers(self):
+        """The answer files of the writing calls, by their paths. A call that has nothing to know needs none."""
+        head, tail = self.head_and_tail(LONGEST_WRITTEN)
+        writes = "write_application" if self.application else "write_sequence"
+        for call, rows, writes in [("Encode/write", head, writes), ("TailEncodeRow/write_row", tail, "write_row")]:
+            known = list(self.equations(rows))
+            if known:
+                place = f"{self.owned_file}/{self.owned}{call}"
+                yield f"proofs/{place}/Answers.antt", answer_file(place.replace("/", "."), known, writes)
 
     def tail_writer(self):
         _, tail = self.head_and_tail(LONGEST_WRITTEN)
@@ -540,7 +561,7 @@ class Message:
 
                 {view_item("t", view)}
 
-                {self.tactic(tail)}fn write_row(&self, out: &mut Writer) -> Result<(), EncodeFault> {{
+                fn write_row(&self, out: &mut Writer) -> Result<(), EncodeFault> {{
                     {self.written_rows(tail, "self.0")}
                     row.write_row(out)
                 }}
@@ -557,7 +578,7 @@ class Message:
 
                 ghost view = {{ {self.owned_value} }};
 
-                {self.tactic(head)}fn write(&self, out: &mut Writer) -> Result<(), EncodeFault> {{
+                fn write(&self, out: &mut Writer) -> Result<(), EncodeFault> {{
                     {lines}
                     {writes}
                 }}
@@ -696,6 +717,15 @@ def definition_file(said, uses, again, body):
     return "\n".join(lines) + f"\n\n{body}"
 
 
+def answer_file(place, known, writes):
+    """The answer file of a writing call: its row has the value of the definitions by what is known."""
+    uses = {"Rattle.std.proofs.lemmas.Iterator.Adapters": ["option_map_id"]}
+    lines = [f"use {module}.{{{', '.join(names)}}}" for module, names in used(uses, " ".join(known)).items()]
+    lines += [f"use Rattle.krb_msg.proofs.{place}.Goals as goal", ""]
+    answer = f"pub returns : goal.returns\nreturns c = simp ({', '.join(known)}) at c.{writes}.ensures\n"
+    return "\n".join([f"-- {MADE}", *lines, answer])
+
+
 def structs(places):
     """The structs that definitions are about, by their modules."""
     return {f"Rattle.krb_msg.specs.declared.{file}.{struct}": [struct] for file, struct in places}
@@ -737,7 +767,8 @@ def files():
     table = tomllib.loads((CRATE / "messages.toml").read_text())
     messages = [Message(**it) for it in table["message"]]
     sources = {f"src/{name}.rt": source(name, doc, messages) for name, doc in table["files"].items()}
-    return sources | {f"specs/{name}.antt": text for name, text in definitions(messages).items()}
+    answers = {path: text for it in messages for path, text in it.answers()}
+    return sources | answers | {f"specs/{name}.antt": text for name, text in definitions(messages).items()}
 
 
 def laid_out(texts):
@@ -745,7 +776,7 @@ def laid_out(texts):
     with tempfile.TemporaryDirectory() as room:
         folder = pathlib.Path(room)
         for path, text in texts.items():
-            (folder / path).parent.mkdir(exist_ok=True)
+            (folder / path).parent.mkdir(parents=True, exist_ok=True)
             (folder / path).write_text(text)
         subprocess.run([RATTLE, "fmt", "--write", *texts], cwd=folder, check=True, stdout=subprocess.DEVNULL)
         return {path: (folder / path).read_text() for path in texts}
@@ -766,6 +797,7 @@ def main(words):
         sys.exit(__doc__)
     for path, text in laid_out(files()).items():
         if not words:
+            (CRATE / path).parent.mkdir(parents=True, exist_ok=True)
             (CRATE / path).write_text(text)
         elif wrong := difference(path, text):
             sys.exit(wrong)

@@ -1,0 +1,27 @@
+-- How many bytes the fields after those that a law speaks of add to a message.
+use Rattle.std.specs.Prelude.{ℕ, zero, suc, ◌+◌}
+use Rattle.krb_der.specs.Kind.{Kind, leaf, wrapped, sequence, Fields, ends, must, may, each, ValueOf, FieldsOf}
+use Rattle.krb_der.specs.Size.{fields_size}
+use Rattle.krb_msg.specs.Module.{enc_ap_rep_part}
+
+abbrev pub fields_of : Kind → Fields
+fields_of (leaf c) = ends
+fields_of (wrapped tag k) = fields_of k
+fields_of (sequence fs) = fs
+
+-- the size of the fields after the first n
+abbrev pub size_after : ℕ → (fs : Fields) → FieldsOf fs → ℕ
+size_after zero fs v = fields_size fs v
+size_after (suc n) ends v = 0
+size_after (suc n) (must k fs) v = size_after n fs v.1
+size_after (suc n) (may k fs) v = size_after n fs v.1
+size_after (suc n) (each k) v = 0
+
+-- fields of n bytes, with what the two lengths around them grow by
+abbrev pub with_lengths : ℕ → ℕ
+with_lengths zero = 0
+with_lengths (suc n) = suc n + 8
+
+-- what the fields after seq-number add to the sealed part of a reply: 0, since the standard has none
+abbrev pub reply_more : ValueOf enc_ap_rep_part → ℕ
+reply_more v = with_lengths (size_after 4 (fields_of enc_ap_rep_part) v)
