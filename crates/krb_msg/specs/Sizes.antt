@@ -2,7 +2,8 @@
 use Rattle.std.specs.Prelude.{ℕ, zero, suc, ◌+◌}
 use Rattle.krb_der.specs.Kind.{Kind, leaf, wrapped, sequence, Fields, ends, must, may, each, ValueOf, FieldsOf}
 use Rattle.krb_der.specs.Size.{fields_size}
-use Rattle.krb_msg.specs.Module.{enc_ap_rep_part}
+use Rattle.krb_msg.specs.Module.{encrypted_data, ap_rep, enc_ap_rep_part}
+use Rattle.krb_msg.specs.Fields.{reply_enc_part}
 
 abbrev pub fields_of : Kind → Fields
 fields_of (leaf c) = ends
@@ -17,11 +18,15 @@ size_after (suc n) (must k fs) v = size_after n fs v.1
 size_after (suc n) (may k fs) v = size_after n fs v.1
 size_after (suc n) (each k) v = 0
 
--- fields of n bytes, with what the two lengths around them grow by
+-- with what the two lengths around such fields can grow by
 abbrev pub with_lengths : ℕ → ℕ
 with_lengths zero = 0
 with_lengths (suc n) = suc n + 8
 
--- what the fields after seq-number add to the sealed part of a reply: 0, since the standard has none
-abbrev pub reply_more : ValueOf enc_ap_rep_part → ℕ
-reply_more v = with_lengths (size_after 4 (fields_of enc_ap_rep_part) v)
+-- The size of the fields after seq-number in the sealed part of a reply, and of those after the last
+-- ones of a reply and of its sealed data. Each is 0, since the standard has no such fields.
+abbrev pub part_more : ValueOf enc_ap_rep_part → ℕ
+part_more v = size_after 4 (fields_of enc_ap_rep_part) v
+
+abbrev pub reply_more : ValueOf ap_rep → ℕ
+reply_more v = size_after 3 (fields_of ap_rep) v + size_after 3 (fields_of encrypted_data) (reply_enc_part v)
