@@ -1,5 +1,5 @@
 #!/usr/bin/env python3
-"""Makes the messages' sources and definitions in crates/krb_msg from their table, messages.toml.
+"""Makes the messages' sources, definitions and some of their proofs in crates/krb_msg from their table, messages.toml.
 
     packaging/messages.py           writes the files
     packaging/messages.py --check   writes none, and ends with 1 after the first line that differs
@@ -26,8 +26,10 @@ MADE = "Made from messages.toml by packaging/messages.py. Don't edit this file."
 # Rows of more fields are read, and written, with a tail that has a type of its own: else a proof takes too many steps.
 LONGEST_READ, LONGEST_WRITTEN = 8, 11
 LONGEST_TAIL, SHORTEST_HEAD = 7, 3
-# The calls that a row which is written is made by.
-CALLS = re.compile(r"\b(as_slice|[a-z_]+_in)\(")
+# The proof of reading a row of more fields is left to the checker: it takes fewer steps than an answer that searches.
+LONGEST_SEARCHED = 5
+# The calls by which fields are written, or taken from what was read. `Vec::as_slice` has two clauses.
+CALLS = re.compile(r"(Octets\([\w.]+)?\b(as_slice|[a-z_]+_(?:in|of|bytes))\(")
 
 
 @dataclass(frozen=True)
@@ -523,28 +525,22 @@ class Message:
         names = ["rest"] * (len(values) - 1) + ["row"]
         return "\n".join(f"let {name} = ({it}, {end if place == 0 else 'rest'});" for place, (name, it) in enumerate(zip(names, values)))
 
-    def equations(self, rows):
-        """What the proof of a writing call has to know: what its calls return, and that an optional number is the number itself."""
-        calls = Counter()
-        for it in reversed(rows):
-            for word in CALLS.findall(self.written(it, "self")):
-                calls[word] += 1
-                place = f"-{calls[word]}" if calls[word] > 1 else ""
-                # `Vec::as_slice` has two clauses.
-                clause = ".value" if word == "as_slice" and it.of.owned == "Vec<u8>" else ""
-                yield f"c.{word}{place}.ensures{clause}"
-        if any(it.optional and it.of.owned_value == "{}" and it.of.written_optional[0] == "MaybeRef" for it in rows):
-            yield "option_map_id"
-
     def answers(self):
-        """The answer files of the writing calls, by their paths. A call that has nothing to know needs none."""
+        """The answer files of the calls that read and write it, by their paths."""
+        how = "application" if self.application else "sequence"
+        head, _ = self.head_and_tail(LONGEST_READ)
+        if len(head) <= LONGEST_SEARCHED:
+            known = ["c.in-Ok.is", *(f"sym {it}" for it in calls(it.taken for it in head if it.constant is None))]
+            place = f"{self.view_file}/{self.view}Element/read"
+            yield answer_file(place, "returns-in-Ok", known, f"{how}-row.ensures.computed", "let read = {} in search (rules, read)")
         head, tail = self.head_and_tail(LONGEST_WRITTEN)
-        writes = "write_application" if self.application else "write_sequence"
-        for call, rows, writes in [("Encode/write", head, writes), ("TailEncodeRow/write_row", tail, "write_row")]:
-            known = list(self.equations(rows))
+        for call, rows, how in [("Encode/write", head, f"write_{how}"), ("TailEncodeRow/write_row", tail, "write_row")]:
+            known = list(calls(self.written(it, "self") for it in reversed(rows)))
+            # The value of an optional number is that number.
+            if any(it.optional and it.of.owned_value == "{}" and it.of.written_optional[0] == "MaybeRef" for it in rows):
+                known.append("option_map_id")
             if known:
-                place = f"{self.owned_file}/{self.owned}{call}"
-                yield f"proofs/{place}/Answers.antt", answer_file(place.replace("/", "."), known, writes)
+                yield answer_file(f"{self.owned_file}/{self.owned}{call}", "returns", known, f"{how}.ensures")
 
     def tail_writer(self):
         _, tail = self.head_and_tail(LONGEST_WRITTEN)
@@ -717,13 +713,22 @@ def definition_file(said, uses, again, body):
     return "\n".join(lines) + f"\n\n{body}"
 
 
-def answer_file(place, known, writes):
-    """The answer file of a writing call: its row has the value of the definitions by what is known."""
-    uses = {"Rattle.std.proofs.lemmas.Iterator.Adapters": ["option_map_id"]}
-    lines = [f"use {module}.{{{', '.join(names)}}}" for module, names in used(uses, " ".join(known)).items()]
-    lines += [f"use Rattle.krb_msg.proofs.{place}.Goals as goal", ""]
-    answer = f"pub returns : goal.returns\nreturns c = simp ({', '.join(known)}) at c.{writes}.ensures\n"
-    return "\n".join([f"-- {MADE}", *lines, answer])
+def calls(terms):
+    """What calls in terms of the sources return, by the names that answers have for it."""
+    seen = Counter()
+    for of_vec, name in CALLS.findall(" ".join(terms)):
+        seen[name] += 1
+        yield f"c.{name}{f'-{seen[name]}' if seen[name] > 1 else ''}.ensures{'.value' if of_vec else ''}"
+
+
+def answer_file(place, goal, known, by, form="{}"):
+    """The path of an answer file, and its text: the goal is what a call ensures, by what is known."""
+    uses = {"Rattle.std.proofs.Common": ["rules", "sym"], "Rattle.std.proofs.lemmas.Iterator.Adapters": ["option_map_id"]}
+    term = form.format(f"simp ({', '.join(known)}) at c.{by}")
+    lines = [f"use {module}.{{{', '.join(names)}}}" for module, names in used(uses, term).items()]
+    lines += [f"use Rattle.krb_msg.proofs.{place.replace('/', '.')}.Goals as goal", ""]
+    answer = f"pub {goal} : goal.{goal}\n{goal} c = {term}\n"
+    return f"proofs/{place}/Answers.antt", "\n".join([f"-- {MADE}", *lines, answer])
 
 
 def structs(places):
@@ -767,7 +772,7 @@ def files():
     table = tomllib.loads((CRATE / "messages.toml").read_text())
     messages = [Message(**it) for it in table["message"]]
     sources = {f"src/{name}.rt": source(name, doc, messages) for name, doc in table["files"].items()}
-    answers = {path: text for it in messages for path, text in it.answers()}
+    answers = dict(answer for it in messages for answer in it.answers())
     return sources | answers | {f"specs/{name}.antt": text for name, text in definitions(messages).items()}
 
 
@@ -792,10 +797,20 @@ def difference(path, wanted):
     return f"crates/krb_msg/{path}, line {at}: {has!r} isn't {should!r}, as packaging/messages.py makes it of messages.toml"
 
 
+def left_over(texts):
+    """The answer files that were made of the table as it was, and aren't any more."""
+    return [it for it in CRATE.glob("proofs/**/Answers.antt") if MADE in it.read_text() and str(it.relative_to(CRATE)) not in texts]
+
+
 def main(words):
     if words not in ([], ["--check"]):
         sys.exit(__doc__)
-    for path, text in laid_out(files()).items():
+    texts = laid_out(files())
+    for path in left_over(texts):
+        if words:
+            sys.exit(f"{path.relative_to(ROOT)} isn't made of messages.toml any more")
+        path.unlink()
+    for path, text in texts.items():
         if not words:
             (CRATE / path).parent.mkdir(parents=True, exist_ok=True)
             (CRATE / path).write_text(text)
