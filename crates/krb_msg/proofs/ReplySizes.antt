@@ -69,14 +69,14 @@ without_key v none =
     few_add (fields v) (part_more v) (omega (arith, fields_few v, key))
 
 pub with_key : (v : ValueOf enc_ap_rep_part) (key : ValueOf encryption_key) → reply_subkey v ≡ Some key
-    → size_of enc_ap_rep_part v ≤ 82 + length (bytes_of key) + part_more v
+    → size_of enc_ap_rep_part v ≤ 82 + part_more v + length (bytes_of key)
 with_key v key some =
     let has : key_size v.1.1.0 ≡ size_of (field 0 encryption_key) key = ap key_size some in
     let few : fields v ≤ length (bytes_of key) + 70 + part_more v = omega (arith, fields_few v, has, key_adds key) in
     let outer = field_adds (fields v) (length (bytes_of key) + 70 + part_more v) few in
     omega (arith, outer)
 
-pub reply : (v : ValueOf ap_rep) → size_of ap_rep v ≤ 64 + length (cipher_of (reply_enc_part v)) + reply_more v
+pub reply : (v : ValueOf ap_rep) → size_of ap_rep v ≤ 64 + reply_more v + length (cipher_of (reply_enc_part v))
 reply v =
     let part = reply_enc_part v in
     let n = length (cipher_of part) in

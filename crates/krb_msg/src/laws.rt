@@ -78,6 +78,6 @@ pub fn faulty()
 pub fn reply_size()
     ensures without_key { (v : ValueOf enc_ap_rep_part) → reply_subkey v ≡ None → size_of enc_ap_rep_part v ≤ 41 + with_lengths (part_more v) }
     ensures with_key { (v : ValueOf enc_ap_rep_part) (key : ValueOf encryption_key) → reply_subkey v ≡ Some key
-        → size_of enc_ap_rep_part v ≤ 82 + length (bytes_of key) + part_more v }
-    ensures reply { (v : ValueOf ap_rep) → size_of ap_rep v ≤ 64 + length (cipher_of (reply_enc_part v)) + reply_more v }
+        → size_of enc_ap_rep_part v ≤ 82 + part_more v + length (bytes_of key) }
+    ensures reply { (v : ValueOf ap_rep) → size_of ap_rep v ≤ 64 + reply_more v + length (cipher_of (reply_enc_part v)) }
 {}
