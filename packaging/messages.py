@@ -26,8 +26,6 @@ MADE = "Made from messages.toml by packaging/messages.py. Don't edit this file."
 # Rows of more fields are read, and written, with a tail that has a type of its own: else a proof takes too many steps.
 LONGEST_READ, LONGEST_WRITTEN = 8, 11
 LONGEST_TAIL, SHORTEST_HEAD = 7, 3
-# The proof of reading a row of more fields is left to the checker: it takes fewer steps than an answer that searches.
-LONGEST_SEARCHED = 5
 # The calls by which fields are written, or taken from what was read. `Vec::as_slice` has two clauses.
 CALLS = re.compile(r"(Octets\([\w.]+)?\b(as_slice|[a-z_]+_(?:in|of|bytes))\(")
 
@@ -216,6 +214,11 @@ class Field:
         word, _, rest = form.partition(" ")
         function = word if rest == "{}" else f"(λ x. {form.format('x')})"
         return f"option_map {function} {place}"
+
+    @property
+    def is_plain(self):
+        """Whether it is an optional number that is read, kept and written as it is."""
+        return self.optional and self.of.owned_value == "{}" and self.of.written_optional[0] == "MaybeRef"
 
     @property
     def read(self):
@@ -528,19 +531,16 @@ class Message:
     def answers(self):
         """The answer files of the calls that read and write it, by their paths."""
         how = "application" if self.application else "sequence"
-        head, _ = self.head_and_tail(LONGEST_READ)
-        if len(head) <= LONGEST_SEARCHED:
-            known = ["c.in-Ok.is", *(f"sym {it}" for it in calls(it.taken for it in head if it.constant is None))]
-            place = f"{self.view_file}/{self.view}Element/read"
-            yield answer_file(place, "returns-in-Ok", known, f"{how}-row.ensures.computed", "let read = {} in search (rules, read)")
+        head, tail = self.head_and_tail(LONGEST_READ)
+        yield read_answer(f"{self.view_file}/{self.view}Element/read", head, f"{how}-row.ensures.computed")
+        if tail:
+            yield read_answer(f"{self.view_file}/{self.base}TailRowImpl/read_row", tail, "read_row-row.ensures")
         head, tail = self.head_and_tail(LONGEST_WRITTEN)
-        for call, rows, how in [("Encode/write", head, f"write_{how}"), ("TailEncodeRow/write_row", tail, "write_row")]:
+        for call, rows, by in [("Encode/write", head, f"write_{how}.ensures"), ("TailEncodeRow/write_row", tail, "write_row.ensures")]:
             known = list(calls(self.written(it, "self") for it in reversed(rows)))
-            # The value of an optional number is that number.
-            if any(it.optional and it.of.owned_value == "{}" and it.of.written_optional[0] == "MaybeRef" for it in rows):
-                known.append("option_map_id")
+            known += ["option_map_id"] if any(it.is_plain for it in rows) else []
             if known:
-                yield answer_file(f"{self.owned_file}/{self.owned}{call}", "returns", known, f"{how}.ensures")
+                yield answer_file(f"{self.owned_file}/{self.owned}{call}", "returns", rewritten(known, by))
 
     def tail_writer(self):
         _, tail = self.head_and_tail(LONGEST_WRITTEN)
@@ -713,22 +713,35 @@ def definition_file(said, uses, again, body):
     return "\n".join(lines) + f"\n\n{body}"
 
 
-def calls(terms):
-    """What calls in terms of the sources return, by the names that answers have for it."""
+def calls(terms, arm=""):
+    """What calls in terms of the sources ensure, by the names that answers have for it. The second of a name is called after its arm, if there is one."""
     seen = Counter()
     for of_vec, name in CALLS.findall(" ".join(terms)):
+        before = seen[name]
         seen[name] += 1
-        yield f"c.{name}{f'-{seen[name]}' if seen[name] > 1 else ''}.ensures{'.value' if of_vec else ''}"
+        places = ["", arm or "-2"]
+        place = places[before] if before < 2 else f"{arm}-{before}" if arm else f"-{before + 1}"
+        yield f"c.{name}{place}.ensures{'.value' if of_vec else ''}"
 
 
-def answer_file(place, goal, known, by, form="{}"):
-    """The path of an answer file, and its text: the goal is what a call ensures, by what is known."""
+def rewritten(known, by):
+    """What a call ensures, rewritten by what is known."""
+    return f"simp ({', '.join(known)}) at c.{by}"
+
+
+def read_answer(place, rows, by):
+    """The answer file of a call that reads: its fields are those of the row, and an optional number is that number."""
+    known = ["c.in-Ok.is", *(f"sym {it}" for it in calls((it.taken for it in rows if it.constant is None), "-in-Ok"))]
+    numbers = "option_map_id, " if any(it.is_plain for it in rows) else ""
+    return answer_file(place, "returns-in-Ok", f"let read = {rewritten(known, by)} in search (rules, {numbers}read)")
+
+
+def answer_file(place, goal, term):
+    """The path of an answer file, and its text."""
     uses = {"Rattle.std.proofs.Common": ["rules", "sym"], "Rattle.std.proofs.lemmas.Iterator.Adapters": ["option_map_id"]}
-    term = form.format(f"simp ({', '.join(known)}) at c.{by}")
     lines = [f"use {module}.{{{', '.join(names)}}}" for module, names in used(uses, term).items()]
     lines += [f"use Rattle.krb_msg.proofs.{place.replace('/', '.')}.Goals as goal", ""]
-    answer = f"pub {goal} : goal.{goal}\n{goal} c = {term}\n"
-    return f"proofs/{place}/Answers.antt", "\n".join([f"-- {MADE}", *lines, answer])
+    return f"proofs/{place}/Answers.antt", "\n".join([f"-- {MADE}", *lines, f"pub {goal} : goal.{goal}\n{goal} c = {term}\n"])
 
 
 def structs(places):
