@@ -1,5 +1,5 @@
 #!/usr/bin/env python3
-"""Makes the messages' sources and definitions in crates/krb_msg from their table, messages.toml.
+"""Makes the messages' sources, definitions and some of their proofs in crates/krb_msg from their table, messages.toml.
 
     packaging/messages.py           writes the files
     packaging/messages.py --check   writes none, and ends with 1 after the first line that differs
@@ -15,6 +15,7 @@ import sys
 import tempfile
 import textwrap
 import tomllib
+from collections import Counter
 from dataclasses import dataclass
 
 ROOT = pathlib.Path(__file__).resolve().parent.parent
@@ -25,6 +26,8 @@ MADE = "Made from messages.toml by packaging/messages.py. Don't edit this file."
 # Rows of more fields are read, and written, with a tail that has a type of its own: else a proof takes too many steps.
 LONGEST_READ, LONGEST_WRITTEN = 8, 11
 LONGEST_TAIL, SHORTEST_HEAD = 7, 3
+# The calls by which fields are written, or taken from what was read. `Vec::as_slice` has two clauses.
+CALLS = re.compile(r"(Octets\([\w.]+)?\b(as_slice|[a-z_]+_(?:in|of|bytes))\(")
 
 
 @dataclass(frozen=True)
@@ -211,6 +214,11 @@ class Field:
         word, _, rest = form.partition(" ")
         function = word if rest == "{}" else f"(λ x. {form.format('x')})"
         return f"option_map {function} {place}"
+
+    @property
+    def is_plain(self):
+        """Whether it is an optional number that is read, kept and written as it is."""
+        return self.optional and self.of.owned_value == "{}" and self.of.written_optional[0] == "MaybeRef"
 
     @property
     def read(self):
@@ -520,10 +528,19 @@ class Message:
         names = ["rest"] * (len(values) - 1) + ["row"]
         return "\n".join(f"let {name} = ({it}, {end if place == 0 else 'rest'});" for place, (name, it) in enumerate(zip(names, values)))
 
-    def tactic(self, rows):
-        """What the proof of a writing call needs: that the value of an optional number is that number."""
-        plain = any(it.optional and it.of.owned_value == "{}" and it.of.written_optional[0] == "MaybeRef" for it in rows)
-        return "#[tactic(auto, using(std::proofs::lemmas::Iterator::Adapters::option_map_id))]\n" if plain else ""
+    def answers(self):
+        """The answer files of the calls that read and write it, by their paths."""
+        how = "application" if self.application else "sequence"
+        head, tail = self.head_and_tail(LONGEST_READ)
+        yield read_answer(f"{self.view_file}/{self.view}Element/read", head, f"{how}-row.ensures.computed")
+        if tail:
+            yield read_answer(f"{self.view_file}/{self.base}TailRowImpl/read_row", tail, "read_row-row.ensures")
+        head, tail = self.head_and_tail(LONGEST_WRITTEN)
+        for call, rows, by in [("Encode/write", head, f"write_{how}.ensures"), ("TailEncodeRow/write_row", tail, "write_row.ensures")]:
+            known = list(calls(self.written(it, "self") for it in reversed(rows)))
+            known += ["option_map_id"] if any(it.is_plain for it in rows) else []
+            if known:
+                yield answer_file(f"{self.owned_file}/{self.owned}{call}", "returns", rewritten(known, by))
 
     def tail_writer(self):
         _, tail = self.head_and_tail(LONGEST_WRITTEN)
@@ -540,7 +557,7 @@ class Message:
 
                 {view_item("t", view)}
 
-                {self.tactic(tail)}fn write_row(&self, out: &mut Writer) -> Result<(), EncodeFault> {{
+                fn write_row(&self, out: &mut Writer) -> Result<(), EncodeFault> {{
                     {self.written_rows(tail, "self.0")}
                     row.write_row(out)
                 }}
@@ -557,7 +574,7 @@ class Message:
 
                 ghost view = {{ {self.owned_value} }};
 
-                {self.tactic(head)}fn write(&self, out: &mut Writer) -> Result<(), EncodeFault> {{
+                fn write(&self, out: &mut Writer) -> Result<(), EncodeFault> {{
                     {lines}
                     {writes}
                 }}
@@ -696,6 +713,37 @@ def definition_file(said, uses, again, body):
     return "\n".join(lines) + f"\n\n{body}"
 
 
+def calls(terms, arm=""):
+    """What calls in terms of the sources ensure, by the names that answers have for it. The second of a name is called after its arm, if there is one."""
+    seen = Counter()
+    for of_vec, name in CALLS.findall(" ".join(terms)):
+        before = seen[name]
+        seen[name] += 1
+        places = ["", arm or "-2"]
+        place = places[before] if before < 2 else f"{arm}-{before}" if arm else f"-{before + 1}"
+        yield f"c.{name}{place}.ensures{'.value' if of_vec else ''}"
+
+
+def rewritten(known, by):
+    """What a call ensures, rewritten by what is known."""
+    return f"simp ({', '.join(known)}) at c.{by}"
+
+
+def read_answer(place, rows, by):
+    """The answer file of a call that reads: its fields are those of the row, and an optional number is that number."""
+    known = ["c.in-Ok.is", *(f"sym {it}" for it in calls((it.taken for it in rows if it.constant is None), "-in-Ok"))]
+    numbers = "option_map_id, " if any(it.is_plain for it in rows) else ""
+    return answer_file(place, "returns-in-Ok", f"let read = {rewritten(known, by)} in search (rules, {numbers}read)")
+
+
+def answer_file(place, goal, term):
+    """The path of an answer file, and its text."""
+    uses = {"Rattle.std.proofs.Common": ["rules", "sym"], "Rattle.std.proofs.lemmas.Iterator.Adapters": ["option_map_id"]}
+    lines = [f"use {module}.{{{', '.join(names)}}}" for module, names in used(uses, term).items()]
+    lines += [f"use Rattle.krb_msg.proofs.{place.replace('/', '.')}.Goals as goal", ""]
+    return f"proofs/{place}/Answers.antt", "\n".join([f"-- {MADE}", *lines, f"pub {goal} : goal.{goal}\n{goal} c = {term}\n"])
+
+
 def structs(places):
     """The structs that definitions are about, by their modules."""
     return {f"Rattle.krb_msg.specs.declared.{file}.{struct}": [struct] for file, struct in places}
@@ -737,7 +785,8 @@ def files():
     table = tomllib.loads((CRATE / "messages.toml").read_text())
     messages = [Message(**it) for it in table["message"]]
     sources = {f"src/{name}.rt": source(name, doc, messages) for name, doc in table["files"].items()}
-    return sources | {f"specs/{name}.antt": text for name, text in definitions(messages).items()}
+    answers = dict(answer for it in messages for answer in it.answers())
+    return sources | answers | {f"specs/{name}.antt": text for name, text in definitions(messages).items()}
 
 
 def laid_out(texts):
@@ -745,7 +794,7 @@ def laid_out(texts):
     with tempfile.TemporaryDirectory() as room:
         folder = pathlib.Path(room)
         for path, text in texts.items():
-            (folder / path).parent.mkdir(exist_ok=True)
+            (folder / path).parent.mkdir(parents=True, exist_ok=True)
             (folder / path).write_text(text)
         subprocess.run([RATTLE, "fmt", "--write", *texts], cwd=folder, check=True, stdout=subprocess.DEVNULL)
         return {path: (folder / path).read_text() for path in texts}
@@ -761,11 +810,22 @@ def difference(path, wanted):
     return f"crates/krb_msg/{path}, line {at}: {has!r} isn't {should!r}, as packaging/messages.py makes it of messages.toml"
 
 
+def left_over(texts):
+    """The answer files that were made of the table as it was, and aren't any more."""
+    return [it for it in CRATE.glob("proofs/**/Answers.antt") if MADE in it.read_text() and str(it.relative_to(CRATE)) not in texts]
+
+
 def main(words):
     if words not in ([], ["--check"]):
         sys.exit(__doc__)
-    for path, text in laid_out(files()).items():
+    texts = laid_out(files())
+    for path in left_over(texts):
+        if words:
+            sys.exit(f"{path.relative_to(ROOT)} isn't made of messages.toml any more")
+        path.unlink()
+    for path, text in texts.items():
         if not words:
+            (CRATE / path).parent.mkdir(parents=True, exist_ok=True)
             (CRATE / path).write_text(text)
         elif wrong := difference(path, text):
             sys.exit(wrong)

@@ -45,7 +45,6 @@ impl Encode for EncTicketPart {
 
     ghost view = { owned_enc_ticket_part_of };
 
-    #[tactic(auto, using(std::proofs::lemmas::Iterator::Adapters::option_map_id))]
     fn write(&self, out: &mut Writer) -> Result<(), EncodeFault> {
         let rest = (MaybeRef::<0xaa, _>(&self.authorization), ());
         let rest = (MaybeRef::<0xa9, _>(&self.caddr), rest);

@@ -77,7 +77,6 @@ impl Encode for KrbError {
 
     ghost view = { owned_krb_error_of };
 
-    #[tactic(auto, using(std::proofs::lemmas::Iterator::Adapters::option_map_id))]
     fn write(&self, out: &mut Writer) -> Result<(), EncodeFault> {
         let rest = (Field::<0xa5, _>(self.susec), KrbErrorTail(self));
         let rest = (Field::<0xa4, _>(self.stime), rest);

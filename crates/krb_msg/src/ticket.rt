@@ -85,7 +85,6 @@ impl Encode for Encrypted {
 
     ghost view = { owned_encrypted_of };
 
-    #[tactic(auto, using(std::proofs::lemmas::Iterator::Adapters::option_map_id))]
     fn write(&self, out: &mut Writer) -> Result<(), EncodeFault> {
         let rest = (Field::<0xa2, _>(Octets(self.cipher.as_slice())), ());
         let rest = (MaybeRef::<0xa1, _>(&self.kvno), rest);

@@ -1,5 +1,5 @@
-use Rattle.std.proofs.lemmas.Iterator.Adapters.{option_map_id}
+-- Made from messages.toml by packaging/messages.py. Don't edit this file.
 use Rattle.krb_msg.proofs.authenticator.AuthenticatorEncode.write.Goals as goal
 
 pub returns : goal.returns
-returns c = simp (option_map_id, c.as_slice.ensures, c.seq_number_in.ensures) at c.write_application.ensures
+returns c = simp (c.seq_number_in.ensures, c.as_slice.ensures) at c.write_application.ensures

@@ -1,5 +1,6 @@
+-- Made from messages.toml by packaging/messages.py. Don't edit this file.
 use Rattle.std.proofs.lemmas.Iterator.Adapters.{option_map_id}
 use Rattle.krb_msg.proofs.krb_error.KrbErrorEncode.write.Goals as goal
 
 pub returns : goal.returns
-returns c = simp option_map_id at c.write_application.ensures
+returns c = simp (option_map_id) at c.write_application.ensures
