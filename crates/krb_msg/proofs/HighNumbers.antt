@@ -5,7 +5,7 @@ use Rattle.krb_der.specs.Kind.{Kind, Fields, ends, must, may, each, ValueOf, Fie
 use Rattle.krb_der.specs.Numbers.{numbers_in, HasHigh, HaveHigh}
 use Rattle.krb_msg.specs.Module.{IsMessageKind, is_ticket, is_authenticator, is_enc_ticket_part, is_ap_req, is_ap_rep, is_enc_ap_rep_part, is_krb_error, ticket, authenticator, enc_ticket_part, ap_req, ap_rep, enc_ap_rep_part, krb_error}
 use Rattle.krb_msg.specs.Fields.{authenticator_seq_number, reply_seq_number}
-use Rattle.krb_msg.specs.Sizes.{fields_of}
+use Rattle.krb_msg.proofs.Sizes.{fields_of}
 use Rattle.krb_msg.specs.Numbers.{HasHighNumber, of_authenticator, of_reply}
 
 -- a message holds one sequence number at most

@@ -1,3 +1,4 @@
 pub mod Messages
 pub mod ReplySizes
+pub mod Sizes
 pub mod HighNumbers

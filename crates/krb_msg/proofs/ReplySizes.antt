@@ -5,7 +5,7 @@ use Rattle.krb_der.specs.Kind.{leaf, uint32, field, ValueOf}
 use Rattle.krb_der.specs.Whole.{natural_size, integer_size}
 use Rattle.krb_der.specs.Size.{length_size, element_size, size_if, size_of, content_size}
 use Rattle.krb_msg.specs.Module.{encrypted_data, encryption_key, enc_ap_rep_part, ap_rep}
-use Rattle.krb_msg.specs.Sizes.{fields_of, size_after, with_lengths, part_more, reply_more}
+use Rattle.krb_msg.proofs.Sizes.{fields_of, size_after, with_lengths, part_more, reply_more}
 use Rattle.krb_msg.specs.Fields.{bytes_of, cipher_of, reply_enc_part, reply_subkey}
 
 length_few : (n : ℕ) → length_size n ≤ 5

@@ -6,6 +6,5 @@ pub mod Module
 pub mod Bits
 pub mod Fields
 pub mod Numbers
-pub mod Sizes
 pub mod Borrowed
 pub mod Owned

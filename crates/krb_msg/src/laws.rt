@@ -10,7 +10,6 @@ ghost use Rattle.krb_der.specs.Writing.{Writes};
 ghost use Rattle.krb_der.specs.Numbers.{SpellsNegative};
 ghost use Rattle.krb_msg.specs.Fields.{bytes_of, cipher_of, reply_enc_part, reply_subkey};
 ghost use Rattle.krb_msg.specs.Numbers.{HasHighNumber};
-ghost use Rattle.krb_msg.specs.Sizes.{with_lengths, part_more, reply_more};
 ghost use Rattle.krb_msg.specs.Module.{IsMessageKind, ap_req, ap_rep, enc_ap_rep_part, encryption_key};
 
 /// A spelling of a message has only one value.
@@ -73,11 +72,10 @@ pub fn faulty()
 }
 
 /// The greatest length of replies: without a key the sealed part of a reply has at most 41 bytes,
-/// and such a part is never too long. `part_more` and `reply_more` are the sizes of fields after
-/// those that the standard has. They are 0 as long as there are none.
+/// and such a part is never too long.
 pub fn reply_size()
-    ensures without_key { (v : ValueOf enc_ap_rep_part) → reply_subkey v ≡ None → size_of enc_ap_rep_part v ≤ 41 + with_lengths (part_more v) }
+    ensures without_key { (v : ValueOf enc_ap_rep_part) → reply_subkey v ≡ None → size_of enc_ap_rep_part v ≤ 41 }
     ensures with_key { (v : ValueOf enc_ap_rep_part) (key : ValueOf encryption_key) → reply_subkey v ≡ Some key
-        → size_of enc_ap_rep_part v ≤ 82 + part_more v + length (bytes_of key) }
-    ensures reply { (v : ValueOf ap_rep) → size_of ap_rep v ≤ 64 + reply_more v + length (cipher_of (reply_enc_part v)) }
+        → size_of enc_ap_rep_part v ≤ 82 + length (bytes_of key) }
+    ensures reply { (v : ValueOf ap_rep) → size_of ap_rep v ≤ 64 + length (cipher_of (reply_enc_part v)) }
 {}
