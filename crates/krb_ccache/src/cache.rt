@@ -110,6 +110,9 @@ impl CCache {
         ensures offset { IfErr result (λ fault.
             IfSome (offset_of fault) (λ at. at ≤ length bytes.now)) }
     {
+        if bytes.len() > FILE_LIMIT {
+            return Err(CacheFault::TooLong);
+        }
         if let Ok(cache) = CCache::read(alloc, &mut SliceSource::new(bytes)) {
             return Ok(cache);
         }
