@@ -85,9 +85,16 @@ def caches():
 
 
 def read_caches():
-    for count, file, _ in caches():
+    """Each is read, written and searched for the last credential; then a cache of 300 parts is searched, three of them for one server."""
+    for count, file, name in caches():
         yield f"cache read slice {file.hex()}", begins("ok ")
         yield f"cache write {file.hex()}", f"ok {shown(file)}"
+        yield f"cache find {name} {file.hex()}", f"found {count - 1}" if count else "found"
+    client = name_word(1, b"EX", [b"alice"])
+    servers = [name_word(3, b"EX", [b"host", b"web%d" % it]) for it in range(100)]
+    parts = " ".join(f"{client}:{servers[it % 100]}:19:-:0:0:0:0:0:0:.:.:-:-" for it in range(300))
+    yield f"cache found {servers[7]} . {client} {parts}", "found 7 107 207"
+    yield f"cache found {client} . {client} {parts}", "found"
 
 
 def asked_caches():

@@ -11,6 +11,7 @@ use krb_ccache::{CCache, CacheFault, Credential};
 use krb_name::{Principal, Source};
 use krb_words::bytes_of;
 use std::alloc::Global;
+use std::fmt::Write;
 
 /// Calls of caches.
 pub(crate) fn cache(alloc: Global, words: &[&str]) -> Option<String> {
@@ -20,6 +21,8 @@ pub(crate) fn cache(alloc: Global, words: &[&str]) -> Option<String> {
         ["write", file] => written(alloc, file),
         ["made", ..] => made_listed(alloc, words.get(1..)?),
         ["written", ..] => made_written(alloc, words.get(1..)?),
+        ["find", server, file] => found_parsed(alloc, server, file),
+        ["found", server, ..] => found_made(alloc, server, words.get(2..)?),
         ["shown", credential] => shown_credential(alloc, credential),
         ["list", list] => lent(alloc, list),
         _ => None,
@@ -58,6 +61,30 @@ fn made_written(alloc: Global, words: &[&str]) -> Option<String> {
         Some(cache) => bytes_told(alloc, &cache),
         None => word(alloc, "none"),
     }
+}
+
+fn found_parsed(alloc: Global, server: &str, file: &str) -> Option<String> {
+    let bytes = bytes_of(alloc, file)?;
+    found(alloc, server, &CCache::parse(alloc, &bytes).ok()?)
+}
+
+fn found_made(alloc: Global, server: &str, words: &[&str]) -> Option<String> {
+    found(alloc, server, &made(alloc, words)??)
+}
+
+// Tells the indices of the credentials for a server.
+fn found(alloc: Global, server: &str, cache: &CCache) -> Option<String> {
+    let name = name_of(alloc, server)?;
+    let mut text = word(alloc, "found")?;
+    let mut next = 0;
+    for _ in cache.credentials() {
+        let Some(at) = cache.find_server(&name, next) else {
+            break;
+        };
+        write!(text, " {at}").ok()?;
+        next = at + 1;
+    }
+    Some(text)
 }
 
 fn made(alloc: Global, words: &[&str]) -> Option<Option<CCache>> {

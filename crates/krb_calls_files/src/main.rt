@@ -19,6 +19,7 @@
 //! keytab turned FILE                      each entry is removed and added again: `same` if the file is then as it was
 //! entry new|shown NAME TIMESTAMP KVNO ETYPE KEY
 //! cache parse FILE, read SOURCE FILE, write FILE, made|written HEADER NAME [CREDENTIAL ..], shown CREDENTIAL, list LIST
+//! cache find SERVER FILE, found SERVER HEADER NAME [CREDENTIAL ..]     the indices of the credentials for this server
 //! ```
 //!
 //! These open something, to which the lines up to `new` or a closing call speak:

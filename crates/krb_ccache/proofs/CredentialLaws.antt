@@ -11,7 +11,7 @@ use Rattle.krb_ccache.specs.Format.{Spelled, Spells}
 use Rattle.krb_ccache.specs.contracts.credential.CredentialHasRow.TheImpl.{ghosts}
 use Rattle.krb_ccache.specs.Inner.Reading.{made_at, is_flag, allowed}
 use Rattle.krb_ccache.specs.Inner.Row.{Row, Raw, row_at, row_bytes, FitsRow}
-use Rattle.krb_ccache.specs.Inner.Standing.{bytes_of, spelled_as, Lies, IsMissing}
+use Rattle.krb_ccache.specs.Inner.Standing.{bytes_of, spelled_as, Lies, LiesOne, IsMissing}
 use Rattle.krb_ccache.specs.Inner.Walking.{passed_at, Marked, FitsKeyed, whole}
 use Rattle.krb_ccache.proofs.Fields.{none_then, IsField-made}
 use Rattle.krb_ccache.proofs.PartLaws.{IsField-row}
@@ -105,7 +105,7 @@ module _ (layout : Layout) where
 
     module _ {R : Type 0} (value : Parts → R) where
       pub credential_lies : (behind : Place) (row : R) (credential : Credential) → IsBytes place.rest → made_at value (row_at fields true layout) place ≡ Some (row, behind)
-          → ((parts : Parts) → row ≡ value parts → FitsRow fields true layout parts → Spells layout (spelled_as (row_bytes fields parts) credential)) → (bytes : List ℕ) × Lies bytes_of (Spells layout) place (spelled_as bytes credential) behind
+          → ((parts : Parts) → row ≡ value parts → FitsRow fields true layout parts → Spells layout (spelled_as (row_bytes fields parts) credential)) → LiesOne layout place credential behind
       credential_lies behind row credential fits e made =
           let a = bind_some (row_at fields true layout place) (λ p. Some (value p.0, p.1)) (row, behind) e in
           let t = (IsField-row fields true layout).takes place a.0.0 a.0.1 fits a.1 in

@@ -5,7 +5,7 @@ ghost use Rattle.krb_name.specs.Field.{IsBytes};
 ghost use Rattle.krb_ccache.specs.Types.{HeaderField as HeaderFieldValue};
 ghost use Rattle.krb_ccache.specs.Spelling.{header_bytes};
 ghost use Rattle.krb_ccache.specs.Value.{FitsHeader};
-ghost use Rattle.krb_ccache.specs.Format.{IsFaultOf};
+ghost use Rattle.krb_ccache.specs.Format.{head_bytes, FitsHead, IsFaultOf};
 ghost use Rattle.krb_ccache.specs.Inner.Reading.{field_at};
 ghost use Rattle.krb_ccache.specs.Inner.Standing.{Opened, Lies, IsMissing, Fills};
 
@@ -40,7 +40,26 @@ pub(crate) fn open<'a>(bytes: &'a [u8]) -> Result<(Layout, FileCursor<'a>), Cach
     }
 }
 
-/// Reads the header that begins here, and moves past it.
+/// Reads the header that begins here, if the layout has one, and moves past it.
+pub(crate) fn read_head(
+    alloc: Global,
+    layout: Layout,
+    cursor: &mut FileCursor<'_>,
+) -> Result<Vec<HeaderField>, ItemFault>
+    requires { IsBytes cursor.old.rest }
+    ensures read { IfOk result (λ header.
+        Lies (head_bytes layout) (FitsHead layout) cursor.old header.items cursor.new) }
+    ensures fits { IfOk result (λ header. FitsHeader header.items) }
+    ensures missing { result ≡ Err ItemFault.Missing
+        → IsMissing (head_bytes layout) (FitsHead layout) cursor.old.rest }
+{
+    match layout {
+        Layout::Version3 => Ok(Vec::new(alloc)),
+        Layout::Version4 => read_header(alloc, cursor),
+    }
+}
+
+// Reads the header that begins here, and moves past it.
 #[tactic(auto, using(crate::proofs::HeaderLaws::header_lies, crate::proofs::HeaderLaws::header_cut, crate::proofs::HeaderLaws::header_wrong))]
 pub(crate) fn read_header(
     alloc: Global,

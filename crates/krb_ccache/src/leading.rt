@@ -14,7 +14,7 @@ ghost use Rattle.krb_ccache.specs.Inner.Walking.{Walks, Halts, stopped_reads};
 
 use crate::credential::HeaderField;
 use crate::field::{Field, take_all};
-use crate::header::read_header;
+use crate::header::read_head;
 use crate::item_fault::ItemFault;
 use crate::layout::{Layout, read_layout};
 use crate::taker::Taker;
@@ -97,10 +97,7 @@ impl Leading for Vec<HeaderField> {
         layout: Layout,
         cursor: &mut FileCursor<'_>,
     ) -> Result<Vec<HeaderField>, ItemFault> {
-        match layout {
-            Layout::Version3 => Ok(Vec::new(alloc)),
-            Layout::Version4 => read_header(alloc, cursor),
-        }
+        read_head(alloc, layout, cursor)
     }
 }
 

@@ -47,6 +47,10 @@ bytes_of one = one.bytes
 abbrev pub spelled_as : List ℕ → Credential → Spelled
 spelled_as bytes credential = record { bytes = bytes; credential = credential }
 
+-- a credential lies between two places
+abbrev pub LiesOne : Layout → Place → Credential → Place → Type 0
+LiesOne layout place credential behind = (bytes : List ℕ) × Lies bytes_of (Spells layout) place (spelled_as bytes credential) behind
+
 -- behind whole credentials there are bytes, and no credential at their front
 pub record StopsBy (layout : Layout) (place : Place) (fault : CacheFault) : Type 0 where
   pub credentials : List Spelled
