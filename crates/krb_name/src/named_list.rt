@@ -59,8 +59,11 @@ impl<T: Named + Drop> NamedList<T> {
     pub fn hashed(alloc: Global, items: Vec<T>) -> Result<NamedList<T>, AllocError>
         ensures { IfOk result (λ list. list ≡ items.items) }
     {
-        let names = items.iter().map(|one| one.name().name_hash());
-        let hashes = Some(names.collect(alloc)?);
+        let mut hashes = Vec::with_capacity(alloc, items.len())?;
+        for item in items.as_slice() {
+            hashes.push(item.name().name_hash())?;
+        }
+        let hashes = Some(hashes);
         Ok(NamedList { items, hashes })
     }
 
