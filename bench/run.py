@@ -128,11 +128,11 @@ def messages():
     """The messages that are timed: a name, the word that the programs know the type by, and the bytes. The last byte is one of an
     OCTET STRING."""
     request = der.fields(
-        (0, der.integer(5)), (1, der.integer(14)), (2, der.flags(0)), (3, der.TICKET), (4, der.sealed(19, "5a" * 91)))
+        (0, der.integer(5)), (1, der.integer(14)), (2, der.flags(0)), (3, der.TICKET), (4, der.encrypted(19, b"\x5a" * 91)))
     ticket_part = der.fields(
-        (0, der.flags(0)), (1, der.typed(19, bytes(range(16)).hex())), (2, der.string("EX")), (3, der.name(1, "alice")),
-        (4, der.typed(1, "")), (5, der.time("20231114221320Z")), (7, der.time("20231115081320Z")),
-        (10, der.sequence(*[der.typed(1, "5a" * 32)] * 20)))
+        (0, der.flags(0)), (1, der.typed(19, bytes(range(16)))), (2, der.string(b"EX")), (3, der.name(1, b"alice")),
+        (4, der.typed(1, b"")), (5, der.time("20231114221320Z")), (7, der.time("20231115081320Z")),
+        (10, der.sequence(*[der.typed(1, b"\x5a" * 32)] * 20)))
     return [
         ("AP-REQ", "ap-req", der.element(0x6E, request)),
         ("Ticket", "ticket", der.TICKET),
