@@ -76,7 +76,7 @@ def rows():
     for etype in (19, 20):
         for extra in (0, PAC):
             yield etype, 1, extra, 0
-    for entries in (10, 1_000):
+    for entries in (10, 1_000, 100_000):
         yield 19, entries, 0, 0
     for held in (1_000, 1_000_000):
         yield 19, 1, 0, held

@@ -121,6 +121,19 @@ def requests_of(folder):
     return run_of
 
 
+def accepting(folder):
+    """A new service accepts a request whose ticket has so many bytes of authorization data."""
+    folder = folder_in(folder, "tickets")
+
+    def run_of(size):
+        keys, tickets, now = exchange.laid_out(folder, 19, 1, size)
+        keytab = fevstunik.Keytab.read(keys)
+        request, _ = fevstunik.make_request(fevstunik.CredentialCache.read(tickets), "host/web0.example.test@EXAMPLE.TEST", now=int(now))
+        return of_a_call(lambda: fevstunik.Acceptor(keytab, None, started=None).accept(request, now=int(now)))
+
+    return run_of
+
+
 def calls(folder):
     """Rows of calls of the library."""
     key = fevstunik.Key(19, bytes(16))
@@ -139,6 +152,9 @@ def calls(folder):
     yield "fevstunik_keytab_remove, entries", 10_000, lambda size: of_a_call(lambda: keytab(size).removed(size - 1))
     yield "fevstunik_keytab_write, entries", 10_000, lambda size: of_a_call(keytab(size).compacted)
     yield "fevstunik_acceptor_new, entries", 10_000, lambda size: of_a_call(lambda: fevstunik.Acceptor(keytab(size), None, started=None))
+    yield "fevstunik_acceptor_accept, bytes of a ticket's authorization data", 1 << 15, accepting(folder)
+    yield "fevstunik_cache_new, credentials", 250, lambda size: of_a_call(
+        lambda data=files.cache(size): fevstunik.CredentialCache(data))
     yield "all of fevstunik_cache_credential, credentials", 500, lambda size: of_a_call(
         lambda data=files.cache(size): fevstunik.CredentialCache(data).credentials)
     yield "fevstunik_request, credentials", 1_500, requests_of(folder)

@@ -113,8 +113,10 @@ class Keytab:
         name, key = entry.name.encode(), octets(entry.key.data)
         parts = _library.KeyParts(fitting(entry.timestamp, 32), fitting(entry.kvno, 32), fitting(entry.name_type, 32, signed=True),
                                   fitting(entry.key.kind, 16, signed=True))
+        # A record takes at most twice its name's bytes, the key's, and 64 more.
+        room = len(self._data) + 2 * len(name) + len(key) + 64
         return Keytab(filled(lambda *into: library().call(
-            "keytab_add", self._data, len(self._data), name, len(name), key, len(key), byref(parts), *into)))
+            "keytab_add", self._data, len(self._data), name, len(name), key, len(key), byref(parts), *into), room))
 
     def removed(self, index: int) -> Keytab:
         """Return a keytab without the entry at an index. The entry's place becomes a hole of zeros.
@@ -122,7 +124,8 @@ class Keytab:
         >>> Keytab.read("examples/service.keytab").removed(0).entries
         ()
         """
-        return Keytab(filled(lambda *into: library().call("keytab_remove", self._data, len(self._data), fitting(index, 64), *into)))
+        index, room = fitting(index, 64), len(self._data)
+        return Keytab(filled(lambda *into: library().call("keytab_remove", self._data, len(self._data), index, *into), room))
 
     def compacted(self) -> Keytab:
         """Return a keytab with the same entries and without holes.
@@ -131,7 +134,9 @@ class Keytab:
         >>> len(keytab.data), len(keytab.compacted().data)
         (476, 318)
         """
-        return Keytab(filled(lambda *into: library().call("keytab_write", self._data, len(self._data), *into)))
+        # An entry without a version number of 32 bits gets one.
+        room = len(self._data) + 4 * self._count
+        return Keytab(filled(lambda *into: library().call("keytab_write", self._data, len(self._data), *into), room))
 
     def __repr__(self) -> str:
         return f"<Keytab of {self._count} entries>"

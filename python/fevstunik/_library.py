@@ -217,9 +217,8 @@ def done(answer: Answer) -> Answer:
     return answer
 
 
-def filled(call: Callable[[Any, int], Answer]) -> bytes:
-    """The bytes that a call with a buffer returns, with as much room as it needs."""
-    room = 1024
+def filled(call: Callable[[Any, int], Answer], room: int = 1024) -> bytes:
+    """The bytes that a call with a buffer returns. The first buffer has this room; a call that needs more is made again."""
     while True:
         buffer = ctypes.create_string_buffer(room)
         answer = call(buffer, room)

@@ -72,7 +72,7 @@ fn found_made(alloc: Global, server: &str, words: &[&str]) -> Option<String> {
     found(alloc, server, &made(alloc, words)??)
 }
 
-// Tells the indices of the credentials for a server.
+// Returns the indices of the credentials for a server.
 fn found(alloc: Global, server: &str, cache: &CCache) -> Option<String> {
     let name = name_of(alloc, server)?;
     let mut text = word(alloc, "found")?;
