@@ -398,8 +398,8 @@ static void refusals_without_memory(void)
     fevstunik_acceptor_free(&service);
 }
 
-/* These faults are reported though each allocation is refused: those of caches, keys and confounders. For all but those of caches no
- * memory is asked for. Texts are sealed and opened without memory. */
+/* These faults are reported without memory: those of caches, keys and confounders. Texts are sealed and opened without memory. Each next
+ * allocation would fail. */
 static void faults_without_memory(void)
 {
     static const fevstunik_choice other = {17, 0, false, false};
@@ -414,7 +414,6 @@ static void faults_without_memory(void)
     is_at("credential", 0, credential_in(cache.at, cache.size - 1, 0, &entry, buffer, sizeof buffer).code, FEVSTUNIK_FILE_BAD_ITEM);
     is_at("owner", 0, owner_in(cache.at, 3, &owner, buffer, sizeof buffer).code, FEVSTUNIK_FILE_HEADER);
     is_at("cache", 0, fevstunik_cache_new(&credentials, cache.at, 1).code, FEVSTUNIK_FILE_VERSION);
-    left = 0;
     is_at("seal type", 0, fevstunik_seal(17, cache.at, 16, 2, cache.at, 16, cache.at, 5, buffer, sizeof buffer).code, FEVSTUNIK_KEY_TYPE);
     is_at("seal confounder", 0, fevstunik_seal(19, cache.at, 16, 2, cache.at, 15, cache.at, 5, buffer, sizeof buffer).code,
        FEVSTUNIK_BAD_CONFOUNDER);

@@ -79,9 +79,10 @@ impl CCache {
 
     /// Parses the bytes of a file.
     ///
-    /// Allocates memory as parts are read, and never because of a count or a length that the bytes
-    /// don't bear out. Beside the parts it holds a copy of the bytes of one at a time. After the
-    /// last credential it allocates 4 bytes or more for each, for `find_server`.
+    /// Finds a fault before it allocates memory. Then allocates memory as parts are read, and never
+    /// because of a count or a length that the bytes don't bear out. Beside the parts it holds a
+    /// copy of the bytes of one at a time. After the last credential it allocates 4 bytes or more
+    /// for each, for `find_server`.
     ///
     /// # Errors
     /// `OutOfMemory` if the bytes are a cache and there is no memory for a part; else the first
@@ -110,20 +111,16 @@ impl CCache {
         ensures offset { IfErr result (λ fault.
             IfSome (offset_of fault) (λ at. at ≤ length bytes.now)) }
     {
-        if bytes.len() > FILE_LIMIT {
-            return Err(CacheFault::TooLong);
-        }
-        if let Ok(cache) = CCache::read(alloc, &mut SliceSource::new(bytes)) {
-            return Ok(cache);
-        }
-        // A fault goes before lack of memory.
         check(bytes)?;
-        Err(CacheFault::OutOfMemory)
+        match CCache::read(alloc, &mut SliceSource::new(bytes)) {
+            Ok(cache) => Ok(cache),
+            Err(_) => Err(CacheFault::OutOfMemory),
+        }
     }
 
     /// Reads a source to its end, or to one byte past 16,777,216, and parses what it gave.
     ///
-    /// Allocates memory as `parse` does.
+    /// Allocates memory as parts are read, as `parse` does if there is no fault.
     ///
     /// Condition: fewer than 18,446,744,073,709,551,615 reads of the source have failed so far.
     ///

@@ -1,13 +1,7 @@
-use Rattle.std.proofs.Common.{ℕ, List, Err, subst, inl}
+use Rattle.std.proofs.Common.{Err, inl}
 use Rattle.std.proofs.lemmas.Result.{err_from_is_err_and}
-use Rattle.krb_ccache.specs.Format.{IsCache}
 use Rattle.krb_ccache.proofs.AnswerLaws.{one_answer, no_fault}
 use Rattle.krb_ccache.proofs.cache.CCache.parse.Goals as goal
-
-pub returns-clause-faulty : goal.returns-clause-faulty
-returns-clause-faulty c = λ fault faulty.
-    let cache = c.in_ok-check.ensures.ok in
-    absurd (no_fault c.args.bytes.now cache.0 fault cache.1 faulty)
 
 pub returns-in_err-check-clause-only : goal.returns-in_err-check-clause-only
 returns-in_err-check-clause-only c = λ answer a.
@@ -16,5 +10,10 @@ returns-in_err-check-clause-only c = λ answer a.
 
 pub returns-in-Ok-clause-faulty : goal.returns-in-Ok-clause-faulty
 returns-in-Ok-clause-faulty c = λ fault faulty.
-    let found = subst (λ (t : List ℕ). IsCache t c.in-Ok.cache) c.new.ensures c.in-Ok.ensures.reads.found in
-    absurd (no_fault c.args.bytes.now c.in-Ok.cache fault found faulty)
+    let cache = c.in_ok-check.ensures.ok in
+    absurd (no_fault c.args.bytes.now cache.0 fault cache.1 faulty)
+
+pub returns-in-Err-clause-faulty : goal.returns-in-Err-clause-faulty
+returns-in-Err-clause-faulty c = λ fault faulty.
+    let cache = c.in_ok-check.ensures.ok in
+    absurd (no_fault c.args.bytes.now cache.0 fault cache.1 faulty)
