@@ -73,8 +73,8 @@ pub record OfOpened (setup : Setup) (bytes : List ℕ) (P : ValueOf ap_req → V
 -- ---- the table
 
 -- A row: its place in the order, its name, its error code (none: no error is sent), whether a
--- request that is refused for it is remembered, and what must hold. Places are hundreds, so a row
--- can be put between two others without moving any.
+-- request that is refused for it is remembered, and what must hold. Places leave room, so a row can
+-- be put between two others without moving any.
 pub record Row : Type 1 where
   pub place : ℕ
   pub name : List ℕ

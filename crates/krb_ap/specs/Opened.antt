@@ -19,7 +19,7 @@ use Rattle.krb_keytab.specs.Pick.{Choice, chosen, IsChoice}
 use Rattle.krb_replay.specs.Stamp.{Stamp, name_of}
 use Rattle.krb_ap.specs.Setup.{Setup}
 
--- the key usages (RFC 4120, section 7.5.1)
+-- the key usages of a request (RFC 4120, section 7.5.1); specs/Reply has that of a reply
 abbrev pub ticket_usage : ℕ
 ticket_usage = 2
 

@@ -1,5 +1,5 @@
-//! Opening a request, stage by stage: its form, the key for its ticket, the ticket, the
-//! authenticator.
+//! The steps of opening a request, which `judging` puts in order: its form, a sealed part under a
+//! key, and whether ticket and authenticator name one client.
 
 ghost use Rattle.std.specs.Prelude.{◌≡◌, ◌≢◌, ◌<◌, ◌↔◌, ℕ, ℤ, IfOk, IfErr, IsTrue};
 ghost use Rattle.krb_enc.specs.Key.{IsKnown, profile_of};
