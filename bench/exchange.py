@@ -78,13 +78,19 @@ def rows():
             yield etype, 1, extra, 0
     for entries in (10, 1_000, 100_000):
         yield 19, entries, 0, 0
-    for held in (1_000, 1_000_000):
+    for held in (1_000, 100_000):
         yield 19, 1, 0, held
 
 
 def shown(etype, entries, extra, held):
-    more = f", {extra} bytes of authorization data" if extra else ""
-    return f"type {etype}{more}, {entries:,} entries, {held:,} tuples held"
+    parts = [f"type {etype}"]
+    if extra:
+        parts.append(f"{extra:,} bytes of authorization data")
+    if entries > 1:
+        parts.append(f"a keytab of {entries:,} entries")
+    if held:
+        parts.append(f"{held:,} requests remembered")
+    return ", ".join(parts)
 
 
 def table(folder, ours, mit, run_of):

@@ -160,7 +160,7 @@ def memory_table(ours):
                        ("remember", "remember"), ("advance", "advance, for each tuple that it drops")]:
         for order, orders in [("ordered", "in order of time"), ("jumping", "jumping in time")]:
             here, there = best_in_turn([[ours, what, order, *few], [ours, what, order, *many]])
-            print(f"| {name} | {orders} | {here:.0f} ns | {there:.0f} ns | {there / here:.2f} |")
+            print(f"| {name} | {orders} | {here:,.0f} ns | {there:,.0f} ns | {there / here:.2f} |")
     half, quarter = best_in_turn([[ours, "advance", "ordered", held, "1"] for held in ("1000000", "500000")])
     print(f"\nadvance drops 500,000 tuples in {half * 500_000 / 1e6:.0f} ms, and 250,000 in {quarter * 250_000 / 1e6:.0f} ms.")
 
