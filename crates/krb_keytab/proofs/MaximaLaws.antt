@@ -6,7 +6,7 @@ use Rattle.std.proofs.Math.Pow.{pow_mono}
 use Rattle.std.proofs.lemmas.Nat.{pow_pos}
 use Rattle.std.proofs.lemmas.Bool.{cases_eq, cases_lt}
 use Rattle.std.proofs.lemmas.List.{get_or-drop, get_or_past, get_or-set_same, get_or-set_other, length-drop}
-use Rattle.krb_keytab.specs.Inner.Maxima.{AreLess, greater_child, IsFirst, IsPowerOfTwo, IsTree, JoinsFrom}
+use Rattle.krb_keytab.specs.Inner.Maxima.{AreLess, greater_child, IsFirstPlace, IsPowerOfTwo, IsTree, JoinsFrom}
 
 -- ---- powers of two
 
@@ -130,7 +130,7 @@ at_leaves leaves depth node power within to from = elim (cases_lt (2 ^ depth) le
   | inr above ↦ omega arith
 ]
 
-pub first_found : (tree : List ℕ) (leaves least node : ℕ) → IsTree tree leaves → 0 < least → leaves ≤ node → IsFirstOfRow tree leaves least node → IsFirst (drop leaves tree) least (node - leaves)
+pub first_found : (tree : List ℕ) (leaves least node : ℕ) → IsTree tree leaves → 0 < least → leaves ≤ node → IsFirstOfRow tree leaves least node → IsFirstPlace (drop leaves tree) least (node - leaves)
 first_found tree leaves least node is some from row =
     let there = at_leaves leaves row.depth node is.power row.within row.to from in
     let back : leaves + (node - leaves) ≡ node = omega arith in

@@ -1,7 +1,7 @@
 //! Finding the first number that is great enough.
 
 ghost use Rattle.std.specs.Prelude.{◌≡◌, ◌+◌, ◌*◌, ◌-◌, ◌^◌, ◌<◌, ◌≤◌, IfOk, MatchOption, drop, length, map, replicate, slice_index, slice_set, ◌++◌};
-ghost use Rattle.krb_keytab.specs.Inner.Maxima.{AreLess, greater_child, IsFirst, IsPowerOfTwo, IsTree, JoinsFrom};
+ghost use Rattle.krb_keytab.specs.Inner.Maxima.{AreLess, greater_child, IsFirstPlace, IsPowerOfTwo, IsTree, JoinsFrom};
 
 use crate::holes::Hole;
 use std::alloc::{AllocError, Global};
@@ -46,7 +46,7 @@ impl Maxima {
     /// Returns the place of the first number that is at least `least`.
     pub(crate) fn first(&self, least: usize) -> Option<usize>
         requires { 0 < least }
-        ensures { MatchOption result (AreLess self.now least) (IsFirst self.now least) }
+        ensures { MatchOption result (AreLess self.now least) (IsFirstPlace self.now least) }
     {
         let tree = self.tree.as_slice();
         if number_at(tree, 1) < least {
@@ -124,7 +124,7 @@ fn first_leaf(tree: &[usize], leaves: usize, least: usize) -> usize
     requires least { 0 < least }
     requires root { least ≤ slice_index tree.now 1 }
     ensures from { leaves ≤ result }
-    ensures first { IsFirst (drop leaves tree.now) least (result - leaves) }
+    ensures first { IsFirstPlace (drop leaves tree.now) least (result - leaves) }
 {
     let mut node = 1;
     while node < leaves {

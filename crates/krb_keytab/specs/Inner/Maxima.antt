@@ -19,8 +19,8 @@ pub record IsTree (tree : List ℕ) (leaves : ℕ) : Type 0 where
   pub last : length tree ≤ 2 * leaves
   pub joins : JoinsFrom tree 1 leaves
 
--- the first number that is at least another, and none of those that are 0
-pub record IsFirst (numbers : List ℕ) (least at : ℕ) : Type 0 where
+-- the place of the first number that is at least another
+pub record IsFirstPlace (numbers : List ℕ) (least at : ℕ) : Type 0 where
   pub within : at < length numbers
   pub before : (k : ℕ) → k < at → slice_index numbers k < least
   pub here : least ≤ slice_index numbers at
